@@ -1,0 +1,18 @@
+-- The text of a fault.
+use Rattle.std.specs.Prelude.{ℕ, List, codes}
+use Rattle.ignore_glob.specs.declared.fault.Fault.{Fault}
+use Rattle.ignore_glob.specs.declared.fault.Fault.TheVariants.{NotFound, PermissionDenied, NotADirectory, IsADirectory, InvalidData, BadName, LinkLimit, NoIdentity, NoCurrentDir, StepLimit, NoMetadata, Other}
+
+abbrev pub fault_text : Fault → List ℕ
+fault_text NotFound = codes "not found"
+fault_text PermissionDenied = codes "permission denied"
+fault_text NotADirectory = codes "not a directory"
+fault_text IsADirectory = codes "is a directory"
+fault_text InvalidData = codes "invalid data"
+fault_text BadName = codes "file name is not UTF-8"
+fault_text LinkLimit = codes "too many links"
+fault_text NoIdentity = codes "identity unknown"
+fault_text NoCurrentDir = codes "current directory unknown"
+fault_text StepLimit = codes "step limit reached"
+fault_text NoMetadata = codes "<stdin> has no metadata"
+fault_text Other = codes "input or output failed"

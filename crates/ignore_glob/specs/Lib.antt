@@ -1,0 +1,6 @@
+pub mod Faults
+pub mod Errors
+pub mod Problem
+pub mod Kinds
+pub mod Glob
+pub mod View

@@ -1,0 +1,5 @@
+//! The glob dialect.
+
+mod token;
+
+pub use token::{Class, Token};

@@ -1,0 +1,9 @@
+//! Errors, paths and globs: what the gitignore rules above stand on.
+#![tactic(auto)]
+
+mod error;
+mod fault;
+pub mod glob;
+
+pub use error::Error;
+pub use fault::Fault;
