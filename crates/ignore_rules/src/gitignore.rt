@@ -1,0 +1,3 @@
+//! The rules of gitignore files.
+
+mod line;
