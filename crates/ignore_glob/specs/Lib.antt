@@ -4,3 +4,6 @@ pub mod Problem
 pub mod Kinds
 pub mod Glob
 pub mod View
+pub mod Takes
+pub mod Codes
+pub mod Reading
