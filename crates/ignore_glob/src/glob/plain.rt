@@ -1,8 +1,8 @@
 //! The plain matcher: token by token, it tries each split of the text.
 //! It recurses once for each token and each level of braces, never for a character.
-ghost use Rattle.std.specs.Prelude.{IsTrue, ◌↔◌, ◌≡◌, false};
-ghost use Rattle.ignore_glob.specs.Takes.{BeginsWithSlash, EndsWithSlash, IsWritten, IsMember, other_case, in_ranges, is_listed, token_takes, takes, branch_takes};
-ghost use Rattle.ignore_glob.specs.Glob.{any, star, start, class, literal};
+ghost use Rattle.std.specs.Prelude.{IsTrue, ◌↔◌, ◌≡◌, ◌≢◌, ◌≤◌, ◌++◌, ℕ, Bool, false, List, All, length, take};
+ghost use Rattle.ignore_glob.specs.Takes.{slash, BeginsWithSlash, EndsWithSlash, IsWritten, IsMember, other_case, in_ranges, is_listed, token_takes, takes, branch_takes};
+ghost use Rattle.ignore_glob.specs.Glob.{any, star, start, class, literal, then};
 ghost use Rattle.ignore_glob.specs.View.{view, tokens_view, branches_view};
 
 use crate::glob::token::{Class, Token};
@@ -108,6 +108,52 @@ fn ends_with_slash(text: &[char]) -> bool
     }
 }
 
+/// How long a front of the text is that has no slash.
+fn name_length(text: &[char]) -> usize
+    ensures within { result ≤ length text.now }
+    ensures named { All (λ c. c ≢ slash) (take result text.now) }
+    ensures longest { (a b : List ℕ) → text.now ≡ a ++ b → All (λ c. c ≢ slash) a → length a ≤ result }
+{
+    for i in 0..text.len() {
+        if text[i] == '/' {
+            return i;
+        }
+    }
+    text.len()
+}
+
+/// How long a front of the text is that the token may take.
+fn reach(token: &Token, text: &[char]) -> usize
+    ensures within { result ≤ length text.now }
+    ensures longest { (fold : Bool) (a b : List ℕ) → text.now ≡ a ++ b → token_takes fold (view token.now) a → length a ≤ result }
+{
+    match token {
+        Token::Literal(_) => text.len().min(1),
+        Token::Any => text.len().min(1),
+        Token::Class(_) => text.len().min(1),
+        Token::Star => text.len(),
+        Token::RecursiveStart => text.len(),
+        Token::RecursiveMiddle => text.len(),
+        Token::RecursiveEnd => text.len(),
+        Token::Alternates(_) => text.len(),
+    }
+}
+
+fn is_star(token: &Token) -> bool
+    ensures { IsTrue result ↔ (view token.now ≡ star) }
+{
+    match token {
+        Token::Star => true,
+        Token::Literal(_)
+        | Token::Any
+        | Token::RecursiveStart
+        | Token::RecursiveMiddle
+        | Token::RecursiveEnd
+        | Token::Class(_)
+        | Token::Alternates(_) => false,
+    }
+}
+
 /// Whether the tokens take the text, with ASCII case folded or not.
 #[cycle(plain)]
 pub fn all_take(fold: bool, tokens: &[Token], text: &[char]) -> bool
@@ -116,14 +162,39 @@ pub fn all_take(fold: bool, tokens: &[Token], text: &[char]) -> bool
     match tokens {
         [] => text.is_empty(),
         [first, rest @ ..] => {
-            for k in 0..=text.len() {
-                if one_takes(fold, first, &text[..k]) && all_take(fold, rest, &text[k..]) {
-                    return true;
-                }
+            if is_star(first) {
+                star_first(fold, rest, text)
+            } else {
+                split(fold, first, rest, text)
             }
-            false
         }
     }
+}
+
+/// Whether a star takes a front of the text and these tokens the rest.
+#[cycle(plain)]
+fn star_first(fold: bool, rest: &[Token], text: &[char]) -> bool
+    ensures { IsTrue result ↔ takes fold (then star (tokens_view rest.now)) text.now }
+{
+    for k in 0..=name_length(text) {
+        if all_take(fold, rest, &text[k..]) {
+            return true;
+        }
+    }
+    false
+}
+
+/// Whether the first token takes a front of the text and the others the rest.
+#[cycle(plain)]
+fn split(fold: bool, first: &Token, rest: &[Token], text: &[char]) -> bool
+    ensures { IsTrue result ↔ takes fold (then (view first.now) (tokens_view rest.now)) text.now }
+{
+    for k in 0..=reach(first, text) {
+        if one_takes(fold, first, &text[..k]) && all_take(fold, rest, &text[k..]) {
+            return true;
+        }
+    }
+    false
 }
 
 #[cycle(plain)]
