@@ -1,0 +1,5 @@
+//! Tests of the crates below: worked rows, refused memory and trees that lie.
+#![tactic(auto)]
+
+#[cfg(test)]
+mod globs;
