@@ -5,3 +5,6 @@ pub mod Kinds
 pub mod Match
 pub mod Glob
 pub mod View
+pub mod Takes
+pub mod Codes
+pub mod Reading
