@@ -1,5 +1,8 @@
 //! The glob dialect.
 
+mod pattern;
+mod plain;
 mod token;
 
+pub use pattern::{Pattern, characters};
 pub use token::{Class, Token};
