@@ -4,3 +4,7 @@ pub mod Problem
 pub mod Kinds
 pub mod Glob
 pub mod View
+pub mod GlobFaults
+pub mod Pieces
+pub mod Row
+pub mod Lexemes

@@ -1,5 +1,14 @@
-//! The glob dialect.
+//! The glob dialect: how a glob is written, and what it takes.
 
+mod class;
+mod fault;
+pub mod laws;
+mod lexeme;
+mod meaning;
+mod options;
+mod read;
 mod token;
 
+pub use fault::{GlobFault, PatternError};
+pub use options::Options;
 pub use token::{Class, Token};
