@@ -2,12 +2,17 @@
 ghost use Rattle.std.specs.Prelude.{◌≡◌, ◌↔◌, IsTrue, IfOk, IfErr};
 ghost use Rattle.std.specs.Str.{chars};
 ghost use Rattle.ignore_glob.specs.Glob.{start, then, done};
+ghost use Rattle.ignore_glob.specs.GlobFaults.{IfFault};
 ghost use Rattle.ignore_glob.specs.Problem.{told, memory};
 ghost use Rattle.ignore_glob.specs.Reading.{Takes};
+ghost use Rattle.ignore_glob.specs.Row.{Reads, IsFaulty};
 ghost use Rattle.ignore_glob.specs.View.{view, tokens_view};
 
 use crate::error::Error;
+use crate::glob::fault::PatternError;
+use crate::glob::options::Options;
 use crate::glob::plain::all_take;
+use crate::glob::read::read;
 use crate::glob::token::Token;
 use std::alloc::Global;
 use std::marker::Model;
@@ -40,6 +45,22 @@ impl Pattern {
         Pattern {
             tokens,
             case_insensitive,
+        }
+    }
+
+    /// Reads a glob of the dialect.
+    ///
+    /// # Errors
+    /// `PatternError::Fault` with the fault that begins leftmost, exactly where the glob has one,
+    /// or `PatternError::Memory`.
+    pub fn parse(alloc: Global, glob: &str, options: Options) -> Result<Pattern, PatternError>
+        ensures reading { IfOk result (λ p. Reads options (chars glob.now) p.tokens) }
+        ensures case { IfOk result (λ p. p.case_insensitive ≡ options.case_insensitive) }
+        ensures fault { IfErr result (λ e. IfFault e (λ f. IsFaulty options (chars glob.now) f)) }
+    {
+        match read(alloc, glob, options) {
+            Ok(tokens) => Ok(Pattern::from_tokens(tokens, options.case_insensitive)),
+            Err(error) => Err(error),
         }
     }
 
