@@ -1,5 +1,6 @@
 //! The glob dialect.
 
+mod copies;
 mod pattern;
 mod plain;
 mod token;

@@ -7,14 +7,15 @@ ghost use Rattle.ignore_glob.specs.Reading.{Takes};
 ghost use Rattle.ignore_glob.specs.View.{view, tokens_view};
 
 use crate::error::Error;
+use crate::glob::copies::copied;
 use crate::glob::plain::all_take;
 use crate::glob::token::Token;
-use std::alloc::Global;
+use std::alloc::{AllocError, Global};
 use std::marker::Model;
 
 /// A glob that was read: it takes some texts and refuses the others.
 /// `*` and `?` take no slash, a class may take one, and a glob that is `**` or `**/` alone takes everything.
-#[derive(Drop)]
+#[derive(Debug, Drop)]
 pub struct Pattern {
     tokens: Vec<Token>,
     case_insensitive: bool,
@@ -63,6 +64,20 @@ impl Pattern {
             return true;
         }
         all_take(self.case_insensitive, &self.tokens, text)
+    }
+}
+
+impl Clone for Pattern {
+    ghost use Rattle.std.specs.Prelude.{◌≡◌};
+
+    ghost is_clone = { λ p q. q ≡ p };
+
+    fn clone(&self) -> Result<Pattern, AllocError> {
+        let tokens = copied(&self.tokens)?;
+        Ok(Pattern {
+            tokens,
+            case_insensitive: self.case_insensitive,
+        })
     }
 }
 
