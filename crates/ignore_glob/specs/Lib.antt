@@ -2,6 +2,7 @@ pub mod Faults
 pub mod Errors
 pub mod Problem
 pub mod Kinds
+pub mod Match
 pub mod Glob
 pub mod View
 pub mod Takes
