@@ -2,13 +2,18 @@
 ghost use Rattle.std.specs.Prelude.{◌≡◌, ◌↔◌, IsTrue, IfOk, IfErr};
 ghost use Rattle.std.specs.Str.{chars};
 ghost use Rattle.ignore_glob.specs.Glob.{start, then, done};
+ghost use Rattle.ignore_glob.specs.GlobFaults.{IfFault};
 ghost use Rattle.ignore_glob.specs.Problem.{told, memory};
 ghost use Rattle.ignore_glob.specs.Reading.{Takes};
+ghost use Rattle.ignore_glob.specs.Row.{Reads, IsFaulty};
 ghost use Rattle.ignore_glob.specs.View.{view, tokens_view};
 
 use crate::error::Error;
 use crate::glob::copies::copied;
+use crate::glob::fault::PatternError;
+use crate::glob::options::Options;
 use crate::glob::plain::all_take;
+use crate::glob::read::read;
 use crate::glob::token::Token;
 use std::alloc::{AllocError, Global};
 use std::marker::Model;
@@ -44,8 +49,26 @@ impl Pattern {
         }
     }
 
-    /// Whether the glob takes the whole text, by the rules of gitignore(5) for slashes.
-    /// Its only error is `Error::Memory`, as the characters of the text are kept for the time of the call.
+    /// Reads a glob of the dialect.
+    ///
+    /// # Errors
+    /// `PatternError::Fault` with the fault that begins leftmost, exactly where the glob has one,
+    /// or `PatternError::Memory`.
+    pub fn parse(alloc: Global, glob: &str, options: Options) -> Result<Pattern, PatternError>
+        ensures reading { IfOk result (λ p. Reads options (chars glob.now) p.tokens) }
+        ensures case { IfOk result (λ p. p.case_insensitive ≡ options.case_insensitive) }
+        ensures fault { IfErr result (λ e. IfFault e (λ f. IsFaulty options (chars glob.now) f)) }
+    {
+        match read(alloc, glob, options) {
+            Ok(tokens) => Ok(Pattern::from_tokens(tokens, options.case_insensitive)),
+            Err(error) => Err(error),
+        }
+    }
+
+    /// Whether the glob takes the whole text.
+    ///
+    /// # Errors
+    /// `Error::Memory` alone, since the characters of the text are kept for the time of the call.
     pub fn matches(&self, text: &str) -> Result<bool, Error>
         ensures err { IfErr result (λ e. told e ≡ memory) }
         ensures ok { IfOk result (λ yes. IsTrue yes ↔ Takes self.now (chars text.now)) }
@@ -82,7 +105,9 @@ impl Clone for Pattern {
 }
 
 /// For the crates above: the characters of a text, to be asked about by `Pattern::matches_chars`.
-/// Its only error is `Error::Memory`.
+///
+/// # Errors
+/// `Error::Memory` alone.
 pub fn characters(alloc: Global, text: &str) -> Result<Vec<char>, Error>
     ensures err { IfErr result (λ e. told e ≡ memory) }
     ensures ok { IfOk result (λ all. all.items ≡ chars text.now) }
