@@ -6,9 +6,12 @@ pub mod laws;
 mod lexeme;
 mod meaning;
 mod options;
+mod pattern;
+mod plain;
 mod read;
 mod token;
 
 pub use fault::{GlobFault, PatternError};
 pub use options::Options;
+pub use pattern::{Pattern, characters};
 pub use token::{Class, Token};
