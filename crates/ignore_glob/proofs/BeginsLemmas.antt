@@ -40,28 +40,24 @@ pub end_at : (o : Options) (d : ℕ) → d ≤ 0 → Begins o d [] over
 end_at o zero h = end
 end_at o (suc d) h = absurd (omega arith)
 
-pub bracket_fault : (o : Options) (d : ℕ) (text : List ℕ) (e : PatternError) → IfFault e (λ f. Bracket o d text (fault f)) → IfFault e (λ f. Begins o d (91 ∷ text) (fault f))
-bracket_fault o d text (Why.Fault f) b = bracket d text (fault f) b
-bracket_fault o d text Why.Memory b = tt
-
 module _ (o : Options) (d : ℕ) (text inside : List ℕ) (inside_is : inside ≡ after_sign text) where
   same_inside : (b r : List ℕ) → Closes inside b r → Closes (after_sign text) b r
   same_inside b r c = let C : List ℕ → Type 0 = λ t. Closes t b r in subst C inside_is c
 
-  pub class_at : (negated : Bool) (body rest : List ℕ) (rs : List (ℕ × ℕ)) (items : List (ℕ × List ℕ)) → negated ≡ is_negated text → Closes inside body rest → Items body items → are_in_order items ≡ true → rs ≡ ranges items → Bracket o d text (piece (class negated rs) rest d)
-  class_at negated body rest rs items n c i a r = rw (n, r) (whole body rest items (same_inside body rest c) i a)
+  pub class_at : (negated : Bool) (body rest : List ℕ) (rs : List (ℕ × ℕ)) (items : List (ℕ × List ℕ)) → negated ≡ is_negated text → Closes inside body rest → Items body items → are_in_order items ≡ true → rs ≡ ranges items → Begins o d (91 ∷ text) (piece (class negated rs) rest d)
+  class_at negated body rest rs items n c i a r = rw (n, r) (bracket d text _ (whole body rest items (same_inside body rest c) i a))
 
-  pub disordered_at : (body rest : List ℕ) (items : List (ℕ × List ℕ)) → Closes inside body rest → Items body items → are_in_order items ≡ false → Bracket o d text (fault InvalidRange)
-  disordered_at body rest items c i a = disordered body rest items (same_inside body rest c) i a
+  pub disordered_at : (body rest : List ℕ) (items : List (ℕ × List ℕ)) → Closes inside body rest → Items body items → are_in_order items ≡ false → Begins o d (91 ∷ text) (fault InvalidRange)
+  disordered_at body rest items c i a = bracket d text _ (disordered body rest items (same_inside body rest c) i a)
 
   none_inside : ((b r : List ℕ) → Closes inside b r → ⊥) → (b r : List ℕ) → Closes (after_sign text) b r → ⊥
   none_inside u b r c = let C : List ℕ → Type 0 = λ t. Closes t b r in u b r (subst C (sym inside_is) c)
 
-  pub literal_at : ((b r : List ℕ) → Closes inside b r → ⊥) → o.allow_unclosed_class ≡ true → Bracket o d text (piece (char 91) text d)
-  literal_at u a = literal (none_inside u) a
+  pub literal_at : ((b r : List ℕ) → Closes inside b r → ⊥) → o.allow_unclosed_class ≡ true → Begins o d (91 ∷ text) (piece (char 91) text d)
+  literal_at u a = bracket d text _ (literal (none_inside u) a)
 
-  pub unclosed_class_at : ((b r : List ℕ) → Closes inside b r → ⊥) → o.allow_unclosed_class ≡ false → Bracket o d text (fault UnclosedClass)
-  unclosed_class_at u a = unclosed (none_inside u) a
+  pub unclosed_class_at : ((b r : List ℕ) → Closes inside b r → ⊥) → o.allow_unclosed_class ≡ false → Begins o d (91 ∷ text) (fault UnclosedClass)
+  unclosed_class_at u a = bracket d text _ (unclosed (none_inside u) a)
 
 pub and_left : (a b x : Bool) → a ≡ b → a ≡ true → (b && x) ≡ x
 and_left a b x e h = ap (λ c. c && x) (sym e ∙ h)

@@ -1,5 +1,5 @@
 -- What a `[` begins: exactly one step.
-use Rattle.std.proofs.Common.{◌≡◌, ◌≢◌, ◌⊎◌, inl, inr, ◌≤◌, ℕ, zero, suc, Bool, true, false, List, [], ◌∷◌, ◌++◌, length, length-append, ◌<◌, ◌==◌, ◌||◌, if◌then◌else◌, refl, sym, ap, ◌∙◌, subst, arith}
+use Rattle.std.proofs.Common.{◌≡◌, ◌≢◌, ◌⊎◌, inl, inr, ◌≤◌, ℕ, zero, suc, Bool, true, false, List, [], ◌∷◌, ◌++◌, length, length-append, ◌<◌, ◌==◌, ◌||◌, if◌then◌else◌, refl, sym, ap, ◌∙◌, subst, append_assoc, arith}
 use Rattle.std.specs.List.{AllByRecursion}
 use Rattle.std.proofs.lemmas.Bool.{cases_eq}
 use Rattle.ignore_glob.specs.declared.glob.options.Options.{Options}
@@ -39,7 +39,7 @@ Items-same body (i ∷ is) (j ∷ js) p q =
     let h = turns-same i.1 j.1 p.0 q.0 p.2 q.2 rest in
     let P : List ℕ → Type 0 = λ t. Items t js in
     let more = Items-same p.0 is js p.3 (subst P (sym h.1) q.3) in
-    let item : i ≡ j = ap (λ c. (c, i.1)) first ∙ ap (λ es. (j.0, es)) h.0 in
+    let item : i ≡ j = ◌∙◌ {b = (j.0, i.1)} (ap (λ c. (c, i.1)) first) (ap (λ es. (j.0, es)) h.0) in
     cc (item, more)
 
 -- two readings of one body
@@ -128,24 +128,35 @@ find_bracket o depth text = elim (find_class (after_sign text)) [
   ]
 ]
 
-Closes-shorter : (text body rest : List ℕ) → Closes text body rest → length rest < length text
-Closes-shorter text body rest c = simp (c.4, length-append) (omega arith)
+pub sign-cut : (text : List ℕ) → (s : List ℕ) × (text ≡ s ++ after_sign text)
+sign-cut [] = ([], refl)
+sign-cut (c ∷ cs) = by_bool (c == 33 || c == 94) where
+  by_bool : (b : Bool) → (s : List ℕ) × (c ∷ cs ≡ s ++ (if b then cs else c ∷ cs))
+  by_bool true = (c ∷ [], refl)
+  by_bool false = ([], refl)
 
-after_sign-shorter : (text : List ℕ) → length (after_sign text) ≤ length text
-after_sign-shorter [] = omega arith
-after_sign-shorter (c ∷ cs) = by_bool (c == 33 || c == 94) where
-  by_bool : (b : Bool) → length (if b then cs else c ∷ cs) ≤ length (c ∷ cs)
-  by_bool true = omega arith
-  by_bool false = omega arith
+-- the rest of a text, behind one character or more
+abbrev pub IsRest : List ℕ → List ℕ → Type 0
+IsRest text rest = (s : List ℕ) × (text ≡ s ++ rest) × (0 < length s)
 
--- a piece leaves a shorter text
-abbrev pub IsShorter : List ℕ → Step → Type 0
-IsShorter text (piece l rest e) = length rest < length text
-IsShorter text (fault f) = Unit {0}
-IsShorter text over = Unit {0}
+pub IsRest-shorter : (text rest : List ℕ) → IsRest text rest → length rest < length text
+IsRest-shorter text rest h = rw (h.1, length-append) (omega (arith, h.2))
 
-pub Bracket-shorter : (o : Options) (depth : ℕ) (text : List ℕ) (s : Step) → Bracket o depth text s → IsShorter (91 ∷ text) s
-Bracket-shorter o depth text s (whole body rest is c i a) = omega (arith, Closes-shorter (after_sign text) body rest c, after_sign-shorter text)
-Bracket-shorter o depth text s (disordered body rest is c i a) = tt
-Bracket-shorter o depth text s (literal u b) = omega arith
-Bracket-shorter o depth text s (unclosed u b) = tt
+-- a piece leaves a rest
+abbrev pub LeavesRest : List ℕ → Step → Type 0
+LeavesRest text (piece l rest e) = IsRest text rest
+LeavesRest text (fault f) = Unit {0}
+LeavesRest text over = Unit {0}
+
+class-rest : (text body rest : List ℕ) → Closes (after_sign text) body rest → IsRest (91 ∷ text) rest
+class-rest text body rest c =
+    let s = sign-cut text in
+    let cut = 91 ∷ (s.0 ++ c.0 ∷ (c.1 ++ 93 ∷ [])) in
+    let whole : 91 ∷ text ≡ 91 ∷ (s.0 ++ c.0 ∷ (c.1 ++ 93 ∷ rest)) = ap (λ x. 91 ∷ x) (s.1 ∙ ap (λ x. s.0 ++ x) c.4) in
+    (cut, whole ∙ simp append_assoc, (omega arith))
+
+pub Bracket-rest : (o : Options) (depth : ℕ) (text : List ℕ) (s : Step) → Bracket o depth text s → LeavesRest (91 ∷ text) s
+Bracket-rest o depth text s (whole body rest is c i a) = class-rest text body rest c
+Bracket-rest o depth text s (disordered body rest is c i a) = tt
+Bracket-rest o depth text s (literal u b) = (91 ∷ [], refl, (omega arith))
+Bracket-rest o depth text s (unclosed u b) = tt

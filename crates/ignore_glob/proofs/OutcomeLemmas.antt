@@ -1,12 +1,12 @@
 -- A text has exactly one outcome: its row of pieces or its first fault.
-use Rattle.std.proofs.Common.{◌≡◌, ◌≢◌, ◌⊎◌, inl, inr, ◌≤◌, ◌<◌, ℕ, zero, suc, true, false, ◌==◌, if◌then◌else◌, nat_lt, List, [], ◌∷◌, ◌++◌, length, length-append, replicate, Result, Ok, Err, refl, sym, ap, ◌∙◌, subst, arith}
+use Rattle.std.proofs.Common.{◌≡◌, ◌≢◌, ◌⊎◌, inl, inr, ◌≤◌, ◌<◌, ℕ, zero, suc, true, false, ◌==◌, if◌then◌else◌, nat_lt, List, [], ◌∷◌, ◌++◌, length, replicate, Result, Ok, Err, refl, sym, ap, ◌∙◌, subst, arith}
 use Rattle.std.proofs.lemmas.Bool.{cases_eq, ne_eqb}
 use Rattle.std.proofs.lemmas.Bool.Decides.{nat_tests}
 use Rattle.ignore_glob.specs.declared.glob.options.Options.{Options}
 use Rattle.ignore_glob.specs.declared.glob.fault.GlobFault.{GlobFault}
 use Rattle.ignore_glob.specs.declared.glob.fault.GlobFault.TheVariants.{UnopenedAlternates, UnclosedAlternates, DanglingEscape, TooDeep}
 use Rattle.ignore_glob.specs.Pieces.{Lexeme, char, escaped, any, run, opening, comma, closing, Step, piece, fault, over, is_special, NoStarFirst, Begins, ordinary, escape, dangling, question, stars, bracket, opens, too_deep, parts, closes, unopened, unclosed, end, put_first, Written, ends, stops, goes_on}
-use Rattle.ignore_glob.proofs.BracketLemmas.{Bracket-same, find_bracket, IsShorter, Bracket-shorter}
+use Rattle.ignore_glob.proofs.BracketLemmas.{Bracket-same, find_bracket, IsRest-shorter, LeavesRest, Bracket-rest}
 
 abbrev past_stars : List ℕ → ℕ × List ℕ
 past_stars [] = (0, [])
@@ -159,32 +159,32 @@ find_step o d (c ∷ cs) =
           ]
     ]
 
-pub Begins-shorter : (o : Options) (d : ℕ) (text : List ℕ) (s : Step) → Begins o d text s → IsShorter text s
-Begins-shorter o d text s (ordinary d' c rest p) = omega arith
-Begins-shorter o d text s (escape d' c rest) = omega arith
-Begins-shorter o d text s (dangling d') = tt
-Begins-shorter o d text s (question d' rest) = omega arith
-Begins-shorter o d text s (stars d' n rest p) = simp length-append (omega arith)
-Begins-shorter o d text s (bracket d' inside step b) = Bracket-shorter o d' inside step b
-Begins-shorter o d text s (opens d' rest h) = omega arith
-Begins-shorter o d text s (too_deep d' rest h) = tt
-Begins-shorter o d text s (parts d' rest) = omega arith
-Begins-shorter o d text s (closes d' rest) = omega arith
-Begins-shorter o d text s (unopened rest) = tt
-Begins-shorter o d text s (unclosed d') = tt
-Begins-shorter o d text s end = tt
+pub Begins-rest : (o : Options) (d : ℕ) (text : List ℕ) (s : Step) → Begins o d text s → LeavesRest text s
+Begins-rest o d text s (ordinary d' c rest p) = (c ∷ [], refl, (omega arith))
+Begins-rest o d text s (escape d' c rest) = (92 ∷ c ∷ [], refl, (omega arith))
+Begins-rest o d text s (dangling d') = tt
+Begins-rest o d text s (question d' rest) = (63 ∷ [], refl, (omega arith))
+Begins-rest o d text s (stars d' n rest p) = (replicate (suc n) 42, refl, (omega arith))
+Begins-rest o d text s (bracket d' inside step b) = Bracket-rest o d' inside step b
+Begins-rest o d text s (opens d' rest h) = (123 ∷ [], refl, (omega arith))
+Begins-rest o d text s (too_deep d' rest h) = tt
+Begins-rest o d text s (parts d' rest) = (44 ∷ [], refl, (omega arith))
+Begins-rest o d text s (closes d' rest) = (125 ∷ [], refl, (omega arith))
+Begins-rest o d text s (unopened rest) = tt
+Begins-rest o d text s (unclosed d') = tt
+Begins-rest o d text s end = tt
 
 abbrev HasOutcome : Options → ℕ → List ℕ → Type 0
 HasOutcome o d text = (out : Result (List Lexeme) GlobFault) × Written o d text out
 
-by_step : (o : Options) (d : ℕ) (text : List ℕ) (s : Step) → Begins o d text s → IsShorter text s → ((e : ℕ) (rest : List ℕ) → length rest < length text → HasOutcome o e rest) → HasOutcome o d text
+by_step : (o : Options) (d : ℕ) (text : List ℕ) (s : Step) → Begins o d text s → LeavesRest text s → ((e : ℕ) (rest : List ℕ) → length rest < length text → HasOutcome o e rest) → HasOutcome o d text
 by_step o d text over b s more = (Ok [], ends d text b)
 by_step o d text (fault f) b s more = (Err f, stops d text f b)
-by_step o d text (piece l rest e) b s more = let w = more e rest s in (put_first l w.0, goes_on d e text rest l w.0 b w.1)
+by_step o d text (piece l rest e) b s more = let w = more e rest (IsRest-shorter text rest s) in (put_first l w.0, goes_on d e text rest l w.0 b w.1)
 
 outcome_within : (o : Options) (n d : ℕ) (text : List ℕ) → length text ≤ n → HasOutcome o d text
-outcome_within o zero d text h = let f = find_step o d text in by_step o d text f.0 f.1 (Begins-shorter o d text f.0 f.1) (λ e rest k. absurd (omega arith))
-outcome_within o (suc n) d text h = let f = find_step o d text in by_step o d text f.0 f.1 (Begins-shorter o d text f.0 f.1) (λ e rest k. outcome_within o n e rest (omega arith))
+outcome_within o zero d text h = let f = find_step o d text in by_step o d text f.0 f.1 (Begins-rest o d text f.0 f.1) (λ e rest k. absurd (omega arith))
+outcome_within o (suc n) d text h = let f = find_step o d text in by_step o d text f.0 f.1 (Begins-rest o d text f.0 f.1) (λ e rest k. outcome_within o n e rest (omega arith))
 
 pub find_outcome : (o : Options) (text : List ℕ) → HasOutcome o 0 text
 find_outcome o text = outcome_within o (length text) 0 text (omega arith)

@@ -1,5 +1,5 @@
 -- The pieces and meanings that the program's stand for.
-use Rattle.std.specs.Prelude.{ℕ, zero, suc, List, [], ◌∷◌, map, Vec}
+use Rattle.std.specs.Prelude.{◌≡◌, ◌≤◌, ℕ, zero, suc, List, [], ◌∷◌, ◌++◌, length, map, Vec}
 use Rattle.std.specs.declared.alloc.Global.{Global}
 use Rattle.ignore_glob.specs.Pieces.{Lexeme, char, escaped, any, run, class, opening, comma, closing}
 use Rattle.ignore_glob.specs.declared.glob.lexeme.Lexeme.{Lexeme as CodeLexeme}
@@ -68,3 +68,7 @@ put_tokens (t ∷ ts) us = then (view t) (put_tokens ts us)
 abbrev pub put_branches : List (Vec CodeToken Global) → Branches → Branches
 put_branches [] cs = cs
 put_branches (b ∷ bs) cs = branch (tokens_view b.items) (put_branches bs cs)
+
+-- at least so many characters stand behind each `]` of the text
+abbrev pub ClosesBefore : ℕ → List ℕ → Type 0
+ClosesBefore n text = (m r : List ℕ) → text ≡ m ++ 93 ∷ r → n ≤ length r

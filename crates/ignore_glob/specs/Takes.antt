@@ -7,38 +7,42 @@ use Rattle.ignore_glob.specs.Glob.{Token, literal, any, star, start, middle, end
 abbrev pub slash : ℕ
 slash = 47
 
+-- the text begins with a slash
 abbrev pub BeginsWithSlash : List ℕ → Type 0
 BeginsWithSlash w = (b : List ℕ) × (w ≡ slash ∷ b)
 
+-- the text ends with a slash
 abbrev pub EndsWithSlash : List ℕ → Type 0
 EndsWithSlash w = (a : List ℕ) × (w ≡ a ++ slash ∷ [])
 
--- the other ASCII case of a letter, and any other character itself
+-- the other ASCII case of a letter, and any other character itself: of A it is a, of é it is é
 abbrev pub other_case : ℕ → ℕ
 other_case c = cond (is_ascii_lowercase c) (to_ascii_uppercase c) (to_ascii_lowercase c)
 
--- the character d is c, or the other case of c where case is folded
-abbrev pub IsWritten : Bool → ℕ → ℕ → Type 0
-IsWritten false c d = d ≡ c
-IsWritten true c d = (d ≡ c) ⊎ (d ≡ other_case c)
+-- the character d is c, or where case is folded the other case of c
+abbrev pub IsCaseOf : Bool → ℕ → ℕ → Type 0
+IsCaseOf false c d = d ≡ c
+IsCaseOf true c d = (d ≡ c) ⊎ (d ≡ other_case c)
 
+-- the character is in one of the ranges, each from its first to its last
 abbrev pub in_ranges : List (ℕ × ℕ) → ℕ → Bool
 in_ranges ranges c = list_any (λ r. nat_le r.0 c && nat_le c r.1) ranges
 
--- the character, or its other case where case is folded, is in one of the ranges
+-- the character, or where case is folded its other case, is in one of the ranges
 abbrev pub is_listed : Bool → List (ℕ × ℕ) → ℕ → Bool
 is_listed false ranges c = in_ranges ranges c
 is_listed true ranges c = in_ranges ranges c || in_ranges ranges (other_case c)
 
--- a member of a class is listed; of a negated one, not listed
+-- a class has what is listed, and a negated class what is not listed: [!a] has the slash
 abbrev pub IsMember : Bool → Bool → List (ℕ × ℕ) → ℕ → Type 0
 IsMember fold false ranges c = IsTrue (is_listed fold ranges c)
 IsMember fold true ranges c = IsTrue (is_listed fold ranges c) → ⊥
 
--- the first argument says whether case is folded
+-- What one token takes, what tokens take in their order, and what one of the branches takes.
+-- The first argument says whether ASCII case is folded. So a/**/b takes a/b, its middle taking the slash.
 abbrev mutual
   pub token_takes : Bool → Token → List ℕ → Type 0
-  token_takes fold (literal c) w = (d : ℕ) × (w ≡ d ∷ []) × IsWritten fold c d
+  token_takes fold (literal c) w = (d : ℕ) × (w ≡ d ∷ []) × IsCaseOf fold c d
   token_takes fold any w = (d : ℕ) × (w ≡ d ∷ []) × (d ≢ slash)
   token_takes fold star w = All (λ d. d ≢ slash) w
   token_takes fold start w = (w ≡ []) ⊎ EndsWithSlash w
@@ -55,6 +59,6 @@ abbrev mutual
   branch_takes fold no_branch w = ⊥
   branch_takes fold (branch ts bs) w = takes fold ts w ⊎ branch_takes fold bs w
 
--- a whole glob that is one recursive start takes everything
+-- a whole glob that is one recursive start takes everything, which a branch that is one doesn't
 abbrev pub glob_takes : Bool → Tokens → List ℕ → Type 0
 glob_takes fold ts w = (ts ≡ then start done) ⊎ takes fold ts w

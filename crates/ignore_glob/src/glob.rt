@@ -1,6 +1,7 @@
 //! The glob dialect: how a glob is written, and what it takes.
 
 mod class;
+mod copies;
 mod fault;
 pub mod laws;
 mod lexeme;

@@ -1,5 +1,6 @@
 //! Globs with the texts that they take and those that they don't, and the faults of texts that are no globs.
-use ignore_glob::glob::{GlobFault, Options, Pattern, PatternError};
+use ignore_glob::Error;
+use ignore_glob::glob::{GlobFault, Options, Pattern, PatternError, characters};
 use std::alloc::Global;
 use std::process::Abort;
 use std::test::Fail;
@@ -424,6 +425,43 @@ fn reads_a_million_characters(rt: HostRuntime) -> Result<(), Fail> {
         assert_eq!(rt; fault_number(alloc, &text, DEFAULT)?, number, "{front}");
     }
     Ok(())
+}
+
+#[test]
+fn one_text_is_asked_of_many_patterns(rt: HostRuntime) -> Result<(), Fail> {
+    let alloc = rt.alloc();
+    let text = characters(alloc, "src/été.rs")?;
+    assert_eq!(rt; text.len(), 10);
+    for (glob, taken) in [("**/*.rs", true), ("*.rs", false), ("src/?t?.rs", true)] {
+        let pattern = Pattern::parse(alloc, glob, DEFAULT)?;
+        assert!(rt; pattern.matches_chars(&text) == taken, "{glob}");
+        assert!(rt; pattern.clone()?.matches_chars(&text) == taken, "a copy of {glob}");
+    }
+    Ok(())
+}
+
+/// With memory refused at any request this holds too: it is told as itself.
+#[test]
+fn refused_memory_is_no_answer(rt: HostRuntime) {
+    match Pattern::parse(rt.alloc(), "{a,[b-c],{d,}}*/**/x", FOLDED) {
+        Ok(pattern) => {
+            match pattern.matches("Cd/x") {
+                Ok(taken) => assert!(rt; taken),
+                Err(error) => assert!(rt; is_memory(&error)),
+            }
+            if let Ok(copy) = pattern.clone() {
+                assert!(rt; copy.matches("Cd/x").unwrap_or(true));
+            }
+        }
+        Err(error) => assert!(rt; error == PatternError::Memory),
+    }
+}
+
+fn is_memory(error: &Error) -> bool {
+    match error {
+        Error::Memory => true,
+        _ => false,
+    }
 }
 
 #[test]

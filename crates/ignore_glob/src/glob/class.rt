@@ -2,6 +2,7 @@
 ghost use Rattle.std.specs.Prelude.{◌≡◌, ◌≢◌, ◌+◌, ◌<◌, ◌≤◌, ◌++◌, ◌∷◌, [], ℕ, List, Bool, true, false, take, drop, length, nat_le, IfOk, IfSome, IfNone, Ok, Err};
 ghost use Rattle.std.specs.List.{AllByRecursion, list_all};
 ghost use Rattle.ignore_glob.specs.Pieces.{Closes, turns, NoTurn, Items, last_end, ranges, are_in_order, is_negated, after_sign};
+ghost use Rattle.ignore_glob.specs.Lexemes.{ClosesBefore};
 
 use std::alloc::{AllocError, Global};
 
@@ -16,13 +17,30 @@ pub fn sign(inside: &[char]) -> (bool, &[char])
     }
 }
 
-/// Where the first `]` stands.
-fn closing(text: &[char]) -> Option<usize>
+/// How many characters surely follow each `]`: those behind the last one.
+pub fn after_last_closing(text: &[char]) -> usize
+    ensures { ClosesBefore result text.now }
+{
+    let mut after = text.len();
+    for i in 0..text.len() {
+        if text[i] == ']' {
+            after = text.len() - i - 1;
+        }
+    }
+    after
+}
+
+/// Where the first `]` stands, behind each of which so many characters stand.
+fn closing(text: &[char], after_last: usize) -> Option<usize>
+    requires { ClosesBefore after_last text.now }
     ensures within { IfSome result (λ n. n < length text.now) }
     ensures before { IfSome result (λ n. AllByRecursion (λ c. c ≢ 93) (take n text.now)) }
     ensures found { IfSome result (λ n. text.now ≡ take n text.now ++ 93 ∷ drop (n + 1) text.now) }
     ensures none { IfNone result ((m r : List ℕ) → text.now ≡ m ++ 93 ∷ r → ⊥) }
 {
+    if text.len() <= after_last {
+        return None;
+    }
     for i in 0..text.len() {
         if text[i] == ']' {
             return Some(i);
@@ -32,12 +50,13 @@ fn closing(text: &[char]) -> Option<usize>
 }
 
 /// The body of a class, and what follows its `]`.
-pub fn body(inside: &[char]) -> Option<(&[char], &[char])>
+pub fn body(inside: &[char], after_last: usize) -> Option<(&[char], &[char])>
+    requires { ClosesBefore after_last inside.now }
     ensures some { IfSome result (λ found. Closes inside.now found.0.now found.1.now) }
     ensures none { IfNone result ((b r : List ℕ) → Closes inside.now b r → ⊥) }
 {
     let (_, more) = inside.split_first()?;
-    let n = closing(more)?;
+    let n = closing(more, after_last)?;
     Some((&inside[..n + 1], &inside[n + 2..]))
 }
 

@@ -1,11 +1,11 @@
 //! The written pieces of a glob.
 ghost use Rattle.std.specs.Prelude.{◌≡◌, ◌≢◌, ◌+◌, ◌<◌, ◌≤◌, ◌++◌, ◌∷◌, [], ℕ, List, take, drop, length, replicate, IfOk, IfErr, Ok, Err};
-ghost use Rattle.ignore_glob.specs.Pieces.{Step, piece, fault, Begins, Bracket, Written, NoStarFirst};
+ghost use Rattle.ignore_glob.specs.Pieces.{Step, piece, fault, Begins, Written, NoStarFirst};
 ghost use Rattle.ignore_glob.specs.declared.glob.options.Options.{Options};
 ghost use Rattle.ignore_glob.specs.GlobFaults.{IfFault};
-ghost use Rattle.ignore_glob.specs.Lexemes.{lexeme_view, row_view};
+ghost use Rattle.ignore_glob.specs.Lexemes.{lexeme_view, row_view, ClosesBefore};
 
-use crate::glob::class::{body, ranges_of, sign};
+use crate::glob::class::{after_last_closing, body, ranges_of, sign};
 use crate::glob::fault::{GlobFault, PatternError};
 use crate::glob::options::Options;
 use crate::glob::token::Class;
@@ -45,24 +45,22 @@ fn bracket(
     options: Options,
     depth: usize,
     text: &[char],
+    after_last: usize,
 ) -> Result<(Lexeme, &[char], usize), PatternError>
-    ensures piece { IfOk result (λ found. Bracket options depth text.now (piece (lexeme_view found.0) found.1.now found.2)) }
-    ensures fault { IfErr result (λ e. IfFault e (λ f. Bracket options depth text.now (fault f))) }
+    requires { ClosesBefore after_last text.now }
+    ensures piece { IfOk result (λ found. Begins options depth (91 ∷ text.now) (piece (lexeme_view found.0) found.1.now found.2)) }
+    ensures fault { IfErr result (λ e. IfFault e (λ f. Begins options depth (91 ∷ text.now) (fault f))) }
 {
     let (negated, inside) = sign(text);
-    match body(inside) {
-        Some((body, rest)) => match ranges_of(alloc, body) {
-            Ok(Some(ranges)) => Ok((Lexeme::Class(Class { negated, ranges }), rest, depth)),
-            Ok(None) => Err(PatternError::Fault(GlobFault::InvalidRange)),
-            Err(_) => Err(PatternError::Memory),
-        },
-        None => {
-            if options.allow_unclosed_class {
-                Ok((Lexeme::Char('['), text, depth))
-            } else {
-                Err(PatternError::Fault(GlobFault::UnclosedClass))
-            }
+    let Some((body, rest)) = body(inside, after_last) else {
+        if options.allow_unclosed_class {
+            return Ok((Lexeme::Char('['), text, depth));
         }
+        return Err(PatternError::Fault(GlobFault::UnclosedClass));
+    };
+    match ranges_of(alloc, body)? {
+        Some(ranges) => Ok((Lexeme::Class(Class { negated, ranges }), rest, depth)),
+        None => Err(PatternError::Fault(GlobFault::InvalidRange)),
     }
 }
 
@@ -84,7 +82,9 @@ fn piece_from(
     depth: usize,
     first: char,
     text: &[char],
+    after_last: usize,
 ) -> Result<(Lexeme, &[char], usize), PatternError>
+    requires { ClosesBefore after_last text.now }
     ensures piece { IfOk result (λ found. Begins options depth (first ∷ text.now) (piece (lexeme_view found.0) found.1.now found.2)) }
     ensures fault { IfErr result (λ e. IfFault e (λ f. Begins options depth (first ∷ text.now) (fault f))) }
 {
@@ -95,10 +95,7 @@ fn piece_from(
             Ok((Lexeme::Run(n + 1), &text[n..], depth))
         }
         '\\' => escape(depth, text),
-        '[' => match bracket(alloc, options, depth, text) {
-            Ok(found) => Ok(found),
-            Err(e) => Err(e),
-        },
+        '[' => bracket(alloc, options, depth, text, after_last),
         '{' => {
             if depth < MAX_LEVELS {
                 Ok((Lexeme::Opening, text, depth + 1))
@@ -129,17 +126,13 @@ pub fn pieces(alloc: Global, options: Options, text: &[char]) -> Result<Vec<Lexe
     ensures row { IfOk result (λ row. Written options 0 text.now (Ok (row_view row.items))) }
     ensures fault { IfErr result (λ e. IfFault e (λ f. Written options 0 text.now (Err f))) }
 {
+    let after_last = after_last_closing(text);
     let mut row = Vec::new(alloc);
     let mut rest = text;
     let mut depth = 0;
     while let Some((first, after)) = rest.split_first() {
-        let (piece, more, next) = match piece_from(alloc, options, depth, *first, after) {
-            Ok(found) => found,
-            Err(e) => return Err(e),
-        };
-        if row.push(piece).is_err() {
-            return Err(PatternError::Memory);
-        }
+        let (piece, more, next) = piece_from(alloc, options, depth, *first, after, after_last)?;
+        row.push(piece)?;
         rest = more;
         depth = next;
     }

@@ -9,17 +9,18 @@ ghost use Rattle.ignore_glob.specs.Row.{Reads, IsFaulty};
 ghost use Rattle.ignore_glob.specs.View.{view, tokens_view};
 
 use crate::error::Error;
+use crate::glob::copies::copied;
 use crate::glob::fault::PatternError;
 use crate::glob::options::Options;
 use crate::glob::plain::all_take;
 use crate::glob::read::read;
 use crate::glob::token::Token;
-use std::alloc::Global;
+use std::alloc::{AllocError, Global};
 use std::marker::Model;
 
 /// A glob that was read: it takes some texts and refuses the others.
 /// `*` and `?` take no slash, a class may take one, and a glob that is `**` or `**/` alone takes everything.
-#[derive(Drop)]
+#[derive(Debug, Drop)]
 pub struct Pattern {
     tokens: Vec<Token>,
     case_insensitive: bool,
@@ -64,8 +65,10 @@ impl Pattern {
         }
     }
 
-    /// Whether the glob takes the whole text, by the rules of gitignore(5) for slashes.
-    /// Its only error is `Error::Memory`, as the characters of the text are kept for the time of the call.
+    /// Whether the glob takes the whole text.
+    ///
+    /// # Errors
+    /// `Error::Memory` alone, since the characters of the text are kept for the time of the call.
     pub fn matches(&self, text: &str) -> Result<bool, Error>
         ensures err { IfErr result (λ e. told e ≡ memory) }
         ensures ok { IfOk result (λ yes. IsTrue yes ↔ Takes self.now (chars text.now)) }
@@ -87,8 +90,24 @@ impl Pattern {
     }
 }
 
+impl Clone for Pattern {
+    ghost use Rattle.std.specs.Prelude.{◌≡◌};
+
+    ghost is_clone = { λ p q. q ≡ p };
+
+    fn clone(&self) -> Result<Pattern, AllocError> {
+        let tokens = copied(&self.tokens)?;
+        Ok(Pattern {
+            tokens,
+            case_insensitive: self.case_insensitive,
+        })
+    }
+}
+
 /// For the crates above: the characters of a text, to be asked about by `Pattern::matches_chars`.
-/// Its only error is `Error::Memory`.
+///
+/// # Errors
+/// `Error::Memory` alone.
 pub fn characters(alloc: Global, text: &str) -> Result<Vec<char>, Error>
     ensures err { IfErr result (λ e. told e ≡ memory) }
     ensures ok { IfOk result (λ all. all.items ≡ chars text.now) }

@@ -1,7 +1,7 @@
 //! The plain matcher: token by token, it tries each split of the text.
 //! It recurses once for each token and each level of braces, never for a character.
 ghost use Rattle.std.specs.Prelude.{IsTrue, ◌↔◌, ◌≡◌, ◌≢◌, ◌≤◌, ◌++◌, ℕ, Bool, false, List, All, length, take};
-ghost use Rattle.ignore_glob.specs.Takes.{slash, BeginsWithSlash, EndsWithSlash, IsWritten, IsMember, other_case, in_ranges, is_listed, token_takes, takes, branch_takes};
+ghost use Rattle.ignore_glob.specs.Takes.{slash, BeginsWithSlash, EndsWithSlash, IsCaseOf, IsMember, other_case, in_ranges, is_listed, token_takes, takes, branch_takes};
 ghost use Rattle.ignore_glob.specs.Glob.{any, star, start, class, literal, then};
 ghost use Rattle.ignore_glob.specs.View.{view, tokens_view, branches_view};
 
@@ -17,8 +17,8 @@ fn other_case(c: char) -> char
     }
 }
 
-fn is_written(fold: bool, c: char, d: char) -> bool
-    ensures { IsTrue result ↔ IsWritten fold c d }
+fn is_case_of(fold: bool, c: char, d: char) -> bool
+    ensures { IsTrue result ↔ IsCaseOf fold c d }
 {
     if fold {
         d == c || d == other_case(c)
@@ -57,7 +57,7 @@ fn literal_takes(fold: bool, c: char, text: &[char]) -> bool
     ensures { IsTrue result ↔ token_takes fold (literal c) text.now }
 {
     match text {
-        [only] => is_written(fold, c, *only),
+        [only] => is_case_of(fold, c, *only),
         _ => false,
     }
 }

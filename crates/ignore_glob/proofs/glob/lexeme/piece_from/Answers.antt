@@ -1,9 +1,8 @@
 use Rattle.std.proofs.Common.{arith}
 use Rattle.std.proofs.lemmas.List.{take_rest}
-use Rattle.ignore_glob.specs.Pieces.{question, bracket, too_deep, ordinary, piece}
-use Rattle.ignore_glob.specs.Lexemes.{lexeme_view}
+use Rattle.ignore_glob.specs.Pieces.{question, too_deep, ordinary}
 use Rattle.ignore_glob.proofs.OutcomeLemmas.{plain}
-use Rattle.ignore_glob.proofs.BeginsLemmas.{stars_at, opens_at, closes_at, unopened_at, parts_at, comma_at, bracket_fault}
+use Rattle.ignore_glob.proofs.BeginsLemmas.{stars_at, opens_at, closes_at, unopened_at, parts_at, comma_at}
 use Rattle.ignore_glob.proofs.glob.lexeme.piece_from.Goals as goal
 
 pub returns-in-63-clause-piece : goal.returns-in-63-clause-piece
@@ -18,11 +17,8 @@ returns-in-92-clause-piece c = rw c.in-92.is (c.escape.ensures.piece c.args.opti
 pub returns-in-92-clause-fault : goal.returns-in-92-clause-fault
 returns-in-92-clause-fault c = rw c.in-92.is (c.escape.ensures.fault c.args.options)
 
-pub returns-in-Ok-clause-piece : goal.returns-in-Ok-clause-piece
-returns-in-Ok-clause-piece c = rw c.in-91.is (bracket c.args.depth c.args.text.now (piece (lexeme_view c.in-Ok.found.0) c.in-Ok.found.1.now c.in-Ok.found.2) c.in-Ok.ensures.piece)
-
-pub returns-in-Err-clause-fault : goal.returns-in-Err-clause-fault
-returns-in-Err-clause-fault c = rw c.in-91.is (bracket_fault c.args.options c.args.depth c.args.text.now c.in-Err.e c.in-Err.ensures.fault)
+pub returns-in-91 : goal.returns-in-91
+returns-in-91 c = rw c.in-91.is c.bracket.ensures
 
 pub returns-then-depth-lt-MAX_LEVELS-clause-piece : goal.returns-then-depth-lt-MAX_LEVELS-clause-piece
 returns-then-depth-lt-MAX_LEVELS-clause-piece c = rw c.in-123.is (opens_at c.args.options c.args.depth c.args.text.now (omega arith))
