@@ -4,3 +4,4 @@ pub mod Problem
 pub mod Kinds
 pub mod Glob
 pub mod View
+pub mod Paths

@@ -4,6 +4,7 @@
 mod error;
 mod fault;
 pub mod glob;
+pub mod text;
 
 pub use error::Error;
 pub use fault::Fault;
