@@ -1,4 +1,4 @@
-//! Worked examples of all crates, each public call with ample memory, and calls with memory refused.
+//! Tests of the crates below: worked examples, each public call with ample memory, and calls with memory refused.
 #![tactic(auto)]
 
 /// The answer of a call; where it is refused, that of the same call made again.
@@ -16,3 +16,5 @@ macro_rules! again {
 
 #[cfg(test)]
 mod errors;
+#[cfg(test)]
+mod globs;
