@@ -5,3 +5,4 @@ pub mod Kinds
 pub mod Glob
 pub mod View
 pub mod Paths
+pub mod Roots
