@@ -1,8 +1,7 @@
 -- The test of a root, and the grammar of clean roots.
-use Rattle.std.proofs.Common.{◌≡◌, ◌≢◌, ℕ, zero, suc, ◌+◌, ◌-◌, ◌<◌, ◌==◌, ◌||◌, ◌&&◌, not, Bool, true, false, cond, nat_eq, List, [], ◌∷◌, ◌++◌, length, take, drop, get_or, codes, refl, sym, ap, subst, ◌∙◌, arith, inl, inr, ⊎_elim, ◌⊎◌, append_assoc, eq-eqb, eqb-true, Contains, All, Decides}
-use Rattle.std.specs.Str.{bytes_eq}
+use Rattle.std.proofs.Common.{◌≡◌, ◌≢◌, ℕ, zero, suc, ◌+◌, true, false, cond, nat_eq, List, [], ◌∷◌, ◌++◌, drop, codes, refl, sym, ap, subst, ◌∙◌, arith, inl, inr, ⊎_elim, append_assoc, eqb-true, Contains, All, Decides}
 use Rattle.std.specs.List.{list_all, starts_with, prefix_len, AllByRecursion}
-use Rattle.std.proofs.lemmas.Bool.{cond-true, cond-false, cases_Bool, false_from_ne_true, both_ways, and_parts, and_from, not-true, not_from_false}
+use Rattle.std.proofs.lemmas.Bool.{cond-true, cond-false, cases_Bool, false_from_ne_true}
 use Rattle.std.proofs.lemmas.Bool.Decides.{Decides-eqb}
 use Rattle.std.proofs.lemmas.List.{append-nil, same_from_push}
 use Rattle.std.proofs.lemmas.Slice.Eq.{starts_is, bytes_eq-Decides}
@@ -10,16 +9,16 @@ use Rattle.ignore_glob.specs.Paths.{is_slash, pieces, joined, last_piece, is_abs
 use Rattle.ignore_glob.specs.Roots.{IsWithoutEnd, is_up, rises, is_rooted}
 use Rattle.ignore_glob.proofs.PieceLemmas.{front, others, pieces-front, pieces-slash, joined-pieces, last_piece-snoc}
 use Rattle.ignore_glob.proofs.FrontLemmas.{front-joined, front-absolute}
-use Rattle.ignore_glob.proofs.CleanLemmas.{clear, names_each, names-pieces, first_name, other_names, proper_each, proper-name, pieces-whole}
-use Rattle.ignore_glob.proofs.RootLemmas.{cons_nil, ups_whole, trim_of-stands}
+use Rattle.ignore_glob.proofs.CleanLemmas.{clear, names_each, names-pieces, first_name, other_names, proper_each, pieces-whole}
+use Rattle.ignore_glob.proofs.RootLemmas.{cons_nil, ups_whole}
 
 -- what is left past the pieces `..` is names where the pieces rise
 pub rises-skips : (ps : List (List ℕ)) → list_all is_proper (drop (prefix_len is_up ps) ps) ≡ rises ps
 rises-skips [] = refl
 rises-skips (p ∷ ps) =
     elim (is_up p) as (λ v. list_all is_proper (drop (cond v (1 + prefix_len is_up ps) 0) (p ∷ ps)) ≡ cond v (rises ps) (list_all is_proper (p ∷ ps))) [
-      true ↦ let one : 1 + prefix_len is_up ps ≡ suc (prefix_len is_up ps) = omega arith in ap (λ n. list_all is_proper (drop n (p ∷ ps))) one ∙ rises-skips ps
-    | false ↦ refl
+      | true ↦ let one : 1 + prefix_len is_up ps ≡ suc (prefix_len is_up ps) = omega arith in ap (λ n. list_all is_proper (drop n (p ∷ ps))) one ∙ rises-skips ps
+      | false ↦ refl
     ]
 
 abbrev IsClear : List (List ℕ) → Type 0
@@ -31,8 +30,8 @@ split_ups [] h e = ([], [], λ k d l. absurd (omega (arith, l)), λ k d l. absur
 split_ups (p ∷ ps) h e =
     ⊎_elim
     (λ up.
-        let w = split_ups ps h.1 (sym (cond-true (is_up p) (rises ps) (list_all is_proper (p ∷ ps)) up) ∙ e) in
-        (p ∷ w.0, w.1, more_ups p w.0 ((bytes_eq-Decides p (codes "..")).0 up) w.2, w.3, ap (λ l. p ∷ l) w.4))
+    let w = split_ups ps h.1 (sym (cond-true (is_up p) (rises ps) (list_all is_proper (p ∷ ps)) up) ∙ e) in
+    (p ∷ w.0, w.1, more_ups p w.0 ((bytes_eq-Decides p (codes "..")).0 up) w.2, w.3, ap (λ l. p ∷ l) w.4))
     (λ other. ([], p ∷ ps, λ k d l. absurd (omega (arith, l)), names_each (p ∷ ps) h (sym (cond-false (is_up p) (rises ps) (list_all is_proper (p ∷ ps)) other) ∙ e), refl))
     (cases_Bool (is_up p))
   where
@@ -66,15 +65,16 @@ sound : (root body : List ℕ) → IsWithoutEnd root body → root ≢ codes "-"
 sound root body without other e =
     ⊎_elim
     (λ s.
-        let at : body ≡ (46 ∷ (47 ∷ [])) ++ drop 2 body = (starts_is Decides-eqb body (46 ∷ (47 ∷ [])) _ refl).0 s in
-        let is : trim_of body ≡ drop 2 body = cond-true (starts_with nat_eq body (codes "./")) (drop 2 body) body s in
-        lead_named root body (codes "./") (drop 2 body) without (inr (inr refl)) at (ap (λ b. list_all is_proper (pieces b)) (sym is) ∙ sym (cond-true (starts_with nat_eq body (codes "./")) (list_all is_proper (pieces (trim_of body))) _ s) ∙ e) other)
+    let at : body ≡ (46 ∷ (47 ∷ [])) ++ drop 2 body = (starts_is Decides-eqb body (46 ∷ (47 ∷ [])) _ refl).0 s in
+    let is : trim_of body ≡ drop 2 body = cond-true (starts_with nat_eq body (codes "./")) (drop 2 body) body s in
+    lead_named root body (codes "./") (drop 2 body) without (inr (inr refl)) at (ap (λ b. list_all is_proper (pieces b)) (sym is) ∙ sym (cond-true (starts_with nat_eq body (codes "./")) (list_all is_proper (pieces (trim_of body))) _ s) ∙ e) other)
     (λ s. further (sym (cond-false (starts_with nat_eq body (codes "./")) (list_all is_proper (pieces (trim_of body))) (cond (is_absolute body) (list_all is_proper (pieces (without_slash body))) (rises (pieces body))) s) ∙ e))
     (cases_Bool (starts_with nat_eq body (codes "./")))
   where
     behind : (b : List ℕ) → is_absolute b ≡ true → b ≡ 47 ∷ without_slash b
     behind [] a = cc
     behind (x ∷ xs) a = ap (λ y. y ∷ xs) (eqb-true x 47 a) ∙ ap (λ r. 47 ∷ r) (sym (cond-true (is_slash x) xs (x ∷ xs) a))
+
     further : cond (is_absolute body) (list_all is_proper (pieces (without_slash body))) (rises (pieces body)) ≡ true → IsCleanRoot root
     further f =
         ⊎_elim
