@@ -124,12 +124,19 @@ fn odd_lines_are_read(rt: HostRuntime) -> Result<(), Fail> {
     Ok(())
 }
 
+/// The text of a refusal, unless it is of memory.
+fn text_of(alloc: Global, refused: Error) -> Result<String, Error> {
+    if matches!(&refused, Error::Memory) {
+        return Err(refused);
+    }
+    Ok(format!(in alloc; "{refused}")?)
+}
+
 /// The text of the line's refusal, and nothing where it is accepted.
 fn refusal(alloc: Global, builder: &mut GitignoreBuilder, line: &str) -> Result<String, Error> {
     match builder.add_line(None, line) {
-        Ok(_) => Ok(String::new(alloc)),
-        Err(Error::Memory) => Err(Error::Memory),
-        Err(refused) => Ok(format!(in alloc; "{refused}")?),
+        Ok(_builder) => Ok(String::new(alloc)),
+        Err(refused) => text_of(alloc, refused),
     }
 }
 
@@ -150,61 +157,90 @@ fn a_refused_line_adds_nothing(rt: HostRuntime) -> Result<(), Fail> {
     Ok(())
 }
 
+/// Rules of four lines, where the options were changed on the way.
+fn toggled(alloc: Global) -> Result<Gitignore, Error> {
+    let mut builder = GitignoreBuilder::new(alloc, "")?;
+    builder.add_line(None, "a")?.case_insensitive(true)?;
+    builder.add_line(None, "b")?.case_insensitive(false)?;
+    builder.add_line(None, "c")?;
+    builder.add_line(None, "[d")?.allow_unclosed_class(false);
+    builder.build()
+}
+
+fn refused_class(alloc: Global) -> Result<String, Error> {
+    let mut builder = GitignoreBuilder::new(alloc, "")?;
+    builder.allow_unclosed_class(false);
+    refusal(alloc, &mut builder, "[e")
+}
+
 #[test]
 fn toggles_change_later_lines_alone(rt: HostRuntime) -> Result<(), Fail> {
     let alloc = rt.alloc();
-    let mut builder = again!(GitignoreBuilder::new(alloc, ""));
-    again!(builder.add_line(None, "a")).case_insensitive(true)?;
-    again!(builder.add_line(None, "b")).case_insensitive(false)?;
-    again!(builder.add_line(None, "c"));
-    again!(builder.add_line(None, "[d")).allow_unclosed_class(false);
-    let text = again!(refusal(alloc, &mut builder, "[e"));
-    assert_eq!(rt;
-        text.as_str(),
-        "error parsing glob '[e': unclosed character class"
-    );
-    let rules = again!(builder.build());
-    assert_eq!(rt; rules.len(), 4);
+    let rules = again!(toggled(alloc));
     for (path, answer) in [
         ("A", "none"),
         ("B", "ignore b as **/b"),
         ("C", "none"),
         ("[d", "ignore [d as **/[d"),
     ] {
-        assert_eq!(rt; again!(told(alloc, &rules, path, false)).as_str(), answer);
+        let text = again!(told(alloc, &rules, path, false));
+        assert_eq!(rt; text.as_str(), answer);
     }
+    let text = again!(refused_class(alloc));
+    assert_eq!(rt;
+        text.as_str(),
+        "error parsing glob '[e': unclosed character class"
+    );
     Ok(())
+}
+
+/// A copy of the rules of a file and of a line that came from none.
+fn kept(alloc: Global) -> Result<Gitignore, Error> {
+    let mut builder = GitignoreBuilder::new(alloc, "./r")?;
+    let from = String::from_str(alloc, "/r/.gitignore")?;
+    builder.push_line(Some(from), "!a/")?;
+    builder.push_line(None, "b")?;
+    let rules = builder.clone()?.into_gitignore();
+    Ok(rules.clone()?)
+}
+
+/// What the rule that decides was given, and its flags.
+fn decider(alloc: Global, rules: &Gitignore, path: &str) -> Result<String, Error> {
+    let found = rules.matched(path, true)?;
+    let Some(rule) = found.inner() else {
+        return Ok(String::from_str(alloc, "none")?);
+    };
+    let rule = (**rule).clone()?;
+    let from = rule.from().unwrap_or("nowhere");
+    let whitelist = rule.is_whitelist();
+    let only_dir = rule.is_only_dir();
+    Ok(format!(in alloc; "{} from {from}: {whitelist}, {only_dir}", rule.original())?)
 }
 
 #[test]
 fn rules_keep_what_they_were_given(rt: HostRuntime) -> Result<(), Fail> {
     let alloc = rt.alloc();
-    let mut builder = again!(GitignoreBuilder::new(alloc, "./r"));
-    let from = again!(String::from_str(alloc, "/r/.gitignore"));
-    again!(builder.push_line(Some(again!(from.clone())), "!a/"));
-    again!(builder.push_line(None, "b"));
-    let rules = again!(again!(builder.clone()).into_gitignore().clone());
+    let rules = again!(kept(alloc));
     assert_eq!(rt; rules.path(), "r");
     assert_eq!(rt; rules.len(), 2);
     assert_eq!(rt; rules.num_ignores(), 1);
     assert_eq!(rt; rules.num_whitelists(), 1);
-    match again!(rules.matched("r/x/a", true)) {
-        Match::Whitelist(rule) => {
-            let rule = again!(rule.clone());
-            assert_eq!(rt; rule.from().unwrap_or(""), "/r/.gitignore");
-            assert_eq!(rt; rule.original(), "!a/");
-            assert!(rt; rule.is_whitelist() && rule.is_only_dir());
-        }
-        _ => assert!(rt; false, "no rule decided"),
+    for (path, answer) in [
+        ("r/x/a", "!a/ from /r/.gitignore: true, true"),
+        ("./r/b", "b from nowhere: false, false"),
+        ("r/c", "none"),
+    ] {
+        let text = again!(decider(alloc, &rules, path));
+        assert_eq!(rt; text.as_str(), answer);
     }
-    match again!(rules.matched("b", false)) {
-        Match::Ignore(rule) => {
-            assert!(rt; rule.from().is_none());
-            assert!(rt; !rule.is_whitelist() && !rule.is_only_dir());
-        }
-        _ => assert!(rt; false, "no rule decided"),
-    }
+    Ok(())
+}
+
+#[test]
+fn no_rules_take_nothing(rt: HostRuntime) -> Result<(), Fail> {
+    let alloc = rt.alloc();
     let none = Gitignore::empty(alloc);
     assert!(rt; again!(none.matched("a", false)).is_none());
+    assert!(rt; none.is_empty());
     Ok(())
 }
