@@ -1,5 +1,5 @@
 -- What the program prints for a question.
-use Rattle.std.specs.Prelude.{◌≡◌, ℕ, ◌+◌, Bool, List, [], ◌∷◌, ◌++◌, length, codes, if◌then◌else◌, ◌==◌}
+use Rattle.std.specs.Prelude.{◌≡◌, ℕ, ◌+◌, Bool, true, false, List, [], ◌∷◌, ◌++◌, length, codes, if◌then◌else◌, ◌==◌, not}
 use Rattle.std.specs.Prelude.{None as Nothing}
 use Rattle.std.specs.Fmt.{decimal}
 use Rattle.std.specs.Str.Lines.{lines}
@@ -21,6 +21,15 @@ pub data Adds (root : List ℕ) : List (List ℕ) → Building → List ℕ → 
   added : (lines : List (List ℕ)) (line : List ℕ) (old new : Building) (told : List ℕ) → Adds root lines old told → AddsLine old Nothing line new → Adds root (lines ++ line ∷ []) new told
   refused : (lines : List (List ℕ)) (line : List ℕ) (builder : Building) (told : List ℕ) (problem : Problem) → Adds root lines builder told → Refuses builder.options line problem → Adds root (lines ++ line ∷ []) builder (told ++ refusal (length lines + 1) problem)
 
+-- these lines were added in turn, this was told of the refused ones, and whether any was
+abbrev pub AddsAll : List ℕ → List (List ℕ) → Building → (List ℕ → Type 0) → Bool → Type 0
+AddsAll root lines builder err any = (told : List ℕ) × Adds root lines builder told × err told × (any ≡ not (length told == 0))
+
+-- a line was refused and told of with its number, or added with nothing told
+abbrev pub AddsOne : Building → ℕ → List ℕ → Building → (List ℕ → Type 0) → Bool → Type 0
+AddsOne old number line new err true = (problem : Problem) × Refuses old.options line problem × (new ≡ old) × err (refusal number problem)
+AddsOne old number line new err false = AddsLine old Nothing line new × err []
+
 -- the line that answers
 abbrev pub answer_line : Match Rule → List ℕ
 answer_line None = codes "none" ++ 10 ∷ []
@@ -31,11 +40,10 @@ answer_line (Whitelist rule) = codes "whitelist " ++ (rule.original ++ 10 ∷ []
 abbrev pub says : Ruleset → List ℕ → Bool → Match Rule
 says matcher path is_dir = answer matcher.root matcher.rules path is_dir
 
--- the answer stands in what was written, what was told stands in the errors, and the status is 1 where something was told
+-- the answer stands in what was written, what the refused lines are told by stands in the errors, and the status is 1 where there was one
 pub record Prints (question : Question) (status : ℕ) (out err : List ℕ → Type 0) : Type 0 where
   pub builder : Building
-  pub told : List ℕ
-  pub adds : Adds question.root (lines question.rules) builder told
+  pub refused : Bool
+  pub adds : AddsAll question.root (lines question.rules) builder err refused
   pub answers : out (answer_line (says (built builder) question.path question.is_dir))
-  pub tells : err told
-  pub ends : status ≡ (if length told == 0 then 0 else 1)
+  pub ends : status ≡ (if refused then 1 else 0)

@@ -1,7 +1,7 @@
 -- What the words after the program's name ask for.
 use Rattle.std.specs.Prelude.{ℕ, Bool, true, false, List, [], ◌∷◌, codes, Option, None, Some, if◌then◌else◌}
 use Rattle.std.specs.Str.{bytes_eq}
-use Rattle.igwalk.specs.declared.words.Question.{Question as CodeQuestion}
+use Rattle.igwalk.specs.declared.words.Request.{Request}
 
 -- what the rules of a text say, relative to a root, of a path that is a directory or not
 pub record Question : Type 0 where
@@ -24,5 +24,5 @@ question_of (command ∷ root ∷ rules ∷ path ∷ kind ∷ []) = if bytes_eq 
 question_of _ = None
 
 -- the question that the program's value stands for
-abbrev pub question_view : CodeQuestion → Question
-question_view q = record { root = q.root.now; rules = q.rules.now; path = q.path.now; is_dir = q.is_dir }
+abbrev pub request_view : Request → Question
+request_view q = record { root = q.root.now; rules = q.rules.now; path = q.path.now; is_dir = q.is_dir }

@@ -1,14 +1,14 @@
 //! The run of the program, over any two writers.
-ghost use Rattle.std.specs.Prelude.{◌≡◌, ◌≢◌, ◌≤◌, ◌==◌, ◌++◌, ◌∷◌, [], ℕ, List, None, Some, OnOk, IfOk, codes, length, map, string_bytes, if◌then◌else◌};
+ghost use Rattle.std.specs.Prelude.{◌≡◌, ◌≢◌, ◌≤◌, ◌==◌, [], ℕ, List, None, Some, true, false, OnOk, IfOk, codes, length, map, string_bytes, if◌then◌else◌};
 ghost use Rattle.std.specs.Io.KnownBytes.{Appends};
 ghost use Rattle.std.specs.Str.Lines.{lines};
 ghost use Rattle.ignore_glob.specs.Errors.{problem_text};
-ghost use Rattle.ignore_glob.specs.Problem.{told};
+ghost use Rattle.ignore_glob.specs.Problem.{told, memory};
 ghost use Rattle.ignore_rules.specs.Rules.{begun, built};
-ghost use Rattle.igwalk.specs.Words.{Question, question_of, question_view};
-ghost use Rattle.igwalk.specs.Matching.{Adds, Prints, answer_line, says, refusal};
+ghost use Rattle.igwalk.specs.Words.{Question, question_of, request_view};
+ghost use Rattle.igwalk.specs.Matching.{AddsAll, AddsOne, Prints, answer_line, says, refusal};
 
-use crate::words::{Question, read_words};
+use crate::words::{Request, read_words};
 use ignore_glob::{Error, Match};
 use ignore_rules::gitignore::{Gitignore, GitignoreBuilder};
 use std::alloc::Global;
@@ -25,13 +25,35 @@ pub enum Stop {
     Write,
 }
 
-/// Tells of a refused line, counted from 1.
-fn tell_refusal<E: Write>(err: &mut E, number: u64, error: &Error) -> Result<(), Stop>
-    ensures { OnOk result (Appends (E.contents err.old) (E.contents err.new) (refusal number (told error.now))) }
+/// Tells of a refused line, counted from 1. What is refused for want of memory ends the run.
+fn tell_refusal<E: Write>(err: &mut E, number: u64, error: Error) -> Result<(), Stop>
+    ensures tells { OnOk result (Appends (E.contents err.old) (E.contents err.new) (refusal number (told error))) }
+    ensures line { OnOk result (told error ≢ memory) }
 {
-    match writeln!(err, "igwalk: line {number}: {error}") {
-        Ok(()) => Ok(()),
-        Err(_) => Err(Stop::Write),
+    match &error {
+        Error::Glob { .. } => match writeln!(err, "igwalk: line {number}: {error}") {
+            Ok(()) => Ok(()),
+            Err(_) => Err(Stop::Write),
+        },
+        _ => Err(Stop::Memory),
+    }
+}
+
+/// Adds a line of rules, counted from 1, and tells of it where it is refused. Whether it was.
+fn add_or_tell<E: Write>(
+    builder: &mut GitignoreBuilder,
+    number: u64,
+    line: &str,
+    err: &mut E,
+) -> Result<bool, Stop>
+    ensures { IfOk result (AddsOne builder.old number line.now builder.new (Appends (E.contents err.old) (E.contents err.new))) }
+{
+    match builder.push_line(None, line) {
+        Ok(()) => Ok(false),
+        Err(error) => match tell_refusal(err, number, error) {
+            Ok(()) => Ok(true),
+            Err(stop) => Err(stop),
+        },
     }
 }
 
@@ -42,21 +64,13 @@ fn add_lines<E: Write>(
     err: &mut E,
 ) -> Result<bool, Stop>
     ensures { (root : List ℕ) → builder.old ≡ begun root
-        → IfOk result (λ refused. (told : List ℕ) × Adds root (lines rules.now) builder.new told
-        × Appends (E.contents err.old) (E.contents err.new) told × (refused ≡ (if length told == 0 then false else true))) }
+        → IfOk result (AddsAll root (lines rules.now) builder.new (Appends (E.contents err.old) (E.contents err.new))) }
 {
     let mut number = 0u64;
     let mut refused = false;
     for line in rules.lines() {
         number += 1;
-        match builder.push_line(None, line) {
-            Ok(()) => {}
-            Err(Error::Memory) => return Err(Stop::Memory),
-            Err(error) => {
-                tell_refusal(err, number, &error)?;
-                refused = true;
-            }
-        }
+        refused |= add_or_tell(builder, number, line, err)?;
     }
     Ok(refused)
 }
@@ -85,19 +99,19 @@ fn tell_answer<W: Write>(
 /// Answers a question. Whether a line of its rules was refused.
 fn answer<W: Write, E: Write>(
     alloc: Global,
-    question: Question<'_>,
+    request: Request<'_>,
     out: &mut W,
     err: &mut E,
 ) -> Result<bool, Stop>
-    ensures { IfOk result (λ refused. Prints (question_view question.entry) (if refused then 1 else 0)
+    ensures { IfOk result (λ refused. Prints (request_view request.entry) (if refused then 1 else 0)
         (Appends (W.contents out.old) (W.contents out.new)) (Appends (E.contents err.old) (E.contents err.new))) }
 {
-    let Ok(mut builder) = GitignoreBuilder::new(alloc, question.root) else {
+    let Ok(mut builder) = GitignoreBuilder::new(alloc, request.root) else {
         return Err(Stop::Memory);
     };
-    let refused = add_lines(&mut builder, question.rules, err)?;
+    let refused = add_lines(&mut builder, request.rules, err)?;
     let matcher = builder.into_gitignore();
-    tell_answer(out, &matcher, question.path, question.is_dir)?;
+    tell_answer(out, &matcher, request.path, request.is_dir)?;
     Ok(refused)
 }
 
@@ -128,7 +142,7 @@ pub fn run<W: Write, E: Write>(alloc: Global, words: &[String], out: &mut W, err
     ensures status { result ≤ 2 }
 {
     let answered = match read_words(words) {
-        Some(question) => answer(alloc, question, out, err),
+        Some(request) => answer(alloc, request, out, err),
         None => Err(Stop::Usage),
     };
     match answered {

@@ -1,10 +1,10 @@
 //! What the words after the program's name ask for.
 ghost use Rattle.std.specs.Prelude.{◌≡◌, map, option_map, string_bytes};
-ghost use Rattle.igwalk.specs.Words.{question_of, question_view, kind_of};
+ghost use Rattle.igwalk.specs.Words.{question_of, request_view, kind_of};
 
 /// What the rules of a text say, relative to a root, of a path that is a directory or not.
 #[derive(Clone, Copy)]
-pub struct Question<'w> {
+pub struct Request<'w> {
     pub root: &'w str,
     pub rules: &'w str,
     pub path: &'w str,
@@ -12,13 +12,13 @@ pub struct Question<'w> {
 }
 
 /// What the words ask for; `None` where they are wrong arguments.
-pub fn read_words(words: &[String]) -> Option<Question<'_>>
-    ensures { option_map question_view result ≡ question_of (map string_bytes words.now) }
+pub fn read_words(words: &[String]) -> Option<Request<'_>>
+    ensures { option_map request_view result ≡ question_of (map string_bytes words.now) }
 {
     match words {
         [command, root, rules, path, kind] if command.as_str() == "match" => {
             let is_dir = kind_of(kind.as_str())?;
-            Some(Question {
+            Some(Request {
                 root: root.as_str(),
                 rules: rules.as_str(),
                 path: path.as_str(),
