@@ -1,0 +1,28 @@
+-- What the words after the program's name ask for.
+use Rattle.std.specs.Prelude.{ℕ, Bool, true, false, List, [], ◌∷◌, codes, Option, None, Some, if◌then◌else◌}
+use Rattle.std.specs.Str.{bytes_eq}
+use Rattle.igwalk.specs.declared.words.Request.{Request}
+
+-- what the rules of a text say, relative to a root, of a path that is a directory or not
+pub record Question : Type 0 where
+  pub root : List ℕ
+  pub rules : List ℕ
+  pub path : List ℕ
+  pub is_dir : Bool
+
+-- `d` is a directory, `f` isn't, and other words are no kind
+abbrev pub kind_of : List ℕ → Option Bool
+kind_of word = if bytes_eq word (codes "d") then Some true else (if bytes_eq word (codes "f") then Some false else None)
+
+abbrev pub ask : List ℕ → List ℕ → List ℕ → Option Bool → Option Question
+ask root rules path None = None
+ask root rules path (Some is_dir) = Some (record { root = root; rules = rules; path = path; is_dir = is_dir })
+
+-- `match ROOT RULES PATH d|f`
+abbrev pub question_of : List (List ℕ) → Option Question
+question_of (command ∷ root ∷ rules ∷ path ∷ kind ∷ []) = if bytes_eq command (codes "match") then ask root rules path (kind_of kind) else None
+question_of _ = None
+
+-- the question that the program's value stands for
+abbrev pub request_view : Request → Question
+request_view q = record { root = q.root.now; rules = q.rules.now; path = q.path.now; is_dir = q.is_dir }
