@@ -1,0 +1,5 @@
+pub mod ExcludesBlanks
+pub mod ExcludesValues
+pub mod ExcludesKeys
+pub mod ExcludesLines
+pub mod ExcludesOnly

@@ -1,0 +1,2 @@
+//! Rules as gitignore(5) writes them.
+mod excludes;

@@ -1,0 +1,4 @@
+//! Gitignore rules: lines, files of rules, and the excludes file of git's configuration.
+#![tactic(auto)]
+
+pub mod gitignore;
