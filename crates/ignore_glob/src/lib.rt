@@ -4,6 +4,8 @@
 mod error;
 mod fault;
 pub mod glob;
+mod match_result;
 
 pub use error::Error;
 pub use fault::Fault;
+pub use match_result::Match;
