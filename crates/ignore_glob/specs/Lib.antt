@@ -12,3 +12,4 @@ pub mod Lexemes
 pub mod Takes
 pub mod Codes
 pub mod Reading
+pub mod Paths

@@ -5,6 +5,7 @@ mod error;
 mod fault;
 pub mod glob;
 mod match_result;
+pub mod text;
 
 pub use error::Error;
 pub use fault::Fault;
