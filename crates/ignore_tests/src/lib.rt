@@ -17,4 +17,6 @@ macro_rules! again {
 #[cfg(test)]
 mod errors;
 #[cfg(test)]
+mod excludes;
+#[cfg(test)]
 mod globs;
