@@ -1,5 +1,5 @@
 -- The first configuration that gives a value, one place at a time.
-use Rattle.std.proofs.Common.{◌≡◌, inl, inr, ℕ, List, [], ◌∷◌, Option, None, Some, Result, Ok, Err, Bor, is_some, codes, IfOk, false, sym, ap, ◌∙◌, subst, refl}
+use Rattle.std.proofs.Common.{◌≡◌, inr, ℕ, List, [], ◌∷◌, Option, None, Some, Result, Ok, Err, is_some, codes, IfOk, false, sym, ap, ◌∙◌, subst}
 use Rattle.std.proofs.lemmas.Bool.{true≢false}
 use Rattle.ignore_glob.specs.declared.fault.Fault.{Fault}
 use Rattle.ignore_files.specs.Tree.{Tree}
@@ -7,7 +7,6 @@ use Rattle.ignore_files.specs.declared.types.Contents.{Contents}
 use Rattle.ignore_rules.specs.Excludes.{IsValue}
 use Rattle.ignore_rules.specs.ExcludesSearch.{ReadGives, ContentsGive, Gives, IsFirstValue, filled, below, or_else, xdg_folder, configurations, expanded, IsFirstPath, IsExcludesPath}
 use Rattle.ignore_files.specs.declared.env.Env.{Env}
-use Rattle.std.specs.Option.{option_copied}
 
 -- a place that gives nothing leaves the answer to the others
 pub IsFirstValue-pass : (tree : Tree) (place : Option (List ℕ)) (places : List (Option (List ℕ))) (found : Option (List ℕ)) → Gives tree place None → IsFirstValue tree places found → IsFirstValue tree (place ∷ places) found

@@ -77,64 +77,217 @@ fn found(
 }
 
 /// A configuration of the system, where nothing else is set, with its value.
-type Row = (&'static [(&'static str, &'static [u8], bool)], Option<&'static str>);
+type Row = (
+    &'static [(&'static str, &'static [u8], bool)],
+    Option<&'static str>,
+);
 
 const PLAIN: [Row; 12] = [
-    (&[("/etc/gitconfig", b"excludesfile = /x", false)], Some("/x")),
-    (&[("/etc/gitconfig", b"excludesfile=/x\n", false)], Some("/x")),
-    (&[("/etc/gitconfig", b"[core]\n\texcludesFile = /x\n", false)], Some("/x")),
-    (&[("/etc/gitconfig", b"[user]\nname = a b\n[core]\nEXCLUDESFILE = /x\n[http]\n", false)], Some("/x")),
+    (
+        &[("/etc/gitconfig", b"excludesfile = /x", false)],
+        Some("/x"),
+    ),
+    (
+        &[("/etc/gitconfig", b"excludesfile=/x\n", false)],
+        Some("/x"),
+    ),
+    (
+        &[("/etc/gitconfig", b"[core]\n\texcludesFile = /x\n", false)],
+        Some("/x"),
+    ),
+    (
+        &[(
+            "/etc/gitconfig",
+            b"[user]\nname = a b\n[core]\nEXCLUDESFILE = /x\n[http]\n",
+            false,
+        )],
+        Some("/x"),
+    ),
     (&[("/etc/gitconfig", b"", false)], None),
-    (&[("/etc/gitconfig", b"[core]\nignorecase = true\n", false)], None),
+    (
+        &[("/etc/gitconfig", b"[core]\nignorecase = true\n", false)],
+        None,
+    ),
     (&[("/etc/gitconfig", b"excludesfile", false)], None),
     (&[("/etc/gitconfig", b"excludesfile =", false)], None),
     (&[("/etc/gitconfig", b"excludesfile =\n\n", false)], None),
-    (&[("/etc/gitconfig", b"core.excludesfile = /x\n", false)], None),
+    (
+        &[("/etc/gitconfig", b"core.excludesfile = /x\n", false)],
+        None,
+    ),
     (&[("/etc/gitconfig", b"# excludesfile = /x\n", false)], None),
     (&[("/etc/gitconfig", b"excludesfiles = /x\n", false)], None),
 ];
 
 const SPACE: [Row; 10] = [
-    (&[("/etc/gitconfig", b"\r\n \x0b\x0cexcludesfile\t=\t/x\r\n", false)], Some("/x")),
-    (&[("/etc/gitconfig", b"[core]\nEXCLUDESFILE =\n/x", false)], Some("/x")),
-    (&[("/etc/gitconfig", b"excludesfile\n\n=\n\n/x", false)], Some("/x")),
-    (&[("/etc/gitconfig", b"excludesfile = /x \n\n\t", false)], Some("/x")),
+    (
+        &[(
+            "/etc/gitconfig",
+            b"\r\n \x0b\x0cexcludesfile\t=\t/x\r\n",
+            false,
+        )],
+        Some("/x"),
+    ),
+    (
+        &[("/etc/gitconfig", b"[core]\nEXCLUDESFILE =\n/x", false)],
+        Some("/x"),
+    ),
+    (
+        &[("/etc/gitconfig", b"excludesfile\n\n=\n\n/x", false)],
+        Some("/x"),
+    ),
+    (
+        &[("/etc/gitconfig", b"excludesfile = /x \n\n\t", false)],
+        Some("/x"),
+    ),
     (&[("/etc/gitconfig", b"excludesfile = /x y\n", false)], None),
-    (&[("/etc/gitconfig", b"excludesfile = /x ; note\n", false)], None),
+    (
+        &[("/etc/gitconfig", b"excludesfile = /x ; note\n", false)],
+        None,
+    ),
     (&[("/etc/gitconfig", b"a excludesfile = /x\n", false)], None),
-    (&[("/etc/gitconfig", b"a\r excludesfile = /x\n", false)], None),
-    (&[("/etc/gitconfig", b"a\r\nexcludesfile = /x\n", false)], Some("/x")),
-    (&[("/etc/gitconfig", b"excludesfile = /a\x1cb\n", false)], Some("/a\u{1c}b")),
+    (
+        &[("/etc/gitconfig", b"a\r excludesfile = /x\n", false)],
+        None,
+    ),
+    (
+        &[("/etc/gitconfig", b"a\r\nexcludesfile = /x\n", false)],
+        Some("/x"),
+    ),
+    (
+        &[("/etc/gitconfig", b"excludesfile = /a\x1cb\n", false)],
+        Some("/a\u{1c}b"),
+    ),
 ];
 
 const QUOTES: [Row; 15] = [
-    (&[("/etc/gitconfig", b"excludesfile = \"/x\"\n", false)], Some("/x")),
-    (&[("/etc/gitconfig", b"excludesfile = \" /x \" \n", false)], Some("/x")),
-    (&[("/etc/gitconfig", b"excludesfile = \"\n/x\n\"\n", false)], Some("/x")),
-    (&[("/etc/gitconfig", b"excludesfile = \"/x\n", false)], Some("/x")),
-    (&[("/etc/gitconfig", b"excludesfile = /x\"\n", false)], Some("/x")),
-    (&[("/etc/gitconfig", b"excludesfile = /x \"\n", false)], Some("/x")),
-    (&[("/etc/gitconfig", b"excludesfile = /x \"\" \n", false)], None),
-    (&[("/etc/gitconfig", b"excludesfile = /x\"y\n", false)], Some("/x\"y")),
-    (&[("/etc/gitconfig", b"excludesfile = \"\"/x\"\"\n", false)], Some("\"/x\"")),
-    (&[("/etc/gitconfig", b"excludesfile = \"", false)], Some("\"")),
-    (&[("/etc/gitconfig", b"excludesfile = \"\"", false)], Some("\"")),
-    (&[("/etc/gitconfig", b"excludesfile = \"\"\"", false)], Some("\"")),
-    (&[("/etc/gitconfig", b"[core]\nexcludesFile = \" \"~/foo/bar \" \"", false)], None),
-    (&[("/etc/gitconfig", b"excludesfile = \" \" \"\n", false)], Some("\"")),
-    (&[("/etc/gitconfig", b"excludesfile = \" \" \n", false)], Some("\"")),
+    (
+        &[("/etc/gitconfig", b"excludesfile = \"/x\"\n", false)],
+        Some("/x"),
+    ),
+    (
+        &[("/etc/gitconfig", b"excludesfile = \" /x \" \n", false)],
+        Some("/x"),
+    ),
+    (
+        &[("/etc/gitconfig", b"excludesfile = \"\n/x\n\"\n", false)],
+        Some("/x"),
+    ),
+    (
+        &[("/etc/gitconfig", b"excludesfile = \"/x\n", false)],
+        Some("/x"),
+    ),
+    (
+        &[("/etc/gitconfig", b"excludesfile = /x\"\n", false)],
+        Some("/x"),
+    ),
+    (
+        &[("/etc/gitconfig", b"excludesfile = /x \"\n", false)],
+        Some("/x"),
+    ),
+    (
+        &[("/etc/gitconfig", b"excludesfile = /x \"\" \n", false)],
+        None,
+    ),
+    (
+        &[("/etc/gitconfig", b"excludesfile = /x\"y\n", false)],
+        Some("/x\"y"),
+    ),
+    (
+        &[("/etc/gitconfig", b"excludesfile = \"\"/x\"\"\n", false)],
+        Some("\"/x\""),
+    ),
+    (
+        &[("/etc/gitconfig", b"excludesfile = \"", false)],
+        Some("\""),
+    ),
+    (
+        &[("/etc/gitconfig", b"excludesfile = \"\"", false)],
+        Some("\""),
+    ),
+    (
+        &[("/etc/gitconfig", b"excludesfile = \"\"\"", false)],
+        Some("\""),
+    ),
+    (
+        &[(
+            "/etc/gitconfig",
+            b"[core]\nexcludesFile = \" \"~/foo/bar \" \"",
+            false,
+        )],
+        None,
+    ),
+    (
+        &[("/etc/gitconfig", b"excludesfile = \" \" \"\n", false)],
+        Some("\""),
+    ),
+    (
+        &[("/etc/gitconfig", b"excludesfile = \" \" \n", false)],
+        Some("\""),
+    ),
 ];
 
 const KEYS: [Row; 9] = [
-    (&[("/etc/gitconfig", b"excludesfile = /x\nexcludesfile = /y\n", false)], Some("/x")),
-    (&[("/etc/gitconfig", b"excludesfile = a b\nexcludesfile = /y\n", false)], Some("/y")),
-    (&[("/etc/gitconfig", b"excludesfile =\nexcludesfile = /y\n", false)], Some("/y")),
-    (&[("/etc/gitconfig", b"excludesfile =\nexcludesfile\n= /y\n", false)], Some("excludesfile")),
-    (&[("/etc/gitconfig", b"excludesfile /x\nexcludesfile = /y\n", false)], Some("/y")),
-    (&[("/etc/gitconfig", b"excludesfile = /\xff\nexcludesfile = /y\n", false)], None),
-    (&[("/etc/gitconfig", b"\xff\nexcludesfile = /\xc3\xa9\n", false)], Some("/é")),
-    (&[("/etc/gitconfig", b"excludesfile = ~/x~\n", false)], Some("~/x~")),
-    (&[("/etc/gitconfig", b"excludesfile = \xc2\xa0x\n", false)], Some("\u{a0}x")),
+    (
+        &[(
+            "/etc/gitconfig",
+            b"excludesfile = /x\nexcludesfile = /y\n",
+            false,
+        )],
+        Some("/x"),
+    ),
+    (
+        &[(
+            "/etc/gitconfig",
+            b"excludesfile = a b\nexcludesfile = /y\n",
+            false,
+        )],
+        Some("/y"),
+    ),
+    (
+        &[(
+            "/etc/gitconfig",
+            b"excludesfile =\nexcludesfile = /y\n",
+            false,
+        )],
+        Some("/y"),
+    ),
+    (
+        &[(
+            "/etc/gitconfig",
+            b"excludesfile =\nexcludesfile\n= /y\n",
+            false,
+        )],
+        Some("excludesfile"),
+    ),
+    (
+        &[(
+            "/etc/gitconfig",
+            b"excludesfile /x\nexcludesfile = /y\n",
+            false,
+        )],
+        Some("/y"),
+    ),
+    (
+        &[(
+            "/etc/gitconfig",
+            b"excludesfile = /\xff\nexcludesfile = /y\n",
+            false,
+        )],
+        None,
+    ),
+    (
+        &[("/etc/gitconfig", b"\xff\nexcludesfile = /\xc3\xa9\n", false)],
+        Some("/é"),
+    ),
+    (
+        &[("/etc/gitconfig", b"excludesfile = ~/x~\n", false)],
+        Some("~/x~"),
+    ),
+    (
+        &[("/etc/gitconfig", b"excludesfile = \xc2\xa0x\n", false)],
+        Some("\u{a0}x"),
+    ),
 ];
 
 fn agrees(alloc: Global, rows: &[Row]) -> Result<bool, Error> {
@@ -162,14 +315,33 @@ type Place = (
 /// No configuration gives a value.
 const WITHOUT_A_VALUE: [Place; 8] = [
     (&[], [None, None, None, None], None),
-    (&[], [Some("/h"), None, None, None], Some("/h/.config/git/ignore")),
-    (&[], [None, Some("/x"), None, None], Some("/x/git/ignore")),
-    (&[], [Some("/h"), Some("/x"), None, None], Some("/x/git/ignore")),
-    (&[], [Some("/h/"), Some(""), None, None], Some("/h/.config/git/ignore")),
-    (&[], [None, Some(""), None, None], None),
-    (&[], [Some(""), None, None, None], Some(".config/git/ignore")),
     (
-        &[("/g", b"[core]\n", false), ("/etc/gitconfig", b"excludesfile = /e", false)],
+        &[],
+        [Some("/h"), None, None, None],
+        Some("/h/.config/git/ignore"),
+    ),
+    (&[], [None, Some("/x"), None, None], Some("/x/git/ignore")),
+    (
+        &[],
+        [Some("/h"), Some("/x"), None, None],
+        Some("/x/git/ignore"),
+    ),
+    (
+        &[],
+        [Some("/h/"), Some(""), None, None],
+        Some("/h/.config/git/ignore"),
+    ),
+    (&[], [None, Some(""), None, None], None),
+    (
+        &[],
+        [Some(""), None, None, None],
+        Some(".config/git/ignore"),
+    ),
+    (
+        &[
+            ("/g", b"[core]\n", false),
+            ("/etc/gitconfig", b"excludesfile = /e", false),
+        ],
         [Some("/h"), None, Some("/g"), Some("/s")],
         Some("/h/.config/git/ignore"),
     ),
@@ -200,10 +372,26 @@ const FOLDERS: &[(&str, &[u8], bool)] = &[
 ];
 
 const WITH_A_VALUE: [Place; 16] = [
-    (ALL, [Some("/h"), Some("/x"), Some("/g"), Some("/s")], Some("/h/g")),
-    (ALL, [Some("/h"), Some("/x"), None, Some("/s")], Some("/h/h")),
-    (ALL, [Some("/h/"), Some("/x"), Some(""), Some("/s")], Some("/h//h")),
-    (ALL, [Some("/h"), Some("/x"), Some("/no"), Some("/s")], Some("/h/h")),
+    (
+        ALL,
+        [Some("/h"), Some("/x"), Some("/g"), Some("/s")],
+        Some("/h/g"),
+    ),
+    (
+        ALL,
+        [Some("/h"), Some("/x"), None, Some("/s")],
+        Some("/h/h"),
+    ),
+    (
+        ALL,
+        [Some("/h/"), Some("/x"), Some(""), Some("/s")],
+        Some("/h//h"),
+    ),
+    (
+        ALL,
+        [Some("/h"), Some("/x"), Some("/no"), Some("/s")],
+        Some("/h/h"),
+    ),
     (ALL, [None, Some("/x"), None, Some("/s")], Some("~/x")),
     (ALL, [None, None, None, Some("/s")], Some("~/s")),
     (ALL, [None, None, None, Some("")], Some("~/e")),
@@ -212,31 +400,55 @@ const WITH_A_VALUE: [Place; 16] = [
     (FOLDERS, [Some("/h"), Some("/x"), None, None], Some("/h/x")),
     (FOLDERS, [Some("/h"), Some(""), None, None], Some("/h/c")),
     (FOLDERS, [Some("/no"), None, None, None], Some("/no/e")),
-    (SYSTEM, [Some("/h"), Some("/x"), None, Some("/s")], Some("/h/s")),
-    (SYSTEM, [Some("/h"), Some("/x"), None, Some("")], Some("/h/e/h")),
-    (SYSTEM, [Some("/h"), Some("/x"), None, Some("/no")], Some("/x/git/ignore")),
+    (
+        SYSTEM,
+        [Some("/h"), Some("/x"), None, Some("/s")],
+        Some("/h/s"),
+    ),
+    (
+        SYSTEM,
+        [Some("/h"), Some("/x"), None, Some("")],
+        Some("/h/e/h"),
+    ),
+    (
+        SYSTEM,
+        [Some("/h"), Some("/x"), None, Some("/no")],
+        Some("/x/git/ignore"),
+    ),
     (SYSTEM, [None, None, Some("/no"), Some("/no")], None),
 ];
 
 /// The search goes on past a configuration that gives nothing.
 const GOES_ON: [Place; 4] = [
     (
-        &[("/g", b"[core]\n", false), ("/h/.gitconfig", b"excludesfile = \"~/y\"", false)],
+        &[
+            ("/g", b"[core]\n", false),
+            ("/h/.gitconfig", b"excludesfile = \"~/y\"", false),
+        ],
         [Some("/h"), None, Some("/g"), None],
         Some("/h/y"),
     ),
     (
-        &[("/g", b"excludesfile = /g", true), ("/h/.gitconfig", b"excludesfile = ~/y", false)],
+        &[
+            ("/g", b"excludesfile = /g", true),
+            ("/h/.gitconfig", b"excludesfile = ~/y", false),
+        ],
         [Some("/h"), None, Some("/g"), None],
         Some("/h/y"),
     ),
     (
-        &[("/g", b"excludesfile = /\xff\n", false), ("/x/git/config", b"excludesfile = /y", false)],
+        &[
+            ("/g", b"excludesfile = /\xff\n", false),
+            ("/x/git/config", b"excludesfile = /y", false),
+        ],
         [None, Some("/x"), Some("/g"), None],
         Some("/y"),
     ),
     (
-        &[("/h/.gitconfig", b"excludesfile = a b", false), ("/etc/gitconfig", b"excludesfile = /y", false)],
+        &[
+            ("/h/.gitconfig", b"excludesfile = a b", false),
+            ("/etc/gitconfig", b"excludesfile = /y", false),
+        ],
         [Some("/h"), None, None, None],
         Some("/y"),
     ),
@@ -309,7 +521,10 @@ impl Files for Exhausted {
 fn memory_refused_by_the_files(rt: HostRuntime) -> Result<(), Fail> {
     let alloc = rt.alloc();
     let env = again!(env(alloc, &[None, None, None, None]));
-    let told = matches!(gitconfig_excludes_path(alloc, &Exhausted, &env), Err(Error::Memory));
+    let told = matches!(
+        gitconfig_excludes_path(alloc, &Exhausted, &env),
+        Err(Error::Memory)
+    );
     assert!(rt; told);
     Ok(())
 }

@@ -1,4 +1,4 @@
-use Rattle.std.proofs.Common.{List, Option, map, drop, Bor, ℕ}
+use Rattle.std.proofs.Common.{List, Option, map, drop, ℕ}
 use Rattle.std.specs.Option.{option_copied}
 use Rattle.ignore_files.specs.Tree.{Tree}
 use Rattle.ignore_files.specs.Gives.{IsHonest}

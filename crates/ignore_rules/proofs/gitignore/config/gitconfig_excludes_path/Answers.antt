@@ -1,8 +1,7 @@
 -- The places that are asked are those of the environment, in its order.
-use Rattle.std.proofs.Common.{◌≡◌, ℕ, List, [], ◌∷◌, Option, None, Some, Global, String, codes, option_map, string_bytes, sym, ◌∙◌, ap, refl, subst}
+use Rattle.std.proofs.Common.{◌≡◌, ℕ, List, [], ◌∷◌, Option, None, Some, Global, String, codes, option_map, string_bytes, ◌∙◌, ap, subst}
 use Rattle.std.specs.Option.{option_copied}
-use Rattle.ignore_files.specs.Tree.{Tree}
-use Rattle.ignore_rules.specs.ExcludesSearch.{filled, below, xdg_folder, configurations, IsFirstPath, IsExcludesPath}
+use Rattle.ignore_rules.specs.ExcludesSearch.{below, xdg_folder, configurations, IsFirstPath, IsExcludesPath}
 use Rattle.ignore_rules.proofs.ExcludesPlaces.{configurations-same, IsExcludesPath-some, IsExcludesPath-none, IfOk-map}
 use Rattle.ignore_rules.proofs.gitignore.config.gitconfig_excludes_path.Goals as goal
 

@@ -1,8 +1,5 @@
 -- An honest value's contents are the tree's, and the value of their bytes is the one that counts.
-use Rattle.std.proofs.Common.{◌≡◌, List, None, Some, Ok, sym, ◌∙◌}
-use Rattle.ignore_files.specs.Tree.{Tree}
-use Rattle.ignore_rules.specs.Excludes.{IsValue}
-use Rattle.ignore_rules.specs.ExcludesSearch.{ContentsGive}
+use Rattle.std.proofs.Common.{None, Some, Ok, sym, ◌∙◌}
 use Rattle.ignore_rules.proofs.ExcludesPlaces.{ContentsGive-whole}
 use Rattle.ignore_rules.proofs.gitignore.config.path_from.Goals as goal
 

@@ -1,5 +1,5 @@
 -- Each turn writes what stands before the first `~`, and the home directory.
-use Rattle.std.proofs.Common.{rules, ◌≡◌, ℕ, List, ◌++◌, None, Some, length, string_bytes, sym, ◌∙◌, ap, lit<}
+use Rattle.std.proofs.Common.{rules, ◌++◌, None, Some, string_bytes, sym, ◌∙◌, ap, lit<}
 use Rattle.std.proofs.lemmas.Str.Pattern.{split_once_first}
 use Rattle.ignore_rules.proofs.ExcludesHome.{flat_map-no_tilde, written_more}
 use Rattle.ignore_rules.proofs.gitignore.config.with_home.Goals as goal
