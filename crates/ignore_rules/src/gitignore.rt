@@ -9,3 +9,8 @@ mod matcher;
 pub use builder::GitignoreBuilder;
 pub use glob::Glob;
 pub use matcher::Gitignore;
+//! Rules as gitignore(5) writes them.
+mod config;
+mod excludes;
+
+pub use config::gitconfig_excludes_path;
