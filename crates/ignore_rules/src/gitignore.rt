@@ -1,16 +1,14 @@
 //! The rules of gitignore files, as gitignore(5) describes them: lines are read to rules, and the last rule that takes a path decides.
 
 mod builder;
+mod config;
+mod excludes;
 mod glob;
 pub mod laws;
 mod line;
 mod matcher;
 
 pub use builder::GitignoreBuilder;
+pub use config::gitconfig_excludes_path;
 pub use glob::Glob;
 pub use matcher::Gitignore;
-//! Rules as gitignore(5) writes them.
-mod config;
-mod excludes;
-
-pub use config::gitconfig_excludes_path;

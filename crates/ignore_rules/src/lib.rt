@@ -1,5 +1,4 @@
-//! Rules over paths, from the lines of gitignore files.
-//! Gitignore rules: lines, files of rules, and the excludes file of git's configuration.
+//! Rules over paths: the lines and files of gitignore(5), and the excludes file of git's configuration.
 #![tactic(auto)]
 
 pub mod gitignore;
