@@ -1,5 +1,5 @@
 //! The search of git's configuration for the excludes file.
-ghost use Rattle.std.specs.Prelude.{◌≡◌, codes, Some, IfOk, IfErr, map, option_map, string_bytes};
+ghost use Rattle.std.specs.Prelude.{◌≡◌, ℕ, List, Option, codes, Some, IfOk, IfErr, map, option_map, string_bytes};
 ghost use Rattle.std.specs.Option.{option_copied};
 ghost use Rattle.ignore_glob.specs.Problem.{told, memory};
 ghost use Rattle.ignore_files.specs.Tree.{Tree};
@@ -156,6 +156,7 @@ pub fn gitconfig_excludes_path<F: Files>(
     env: &Env,
 ) -> Result<Option<String>, Error>
     ensures found { (tree : Tree) → IsHonest F.Files files.now tree → IfOk result (λ found. IsExcludesPath tree env.now (option_map string_bytes found)) }
+    ensures only { (tree : Tree) → IsHonest F.Files files.now tree → IfOk result (λ found. (other : Option (List ℕ)) → IsExcludesPath tree env.now other → option_map string_bytes found ≡ other) }
     ensures refuses { IfErr result (λ error. told error ≡ memory) }
 {
     let home = known(&env.home);

@@ -2,7 +2,7 @@
 use Rattle.std.proofs.Common.{◌≡◌, ℕ, List, [], ◌∷◌, Option, None, Some, Global, String, codes, option_map, string_bytes, ◌∙◌, ap, subst}
 use Rattle.std.specs.Option.{option_copied}
 use Rattle.ignore_rules.specs.ExcludesSearch.{below, xdg_folder, configurations, IsFirstPath, IsExcludesPath}
-use Rattle.ignore_rules.proofs.ExcludesPlaces.{configurations-same, IsExcludesPath-some, IsExcludesPath-none, IfOk-map}
+use Rattle.ignore_rules.proofs.ExcludesPlaces.{configurations-same, IsExcludesPath-some, IsExcludesPath-none, IsExcludesPath-one, IfOk-map}
 use Rattle.ignore_rules.proofs.gitignore.config.gitconfig_excludes_path.Goals as goal
 
 pub returns-clause-found : goal.returns-clause-found
@@ -33,3 +33,9 @@ returns-in-None-clause-found g c = λ tree honest. (
     (λ found e. IsExcludesPath-none tree env home places (option_map string_bytes found) same first (e ∙ ap (λ t. below t (codes "git/ignore")) again))
     c.below-in-None.ensures.joins
     )
+
+pub returns-clause-only : goal.returns-clause-only
+returns-clause-only g c = λ tree honest other h. IsExcludesPath-one tree c.args.env.now (Some (string_bytes c.in-Some.path)) other (returns-clause-found g c tree honest) h
+
+pub returns-in-None-clause-only : goal.returns-in-None-clause-only
+returns-in-None-clause-only g c = λ tree honest. IfOk-map c.below-in-None.result (λ found. IsExcludesPath tree c.args.env.now (option_map string_bytes found)) (λ found. (other : Option (List ℕ)) → IsExcludesPath tree c.args.env.now other → option_map string_bytes found ≡ other) (λ found h other k. IsExcludesPath-one tree c.args.env.now (option_map string_bytes found) other h k) (returns-in-None-clause-found g c tree honest)
