@@ -3,9 +3,13 @@
 
 mod env;
 mod files;
+mod memory;
+mod tree_error;
 mod types;
 
 pub use env::Env;
 pub use files::Files;
 pub use ignore_glob::Fault;
+pub use memory::MemoryTree;
+pub use tree_error::TreeError;
 pub use types::{Bytes, Contents, FileType, Identity, Listed, Listing, Metadata, Name, Refusal};
