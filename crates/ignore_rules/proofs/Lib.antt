@@ -1,0 +1,5 @@
+pub mod AnswerLemmas
+pub mod BuilderLemmas
+pub mod TakingLemmas
+pub mod TextLemmas
+mod WorkedLines

@@ -1,0 +1,4 @@
+//! Rules over paths, from the lines of gitignore files.
+#![tactic(auto)]
+
+pub mod gitignore;
