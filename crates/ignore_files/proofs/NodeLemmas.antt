@@ -2,7 +2,8 @@
 use Rattle.std.proofs.Common.{◌≡◌, ℕ, zero, suc, Bool, List, [], ◌∷◌, ◌++◌, length, get_or, set, Some, Result, Ok, slice_get, ap, sym, subst, ◌∙◌}
 use Rattle.std.proofs.lemmas.List.{get_or_append_left, set-append_left}
 use Rattle.std.proofs.lemmas.Option.{get_or_from_slice_get, slice_get_within}
-use Rattle.ignore_files.specs.Memory.{Memory, and_then, sought, pieces, last, new_node}
+use Rattle.ignore_glob.specs.Paths.{pieces, last_piece}
+use Rattle.ignore_files.specs.Memory.{Memory, and_then, sought, new_node}
 use Rattle.ignore_files.specs.Answers.{file_type_of}
 use Rattle.ignore_files.specs.Changes.{changed, set_at, Leaves, LeavesIfRoom, listing_too, with_node}
 use Rattle.ignore_files.specs.declared.types.FileType.{FileType}
@@ -46,10 +47,10 @@ module _ (test : Kind → Bool) (f : Node → Node) (tree : Memory) (path : List
   leaves_room x e = subst (λ (made : Result Memory TreeError). LeavesIfRoom {A = Unit {0}} made (Ok tt) tree (record tree { nodes = set tree.nodes place x })) told (ap (λ y. record tree { nodes = set tree.nodes place y }) e ∙ written)
 
 -- a node added, by what its parts are
-pub with_node_is : (nodes : List Node) (path : List ℕ) (kind : Kind) (len parent : ℕ) (name : List ℕ) (told : FileType) (place : ℕ) (copy : List ℕ) (node : Node) → name ≡ last (pieces path) → told ≡ file_type_of kind → place ≡ length nodes → copy ≡ path → node ≡ new_node place parent copy kind len → changed (listing_too (Named name told place)) nodes parent ++ node ∷ [] ≡ with_node nodes path kind len parent
+pub with_node_is : (nodes : List Node) (path : List ℕ) (kind : Kind) (len parent : ℕ) (name : List ℕ) (told : FileType) (place : ℕ) (copy : List ℕ) (node : Node) → name ≡ last_piece (pieces path) → told ≡ file_type_of kind → place ≡ length nodes → copy ≡ path → node ≡ new_node place parent copy kind len → changed (listing_too (Named name told place)) nodes parent ++ node ∷ [] ≡ with_node nodes path kind len parent
 with_node_is nodes path kind len parent name told place copy node name_is told_is place_is copy_is node_is =
     ap (λ n. changed (listing_too (Named name told place)) nodes parent ++ n ∷ []) node_is
     ∙ ap (λ n. changed (listing_too (Named n told place)) nodes parent ++ new_node place parent copy kind len ∷ []) name_is
-    ∙ ap (λ t. changed (listing_too (Named (last (pieces path)) t place)) nodes parent ++ new_node place parent copy kind len ∷ []) told_is
-    ∙ ap (λ i. changed (listing_too (Named (last (pieces path)) (file_type_of kind) i)) nodes parent ++ new_node i parent copy kind len ∷ []) place_is
-    ∙ ap (λ p. changed (listing_too (Named (last (pieces path)) (file_type_of kind) (length nodes))) nodes parent ++ new_node (length nodes) parent p kind len ∷ []) copy_is
+    ∙ ap (λ t. changed (listing_too (Named (last_piece (pieces path)) t place)) nodes parent ++ new_node place parent copy kind len ∷ []) told_is
+    ∙ ap (λ i. changed (listing_too (Named (last_piece (pieces path)) (file_type_of kind) i)) nodes parent ++ new_node i parent copy kind len ∷ []) place_is
+    ∙ ap (λ p. changed (listing_too (Named (last_piece (pieces path)) (file_type_of kind) (length nodes))) nodes parent ++ new_node (length nodes) parent p kind len ∷ []) copy_is

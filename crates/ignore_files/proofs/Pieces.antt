@@ -8,7 +8,8 @@ use Rattle.std.specs.List.{list_all}
 use Rattle.std.specs.Str.Pattern.{RFindsChar}
 use Rattle.std.proofs.lemmas.List.{take-append-drop}
 use Rattle.std.proofs.lemmas.Str.Pattern.{IsSplitOnceResult, split_parts, drop_at_char, NoCharPasses-char}
-use Rattle.ignore_files.specs.Memory.{pieces, front, last, is_empty, is_name, is_own_path}
+use Rattle.ignore_glob.specs.Paths.{pieces, last_piece, is_proper}
+use Rattle.ignore_files.specs.Memory.{front, is_empty, is_own_path}
 
 not_zero : (n : ℕ) → 0 < n → eqb n 0 ≡ false
 not_zero n h = grind (arith, nat_tests)
@@ -67,7 +68,7 @@ pieces_cut_last bs x (i, j, found, before, after, order, front_len, back_len) =
     ap pieces whole ∙ pieces_cut (take i bs) (drop j bs) ∙ ap (λ ps. pieces (take i bs) ++ ps) one
     ∙ ap (λ r. pieces r ++ drop j bs ∷ []) (sym before) ∙ ap (λ r. pieces x.0.now ++ r ∷ []) (sym after)
 
-pub last_push : (ps : List (List ℕ)) (p : List ℕ) → last (ps ++ p ∷ []) ≡ p
+pub last_push : (ps : List (List ℕ)) (p : List ℕ) → last_piece (ps ++ p ∷ []) ≡ p
 last_push [] p = refl
 last_push (q ∷ []) p = refl
 last_push (q ∷ r ∷ ps) p = last_push (r ∷ ps) p
@@ -80,9 +81,9 @@ front_push (q ∷ r ∷ ps) p = ap (λ qs. q ∷ qs) (front_push (r ∷ ps) p)
 -- whether a path is a node's own, by what stands behind its first slash
 pub own_none : (bs : List ℕ) → ((rest : List ℕ) → bs ≢ 47 ∷ rest) → false ≡ is_own_path bs
 own_none [] h = refl
-own_none (b ∷ rest) h = sym (ap (λ t. t && (is_empty rest || list_all is_name (pieces rest))) (no_slash b (λ e. h rest (ap (λ c. c ∷ rest) e))))
+own_none (b ∷ rest) h = sym (ap (λ t. t && (is_empty rest || list_all is_proper (pieces rest))) (no_slash b (λ e. h rest (ap (λ c. c ∷ rest) e))))
 
-pub own_rest : (bs rest : List ℕ) → bs ≡ 47 ∷ rest → eqb (length rest) 0 ≡ false → list_all is_name (pieces rest) ≡ is_own_path bs
+pub own_rest : (bs rest : List ℕ) → bs ≡ 47 ∷ rest → eqb (length rest) 0 ≡ false → list_all is_proper (pieces rest) ≡ is_own_path bs
 own_rest bs [] e h = cc
 own_rest bs (x ∷ rest) e h = ap is_own_path (sym e)
 
@@ -94,6 +95,6 @@ empty_length (x ∷ xs) = sym (not_zero (suc (length xs)) (omega arith))
 pub pieces_uncut : (bs : List ℕ) → RFindsChar 47 bs None → pieces bs ≡ bs ∷ []
 pieces_uncut bs h = pieces_one bs (λ i l. NoCharPasses-char 47 bs i h (lit< tt) l)
 
-pub front_last : (p : List ℕ) (ps : List (List ℕ)) → front (p ∷ ps) ++ last (p ∷ ps) ∷ [] ≡ p ∷ ps
+pub front_last : (p : List ℕ) (ps : List (List ℕ)) → front (p ∷ ps) ++ last_piece (p ∷ ps) ∷ [] ≡ p ∷ ps
 front_last p [] = refl
 front_last p (q ∷ ps) = ap (λ qs. p ∷ qs) (front_last q ps)

@@ -1,6 +1,7 @@
 -- Names followed from a place.
 use Rattle.std.proofs.Common.{◌≡◌, ℕ, Bool, true, false, cond, List, [], ◌∷◌, ◌++◌, Option, Some, None, Result, Ok, Err, option_and_then, slice_get, refl, ap, sym, ◌∙◌}
-use Rattle.ignore_files.specs.Memory.{and_then, pieces, is_empty, child, below, place_of, is_directory, is_at, is_own_path, passing, sought, folder_sought, vacant, parent_for, entry_under, front, last}
+use Rattle.ignore_glob.specs.Paths.{pieces, last_piece}
+use Rattle.ignore_files.specs.Memory.{and_then, is_empty, child, below, place_of, is_directory, is_at, is_own_path, passing, sought, folder_sought, vacant, parent_for, entry_under, front}
 use Rattle.std.specs.Option.{option_map_or}
 use Rattle.ignore_files.specs.declared.tree_error.TreeError.{TreeError}
 use Rattle.ignore_files.specs.declared.tree_error.TreeError.TheVariants as refusal
@@ -59,13 +60,13 @@ parent_found nodes path parent (Ok x) h = let v = vacant_ok (place_of nodes path
 parent_found nodes path parent (Err e) h = cc
 
 -- where a node may be added, its directory stands and has nothing under its name
-pub parent_ok : (nodes : List Node) (path : List ℕ) (parent : ℕ) → parent_for nodes path ≡ Ok parent → (n : Node) × (slice_get nodes parent ≡ Some n) × (entry_under (last (pieces path)) n.kind ≡ None)
+pub parent_ok : (nodes : List Node) (path : List ℕ) (parent : ℕ) → parent_for nodes path ≡ Ok parent → (n : Node) × (slice_get nodes parent ≡ Some n) × (entry_under (last_piece (pieces path)) n.kind ≡ None)
 parent_ok nodes path parent h =
     let found = parent_found nodes path parent (folder_sought nodes path) h in
     let folder = folder_ok nodes path parent (sym found.0) in
     let some = pieces_some path in
-    let whole : front (pieces path) ++ last (pieces path) ∷ [] ≡ pieces path = ap (λ ps. front ps ++ last ps ∷ []) some.2 ∙ front_last some.0 some.1 ∙ sym some.2 in
-    let name = last (pieces path) in
+    let whole : front (pieces path) ++ last_piece (pieces path) ∷ [] ≡ pieces path = ap (λ ps. front ps ++ last_piece ps ∷ []) some.2 ∙ front_last some.0 some.1 ∙ sym some.2 in
+    let name = last_piece (pieces path) in
     let led : below nodes parent (name ∷ []) ≡ None =
     ap (option_and_then (λ i. below nodes i (name ∷ []))) (sym folder.0) ∙ sym (below_append nodes 0 (front (pieces path)) (name ∷ [])) ∙ ap (below nodes 0) whole ∙ found.1 in
     let n = folder.1 in

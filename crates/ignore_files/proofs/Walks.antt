@@ -2,7 +2,8 @@
 use Rattle.std.proofs.Common.{◌≡◌, ℕ, zero, suc, Bool, true, false, cond, List, [], ◌∷◌, ◌++◌, Option, Some, None, Result, Ok, Err, refl, ap, sym, ◌∙◌, append_assoc}
 use Rattle.ignore_glob.specs.declared.fault.Fault.{Fault}
 use Rattle.ignore_glob.specs.declared.fault.Fault.TheVariants.{NotFound, NotADirectory, LinkLimit}
-use Rattle.ignore_files.specs.Memory.{and_then, pieces, is_empty, is_dir_at}
+use Rattle.ignore_glob.specs.Paths.{pieces}
+use Rattle.ignore_files.specs.Memory.{and_then, is_empty, is_dir_at}
 use Rattle.ignore_files.specs.Resolve.{enter, link_at, ends, goes, along, walk}
 use Rattle.ignore_files.specs.declared.memory.node.Node.{Node}
 use Rattle.ignore_files.specs.declared.memory.resolve.Reached.{Reached}

@@ -1,6 +1,7 @@
 -- A tree in memory: its working directory, and its nodes in the order of adding, each told by its place in that order. The first is `/`.
 use Rattle.std.specs.Prelude.{ℕ, ◌+◌, Bool, true, false, List, [], ◌∷◌, Option, Some, None, option_and_then, Result, Ok, Err, slice_get, ◌==◌, ◌||◌, ◌&&◌, not, bytes_eq, codes, cond, count_by}
-use Rattle.std.specs.List.{slice_split, list_all}
+use Rattle.std.specs.List.{list_all}
+use Rattle.ignore_glob.specs.Paths.{pieces, is_proper}
 use Rattle.std.specs.Option.{option_map_or}
 use Rattle.ignore_files.specs.Entries.{named}
 use Rattle.ignore_files.specs.declared.tree_error.TreeError.{TreeError}
@@ -18,10 +19,6 @@ pub record Memory : Type 0 where
 abbrev pub and_then : {A B E : Type 0} → (A → Result B E) → Result A E → Result B E
 and_then f (Ok a) = f a
 and_then f (Err e) = Err e
-
--- the pieces of a text between its slashes
-abbrev pub pieces : List ℕ → List (List ℕ)
-pieces text = slice_split (λ b. b == 47) text
 
 -- nothing stands in it
 abbrev pub is_empty : {A : Type 0} → List A → Bool
@@ -81,25 +78,16 @@ below nodes place (piece ∷ rest) = cond (is_empty piece) (below nodes place re
 abbrev pub place_of : List Node → List ℕ → Option ℕ
 place_of nodes path = below nodes 0 (pieces path)
 
--- a piece between slashes that is a name
-abbrev pub is_name : List ℕ → Bool
-is_name piece = not (is_empty piece) && (not (bytes_eq piece (codes ".")) && not (bytes_eq piece (codes "..")))
-
 -- `/`, or `/` and names joined by single slashes
 abbrev pub is_own_path : List ℕ → Bool
 is_own_path [] = false
-is_own_path (b ∷ rest) = (b == 47) && (is_empty rest || list_all is_name (pieces rest))
+is_own_path (b ∷ rest) = (b == 47) && (is_empty rest || list_all is_proper (pieces rest))
 
--- the pieces but the last, and the last
+-- the pieces but the last
 abbrev pub front : List (List ℕ) → List (List ℕ)
 front [] = []
 front (piece ∷ []) = []
 front (piece ∷ next ∷ rest) = piece ∷ front (next ∷ rest)
-
-abbrev pub last : List (List ℕ) → List ℕ
-last [] = []
-last (piece ∷ []) = piece
-last (piece ∷ next ∷ rest) = last (next ∷ rest)
 
 -- the place, if a node of a kind that passes stands there, or else the refusal
 abbrev pub passing : (Kind → Bool) → TreeError → List Node → Option ℕ → Result ℕ TreeError

@@ -3,7 +3,8 @@ use Rattle.std.specs.Prelude.{ℕ, zero, suc, Bool, true, List, [], ◌∷◌, �
 use Rattle.ignore_glob.specs.declared.fault.Fault.{Fault}
 use Rattle.ignore_glob.specs.declared.fault.Fault.TheVariants.{NotFound, NotADirectory, LinkLimit}
 use Rattle.ignore_files.specs.Entries.{named}
-use Rattle.ignore_files.specs.Memory.{and_then, pieces, is_empty, is_rooted, entries_of, is_dir_at}
+use Rattle.ignore_glob.specs.Paths.{pieces}
+use Rattle.ignore_files.specs.Memory.{and_then, is_empty, is_rooted, entries_of, is_dir_at}
 use Rattle.ignore_files.specs.declared.memory.entry.Entry.{Entry}
 use Rattle.ignore_files.specs.declared.memory.node.Node.{Node}
 use Rattle.ignore_files.specs.declared.memory.node.Kind.{Kind}

@@ -20,3 +20,5 @@ mod errors;
 mod globs;
 #[cfg(test)]
 mod text;
+#[cfg(test)]
+mod trees;

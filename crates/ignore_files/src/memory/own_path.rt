@@ -1,6 +1,7 @@
 //! The own paths of nodes: from `/`, by names alone.
 ghost use Rattle.std.specs.Prelude.{◌≡◌, ◌∷◌, [], List, count_by};
-ghost use Rattle.ignore_files.specs.Memory.{is_name, is_own_path, child, place_of, any_kind, is_file, is_directory, sought, folder_sought, parent_for, below, front, last, pieces};
+ghost use Rattle.ignore_glob.specs.Paths.{is_proper, last_piece, pieces};
+ghost use Rattle.ignore_files.specs.Memory.{is_own_path, child, place_of, any_kind, is_file, is_directory, sought, folder_sought, parent_for, below, front};
 ghost use Rattle.ignore_files.specs.declared.memory.node.Node.{Node};
 
 use crate::memory::node::{Kind, Node};
@@ -8,7 +9,7 @@ use crate::memory::resolve::is_dir;
 use crate::tree_error::TreeError;
 
 fn is_name(piece: &str) -> bool
-    ensures { result ≡ is_name piece.now }
+    ensures { result ≡ is_proper piece.now }
 {
     !piece.is_empty() && piece != "." && piece != ".."
 }
@@ -62,7 +63,7 @@ pub fn place_of(nodes: &[Node], path: &str) -> Option<usize>
 
 /// The name that a path ends with.
 pub fn last_name(path: &str) -> &str
-    ensures { result.now ≡ last (pieces path.now) }
+    ensures { result.now ≡ last_piece (pieces path.now) }
 {
     match path.rsplit_once('/') {
         Some((_, name)) => name,

@@ -1,7 +1,8 @@
 //! Where the text of a path leads in a tree in memory.
 
 ghost use Rattle.std.specs.Prelude.{◌≡◌, ◌≤◌, [], ◌∷◌, IfOk, MatchResult, Ok, Err, option_map};
-ghost use Rattle.ignore_files.specs.Memory.{pieces, is_dir_at};
+ghost use Rattle.ignore_glob.specs.Paths.{pieces};
+ghost use Rattle.ignore_files.specs.Memory.{is_dir_at};
 ghost use Rattle.ignore_files.specs.Resolve.{enter, link_at, walk, resolved, node_found};
 
 use crate::memory::node::{Kind, Node};

@@ -1,5 +1,6 @@
 use Rattle.std.proofs.Common.{ap, sym, ◌∙◌}
-use Rattle.ignore_files.specs.Memory.{front, pieces, below}
+use Rattle.ignore_glob.specs.Paths.{pieces}
+use Rattle.ignore_files.specs.Memory.{front, below}
 use Rattle.ignore_files.proofs.Pieces.{pieces_cut_last, front_push, pieces_uncut}
 use Rattle.ignore_files.proofs.memory.own_path.folder_of.Goals as goal
 

@@ -1,7 +1,8 @@
 use Rattle.std.proofs.Common.{◌≡◌, length}
 use denote.Text.{Utf8}
 use denote.Shadow.{shadow}
-use Rattle.ignore_files.specs.Memory.{pieces, below}
+use Rattle.ignore_glob.specs.Paths.{pieces}
+use Rattle.ignore_files.specs.Memory.{below}
 use Rattle.ignore_files.proofs.memory.own_path.place_of.Given as goal
 
 -- what is left of the path leads, from where its front led, to where the path leads

@@ -1,6 +1,6 @@
 use Rattle.std.proofs.Common.{sym, ap, ◌∙◌, arith, rules}
 use Rattle.std.proofs.lemmas.Result.{err_from_is_err_and}
-use Rattle.ignore_files.specs.Memory.{pieces}
+use Rattle.ignore_glob.specs.Paths.{pieces}
 use Rattle.ignore_files.specs.Resolve.{walk}
 use Rattle.ignore_files.proofs.Pieces.{pieces_split, pieces_whole}
 use Rattle.ignore_files.proofs.Walks.{turn_fault, turn_in, turn_out}
