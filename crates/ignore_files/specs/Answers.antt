@@ -29,18 +29,22 @@ abbrev pub unless : {A : Type 0} → Option Fault → Result A Fault → Result 
 unless None answer = answer
 unless (Some fault) answer = Err fault
 
+-- what `stat` answers of a node
 abbrev pub stat_of : Node → Result Metadata Fault
 stat_of n = unless n.stat_fault (Ok (record { file_type = file_type_of n.kind; len = n.len }))
 
+-- what a listing has for an entry
 abbrev pub listed_of : Entry → Listed
 listed_of (Named name kind node) = listed.Entry name kind
 listed_of Nameless = listed.Fault BadName
 
+-- the listing of a directory
 abbrev pub listing_of : Kind → Result (List Listed) Fault
 listing_of (Dir entries) = Ok (map listed_of entries)
 listing_of (File bytes) = Err NotADirectory
 listing_of (Link target) = Err NotADirectory
 
+-- what `list` answers of a node
 abbrev pub list_of : Node → Result (List Listed) Fault
 list_of n = unless n.list_fault (listing_of n.kind)
 
@@ -49,13 +53,13 @@ abbrev pub read_of : List ℕ → Option Cut → Contents
 read_of bytes None = record { bytes = bytes; fault = None }
 read_of bytes (Some cut) = record { bytes = take cut.len bytes; fault = Some cut.fault }
 
--- what isn't a file opens, and its first read fails
+-- what `contents` answers of a node: what isn't a file opens, and its first read fails
 abbrev pub contents_of : Option Cut → Kind → Contents
 contents_of cut (Dir entries) = record { bytes = []; fault = Some IsADirectory }
 contents_of cut (File bytes) = read_of bytes cut
 contents_of cut (Link target) = record { bytes = []; fault = Some IsADirectory }
 
--- the node that a text leads to
+-- the node to which a text leads
 abbrev pub found : Memory → List ℕ → Bool → Result Node Fault
 found tree path follow = node_found tree.cwd tree.nodes path follow
 

@@ -23,6 +23,7 @@ changed f (n ∷ ns) (suc place) = n ∷ changed f ns place
 abbrev pub root_alone : List ℕ → Memory
 root_alone cwd = record { cwd = cwd; nodes = new_node 0 0 (47 ∷ []) (Dir []) 0 ∷ [] }
 
+-- the tree that `new` makes, or its refusal
 abbrev pub made : List ℕ → Result Memory TreeError
 made cwd = cond (is_own_path cwd) (Ok (root_alone cwd)) (Err refusal.NotClean)
 
@@ -32,17 +33,19 @@ with_entry entry (Dir entries) = Dir (entries ++ entry ∷ [])
 with_entry entry (File bytes) = File bytes
 with_entry entry (Link target) = Link target
 
+-- the same of a node; one that is no directory stays as it is
 abbrev pub listing_too : Entry → Node → Node
 listing_too entry n = record n { kind = with_entry entry n.kind }
 
--- the nodes with one more, added to the directory at the place, last in its order
+-- the nodes with one more, which is the last entry of the directory at a place
 abbrev pub with_node : List Node → List ℕ → Kind → ℕ → ℕ → List Node
 with_node nodes path kind len parent = changed (listing_too (Named (last_piece (pieces path)) (file_type_of kind) (length nodes))) nodes parent ++ new_node (length nodes) parent path kind len ∷ []
 
--- a node is added at a path
+-- a node is added at a path, of this kind and size
 abbrev pub added : Kind → ℕ → Memory → List ℕ → Result Memory TreeError
 added kind len tree path = and_then (λ parent. Ok (record tree { nodes = with_node tree.nodes path kind len parent })) (parent_for tree.nodes path)
 
+-- a directory with nothing in it, a file, a link
 abbrev pub dir_added : Memory → List ℕ → Result Memory TreeError
 dir_added = added (Dir []) 0
 
@@ -52,10 +55,11 @@ file_added bytes = added (File bytes) (length bytes)
 abbrev pub link_added : List ℕ → Memory → List ℕ → Result Memory TreeError
 link_added target = added (Link target) (length target)
 
--- the node at a path is changed, if it is of the kind that is asked for
+-- the node at a path is changed, if its kind passes
 abbrev pub set_at : (Kind → Bool) → (Node → Node) → Memory → List ℕ → Result Memory TreeError
 set_at test f tree path = and_then (λ place. Ok (record tree { nodes = changed f tree.nodes place })) (sought test tree.nodes path)
 
+-- what each of the other calls makes of a tree
 abbrev pub nameless_added : Memory → List ℕ → Result Memory TreeError
 nameless_added = set_at is_directory (listing_too Nameless)
 
@@ -74,21 +78,21 @@ list_faulted fault = set_at is_directory (λ n. record n { list_fault = Some fau
 abbrev pub contents_cut : ℕ → Fault → Memory → List ℕ → Result Memory TreeError
 contents_cut len fault = set_at is_file (λ n. record n { cut = Some (record { len = len; fault = fault }) })
 
--- The call left what it is told to leave, or refused what it is told to refuse and changed nothing.
+-- a call left the tree that is told; or it refused as is told, and changed nothing
 abbrev pub Leaves : {A : Type 0} → Result Memory TreeError → Result A TreeError → Memory → Memory → Type 0
 Leaves (Ok after) (Ok a) old new = new ≡ after
 Leaves (Ok after) (Err e) old new = ⊥
 Leaves (Err refused) (Ok a) old new = ⊥
 Leaves (Err refused) (Err e) old new = (e ≡ refused) × (new ≡ old)
 
--- The same of a call that needs memory, and changes nothing where there is none.
+-- the same of a call that needs memory: it may also have changed nothing for want of it
 abbrev pub LeavesIfRoom : {A : Type 0} → Result Memory TreeError → Result A TreeError → Memory → Memory → Type 0
 LeavesIfRoom (Ok after) (Ok a) old new = new ≡ after
 LeavesIfRoom (Ok after) (Err e) old new = (e ≡ refusal.Memory) × (new ≡ old)
 LeavesIfRoom (Err refused) (Ok a) old new = ⊥
 LeavesIfRoom (Err refused) (Err e) old new = (e ≡ refused) × (new ≡ old)
 
--- A call made the tree that is told, if there was room, or refused.
+-- a call made the tree that is told, unless memory was refused; or it refused as is told
 abbrev pub MakesIfRoom : Result Memory TreeError → Result Memory TreeError → Type 0
 MakesIfRoom (Ok made) (Ok tree) = tree ≡ made
 MakesIfRoom (Ok made) (Err e) = e ≡ refusal.Memory

@@ -59,7 +59,9 @@ impl MemoryTree {
         Ok(MemoryTree { cwd, nodes })
     }
 
-    /// Adds a directory with nothing in it.
+    /// Adds a directory with nothing in it. `NotClean` where the path isn't `/`, or `/` and
+    /// names joined by single slashes; `NoParent` where what it should be in isn't a directory
+    /// of the tree; `Exists` where something is there already, as `/` always is.
     pub fn add_dir(&mut self, path: &str) -> Result<(), TreeError>
         ensures { LeavesIfRoom (dir_added self.old path.now) result self.old self.new }
     {
@@ -74,7 +76,7 @@ impl MemoryTree {
         )
     }
 
-    /// Adds a file with these bytes.
+    /// Adds a file with these bytes. Refused as `add_dir`.
     pub fn add_file(&mut self, path: &str, bytes: &[u8]) -> Result<(), TreeError>
         ensures { LeavesIfRoom (file_added bytes.now self.old path.now) result self.old self.new }
     {
@@ -89,7 +91,7 @@ impl MemoryTree {
         )
     }
 
-    /// Adds a link, whose target needn't be there.
+    /// Adds a link, whose target needn't be there. Refused as `add_dir`.
     pub fn add_link(&mut self, path: &str, target: &str) -> Result<(), TreeError>
         ensures { LeavesIfRoom (link_added target.now self.old path.now) result self.old self.new }
     {
@@ -105,7 +107,8 @@ impl MemoryTree {
     }
 
     /// Adds to a directory something whose name can't be told: its listing has the fault
-    /// `BadName` there. It is no node, and takes no inode.
+    /// `BadName` there. It is no node, and takes no inode. `NotClean` as for `add_dir`;
+    /// `Missing` where no directory is at the path.
     pub fn add_nameless(&mut self, dir: &str) -> Result<(), TreeError>
         ensures { LeavesIfRoom (nameless_added self.old dir.now) result self.old self.new }
     {
@@ -114,7 +117,8 @@ impl MemoryTree {
         Ok(())
     }
 
-    /// Sets the size that is told of a file.
+    /// Sets the size in bytes that is told of a file. `NotClean` as for `add_dir`; `Missing`
+    /// where no file is at the path.
     pub fn set_size(&mut self, path: &str, size: u64) -> Result<(), TreeError>
         ensures { Leaves (size_set size self.old path.now) result self.old self.new }
     {
@@ -123,7 +127,8 @@ impl MemoryTree {
         Ok(())
     }
 
-    /// Sets the identity that is told of a node, `None` for one that is unknown.
+    /// Sets the identity that is told of a node, `None` for one that is unknown. `NotClean` as
+    /// for `add_dir`; `Missing` where nothing is at the path.
     pub fn set_identity(&mut self, path: &str, identity: Option<Identity>) -> Result<(), TreeError>
         ensures { Leaves (identity_set identity self.old path.now) result self.old self.new }
     {
@@ -132,7 +137,7 @@ impl MemoryTree {
         Ok(())
     }
 
-    /// Has `stat`, and it alone, answer a fault of a node.
+    /// Has `stat`, and it alone, answer a fault of a node. Refused as `set_identity`.
     pub fn fault_stat(&mut self, path: &str, fault: Fault) -> Result<(), TreeError>
         ensures { Leaves (stat_faulted fault self.old path.now) result self.old self.new }
     {
@@ -141,7 +146,7 @@ impl MemoryTree {
         Ok(())
     }
 
-    /// Has `list`, and it alone, answer a fault of a directory.
+    /// Has `list`, and it alone, answer a fault of a directory. Refused as `add_nameless`.
     pub fn fault_list(&mut self, path: &str, fault: Fault) -> Result<(), TreeError>
         ensures { Leaves (list_faulted fault self.old path.now) result self.old self.new }
     {
@@ -151,7 +156,7 @@ impl MemoryTree {
     }
 
     /// Ends the reading of a file by a fault after its first `len` bytes (after all of them
-    /// where it has fewer).
+    /// where it has fewer). Refused as `set_size`.
     pub fn cut_contents(&mut self, path: &str, len: usize, fault: Fault) -> Result<(), TreeError>
         ensures { Leaves (contents_cut len fault self.old path.now) result self.old self.new }
     {
