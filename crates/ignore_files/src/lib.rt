@@ -4,10 +4,14 @@
 mod disk;
 mod env;
 mod files;
+mod memory;
+mod tree_error;
 mod types;
 
 pub use disk::DiskFiles;
 pub use env::Env;
 pub use files::Files;
 pub use ignore_glob::Fault;
+pub use memory::MemoryTree;
+pub use tree_error::TreeError;
 pub use types::{Bytes, Contents, FileType, Identity, Listed, Listing, Metadata, Name, Refusal};

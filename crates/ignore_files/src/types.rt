@@ -15,6 +15,17 @@ pub enum Refusal {
     Memory,
 }
 
+impl From<Fault> for Refusal {
+    ghost use Rattle.std.specs.Prelude.{◌≡◌};
+    ghost use Rattle.ignore_files.specs.declared.types.Refusal.TheVariants.{Fault as Refused};
+
+    ghost from_gives = { λ fault e. e ≡ Refused fault };
+
+    fn from(fault: Fault) -> Refusal {
+        Refusal::Fault(fault)
+    }
+}
+
 impl From<AllocError> for Refusal {
     ghost use Rattle.std.specs.Prelude.{◌≡◌};
     ghost use Rattle.ignore_files.specs.declared.types.Refusal.TheVariants.{Memory};

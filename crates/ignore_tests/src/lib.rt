@@ -24,3 +24,5 @@ mod gitignores;
 mod globs;
 #[cfg(test)]
 mod text;
+#[cfg(test)]
+mod trees;

@@ -1,0 +1,5 @@
+pub mod Pieces
+pub mod Places
+pub mod Walks
+pub mod EntryLemmas
+pub mod NodeLemmas

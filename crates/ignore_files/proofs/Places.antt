@@ -1,0 +1,84 @@
+-- Names followed from a place.
+use Rattle.std.proofs.Common.{◌≡◌, ℕ, Bool, true, false, cond, List, [], ◌∷◌, ◌++◌, Option, Some, None, Result, Ok, Err, option_and_then, slice_get, refl, ap, sym, ◌∙◌}
+use Rattle.ignore_glob.specs.Paths.{pieces, last_piece}
+use Rattle.ignore_files.specs.Memory.{and_then, is_empty, child, below, place_of, is_directory, is_at, is_own_path, passing, sought, folder_sought, vacant, parent_for, entry_under, front}
+use Rattle.std.specs.Option.{option_map_or}
+use Rattle.ignore_files.specs.declared.tree_error.TreeError.{TreeError}
+use Rattle.ignore_files.specs.declared.tree_error.TreeError.TheVariants as refusal
+use Rattle.ignore_files.proofs.Pieces.{pieces_some, front_last}
+use Rattle.ignore_files.specs.declared.memory.node.Node.{Node}
+use Rattle.ignore_files.specs.declared.memory.node.Kind.{Kind}
+
+below_append : (nodes : List Node) (here : ℕ) (ps qs : List (List ℕ)) → below nodes here (ps ++ qs) ≡ option_and_then (λ i. below nodes i qs) (below nodes here ps)
+below_append nodes here [] qs = refl
+below_append nodes here (p ∷ ps) qs = first (is_empty p) (child nodes here p) (below_append nodes here ps qs) (λ i. below_append nodes i ps qs)
+  where
+    first : (empty : Bool) (found : Option ℕ) → below nodes here (ps ++ qs) ≡ option_and_then (λ i. below nodes i qs) (below nodes here ps) → ((i : ℕ) → below nodes i (ps ++ qs) ≡ option_and_then (λ i. below nodes i qs) (below nodes i ps)) → cond empty (below nodes here (ps ++ qs)) (option_and_then (λ i. below nodes i (ps ++ qs)) found) ≡ option_and_then (λ i. below nodes i qs) (cond empty (below nodes here ps) (option_and_then (λ i. below nodes i ps) found))
+    first true found stays later = stays
+    first false None stays later = refl
+    first false (Some i) stays later = later i
+
+chosen : {A E : Type 0} (b : Bool) (x : A) (r : Result A E) (e : E) → Ok x ≡ cond b r (Err e) → (b ≡ true) × (Ok x ≡ r)
+chosen true x r e h = (refl, h)
+chosen false x r e h = cc
+
+-- a place that passes
+passing_ok : (test : Kind → Bool) (refused : TreeError) (nodes : List Node) (o : Option ℕ) (place : ℕ) → Ok place ≡ passing test refused nodes o → (o ≡ Some place) × (is_at test nodes place ≡ true)
+passing_ok test refused nodes None place h = cc
+passing_ok test refused nodes (Some p) place h =
+    let c = chosen (is_at test nodes p) place (Ok p) refused h in
+    let same : place ≡ p = cc (c.1) in
+    (ap Some (sym same), ap (is_at test nodes) same ∙ c.0)
+
+at_some : (test : Kind → Bool) (o : Option Node) → option_map_or (λ n. test n.kind) o false ≡ true → (n : Node) × (o ≡ Some n)
+at_some test None h = cc
+at_some test (Some n) h = (n, refl)
+
+-- a node stands where one is found
+pub sought_ok : (test : Kind → Bool) (nodes : List Node) (path : List ℕ) (place : ℕ) → Ok place ≡ sought test nodes path → (n : Node) × (slice_get nodes place ≡ Some n)
+sought_ok test nodes path place h =
+    let clean = chosen (is_own_path path) place _ refusal.NotClean h in
+    at_some test (slice_get nodes place) (passing_ok test refusal.Missing nodes (place_of nodes path) place clean.1).1
+
+folder_ok : (nodes : List Node) (path : List ℕ) (place : ℕ) → Ok place ≡ folder_sought nodes path → (below nodes 0 (front (pieces path)) ≡ Some place) × ((n : Node) × (slice_get nodes place ≡ Some n))
+folder_ok nodes path place h =
+    let clean = chosen (is_own_path path) place _ refusal.NotClean h in
+    let there = passing_ok is_directory refusal.NoParent nodes (below nodes 0 (front (pieces path))) place clean.1 in
+    (there.0, at_some is_directory (slice_get nodes place) there.1)
+
+nothing : (b : Bool) (x : ℕ) (o : Option ℕ) → cond b (Some x) (option_and_then (λ i. Some i) o) ≡ None → o ≡ None
+nothing true x o h = cc
+nothing false x None h = refl
+nothing false x (Some i) h = cc
+
+vacant_ok : (o : Option ℕ) (x y : ℕ) → vacant o x ≡ Ok y → (o ≡ None) × (x ≡ y)
+vacant_ok None x y h = (refl, cc)
+vacant_ok (Some i) x y h = cc
+
+parent_found : (nodes : List Node) (path : List ℕ) (parent : ℕ) (folder : Result ℕ TreeError) → and_then (vacant (place_of nodes path)) folder ≡ Ok parent → (folder ≡ Ok parent) × (place_of nodes path ≡ None)
+parent_found nodes path parent (Ok x) h = let v = vacant_ok (place_of nodes path) x parent h in (ap Ok v.1, v.0)
+parent_found nodes path parent (Err e) h = cc
+
+-- where a node may be added, its directory stands and has nothing under its name
+pub parent_ok : (nodes : List Node) (path : List ℕ) (parent : ℕ) → parent_for nodes path ≡ Ok parent → (n : Node) × (slice_get nodes parent ≡ Some n) × (entry_under (last_piece (pieces path)) n.kind ≡ None)
+parent_ok nodes path parent h =
+    let found = parent_found nodes path parent (folder_sought nodes path) h in
+    let folder = folder_ok nodes path parent (sym found.0) in
+    let some = pieces_some path in
+    let whole : front (pieces path) ++ last_piece (pieces path) ∷ [] ≡ pieces path = ap (λ ps. front ps ++ last_piece ps ∷ []) some.2 ∙ front_last some.0 some.1 ∙ sym some.2 in
+    let name = last_piece (pieces path) in
+    let led : below nodes parent (name ∷ []) ≡ None =
+    ap (option_and_then (λ i. below nodes i (name ∷ []))) (sym folder.0) ∙ sym (below_append nodes 0 (front (pieces path)) (name ∷ [])) ∙ ap (below nodes 0) whole ∙ found.1 in
+    let n = folder.1 in
+    (n.0, n.1, ap (option_and_then (λ m. entry_under name m.kind)) (sym n.1) ∙ nothing (is_empty name) parent (child nodes parent name) led)
+
+-- the first piece leads on to where the rest leads
+module _ (nodes : List Node) (here : ℕ) (text piece after : List ℕ) (cut : pieces text ≡ piece ∷ pieces after) where
+  below_turn : below nodes here (pieces text) ≡ option_and_then (λ i. below nodes i (pieces after)) (below nodes here (piece ∷ []))
+  below_turn = ap (below nodes here) cut ∙ below_append nodes here (piece ∷ []) (pieces after)
+
+  pub below_some : (i : ℕ) → Some i ≡ below nodes here (piece ∷ []) → below nodes i (pieces after) ≡ below nodes here (pieces text)
+  below_some i e = sym (below_turn ∙ ap (option_and_then (λ i. below nodes i (pieces after))) (sym e))
+
+  pub below_none : None ≡ below nodes here (piece ∷ []) → None ≡ below nodes here (pieces text)
+  below_none e = sym (below_turn ∙ ap (option_and_then (λ i. below nodes i (pieces after))) (sym e))

@@ -1,0 +1,129 @@
+-- Trees in memory: their nodes, and the nodes that own paths lead to.
+use Rattle.std.specs.Prelude.{ℕ, ◌+◌, Bool, true, false, List, [], ◌∷◌, Option, Some, None, option_and_then, Result, Ok, Err, slice_get, ◌==◌, ◌||◌, ◌&&◌, not, bytes_eq, codes, cond, count_by}
+use Rattle.std.specs.List.{list_all}
+use Rattle.ignore_glob.specs.Paths.{pieces, is_proper}
+use Rattle.std.specs.Option.{option_map_or}
+use Rattle.ignore_files.specs.Entries.{named}
+use Rattle.ignore_files.specs.declared.tree_error.TreeError.{TreeError}
+use Rattle.ignore_files.specs.declared.tree_error.TreeError.TheVariants as refusal
+use Rattle.ignore_files.specs.declared.memory.entry.Entry.{Entry}
+use Rattle.ignore_files.specs.declared.memory.node.Node.{Node}
+use Rattle.ignore_files.specs.declared.memory.node.Kind.{Kind}
+use Rattle.ignore_files.specs.declared.memory.node.Kind.TheVariants.{Dir, File, Link}
+
+-- a tree in memory: its working directory, and its nodes in the order of adding. A node is told by its place in that order; `/` has place 0
+pub record Memory : Type 0 where
+  pub cwd : List ℕ
+  pub nodes : List Node
+
+-- the first answer's error, or what follows from its value
+abbrev pub and_then : {A B E : Type 0} → (A → Result B E) → Result A E → Result B E
+and_then f (Ok a) = f a
+and_then f (Err e) = Err e
+
+-- the list is empty
+abbrev pub is_empty : {A : Type 0} → List A → Bool
+is_empty [] = true
+is_empty (x ∷ xs) = false
+
+-- the text begins with a slash
+abbrev pub is_rooted : List ℕ → Bool
+is_rooted [] = false
+is_rooted (b ∷ bs) = b == 47
+
+-- it is a directory
+abbrev pub is_directory : Kind → Bool
+is_directory (Dir entries) = true
+is_directory (File bytes) = false
+is_directory (Link target) = false
+
+-- it is a file
+abbrev pub is_file : Kind → Bool
+is_file (Dir entries) = false
+is_file (File bytes) = true
+is_file (Link target) = false
+
+-- whatever it is
+abbrev pub any_kind : Kind → Bool
+any_kind kind = true
+
+-- at the place stands a node whose kind passes
+abbrev pub is_at : (Kind → Bool) → List Node → ℕ → Bool
+is_at test nodes place = option_map_or (λ n. test n.kind) (slice_get nodes place) false
+
+-- at the place stands a directory
+abbrev pub is_dir_at : List Node → ℕ → Bool
+is_dir_at = is_at is_directory
+
+-- how many directories there are
+abbrev pub dir_count : Memory → ℕ
+dir_count tree = count_by (λ n. is_directory n.kind) tree.nodes
+
+-- the entries of a directory; nothing else has any
+abbrev pub entries_of : Kind → Option (List Entry)
+entries_of (Dir entries) = Some entries
+entries_of (File bytes) = None
+entries_of (Link target) = None
+
+-- what a directory has under a name
+abbrev pub entry_under : List ℕ → Kind → Option ℕ
+entry_under name kind = option_and_then (named name) (entries_of kind)
+
+-- what the directory at a place has under a name
+abbrev pub child : List Node → ℕ → List ℕ → Option ℕ
+child nodes place name = option_and_then (λ n. entry_under name n.kind) (slice_get nodes place)
+
+-- the node to which names lead, one after another and through no links; empty pieces are passed over
+abbrev pub below : List Node → ℕ → List (List ℕ) → Option ℕ
+below nodes place [] = Some place
+below nodes place (piece ∷ rest) = cond (is_empty piece) (below nodes place rest) (option_and_then (λ i. below nodes i rest) (child nodes place piece))
+
+-- the node at an own path
+abbrev pub place_of : List Node → List ℕ → Option ℕ
+place_of nodes path = below nodes 0 (pieces path)
+
+-- an own path: `/`, or `/` and names joined by single slashes
+abbrev pub is_own_path : List ℕ → Bool
+is_own_path [] = false
+is_own_path (b ∷ rest) = (b == 47) && (is_empty rest || list_all is_proper (pieces rest))
+
+-- the pieces but the last
+abbrev pub front : List (List ℕ) → List (List ℕ)
+front [] = []
+front (piece ∷ []) = []
+front (piece ∷ next ∷ rest) = piece ∷ front (next ∷ rest)
+
+-- the place, if there is one and a node stands there whose kind passes; else the refusal
+abbrev pub passing : (Kind → Bool) → TreeError → List Node → Option ℕ → Result ℕ TreeError
+passing test refused nodes None = Err refused
+passing test refused nodes (Some place) = cond (is_at test nodes place) (Ok place) (Err refused)
+
+-- the place at an own path of a node whose kind passes
+abbrev pub sought : (Kind → Bool) → List Node → List ℕ → Result ℕ TreeError
+sought test nodes path = cond (is_own_path path) (passing test refusal.Missing nodes (place_of nodes path)) (Err refusal.NotClean)
+
+-- the place of the directory that an own path is in
+abbrev pub folder_sought : List Node → List ℕ → Result ℕ TreeError
+folder_sought nodes path = cond (is_own_path path) (passing is_directory refusal.NoParent nodes (below nodes 0 (front (pieces path)))) (Err refusal.NotClean)
+
+-- the directory, unless a node is there already
+abbrev pub vacant : Option ℕ → ℕ → Result ℕ TreeError
+vacant None parent = Ok parent
+vacant (Some place) parent = Err refusal.Exists
+
+-- the place of the directory in which a node may be added at a path: this is an own path, what it is in is a directory, and nothing is there
+abbrev pub parent_for : List Node → List ℕ → Result ℕ TreeError
+parent_for nodes path = and_then (vacant (place_of nodes path)) (folder_sought nodes path)
+
+-- a node as it is added at a place: its inode is its number in the order of adding
+abbrev pub new_node : ℕ → ℕ → List ℕ → Kind → ℕ → Node
+new_node place parent path kind len = record {
+  parent = parent;
+  path = path;
+  kind = kind;
+  len = len;
+  identity = Some (record { device = 1; inode = place + 1 });
+  stat_fault = None;
+  list_fault = None;
+  cut = None;
+}

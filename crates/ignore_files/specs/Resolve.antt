@@ -1,0 +1,82 @@
+-- Where a text leads in a tree in memory.
+use Rattle.std.specs.Prelude.{ℕ, zero, suc, Bool, true, List, [], ◌∷◌, ◌++◌, Option, Some, None, Result, Ok, Err, ok_or, slice_get, ◌||◌, bytes_eq, codes, cond}
+use Rattle.ignore_glob.specs.declared.fault.Fault.{Fault}
+use Rattle.ignore_glob.specs.declared.fault.Fault.TheVariants.{NotFound, NotADirectory, LinkLimit}
+use Rattle.ignore_files.specs.Entries.{named}
+use Rattle.ignore_glob.specs.Paths.{pieces}
+use Rattle.ignore_files.specs.Memory.{and_then, is_empty, is_rooted, entries_of, is_dir_at}
+use Rattle.ignore_files.specs.declared.memory.entry.Entry.{Entry}
+use Rattle.ignore_files.specs.declared.memory.node.Node.{Node}
+use Rattle.ignore_files.specs.declared.memory.node.Kind.{Kind}
+use Rattle.ignore_files.specs.declared.memory.node.Kind.TheVariants.{Dir, File, Link}
+use Rattle.ignore_files.specs.declared.memory.resolve.Reached.{Reached}
+
+-- a piece that leads nowhere else: an empty one, or `.`
+abbrev pub stays : List ℕ → Bool
+stays piece = is_empty piece || bytes_eq piece (codes ".")
+
+-- from a directory `..` leads to the place of the directory that it is in, and a name to what it has under the name; from all else nothing leads on
+abbrev pub enter_directory : ℕ → List ℕ → Option (List Entry) → Result ℕ Fault
+enter_directory parent piece (Some entries) = cond (bytes_eq piece (codes "..")) (Ok parent) (ok_or (named piece entries) NotFound)
+enter_directory parent piece None = Err NotADirectory
+
+-- the same from the node that stands at a place
+abbrev pub enter_node : List ℕ → Option Node → Result ℕ Fault
+enter_node piece (Some n) = enter_directory n.parent piece (entries_of n.kind)
+enter_node piece None = Err NotADirectory
+
+-- where one piece leads from a place, links not followed
+abbrev pub enter : List Node → ℕ → List ℕ → Result ℕ Fault
+enter nodes here piece = cond (stays piece) (Ok here) (enter_node piece (slice_get nodes here))
+
+-- of a link that is in the directory at a place, where its target begins (at `/` or there) and the target
+abbrev pub target_of : ℕ → Kind → Option (ℕ × List ℕ)
+target_of parent (Dir entries) = None
+target_of parent (File bytes) = None
+target_of parent (Link target) = Some (cond (is_rooted target) 0 parent, target)
+
+-- the same of the node that stands at a place
+abbrev pub link_of : Option Node → Option (ℕ × List ℕ)
+link_of (Some n) = target_of n.parent n.kind
+link_of None = None
+
+-- the same of the link at a place, if one is there
+abbrev pub link_at : List Node → ℕ → Option (ℕ × List ℕ)
+link_at nodes place = link_of (slice_get nodes place)
+
+-- where the last piece ends that has led to a place: a link is followed if that is asked for
+abbrev pub ends : Bool → ℕ → (ℕ → List ℕ → List (List ℕ) → Result Reached Fault) → ℕ → Option (ℕ × List ℕ) → Result Reached Fault
+ends follow links through place None = Ok (record { node = place; links = links })
+ends follow links through place (Some (start, target)) = cond follow (through start target []) (Ok (record { node = place; links = links }))
+
+-- where a piece leads that has a slash after it: a link is followed, and from a directory the rest is read
+abbrev pub goes : Bool → Result Reached Fault → (ℕ → List ℕ → List (List ℕ) → Result Reached Fault) → List (List ℕ) → Option (ℕ × List ℕ) → Result Reached Fault
+goes is_dir onward through rest None = cond is_dir onward (Err NotADirectory)
+goes is_dir onward through rest (Some (start, target)) = through start target rest
+
+-- where pieces lead from a place, given where a link leads with the pieces after it
+abbrev pub along : List Node → Bool → ℕ → (ℕ → List ℕ → List (List ℕ) → Result Reached Fault) → List (List ℕ) → ℕ → Result Reached Fault
+along nodes follow links through [] here = Ok (record { node = here; links = links })
+along nodes follow links through (piece ∷ []) here = and_then (λ i. ends follow links through i (link_at nodes i)) (enter nodes here piece)
+along nodes follow links through (piece ∷ next ∷ rest) here = and_then (λ i. goes (is_dir_at nodes i) (along nodes follow links through (next ∷ rest) i) through (next ∷ rest) (link_at nodes i)) (enter nodes here piece)
+
+-- where pieces lead from a place while so many links may be followed, and how many may be followed from there. A link that is followed is read in its place: the pieces of its target, and then those after it; an empty target leads nowhere
+abbrev pub walk : List Node → Bool → ℕ → List (List ℕ) → ℕ → Result Reached Fault
+walk nodes follow zero ps here = along nodes follow 0 (λ start target rest. Err LinkLimit) ps here
+walk nodes follow (suc links) ps here = along nodes follow (suc links) (λ start target rest. cond (is_empty target) (Err NotFound) (walk nodes follow links (pieces target ++ rest) start)) ps here
+
+-- how many links one resolving may follow
+abbrev pub link_limit : ℕ
+link_limit = 40
+
+-- where a text is read from: `/`, or the place to which the working directory leads, whose links count
+abbrev pub start_of : List ℕ → List Node → List ℕ → Result Reached Fault
+start_of cwd nodes path = cond (is_rooted path) (Ok (record { node = 0; links = link_limit })) (walk nodes true link_limit (pieces cwd) 0)
+
+-- the place to which a text leads, or the fault of its resolving
+abbrev pub resolved : List ℕ → List Node → List ℕ → Bool → Result ℕ Fault
+resolved cwd nodes path follow = cond (is_empty path) (Err NotFound) (and_then (λ start. and_then (λ reached. Ok reached.node) (walk nodes follow start.links (pieces path) start.node)) (start_of cwd nodes path))
+
+-- the node to which a text leads
+abbrev pub node_found : List ℕ → List Node → List ℕ → Bool → Result Node Fault
+node_found cwd nodes path follow = and_then (λ place. ok_or (slice_get nodes place) NotFound) (resolved cwd nodes path follow)

@@ -1,0 +1,57 @@
+//! Why a tree in memory isn't changed.
+ghost use Rattle.std.specs.Prelude.{Some};
+
+use std::alloc::{AllocError, AllocFailed};
+use std::{error, fmt};
+
+/// Why a tree in memory refuses a change. Of several reasons the one with the lowest number
+/// is told.
+#[derive(Clone, Copy, Debug, PartialEq, Eq)]
+pub enum TreeError {
+    /// The path isn't `/`, or `/` and names joined by single slashes.
+    NotClean = 1,
+    /// What the path should be added to isn't a directory of the tree.
+    NoParent = 2,
+    /// The path is there already.
+    Exists = 3,
+    /// Nothing of the kind that is asked for is at the path.
+    Missing = 4,
+    /// There was no memory.
+    Memory = 5,
+}
+
+impl fmt::Display for TreeError {
+    fn fmt<W: fmt::Write>(&self, f: &mut fmt::Formatter<W>) -> fmt::Result {
+        match self {
+            TreeError::NotClean => write!(f, "path is not clean"),
+            TreeError::NoParent => write!(f, "no directory to add to"),
+            TreeError::Exists => write!(f, "already there"),
+            TreeError::Missing => write!(f, "nothing of the kind there"),
+            TreeError::Memory => write!(f, "out of memory"),
+        }
+    }
+}
+
+impl error::Error for TreeError {}
+
+impl From<AllocError> for TreeError {
+    ghost use Rattle.std.specs.Prelude.{◌≡◌};
+    ghost use Rattle.ignore_files.specs.declared.tree_error.TreeError.TheVariants.{Memory};
+
+    ghost from_gives = { λ _ e. e ≡ Memory };
+
+    fn from(_error: AllocError) -> TreeError {
+        TreeError::Memory
+    }
+}
+
+impl<T: Drop> From<AllocFailed<T>> for TreeError {
+    ghost use Rattle.std.specs.Prelude.{◌≡◌};
+    ghost use Rattle.ignore_files.specs.declared.tree_error.TreeError.TheVariants.{Memory};
+
+    ghost from_gives = { λ _ e. e ≡ Memory };
+
+    fn from(_error: AllocFailed<T>) -> TreeError {
+        TreeError::Memory
+    }
+}
