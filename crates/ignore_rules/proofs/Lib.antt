@@ -1,0 +1,3 @@
+mod TextOrder
+mod TypeLemmas
+mod ListLemmas

@@ -1,0 +1,3 @@
+pub mod TypeNames
+pub mod Types
+pub mod Places

@@ -1,0 +1,4 @@
+//! Rules of ignore files, overrides and file types.
+#![tactic(auto)]
+
+pub mod types;
