@@ -1,90 +1,77 @@
--- What an error says, by one step for each layer: a layer has the results of the errors inside in their places.
-use Rattle.std.specs.Prelude.{ℕ, Bool, true, false, List, [], ◌∷◌, ◌++◌, codes, Option, Some, None, String, string_bytes}
+-- What a problem answers when it is asked, and what it prints, by cases.
+use Rattle.std.specs.Prelude.{ℕ, Bool, true, false, List, [], ◌∷◌, ◌++◌, codes, Option, Some, None}
 use Rattle.std.specs.Fmt.{decimal}
+use Rattle.std.specs.List.{join_with_byte}
 use Rattle.ignore_glob.specs.Faults.{fault_text}
 use Rattle.ignore_glob.specs.declared.fault.Fault.{Fault}
-use Rattle.ignore_glob.specs.declared.error.Error.{Error}
-use Rattle.ignore_glob.specs.declared.error.Error.TheOpen.{Error-F, Partial, WithLineNumber, WithPath, WithDepth, Loop, Io, Glob, UnrecognizedFileType, InvalidDefinition, Memory}
-use Rattle.ignore_glob.specs.declared.error.Error.TheFolds.{fold-Error}
+use Rattle.ignore_glob.specs.Problem.{Problem, several, at_line, at_path, at_depth, loop, io, glob, unrecognized, invalid_definition, memory, Problems, no_problems, problem}
 
-abbrev pub partial_step : Error-F Bool → Bool
-partial_step (Partial errors) = true
-partial_step (WithLineNumber line err) = err.value
-partial_step (WithPath path err) = err.value
-partial_step (WithDepth depth err) = err.value
-partial_step (Loop ancestor child) = false
-partial_step (Io fault) = false
-partial_step (Glob glob err) = false
-partial_step (UnrecognizedFileType name) = false
-partial_step InvalidDefinition = false
-partial_step Memory = false
+-- whether it is several, maybe at a line, a path or a depth
+abbrev pub is_partial : Problem → Bool
+is_partial (several ps) = true
+is_partial (at_line line p) = is_partial p
+is_partial (at_path path p) = is_partial p
+is_partial (at_depth depth p) = is_partial p
+is_partial (loop ancestor child) = false
+is_partial (io fault) = false
+is_partial (glob pattern err) = false
+is_partial (unrecognized name) = false
+is_partial invalid_definition = false
+is_partial memory = false
 
--- it tells of several
-abbrev pub is_partial : Error → Bool
-is_partial = fold-Error Bool partial_step
+abbrev mutual
+  -- the fault that it comes down to: its own, maybe at a line, a path or a depth, or that of its only member
+  pub io_fault : Problem → Option Fault
+  io_fault (several ps) = only_fault ps
+  io_fault (at_line line p) = io_fault p
+  io_fault (at_path path p) = io_fault p
+  io_fault (at_depth depth p) = io_fault p
+  io_fault (loop ancestor child) = None
+  io_fault (io fault) = Some fault
+  io_fault (glob pattern err) = None
+  io_fault (unrecognized name) = None
+  io_fault invalid_definition = None
+  io_fault memory = None
 
--- the result of an only member
-abbrev pub only : List (Option Fault) → Option Fault
-only [] = None
-only (one ∷ []) = one
-only (one ∷ (two ∷ more)) = None
+  -- the fault of an only problem: none and two have none
+  pub only_fault : Problems → Option Fault
+  only_fault no_problems = None
+  only_fault (problem p no_problems) = io_fault p
+  only_fault (problem p (problem q ps)) = None
 
-abbrev pub fault_step : Error-F (Option Fault) → Option Fault
-fault_step (Partial errors) = only errors.items
-fault_step (WithLineNumber line err) = err.value
-fault_step (WithPath path err) = err.value
-fault_step (WithDepth depth err) = err.value
-fault_step (Loop ancestor child) = None
-fault_step (Io fault) = Some fault
-fault_step (Glob glob err) = None
-fault_step (UnrecognizedFileType name) = None
-fault_step InvalidDefinition = None
-fault_step Memory = None
+-- the depth that it stands at, maybe below a path
+abbrev pub depth_of : Problem → Option ℕ
+depth_of (several ps) = None
+depth_of (at_line line p) = None
+depth_of (at_path path p) = depth_of p
+depth_of (at_depth depth p) = Some depth
+depth_of (loop ancestor child) = None
+depth_of (io fault) = None
+depth_of (glob pattern err) = None
+depth_of (unrecognized name) = None
+depth_of invalid_definition = None
+depth_of memory = None
 
--- the one fault that it stands for, if any
-abbrev pub io_fault : Error → Option Fault
-io_fault = fold-Error (Option Fault) fault_step
-
-abbrev pub depth_step : Error-F (Option ℕ) → Option ℕ
-depth_step (Partial errors) = None
-depth_step (WithLineNumber line err) = None
-depth_step (WithPath path err) = err.value
-depth_step (WithDepth depth err) = Some depth
-depth_step (Loop ancestor child) = None
-depth_step (Io fault) = None
-depth_step (Glob glob err) = None
-depth_step (UnrecognizedFileType name) = None
-depth_step InvalidDefinition = None
-depth_step Memory = None
-
-abbrev pub depth_of : Error → Option ℕ
-depth_of = fold-Error (Option ℕ) depth_step
-
+-- what is wrong with a glob, after the glob itself where it is known
 abbrev pub glob_text : Option (List ℕ) → List ℕ → List ℕ
 glob_text None err = err
-glob_text (Some glob) err = codes "error parsing glob '" ++ (glob ++ (codes "': " ++ err))
+glob_text (Some pattern) err = codes "error parsing glob '" ++ (pattern ++ (codes "': " ++ err))
 
-abbrev pub text_of : {A : Type 0} → Option (String A) → Option (List ℕ)
-text_of None = None
-text_of (Some s) = Some (string_bytes s)
+abbrev mutual
+  -- what it prints; several are printed with a newline between each two
+  pub problem_text : Problem → List ℕ
+  problem_text (several ps) = join_with_byte 10 (problem_texts ps)
+  problem_text (at_line line p) = codes "line " ++ (decimal line ++ (codes ": " ++ problem_text p))
+  problem_text (at_path path p) = path ++ (codes ": " ++ problem_text p)
+  problem_text (at_depth depth p) = problem_text p
+  problem_text (loop ancestor child) = codes "File system loop found: " ++ (child ++ (codes " points to an ancestor " ++ ancestor))
+  problem_text (io fault) = fault_text fault
+  problem_text (glob pattern err) = glob_text pattern err
+  problem_text (unrecognized name) = codes "unrecognized file type: " ++ name
+  problem_text invalid_definition = codes "invalid definition (format is type:glob, e.g., html:*.html)"
+  problem_text memory = codes "out of memory"
 
--- the texts, each behind a separator: the given one, and then newlines
-abbrev pub joined_from : List ℕ → List (List ℕ) → List ℕ
-joined_from separator [] = []
-joined_from separator (text ∷ texts) = separator ++ (text ++ joined_from (10 ∷ []) texts)
-
-abbrev pub text_step : Error-F (List ℕ) → List ℕ
-text_step (Partial errors) = joined_from [] errors.items
-text_step (WithLineNumber line err) = codes "line " ++ (decimal line ++ (codes ": " ++ err.value))
-text_step (WithPath path err) = string_bytes path ++ (codes ": " ++ err.value)
-text_step (WithDepth depth err) = err.value
-text_step (Loop ancestor child) = codes "File system loop found: " ++ (string_bytes child ++ (codes " points to an ancestor " ++ string_bytes ancestor))
-text_step (Io fault) = fault_text fault
-text_step (Glob glob err) = glob_text (text_of glob) (string_bytes err)
-text_step (UnrecognizedFileType name) = codes "unrecognized file type: " ++ string_bytes name
-text_step InvalidDefinition = codes "invalid definition (format is type:glob, e.g., html:*.html)"
-text_step Memory = codes "out of memory"
-
--- what it prints
-abbrev pub error_text : Error → List ℕ
-error_text = fold-Error (List ℕ) text_step
+  -- the text of each
+  pub problem_texts : Problems → List (List ℕ)
+  problem_texts no_problems = []
+  problem_texts (problem p ps) = problem_text p ∷ problem_texts ps

@@ -4,6 +4,7 @@ use Rattle.std.specs.declared.io.ErrorKind.TheVariants.{NotFound, PermissionDeni
 use Rattle.ignore_glob.specs.declared.fault.Fault.TheVariants as fault
 use Rattle.ignore_glob.specs.Problem.{Problem, io, memory}
 
+-- five kinds keep their name, want of memory is told as itself, and every other kind is `Other`
 abbrev pub problem_of_kind : ErrorKind → Problem
 problem_of_kind NotFound = io fault.NotFound
 problem_of_kind PermissionDenied = io fault.PermissionDenied

@@ -2,5 +2,14 @@ pub mod Faults
 pub mod Errors
 pub mod Problem
 pub mod Kinds
+pub mod Match
 pub mod Glob
 pub mod View
+pub mod GlobFaults
+pub mod Pieces
+pub mod Row
+pub mod Lexemes
+pub mod Takes
+pub mod Codes
+pub mod Reading
+pub mod Paths

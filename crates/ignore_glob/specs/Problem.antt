@@ -1,32 +1,37 @@
--- What an error tells, as plain data.
-use Rattle.std.specs.Prelude.{ℕ, List, [], ◌∷◌, Option, string_bytes}
+-- What an error tells, as plain data: contracts compare errors by this, since two errors that tell the same may lie in different memory.
+use Rattle.std.specs.Prelude.{ℕ, List, [], ◌∷◌, Option, Some, None, option_map, string_bytes}
 use Rattle.ignore_glob.specs.declared.fault.Fault.{Fault}
 use Rattle.ignore_glob.specs.declared.error.Error.{Error}
 use Rattle.ignore_glob.specs.declared.error.Error.TheOpen.{Error-F, Partial, WithLineNumber, WithPath, WithDepth, Loop, Io, Glob, UnrecognizedFileType, InvalidDefinition, Memory}
 use Rattle.ignore_glob.specs.declared.error.Error.TheFolds.{fold-Error}
-use Rattle.ignore_glob.specs.Errors.{text_of}
 
 mutual
+  -- a problem: several at once, one at a line, a path or a depth, or one that stands alone
   pub data Problem : Type 0 where
     several : Problems → Problem
     at_line : ℕ → Problem → Problem
     at_path : List ℕ → Problem → Problem
     at_depth : ℕ → Problem → Problem
+    -- the ancestor, then the child that points to it
     loop : List ℕ → List ℕ → Problem
     io : Fault → Problem
+    -- the glob as it was written, if it is known, then what is wrong with it
     glob : Option (List ℕ) → List ℕ → Problem
     unrecognized : List ℕ → Problem
     invalid_definition : Problem
     memory : Problem
 
+  -- problems in a row
   pub data Problems : Type 0 where
     no_problems : Problems
     problem : Problem → Problems → Problems
 
+-- the problems of a list, in the same order
 abbrev pub problems_of : List Problem → Problems
 problems_of [] = no_problems
 problems_of (p ∷ ps) = problem p (problems_of ps)
 
+-- what one layer of an error tells, where the errors inside have been told
 abbrev pub told_step : Error-F Problem → Problem
 told_step (Partial errors) = several (problems_of errors.items)
 told_step (WithLineNumber line err) = at_line line err.value
@@ -34,10 +39,17 @@ told_step (WithPath path err) = at_path (string_bytes path) err.value
 told_step (WithDepth depth err) = at_depth depth err.value
 told_step (Loop ancestor child) = loop (string_bytes ancestor) (string_bytes child)
 told_step (Io fault) = io fault
-told_step (Glob pattern err) = glob (text_of pattern) (string_bytes err)
+told_step (Glob pattern err) = glob (option_map string_bytes pattern) (string_bytes err)
 told_step (UnrecognizedFileType name) = unrecognized (string_bytes name)
 told_step InvalidDefinition = invalid_definition
 told_step Memory = memory
 
+-- the problem that an error tells
 abbrev pub told : Error → Problem
 told = fold-Error Problem told_step
+
+-- none for no problem, the problem itself for one, else one that is several, with all of them in order: a member that is several itself stays one member
+abbrev pub joined : List Problem → Option Problem
+joined [] = None
+joined (one ∷ []) = Some one
+joined (one ∷ (two ∷ more)) = Some (several (problems_of (one ∷ (two ∷ more))))

@@ -1,32 +1,86 @@
-//! What a walk or a matcher tells.
-ghost use Rattle.std.specs.Prelude.{◌≡◌, is_some, Some};
+//! What goes wrong while rules are read, or while files are walked.
+ghost use Rattle.std.specs.Prelude.{◌≡◌, is_some, map, option_map};
 ghost use Rattle.std.specs.Option.{option_copied};
-ghost use Rattle.std.specs.IoError.{error_kind};
-ghost use Rattle.ignore_glob.specs.Errors.{is_partial, io_fault, depth_of, error_text};
-ghost use Rattle.ignore_glob.specs.Problem.{told, io};
-ghost use Rattle.ignore_glob.specs.Kinds.{problem_of_kind};
+ghost use Rattle.ignore_glob.specs.Errors.{is_partial, io_fault, depth_of};
+ghost use Rattle.ignore_glob.specs.Problem.{told, joined};
+
+mod clone;
+mod display;
+mod from;
 
 use crate::fault::Fault;
-use std::alloc::{AllocError, AllocFailed};
-use std::{error, fmt, io};
 
+/// An error of reading rules, of building a matcher or of walking files.
+///
+/// An error may be tagged: with the line or the path that it belongs to, or
+/// with the depth in a walk. It is cloned by `clone`, which can itself be
+/// refused for want of memory, and then answers `AllocError`; the clone tells
+/// the same. `Display` prints the text that is given with each variant.
 #[derive(Debug, Drop)]
 pub enum Error {
+    /// Several errors at once, as when some lines of an ignore file are good
+    /// and some are not. Printed are the texts, with a newline between each
+    /// two.
     Partial(Vec<Error>),
-    WithLineNumber { line: u64, err: Box<Error> },
-    WithPath { path: String, err: Box<Error> },
-    WithDepth { depth: usize, err: Box<Error> },
-    Loop { ancestor: String, child: String },
+    /// An error at a line of a file, printed as `line N: ` and the text of the
+    /// error inside.
+    WithLineNumber {
+        /// The number of the line, of which the first has number 1.
+        line: u64,
+        /// The error at that line.
+        err: Box<Error>,
+    },
+    /// An error at a path, printed as the path, `: ` and the text of the error
+    /// inside.
+    WithPath {
+        /// The path of the file or directory.
+        path: String,
+        /// The error there.
+        err: Box<Error>,
+    },
+    /// An error at a depth of a walk, printed as the error inside.
+    WithDepth {
+        /// How many names below its root the walk was; a root has depth 0.
+        depth: usize,
+        /// The error there.
+        err: Box<Error>,
+    },
+    /// A symbolic link leads back to a directory that the walk is in, printed
+    /// as `File system loop found: CHILD points to an ancestor ANCESTOR`.
+    Loop {
+        /// The path of the directory that the link leads back to.
+        ancestor: String,
+        /// The path of the link.
+        child: String,
+    },
+    /// A fault of the file system or of the walk, printed as the fault.
     Io(Fault),
-    Glob { glob: Option<String>, err: String },
+    /// A glob that can't be read, printed as `error parsing glob 'GLOB': ERR`,
+    /// or as `ERR` alone where the glob is not known.
+    Glob {
+        /// The glob as its user wrote it, where it is known. It may differ
+        /// from what is matched in the end, as a line of a gitignore file
+        /// does.
+        glob: Option<String>,
+        /// What is wrong with it.
+        err: String,
+    },
+    /// A file type was selected that has no definition, printed as
+    /// `unrecognized file type: NAME`.
     UnrecognizedFileType(String),
+    /// A definition of a file type can't be read, printed as
+    /// `invalid definition (format is type:glob, e.g., html:*.html)`.
     InvalidDefinition,
+    /// Memory was refused, printed as `out of memory`. The original has no
+    /// such variant, since there the process ends.
     Memory,
 }
 
 impl Error {
+    /// Whether this is a partial error: whether it is several, maybe tagged
+    /// with a line, a path or a depth.
     pub fn is_partial(&self) -> bool
-        ensures { result ≡ is_partial self.now }
+        ensures { result ≡ is_partial (told self.now) }
     {
         match self {
             Error::Partial(_) => true,
@@ -37,19 +91,25 @@ impl Error {
         }
     }
 
+    /// Whether this is a fault and nothing else: whether `io_error` answers
+    /// one.
     pub fn is_io(&self) -> bool
-        ensures { result ≡ is_some (io_fault self.now) }
+        ensures { result ≡ is_some (io_fault (told self.now)) }
     {
         self.io_error().is_some()
     }
 
+    /// The fault that this error comes down to, if it is one. The line, the
+    /// path and the depth that it is tagged with are passed over, and so is a
+    /// partial error that has exactly one member. Of several no fault is told.
     pub fn io_error(&self) -> Option<&Fault>
-        ensures { option_copied result ≡ io_fault self.now }
+        ensures { option_copied result ≡ io_fault (told self.now) }
     {
         match self {
             Error::Partial(errors) => match errors.as_slice() {
+                [] => None,
                 [one] => one.io_error(),
-                _ => None,
+                [_, _, ..] => None,
             },
             Error::WithLineNumber { err, .. } => err.io_error(),
             Error::WithPath { err, .. } => err.io_error(),
@@ -59,14 +119,19 @@ impl Error {
         }
     }
 
+    /// The fault that `io_error` tells, by value: the error is used up. It
+    /// takes no memory.
     pub fn into_io_error(self) -> Option<Fault>
-        ensures { result ≡ io_fault self }
+        ensures { result ≡ io_fault (told self) }
     {
         self.io_error().copied()
     }
 
+    /// The depth of the walk that this error is tagged with, also where a path
+    /// stands before it. Behind a line number or inside a partial error no
+    /// depth is told.
     pub fn depth(&self) -> Option<usize>
-        ensures { result ≡ depth_of self.now }
+        ensures { result ≡ depth_of (told self.now) }
     {
         match self {
             Error::WithPath { err, .. } => err.depth(),
@@ -74,137 +139,18 @@ impl Error {
             _ => None,
         }
     }
-}
 
-impl fmt::Display for Error {
-    ghost output = { λ e. Some (error_text e) };
-
-    fn fmt<W: fmt::Write>(&self, f: &mut fmt::Formatter<W>) -> fmt::Result {
-        match self {
-            Error::Partial(errors) => {
-                let mut separator = "";
-                for err in errors {
-                    write!(f, "{separator}{err}")?;
-                    separator = "\n";
-                }
-                Ok(())
-            }
-            Error::WithLineNumber { line, err } => write!(f, "line {line}: {err}"),
-            Error::WithPath { path, err } => write!(f, "{path}: {err}"),
-            Error::WithDepth { err, .. } => write!(f, "{err}"),
-            Error::Loop { ancestor, child } => write!(
-                f,
-                "File system loop found: {child} points to an ancestor {ancestor}"
-            ),
-            Error::Io(fault) => write!(f, "{fault}"),
-            Error::Glob {
-                glob: Some(glob),
-                err,
-            } => write!(f, "error parsing glob '{glob}': {err}"),
-            Error::Glob { glob: None, err } => write!(f, "{err}"),
-            Error::UnrecognizedFileType(name) => write!(f, "unrecognized file type: {name}"),
-            Error::InvalidDefinition => write!(
-                f,
-                "invalid definition (format is type:glob, e.g., html:*.html)"
-            ),
-            Error::Memory => write!(f, "out of memory"),
+    /// The errors as one: none for no error, the error itself for one, else one
+    /// partial error with all of them as members, in order. A member that is
+    /// partial itself stays one member. It takes no memory.
+    ///
+    /// For the crates above; no part of the surface of `ignore`.
+    pub fn joined(mut errors: Vec<Error>) -> Option<Error>
+        ensures { option_map told result ≡ joined (map told errors.items) }
+    {
+        if errors.len() < 2 {
+            return errors.pop();
         }
-    }
-}
-
-impl error::Error for Error {}
-
-impl From<Fault> for Error {
-    ghost from_gives = { λ fault e. told e ≡ io fault };
-
-    fn from(fault: Fault) -> Error {
-        Error::Io(fault)
-    }
-}
-
-impl From<io::Error> for Error {
-    ghost from_gives = { λ error e. told e ≡ problem_of_kind (error_kind error) };
-
-    fn from(error: io::Error) -> Error {
-        match error.kind() {
-            io::ErrorKind::NotFound => Error::Io(Fault::NotFound),
-            io::ErrorKind::PermissionDenied => Error::Io(Fault::PermissionDenied),
-            io::ErrorKind::NotADirectory => Error::Io(Fault::NotADirectory),
-            io::ErrorKind::IsADirectory => Error::Io(Fault::IsADirectory),
-            io::ErrorKind::InvalidData => Error::Io(Fault::InvalidData),
-            io::ErrorKind::OutOfMemory => Error::Memory,
-            _ => Error::Io(Fault::Other),
-        }
-    }
-}
-
-impl From<AllocError> for Error {
-    ghost use Rattle.std.specs.Prelude.{◌≡◌};
-    ghost use Rattle.ignore_glob.specs.Problem.{told, memory};
-
-    ghost from_gives = { λ _ e. told e ≡ memory };
-
-    fn from(_error: AllocError) -> Error {
-        Error::Memory
-    }
-}
-
-impl<T: Drop> From<AllocFailed<T>> for Error {
-    ghost use Rattle.std.specs.Prelude.{◌≡◌};
-    ghost use Rattle.ignore_glob.specs.Problem.{told, memory};
-
-    ghost from_gives = { λ _ e. told e ≡ memory };
-
-    fn from(_error: AllocFailed<T>) -> Error {
-        Error::Memory
-    }
-}
-
-impl Clone for Error {
-    ghost is_clone = { λ e f. told f ≡ told e };
-
-    fn clone(&self) -> Result<Error, AllocError> {
-        match self {
-            Error::Partial(errors) => {
-                let mut copies = Vec::new(*errors.allocator());
-                for err in errors {
-                    copies.push(err.clone()?)?;
-                }
-                Ok(Error::Partial(copies))
-            }
-            Error::WithLineNumber { line, err } => {
-                let copy = (**err).clone()?;
-                let err = Box::new(*Box::allocator(err), copy)?;
-                Ok(Error::WithLineNumber { line: *line, err })
-            }
-            Error::WithPath { path, err } => {
-                let path = path.clone()?;
-                let copy = (**err).clone()?;
-                let err = Box::new(*Box::allocator(err), copy)?;
-                Ok(Error::WithPath { path, err })
-            }
-            Error::WithDepth { depth, err } => {
-                let copy = (**err).clone()?;
-                let err = Box::new(*Box::allocator(err), copy)?;
-                Ok(Error::WithDepth { depth: *depth, err })
-            }
-            Error::Loop { ancestor, child } => {
-                let ancestor = ancestor.clone()?;
-                let child = child.clone()?;
-                Ok(Error::Loop { ancestor, child })
-            }
-            Error::Io(fault) => Ok(Error::Io(*fault)),
-            Error::Glob { glob, err } => {
-                let glob = glob.clone()?;
-                let err = err.clone()?;
-                Ok(Error::Glob { glob, err })
-            }
-            Error::UnrecognizedFileType(name) => {
-                let name = name.clone()?;
-                Ok(Error::UnrecognizedFileType(name))
-            }
-            Error::InvalidDefinition => Ok(Error::InvalidDefinition),
-            Error::Memory => Ok(Error::Memory),
-        }
+        Some(Error::Partial(errors))
     }
 }

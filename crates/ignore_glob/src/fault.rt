@@ -1,22 +1,44 @@
-//! A fault of the file system.
+//! The faults that a file system, a walk or a reader of files can meet.
 ghost use Rattle.std.specs.Prelude.{Some};
 ghost use Rattle.ignore_glob.specs.Faults.{fault_text};
 
 use std::fmt;
 
+/// Why a file or a directory could not be used.
+///
+/// It stands where the original has a `std::io::Error`: a fault is a plain
+/// value that can be copied and compared. Its text, as `Display` prints it, is
+/// given with each.
 #[derive(Clone, Copy, Debug, PartialEq, Eq)]
 pub enum Fault {
+    /// Nothing is there: `not found`.
     NotFound,
+    /// The system refuses access: `permission denied`.
     PermissionDenied,
+    /// A directory was wanted, or the path goes on below a file:
+    /// `not a directory`.
     NotADirectory,
+    /// A file was wanted and there is a directory: `is a directory`.
     IsADirectory,
+    /// The bytes are not what was wanted, as a line that is not UTF-8:
+    /// `invalid data`.
     InvalidData,
+    /// A listed name is not UTF-8, or is not a name at all:
+    /// `file name is not UTF-8`.
     BadName,
+    /// Resolving a path led through too many symbolic links: `too many links`.
     LinkLimit,
+    /// It can't be told whether two paths lead to one directory or one device:
+    /// `identity unknown`.
     NoIdentity,
+    /// The working directory is needed and not known:
+    /// `current directory unknown`.
     NoCurrentDir,
+    /// A walk has used up the steps that it was given: `step limit reached`.
     StepLimit,
+    /// Standard input was asked for its metadata: `<stdin> has no metadata`.
     NoMetadata,
+    /// Any other fault: `input or output failed`.
     Other,
 }
 

@@ -1,5 +1,18 @@
-//! The glob dialect.
+//! The glob dialect: how a glob is written, and what it takes.
 
+mod class;
+mod copies;
+mod fault;
+pub mod laws;
+mod lexeme;
+mod meaning;
+mod options;
+mod pattern;
+mod plain;
+mod read;
 mod token;
 
+pub use fault::{GlobFault, PatternError};
+pub use options::Options;
+pub use pattern::{Pattern, characters};
 pub use token::{Class, Token};

@@ -1,0 +1,51 @@
+//! The trait of a view of a tree of files.
+use crate::types::{Contents, Identity, Listing, Metadata, Name, Refusal};
+use std::alloc::Global;
+
+/// A view of a tree of files, by five calls with the text of a path.
+///
+/// A contract sees, for each call, a relation between the value, the call and an answer that
+/// the call may give. A value is honest for a tree where each of these answers but
+/// `Refusal::Memory` is the tree's.
+pub trait Files {
+    ghost use Rattle.std.specs.Prelude.{ℕ, Bool, List, Result, Option, ⊤};
+    ghost use Rattle.ignore_files.specs.declared.types.Refusal.{Refusal};
+    ghost use Rattle.ignore_files.specs.declared.types.Metadata.{Metadata};
+    ghost use Rattle.ignore_files.specs.declared.types.Listed.{Listed};
+    ghost use Rattle.ignore_files.specs.declared.types.Contents.{Contents};
+    ghost use Rattle.ignore_files.specs.declared.types.Identity.{Identity};
+
+    ghost stat_gives: { Self → List ℕ → Bool → Result Metadata Refusal → Type 0 } = { λ _ _ _ _. ⊤ };
+
+    ghost list_gives: { Self → List ℕ → Result (List Listed) Refusal → Type 0 } = { λ _ _ _. ⊤ };
+
+    ghost contents_gives: { Self → List ℕ → Result Contents Refusal → Type 0 } = { λ _ _ _. ⊤ };
+
+    ghost canonical_gives: { Self → List ℕ → Result (List ℕ) Refusal → Type 0 } = { λ _ _ _. ⊤ };
+
+    ghost identity_gives: { Self → List ℕ → Bool → Result (Option Identity) Refusal → Type 0 } = { λ _ _ _ _. ⊤ };
+
+    /// What the path leads to, and its size. A link in the path's last place is followed where
+    /// `follow` is set, or where a slash stands after it; links before it always are.
+    fn stat(&self, alloc: Global, path: &str, follow: bool) -> Result<Metadata, Refusal>
+        ensures { stat_gives self.now path.now follow result };
+
+    /// What the directory at the path lists, in its order, links followed up to it. The kinds
+    /// of what is listed are those of the entries themselves, links not followed.
+    fn list(&self, alloc: Global, path: &str) -> Result<Listing, Refusal>
+        ensures { list_gives self.now path.now result };
+
+    /// What can be read of the file at the path, links followed. It is an `Err` where the file
+    /// can't be opened; a fault after that stands in the `Contents`, behind what was read.
+    fn contents(&self, alloc: Global, path: &str) -> Result<Contents, Refusal>
+        ensures { contents_gives self.now path.now result };
+
+    /// The one path from `/`, without links, to what the path leads to, links followed.
+    fn canonical(&self, alloc: Global, path: &str) -> Result<Name, Refusal>
+        ensures { canonical_gives self.now path.now result };
+
+    /// The numbers of what the path leads to, or `None` where they are unknown. Links are
+    /// followed as by `stat`.
+    fn identity(&self, alloc: Global, path: &str, follow: bool) -> Result<Option<Identity>, Refusal>
+        ensures { identity_gives self.now path.now follow result };
+}

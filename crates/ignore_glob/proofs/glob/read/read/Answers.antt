@@ -1,0 +1,15 @@
+use Rattle.std.proofs.Common.{ap, ◌∙◌}
+use Rattle.std.specs.Str.{chars}
+use Rattle.ignore_glob.specs.View.{tokens_view}
+use Rattle.ignore_glob.specs.Lexemes.{row_view}
+use Rattle.ignore_glob.proofs.ReadLemmas.{balanced_at, reads_at}
+use Rattle.ignore_glob.proofs.glob.read.read.Goals as goal
+
+pub read_level-requires : goal.read_level-requires
+read_level-requires c =
+    (0, balanced_at c.args.options (chars c.args.text.now) c.as_slice.result.now (c.as_slice.ensures.value ∙ c.in_ok-characters.ensures) (row_view c.in_ok-row.row.items) (row_view c.as_slice-2.result.now) (ap row_view c.as_slice-2.ensures.value) c.in_ok-row.ensures.row)
+
+pub returns-clause-ok : goal.returns-clause-ok
+returns-clause-ok c =
+    let level = c.in_ok-tokens.ensures in
+    reads_at c.args.options (chars c.args.text.now) c.as_slice.result.now (c.as_slice.ensures.value ∙ c.in_ok-characters.ensures) (row_view c.in_ok-row.row.items) (row_view c.as_slice-2.result.now) (ap row_view c.as_slice-2.ensures.value) c.in_ok-row.ensures.row (tokens_view c.in_ok-tokens.tokens.items) (row_view c.in_ok-tokens.field-0-1.now) level.level level.ends level.balance

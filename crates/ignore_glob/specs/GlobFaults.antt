@@ -1,0 +1,31 @@
+-- The text and the number of a glob's fault.
+use Rattle.std.specs.Prelude.{ℕ, List, codes}
+use Rattle.ignore_glob.specs.declared.glob.fault.GlobFault.{GlobFault}
+use Rattle.ignore_glob.specs.declared.glob.fault.GlobFault.TheVariants.{UnclosedClass, InvalidRange, UnopenedAlternates, UnclosedAlternates, DanglingEscape, TooDeep}
+use Rattle.ignore_glob.specs.declared.glob.fault.PatternError.{PatternError}
+use Rattle.ignore_glob.specs.declared.glob.fault.PatternError.TheVariants as Why
+
+abbrev pub glob_fault_text : GlobFault → List ℕ
+glob_fault_text UnclosedClass = codes "unclosed character class"
+glob_fault_text InvalidRange = codes "invalid range"
+glob_fault_text UnopenedAlternates = codes "unopened alternates"
+glob_fault_text UnclosedAlternates = codes "unclosed alternates"
+glob_fault_text DanglingEscape = codes "dangling escape"
+glob_fault_text TooDeep = codes "alternates nested too deep"
+
+abbrev pub glob_fault_number : GlobFault → ℕ
+glob_fault_number UnclosedClass = 1
+glob_fault_number InvalidRange = 2
+glob_fault_number UnopenedAlternates = 3
+glob_fault_number UnclosedAlternates = 4
+glob_fault_number DanglingEscape = 5
+glob_fault_number TooDeep = 6
+
+abbrev pub pattern_error_text : PatternError → List ℕ
+pattern_error_text (Why.Fault fault) = glob_fault_text fault
+pattern_error_text Why.Memory = codes "out of memory"
+
+-- a fact of the fault, if it is one
+abbrev pub IfFault : PatternError → (GlobFault → Type 0) → Type 0
+IfFault (Why.Fault f) P = P f
+IfFault Why.Memory P = Unit {0}

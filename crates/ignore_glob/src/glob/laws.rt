@@ -1,0 +1,21 @@
+//! Laws of the reading.
+ghost use Rattle.std.specs.Prelude.{◌≡◌, ◌⊎◌, ℕ, List, Result, [], Ok, Err};
+ghost use Rattle.ignore_glob.specs.Pieces.{Lexeme, Written};
+ghost use Rattle.ignore_glob.specs.Glob.{Tokens};
+ghost use Rattle.ignore_glob.specs.Row.{Reads, IsFaulty};
+ghost use Rattle.ignore_glob.specs.declared.glob.options.Options.{Options};
+ghost use Rattle.ignore_glob.specs.declared.glob.fault.GlobFault.{GlobFault};
+
+/// A text has exactly one row of pieces or exactly one fault, never both.
+pub fn one_outcome()
+    ensures one { (o : Options) (text : List ℕ) → (out : Result (List Lexeme) GlobFault) × Written o 0 text out }
+    ensures same { (o : Options) (text : List ℕ) (a b : Result (List Lexeme) GlobFault) → Written o 0 text a → Written o 0 text b → a ≡ b }
+{}
+
+/// A text has exactly one reading or exactly one fault, never both.
+pub fn one_reading()
+    ensures some { (o : Options) (text : List ℕ) → ((ts : Tokens) × Reads o text ts) ⊎ ((f : GlobFault) × IsFaulty o text f) }
+    ensures one { (o : Options) (text : List ℕ) (ts us : Tokens) → Reads o text ts → Reads o text us → ts ≡ us }
+    ensures one_fault { (o : Options) (text : List ℕ) (f g : GlobFault) → IsFaulty o text f → IsFaulty o text g → f ≡ g }
+    ensures never_both { (o : Options) (text : List ℕ) (ts : Tokens) (f : GlobFault) → Reads o text ts → IsFaulty o text f → ⊥ }
+{}

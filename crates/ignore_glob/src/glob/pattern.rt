@@ -1,0 +1,143 @@
+//! A glob that was read, and the texts that it takes.
+ghost use Rattle.std.specs.Prelude.{◌≡◌, ◌↔◌, IsTrue, IfOk, IfErr};
+ghost use Rattle.std.specs.Str.{chars};
+ghost use Rattle.ignore_glob.specs.Glob.{start, then, done};
+ghost use Rattle.ignore_glob.specs.GlobFaults.{IfFault};
+ghost use Rattle.ignore_glob.specs.Problem.{told, memory};
+ghost use Rattle.ignore_glob.specs.Reading.{Takes};
+ghost use Rattle.ignore_glob.specs.Row.{Reads, IsFaulty};
+ghost use Rattle.ignore_glob.specs.View.{view, tokens_view};
+
+use crate::error::Error;
+use crate::glob::copies::copied;
+use crate::glob::fault::PatternError;
+use crate::glob::options::Options;
+use crate::glob::plain::all_take;
+use crate::glob::read::read;
+use crate::glob::token::Token;
+use std::alloc::{AllocError, Global};
+use std::marker::Model;
+
+/// A glob that was read: it takes some texts and refuses the others.
+/// `*` and `?` take no slash, a class may take one, and a glob that is `**` or `**/` alone takes everything.
+#[derive(Debug, Drop)]
+pub struct Pattern {
+    tokens: Vec<Token>,
+    case_insensitive: bool,
+}
+
+impl Model for Pattern {
+    ghost use Rattle.ignore_glob.specs.Reading.{Reading, reading_code};
+
+    ghost Value = { Reading };
+
+    ghost coded = { reading_code };
+
+    ghost use Rattle.ignore_glob.specs.View.{tokens_view};
+
+    ghost view = { λ p. record { tokens = tokens_view p.tokens.items; case_insensitive = p.case_insensitive } };
+}
+
+impl Pattern {
+    /// The pattern of these tokens; `case_insensitive` folds ASCII case where it is asked of a text.
+    pub(crate) fn from_tokens(tokens: Vec<Token>, case_insensitive: bool) -> Pattern
+        ensures { result ≡ record { tokens = tokens_view tokens.items; case_insensitive = case_insensitive } }
+    {
+        Pattern {
+            tokens,
+            case_insensitive,
+        }
+    }
+
+    /// Reads a glob of the dialect.
+    ///
+    /// # Errors
+    /// `PatternError::Fault` with the fault that begins leftmost, exactly where the glob has one,
+    /// or `PatternError::Memory`.
+    pub fn parse(alloc: Global, glob: &str, options: Options) -> Result<Pattern, PatternError>
+        ensures reading { IfOk result (λ p. Reads options (chars glob.now) p.tokens) }
+        ensures case { IfOk result (λ p. p.case_insensitive ≡ options.case_insensitive) }
+        ensures fault { IfErr result (λ e. IfFault e (λ f. IsFaulty options (chars glob.now) f)) }
+    {
+        match read(alloc, glob, options) {
+            Ok(tokens) => Ok(Pattern::from_tokens(tokens, options.case_insensitive)),
+            Err(error) => Err(error),
+        }
+    }
+
+    /// Whether the glob takes the whole text.
+    ///
+    /// # Errors
+    /// `Error::Memory` alone, since the characters of the text are kept for the time of the call.
+    pub fn matches(&self, text: &str) -> Result<bool, Error>
+        ensures err { IfErr result (λ e. told e ≡ memory) }
+        ensures ok { IfOk result (λ yes. IsTrue yes ↔ Takes self.now (chars text.now)) }
+    {
+        match characters(*self.tokens.allocator(), text) {
+            Ok(all) => Ok(self.matches_chars(&all)),
+            Err(e) => Err(e),
+        }
+    }
+
+    /// For the crates above, which ask many patterns about one text: as `matches`, of the text's `characters`.
+    pub fn matches_chars(&self, text: &[char]) -> bool
+        ensures { IsTrue result ↔ Takes self.now text.now }
+    {
+        if is_lone_start(&self.tokens) {
+            return true;
+        }
+        all_take(self.case_insensitive, &self.tokens, text)
+    }
+}
+
+impl Clone for Pattern {
+    ghost use Rattle.std.specs.Prelude.{◌≡◌};
+
+    ghost is_clone = { λ p q. q ≡ p };
+
+    fn clone(&self) -> Result<Pattern, AllocError> {
+        let tokens = copied(&self.tokens)?;
+        Ok(Pattern {
+            tokens,
+            case_insensitive: self.case_insensitive,
+        })
+    }
+}
+
+/// For the crates above: the characters of a text, to be asked about by `Pattern::matches_chars`.
+///
+/// # Errors
+/// `Error::Memory` alone.
+pub fn characters(alloc: Global, text: &str) -> Result<Vec<char>, Error>
+    ensures err { IfErr result (λ e. told e ≡ memory) }
+    ensures ok { IfOk result (λ all. all.items ≡ chars text.now) }
+{
+    match text.chars().collect(alloc) {
+        Ok(all) => Ok(all),
+        Err(_) => Err(Error::Memory),
+    }
+}
+
+fn is_lone_start(tokens: &[Token]) -> bool
+    ensures { IsTrue result ↔ (tokens_view tokens.now ≡ then start done) }
+{
+    match tokens {
+        [first, rest @ ..] => is_start(first) && rest.is_empty(),
+        [] => false,
+    }
+}
+
+fn is_start(token: &Token) -> bool
+    ensures { IsTrue result ↔ (view token.now ≡ start) }
+{
+    match token {
+        Token::RecursiveStart => true,
+        Token::Literal(_)
+        | Token::Any
+        | Token::Star
+        | Token::RecursiveMiddle
+        | Token::RecursiveEnd
+        | Token::Class(_)
+        | Token::Alternates(_) => false,
+    }
+}

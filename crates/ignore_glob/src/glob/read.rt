@@ -1,0 +1,158 @@
+//! Reading a glob: the tokens of its row of pieces.
+ghost use Rattle.std.specs.Prelude.{◌≡◌, ◌+◌, ◌<◌, ◌≤◌, ◌∷◌, ℕ, suc, length, IsTrue, IfOk, IfErr};
+ghost use Rattle.std.specs.Str.{chars};
+ghost use Rattle.ignore_glob.specs.Glob.{Tokens, Branches};
+ghost use Rattle.ignore_glob.specs.Pieces.{comma, closing};
+ghost use Rattle.ignore_glob.specs.GlobFaults.{IfFault};
+ghost use Rattle.ignore_glob.specs.Row.{Row, Inner, Ends, Reads, IsFaulty, times, add_branch};
+ghost use Rattle.ignore_glob.specs.View.{view, tokens_view, branches_view};
+ghost use Rattle.ignore_glob.specs.Lexemes.{row_view, left_view, given_view, Balanced, put_tokens, put_branches};
+
+use crate::glob::fault::PatternError;
+use crate::glob::lexeme::{Lexeme, pieces};
+use crate::glob::meaning::{Given, Left, Meaning, begins};
+use crate::glob::options::Options;
+use crate::glob::token::{Class, Token};
+use std::alloc::{AllocError, Global};
+
+/// The token that is meant.
+fn token_of(alloc: Global, given: Given) -> Result<Token, AllocError>
+    ensures { IfOk result (λ token. view token ≡ given_view given.entry) }
+{
+    match given {
+        Given::Literal(c) => Ok(Token::Literal(c)),
+        Given::Any => Ok(Token::Any),
+        Given::Star => Ok(Token::Star),
+        Given::Start => Ok(Token::RecursiveStart),
+        Given::Middle => Ok(Token::RecursiveMiddle),
+        Given::End => Ok(Token::RecursiveEnd),
+        Given::Class(class) => {
+            let negated = class.negated;
+            let ranges = Vec::from_slice(alloc, class.ranges.as_slice())?;
+            Ok(Token::Class(Class { negated, ranges }))
+        }
+    }
+}
+
+/// Puts a token at the end, so many times.
+fn push_times(
+    alloc: Global,
+    tokens: &mut Vec<Token>,
+    n: usize,
+    given: Given,
+) -> Result<(), AllocError>
+    ensures { IfOk result (λ _. (ts : Tokens) → put_tokens tokens.new.items ts ≡ put_tokens tokens.old.items (times n (given_view given.entry) ts)) }
+{
+    for _i in 0..n {
+        let token = token_of(alloc, given)?;
+        tokens.push(token)?;
+    }
+    Ok(())
+}
+
+/// Puts a branch at the end, unless it has no tokens.
+fn push_branch(branches: &mut Vec<Vec<Token>>, tokens: Vec<Token>) -> Result<(), AllocError>
+    ensures { IfOk result (λ _. (bs : Branches) → put_branches branches.new.items bs ≡ put_branches branches.old.items (add_branch (tokens_view tokens.items) bs)) }
+{
+    if !tokens.is_empty() {
+        branches.push(tokens)?;
+    }
+    Ok(())
+}
+
+/// Whether the branch that ends here is the last of its braces, and what follows its end.
+fn past_branch(row: &[Lexeme]) -> (bool, &[Lexeme])
+    requires ends { Ends (row_view row.now) }
+    requires balance { (d : ℕ) × Balanced (row_view row.now) (suc d) }
+    ensures last { IsTrue result.0 → row_view row.now ≡ closing ∷ row_view result.1.now }
+    ensures further { (IsTrue result.0 → ⊥) → row_view row.now ≡ comma ∷ row_view result.1.now }
+{
+    let Some((first, more)) = row.split_first() else {
+        unreachable!();
+    };
+    match first {
+        Lexeme::Comma => (false, more),
+        Lexeme::Closing => (true, more),
+        Lexeme::Char(_)
+        | Lexeme::Escaped(_)
+        | Lexeme::Any
+        | Lexeme::Run(_)
+        | Lexeme::Class(_)
+        | Lexeme::Opening => unreachable!(),
+    }
+}
+
+/// The tokens of a glob or a branch up to its end, and what follows.
+#[cycle(read)]
+fn read_level(
+    alloc: Global,
+    left: Left,
+    row: &[Lexeme],
+) -> Result<(Vec<Token>, &[Lexeme]), AllocError>
+    requires { (d : ℕ) × Balanced (row_view row.now) d }
+    ensures level { IfOk result (λ found. Row (left_view left) (row_view row.now) (tokens_view found.0.items) (row_view found.1.now)) }
+    ensures ends { IfOk result (λ found. Ends (row_view found.1.now)) }
+    ensures balance { IfOk result (λ found. (d : ℕ) → Balanced (row_view row.now) d → Balanced (row_view found.1.now) d) }
+    ensures shorter { IfOk result (λ found. length (row_view found.1.now) ≤ length (row_view row.now)) }
+{
+    let mut tokens = Vec::new(alloc);
+    let mut here = left;
+    let mut rest = row;
+    loop {
+        match begins(here, rest) {
+            Meaning::Gives(n, given, more) => {
+                push_times(alloc, &mut tokens, n, given)?;
+                rest = more;
+            }
+            Meaning::Braces(inner) => {
+                let (branches, after) = read_branches(alloc, inner)?;
+                tokens.push(Token::Alternates(branches))?;
+                rest = after;
+            }
+            Meaning::Over => return Ok((tokens, rest)),
+        }
+        here = Left::Piece;
+    }
+}
+
+/// The branches up to the closing brace, and what follows it.
+#[cycle(read)]
+fn read_branches(alloc: Global, row: &[Lexeme]) -> Result<(Vec<Vec<Token>>, &[Lexeme]), AllocError>
+    requires { (d : ℕ) × Balanced (row_view row.now) (suc d) }
+    ensures inner { IfOk result (λ found. Inner (row_view row.now) (branches_view found.0.items) (row_view found.1.now)) }
+    ensures balance { IfOk result (λ found. (d : ℕ) → Balanced (row_view row.now) (suc d) → Balanced (row_view found.1.now) d) }
+    ensures shorter { IfOk result (λ found. length (row_view found.1.now) < length (row_view row.now)) }
+{
+    let mut branches = Vec::new(alloc);
+    let mut rest = row;
+    loop {
+        let (tokens, after) = read_level(alloc, Left::BranchStart, rest)?;
+        push_branch(&mut branches, tokens)?;
+        let (is_last, more) = past_branch(after);
+        if is_last {
+            return Ok((branches, more));
+        }
+        rest = more;
+    }
+}
+
+/// The characters of a text.
+fn characters(alloc: Global, text: &str) -> Result<Vec<char>, AllocError>
+    ensures { IfOk result (λ all. all.items ≡ chars text.now) }
+{
+    text.chars().collect(alloc)
+}
+
+/// Reads a glob.
+///
+/// # Errors
+/// The text's first fault, or `Memory`.
+pub(crate) fn read(alloc: Global, text: &str, options: Options) -> Result<Vec<Token>, PatternError>
+    ensures ok { IfOk result (λ tokens. Reads options (chars text.now) (tokens_view tokens.items)) }
+    ensures fault { IfErr result (λ e. IfFault e (λ f. IsFaulty options (chars text.now) f)) }
+{
+    let characters = characters(alloc, text)?;
+    let row = pieces(alloc, options, characters.as_slice())?;
+    let (tokens, _) = read_level(alloc, Left::GlobStart, row.as_slice())?;
+    Ok(tokens)
+}

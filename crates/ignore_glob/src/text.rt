@@ -1,0 +1,64 @@
+//! Paths as texts: joining, file names, prefixes, and which paths are clean.
+ghost use Rattle.std.specs.Prelude.{◌≡◌, ◌↔◌, IfOk, IfErr, IsTrue, string_bytes};
+ghost use Rattle.std.specs.Option.{option_copied};
+ghost use Rattle.ignore_glob.specs.Paths.{pieces, last_piece, join_of, file_name_of, IsHidden};
+ghost use Rattle.ignore_glob.specs.Problem.{told, memory};
+
+mod clean;
+mod prefix;
+
+use crate::Error;
+pub use clean::{is_clean_path, is_name};
+use memchr::memrchr;
+pub use prefix::{strip, strip_law, strip_prefix, trim_root};
+use std::alloc::Global;
+
+/// `path` seen from `base`: `path` itself where it begins with `/` or `base` is empty, else the two with one `/` between them (none is added to a `base` that ends with one), as Rust's `Path::join` gives. The only error is `Error::Memory`.
+pub fn join(alloc: Global, base: &str, path: &str) -> Result<String, Error>
+    ensures joins { IfOk result (λ text. string_bytes text ≡ join_of base.now path.now) }
+    ensures refuses { IfErr result (λ error. told error ≡ memory) }
+{
+    if path.starts_with('/') || base.is_empty() {
+        return Ok(String::from_str(alloc, path)?);
+    }
+    let mut text = String::from_str(alloc, base)?;
+    if !base.ends_with('/') {
+        text.push('/')?;
+    }
+    text.push_str(path)?;
+    Ok(text)
+}
+
+/// The last piece of a path, behind its last `/`: the empty text where the path ends with one, none where the piece is `.` or `..`, and none for the empty path.
+pub fn file_name(path: &str) -> Option<&str>
+    ensures { option_copied result ≡ file_name_of path.now }
+{
+    if path.is_empty() {
+        return None;
+    }
+    let name = last_piece(path);
+    if name == "." || name == ".." {
+        return None;
+    }
+    Some(name)
+}
+
+/// Whether the file name of a path begins with a dot. A path without a file name is not hidden.
+pub fn is_hidden(path: &str) -> bool
+    ensures { IsTrue result ↔ IsHidden path.now }
+{
+    match file_name(path) {
+        Some(name) => name.starts_with('.'),
+        None => false,
+    }
+}
+
+// What follows the last slash.
+fn last_piece(path: &str) -> &str
+    ensures { result.now ≡ last_piece (pieces path.now) }
+{
+    match memrchr(b'/', path.as_bytes()) {
+        Some(slash) => &path[slash + 1..],
+        None => path,
+    }
+}
