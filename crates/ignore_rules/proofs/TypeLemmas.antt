@@ -1,7 +1,7 @@
 -- What adding, finding and dropping do to types in text order.
 use Rattle.std.proofs.Common.{◌≡◌, ℕ, zero, suc, ◌<◌, ◌≤◌, Bool, true, false, cond, not, List, [], ◌∷◌, ◌++◌, Some, None, Result, Ok, Err, length, get_or, set, take, drop, refl, sym, ap, ◌∙◌, subst, arith, add-one}
 use Rattle.std.specs.Str.{bytes_eq}
-use Rattle.std.specs.List.{AllWithin, insert, remove}
+use Rattle.std.specs.List.{AllWithin, AllZip, insert, remove}
 use Rattle.std.proofs.lemmas.List.{take-append-drop}
 use Rattle.std.specs.List.Sorted.{IsNonDecreasingBy, IsPartitionPoint, IsBinarySearchResult, IsSearchInRange}
 use Rattle.std.specs.Ordering.{is_lt, ordering_index}
@@ -9,7 +9,7 @@ use Rattle.std.specs.declared.cmp.Ordering.{Ordering}
 use Rattle.std.specs.declared.cmp.Ordering.TheVariants.{Less, Equal, Greater}
 use Rattle.std.proofs.lemmas.Slice.Eq.{bytes_eq-Decides}
 use Rattle.std.proofs.lemmas.List.Sorted.{searchable_from_sorted}
-use Rattle.ignore_rules.specs.Types.{Definition, text_cmp, AllAfter, IsAscending, definition_of, placed, with_glob, without}
+use Rattle.ignore_rules.specs.Types.{Definition, text_cmp, AllAfter, IsAscending, definition_of, placed, with_glob, without, IsSortedCopy}
 use Rattle.ignore_rules.specs.Places.{AllBefore, IsAt, IsGap, IsPlace}
 use Rattle.ignore_rules.proofs.TextOrder.{order, same_from_equal, equal_from_same, differ_from_less, differ_from_less_back, greater_from_less, less_from_greater}
 
@@ -186,3 +186,19 @@ without-found name ds i at =
 pub without-absent : (name : List ℕ) (ds : List Definition) (i : ℕ) → IsGap name ds i → without name ds ≡ ds
 without-absent name ds i gap =
     ap (without name) (sym (take-append-drop i ds)) ∙ without-gap name (take i ds) (drop i ds) gap.before gap.after ∙ take-append-drop i ds
+
+-- ---- copies with sorted globs
+
+AllAfter-copies : (m : List ℕ) (ds copies : List Definition) → AllZip IsSortedCopy ds copies → AllAfter m ds → AllAfter m copies
+AllAfter-copies m [] [] same after = tt
+AllAfter-copies m [] (e ∷ es) same after = absurd same
+AllAfter-copies m (d ∷ ds) [] same after = absurd same
+AllAfter-copies m (d ∷ ds) (e ∷ es) same after =
+    (subst (λ n. text_cmp m n ≡ Less) (sym same.0.same_name) after.0, AllAfter-copies m ds es same.1 after.1)
+
+pub IsAscending-copies : (ds copies : List Definition) → AllZip IsSortedCopy ds copies → IsAscending ds → IsAscending copies
+IsAscending-copies [] [] same ascending = tt
+IsAscending-copies [] (e ∷ es) same ascending = absurd same
+IsAscending-copies (d ∷ ds) [] same ascending = absurd same
+IsAscending-copies (d ∷ ds) (e ∷ es) same ascending =
+    (subst (λ n. AllAfter n es) (sym same.0.same_name) (AllAfter-copies d.name ds es same.1 ascending.0), IsAscending-copies ds es same.1 ascending.1)

@@ -1,3 +1,5 @@
 pub mod TypeNames
 pub mod Types
 pub mod Places
+pub mod Refusals
+pub mod Defaults

@@ -1,6 +1,6 @@
 -- File types as plain data: what a builder collects.
-use Rattle.std.specs.Prelude.{◌≡◌, ℕ, Bool, List, [], ◌∷◌, ◌++◌, Option, is_some, filter, find, not, IsPermutation, IsSorted}
-use Rattle.std.specs.List.{list_all}
+use Rattle.std.specs.Prelude.{◌≡◌, ℕ, Bool, List, [], ◌∷◌, ◌++◌, Option, Some, None, is_some, map, filter, find, not, ◌==◌, ◌&&◌, length, codes, IsPermutation, IsSorted, if◌then◌else◌}
+use Rattle.std.specs.List.{slice_split, list_all}
 use Rattle.std.specs.Option.{option_map_or}
 use Rattle.std.specs.Str.{bytes_eq}
 use Rattle.std.specs.Ordering.{nat_cmp, on, eq_of_both}
@@ -8,6 +8,7 @@ use Rattle.std.specs.Cmp.Lexicographic.{slice_cmp, pointwise, lists_equiv}
 use Rattle.std.specs.Cmp.{IsEquivalence, and_equiv, on_equiv, nat_eq_equiv}
 use Rattle.std.specs.declared.cmp.Ordering.{Ordering}
 use Rattle.std.specs.declared.cmp.Ordering.TheVariants.{Less, Equal, Greater}
+use Rattle.ignore_rules.specs.TypeNames.{is_type_name, every_type}
 
 -- a file type: its name, and its globs in the order of adding
 pub record Definition : Type 0 where
@@ -88,3 +89,50 @@ pub record IsSortedCopy (d sorted : Definition) : Type 0 where
   pub same_name : sorted.name ≡ d.name
   pub same_globs : IsPermutation d.globs sorted.globs
   pub in_order : IsSorted text_cmp sorted.globs
+
+-- what the text of a definition asks for: one glob for a name, or the globs of other types; some texts ask for nothing
+pub data Request : Type 0 where
+  one_glob : (name glob : List ℕ) → Request
+  included : (name : List ℕ) (sources : List (List ℕ)) → Request
+  unreadable : Request
+
+abbrev pub is_filled : List ℕ → Bool
+is_filled text = not (length text == 0)
+
+-- two filled parts are a name and a glob; in three, of which the middle one is the word for it, the last is a list of types
+abbrev pub request_of_parts : List (List ℕ) → Request
+request_of_parts [] = unreadable
+request_of_parts (name ∷ []) = unreadable
+request_of_parts (name ∷ (glob ∷ [])) = if is_filled name && is_filled glob then one_glob name glob else unreadable
+request_of_parts (name ∷ (word ∷ (sources ∷ []))) =
+    if is_filled name && bytes_eq word (codes "include") && is_filled sources then included name (slice_split (λ b. b == 44) sources) else unreadable
+request_of_parts (name ∷ (word ∷ (sources ∷ (part ∷ parts)))) = unreadable
+
+-- the text of a definition is cut at each colon
+abbrev pub request_of : List ℕ → Request
+request_of text = request_of_parts (slice_split (λ b. b == 58) text)
+
+-- the definitions after a request, where it is allowed: its name may be one, and each type that it includes is there
+abbrev pub after_request : Request → List Definition → Option (List Definition)
+after_request (one_glob name glob) ds = if is_type_name name then Some (with_glob name glob ds) else None
+after_request (included name sources) ds = if is_type_name name && has_all sources ds then Some (with_types name sources ds) else None
+after_request unreadable ds = None
+
+-- the definitions become these, and the choices stay
+abbrev pub Becomes : Draft → Option (List Definition) → Draft → Type 0
+Becomes old definitions new = (definitions ≡ Some new.definitions) × (new.choices ≡ old.choices)
+
+-- the choices that naming a type adds: the word for each type stands for those that are there, in text order
+abbrev pub chosen : Bool → List ℕ → List Definition → List Choice
+chosen negated name ds =
+    if bytes_eq name every_type then map (λ d. record { name = d.name; negated = negated }) ds
+    else record { name = name; negated = negated } ∷ []
+
+-- the draft with the choices that naming a type adds
+abbrev pub with_chosen : Bool → List ℕ → Draft → Draft
+with_chosen negated name draft = record { definitions = draft.definitions; choices = draft.choices ++ chosen negated name draft.definitions }
+
+-- each of the globs in turn behind those of each of the names in turn
+abbrev pub with_names : List (List ℕ) → List (List ℕ) → List Definition → List Definition
+with_names [] globs ds = ds
+with_names (name ∷ names) globs ds = with_names names globs (with_globs name globs ds)

@@ -1,9 +1,12 @@
 //! File types in text order of their names.
 ghost use Rattle.std.specs.Prelude.{◌≡◌, [], OnOk, OnErr, IfOk, map, string_bytes};
 ghost use Rattle.std.specs.Option.{option_copied};
-ghost use Rattle.ignore_rules.specs.Types.{IsAscending, definition_of, globs_of, with_glob, with_globs, with_types, has_all, without};
+ghost use Rattle.ignore_rules.specs.Types.{IsAscending, definition_of, globs_of, with_glob, with_globs, with_types, with_names, has_all, without, IsSortedCopy};
+ghost use Rattle.std.specs.List.{AllZip};
 ghost use Rattle.ignore_rules.specs.Places.{IsPlace};
+ghost use Rattle.ignore_rules.specs.Defaults.{with_rows};
 
+use crate::default_types::DefaultType;
 use crate::types::definition::FileTypeDef;
 use std::alloc::{AllocError, Global};
 use std::marker::Model;
@@ -99,6 +102,43 @@ impl Definitions {
         Ok(definitions)
     }
 
+    fn add_names(&mut self, names: &[&str], globs: &[&str]) -> Result<(), AllocError>
+        ensures { OnOk result (self.new ≡ with_names (map (λ n. n.now) names.now) (map (λ g. g.now) globs.now) self.old) }
+    {
+        for name in names {
+            self.add_texts(name, globs)?;
+        }
+        Ok(())
+    }
+
+    fn add_texts(&mut self, name: &str, globs: &[&str]) -> Result<(), AllocError>
+        ensures { OnOk result (self.new ≡ with_globs name.now (map (λ g. g.now) globs.now) self.old) }
+    {
+        for glob in globs {
+            self.add(name, glob)?;
+        }
+        Ok(())
+    }
+
+    /// These types with each row in turn: its globs for each of its names.
+    pub(super) fn with_rows(&self, rows: &[DefaultType]) -> Result<Definitions, AllocError>
+        ensures { IfOk result (λ ds. ds ≡ with_rows (map (λ r. (map (λ n. n.now) r.0.now, map (λ g. g.now) r.1.now)) rows.now) self.now) }
+    {
+        let mut definitions = self.clone()?;
+        for (names, globs) in rows {
+            definitions.add_names(names, globs)?;
+        }
+        Ok(definitions)
+    }
+
+    /// Copies of these types, with the globs of each sorted.
+    pub(super) fn sorted_copies(&self) -> Result<Vec<FileTypeDef>, AllocError>
+        ensures copies { IfOk result (λ ds. AllZip IsSortedCopy self.now ds.items) }
+        ensures by_name { IfOk result (λ ds. IsAscending ds.items) }
+    {
+        copies_of(*self.sorted.allocator(), self.as_slice())
+    }
+
     pub(super) fn has_all(&self, names: &[&str]) -> bool
         ensures { result ≡ has_all (map (λ n. n.now) names.now) self.now }
     {
@@ -131,4 +171,16 @@ fn place(sorted: &[FileTypeDef], name: &str) -> Result<usize, usize>
     ensures { IsPlace name.now sorted.now result }
 {
     sorted.binary_search_by(|definition| definition.name().cmp(name))
+}
+
+fn copies_of(alloc: Global, types: &[FileTypeDef]) -> Result<Vec<FileTypeDef>, AllocError>
+    ensures { IfOk result (λ ds. AllZip IsSortedCopy types.now ds.items) }
+{
+    let mut copies = Vec::new(alloc);
+    for definition in types {
+        let mut copy = definition.clone()?;
+        copy.sort_globs();
+        copies.push(copy)?;
+    }
+    Ok(copies)
 }
