@@ -1,5 +1,11 @@
+pub mod Line
+pub mod Taking
+pub mod Rules
+pub mod Answer
 pub mod TypeNames
 pub mod Types
 pub mod Places
 pub mod Refusals
 pub mod Defaults
+pub mod TypeMatch
+pub mod Building

@@ -1,5 +1,6 @@
-//! Rules of ignore files, overrides and file types.
+//! Rules over paths: from the lines of gitignore files, and by file types.
 #![tactic(auto)]
 
 pub mod default_types;
+pub mod gitignore;
 pub mod types;

@@ -1,14 +1,17 @@
 //! Collecting file types, and choices among them.
-ghost use Rattle.std.specs.Prelude.{◌≡◌, ◌==◌, [], true, false, map, OnOk, OnErr, IfOk, IfErr};
+ghost use Rattle.std.specs.Prelude.{◌≡◌, ◌⊎◌, ◌==◌, [], true, false, map, OnOk, OnErr, IfOk, IfErr};
 ghost use Rattle.std.specs.List.{AllZip, slice_split};
-ghost use Rattle.ignore_glob.specs.Problem.{told, memory};
+ghost use Rattle.ignore_glob.specs.Problem.{told, memory, unrecognized};
 ghost use Rattle.ignore_rules.specs.Types.{Draft, IsSortedCopy, IsAscending, one_glob, included, request_of, request_of_parts, after_request, Becomes, with_chosen, without};
+ghost use Rattle.ignore_rules.specs.Building.{IsBuilt, IsChosen, IsChoiceProblem, IsRefusedWith, FirstBad};
 ghost use Rattle.ignore_rules.specs.Refusals.{IsRefusal};
 ghost use Rattle.ignore_rules.specs.Defaults.{with_rows};
 
 use crate::default_types::DEFAULT_TYPES;
+use crate::types::chosen::{ChosenType, read_globs};
 use crate::types::definition::FileTypeDef;
 use crate::types::definitions::Definitions;
+use crate::types::matcher::Types;
 use crate::types::name::is_allowed;
 use crate::types::parts::parts;
 use crate::types::selection::{Selection, selection_of, selections_of};
@@ -141,6 +144,33 @@ impl TypesBuilder {
         }
     }
 
+    /// The matcher of the types and choices so far. The builder can be used
+    /// further.
+    ///
+    /// # Errors
+    /// For the first choice that is refused, in the order of choosing:
+    /// `UnrecognizedFileType` with its name where no type has it, or `Glob` for
+    /// the first of the type's globs that has a fault; `Memory`.
+    pub fn build(&self) -> Result<Types, Error>
+        ensures built { IfOk result (IsBuilt self.now) }
+        ensures refused { IfErr result (λ e. (told e ≡ memory) ⊎ IsRefusedWith self.now (told e)) }
+    {
+        match self.chosen_types() {
+            Ok(choices) => match self.types.sorted_copies() {
+                Ok(definitions) => Ok(Types::new(definitions, choices)),
+                Err(_) => Err(Error::Memory),
+            },
+            Err(e) => Err(e),
+        }
+    }
+
+    fn chosen_types(&self) -> Result<Vec<ChosenType>, Error>
+        ensures built { IfOk result (λ all. AllZip (IsChosen self.now.definitions) self.now.choices all.items) }
+        ensures refused { IfErr result (λ e. (told e ≡ memory) ⊎ IsRefusedWith self.now (told e)) }
+    {
+        chosen_types(*self.selections.allocator(), &self.types, &self.selections)
+    }
+
     /// The types added so far, sorted by name, each with its globs sorted.
     ///
     /// # Errors
@@ -256,5 +286,57 @@ impl TypesBuilder {
             }
             Err(_) => Err(Error::Memory),
         }
+    }
+}
+
+fn chosen_types(
+    alloc: Global,
+    types: &Definitions,
+    selections: &[Selection],
+) -> Result<Vec<ChosenType>, Error>
+    ensures built { IfOk result (λ all. AllZip (IsChosen types.now) selections.now all.items) }
+    ensures refused { IfErr result (λ e. (told e ≡ memory) ⊎ FirstBad (IsChosen types.now) (IsChoiceProblem types.now (told e)) selections.now) }
+{
+    let mut all = Vec::new(alloc);
+    for selection in selections {
+        match chosen_type(alloc, types, selection) {
+            Ok(choice) => {
+                if let Err(_) = all.push(choice) {
+                    return Err(Error::Memory);
+                }
+            }
+            Err(e) => return Err(e),
+        }
+    }
+    Ok(all)
+}
+
+fn chosen_type(
+    alloc: Global,
+    types: &Definitions,
+    selection: &Selection,
+) -> Result<ChosenType, Error>
+    ensures built { IfOk result (IsChosen types.now selection.now) }
+    ensures refused { IfErr result (λ e. (told e ≡ memory) ⊎ IsChoiceProblem types.now (told e) selection.now) }
+{
+    match types.get(selection.name()) {
+        None => Err(unrecognized(alloc, selection.name())),
+        Some(definition) => match read_globs(alloc, definition.globs()) {
+            Ok(patterns) => match definition.clone() {
+                Ok(copy) => Ok(ChosenType::new(copy, patterns, selection.is_negated())),
+                Err(_) => Err(Error::Memory),
+            },
+            Err(e) => Err(e),
+        },
+    }
+}
+
+/// The error of a choice whose name no type has, or `Error::Memory`.
+fn unrecognized(alloc: Global, name: &str) -> Error
+    ensures { (told result ≡ memory) ⊎ (told result ≡ unrecognized name.now) }
+{
+    match String::from_str(alloc, name) {
+        Ok(name) => Error::UnrecognizedFileType(name),
+        Err(_) => Error::Memory,
     }
 }

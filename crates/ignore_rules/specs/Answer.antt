@@ -1,0 +1,55 @@
+-- What a list of rules answers.
+use Rattle.std.specs.Prelude.{◌≡◌, ◌⊎◌, ℕ, Bool, true, false, not, ◌&&◌, ◌||◌, List, [], ◌∷◌, ◌++◌, All, if◌then◌else◌}
+use Rattle.std.specs.Str.{chars}
+use Rattle.ignore_glob.specs.declared.match_result.Match.{Match}
+use Rattle.ignore_glob.specs.declared.match_result.Match.TheVariants.{None, Ignore, Whitelist}
+use Rattle.ignore_glob.specs.Match.{match_or}
+use Rattle.ignore_glob.specs.Paths.{strip_of}
+use Rattle.ignore_glob.specs.Reading.{Takes}
+use Rattle.ignore_rules.specs.Rules.{Rule}
+use Rattle.ignore_rules.specs.Taking.{does_take}
+
+-- whether the rule takes the text and speaks of the kind
+abbrev pub does_apply : List ℕ → Bool → Rule → Bool
+does_apply text is_dir rule = (not rule.is_only_dir || is_dir) && does_take rule.reading text
+
+-- what the rule says of a path where it decides
+abbrev pub told_by : Rule → Match Rule
+told_by rule = if rule.is_whitelist then Whitelist rule else Ignore rule
+
+-- what a rule says where it applies
+abbrev pub rule_answer : List ℕ → Bool → Rule → Match Rule
+rule_answer text is_dir rule = if does_apply text is_dir rule then told_by rule else None
+
+-- what the last rule that applies says: a later one overrides
+abbrev pub list_answer : List Rule → List ℕ → Bool → Match Rule
+list_answer [] text is_dir = None
+list_answer (rule ∷ rules) text is_dir = match_or (list_answer rules text is_dir) (rule_answer text is_dir rule)
+
+-- what rules relative to a root answer for a path
+abbrev pub answer : List ℕ → List Rule → List ℕ → Bool → Match Rule
+answer root rules path is_dir = list_answer rules (chars (strip_of root path)) is_dir
+
+-- The same in other words, with no order in which rules are asked.
+
+-- the rule takes the text, and a rule for directories is asked about one
+abbrev pub Applies : List ℕ → Bool → Rule → Type 0
+Applies text is_dir rule = ((rule.is_only_dir ≡ false) ⊎ (is_dir ≡ true)) × Takes rule.reading text
+
+-- the rule with the greatest index that applies
+pub record IsLast (rules : List Rule) (text : List ℕ) (is_dir : Bool) (rule : Rule) : Type 0 where
+  pub before : List Rule
+  pub after : List Rule
+  pub place : rules ≡ before ++ rule ∷ after
+  pub applies : Applies text is_dir rule
+  pub last : All (λ later. Applies text is_dir later → ⊥) after
+
+-- it decides by its flag; no match where no rule applies
+abbrev pub IsAnswer : List Rule → List ℕ → Bool → Match Rule → Type 0
+IsAnswer rules text is_dir None = All (λ rule. Applies text is_dir rule → ⊥) rules
+IsAnswer rules text is_dir (Ignore rule) = IsLast rules text is_dir rule × (rule.is_whitelist ≡ false)
+IsAnswer rules text is_dir (Whitelist rule) = IsLast rules text is_dir rule × (rule.is_whitelist ≡ true)
+
+-- whatever the rules, the text and the kind
+abbrev pub AnswersByTheLast : Type 0
+AnswersByTheLast = (rules : List Rule) (text : List ℕ) (is_dir : Bool) → IsAnswer rules text is_dir (list_answer rules text is_dir)

@@ -1,0 +1,81 @@
+-- What a line of a gitignore file says, before its pattern is read. A text is the list of its bytes.
+use Rattle.std.specs.Prelude.{◌==◌, ◌-◌, ℕ, Bool, not, ◌&&◌, ◌||◌, if◌then◌else◌, List, ◌++◌, length, take, drop, codes, nat_eq, Option, None, Some}
+use Rattle.std.specs.List.{starts_with, ends_with, list_any}
+use Rattle.std.specs.Str.{trim_end, bytes_eq}
+
+-- the text begins, or ends, with this one
+abbrev pub begins : List ℕ → List ℕ → Bool
+begins start text = starts_with nat_eq text start
+
+abbrev pub ends : List ℕ → List ℕ → Bool
+ends end text = ends_with nat_eq text end
+
+-- the text without this beginning, or this end, where it has it
+abbrev pub without_start : List ℕ → List ℕ → List ℕ
+without_start start text = if begins start text then drop (length start) text else text
+
+abbrev pub without_end : List ℕ → List ℕ → List ℕ
+without_end end text = if ends end text then take (length text - length end) text else text
+
+-- a `/` stands somewhere in the text
+abbrev pub has_slash : List ℕ → Bool
+has_slash text = list_any (λ c. c == 47) text
+
+-- trailing white space goes, unless the line ends with a backslash and one space
+abbrev pub trimmed : List ℕ → List ℕ
+trimmed line = if ends (codes "\\ ") line then line else trim_end line
+
+-- a comment, or nothing but white space
+abbrev pub is_silent : List ℕ → Bool
+is_silent line = begins (codes "#") line || length (trimmed line) == 0
+
+-- What follows speaks of a trimmed line.
+
+-- a leading `!` turns the rule round
+abbrev pub is_whitelist : List ℕ → Bool
+is_whitelist line = begins (codes "!") line
+
+-- then a leading `/` binds it to its root
+abbrev pub is_anchored : List ℕ → Bool
+is_anchored line = begins (codes "/") (without_start (codes "!") line)
+
+-- the first character is a `!` or a `#` for itself
+abbrev pub is_escaped : List ℕ → Bool
+is_escaped line = begins (codes "\\!") line || begins (codes "\\#") line
+
+-- the line without what stands before its pattern
+abbrev pub body : List ℕ → List ℕ
+body line = if is_escaped line then drop 1 line else without_start (codes "/") (without_start (codes "!") line)
+
+-- a final `/` speaks of directories only
+abbrev pub is_only_dir : List ℕ → Bool
+is_only_dir line = ends (codes "/") (body line)
+
+-- it goes, and a backslash directly before it goes too
+abbrev pub pattern : List ℕ → List ℕ
+pattern line = if is_only_dir line then without_end (codes "\\") (without_end (codes "/") (body line)) else body line
+
+-- without any slash and not bound to its root, it is asked at every depth
+abbrev pub is_floating : List ℕ → Bool
+is_floating line = (not (is_anchored line) && not (has_slash (pattern line))) && not (bytes_eq (pattern line) (codes "**"))
+
+abbrev pub placed : List ℕ → List ℕ
+placed line = if is_floating line then codes "**/" ++ pattern line else pattern line
+
+-- what takes all below a directory doesn't take the directory
+abbrev pub actual : List ℕ → List ℕ
+actual line = if ends (codes "/**") (placed line) then placed line ++ codes "/*" else placed line
+
+-- a line that says something
+pub record Written : Type 0 where
+  pub original : List ℕ
+  pub actual : List ℕ
+  pub is_whitelist : Bool
+  pub is_only_dir : Bool
+
+abbrev pub written_as : List ℕ → Written
+written_as line = record { original = line; actual = actual line; is_whitelist = is_whitelist line; is_only_dir = is_only_dir line }
+
+-- what a whole line says, if anything
+abbrev pub written : List ℕ → Option Written
+written line = if is_silent line then None else Some (written_as (trimmed line))

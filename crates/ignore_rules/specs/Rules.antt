@@ -1,0 +1,124 @@
+-- Rules, the list of them that a matcher asks, and what becomes of a line that a builder is given.
+use Rattle.std.specs.Prelude.{◌≡◌, ℕ, Bool, true, false, List, [], ◌∷◌, ◌++◌, Option, None, Some, not, count_by, refl, if◌then◌else◌, length, ◌==◌}
+use Rattle.std.specs.Coded.{Coded, code_by, coded×, coded_bool, coded_list, coded_option, coded_ℕ}
+use Rattle.std.specs.Str.{chars}
+use Rattle.ignore_glob.specs.declared.glob.options.Options.{Options}
+use Rattle.ignore_glob.specs.declared.glob.fault.GlobFault.{GlobFault}
+use Rattle.ignore_glob.specs.Glob.{Tokens}
+use Rattle.ignore_glob.specs.GlobFaults.{glob_fault_text}
+use Rattle.ignore_glob.specs.Paths.{trim_of}
+use Rattle.ignore_glob.specs.Problem.{Problem, glob}
+use Rattle.ignore_glob.specs.Reading.{Reading, reading_code}
+use Rattle.ignore_glob.specs.Row.{Reads, IsFaulty}
+use Rattle.ignore_rules.specs.Line.{Written, written}
+
+-- a rule: where it came from, its line, the glob that the line stands for, how that was read, and its two flags
+pub record Rule : Type 0 where
+  pub from : Option (List ℕ)
+  pub original : List ℕ
+  pub actual : List ℕ
+  pub is_whitelist : Bool
+  pub is_only_dir : Bool
+  pub reading : Reading
+
+-- how lines are read
+pub record LineOptions : Type 0 where
+  pub glob : Options
+
+-- a matcher: rules, and the directory that they are relative to
+pub record Ruleset : Type 0 where
+  pub root : List ℕ
+  pub rules : List Rule
+
+-- a builder: the same, and how the next line is read
+pub record Building : Type 0 where
+  pub root : List ℕ
+  pub rules : List Rule
+  pub options : LineOptions
+
+-- the rule of a line that says this, whose glob has this reading
+abbrev pub read_rule : Option (List ℕ) → Written → Reading → Rule
+read_rule from w reading =
+    record { from = from; original = w.original; actual = w.actual; is_whitelist = w.is_whitelist; is_only_dir = w.is_only_dir; reading = reading }
+
+-- what says this gives this rule, or none
+abbrev pub SaysRule : LineOptions → Option (List ℕ) → Option Written → Option Rule → Type 0
+SaysRule options from None given = given ≡ None
+SaysRule options from (Some w) given =
+    (tokens : Tokens) × Reads options.glob (chars w.actual) tokens
+    × (given ≡ Some (read_rule from w (record { tokens = tokens; case_insensitive = options.glob.case_insensitive })))
+
+-- the line gives this rule, or none
+abbrev pub GivesRule : LineOptions → Option (List ℕ) → List ℕ → Option Rule → Type 0
+GivesRule options from line given = SaysRule options from (written line) given
+
+-- what says this is refused, as its glob has a fault
+abbrev pub SaysFault : LineOptions → Option Written → Problem → Type 0
+SaysFault options None problem = ⊥
+SaysFault options (Some w) problem = (f : GlobFault) × IsFaulty options.glob (chars w.actual) f × (problem ≡ glob (Some w.original) (glob_fault_text f))
+
+-- the line is refused, with this problem
+abbrev pub Refuses : LineOptions → List ℕ → Problem → Type 0
+Refuses options line problem = SaysFault options (written line) problem
+
+-- the builder with one more rule, if any
+abbrev pub with_rule : Building → Option Rule → Building
+with_rule b None = b
+with_rule b (Some rule) = record { root = b.root; rules = b.rules ++ rule ∷ []; options = b.options }
+
+-- from the old builder to the new one, a line that says this was added
+abbrev pub AddsWritten : Building → Option (List ℕ) → Option Written → Building → Type 0
+AddsWritten old from says new = (given : Option Rule) × SaysRule old.options from says given × (new ≡ with_rule old given)
+
+-- from the old builder to the new one, a line was added
+abbrev pub AddsLine : Building → Option (List ℕ) → List ℕ → Building → Type 0
+AddsLine old from line new = AddsWritten old from (written line) new
+
+-- a builder at its start: no rules, both ASCII cases told apart, an unclosed class allowed
+abbrev pub begun : List ℕ → Building
+begun root =
+    record { root = trim_of root; rules = []; options = record { glob = record { case_insensitive = false; allow_unclosed_class = true } } }
+
+-- the builder with one option of later lines set
+abbrev pub with_case_insensitive : Building → Bool → Building
+with_case_insensitive b on =
+    record { root = b.root; rules = b.rules; options = record { glob = record { case_insensitive = on; allow_unclosed_class = b.options.glob.allow_unclosed_class } } }
+
+abbrev pub with_unclosed_class : Building → Bool → Building
+with_unclosed_class b on =
+    record { root = b.root; rules = b.rules; options = record { glob = record { case_insensitive = b.options.glob.case_insensitive; allow_unclosed_class = on } } }
+
+-- the matcher of no rules
+abbrev pub empty : Ruleset
+empty = record { root = []; rules = [] }
+
+-- the matcher of a builder's rules: without any it has no root either
+abbrev pub built : Building → Ruleset
+built b = if length b.rules == 0 then empty else record { root = b.root; rules = b.rules }
+
+abbrev pub whitelist_count : List Rule → ℕ
+whitelist_count rules = count_by (λ rule. rule.is_whitelist) rules
+
+abbrev pub ignore_count : List Rule → ℕ
+ignore_count rules = count_by (λ rule. not rule.is_whitelist) rules
+
+-- proofs tell two rules apart by their fields
+abbrev pub rule_code : Coded Rule
+rule_code =
+    code_by (Option (List ℕ) × (List ℕ × (List ℕ × (Bool × (Bool × Reading)))))
+    (coded× (coded_option (coded_list coded_ℕ)) (coded× (coded_list coded_ℕ) (coded× (coded_list coded_ℕ) (coded× coded_bool (coded× coded_bool reading_code)))))
+    (λ r. (r.from, (r.original, (r.actual, (r.is_whitelist, (r.is_only_dir, r.reading))))))
+    (λ p. record { from = p.0; original = p.1.0; actual = p.1.1.0; is_whitelist = p.1.1.1.0; is_only_dir = p.1.1.1.1.0; reading = p.1.1.1.1.1 })
+    (λ _. refl)
+
+abbrev pub ruleset_code : Coded Ruleset
+ruleset_code =
+    code_by (List ℕ × List Rule) (coded× (coded_list coded_ℕ) (coded_list rule_code)) (λ r. (r.root, r.rules)) (λ p. record { root = p.0; rules = p.1 }) (λ _. refl)
+
+abbrev pub building_code : Coded Building
+building_code =
+    code_by (List ℕ × (List Rule × (Bool × Bool)))
+    (coded× (coded_list coded_ℕ) (coded× (coded_list rule_code) (coded× coded_bool coded_bool)))
+    (λ b. (b.root, (b.rules, (b.options.glob.case_insensitive, b.options.glob.allow_unclosed_class))))
+    (λ p. record { root = p.0; rules = p.1.0; options = record { glob = record { case_insensitive = p.1.1.0; allow_unclosed_class = p.1.1.1 } } })
+    (λ _. refl)

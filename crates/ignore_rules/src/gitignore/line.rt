@@ -1,0 +1,170 @@
+//! What one line says, before its pattern is read.
+ghost use Rattle.std.specs.Prelude.{◌≡◌, ◌⊎◌, IfOk, Some, string_bytes};
+ghost use Rattle.ignore_glob.specs.GlobFaults.{glob_fault_text};
+ghost use Rattle.ignore_glob.specs.Problem.{told, memory, glob};
+ghost use Rattle.ignore_rules.specs.Line.{begins, ends, without_start, without_end, has_slash, trimmed, is_escaped, is_anchored, body, pattern, is_floating, placed, actual, written};
+
+use ignore_glob::Error;
+use ignore_glob::glob::GlobFault;
+use memchr::memchr;
+use std::alloc::{AllocError, Global};
+use std::marker::Model;
+
+/// A line that says something: neither blank nor a comment.
+#[derive(Drop)]
+pub struct Written {
+    pub original: String,
+    pub actual: String,
+    pub is_whitelist: bool,
+    pub is_only_dir: bool,
+}
+
+impl Model for Written {
+    ghost use Rattle.std.specs.Prelude.{string_bytes};
+    ghost use Rattle.ignore_rules.specs.Line.{Written as Says};
+
+    ghost Value = { Says };
+
+    ghost view = { λ w. record { original = string_bytes w.original; actual = string_bytes w.actual; is_whitelist = w.is_whitelist; is_only_dir = w.is_only_dir } };
+}
+
+impl Written {
+    /// What the line says, if anything.
+    pub fn of(alloc: Global, line: &str) -> Result<Option<Written>, AllocError>
+        ensures { IfOk result (λ says. says ≡ written line.now) }
+    {
+        let text = trimmed(line);
+        if begins(line, "#") || text.is_empty() {
+            return Ok(None);
+        }
+        let original = String::from_str(alloc, text)?;
+        let actual = actual(alloc, text)?;
+        Ok(Some(Written {
+            original,
+            actual,
+            is_whitelist: begins(text, "!"),
+            is_only_dir: ends(body(text), "/"),
+        }))
+    }
+
+    pub fn actual(&self) -> &str
+        ensures { result.now ≡ self.now.actual }
+    {
+        self.actual.as_str()
+    }
+
+    /// The error of a line whose glob has this fault, or `Error::Memory`.
+    pub fn refused(self, alloc: Global, fault: GlobFault) -> Error
+        ensures { (told result ≡ memory) ⊎ (told result ≡ glob (Some self.original) (glob_fault_text fault)) }
+    {
+        match format!(in alloc; "{fault}") {
+            Ok(err) => Error::Glob {
+                glob: Some(self.original),
+                err,
+            },
+            Err(_) => Error::Memory,
+        }
+    }
+}
+
+fn actual(alloc: Global, line: &str) -> Result<String, AllocError>
+    ensures { IfOk result (λ text. string_bytes text ≡ actual line.now) }
+{
+    let mut text = placed(alloc, line)?;
+    if ends(text.as_str(), "/**") {
+        text.push_str("/*")?;
+    }
+    Ok(text)
+}
+
+fn placed(alloc: Global, line: &str) -> Result<String, AllocError>
+    ensures { IfOk result (λ text. string_bytes text ≡ placed line.now) }
+{
+    let pattern = pattern(line);
+    if !is_floating(line) {
+        return String::from_str(alloc, pattern);
+    }
+    let mut text = String::from_str(alloc, "**/")?;
+    text.push_str(pattern)?;
+    Ok(text)
+}
+
+fn is_floating(line: &str) -> bool
+    ensures { result ≡ is_floating line.now }
+{
+    let pattern = pattern(line);
+    !is_anchored(line) && !has_slash(pattern) && pattern != "**"
+}
+
+fn pattern(line: &str) -> &str
+    ensures { result.now ≡ pattern line.now }
+{
+    let body = body(line);
+    if ends(body, "/") {
+        without_end(without_end(body, "/"), "\\")
+    } else {
+        body
+    }
+}
+
+fn body(line: &str) -> &str
+    ensures { result.now ≡ body line.now }
+{
+    if is_escaped(line) {
+        without_start(line, "\\")
+    } else {
+        without_start(without_start(line, "!"), "/")
+    }
+}
+
+fn is_escaped(line: &str) -> bool
+    ensures { result ≡ is_escaped line.now }
+{
+    begins(line, "\\!") || begins(line, "\\#")
+}
+
+fn is_anchored(line: &str) -> bool
+    ensures { result ≡ is_anchored line.now }
+{
+    begins(without_start(line, "!"), "/")
+}
+
+fn trimmed(line: &str) -> &str
+    ensures { result.now ≡ trimmed line.now }
+{
+    if ends(line, "\\ ") {
+        line
+    } else {
+        line.trim_end()
+    }
+}
+
+fn has_slash(text: &str) -> bool
+    ensures { result ≡ has_slash text.now }
+{
+    memchr(b'/', text.as_bytes()).is_some()
+}
+
+fn begins(text: &str, start: &str) -> bool
+    ensures { result ≡ begins start.now text.now }
+{
+    text.starts_with(start)
+}
+
+fn ends(text: &str, end: &str) -> bool
+    ensures { result ≡ ends end.now text.now }
+{
+    text.ends_with(end)
+}
+
+fn without_start<'a>(text: &'a str, start: &str) -> &'a str
+    ensures { result.now ≡ without_start start.now text.now }
+{
+    text.strip_prefix(start).unwrap_or(text)
+}
+
+fn without_end<'a>(text: &'a str, end: &str) -> &'a str
+    ensures { result.now ≡ without_end end.now text.now }
+{
+    text.strip_suffix(end).unwrap_or(text)
+}
