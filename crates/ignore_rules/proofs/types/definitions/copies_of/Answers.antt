@@ -1,8 +1,8 @@
 -- One more copy.
-use Rattle.std.proofs.Common.{sym, subst, take, ◌+◌, ◌++◌, ◌∷◌, []}
+use Rattle.std.proofs.Common.{sym, subst, take, ◌+◌}
 use Rattle.std.specs.List.{AllZip}
 use Rattle.std.proofs.lemmas.List.Elements.{all_zip_more}
-use Rattle.ignore_rules.specs.Types.{Definition, IsSortedCopy}
+use Rattle.ignore_rules.specs.Types.{IsSortedCopy}
 use Rattle.ignore_rules.proofs.types.definitions.copies_of.Goals as goal
 
 pub loop-definition-preserved : goal.loop-definition-preserved
