@@ -8,7 +8,7 @@ use Rattle.ignore_glob.specs.GlobFaults.{glob_fault_text}
 use Rattle.ignore_glob.specs.Problem.{Problem, glob, unrecognized}
 use Rattle.ignore_glob.specs.Reading.{Reading}
 use Rattle.ignore_glob.specs.Row.{Reads, IsFaulty}
-use Rattle.ignore_rules.specs.Types.{Definition, Choice, Draft, definition_of, IsSortedCopy}
+use Rattle.ignore_rules.specs.Types.{Definition, Choice, Draft, definition_of, IsSortedCopy, IsAscending}
 use Rattle.ignore_rules.specs.TypeMatch.{Chosen, Matcher}
 
 -- the globs of types are read with both options off
@@ -26,9 +26,10 @@ pub record IsChosen (definitions : List Definition) (choice : Choice) (chosen : 
   pub readings : AllZip IsReadAs chosen.definition.globs chosen.readings
   pub negated : chosen.negated ≡ choice.negated
 
--- a draft becomes this matcher: its definitions sorted, and each choice in its place
+-- a draft becomes this matcher: its definitions sorted by name, the globs of each sorted, and each choice in its place
 pub record IsBuilt (draft : Draft) (matcher : Matcher) : Type 0 where
   pub definitions : AllZip IsSortedCopy draft.definitions matcher.definitions
+  pub by_name : IsAscending matcher.definitions
   pub choices : AllZip (IsChosen draft.definitions) draft.choices matcher.choices
 
 -- one of the list is bad, and to each before it something good belongs

@@ -17,6 +17,10 @@ macro_rules! again {
 #[cfg(test)]
 mod errors;
 #[cfg(test)]
+mod gitignores;
+#[cfg(test)]
 mod globs;
 #[cfg(test)]
 mod text;
+#[cfg(test)]
+mod types;
