@@ -10,3 +10,7 @@ pub mod ExcludesLines
 pub mod ExcludesOnly
 pub mod ExcludesHome
 pub mod ExcludesPlaces
+mod TextOrder
+mod TypeLemmas
+mod ListLemmas
+mod ChoiceLemmas

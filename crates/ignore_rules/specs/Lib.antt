@@ -4,3 +4,10 @@ pub mod Rules
 pub mod Answer
 pub mod Excludes
 pub mod ExcludesSearch
+pub mod TypeNames
+pub mod Types
+pub mod Places
+pub mod Refusals
+pub mod Defaults
+pub mod TypeMatch
+pub mod Building

@@ -26,3 +26,5 @@ mod globs;
 mod text;
 #[cfg(test)]
 mod trees;
+#[cfg(test)]
+mod types;

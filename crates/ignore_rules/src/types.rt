@@ -1,0 +1,13 @@
+//! File types: globs under a name, and which of them are chosen.
+mod builder;
+mod chosen;
+mod definition;
+mod definitions;
+mod matcher;
+mod name;
+mod parts;
+mod selection;
+
+pub use builder::TypesBuilder;
+pub use definition::FileTypeDef;
+pub use matcher::{Glob, Types};
