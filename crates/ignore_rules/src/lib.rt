@@ -1,5 +1,4 @@
-//! Rules over paths: the lines and files of gitignore(5), and the excludes file of git's configuration.
-//! Rules over paths: from the lines of gitignore files, and by file types.
+//! Rules over paths: the lines and files of gitignore(5), the excludes file of git's configuration, and file types.
 #![tactic(auto)]
 
 pub mod default_types;
