@@ -59,6 +59,7 @@ pattern line = if is_only_dir line then without_end (codes "\\") (without_end (c
 abbrev pub is_floating : List ℕ → Bool
 is_floating line = (not (is_anchored line) && not (has_slash (pattern line))) && not (bytes_eq (pattern line) (codes "**"))
 
+-- the pattern, with `**/` before it where it floats
 abbrev pub placed : List ℕ → List ℕ
 placed line = if is_floating line then codes "**/" ++ pattern line else pattern line
 
@@ -73,6 +74,7 @@ pub record Written : Type 0 where
   pub is_whitelist : Bool
   pub is_only_dir : Bool
 
+-- what a trimmed line says
 abbrev pub written_as : List ℕ → Written
 written_as line = record { original = line; actual = actual line; is_whitelist = is_whitelist line; is_only_dir = is_only_dir line }
 
