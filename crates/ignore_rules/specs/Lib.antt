@@ -11,3 +11,4 @@ pub mod Refusals
 pub mod Defaults
 pub mod TypeMatch
 pub mod Building
+pub mod Overrides

@@ -3,4 +3,5 @@
 
 pub mod default_types;
 pub mod gitignore;
+pub mod overrides;
 pub mod types;

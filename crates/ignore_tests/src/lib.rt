@@ -23,6 +23,8 @@ mod gitignores;
 #[cfg(test)]
 mod globs;
 #[cfg(test)]
+mod overrides;
+#[cfg(test)]
 mod text;
 #[cfg(test)]
 mod trees;

@@ -61,6 +61,13 @@ impl Gitignore {
         self.globs.is_empty()
     }
 
+    /// For the crates above: the rules, in the order in which they were added.
+    pub fn rules(&self) -> &[Glob]
+        ensures { result.now ≡ self.now.rules }
+    {
+        self.globs.as_slice()
+    }
+
     /// How many rules there are: those that ignore and those that whitelist.
     pub fn len(&self) -> usize
         ensures rules { result ≡ length self.now.rules }

@@ -1,0 +1,235 @@
+//! Globs of a command line, which say what may be seen and override every ignore file.
+//!
+//! They are gitignore globs with the meaning turned round: a glob lets through what it takes, and
+//! one behind a `!` hides it.
+ghost use Rattle.std.specs.Prelude.{◌≡◌, ◌⊎◌, ◌==◌, None, false, IfOk, IfErr, IsOk, OnOk, OnErr, length};
+ghost use Rattle.ignore_glob.specs.Problem.{told, memory};
+ghost use Rattle.ignore_rules.specs.Overrides.{has_whitelist, override_answer};
+ghost use Rattle.ignore_rules.specs.Rules.{begun, empty, built, AddsLine, Refuses, ignore_count, whitelist_count, with_case_insensitive, with_unclosed_class};
+
+use crate::gitignore;
+use crate::gitignore::{Gitignore, GitignoreBuilder};
+use ignore_glob::{Error, Match};
+use std::alloc::{AllocError, Global};
+use std::marker::Model;
+
+/// What decided an answer: a glob, or that no glob took the path.
+#[derive(Debug, Drop)]
+pub struct Glob<'a> {
+    rule: Option<&'a gitignore::Glob>,
+}
+
+impl<'a> Model for Glob<'a> {
+    ghost use Rattle.std.specs.Prelude.{Option};
+    ghost use Rattle.std.specs.Option.{option_copied};
+    ghost use Rattle.std.specs.Coded.{coded_option};
+    ghost use Rattle.ignore_rules.specs.Rules.{Rule, rule_code};
+
+    ghost Value = { Option Rule };
+
+    ghost coded = { coded_option rule_code };
+
+    ghost view = { λ g. option_copied g.rule };
+}
+
+impl<'a> Clone for Glob<'a> {
+    ghost use Rattle.std.specs.Prelude.{◌≡◌};
+
+    ghost is_clone = { λ g copy. copy ≡ g };
+
+    fn clone(&self) -> Result<Glob<'a>, AllocError> {
+        Ok(Glob { rule: self.rule })
+    }
+}
+
+/// The globs of a command line, relative to a root.
+#[derive(Debug, Drop)]
+pub struct Override {
+    globs: Gitignore,
+}
+
+impl Model for Override {
+    ghost use Rattle.ignore_rules.specs.Rules.{Ruleset, ruleset_code};
+
+    ghost Value = { Ruleset };
+
+    ghost coded = { ruleset_code };
+
+    ghost view = { λ o. o.globs };
+}
+
+impl Override {
+    /// No globs: every path has no match.
+    pub fn empty(alloc: Global) -> Override
+        ensures { result ≡ empty }
+    {
+        Override {
+            globs: Gitignore::empty(alloc),
+        }
+    }
+
+    /// The directory that the globs are relative to; the empty text where there are none.
+    pub fn path(&self) -> &str
+        ensures { result.now ≡ self.now.root }
+    {
+        self.globs.path()
+    }
+
+    /// Whether there are no globs, so that no path has a match.
+    pub fn is_empty(&self) -> bool
+        ensures { result ≡ (length self.now.rules == 0) }
+    {
+        self.globs.is_empty()
+    }
+
+    /// How many globs hide what they take: those behind a `!`.
+    pub fn num_ignores(&self) -> u64
+        ensures { result ≡ whitelist_count self.now.rules }
+    {
+        self.globs.num_whitelists()
+    }
+
+    /// How many globs let through what they take.
+    pub fn num_whitelists(&self) -> u64
+        ensures { result ≡ ignore_count self.now.rules }
+    {
+        self.globs.num_ignores()
+    }
+
+    /// What the globs say of a path: the last one that takes it and speaks of its kind decides, and
+    /// lets it through, or hides it where it stands behind a `!`. Where some glob lets through and
+    /// none takes the path, a file is hidden and a directory has no match, since what is below it
+    /// may be let through.
+    ///
+    /// # Errors
+    /// `Error::Memory` alone.
+    pub fn matched(&self, path: &str, is_dir: bool) -> Result<Match<Glob<'_>>, Error>
+        ensures answered { IfOk result (λ m. m ≡ override_answer self.now path.now is_dir) }
+        ensures refused { IfErr result (λ e. told e ≡ memory) }
+    {
+        match self.globs.matched(path, is_dir) {
+            Ok(Match::Ignore(rule)) => Ok(Match::Whitelist(Glob { rule: Some(rule) })),
+            Ok(Match::Whitelist(rule)) => Ok(Match::Ignore(Glob { rule: Some(rule) })),
+            Ok(Match::None) if !is_dir && has_whitelist(&self.globs) => {
+                Ok(Match::Ignore(Glob { rule: None }))
+            }
+            Ok(Match::None) => Ok(Match::None),
+            Err(error) => Err(error),
+        }
+    }
+}
+
+/// Whether some glob lets through what it takes.
+fn has_whitelist(globs: &Gitignore) -> bool
+    ensures { result ≡ has_whitelist globs.now.rules }
+{
+    globs.rules().iter().any(|rule| !rule.is_whitelist())
+}
+
+/// Builds the globs of a command line, in order.
+#[derive(Debug, Drop)]
+pub struct OverrideBuilder {
+    globs: GitignoreBuilder,
+}
+
+impl Model for OverrideBuilder {
+    ghost use Rattle.ignore_rules.specs.Rules.{Building, building_code};
+
+    ghost Value = { Building };
+
+    ghost coded = { building_code };
+
+    ghost view = { λ b. b.globs };
+}
+
+impl OverrideBuilder {
+    /// A builder of no globs, relative to the directory `root`, of which one leading `./` goes.
+    /// Letters are told apart by case, and an unclosed class is a fault.
+    ///
+    /// # Errors
+    /// `Error::Memory` alone.
+    pub fn new(alloc: Global, root: &str) -> Result<OverrideBuilder, Error>
+        ensures ok { IfOk result (λ b. b ≡ with_unclosed_class (begun root.now) false) }
+        ensures refused { IfErr result (λ e. told e ≡ memory) }
+    {
+        match GitignoreBuilder::new(alloc, root) {
+            Ok(mut globs) => {
+                globs.allow_unclosed_class(false);
+                Ok(OverrideBuilder { globs })
+            }
+            Err(error) => Err(error),
+        }
+    }
+
+    /// Adds a glob, read as a line of a gitignore file is: one behind a `!` hides what it takes.
+    ///
+    /// # Errors
+    /// `Error::Glob` with the glob and its fault, or `Error::Memory`. After an error the builder is
+    /// as before, which `push` states.
+    pub fn add(&mut self, glob: &str) -> Result<&mut Self, Error>
+        ensures same_reference { IfOk result (λ b. b.ghost_name ≡ self.entry.ghost_name) }
+        ensures added { IfOk result (λ b. AddsLine self.old None glob.now b.now) }
+        ensures refused { IfErr result (λ e. (told e ≡ memory) ⊎ Refuses self.old.options glob.now (told e)) }
+    {
+        match self.push(glob) {
+            Ok(()) => Ok(self),
+            Err(error) => Err(error),
+        }
+    }
+
+    /// For the crates above: as `add`, without the builder in the answer.
+    pub fn push(&mut self, glob: &str) -> Result<(), Error>
+        ensures added { OnOk result (AddsLine self.old None glob.now self.new) }
+        ensures refused { IfErr result (λ e. (told e ≡ memory) ⊎ Refuses self.old.options glob.now (told e)) }
+        ensures unchanged { OnErr result (self.new ≡ self.old) }
+    {
+        self.globs.push_line(None, glob)
+    }
+
+    /// The globs added so far, in their order; the builder can be used further.
+    ///
+    /// # Errors
+    /// `Error::Memory` alone.
+    pub fn build(&self) -> Result<Override, Error>
+        ensures ok { IfOk result (λ o. o ≡ built self.now) }
+        ensures refused { IfErr result (λ e. told e ≡ memory) }
+    {
+        match self.globs.build() {
+            Ok(globs) => Ok(Override { globs }),
+            Err(error) => Err(error),
+        }
+    }
+
+    /// Whether later globs take both ASCII cases of a letter. It is off at first, and always `Ok`.
+    pub fn case_insensitive(&mut self, yes: bool) -> Result<&mut Self, Error>
+        ensures ok { IsOk result }
+        ensures same_reference { IfOk result (λ b. b.ghost_name ≡ self.entry.ghost_name) }
+        ensures value { IfOk result (λ b. b.now ≡ with_case_insensitive self.old yes) }
+    {
+        match self.globs.case_insensitive(yes) {
+            Ok(_) => Ok(self),
+            Err(error) => Err(error),
+        }
+    }
+
+    /// Whether in later globs a `[` that nothing closes stands for itself. It is off at first.
+    pub fn allow_unclosed_class(&mut self, yes: bool) -> &mut Self
+        ensures same_reference { result.ghost_name ≡ self.entry.ghost_name }
+        ensures value { result.now ≡ with_unclosed_class self.old yes }
+    {
+        self.globs.allow_unclosed_class(yes);
+        self
+    }
+}
+
+impl Clone for Override {
+    ghost use Rattle.std.specs.Prelude.{◌≡◌};
+
+    ghost is_clone = { λ o p. p ≡ o };
+
+    fn clone(&self) -> Result<Override, AllocError> {
+        Ok(Override {
+            globs: self.globs.clone()?,
+        })
+    }
+}
