@@ -371,7 +371,7 @@ const FOLDERS: &[(&str, &[u8], bool)] = &[
     ("/etc/gitconfig", b"excludesfile = ~/e", false),
 ];
 
-const WITH_A_VALUE: [Place; 16] = [
+const WITH_ALL: [Place; 9] = [
     (
         ALL,
         [Some("/h"), Some("/x"), Some("/g"), Some("/s")],
@@ -397,6 +397,9 @@ const WITH_A_VALUE: [Place; 16] = [
     (ALL, [None, None, None, Some("")], Some("~/e")),
     (ALL, [None, Some(""), Some(""), None], Some("~/e")),
     (ALL, [Some(""), None, None, None], Some("/.")),
+];
+
+const WITHOUT_SOME: [Place; 7] = [
     (FOLDERS, [Some("/h"), Some("/x"), None, None], Some("/h/x")),
     (FOLDERS, [Some("/h"), Some(""), None, None], Some("/h/c")),
     (FOLDERS, [Some("/no"), None, None, None], Some("/no/e")),
@@ -470,18 +473,49 @@ fn leads(alloc: Global, places: &[Place]) -> Result<bool, Error> {
 }
 
 #[test]
-fn values_of_configurations(rt: HostRuntime) -> Result<(), Fail> {
+fn plain_values(rt: HostRuntime) -> Result<(), Fail> {
     assert!(rt; again!(agrees(rt.alloc(), &PLAIN)));
+    Ok(())
+}
+
+#[test]
+fn white_space_around_values(rt: HostRuntime) -> Result<(), Fail> {
     assert!(rt; again!(agrees(rt.alloc(), &SPACE)));
+    Ok(())
+}
+
+#[test]
+fn quotes_around_values(rt: HostRuntime) -> Result<(), Fail> {
     assert!(rt; again!(agrees(rt.alloc(), &QUOTES)));
+    Ok(())
+}
+
+#[test]
+fn first_keys(rt: HostRuntime) -> Result<(), Fail> {
     assert!(rt; again!(agrees(rt.alloc(), &KEYS)));
     Ok(())
 }
 
 #[test]
-fn places_of_configurations(rt: HostRuntime) -> Result<(), Fail> {
+fn without_a_value(rt: HostRuntime) -> Result<(), Fail> {
     assert!(rt; again!(leads(rt.alloc(), &WITHOUT_A_VALUE)));
-    assert!(rt; again!(leads(rt.alloc(), &WITH_A_VALUE)));
+    Ok(())
+}
+
+#[test]
+fn with_every_configuration(rt: HostRuntime) -> Result<(), Fail> {
+    assert!(rt; again!(leads(rt.alloc(), &WITH_ALL)));
+    Ok(())
+}
+
+#[test]
+fn with_some_configurations(rt: HostRuntime) -> Result<(), Fail> {
+    assert!(rt; again!(leads(rt.alloc(), &WITHOUT_SOME)));
+    Ok(())
+}
+
+#[test]
+fn past_a_configuration_without_a_value(rt: HostRuntime) -> Result<(), Fail> {
     assert!(rt; again!(leads(rt.alloc(), &GOES_ON)));
     Ok(())
 }
