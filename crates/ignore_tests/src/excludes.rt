@@ -1,564 +1,211 @@
 //! The excludes file: the values of configurations, and the places where configurations are looked for.
-use ignore_files::{
-    Bytes, Contents, Env, Fault, Files, Identity, Listing, Metadata, Name, Refusal,
-};
+
+use ignore_files::{Env, Fault, MemoryTree, Name, TreeError};
 use ignore_glob::Error;
 use ignore_rules::gitignore::gitconfig_excludes_path;
 use std::alloc::{AllocError, Global};
 use std::test::Fail;
 
-/// Files that have contents alone: a path, its bytes, and whether reading ends with a fault behind them.
-#[derive(Drop)]
-struct Written {
-    files: &'static [(&'static str, &'static [u8], bool)],
+/// The folders of a user and of the system, without files.
+fn folders(alloc: Global) -> Result<MemoryTree, TreeError> {
+    let mut tree = MemoryTree::new(alloc, "/")?;
+    for folder in ["/h", "/h/.config", "/h/.config/git", "/x", "/x/git", "/etc"] {
+        tree.add_dir(folder)?;
+    }
+    Ok(tree)
 }
 
-impl Files for Written {
-    fn stat(&self, _alloc: Global, _path: &str, _follow: bool) -> Result<Metadata, Refusal> {
-        Err(Refusal::Fault(Fault::NotFound))
+/// A variable: `-` is one that isn't set.
+fn variable(alloc: Global, text: &str) -> Result<Option<Name>, AllocError> {
+    if text == "-" {
+        return Ok(None);
     }
-
-    fn list(&self, _alloc: Global, _path: &str) -> Result<Listing, Refusal> {
-        Err(Refusal::Fault(Fault::NotFound))
-    }
-
-    fn contents(&self, alloc: Global, path: &str) -> Result<Contents, Refusal> {
-        for file in self.files {
-            if file.0 == path {
-                let bytes = Bytes::new(Vec::from_slice(alloc, file.1)?);
-                let fault = if file.2 { Some(Fault::Other) } else { None };
-                return Ok(Contents { bytes, fault });
-            }
-        }
-        Err(Refusal::Fault(Fault::NotFound))
-    }
-
-    fn canonical(&self, _alloc: Global, _path: &str) -> Result<Name, Refusal> {
-        Err(Refusal::Fault(Fault::NotFound))
-    }
-
-    fn identity(
-        &self,
-        _alloc: Global,
-        _path: &str,
-        _follow: bool,
-    ) -> Result<Option<Identity>, Refusal> {
-        Ok(None)
-    }
+    Ok(Some(Name::new(String::from_str(alloc, text)?)))
 }
 
-/// The variables of an environment: home, the user's folder, the two files of git.
-type Variables = [Option<&'static str>; 4];
-
-fn name(alloc: Global, text: Option<&str>) -> Result<Option<Name>, AllocError> {
-    match text {
-        None => Ok(None),
-        Some(text) => Ok(Some(Name::new(String::from_str(alloc, text)?))),
-    }
-}
-
-fn env(alloc: Global, variables: &Variables) -> Result<Env, AllocError> {
+fn environment(alloc: Global, variables: [&str; 4]) -> Result<Env, AllocError> {
     Ok(Env {
         current_dir: None,
-        home: name(alloc, variables[0])?,
-        xdg_config_home: name(alloc, variables[1])?,
-        git_config_global: name(alloc, variables[2])?,
-        git_config_system: name(alloc, variables[3])?,
+        home: variable(alloc, variables[0])?,
+        xdg_config_home: variable(alloc, variables[1])?,
+        git_config_global: variable(alloc, variables[2])?,
+        git_config_system: variable(alloc, variables[3])?,
     })
 }
 
-fn found(
-    alloc: Global,
-    files: &'static [(&'static str, &'static [u8], bool)],
-    variables: &Variables,
-) -> Result<Option<String>, Error> {
-    let env = env(alloc, variables)?;
-    gitconfig_excludes_path(alloc, &Written { files }, &env)
+/// The configuration of the system, where nothing else is set, and its value; the empty text is none.
+const VALUES: [(&str, &str); 43] = [
+    ("excludesfile = /x", "/x"),
+    ("excludesfile=/x\n", "/x"),
+    ("[core]\n\texcludesFile = /x\n", "/x"),
+    (
+        "[user]\nname = a b\n[core]\nEXCLUDESFILE = /x\n[http]\n",
+        "/x",
+    ),
+    ("", ""),
+    ("[core]\nignorecase = true\n", ""),
+    ("excludesfile", ""),
+    ("excludesfile =", ""),
+    ("excludesfile =\n\n", ""),
+    ("core.excludesfile = /x\n", ""),
+    ("# excludesfile = /x\n", ""),
+    ("excludesfiles = /x\n", ""),
+    ("\r\n \x0b\x0cexcludesfile\t=\t/x\r\n", "/x"),
+    ("[core]\nEXCLUDESFILE =\n/x", "/x"),
+    ("excludesfile\n\n=\n\n/x", "/x"),
+    ("excludesfile = /x \n\n\t", "/x"),
+    ("excludesfile = /x y\n", ""),
+    ("excludesfile = /x ; note\n", ""),
+    ("a excludesfile = /x\n", ""),
+    ("a\r excludesfile = /x\n", ""),
+    ("a\r\nexcludesfile = /x\n", "/x"),
+    ("excludesfile = /a\x1cb\n", "/a\u{1c}b"),
+    ("excludesfile = \"/x\"\n", "/x"),
+    ("excludesfile = \" /x \" \n", "/x"),
+    ("excludesfile = \"\n/x\n\"\n", "/x"),
+    ("excludesfile = \"/x\n", "/x"),
+    ("excludesfile = /x\"\n", "/x"),
+    ("excludesfile = /x \"\n", "/x"),
+    ("excludesfile = /x \"\" \n", ""),
+    ("excludesfile = /x\"y\n", "/x\"y"),
+    ("excludesfile = \"\"/x\"\"\n", "\"/x\""),
+    ("excludesfile = \"", "\""),
+    ("excludesfile = \"\"", "\""),
+    ("excludesfile = \"\"\"", "\""),
+    ("[core]\nexcludesFile = \" \"~/foo/bar \" \"", ""),
+    ("excludesfile = \" \" \"\n", "\""),
+    ("excludesfile = \" \" \n", "\""),
+    ("excludesfile = /x\nexcludesfile = /y\n", "/x"),
+    ("excludesfile = a b\nexcludesfile = /y\n", "/y"),
+    ("excludesfile =\nexcludesfile = /y\n", "/y"),
+    ("excludesfile =\nexcludesfile\n= /y\n", "excludesfile"),
+    ("excludesfile /x\nexcludesfile = /y\n", "/y"),
+    ("excludesfile = ~/x~\n", "~/x~"),
+];
+
+/// The same, of bytes that are no text.
+const ODD_VALUES: [(&[u8], &str); 3] = [
+    (b"excludesfile = /\xff\nexcludesfile = /y\n", ""),
+    (b"\xff\nexcludesfile = /\xc3\xa9\n", "/é"),
+    (b"excludesfile = \xc2\xa0x\n", "\u{a0}x"),
+];
+
+fn with_configuration(alloc: Global, bytes: &[u8]) -> Result<MemoryTree, TreeError> {
+    let mut tree = folders(alloc)?;
+    tree.add_file("/etc/gitconfig", bytes)?;
+    Ok(tree)
 }
 
-/// A configuration of the system, where nothing else is set, with its value.
-type Row = (
-    &'static [(&'static str, &'static [u8], bool)],
-    Option<&'static str>,
-);
+fn value_of(alloc: Global, bytes: &[u8]) -> Result<Option<String>, Error> {
+    let Ok(tree) = with_configuration(alloc, bytes) else {
+        return Err(Error::Memory);
+    };
+    let env = environment(alloc, ["-", "-", "-", "-"])?;
+    gitconfig_excludes_path(alloc, &tree, &env)
+}
 
-const PLAIN: [Row; 12] = [
-    (
-        &[("/etc/gitconfig", b"excludesfile = /x", false)],
-        Some("/x"),
-    ),
-    (
-        &[("/etc/gitconfig", b"excludesfile=/x\n", false)],
-        Some("/x"),
-    ),
-    (
-        &[("/etc/gitconfig", b"[core]\n\texcludesFile = /x\n", false)],
-        Some("/x"),
-    ),
-    (
-        &[(
-            "/etc/gitconfig",
-            b"[user]\nname = a b\n[core]\nEXCLUDESFILE = /x\n[http]\n",
-            false,
-        )],
-        Some("/x"),
-    ),
-    (&[("/etc/gitconfig", b"", false)], None),
-    (
-        &[("/etc/gitconfig", b"[core]\nignorecase = true\n", false)],
-        None,
-    ),
-    (&[("/etc/gitconfig", b"excludesfile", false)], None),
-    (&[("/etc/gitconfig", b"excludesfile =", false)], None),
-    (&[("/etc/gitconfig", b"excludesfile =\n\n", false)], None),
-    (
-        &[("/etc/gitconfig", b"core.excludesfile = /x\n", false)],
-        None,
-    ),
-    (&[("/etc/gitconfig", b"# excludesfile = /x\n", false)], None),
-    (&[("/etc/gitconfig", b"excludesfiles = /x\n", false)], None),
-];
+#[test]
+fn values_of_configurations(rt: HostRuntime) -> Result<(), Fail> {
+    for (text, wanted) in VALUES {
+        let value = again!(value_of(rt.alloc(), text.as_bytes()));
+        let got = value.as_deref().unwrap_or("");
+        assert_eq!(rt; got, wanted, "{text}");
+    }
+    for (bytes, wanted) in ODD_VALUES {
+        let value = again!(value_of(rt.alloc(), bytes));
+        let got = value.as_deref().unwrap_or("");
+        assert_eq!(rt; got, wanted);
+    }
+    Ok(())
+}
 
-const SPACE: [Row; 10] = [
+/// All files, those of the system, and those of the folders, each with its text.
+const ALL: &str =
+    "/g=excludesfile = ~/g|/h/.gitconfig=excludesfile = ~/h|/h/.config/git/config=excludesfile = ~/c|/x/git/config=excludesfile = ~/x|/s=excludesfile = ~/s|/etc/gitconfig=excludesfile = ~/e|/.gitconfig=excludesfile = ~/.";
+
+const SYSTEM: &str = "/s=excludesfile = ~/s|/etc/gitconfig=excludesfile = ~/e~";
+
+const FOLDERS: &str =
+    "/h/.config/git/config=excludesfile = ~/c|/x/git/config=excludesfile = ~/x|/etc/gitconfig=excludesfile = ~/e";
+
+/// Files, home, the user's folder, the two files of git, and the path; `-` is none, and `!` before a file stands for a fault behind its text.
+const PLACES: [(&str, [&str; 4], &str); 27] = [
+    ("", ["-", "-", "-", "-"], "-"),
+    ("", ["/h", "-", "-", "-"], "/h/.config/git/ignore"),
+    ("", ["-", "/x", "-", "-"], "/x/git/ignore"),
+    ("", ["/h", "/x", "-", "-"], "/x/git/ignore"),
+    ("", ["/h/", "", "-", "-"], "/h/.config/git/ignore"),
+    ("", ["-", "", "-", "-"], "-"),
+    ("", ["", "-", "-", "-"], ".config/git/ignore"),
     (
-        &[(
-            "/etc/gitconfig",
-            b"\r\n \x0b\x0cexcludesfile\t=\t/x\r\n",
-            false,
-        )],
-        Some("/x"),
+        "/g=[core]|/etc/gitconfig=excludesfile = /e",
+        ["/h", "-", "/g", "/s"],
+        "/h/.config/git/ignore",
+    ),
+    (ALL, ["/h", "/x", "/g", "/s"], "/h/g"),
+    (ALL, ["/h", "/x", "-", "/s"], "/h/h"),
+    (ALL, ["/h/", "/x", "", "/s"], "/h//h"),
+    (ALL, ["/h", "/x", "/no", "/s"], "/h/h"),
+    (ALL, ["-", "/x", "-", "/s"], "~/x"),
+    (ALL, ["-", "-", "-", "/s"], "~/s"),
+    (ALL, ["-", "-", "-", ""], "~/e"),
+    (ALL, ["-", "", "", "-"], "~/e"),
+    (ALL, ["", "-", "-", "-"], "/."),
+    (FOLDERS, ["/h", "/x", "-", "-"], "/h/x"),
+    (FOLDERS, ["/h", "", "-", "-"], "/h/c"),
+    (FOLDERS, ["/no", "-", "-", "-"], "/no/e"),
+    (SYSTEM, ["/h", "/x", "-", "/s"], "/h/s"),
+    (SYSTEM, ["/h", "/x", "-", ""], "/h/e/h"),
+    (SYSTEM, ["/h", "/x", "-", "/no"], "/x/git/ignore"),
+    (SYSTEM, ["-", "-", "/no", "/no"], "-"),
+    (
+        "/g=[core]|/h/.gitconfig=excludesfile = \"~/y\"",
+        ["/h", "-", "/g", "-"],
+        "/h/y",
     ),
     (
-        &[("/etc/gitconfig", b"[core]\nEXCLUDESFILE =\n/x", false)],
-        Some("/x"),
+        "!/g=excludesfile = /g|/h/.gitconfig=excludesfile = ~/y",
+        ["/h", "-", "/g", "-"],
+        "/h/y",
     ),
     (
-        &[("/etc/gitconfig", b"excludesfile\n\n=\n\n/x", false)],
-        Some("/x"),
-    ),
-    (
-        &[("/etc/gitconfig", b"excludesfile = /x \n\n\t", false)],
-        Some("/x"),
-    ),
-    (&[("/etc/gitconfig", b"excludesfile = /x y\n", false)], None),
-    (
-        &[("/etc/gitconfig", b"excludesfile = /x ; note\n", false)],
-        None,
-    ),
-    (&[("/etc/gitconfig", b"a excludesfile = /x\n", false)], None),
-    (
-        &[("/etc/gitconfig", b"a\r excludesfile = /x\n", false)],
-        None,
-    ),
-    (
-        &[("/etc/gitconfig", b"a\r\nexcludesfile = /x\n", false)],
-        Some("/x"),
-    ),
-    (
-        &[("/etc/gitconfig", b"excludesfile = /a\x1cb\n", false)],
-        Some("/a\u{1c}b"),
+        "/h/.gitconfig=excludesfile = a b|/etc/gitconfig=excludesfile = /y",
+        ["/h", "-", "-", "-"],
+        "/y",
     ),
 ];
 
-const QUOTES: [Row; 15] = [
-    (
-        &[("/etc/gitconfig", b"excludesfile = \"/x\"\n", false)],
-        Some("/x"),
-    ),
-    (
-        &[("/etc/gitconfig", b"excludesfile = \" /x \" \n", false)],
-        Some("/x"),
-    ),
-    (
-        &[("/etc/gitconfig", b"excludesfile = \"\n/x\n\"\n", false)],
-        Some("/x"),
-    ),
-    (
-        &[("/etc/gitconfig", b"excludesfile = \"/x\n", false)],
-        Some("/x"),
-    ),
-    (
-        &[("/etc/gitconfig", b"excludesfile = /x\"\n", false)],
-        Some("/x"),
-    ),
-    (
-        &[("/etc/gitconfig", b"excludesfile = /x \"\n", false)],
-        Some("/x"),
-    ),
-    (
-        &[("/etc/gitconfig", b"excludesfile = /x \"\" \n", false)],
-        None,
-    ),
-    (
-        &[("/etc/gitconfig", b"excludesfile = /x\"y\n", false)],
-        Some("/x\"y"),
-    ),
-    (
-        &[("/etc/gitconfig", b"excludesfile = \"\"/x\"\"\n", false)],
-        Some("\"/x\""),
-    ),
-    (
-        &[("/etc/gitconfig", b"excludesfile = \"", false)],
-        Some("\""),
-    ),
-    (
-        &[("/etc/gitconfig", b"excludesfile = \"\"", false)],
-        Some("\""),
-    ),
-    (
-        &[("/etc/gitconfig", b"excludesfile = \"\"\"", false)],
-        Some("\""),
-    ),
-    (
-        &[(
-            "/etc/gitconfig",
-            b"[core]\nexcludesFile = \" \"~/foo/bar \" \"",
-            false,
-        )],
-        None,
-    ),
-    (
-        &[("/etc/gitconfig", b"excludesfile = \" \" \"\n", false)],
-        Some("\""),
-    ),
-    (
-        &[("/etc/gitconfig", b"excludesfile = \" \" \n", false)],
-        Some("\""),
-    ),
-];
-
-const KEYS: [Row; 9] = [
-    (
-        &[(
-            "/etc/gitconfig",
-            b"excludesfile = /x\nexcludesfile = /y\n",
-            false,
-        )],
-        Some("/x"),
-    ),
-    (
-        &[(
-            "/etc/gitconfig",
-            b"excludesfile = a b\nexcludesfile = /y\n",
-            false,
-        )],
-        Some("/y"),
-    ),
-    (
-        &[(
-            "/etc/gitconfig",
-            b"excludesfile =\nexcludesfile = /y\n",
-            false,
-        )],
-        Some("/y"),
-    ),
-    (
-        &[(
-            "/etc/gitconfig",
-            b"excludesfile =\nexcludesfile\n= /y\n",
-            false,
-        )],
-        Some("excludesfile"),
-    ),
-    (
-        &[(
-            "/etc/gitconfig",
-            b"excludesfile /x\nexcludesfile = /y\n",
-            false,
-        )],
-        Some("/y"),
-    ),
-    (
-        &[(
-            "/etc/gitconfig",
-            b"excludesfile = /\xff\nexcludesfile = /y\n",
-            false,
-        )],
-        None,
-    ),
-    (
-        &[("/etc/gitconfig", b"\xff\nexcludesfile = /\xc3\xa9\n", false)],
-        Some("/é"),
-    ),
-    (
-        &[("/etc/gitconfig", b"excludesfile = ~/x~\n", false)],
-        Some("~/x~"),
-    ),
-    (
-        &[("/etc/gitconfig", b"excludesfile = \xc2\xa0x\n", false)],
-        Some("\u{a0}x"),
-    ),
-];
-
-fn agrees(alloc: Global, rows: &[Row]) -> Result<bool, Error> {
-    for row in rows {
-        let path = found(alloc, row.0, &[None, None, None, None])?;
-        let same = match (&path, row.1) {
-            (None, None) => true,
-            (Some(path), Some(wanted)) => path.as_str() == wanted,
-            _ => false,
+fn with_files(alloc: Global, files: &str) -> Result<MemoryTree, TreeError> {
+    let mut tree = folders(alloc)?;
+    for file in files.split('|') {
+        let Some((path, text)) = file.split_once('=') else {
+            continue;
         };
-        if !same {
-            return Ok(false);
+        match path.strip_prefix('!') {
+            Some(path) => {
+                tree.add_file(path, text.as_bytes())?;
+                tree.cut_contents(path, text.len(), Fault::Other)?;
+            }
+            None => tree.add_file(path, text.as_bytes())?,
         }
     }
-    Ok(true)
+    Ok(tree)
 }
 
-/// Files, the variables of an environment, and the path of the excludes file.
-type Place = (
-    &'static [(&'static str, &'static [u8], bool)],
-    Variables,
-    Option<&'static str>,
-);
+fn path_of(alloc: Global, files: &str, variables: [&str; 4]) -> Result<Option<String>, Error> {
+    let Ok(tree) = with_files(alloc, files) else {
+        return Err(Error::Memory);
+    };
+    let env = environment(alloc, variables)?;
+    gitconfig_excludes_path(alloc, &tree, &env)
+}
 
-/// No configuration gives a value.
-const WITHOUT_A_VALUE: [Place; 8] = [
-    (&[], [None, None, None, None], None),
-    (
-        &[],
-        [Some("/h"), None, None, None],
-        Some("/h/.config/git/ignore"),
-    ),
-    (&[], [None, Some("/x"), None, None], Some("/x/git/ignore")),
-    (
-        &[],
-        [Some("/h"), Some("/x"), None, None],
-        Some("/x/git/ignore"),
-    ),
-    (
-        &[],
-        [Some("/h/"), Some(""), None, None],
-        Some("/h/.config/git/ignore"),
-    ),
-    (&[], [None, Some(""), None, None], None),
-    (
-        &[],
-        [Some(""), None, None, None],
-        Some(".config/git/ignore"),
-    ),
-    (
-        &[
-            ("/g", b"[core]\n", false),
-            ("/etc/gitconfig", b"excludesfile = /e", false),
-        ],
-        [Some("/h"), None, Some("/g"), Some("/s")],
-        Some("/h/.config/git/ignore"),
-    ),
-];
-
-/// Every configuration is there.
-const ALL: &[(&str, &[u8], bool)] = &[
-    ("/g", b"excludesfile = ~/g", false),
-    ("/h/.gitconfig", b"excludesfile = ~/h", false),
-    ("/h/.config/git/config", b"excludesfile = ~/c", false),
-    ("/x/git/config", b"excludesfile = ~/x", false),
-    ("/s", b"excludesfile = ~/s", false),
-    ("/etc/gitconfig", b"excludesfile = ~/e", false),
-    (".gitconfig", b"excludesfile = ~/.", false),
-];
-
-/// All but those of the user.
-const SYSTEM: &[(&str, &[u8], bool)] = &[
-    ("/s", b"excludesfile = ~/s", false),
-    ("/etc/gitconfig", b"excludesfile = ~/e~", false),
-];
-
-/// Those in the user's folders, and that of the system.
-const FOLDERS: &[(&str, &[u8], bool)] = &[
-    ("/h/.config/git/config", b"excludesfile = ~/c", false),
-    ("/x/git/config", b"excludesfile = ~/x", false),
-    ("/etc/gitconfig", b"excludesfile = ~/e", false),
-];
-
-const WITH_ALL: [Place; 9] = [
-    (
-        ALL,
-        [Some("/h"), Some("/x"), Some("/g"), Some("/s")],
-        Some("/h/g"),
-    ),
-    (
-        ALL,
-        [Some("/h"), Some("/x"), None, Some("/s")],
-        Some("/h/h"),
-    ),
-    (
-        ALL,
-        [Some("/h/"), Some("/x"), Some(""), Some("/s")],
-        Some("/h//h"),
-    ),
-    (
-        ALL,
-        [Some("/h"), Some("/x"), Some("/no"), Some("/s")],
-        Some("/h/h"),
-    ),
-    (ALL, [None, Some("/x"), None, Some("/s")], Some("~/x")),
-    (ALL, [None, None, None, Some("/s")], Some("~/s")),
-    (ALL, [None, None, None, Some("")], Some("~/e")),
-    (ALL, [None, Some(""), Some(""), None], Some("~/e")),
-    (ALL, [Some(""), None, None, None], Some("/.")),
-];
-
-const WITHOUT_SOME: [Place; 7] = [
-    (FOLDERS, [Some("/h"), Some("/x"), None, None], Some("/h/x")),
-    (FOLDERS, [Some("/h"), Some(""), None, None], Some("/h/c")),
-    (FOLDERS, [Some("/no"), None, None, None], Some("/no/e")),
-    (
-        SYSTEM,
-        [Some("/h"), Some("/x"), None, Some("/s")],
-        Some("/h/s"),
-    ),
-    (
-        SYSTEM,
-        [Some("/h"), Some("/x"), None, Some("")],
-        Some("/h/e/h"),
-    ),
-    (
-        SYSTEM,
-        [Some("/h"), Some("/x"), None, Some("/no")],
-        Some("/x/git/ignore"),
-    ),
-    (SYSTEM, [None, None, Some("/no"), Some("/no")], None),
-];
-
-/// The search goes on past a configuration that gives nothing.
-const GOES_ON: [Place; 4] = [
-    (
-        &[
-            ("/g", b"[core]\n", false),
-            ("/h/.gitconfig", b"excludesfile = \"~/y\"", false),
-        ],
-        [Some("/h"), None, Some("/g"), None],
-        Some("/h/y"),
-    ),
-    (
-        &[
-            ("/g", b"excludesfile = /g", true),
-            ("/h/.gitconfig", b"excludesfile = ~/y", false),
-        ],
-        [Some("/h"), None, Some("/g"), None],
-        Some("/h/y"),
-    ),
-    (
-        &[
-            ("/g", b"excludesfile = /\xff\n", false),
-            ("/x/git/config", b"excludesfile = /y", false),
-        ],
-        [None, Some("/x"), Some("/g"), None],
-        Some("/y"),
-    ),
-    (
-        &[
-            ("/h/.gitconfig", b"excludesfile = a b", false),
-            ("/etc/gitconfig", b"excludesfile = /y", false),
-        ],
-        [Some("/h"), None, None, None],
-        Some("/y"),
-    ),
-];
-
-fn leads(alloc: Global, places: &[Place]) -> Result<bool, Error> {
-    for place in places {
-        let path = found(alloc, place.0, &place.1)?;
-        let same = match (&path, place.2) {
-            (None, None) => true,
-            (Some(path), Some(wanted)) => path.as_str() == wanted,
-            _ => false,
-        };
-        if !same {
-            return Ok(false);
-        }
+#[test]
+fn places_of_configurations(rt: HostRuntime) -> Result<(), Fail> {
+    for (files, variables, wanted) in PLACES {
+        let path = again!(path_of(rt.alloc(), files, variables));
+        let got = path.as_deref().unwrap_or("-");
+        assert_eq!(rt; got, wanted, "{files}");
     }
-    Ok(true)
-}
-
-#[test]
-fn plain_values(rt: HostRuntime) -> Result<(), Fail> {
-    assert!(rt; again!(agrees(rt.alloc(), &PLAIN)));
-    Ok(())
-}
-
-#[test]
-fn white_space_around_values(rt: HostRuntime) -> Result<(), Fail> {
-    assert!(rt; again!(agrees(rt.alloc(), &SPACE)));
-    Ok(())
-}
-
-#[test]
-fn quotes_around_values(rt: HostRuntime) -> Result<(), Fail> {
-    assert!(rt; again!(agrees(rt.alloc(), &QUOTES)));
-    Ok(())
-}
-
-#[test]
-fn first_keys(rt: HostRuntime) -> Result<(), Fail> {
-    assert!(rt; again!(agrees(rt.alloc(), &KEYS)));
-    Ok(())
-}
-
-#[test]
-fn without_a_value(rt: HostRuntime) -> Result<(), Fail> {
-    assert!(rt; again!(leads(rt.alloc(), &WITHOUT_A_VALUE)));
-    Ok(())
-}
-
-#[test]
-fn with_every_configuration(rt: HostRuntime) -> Result<(), Fail> {
-    assert!(rt; again!(leads(rt.alloc(), &WITH_ALL)));
-    Ok(())
-}
-
-#[test]
-fn with_some_configurations(rt: HostRuntime) -> Result<(), Fail> {
-    assert!(rt; again!(leads(rt.alloc(), &WITHOUT_SOME)));
-    Ok(())
-}
-
-#[test]
-fn past_a_configuration_without_a_value(rt: HostRuntime) -> Result<(), Fail> {
-    assert!(rt; again!(leads(rt.alloc(), &GOES_ON)));
-    Ok(())
-}
-
-/// A `Files` value that has no memory left.
-#[derive(Drop)]
-struct Exhausted;
-
-impl Files for Exhausted {
-    fn stat(&self, _alloc: Global, _path: &str, _follow: bool) -> Result<Metadata, Refusal> {
-        Err(Refusal::Memory)
-    }
-
-    fn list(&self, _alloc: Global, _path: &str) -> Result<Listing, Refusal> {
-        Err(Refusal::Memory)
-    }
-
-    fn contents(&self, _alloc: Global, _path: &str) -> Result<Contents, Refusal> {
-        Err(Refusal::Memory)
-    }
-
-    fn canonical(&self, _alloc: Global, _path: &str) -> Result<Name, Refusal> {
-        Err(Refusal::Memory)
-    }
-
-    fn identity(
-        &self,
-        _alloc: Global,
-        _path: &str,
-        _follow: bool,
-    ) -> Result<Option<Identity>, Refusal> {
-        Err(Refusal::Memory)
-    }
-}
-
-#[test]
-fn memory_refused_by_the_files(rt: HostRuntime) -> Result<(), Fail> {
-    let alloc = rt.alloc();
-    let env = again!(env(alloc, &[None, None, None, None]));
-    let told = matches!(
-        gitconfig_excludes_path(alloc, &Exhausted, &env),
-        Err(Error::Memory)
-    );
-    assert!(rt; told);
     Ok(())
 }
