@@ -3,6 +3,7 @@ pub mod Tree
 pub mod Gives
 pub mod Entries
 pub mod Memory
+pub mod Refusals
 pub mod Resolve
 pub mod Answers
 pub mod Changes

@@ -1,5 +1,5 @@
 -- Trees in memory: their nodes, and the nodes that own paths lead to.
-use Rattle.std.specs.Prelude.{ℕ, ◌+◌, Bool, true, false, List, [], ◌∷◌, Option, Some, None, option_and_then, Result, Ok, Err, slice_get, ◌==◌, ◌||◌, ◌&&◌, not, bytes_eq, codes, cond, count_by}
+use Rattle.std.specs.Prelude.{ℕ, ◌+◌, Bool, true, false, List, [], ◌∷◌, Option, Some, None, option_and_then, Result, Ok, Err, slice_get, ◌==◌, ◌||◌, ◌&&◌, cond, count_by}
 use Rattle.std.specs.List.{list_all}
 use Rattle.ignore_glob.specs.Paths.{pieces, is_proper}
 use Rattle.std.specs.Option.{option_map_or}

@@ -1,6 +1,4 @@
 //! Why a tree in memory isn't changed.
-ghost use Rattle.std.specs.Prelude.{Some};
-
 use std::alloc::{AllocError, AllocFailed};
 use std::{error, fmt};
 
@@ -21,6 +19,11 @@ pub enum TreeError {
 }
 
 impl fmt::Display for TreeError {
+    ghost use Rattle.std.specs.Prelude.{Some};
+    ghost use Rattle.ignore_files.specs.Refusals.{refusal_text};
+
+    ghost output = { λ e. Some (refusal_text e) };
+
     fn fmt<W: fmt::Write>(&self, f: &mut fmt::Formatter<W>) -> fmt::Result {
         match self {
             TreeError::NotClean => write!(f, "path is not clean"),

@@ -1,0 +1,12 @@
+-- The text of a refused change.
+use Rattle.std.specs.Prelude.{ℕ, List, codes}
+use Rattle.ignore_files.specs.declared.tree_error.TreeError.{TreeError}
+use Rattle.ignore_files.specs.declared.tree_error.TreeError.TheVariants.{NotClean, NoParent, Exists, Missing, Memory}
+
+-- what a refusal prints
+abbrev pub refusal_text : TreeError → List ℕ
+refusal_text NotClean = codes "path is not clean"
+refusal_text NoParent = codes "no directory to add to"
+refusal_text Exists = codes "already there"
+refusal_text Missing = codes "nothing of the kind there"
+refusal_text Memory = codes "out of memory"
