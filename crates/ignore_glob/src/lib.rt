@@ -4,6 +4,7 @@
 mod error;
 mod fault;
 pub mod glob;
+pub mod match_laws;
 mod match_result;
 pub mod text;
 

@@ -1,6 +1,4 @@
 //! The texts of errors and faults, and each call on errors and matches.
-ghost use Rattle.std.specs.Prelude.{};
-
 use ignore_glob::{Error, Fault, Match};
 use std::alloc::{AllocError, AllocFailed, Global};
 use std::test::Fail;
@@ -14,18 +12,6 @@ struct Example {
     is_partial: bool,
     fault: Option<Fault>,
     depth: Option<usize>,
-}
-
-/// The call's answer; where memory is refused, the answer when it is made
-/// again. So a run in which one request for memory is refused passes too,
-/// where the refusal is told at the call and nothing is left behind.
-fn again<T: Drop, E: Drop, F: Fn() -> Result<T, E>>(call: F) -> Result<T, E>
-    requires { F.IsAlwaysCallable call }
-{
-    match call() {
-        Ok(answer) => Ok(answer),
-        Err(_) => call(),
-    }
 }
 
 fn at_line(alloc: Global, line: u64, err: Error) -> Result<Error, Error> {
@@ -59,6 +45,12 @@ fn of_file(alloc: Global, path: &str, glob: &str) -> Result<Error, Error> {
 
 fn two(alloc: Global, first: Error, second: Error) -> Result<Error, Error> {
     Ok(Error::Partial(Vec::from_array(alloc, [first, second])?))
+}
+
+/// Two errors, of which the first is partial.
+fn both(alloc: Global) -> Result<Vec<Error>, Error> {
+    let inner = two(alloc, Error::Memory, Error::InvalidDefinition)?;
+    Ok(Vec::from_array(alloc, [inner, Error::Memory])?)
 }
 
 /// One of each variant.
@@ -230,7 +222,7 @@ fn each_fault_has_its_text(rt: HostRuntime) -> Result<(), Fail> {
         (Fault::Other, "input or output failed"),
     ];
     for (fault, text) in faults {
-        let shown = again(|| fault.to_string(rt.alloc()))?;
+        let shown = again!(fault.to_string(rt.alloc()));
         assert_eq!(rt; shown.as_str(), text);
         let copy = fault;
         assert_eq!(rt;
@@ -245,12 +237,12 @@ fn each_fault_has_its_text(rt: HostRuntime) -> Result<(), Fail> {
 #[test]
 fn each_error_answers_by_its_cases(rt: HostRuntime) -> Result<(), Fail> {
     let alloc = rt.alloc();
-    for examples in [again(|| variants(alloc))?, again(|| nested(alloc))?] {
+    for examples in [again!(variants(alloc)), again!(nested(alloc))] {
         for example in examples {
             let text = example.text;
-            let copy = again(|| example.error.clone())?;
+            let copy = again!(example.error.clone());
             for error in [&example.error, &copy] {
-                let shown = again(|| printed(alloc, error))?;
+                let shown = again!(printed(alloc, error));
                 assert_eq!(rt; shown.as_str(), text);
                 assert_eq!(rt; error.is_partial(), example.is_partial, "{text}");
                 assert_eq!(rt; error.is_io(), example.fault.is_some(), "{text}");
@@ -277,7 +269,7 @@ fn errors_are_converted_and_joined(rt: HostRuntime) -> Result<(), Fail> {
     ];
     for (kind, text) in kinds {
         let error = Error::from(io::Error::from(kind));
-        let shown = again(|| printed(alloc, &error))?;
+        let shown = again!(printed(alloc, &error));
         assert_eq!(rt; shown.as_str(), text);
     }
     let refused = Error::from(AllocError);
@@ -285,20 +277,20 @@ fn errors_are_converted_and_joined(rt: HostRuntime) -> Result<(), Fail> {
     let refused = Error::from(AllocFailed { value: 1u8 });
     assert!(rt; matches!(refused, Error::Memory));
     assert!(rt; Error::joined(Vec::new(alloc)).is_none());
-    let one = again(|| Vec::from_array(alloc, [Error::InvalidDefinition]))?;
+    let one = again!(Vec::from_array(alloc, [Error::InvalidDefinition]));
     assert!(rt; matches!(Error::joined(one), Some(Error::InvalidDefinition)));
-    let both = || -> Result<Vec<Error>, Error> {
-        let inner = two(alloc, Error::Memory, Error::InvalidDefinition)?;
-        Ok(Vec::from_array(alloc, [inner, Error::Memory])?)
-    };
-    match Error::joined(again(both)?) {
-        Some(Error::Partial(members)) => {
-            assert_eq!(rt; members.len(), 2);
-            assert!(rt; members[0].is_partial());
-            assert!(rt; matches!(members[1], Error::Memory));
-        }
-        _ => assert!(rt; false, "two errors are joined to one that is partial"),
+    let joined = Error::joined(again!(both(alloc))).ok_or("two errors are joined to one")?;
+    match &joined {
+        Error::Partial(members) => assert_eq!(rt; members.len(), 2),
+        _ => assert!(rt; false, "the one is partial"),
     }
+    let shown = again!(printed(alloc, &joined));
+    assert_eq!(rt;
+        shown.as_str(),
+        "out of memory\n\
+         invalid definition (format is type:glob, e.g., html:*.html)\n\
+         out of memory"
+    );
     Ok(())
 }
 
