@@ -34,7 +34,7 @@ comma_at o (suc d) rest h = absurd (omega arith)
 
 pub unclosed_at : (o : Options) (d : ℕ) → 0 < d → Begins o d [] (fault UnclosedAlternates)
 unclosed_at o zero h = absurd (omega arith)
-unclosed_at o (suc d) h = P.Begins.unclosed d
+unclosed_at o (suc d) h = P.left_open d
 
 pub end_at : (o : Options) (d : ℕ) → d ≤ 0 → Begins o d [] over
 end_at o zero h = end

@@ -45,7 +45,7 @@ clear_onto b p ps apart h = (first, h.1)
     first (zero, l, e) = eqb-false b 47 apart e
     first (suc k, l, e) = h.0 (k, omega (arith, l), e)
 
-clear : (bs : List ℕ) → AllByRecursion (λ q. ¬ Contains q 47) (pieces bs)
+pub clear : (bs : List ℕ) → AllByRecursion (λ q. ¬ Contains q 47) (pieces bs)
 clear [] = (λ w. absurd (omega (arith, w.1)), tt)
 clear (b ∷ bs) =
     ⊎_elim
@@ -55,7 +55,7 @@ clear (b ∷ bs) =
     subst (AllByRecursion (λ q. ¬ Contains q 47)) (sym is) (clear_onto b (front bs) (others bs) e (subst (AllByRecursion (λ q. ¬ Contains q 47)) (pieces-front bs) (clear bs))))
     (cases_Bool (is_slash b))
 
-names_each : (ps : List (List ℕ)) → AllByRecursion (λ q. ¬ Contains q 47) ps → list_all is_proper ps ≡ true → All IsName ps
+pub names_each : (ps : List (List ℕ)) → AllByRecursion (λ q. ¬ Contains q 47) ps → list_all is_proper ps ≡ true → All IsName ps
 names_each [] h e k d l = absurd (omega (arith, l))
 names_each (p ∷ ps) h e zero d l = name_from p (and_parts (is_proper p) (list_all is_proper ps) e).0 h.0
 names_each (p ∷ ps) h e (suc k) d l = names_each ps h.1 (and_parts (is_proper p) (list_all is_proper ps) e).1 k d (omega (arith, l))

@@ -5,7 +5,7 @@ use Rattle.std.proofs.lemmas.Bool.Decides.{nat_tests}
 use Rattle.ignore_glob.specs.declared.glob.options.Options.{Options}
 use Rattle.ignore_glob.specs.declared.glob.fault.GlobFault.{GlobFault}
 use Rattle.ignore_glob.specs.declared.glob.fault.GlobFault.TheVariants.{UnopenedAlternates, UnclosedAlternates, DanglingEscape, TooDeep}
-use Rattle.ignore_glob.specs.Pieces.{Lexeme, char, escaped, any, run, opening, comma, closing, Step, piece, fault, over, is_special, NoStarFirst, Begins, ordinary, escape, dangling, question, stars, bracket, opens, too_deep, parts, closes, unopened, unclosed, end, put_first, Written, ends, stops, goes_on}
+use Rattle.ignore_glob.specs.Pieces.{Lexeme, char, escaped, any, run, opening, comma, closing, Step, piece, fault, over, is_special, NoStarFirst, Begins, ordinary, escape, dangling, question, stars, bracket, opens, too_deep, parts, closes, unopened, left_open, end, put_first, Written, ends, stops, goes_on}
 use Rattle.ignore_glob.proofs.BracketLemmas.{Bracket-same, find_bracket, IsRest-shorter, LeavesRest, Bracket-rest}
 
 abbrev past_stars : List ℕ → ℕ × List ℕ
@@ -64,7 +64,7 @@ Begins-step o d text s (too_deep d' rest h) = sym (ap (λ b. if b then piece ope
 Begins-step o d text s (parts d' rest) = refl
 Begins-step o d text s (closes d' rest) = refl
 Begins-step o d text s (unopened rest) = refl
-Begins-step o d text s (unclosed d') = refl
+Begins-step o d text s (left_open d') = refl
 Begins-step o d text s end = refl
 
 pub Begins-same : (o : Options) (d : ℕ) (text : List ℕ) (s t : Step) → Begins o d text s → Begins o d text t → s ≡ t
@@ -126,7 +126,7 @@ lt_or_le a b = grind arith
 
 find_step : (o : Options) (d : ℕ) (text : List ℕ) → HasStep o d text
 find_step o zero [] = (over, end)
-find_step o (suc d) [] = (fault UnclosedAlternates, unclosed d)
+find_step o (suc d) [] = (fault UnclosedAlternates, left_open d)
 find_step o d (c ∷ cs) =
     let P : ℕ → Type 0 = λ x. HasStep o d (x ∷ cs) in
     elim (cases_eq c 63) [
@@ -171,7 +171,7 @@ Begins-rest o d text s (too_deep d' rest h) = tt
 Begins-rest o d text s (parts d' rest) = (44 ∷ [], refl, (omega arith))
 Begins-rest o d text s (closes d' rest) = (125 ∷ [], refl, (omega arith))
 Begins-rest o d text s (unopened rest) = tt
-Begins-rest o d text s (unclosed d') = tt
+Begins-rest o d text s (left_open d') = tt
 Begins-rest o d text s end = tt
 
 abbrev HasOutcome : Options → ℕ → List ℕ → Type 0

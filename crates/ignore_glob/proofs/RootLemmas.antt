@@ -163,7 +163,7 @@ front-names name names n = sym (ap front (append-nil (joined (name ∷ names))))
 relative : (name : List ℕ) (names : List (List ℕ)) → IsName name → is_absolute (joined (name ∷ names)) ≡ false
 relative name names n = false_from_ne_true _ (λ e. n.filled (sym (front-names name names n) ∙ front-absolute (joined (name ∷ names)) e))
 
-ups_whole : ¬ Contains {X = ℕ} (46 ∷ (46 ∷ [])) 47
+pub ups_whole : ¬ Contains {X = ℕ} (46 ∷ (46 ∷ [])) 47
 ups_whole (zero, l, e) = absurd (omega (arith, e))
 ups_whole (suc zero, l, e) = absurd (omega (arith, e))
 ups_whole (suc (suc k), l, e) = absurd (omega (arith, l))

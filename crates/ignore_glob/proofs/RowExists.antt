@@ -34,7 +34,7 @@ Begins-nests o d text s (P.too_deep d' rest h) = tt
 Begins-nests o d text s (P.parts d' rest) = λ row b. b
 Begins-nests o d text s (P.closes d' rest) = λ row b. b
 Begins-nests o d text s (P.unopened rest) = tt
-Begins-nests o d text s (P.unclosed d') = tt
+Begins-nests o d text s (P.left_open d') = tt
 Begins-nests o d text s P.end = refl
 
 abbrev BalancedOutcome : Result (List Lexeme) GlobFault → ℕ → Type 0

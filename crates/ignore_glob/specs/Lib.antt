@@ -13,3 +13,4 @@ pub mod Takes
 pub mod Codes
 pub mod Reading
 pub mod Paths
+pub mod Roots

@@ -8,7 +8,7 @@ mod clean;
 mod prefix;
 
 use crate::Error;
-pub use clean::{is_clean_path, is_name};
+pub use clean::{is_clean_path, is_clean_root, is_name};
 use memchr::memrchr;
 pub use prefix::{strip, strip_law, strip_prefix, trim_root};
 use std::alloc::Global;

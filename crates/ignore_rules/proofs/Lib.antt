@@ -1,3 +1,5 @@
-pub mod TextLemmas
+pub mod AnswerLemmas
+pub mod BuilderLemmas
 pub mod TakingLemmas
+pub mod TextLemmas
 mod WorkedLines

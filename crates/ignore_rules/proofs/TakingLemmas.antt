@@ -1,12 +1,12 @@
 -- The test of taking decides taking.
-use Rattle.std.proofs.Common.{◌≡◌, ◌⊎◌, ℕ, Bool, true, false, not, eqb, ◌&&◌, ◌||◌, List, [], ◌∷◌, ◌++◌, length, All, IsTrue, Decides, refl, sym, ap, subst, ◌∙◌, inl, inr}
+use Rattle.std.proofs.Common.{◌≡◌, ◌⊎◌, ℕ, Bool, true, false, not, eqb, ◌&&◌, ◌||◌, List, [], ◌∷◌, ◌++◌, All, Decides, refl, sym, ap, subst, inl, inr}
 use Rattle.std.specs.List.{list_all}
 use Rattle.std.proofs.lemmas.Bool.{false≢true}
 use Rattle.std.proofs.lemmas.Bool.Decides.{Decides-eqb, Decides-or, Decides-and, Decides-not, Decides-like, Decides-by_and}
 use Rattle.ignore_glob.specs.Glob.{Token, literal, any, star, start, middle, end, class, alternates, Tokens, done, then, Branches, no_branch, branch}
-use Rattle.ignore_glob.specs.Takes.{slash, other_case, is_listed, IsWritten, IsMember, BeginsWithSlash, EndsWithSlash, token_takes, takes, branch_takes, glob_takes}
+use Rattle.ignore_glob.specs.Takes.{slash, other_case, is_listed, IsCaseOf, IsMember, BeginsWithSlash, EndsWithSlash, token_takes, takes, branch_takes}
 use Rattle.ignore_glob.specs.Reading.{Reading, Takes}
-use Rattle.ignore_rules.specs.Taking.{some_split, is_one, is_empty, begins_with_slash, ends_with_slash, is_written, is_member, has_no_branch, does_token_take, do_tokens_take, does_branch_take, is_lone_start, does_take}
+use Rattle.ignore_rules.specs.Taking.{some_split, is_one, is_empty, begins_with_slash, ends_with_slash, is_case_of, is_member, has_no_branch, does_token_take, do_tokens_take, does_branch_take, is_lone_start, does_take}
 
 never : {P : Type 0} → (P → ⊥) → Decides false P
 never wrong = (λ e. absurd (false≢true e), λ h. absurd (wrong h))
@@ -62,9 +62,9 @@ Decides-ends (c ∷ cs) =
     (λ h. end_back c cs h.0 h.1)
     (Decides-or (is_empty cs && eqb c slash) (ends_with_slash cs) (Decides-and (is_empty cs) (eqb c slash) (Decides-is_empty cs) (Decides-eqb c slash)) (Decides-ends cs))
 
-Decides-is_written : (fold : Bool) (c d : ℕ) → Decides (is_written fold c d) (IsWritten fold c d)
-Decides-is_written false c d = Decides-eqb d c
-Decides-is_written true c d = Decides-or (eqb d c) (eqb d (other_case c)) (Decides-eqb d c) (Decides-eqb d (other_case c))
+Decides-is_case_of : (fold : Bool) (c d : ℕ) → Decides (is_case_of fold c d) (IsCaseOf fold c d)
+Decides-is_case_of false c d = Decides-eqb d c
+Decides-is_case_of true c d = Decides-or (eqb d c) (eqb d (other_case c)) (Decides-eqb d c) (Decides-eqb d (other_case c))
 
 itself : (b : Bool) → Decides b (b ≡ true)
 itself b = (λ e. e, λ e. e)
@@ -85,7 +85,7 @@ no_slash w = Decides-by_and (λ d. not (eqb d slash)) (λ d. d ≡ slash → ⊥
 
 mutual
   pub token_decided : (fold : Bool) (t : Token) (w : List ℕ) → Decides (does_token_take fold t w) (token_takes fold t w)
-  token_decided fold (literal c) w = Decides-is_one (is_written fold c) (IsWritten fold c) (Decides-is_written fold c) w
+  token_decided fold (literal c) w = Decides-is_one (is_case_of fold c) (IsCaseOf fold c) (Decides-is_case_of fold c) w
   token_decided fold any w = Decides-is_one (λ d. not (eqb d slash)) (λ d. d ≡ slash → ⊥) not_slash w
   token_decided fold star w = no_slash w
   token_decided fold start w = Decides-or (is_empty w) (ends_with_slash w) (Decides-is_empty w) (Decides-ends w)

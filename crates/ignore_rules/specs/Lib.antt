@@ -1,2 +1,4 @@
 pub mod Line
 pub mod Taking
+pub mod Rules
+pub mod Answer

@@ -1,11 +1,12 @@
 -- Rules, the list of them that a matcher asks, and what becomes of a line that a builder is given.
-use Rattle.std.specs.Prelude.{◌≡◌, ℕ, Bool, List, [], ◌∷◌, ◌++◌, Option, None, Some, not, count_by, refl, if◌then◌else◌, length, ◌==◌}
+use Rattle.std.specs.Prelude.{◌≡◌, ℕ, Bool, true, false, List, [], ◌∷◌, ◌++◌, Option, None, Some, not, count_by, refl, if◌then◌else◌, length, ◌==◌}
 use Rattle.std.specs.Coded.{Coded, code_by, coded×, coded_bool, coded_list, coded_option, coded_ℕ}
 use Rattle.std.specs.Str.{chars}
 use Rattle.ignore_glob.specs.declared.glob.options.Options.{Options}
 use Rattle.ignore_glob.specs.declared.glob.fault.GlobFault.{GlobFault}
 use Rattle.ignore_glob.specs.Glob.{Tokens}
 use Rattle.ignore_glob.specs.GlobFaults.{glob_fault_text}
+use Rattle.ignore_glob.specs.Paths.{trim_of}
 use Rattle.ignore_glob.specs.Problem.{Problem, glob}
 use Rattle.ignore_glob.specs.Reading.{Reading, reading_code}
 use Rattle.ignore_glob.specs.Row.{Reads, IsFaulty}
@@ -35,21 +36,17 @@ pub record Building : Type 0 where
   pub rules : List Rule
   pub options : LineOptions
 
--- the rule of a line that says this, read as these tokens
-abbrev pub rule_of : LineOptions → Option (List ℕ) → Written → Tokens → Rule
-rule_of options from w tokens = record {
-  from = from;
-  original = w.original;
-  actual = w.actual;
-  is_whitelist = w.is_whitelist;
-  is_only_dir = w.is_only_dir;
-  reading = record { tokens = tokens; case_insensitive = options.glob.case_insensitive };
-}
+-- the rule of a line that says this, whose glob has this reading
+abbrev pub read_rule : Option (List ℕ) → Written → Reading → Rule
+read_rule from w reading =
+    record { from = from; original = w.original; actual = w.actual; is_whitelist = w.is_whitelist; is_only_dir = w.is_only_dir; reading = reading }
 
 -- what says this gives this rule, or none
 abbrev pub SaysRule : LineOptions → Option (List ℕ) → Option Written → Option Rule → Type 0
 SaysRule options from None given = given ≡ None
-SaysRule options from (Some w) given = (tokens : Tokens) × Reads options.glob (chars w.actual) tokens × (given ≡ Some (rule_of options from w tokens))
+SaysRule options from (Some w) given =
+    (tokens : Tokens) × Reads options.glob (chars w.actual) tokens
+    × (given ≡ Some (read_rule from w (record { tokens = tokens; case_insensitive = options.glob.case_insensitive })))
 
 -- the line gives this rule, or none
 abbrev pub GivesRule : LineOptions → Option (List ℕ) → List ℕ → Option Rule → Type 0
@@ -67,11 +64,29 @@ Refuses options line problem = SaysFault options (written line) problem
 -- the builder with one more rule, if any
 abbrev pub with_rule : Building → Option Rule → Building
 with_rule b None = b
-with_rule b (Some rule) = record b { rules = b.rules ++ rule ∷ [] }
+with_rule b (Some rule) = record { root = b.root; rules = b.rules ++ rule ∷ []; options = b.options }
+
+-- from the old builder to the new one, a line that says this was added
+abbrev pub AddsWritten : Building → Option (List ℕ) → Option Written → Building → Type 0
+AddsWritten old from says new = (given : Option Rule) × SaysRule old.options from says given × (new ≡ with_rule old given)
 
 -- from the old builder to the new one, a line was added
 abbrev pub AddsLine : Building → Option (List ℕ) → List ℕ → Building → Type 0
-AddsLine old from line new = (given : Option Rule) × GivesRule old.options from line given × (new ≡ with_rule old given)
+AddsLine old from line new = AddsWritten old from (written line) new
+
+-- a builder at its start: no rules, both ASCII cases told apart, an unclosed class allowed
+abbrev pub begun : List ℕ → Building
+begun root =
+    record { root = trim_of root; rules = []; options = record { glob = record { case_insensitive = false; allow_unclosed_class = true } } }
+
+-- the builder with one option of later lines set
+abbrev pub with_case_insensitive : Building → Bool → Building
+with_case_insensitive b on =
+    record { root = b.root; rules = b.rules; options = record { glob = record { case_insensitive = on; allow_unclosed_class = b.options.glob.allow_unclosed_class } } }
+
+abbrev pub with_unclosed_class : Building → Bool → Building
+with_unclosed_class b on =
+    record { root = b.root; rules = b.rules; options = record { glob = record { case_insensitive = b.options.glob.case_insensitive; allow_unclosed_class = on } } }
 
 -- the matcher of no rules
 abbrev pub empty : Ruleset

@@ -1,5 +1,5 @@
 -- Taking as a test that computes, so that an answer can be a function: every split of the text is tried.
-use Rattle.std.specs.Prelude.{◌==◌, ℕ, Bool, true, false, not, ◌&&◌, ◌||◌, List, [], ◌∷◌, length}
+use Rattle.std.specs.Prelude.{◌==◌, ℕ, Bool, true, false, not, ◌&&◌, ◌||◌, List, [], ◌∷◌}
 use Rattle.std.specs.List.{list_all}
 use Rattle.ignore_glob.specs.Glob.{Token, literal, any, star, start, middle, end, class, alternates, Tokens, done, then, Branches, no_branch, branch}
 use Rattle.ignore_glob.specs.Takes.{slash, other_case, is_listed}
@@ -28,9 +28,9 @@ abbrev pub ends_with_slash : List ℕ → Bool
 ends_with_slash [] = false
 ends_with_slash (c ∷ cs) = (is_empty cs && c == slash) || ends_with_slash cs
 
-abbrev pub is_written : Bool → ℕ → ℕ → Bool
-is_written false c d = d == c
-is_written true c d = d == c || d == other_case c
+abbrev pub is_case_of : Bool → ℕ → ℕ → Bool
+is_case_of false c d = d == c
+is_case_of true c d = d == c || d == other_case c
 
 abbrev pub is_member : Bool → Bool → List (ℕ × ℕ) → ℕ → Bool
 is_member fold false ranges c = is_listed fold ranges c
@@ -42,7 +42,7 @@ has_no_branch (branch ts bs) = false
 
 abbrev mutual
   pub does_token_take : Bool → Token → List ℕ → Bool
-  does_token_take fold (literal c) w = is_one (is_written fold c) w
+  does_token_take fold (literal c) w = is_one (is_case_of fold c) w
   does_token_take fold any w = is_one (λ d. not (d == slash)) w
   does_token_take fold star w = list_all (λ d. not (d == slash)) w
   does_token_take fold start w = is_empty w || ends_with_slash w

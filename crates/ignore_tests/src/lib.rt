@@ -18,3 +18,5 @@ macro_rules! again {
 mod errors;
 #[cfg(test)]
 mod globs;
+#[cfg(test)]
+mod text;

@@ -1,4 +1,4 @@
-//! The written pieces of a glob.
+//! The written pieces of a glob, from the left.
 ghost use Rattle.std.specs.Prelude.{◌≡◌, ◌≢◌, ◌+◌, ◌<◌, ◌≤◌, ◌++◌, ◌∷◌, [], ℕ, List, take, drop, length, replicate, IfOk, IfErr, Ok, Err};
 ghost use Rattle.ignore_glob.specs.Pieces.{Step, piece, fault, Begins, Written, NoStarFirst};
 ghost use Rattle.ignore_glob.specs.declared.glob.options.Options.{Options};
@@ -11,18 +11,28 @@ use crate::glob::options::Options;
 use crate::glob::token::Class;
 use std::alloc::Global;
 
+/// One written piece of a glob.
 #[derive(Drop)]
 pub enum Lexeme {
+    /// A character that stands for itself.
     Char(char),
+    /// A backslash and this character.
     Escaped(char),
+    /// `?`
     Any,
+    /// A whole run of so many stars.
     Run(usize),
+    /// A class in brackets.
     Class(Class),
+    /// `{`
     Opening,
+    /// `,` inside braces.
     Comma,
+    /// `}`
     Closing,
 }
 
+/// How deep braces may nest.
 const MAX_LEVELS: usize = 64;
 
 /// How many stars the text begins with.
@@ -122,6 +132,9 @@ fn piece_from(
 }
 
 /// The row of pieces of a text.
+///
+/// # Errors
+/// The fault that begins leftmost, or `Memory`.
 pub fn pieces(alloc: Global, options: Options, text: &[char]) -> Result<Vec<Lexeme>, PatternError>
     ensures row { IfOk result (λ row. Written options 0 text.now (Ok (row_view row.items))) }
     ensures fault { IfErr result (λ e. IfFault e (λ f. Written options 0 text.now (Err f))) }

@@ -1,4 +1,4 @@
-//! What a row of pieces begins with.
+//! The tokens that a row of pieces begins with: runs of two stars are judged by their neighbours.
 ghost use Rattle.std.specs.Prelude.{◌≡◌, ◌⊎◌, ◌+◌, ◌<◌, ◌≤◌, ◌↔◌, ◌∷◌, [], List, length, IsTrue, IfSome, IfNone};
 ghost use Rattle.ignore_glob.specs.Pieces as P;
 ghost use Rattle.ignore_glob.specs.Row as R;

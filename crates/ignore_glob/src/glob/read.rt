@@ -143,10 +143,10 @@ fn characters(alloc: Global, text: &str) -> Result<Vec<char>, AllocError>
     text.chars().collect(alloc)
 }
 
-/// Reads a glob.
+/// The tokens of a glob.
 ///
 /// # Errors
-/// The text's first fault, or `Memory`.
+/// The fault that begins leftmost, or `Memory`.
 pub(crate) fn read(alloc: Global, text: &str, options: Options) -> Result<Vec<Token>, PatternError>
     ensures ok { IfOk result (λ tokens. Reads options (chars text.now) (tokens_view tokens.items)) }
     ensures fault { IfErr result (λ e. IfFault e (λ f. IsFaulty options (chars text.now) f)) }

@@ -1,9 +1,10 @@
 //! Names, clean paths and clean roots.
 ghost use Rattle.std.specs.Prelude.{◌≡◌, ◌↔◌, IsTrue};
 ghost use Rattle.std.specs.List.{list_all};
-ghost use Rattle.ignore_glob.specs.Paths.{pieces, is_proper, IsName, IsCleanPath};
+ghost use Rattle.ignore_glob.specs.Paths.{pieces, is_proper, IsName, IsCleanPath, IsCleanRoot};
+ghost use Rattle.ignore_glob.specs.Roots.{IsWithoutEnd, rises, is_rooted};
 
-use crate::text::prefix::has_slash;
+use crate::text::prefix::{has_slash, trim_root, without_slash};
 
 /// Whether a text is a name: not empty, without `/`, and neither `.` nor `..`.
 pub fn is_name(text: &str) -> bool
@@ -17,6 +18,47 @@ pub fn is_clean_path(path: &str) -> bool
     ensures { IsTrue result ↔ IsCleanPath path.now }
 {
     path.is_empty() || are_names(path)
+}
+
+/// Whether a root is clean: `.`, `./` or `/`; or names, joined by single slashes, behind nothing, `/` or `./`; or pieces `..` before names or alone. One `/` may follow. `-` is not clean, as it stands for standard input.
+pub fn is_clean_root(root: &str) -> bool
+    ensures { IsTrue result ↔ IsCleanRoot root.now }
+{
+    if root == "." || root == "./" || root == "/" {
+        return true;
+    }
+    root != "-" && is_rooted(without_end(root))
+}
+
+fn without_end(path: &str) -> &str
+    ensures { IsWithoutEnd path.now result.now }
+{
+    match path.strip_suffix('/') {
+        Some(body) => body,
+        None => path,
+    }
+}
+
+// Whether a root without a slash at its end is names behind what may stand before them.
+fn is_rooted(body: &str) -> bool
+    ensures { result ≡ is_rooted body.now }
+{
+    if body.starts_with("./") {
+        return are_names(trim_root(body));
+    }
+    if body.starts_with('/') {
+        return are_names(without_slash(body));
+    }
+    rises(body)
+}
+
+// Whether the pieces of a text are `..` and then names.
+fn rises(text: &str) -> bool
+    ensures { result ≡ rises (pieces text.now) }
+{
+    text.split('/')
+        .skip_while(|piece| *piece == "..")
+        .all(|piece| is_proper(piece))
 }
 
 // Whether each piece of a text is a name.

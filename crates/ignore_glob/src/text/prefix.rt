@@ -67,7 +67,7 @@ pub(crate) fn has_slash(path: &str) -> bool
 }
 
 // A path without one leading slash.
-fn without_slash(path: &str) -> &str
+pub(crate) fn without_slash(path: &str) -> &str
     ensures { result.now ≡ without_slash path.now }
 {
     path.strip_prefix('/').unwrap_or(path)

@@ -1,7 +1,11 @@
 //! What one line says, before its pattern is read.
-ghost use Rattle.std.specs.Prelude.{◌≡◌, IfOk, string_bytes};
+ghost use Rattle.std.specs.Prelude.{◌≡◌, ◌⊎◌, IfOk, Some, string_bytes};
+ghost use Rattle.ignore_glob.specs.GlobFaults.{glob_fault_text};
+ghost use Rattle.ignore_glob.specs.Problem.{told, memory, glob};
 ghost use Rattle.ignore_rules.specs.Line.{begins, ends, without_start, without_end, has_slash, trimmed, is_escaped, is_anchored, body, pattern, is_floating, placed, actual, written};
 
+use ignore_glob::Error;
+use ignore_glob::glob::GlobFault;
 use memchr::memchr;
 use std::alloc::{AllocError, Global};
 use std::marker::Model;
@@ -41,6 +45,25 @@ impl Written {
             is_whitelist: begins(text, "!"),
             is_only_dir: ends(body(text), "/"),
         }))
+    }
+
+    pub fn actual(&self) -> &str
+        ensures { result.now ≡ self.now.actual }
+    {
+        self.actual.as_str()
+    }
+
+    /// The error of a line whose glob has this fault, or `Error::Memory`.
+    pub fn refused(self, alloc: Global, fault: GlobFault) -> Error
+        ensures { (told result ≡ memory) ⊎ (told result ≡ glob (Some self.original) (glob_fault_text fault)) }
+    {
+        match format!(in alloc; "{fault}") {
+            Ok(err) => Error::Glob {
+                glob: Some(self.original),
+                err,
+            },
+            Err(_) => Error::Memory,
+        }
     }
 }
 

@@ -1,0 +1,165 @@
+//! Lines added to rules.
+ghost use Rattle.std.specs.Prelude.{◌≡◌, ◌⊎◌, ◌++◌, ◌∷◌, [], None, Some, IfOk, IfErr, OnOk, OnErr, IsOk, option_map, string_bytes};
+ghost use Rattle.ignore_glob.specs.Problem.{told, memory};
+ghost use Rattle.ignore_rules.specs.Rules.{begun, AddsLine, Refuses, AddsWritten, SaysFault, built, with_rule, with_case_insensitive, with_unclosed_class};
+
+use crate::gitignore::glob::Glob;
+use crate::gitignore::line::Written;
+use crate::gitignore::matcher::Gitignore;
+use ignore_glob::Error;
+use ignore_glob::glob::{Options, Pattern, PatternError};
+use ignore_glob::text::trim_root;
+use std::alloc::{AllocError, Global};
+use std::marker::Model;
+
+/// Builds a matcher from the lines of gitignore files, in order.
+#[derive(Debug, Drop)]
+pub struct GitignoreBuilder {
+    root: String,
+    globs: Vec<Glob>,
+    options: Options,
+}
+
+impl Model for GitignoreBuilder {
+    ghost use Rattle.std.specs.Prelude.{string_bytes};
+    ghost use Rattle.ignore_rules.specs.Rules.{Building, building_code};
+
+    ghost Value = { Building };
+
+    ghost coded = { building_code };
+
+    ghost view = { λ b. record { root = string_bytes b.root; rules = b.globs.items; options = record { glob = b.options } } };
+}
+
+impl GitignoreBuilder {
+    /// A builder of no rules, relative to the directory `root`, of which one leading `./` goes.
+    ///
+    /// # Errors
+    /// `Error::Memory` alone.
+    pub fn new(alloc: Global, root: &str) -> Result<GitignoreBuilder, Error>
+        ensures ok { IfOk result (λ b. b ≡ begun root.now) }
+        ensures refused { IfErr result (λ e. told e ≡ memory) }
+    {
+        match String::from_str(alloc, trim_root(root)) {
+            Ok(root) => Ok(GitignoreBuilder {
+                root,
+                globs: Vec::new(alloc),
+                options: Options {
+                    case_insensitive: false,
+                    allow_unclosed_class: true,
+                },
+            }),
+            Err(_) => Err(Error::Memory),
+        }
+    }
+
+    /// Adds one line, as gitignore(5) reads it: a comment or a blank line adds nothing, any other line adds a rule. `from` is kept with the rule.
+    ///
+    /// # Errors
+    /// `Error::Glob` with the line and its fault where the glob of the line has a fault, or `Error::Memory`. After an error the builder is as before, which `push_line` states.
+    pub fn add_line(&mut self, from: Option<String>, line: &str) -> Result<&mut Self, Error>
+        ensures same_reference { IfOk result (λ b. b.ghost_name ≡ self.entry.ghost_name) }
+        ensures added { IfOk result (λ b. AddsLine self.old (option_map string_bytes from) line.now b.now) }
+        ensures refused { IfErr result (λ e. (told e ≡ memory) ⊎ Refuses self.old.options line.now (told e)) }
+    {
+        match self.push_line(from, line) {
+            Ok(()) => Ok(self),
+            Err(e) => Err(e),
+        }
+    }
+
+    /// For the crates above: as `add_line`, without the builder in the answer.
+    pub fn push_line(&mut self, from: Option<String>, line: &str) -> Result<(), Error>
+        ensures added { OnOk result (AddsLine self.old (option_map string_bytes from) line.now self.new) }
+        ensures refused { IfErr result (λ e. (told e ≡ memory) ⊎ Refuses self.old.options line.now (told e)) }
+        ensures unchanged { OnErr result (self.new ≡ self.old) }
+    {
+        match Written::of(*self.root.allocator(), line) {
+            Ok(Some(written)) => self.push_written(from, written),
+            Ok(None) => Ok(()),
+            Err(_) => Err(Error::Memory),
+        }
+    }
+
+    fn push_written(&mut self, from: Option<String>, written: Written) -> Result<(), Error>
+        ensures added { OnOk result (AddsWritten self.old (option_map string_bytes from) (Some written) self.new) }
+        ensures refused { IfErr result (λ e. (told e ≡ memory) ⊎ SaysFault self.old.options (Some written) (told e)) }
+        ensures unchanged { OnErr result (self.new ≡ self.old) }
+    {
+        let alloc = *self.root.allocator();
+        match Pattern::parse(alloc, written.actual(), self.options) {
+            Ok(pattern) => self.push_glob(Glob::new(from, written, pattern)),
+            Err(PatternError::Fault(fault)) => Err(written.refused(alloc, fault)),
+            Err(PatternError::Memory) => Err(Error::Memory),
+        }
+    }
+
+    fn push_glob(&mut self, glob: Glob) -> Result<(), Error>
+        ensures added { OnOk result (self.new ≡ with_rule self.old (Some glob)) }
+        ensures refused { IfErr result (λ e. told e ≡ memory) }
+        ensures unchanged { OnErr result (self.new ≡ self.old) }
+    {
+        match self.globs.push(glob) {
+            Ok(()) => Ok(()),
+            Err(_) => Err(Error::Memory),
+        }
+    }
+
+    /// The matcher of the rules added so far, in their order. Without rules it is the empty matcher, whose path is empty. The builder can be used further.
+    ///
+    /// # Errors
+    /// `Error::Memory` alone, as the rules are copied.
+    pub fn build(&self) -> Result<Gitignore, Error>
+        ensures ok { IfOk result (λ g. g ≡ built self.now) }
+        ensures refused { IfErr result (λ e. told e ≡ memory) }
+    {
+        match self.clone() {
+            Ok(copy) => Ok(copy.into_gitignore()),
+            Err(_) => Err(Error::Memory),
+        }
+    }
+
+    /// For the crates above: as `build`, of a builder that isn't used further. It copies nothing and takes no memory.
+    pub fn into_gitignore(self) -> Gitignore
+        ensures { result ≡ built self }
+    {
+        if self.globs.is_empty() {
+            return Gitignore::empty(*self.root.allocator());
+        }
+        let GitignoreBuilder { root, globs, .. } = self;
+        Gitignore::from_parts(root, globs)
+    }
+
+    /// Whether the globs of later lines take both ASCII cases of a letter. It is off at first, and always `Ok`.
+    pub fn case_insensitive(&mut self, yes: bool) -> Result<&mut Self, Error>
+        ensures ok { IsOk result }
+        ensures same_reference { IfOk result (λ b. b.ghost_name ≡ self.entry.ghost_name) }
+        ensures value { IfOk result (λ b. b.now ≡ with_case_insensitive self.old yes) }
+    {
+        self.options.case_insensitive = yes;
+        Ok(self)
+    }
+
+    /// Whether in the globs of later lines a `[` that nothing closes stands for itself, and is no fault. It is on at first.
+    pub fn allow_unclosed_class(&mut self, yes: bool) -> &mut Self
+        ensures same_reference { result.ghost_name ≡ self.entry.ghost_name }
+        ensures value { result.now ≡ with_unclosed_class self.old yes }
+    {
+        self.options.allow_unclosed_class = yes;
+        self
+    }
+}
+
+impl Clone for GitignoreBuilder {
+    ghost use Rattle.std.specs.Prelude.{◌≡◌};
+
+    ghost is_clone = { λ b c. c ≡ b };
+
+    fn clone(&self) -> Result<GitignoreBuilder, AllocError> {
+        Ok(GitignoreBuilder {
+            root: self.root.clone()?,
+            globs: self.globs.clone()?,
+            options: self.options,
+        })
+    }
+}

@@ -1,0 +1,133 @@
+//! One rule.
+ghost use Rattle.std.specs.Prelude.{◌≡◌, option_map, string_bytes};
+ghost use Rattle.std.specs.Option.{option_copied};
+ghost use Rattle.ignore_glob.specs.Match.{match_map};
+ghost use Rattle.ignore_rules.specs.Answer.{does_apply, told_by};
+ghost use Rattle.ignore_rules.specs.Rules.{read_rule};
+ghost use Rattle.ignore_rules.specs.Taking.{does_take};
+
+use crate::gitignore::line::Written;
+use ignore_glob::Match;
+use ignore_glob::glob::Pattern;
+use std::alloc::AllocError;
+use std::marker::Model;
+
+/// A rule: what one line of a gitignore file says of the paths that its glob takes.
+///
+/// A matcher answers with the rule that decided, so that a user can be told why a path is ignored.
+#[derive(Debug, Drop)]
+pub struct Glob {
+    from: Option<String>,
+    original: String,
+    actual: String,
+    is_whitelist: bool,
+    is_only_dir: bool,
+    pattern: Pattern,
+}
+
+impl Model for Glob {
+    ghost use Rattle.std.specs.Prelude.{option_map, string_bytes};
+    ghost use Rattle.ignore_rules.specs.Rules.{Rule, rule_code};
+
+    ghost Value = { Rule };
+
+    ghost coded = { rule_code };
+
+    ghost view = { λ g. record { from = option_map string_bytes g.from; original = string_bytes g.original; actual = string_bytes g.actual; is_whitelist = g.is_whitelist; is_only_dir = g.is_only_dir; reading = g.pattern } };
+}
+
+impl Glob {
+    /// The rule of a line, with the pattern that its glob was read to.
+    pub(crate) fn new(from: Option<String>, written: Written, pattern: Pattern) -> Glob
+        ensures { result ≡ read_rule (option_map string_bytes from) written pattern }
+    {
+        let Written {
+            original,
+            actual,
+            is_whitelist,
+            is_only_dir,
+        } = written;
+        Glob {
+            from,
+            original,
+            actual,
+            is_whitelist,
+            is_only_dir,
+            pattern,
+        }
+    }
+
+    /// Where the rule comes from, as it was given with its line: the path of a file, or nothing.
+    pub fn from(&self) -> Option<&str>
+        ensures { option_copied result ≡ self.now.from }
+    {
+        self.from.as_deref()
+    }
+
+    /// The line that gave the rule, without the white space at its end.
+    pub fn original(&self) -> &str
+        ensures { result.now ≡ self.now.original }
+    {
+        self.original.as_str()
+    }
+
+    /// The glob that stands for the line, which is asked of paths relative to the root of the rules.
+    pub fn actual(&self) -> &str
+        ensures { result.now ≡ self.now.actual }
+    {
+        self.actual.as_str()
+    }
+
+    /// Whether the rule whitelists what it takes: its line begins with `!`.
+    pub fn is_whitelist(&self) -> bool
+        ensures { result ≡ self.now.is_whitelist }
+    {
+        self.is_whitelist
+    }
+
+    /// Whether the rule speaks of directories only: its line ends with `/`.
+    pub fn is_only_dir(&self) -> bool
+        ensures { result ≡ self.now.is_only_dir }
+    {
+        self.is_only_dir
+    }
+
+    pub(crate) fn applies(&self, text: &[char], is_dir: bool) -> bool
+        ensures { result ≡ does_apply text.now is_dir self.now }
+    {
+        (!self.is_only_dir || is_dir) && self.takes(text)
+    }
+
+    fn takes(&self, text: &[char]) -> bool
+        ensures { result ≡ does_take self.now.reading text.now }
+    {
+        self.pattern.matches_chars(text)
+    }
+
+    pub(crate) fn tells(&self) -> Match<&Glob>
+        ensures { match_map (λ g. g.now) result ≡ told_by self.now }
+    {
+        if self.is_whitelist {
+            Match::Whitelist(self)
+        } else {
+            Match::Ignore(self)
+        }
+    }
+}
+
+impl Clone for Glob {
+    ghost use Rattle.std.specs.Prelude.{◌≡◌};
+
+    ghost is_clone = { λ g h. h ≡ g };
+
+    fn clone(&self) -> Result<Glob, AllocError> {
+        Ok(Glob {
+            from: self.from.clone()?,
+            original: self.original.clone()?,
+            actual: self.actual.clone()?,
+            is_whitelist: self.is_whitelist,
+            is_only_dir: self.is_only_dir,
+            pattern: self.pattern.clone()?,
+        })
+    }
+}

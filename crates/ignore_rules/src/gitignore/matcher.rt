@@ -1,0 +1,133 @@
+//! A matcher of rules.
+ghost use Rattle.std.specs.Prelude.{◌≡◌, ◌+◌, ◌==◌, IfOk, IfErr, length, string_bytes};
+ghost use Rattle.ignore_glob.specs.Match.{match_map};
+ghost use Rattle.ignore_glob.specs.Problem.{told, memory};
+ghost use Rattle.ignore_rules.specs.Answer.{answer, list_answer};
+ghost use Rattle.ignore_rules.specs.Rules.{empty, ignore_count, whitelist_count};
+
+use crate::gitignore::glob::Glob;
+use ignore_glob::glob::characters;
+use ignore_glob::text::strip;
+use ignore_glob::{Error, Match};
+use std::alloc::{AllocError, Global};
+use std::marker::Model;
+
+/// The rules of one or more gitignore files in one directory, their root, which paths can be asked of.
+#[derive(Debug, Drop)]
+pub struct Gitignore {
+    root: String,
+    globs: Vec<Glob>,
+}
+
+impl Model for Gitignore {
+    ghost use Rattle.std.specs.Prelude.{string_bytes};
+    ghost use Rattle.ignore_rules.specs.Rules.{Ruleset, ruleset_code};
+
+    ghost Value = { Ruleset };
+
+    ghost coded = { ruleset_code };
+
+    ghost view = { λ g. record { root = string_bytes g.root; rules = g.globs.items } };
+}
+
+impl Gitignore {
+    /// The matcher of no rules: it answers no match for every path, and its path is empty.
+    pub fn empty(alloc: Global) -> Gitignore
+        ensures { result ≡ empty }
+    {
+        Gitignore {
+            root: String::new(alloc),
+            globs: Vec::new(alloc),
+        }
+    }
+
+    pub(crate) fn from_parts(root: String, globs: Vec<Glob>) -> Gitignore
+        ensures { result ≡ record { root = string_bytes root; rules = globs.items } }
+    {
+        Gitignore { root, globs }
+    }
+
+    /// The root: the directory that paths are matched relative to.
+    pub fn path(&self) -> &str
+        ensures { result.now ≡ self.now.root }
+    {
+        self.root.as_str()
+    }
+
+    /// Whether there are no rules, so that no path has a match.
+    pub fn is_empty(&self) -> bool
+        ensures { result ≡ (length self.now.rules == 0) }
+    {
+        self.globs.is_empty()
+    }
+
+    /// How many rules there are: those that ignore and those that whitelist.
+    pub fn len(&self) -> usize
+        ensures rules { result ≡ length self.now.rules }
+        ensures kinds { result ≡ ignore_count self.now.rules + whitelist_count self.now.rules }
+    {
+        self.globs.len()
+    }
+
+    /// How many rules ignore what they take.
+    pub fn num_ignores(&self) -> u64
+        ensures { result ≡ ignore_count self.now.rules }
+    {
+        self.globs
+            .iter()
+            .filter(|glob| !glob.is_whitelist())
+            .count() as u64
+    }
+
+    /// How many rules whitelist what they take.
+    pub fn num_whitelists(&self) -> u64
+        ensures { result ≡ whitelist_count self.now.rules }
+    {
+        self.globs.iter().filter(|glob| glob.is_whitelist()).count() as u64
+    }
+
+    /// What the rules say of a path, with the rule that decided: the last one that takes the path and speaks of its kind, as in gitignore(5), where a later line overrides an earlier one.
+    ///
+    /// One leading `./` of the path and the root are taken off first. `is_dir` says whether the path is a directory. A path below an ignored directory has a match of its own or none: its directories aren't asked.
+    ///
+    /// # Errors
+    /// `Error::Memory` alone.
+    pub fn matched(&self, path: &str, is_dir: bool) -> Result<Match<&Glob>, Error>
+        ensures answered { IfOk result (λ m. match_map (λ g. g.now) m ≡ answer self.now.root self.now.rules path.now is_dir) }
+        ensures refused { IfErr result (λ e. told e ≡ memory) }
+    {
+        if self.is_empty() {
+            return Ok(Match::None);
+        }
+        let path = strip(self.root.as_str(), path);
+        match characters(*self.globs.allocator(), path) {
+            Ok(text) => Ok(last_answer(&self.globs, &text, is_dir)),
+            Err(e) => Err(e),
+        }
+    }
+}
+
+fn last_answer<'g>(globs: &'g [Glob], text: &[char], is_dir: bool) -> Match<&'g Glob>
+    ensures { match_map (λ g. g.now) result ≡ list_answer globs.now text.now is_dir }
+{
+    for i in (0..globs.len()).rev() {
+        let glob = &globs[i];
+        if glob.applies(text, is_dir) {
+            return glob.tells();
+        }
+    }
+    Match::None
+}
+
+impl Clone for Gitignore {
+    ghost use Rattle.std.specs.Prelude.{◌≡◌};
+
+    ghost is_clone = { λ g h. h ≡ g };
+
+    fn clone(&self) -> Result<Gitignore, AllocError> {
+        Ok(Gitignore {
+            root: self.root.clone()?,
+            globs: self.globs.clone()?,
+        })
+    }
+}
