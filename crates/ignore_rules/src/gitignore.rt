@@ -1,10 +1,13 @@
 //! The rules of gitignore files, as gitignore(5) describes them: lines are read to rules, and the last rule that takes a path decides.
 
 mod builder;
+mod file;
 mod glob;
 pub mod laws;
 mod line;
 mod matcher;
+mod open;
+mod parents;
 
 pub use builder::GitignoreBuilder;
 pub use glob::Glob;
