@@ -17,6 +17,8 @@ macro_rules! again {
 #[cfg(test)]
 mod errors;
 #[cfg(test)]
+mod gitignores;
+#[cfg(test)]
 mod globs;
 #[cfg(test)]
 mod text;
