@@ -8,3 +8,10 @@ pub mod ParentLemmas
 pub mod TakingLemmas
 pub mod TextLemmas
 mod WorkedLines
+pub mod ExcludesBlanks
+pub mod ExcludesValues
+pub mod ExcludesKeys
+pub mod ExcludesLines
+pub mod ExcludesOnly
+pub mod ExcludesHome
+pub mod ExcludesPlaces

@@ -6,3 +6,5 @@ pub mod RuleFile
 pub mod RuleSteps
 pub mod Matchers
 pub mod Parents
+pub mod Excludes
+pub mod ExcludesSearch

@@ -17,8 +17,12 @@ macro_rules! again {
 #[cfg(test)]
 mod errors;
 #[cfg(test)]
+mod excludes;
+#[cfg(test)]
 mod gitignores;
 #[cfg(test)]
 mod globs;
+#[cfg(test)]
+mod rulefiles;
 #[cfg(test)]
 mod text;

@@ -1,0 +1,103 @@
+-- The excludes file that a configuration of git names: a choice among all ways to read its bytes.
+-- 9 tab  10 newline  13 carriage return  32 space  34 `"`  61 `=`
+use Rattle.std.specs.Prelude.{◌≡◌, ◌≢◌, ◌<◌, ◌≤◌, ◌⊎◌, ◌||◌, ◌&&◌, ◌==◌, ℕ, Bool, true, false, nat_le, List, [], ◌∷◌, ◌++◌, map, length, codes, if◌then◌else◌, Option, None, Some, ⊤}
+use Rattle.std.specs.List.{AllByRecursion}
+use Rattle.std.specs.Char.{to_ascii_lowercase}
+use Rattle.std.specs.Str.{IsUtf8}
+
+-- white space: tab, newline, vertical tab, form feed, carriage return and space
+abbrev pub is_space : ℕ → Bool
+is_space b = b == 32 || (nat_le 9 b && nat_le b 13)
+
+-- white space or none; it may cross lines
+abbrev pub IsBlank : List ℕ → Type 0
+IsBlank text = AllByRecursion (λ b. is_space b ≡ true) text
+
+-- without white space
+abbrev pub IsSolid : List ℕ → Type 0
+IsSolid text = AllByRecursion (λ b. is_space b ≡ false) text
+
+-- the text is, at some split, a front for which P holds and then a rest for which Q holds
+abbrev pub Then : (List ℕ → Type 0) → (List ℕ → Type 0) → List ℕ → Type 0
+Then P Q text = (front rest : List ℕ) × (text ≡ front ++ rest) × P front × Q rest
+
+-- what stands before a line: nothing, or a text that ends with a newline
+abbrev pub IsLineStart : List ℕ → Type 0
+IsLineStart before = (before ≡ []) ⊎ ((lines : List ℕ) × (before ≡ lines ++ 10 ∷ []))
+
+-- what stands behind a line: nothing, or a text that begins with a newline
+abbrev pub IsLineEnd : List ℕ → Type 0
+IsLineEnd after = (after ≡ []) ⊎ ((lines : List ℕ) × (after ≡ 10 ∷ lines))
+
+-- a `"`, or nothing where there is none
+abbrev pub IsQuote : Bool → List ℕ → Type 0
+IsQuote true front = front ≡ 34 ∷ []
+IsQuote false front = front ≡ []
+
+abbrev pub IsOptionalQuote : List ℕ → Type 0
+IsOptionalQuote front = (quoted : Bool) × IsQuote quoted front
+
+abbrev pub IsEquals : List ℕ → Type 0
+IsEquals front = front ≡ 61 ∷ []
+
+-- `excludesfile` in any ASCII case
+abbrev pub IsKey : List ℕ → Type 0
+IsKey front = map to_ascii_lowercase front ≡ codes "excludesfile"
+
+-- white space or none, and then the end of the file or just before a newline
+abbrev pub EndsLine : List ℕ → Type 0
+EndsLine text = Then IsBlank IsLineEnd text
+
+-- what follows the value: white space or none, an optional `"`, and the line ends
+abbrev pub Closes : List ℕ → Type 0
+Closes text = Then IsBlank (Then IsOptionalQuote EndsLine) text
+
+-- the value, nonempty and without white space, and what follows it
+abbrev pub HasValue : List ℕ → List ℕ → Type 0
+HasValue value text = Then (λ front. (front ≡ value) × (value ≢ []) × IsSolid value) Closes text
+
+-- what follows the equals sign: white space or none, a `"` where the value is quoted, white space or none, and the value
+abbrev pub Assigns : Bool → List ℕ → List ℕ → Type 0
+Assigns quoted value text = Then IsBlank (Then (IsQuote quoted) (Then IsBlank (HasValue value))) text
+
+-- the key, white space or none, the equals sign, and what follows it
+abbrev pub SetsKey : Bool → List ℕ → List ℕ → Type 0
+SetsKey quoted value text = Then IsKey (Then IsBlank (Then IsEquals (Assigns quoted value))) text
+
+-- a reading of a configuration: this many bytes, which are lines and white space or none; then the key with this value
+abbrev pub Reads : List ℕ → ℕ → Bool → List ℕ → Type 0
+Reads text place quoted value = (before rest : List ℕ) × (text ≡ before ++ rest) × (place ≡ length before) × Then IsLineStart IsBlank before × SetsKey quoted value rest
+
+-- the shortest value for which P holds, or none where it holds for no value
+abbrev pub IsShortest : (List ℕ → Type 0) → Option (List ℕ) → Type 0
+IsShortest P None = (value : List ℕ) → ¬ P value
+IsShortest P (Some value) = P value × ((other : List ℕ) → P other → length value ≤ length other)
+
+-- of the readings of one key: those that read a `"` as the quote come first, and then the shortest value
+abbrev pub IsPreferred : (Bool → List ℕ → Type 0) → Option (List ℕ) → Type 0
+IsPreferred R None = (quoted : Bool) (value : List ℕ) → ¬ R quoted value
+IsPreferred R (Some value) = IsShortest (R true) (Some value) ⊎ (IsShortest (R true) None × IsShortest (R false) (Some value))
+
+-- of all readings: the first key that has one, and there the preferred
+abbrev pub IsChosen : List ℕ → Option (List ℕ) → Type 0
+IsChosen text None = (place : ℕ) → IsPreferred (Reads text place) None
+IsChosen text (Some value) = (place : ℕ) × IsPreferred (Reads text place) (Some value) × ((earlier : ℕ) → earlier < place → IsPreferred (Reads text earlier) None)
+
+-- the value of a configuration: the chosen one if it is UTF-8
+abbrev pub IsValue : List ℕ → Option (List ℕ) → Type 0
+IsValue text None = IsChosen text None ⊎ ((value : List ℕ) × IsChosen text (Some value) × ¬ IsUtf8 value)
+IsValue text (Some value) = IsChosen text (Some value) × IsUtf8 value
+
+-- the text without the white space that it begins with
+abbrev pub trimmed : List ℕ → List ℕ
+trimmed [] = []
+trimmed (b ∷ bs) = if is_space b then trimmed bs else b ∷ bs
+
+-- no byte, or first one of white space
+abbrev pub StartsBlank : List ℕ → Type 0
+StartsBlank [] = ⊤
+StartsBlank (b ∷ bs) = is_space b ≡ true
+
+-- the word less a `"` at its end, if something is left, else the word
+abbrev pub IsUnquoted : List ℕ → List ℕ → Type 0
+IsUnquoted word value = ((value ≢ []) × (word ≡ value ++ 34 ∷ [])) ⊎ ((value ≡ word) × ((front : List ℕ) → front ≢ [] → word ≢ front ++ 34 ∷ []))
