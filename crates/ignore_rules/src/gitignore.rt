@@ -5,6 +5,7 @@ mod config;
 mod excludes;
 mod file;
 mod glob;
+mod global;
 pub mod laws;
 mod line;
 mod matcher;
