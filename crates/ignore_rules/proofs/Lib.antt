@@ -1,5 +1,10 @@
 pub mod AnswerLemmas
 pub mod BuilderLemmas
+pub mod CutLemmas
+pub mod FileLemmas
+pub mod FolderLemmas
+pub mod MarkLemmas
+pub mod ParentLemmas
 pub mod TakingLemmas
 pub mod TextLemmas
 mod WorkedLines

@@ -12,3 +12,7 @@ pub mod Defaults
 pub mod TypeMatch
 pub mod Building
 pub mod Overrides
+pub mod RuleFile
+pub mod RuleSteps
+pub mod Matchers
+pub mod Parents

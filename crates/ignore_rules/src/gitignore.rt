@@ -3,10 +3,14 @@
 mod builder;
 mod config;
 mod excludes;
+mod file;
 mod glob;
+mod global;
 pub mod laws;
 mod line;
 mod matcher;
+mod open;
+mod parents;
 
 pub use builder::GitignoreBuilder;
 pub use config::gitconfig_excludes_path;

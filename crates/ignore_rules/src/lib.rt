@@ -1,4 +1,4 @@
-//! Rules over paths: the lines and files of gitignore(5), the excludes file of git's configuration, and file types.
+//! Rules over paths: the lines and files of gitignore(5), the excludes file of git's configuration, overrides and file types.
 #![tactic(auto)]
 
 pub mod default_types;

@@ -25,6 +25,8 @@ mod globs;
 #[cfg(test)]
 mod overrides;
 #[cfg(test)]
+mod rulefiles;
+#[cfg(test)]
 mod text;
 #[cfg(test)]
 mod trees;

@@ -1,5 +1,5 @@
 //! Lines added to rules.
-ghost use Rattle.std.specs.Prelude.{◌≡◌, ◌⊎◌, ◌++◌, ◌∷◌, [], None, Some, IfOk, IfErr, OnOk, OnErr, IsOk, option_map, string_bytes};
+ghost use Rattle.std.specs.Prelude.{◌≡◌, ◌⊎◌, ◌++◌, ◌∷◌, [], None, Some, IfOk, IfErr, OnOk, OnErr, IsOk, option_map, string_bytes, length, take};
 ghost use Rattle.ignore_glob.specs.Problem.{told, memory};
 ghost use Rattle.ignore_rules.specs.Rules.{begun, AddsLine, Refuses, AddsWritten, SaysFault, built, with_rule, with_case_insensitive, with_unclosed_class};
 
@@ -81,7 +81,11 @@ impl GitignoreBuilder {
         }
     }
 
-    fn push_written(&mut self, from: Option<String>, written: Written) -> Result<(), Error>
+    pub(crate) fn push_written(
+        &mut self,
+        from: Option<String>,
+        written: Written,
+    ) -> Result<(), Error>
         ensures added { OnOk result (AddsWritten self.old (option_map string_bytes from) (Some written) self.new) }
         ensures refused { IfErr result (λ e. (told e ≡ memory) ⊎ SaysFault self.old.options (Some written) (told e)) }
         ensures unchanged { OnErr result (self.new ≡ self.old) }
@@ -147,6 +151,26 @@ impl GitignoreBuilder {
     {
         self.options.allow_unclosed_class = yes;
         self
+    }
+}
+
+/// For the rest of the crate.
+impl GitignoreBuilder {
+    pub(crate) fn allocator(&self) -> Global {
+        *self.root.allocator()
+    }
+
+    pub(crate) fn rule_count(&self) -> usize
+        ensures { result ≡ length self.now.rules }
+    {
+        self.globs.len()
+    }
+
+    /// Drops the rules behind the first `count`.
+    pub(crate) fn truncate_rules(&mut self, count: usize)
+        ensures { self.new ≡ record { root = self.old.root; rules = take count self.old.rules; options = self.old.options } }
+    {
+        self.globs.truncate(count);
     }
 }
 

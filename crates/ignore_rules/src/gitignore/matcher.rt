@@ -114,7 +114,7 @@ impl Gitignore {
     }
 }
 
-fn last_answer<'g>(globs: &'g [Glob], text: &[char], is_dir: bool) -> Match<&'g Glob>
+pub(crate) fn last_answer<'g>(globs: &'g [Glob], text: &[char], is_dir: bool) -> Match<&'g Glob>
     ensures { match_map (λ g. g.now) result ≡ list_answer globs.now text.now is_dir }
 {
     for i in (0..globs.len()).rev() {
@@ -124,6 +124,19 @@ fn last_answer<'g>(globs: &'g [Glob], text: &[char], is_dir: bool) -> Match<&'g 
         }
     }
     Match::None
+}
+
+/// For the rest of the crate.
+impl Gitignore {
+    pub(crate) fn allocator(&self) -> Global {
+        *self.globs.allocator()
+    }
+
+    pub(crate) fn rules(&self) -> &[Glob]
+        ensures { result.now ≡ self.now.rules }
+    {
+        &self.globs
+    }
 }
 
 impl Clone for Gitignore {

@@ -1,0 +1,84 @@
+-- What a file of rules adds to a builder: its bytes are cut into lines, and each line is added in turn.
+use Rattle.std.specs.Prelude.{◌≡◌, ℕ, ◌+◌, ◌==◌, Bool, true, false, nat_eq, List, [], ◌∷◌, ◌++◌, map, Option, None, Some, Result, Ok, Err, if◌then◌else◌}
+use Rattle.std.specs.List.{slice_split, starts_with}
+use Rattle.std.specs.Str.{is_utf8}
+use Rattle.std.specs.Str.Lines.{lines, strip_carriage_return}
+use Rattle.ignore_glob.specs.declared.fault.Fault.{Fault}
+use Rattle.ignore_glob.specs.declared.fault.Fault.TheVariants.{InvalidData}
+use Rattle.ignore_glob.specs.Problem.{Problem, several, at_line, at_path, at_depth, loop, io, glob, unrecognized, invalid_definition, memory, joined}
+use Rattle.ignore_files.specs.declared.types.Contents.{Contents}
+use Rattle.ignore_files.specs.Tree.{Tree}
+use Rattle.ignore_rules.specs.Rules.{Building, AddsLine, Refuses}
+
+-- U+FEFF in UTF-8
+abbrev pub mark : List ℕ
+mark = 239 ∷ (187 ∷ (191 ∷ []))
+
+-- the text without each U+FEFF that it begins with
+abbrev pub unmarked : List ℕ → List ℕ
+unmarked [] = []
+unmarked (a ∷ []) = a ∷ []
+unmarked (a ∷ (b ∷ [])) = a ∷ (b ∷ [])
+unmarked (a ∷ (b ∷ (c ∷ text))) = if starts_with nat_eq (a ∷ (b ∷ (c ∷ text))) mark then unmarked text else a ∷ (b ∷ (c ∷ text))
+
+-- what the line with a number says: marks go from the first
+abbrev pub said_at : ℕ → List ℕ → List ℕ
+said_at number line = if number == 1 then unmarked line else line
+
+-- a line that is met: a text, or the fault that it isn't one
+abbrev pub met : List ℕ → Result (List ℕ) Fault
+met line = if is_utf8 line then Ok line else Err InvalidData
+
+-- of the pieces between line ends the lines that have an end: all but the last
+abbrev pub ended_of_parts : List (List ℕ) → List (List ℕ)
+ended_of_parts [] = []
+ended_of_parts (last ∷ []) = []
+ended_of_parts (line ∷ (next ∷ more)) = strip_carriage_return line ∷ ended_of_parts (next ∷ more)
+
+abbrev pub ended_lines : List ℕ → List (List ℕ)
+ended_lines bytes = ended_of_parts (slice_split (λ b. b == 10) bytes)
+
+-- what is met, line by line: the lines of a file that was read to its end; before a fault the lines that have an end, and then the fault
+abbrev pub lines_met : List ℕ → Option Fault → List (Result (List ℕ) Fault)
+lines_met bytes None = map met (lines bytes)
+lines_met bytes (Some fault) = map met (ended_lines bytes) ++ Err fault ∷ []
+
+-- a problem in a file: an empty path isn't told
+abbrev pub in_file : List ℕ → Problem → Problem
+in_file [] problem = problem
+in_file (c ∷ path) problem = at_path (c ∷ path) problem
+
+abbrev pub at_line_of : List ℕ → ℕ → Problem → Problem
+at_line_of path number problem = in_file path (at_line number problem)
+
+-- from the old builder to the new one, what was met from the line with a number on was added, with these problems: a line adds its rule, if any, or is refused, and reading stops at a fault
+pub data AddsLines (path : List ℕ) : ℕ → List (Result (List ℕ) Fault) → Building → Building → List Problem → Type 0 where
+  done : (number : ℕ) (old : Building) → AddsLines path number [] old old []
+  stopped : (number : ℕ) (fault : Fault) (more : List (Result (List ℕ) Fault)) (old : Building) → AddsLines path number (Err fault ∷ more) old old (at_line_of path number (io fault) ∷ [])
+  added : (number : ℕ) (line : List ℕ) (more : List (Result (List ℕ) Fault)) (old between new : Building) (problems : List Problem)
+      → AddsLine old (Some path) (said_at number line) between → AddsLines path (number + 1) more between new problems → AddsLines path number (Ok line ∷ more) old new problems
+  refused : (number : ℕ) (line : List ℕ) (more : List (Result (List ℕ) Fault)) (old new : Building) (problem : Problem) (problems : List Problem)
+      → Refuses old.options (said_at number line) problem → AddsLines path (number + 1) more old new problems → AddsLines path number (Ok line ∷ more) old new (at_line_of path number problem ∷ problems)
+
+-- what a file gave was added, with this problem, if any: all problems of its lines as one, or that it can't be opened
+abbrev pub AddsContents : List ℕ → Result Contents Fault → Building → Building → Option Problem → Type 0
+AddsContents path (Ok contents) old new problem =
+    (problems : List Problem) × AddsLines path 1 (lines_met contents.bytes contents.fault) old new problems × (problem ≡ joined problems)
+AddsContents path (Err fault) old new problem = (new ≡ old) × (problem ≡ Some (at_path path (io fault)))
+
+-- the file at the path in the tree was added
+abbrev pub AddsFile : Tree → List ℕ → Building → Building → Option Problem → Type 0
+AddsFile tree path old new problem = AddsContents path (tree.contents path) old new problem
+
+-- the problem is that memory ran out
+abbrev pub is_memory : Problem → Bool
+is_memory (several ps) = false
+is_memory (at_line line p) = false
+is_memory (at_path path p) = false
+is_memory (at_depth depth p) = false
+is_memory (loop ancestor child) = false
+is_memory (io fault) = false
+is_memory (glob pattern err) = false
+is_memory (unrecognized name) = false
+is_memory invalid_definition = false
+is_memory memory = true

@@ -1,0 +1,224 @@
+//! Files of rules added to a builder.
+ghost use Rattle.std.specs.Prelude.{◌≡◌, ◌⊎◌, ◌++◌, ◌∷◌, [], ◌<◌, ◌≤◌, ◌+◌, length, take, drop, map, None, Some, Ok, Err, IfOk, IfErr, OnOk, OnErr, option_map, List, Result};
+ghost use Rattle.std.specs.Str.Lines.{strip_carriage_return};
+ghost use Rattle.ignore_files.specs.Gives.{IsHonest};
+ghost use Rattle.ignore_files.specs.Tree.{Tree};
+ghost use Rattle.ignore_glob.specs.Problem.{told, memory, at_path, io, Problem};
+ghost use Rattle.ignore_rules.specs.Rules.{AddsLine, Refuses};
+ghost use Rattle.ignore_rules.specs.RuleFile.{AddsFile, AddsContents, AddsLines, lines_met, at_line_of, in_file, is_memory, said_at, unmarked};
+ghost use Rattle.ignore_rules.specs.RuleSteps.{IsOnePiece, IsMetAs, IsLastMet, IsLineAt, TakesLine, Keeps};
+
+use crate::gitignore::builder::GitignoreBuilder;
+use crate::gitignore::line::Written;
+use ignore_files::{Contents, Fault, Files, Refusal};
+use ignore_glob::Error;
+use memchr::memchr;
+use std::alloc::{AllocError, Global};
+use std::str;
+
+/// What stands at a place where a line begins.
+#[derive(Drop)]
+enum Line<'b> {
+    /// A line, and the place behind it.
+    Text(&'b str, usize),
+    /// The fault that keeps the line from being read.
+    Fault(Fault),
+    /// The end of the file.
+    End,
+}
+
+impl GitignoreBuilder {
+    /// Adds the rules of a file, line by line, as `add_line` does with the path as `from`.
+    ///
+    /// A line ends before `\n` or `\r\n`. Each U+FEFF that the file begins with is passed over.
+    /// Reading stops at the first line that isn't UTF-8 (`Fault::InvalidData`) or in which a fault of the file system falls; the lines before it count.
+    ///
+    /// The answer tells what is wrong with the file: that it can't be opened, as `Error::WithPath` of `Error::Io`, or what is wrong with each of its lines, as `Error::WithPath` of `Error::WithLineNumber` (without the path where that is empty). Several errors are one `Error::Partial`, in order.
+    ///
+    /// # Errors
+    /// `Error::Memory` alone, and then the builder is as before.
+    pub fn add<F: Files>(&mut self, files: &F, path: &str) -> Result<Option<Error>, Error>
+        ensures added { (tree : Tree) → IsHonest F.Files files.now tree → IfOk result (λ problem. AddsFile tree path.now self.old self.new (option_map told problem)) }
+        ensures refused { IfErr result (λ e. told e ≡ memory) }
+        ensures unchanged { OnErr result (self.new ≡ self.old) }
+    {
+        match files.contents(self.allocator(), path) {
+            Ok(contents) => self.add_contents(path, &contents),
+            Err(Refusal::Fault(fault)) => match at_path(
+                self.allocator(),
+                path,
+                Error::from(fault),
+            ) {
+                Ok(error) => Ok(Some(error)),
+                Err(_) => Err(Error::Memory),
+            },
+            Err(Refusal::Memory) => Err(Error::Memory),
+        }
+    }
+
+    fn add_contents(&mut self, path: &str, contents: &Contents) -> Result<Option<Error>, Error>
+        ensures added { IfOk result (λ problem. AddsContents path.now (Ok contents.now) self.old self.new (option_map told problem)) }
+        ensures refused { IfErr result (λ e. told e ≡ memory) }
+        ensures unchanged { OnErr result (self.new ≡ self.old) }
+    {
+        let count = self.rule_count();
+        match self.add_lines(path, contents.bytes.as_slice(), contents.fault) {
+            Ok(problems) => Ok(Error::joined(problems)),
+            Err(_) => {
+                self.truncate_rules(count);
+                Err(Error::Memory)
+            }
+        }
+    }
+
+    fn add_lines(
+        &mut self,
+        path: &str,
+        bytes: &[u8],
+        fault: Option<Fault>,
+    ) -> Result<Vec<Error>, AllocError>
+        ensures added { IfOk result (λ problems. AddsLines path.now 1 (lines_met bytes.now fault) self.old self.new (map told problems.items)) }
+        ensures kept { Keeps self.old self.new }
+    {
+        let mut problems = Vec::new(self.allocator());
+        let mut at = 0;
+        let mut number = 0;
+        loop {
+            match line_at(bytes, at, fault) {
+                Line::Text(text, next) => {
+                    at = next;
+                    number += 1;
+                    self.take_line(path, number, text, &mut problems)?;
+                }
+                Line::Fault(fault) => {
+                    let error = at_line(self.allocator(), path, number + 1, Error::from(fault))?;
+                    problems.push(error)?;
+                    return Ok(problems);
+                }
+                Line::End => return Ok(problems),
+            }
+        }
+    }
+
+    /// Adds the line with a number; what is wrong with it goes to the problems.
+    fn take_line(
+        &mut self,
+        path: &str,
+        number: u64,
+        line: &str,
+        problems: &mut Vec<Error>,
+    ) -> Result<(), AllocError>
+        ensures taken { OnOk result (TakesLine path.now number line.now self.old self.new (map told problems.old.items) (map told problems.new.items)) }
+        ensures kept { Keeps self.old self.new }
+    {
+        match self.push_line_of(path, said_at(number, line)) {
+            Ok(()) => Ok(()),
+            Err(error) => {
+                if is_memory(&error) {
+                    return Err(AllocError);
+                }
+                let error = at_line(self.allocator(), path, number, error)?;
+                problems.push(error)?;
+                Ok(())
+            }
+        }
+    }
+
+    /// As `push_line`, with a path as `from`, which is copied for a rule alone.
+    fn push_line_of(&mut self, path: &str, line: &str) -> Result<(), Error>
+        ensures added { OnOk result (AddsLine self.old (Some path.now) line.now self.new) }
+        ensures refused { IfErr result (λ e. (told e ≡ memory) ⊎ Refuses self.old.options line.now (told e)) }
+        ensures unchanged { OnErr result (self.new ≡ self.old) }
+    {
+        match Written::of(self.allocator(), line) {
+            Ok(Some(written)) => match String::from_str(self.allocator(), path) {
+                Ok(from) => self.push_written(Some(from), written),
+                Err(_) => Err(Error::Memory),
+            },
+            Ok(None) => Ok(()),
+            Err(_) => Err(Error::Memory),
+        }
+    }
+}
+
+fn line_at(bytes: &[u8], at: usize, fault: Option<Fault>) -> Line<'_>
+    requires { at ≤ length bytes.now }
+    ensures { IsLineAt bytes.now fault at result }
+{
+    let rest = &bytes[at..];
+    match memchr(b'\n', rest) {
+        Some(end) => line_of(without_return(&rest[..end]), at + end + 1),
+        None => last_line(rest, fault, bytes.len()),
+    }
+}
+
+/// The line without a line end, if it isn't empty; a fault falls in it.
+fn last_line(rest: &[u8], fault: Option<Fault>, end: usize) -> Line<'_>
+    requires { IsOnePiece rest.now }
+    ensures { IsLastMet rest.now fault end result }
+{
+    match fault {
+        Some(fault) => Line::Fault(fault),
+        None if rest.is_empty() => Line::End,
+        None => line_of(rest, end),
+    }
+}
+
+fn line_of(line: &[u8], next: usize) -> Line<'_>
+    ensures { IsMetAs line.now next result }
+{
+    match str::from_utf8(line) {
+        Ok(text) => Line::Text(text, next),
+        Err(_) => Line::Fault(Fault::InvalidData),
+    }
+}
+
+fn without_return(line: &[u8]) -> &[u8]
+    ensures { result.now ≡ strip_carriage_return line.now }
+{
+    if !line.is_empty() && line[line.len() - 1] == b'\r' {
+        &line[..line.len() - 1]
+    } else {
+        line
+    }
+}
+
+/// The line with a number, of the first without each U+FEFF that it begins with.
+fn said_at(number: u64, line: &str) -> &str
+    ensures { result.now ≡ said_at number line.now }
+{
+    if number == 1 { unmarked(line) } else { line }
+}
+
+fn unmarked(text: &str) -> &str
+    ensures { result.now ≡ unmarked text.now }
+{
+    text.trim_start_matches("\u{feff}")
+}
+
+fn is_memory(error: &Error) -> bool
+    ensures { result ≡ is_memory (told error.now) }
+{
+    matches!(error, Error::Memory)
+}
+
+/// The error with the line of a file that it stands at.
+fn at_line(alloc: Global, path: &str, line: u64, err: Error) -> Result<Error, AllocError>
+    ensures { IfOk result (λ e. told e ≡ at_line_of path.now line (told err)) }
+{
+    let err = Box::new(alloc, err)?;
+    let error = Error::WithLineNumber { line, err };
+    if path.is_empty() {
+        Ok(error)
+    } else {
+        at_path(alloc, path, error)
+    }
+}
+
+fn at_path(alloc: Global, path: &str, err: Error) -> Result<Error, AllocError>
+    ensures { IfOk result (λ e. told e ≡ at_path path.now (told err)) }
+{
+    let path = String::from_str(alloc, path)?;
+    let err = Box::new(alloc, err)?;
+    Ok(Error::WithPath { path, err })
+}

@@ -1,0 +1,91 @@
+//! Matchers of the global file, which git's configuration names.
+ghost use Rattle.std.specs.Prelude.{◌≡◌, ℕ, List, Option, true, IfOk, IfErr, option_map, string_bytes};
+ghost use Rattle.ignore_files.specs.Gives.{IsHonest};
+ghost use Rattle.ignore_files.specs.Tree.{Tree};
+ghost use Rattle.ignore_glob.specs.Problem.{told, memory};
+ghost use Rattle.ignore_rules.specs.ExcludesSearch.{IsExcludesPath};
+ghost use Rattle.ignore_rules.specs.Matchers.{BuildsGlobal, IsGlobalMatcher, global_file, says_file};
+
+use crate::gitignore::builder::GitignoreBuilder;
+use crate::gitignore::config::gitconfig_excludes_path;
+use crate::gitignore::matcher::Gitignore;
+use ignore_files::{Env, Fault, Files, Refusal};
+use ignore_glob::Error;
+use std::alloc::Global;
+
+impl GitignoreBuilder {
+    /// The matcher of this builder's rules and then those of the global file, and what is wrong with that file, as `add` tells it. The global file is where `gitconfig_excludes_path` leads, if a file is there; where none is, the answer is the empty matcher, and the rules that were added go too. A fault of the file system isn't told.
+    ///
+    /// The rules of the global file are relative to the root of this builder, as in the original.
+    ///
+    /// # Errors
+    /// `Error::Memory` alone.
+    pub fn build_global<F: Files>(
+        self,
+        files: &F,
+        env: &Env,
+    ) -> Result<(Gitignore, Option<Error>), Error>
+        ensures read { (tree : Tree) → IsHonest F.Files files.now tree → IfOk result (λ r. BuildsGlobal tree env.now self r.0 (option_map told r.1)) }
+        ensures refused { IfErr result (λ e. told e ≡ memory) }
+    {
+        let alloc = self.allocator();
+        match global_file(alloc, files, env)? {
+            None => Ok((Gitignore::empty(alloc), None)),
+            Some(path) => self.build_file(files, path.as_str()),
+        }
+    }
+}
+
+impl Gitignore {
+    /// The matcher of the global file, relative to the working directory of `env`, and what is wrong with the file, as `GitignoreBuilder::build_global` tells it. Where the working directory isn't known, the answer is the empty matcher and `Error::Io` of `Fault::NoCurrentDir`.
+    ///
+    /// # Errors
+    /// `Error::Memory` alone.
+    pub fn global<F: Files>(
+        alloc: Global,
+        files: &F,
+        env: &Env,
+    ) -> Result<(Gitignore, Option<Error>), Error>
+        ensures read { (tree : Tree) → IsHonest F.Files files.now tree → IfOk result (λ r. IsGlobalMatcher tree env.now r.0 (option_map told r.1)) }
+        ensures refused { IfErr result (λ e. told e ≡ memory) }
+    {
+        match &env.current_dir {
+            None => {
+                let error = Error::from(Fault::NoCurrentDir);
+                Ok((Gitignore::empty(alloc), Some(error)))
+            }
+            Some(dir) => {
+                let builder = GitignoreBuilder::new(alloc, dir.as_str())?;
+                builder.build_global(files, env)
+            }
+        }
+    }
+}
+
+/// The path of the global file, if a file is there.
+fn global_file<F: Files>(alloc: Global, files: &F, env: &Env) -> Result<Option<String>, Error>
+    ensures found { (tree : Tree) → IsHonest F.Files files.now tree → IfOk result (λ path. (found : Option (List ℕ)) × IsExcludesPath tree env.now found × (option_map string_bytes path ≡ global_file tree found)) }
+    ensures refused { IfErr result (λ e. told e ≡ memory) }
+{
+    match gitconfig_excludes_path(alloc, files, env)? {
+        None => Ok(None),
+        Some(path) => {
+            if is_file(alloc, files, path.as_str())? {
+                Ok(Some(path))
+            } else {
+                Ok(None)
+            }
+        }
+    }
+}
+
+fn is_file<F: Files>(alloc: Global, files: &F, path: &str) -> Result<bool, Error>
+    ensures kind { (tree : Tree) → IsHonest F.Files files.now tree → IfOk result (λ yes. yes ≡ says_file (tree.stat path.now true)) }
+    ensures refused { IfErr result (λ e. told e ≡ memory) }
+{
+    match files.stat(alloc, path, true) {
+        Ok(metadata) => Ok(metadata.is_file()),
+        Err(Refusal::Fault(_)) => Ok(false),
+        Err(Refusal::Memory) => Err(Error::Memory),
+    }
+}

@@ -1,0 +1,69 @@
+//! Matchers of whole files.
+ghost use Rattle.std.specs.Prelude.{◌≡◌, IfOk, IfErr, option_map};
+ghost use Rattle.ignore_files.specs.Gives.{IsHonest};
+ghost use Rattle.ignore_files.specs.Tree.{Tree};
+ghost use Rattle.ignore_glob.specs.Problem.{told, memory};
+ghost use Rattle.ignore_rules.specs.Matchers.{IsMatcherOf, BuildsFile, folder_of, without_fault};
+
+use crate::gitignore::builder::GitignoreBuilder;
+use crate::gitignore::matcher::Gitignore;
+use ignore_files::Files;
+use ignore_glob::Error;
+use memchr::memrchr;
+use std::alloc::Global;
+
+impl Gitignore {
+    /// The matcher of one file of rules, relative to the directory of the file, and what is wrong with the file, as `GitignoreBuilder::add` tells it. The directory is what stands before the last `/` of the path: the empty text without a `/`, and `/` for a path directly below it. One leading `./` of it goes.
+    ///
+    /// A fault of the file system isn't told: a file that can't be read gives the rules of the lines before the fault, or none.
+    ///
+    /// # Errors
+    /// `Error::Memory` alone.
+    pub fn new<F: Files>(
+        alloc: Global,
+        files: &F,
+        path: &str,
+    ) -> Result<(Gitignore, Option<Error>), Error>
+        ensures read { (tree : Tree) → IsHonest F.Files files.now tree → IfOk result (λ r. IsMatcherOf tree path.now r.0 (option_map told r.1)) }
+        ensures refused { IfErr result (λ e. told e ≡ memory) }
+    {
+        let builder = GitignoreBuilder::new(alloc, folder_of(path))?;
+        builder.build_file(files, path)
+    }
+}
+
+impl GitignoreBuilder {
+    /// The matcher of this builder's rules and then those of a file, and what is wrong with that.
+    pub(crate) fn build_file<F: Files>(
+        mut self,
+        files: &F,
+        path: &str,
+    ) -> Result<(Gitignore, Option<Error>), Error>
+        ensures read { (tree : Tree) → IsHonest F.Files files.now tree → IfOk result (λ r. BuildsFile tree path.now self r.0 (option_map told r.1)) }
+        ensures refused { IfErr result (λ e. told e ≡ memory) }
+    {
+        let error = self.add(files, path)?;
+        Ok((self.into_gitignore(), without_fault(error)))
+    }
+}
+
+/// What stands before the last slash.
+fn folder_of(path: &str) -> &str
+    ensures { result.now ≡ folder_of path.now }
+{
+    match memrchr(b'/', path.as_bytes()) {
+        None => "",
+        Some(0) => "/",
+        Some(slash) => &path[..slash],
+    }
+}
+
+/// The error, unless it comes down to a fault.
+pub(crate) fn without_fault(error: Option<Error>) -> Option<Error>
+    ensures { option_map told result ≡ without_fault (option_map told error) }
+{
+    match error {
+        None => None,
+        Some(error) => { if error.is_io() { None } else { Some(error) } }
+    }
+}
