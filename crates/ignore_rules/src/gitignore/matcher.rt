@@ -131,12 +131,6 @@ impl Gitignore {
     pub(crate) fn allocator(&self) -> Global {
         *self.globs.allocator()
     }
-
-    pub(crate) fn rules(&self) -> &[Glob]
-        ensures { result.now ≡ self.now.rules }
-    {
-        &self.globs
-    }
 }
 
 impl Clone for Gitignore {
