@@ -17,6 +17,8 @@ macro_rules! again {
 #[cfg(test)]
 mod errors;
 #[cfg(test)]
+mod example;
+#[cfg(test)]
 mod excludes;
 #[cfg(test)]
 mod gitignores;
