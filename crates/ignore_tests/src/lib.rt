@@ -15,22 +15,6 @@ macro_rules! again {
 }
 
 #[cfg(test)]
-mod errors;
-#[cfg(test)]
 mod example;
 #[cfg(test)]
-mod excludes;
-#[cfg(test)]
-mod gitignores;
-#[cfg(test)]
-mod globs;
-#[cfg(test)]
 mod overrides;
-#[cfg(test)]
-mod rulefiles;
-#[cfg(test)]
-mod text;
-#[cfg(test)]
-mod trees;
-#[cfg(test)]
-mod types;
