@@ -16,5 +16,3 @@ macro_rules! again {
 
 #[cfg(test)]
 mod example;
-#[cfg(test)]
-mod overrides;
