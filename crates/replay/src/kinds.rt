@@ -1,0 +1,23 @@
+//! The kinds of vectors. A kind is one module with one function, from what is asked to the answer.
+
+mod glob;
+
+use crate::outcome::{Outcome, Trouble};
+use serde_json::Value;
+use std::alloc::Global;
+
+/// What the kind of this name answers, if there is one.
+pub fn answer(alloc: Global, kind: &str, input: &Value) -> Option<Result<Outcome, Trouble>> {
+    match kind {
+        "glob" => Some(glob::answer(alloc, input)),
+        _ => None,
+    }
+}
+
+/// The fields of a kind whose calls aren't there yet.
+pub fn waiting(kind: &str) -> &'static [&'static str] {
+    match kind {
+        "glob" => &["marks", "positions"],
+        _ => &[],
+    }
+}

@@ -1,0 +1,20 @@
+//! The program `replay`: asks the library what vectors ask, and compares whole answers.
+#![tactic(auto)]
+
+mod answer;
+mod compare;
+mod fields;
+mod input;
+mod kinds;
+mod outcome;
+mod replay;
+mod splits;
+mod tally;
+mod vector;
+
+use input::replay_all;
+use std::process::ExitCode;
+
+fn main(rt: HostRuntime) -> ExitCode {
+    ExitCode::from(replay_all(&rt))
+}
