@@ -1,5 +1,6 @@
 //! The kinds of vectors. A kind is one module with one function, from what is asked to the answer.
 
+mod error;
 mod glob;
 
 use crate::outcome::{Outcome, Trouble};
@@ -9,6 +10,7 @@ use std::alloc::Global;
 /// What the kind of this name answers, if there is one.
 pub fn answer(alloc: Global, kind: &str, input: &Value) -> Option<Result<Outcome, Trouble>> {
     match kind {
+        "error" => Some(error::answer(alloc, input)),
         "glob" => Some(glob::answer(alloc, input)),
         _ => None,
     }

@@ -3,6 +3,7 @@
 
 mod answer;
 mod compare;
+mod error;
 mod fields;
 mod input;
 mod kinds;
