@@ -2,6 +2,11 @@
 
 mod error;
 mod glob;
+mod overrides;
+mod path_or_parents;
+mod rules;
+mod strip;
+mod types;
 
 use crate::outcome::{Outcome, Trouble};
 use serde_json::Value;
@@ -12,6 +17,11 @@ pub fn answer(alloc: Global, kind: &str, input: &Value) -> Option<Result<Outcome
     match kind {
         "error" => Some(error::answer(alloc, input)),
         "glob" => Some(glob::answer(alloc, input)),
+        "override" => Some(overrides::answer(alloc, input)),
+        "path_or_parents" => Some(path_or_parents::answer(alloc, input)),
+        "rules" => Some(rules::answer(alloc, input)),
+        "strip" => Some(strip::answer(alloc, input)),
+        "types" => Some(types::answer(alloc, input)),
         _ => None,
     }
 }
