@@ -17,19 +17,25 @@ const OPS: &str = "ops";
 /// Answers `kind`, `refused`, `path`, `is_empty` and the counts.
 pub fn answer(alloc: Global, input: &Value) -> Result<Outcome, Trouble> {
     let path = text(input, "path")?;
-    let is_dir = flag(input, "is_dir")?;
-    let mut builder = builder(alloc, text(input, "root")?)?;
-    let refused = refusals(alloc, &mut builder, input)?;
-    if some_needs_too_many(input, path)? {
+    let collected = after_operations(alloc, input, path)?;
+    if collected.needs_too_many {
         return Ok(Outcome::Skipped(Reason::TooManySplits));
     }
-    let globs = build(&builder)?;
-    let kind = kind(&globs, path, is_dir)?;
+    let globs = build(&collected.builder)?;
+    let kind = kind(&globs, path, flag(input, "is_dir")?)?;
     let mut answer = Answer::new(alloc);
     answer.put_text("kind", kind)?;
-    answer.put("refused", Value::Array(refused))?;
+    answer.put("refused", Value::Array(collected.refused))?;
     put_readers(&mut answer, &globs)?;
     Ok(Outcome::Answer(answer.into_value()))
+}
+
+/// A builder after a vector's operations, what it refused, and whether one of its globs may need too many splits.
+#[derive(Drop)]
+struct Collected {
+    builder: OverrideBuilder,
+    refused: Vec<Value>,
+    needs_too_many: bool,
 }
 
 fn put_readers(answer: &mut Answer, globs: &Override) -> Result<(), Trouble> {
@@ -51,21 +57,31 @@ fn builder(alloc: Global, root: &str) -> Result<OverrideBuilder, Trouble> {
     }
 }
 
-/// Does the operations of a vector; the answer is what was refused.
-fn refusals(
-    alloc: Global,
-    builder: &mut OverrideBuilder,
-    input: &Value,
-) -> Result<Vec<Value>, Trouble> {
-    let mut refused = Vec::new(alloc);
+/// The builder of a vector, after its operations.
+fn after_operations(alloc: Global, input: &Value, path: &str) -> Result<Collected, Trouble> {
+    let mut collected = Collected {
+        builder: builder(alloc, text(input, "root")?)?,
+        refused: Vec::new(alloc),
+        needs_too_many: false,
+    };
     let mut number = 0u64;
     for op in list(input, OPS)? {
-        if let Some(error) = apply(builder, op)? {
-            refused.push(refusal(alloc, number, error)?)?;
+        match apply(&mut collected.builder, op)? {
+            Some(error) => collected.refused.push(refusal(alloc, number, error)?)?,
+            None => collected.needs_too_many |= is_too_much(op, path)?,
         }
         number = number.saturating_add(1);
     }
-    Ok(refused)
+    Ok(collected)
+}
+
+/// Whether an operation adds a glob that may need too many splits of a path.
+fn is_too_much(op: &Value, path: &str) -> Result<bool, Trouble> {
+    if text_at(op, 0, OPS)? != "line" {
+        return Ok(false);
+    }
+    let glob = text_at(op, 1, OPS)?;
+    Ok(!glob.starts_with('#') && needs_too_many(glob, path))
 }
 
 /// Does an operation; the answer is what is wrong with its glob.
@@ -104,16 +120,6 @@ fn add_once(builder: &mut OverrideBuilder, glob: &str) -> Result<Option<Error>, 
         Ok(_) => Ok(None),
         Err(error) => problem(error),
     }
-}
-
-/// Whether some glob may need too many splits of a path.
-fn some_needs_too_many(input: &Value, path: &str) -> Result<bool, Trouble> {
-    for op in list(input, OPS)? {
-        if text_at(op, 0, OPS)? == "line" && needs_too_many(text_at(op, 1, OPS)?, path) {
-            return Ok(true);
-        }
-    }
-    Ok(false)
 }
 
 /// The globs of a builder, asked for twice where memory is refused.
