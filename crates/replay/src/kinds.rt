@@ -1,6 +1,10 @@
 //! The kinds of vectors. A kind is one module with one function, from what is asked to the answer.
 
+mod excludes;
 mod glob;
+mod global;
+mod rulefile;
+mod tree;
 
 use crate::outcome::{Outcome, Trouble};
 use serde_json::Value;
@@ -9,7 +13,11 @@ use std::alloc::Global;
 /// What the kind of this name answers, if there is one.
 pub fn answer(alloc: Global, kind: &str, input: &Value) -> Option<Result<Outcome, Trouble>> {
     match kind {
+        "excludes" => Some(excludes::answer(alloc, input)),
         "glob" => Some(glob::answer(alloc, input)),
+        "global" => Some(global::answer(alloc, input)),
+        "rulefile" => Some(rulefile::answer(alloc, input)),
+        "tree" => Some(tree::answer(alloc, input)),
         _ => None,
     }
 }

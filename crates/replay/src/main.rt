@@ -3,11 +3,16 @@
 
 mod answer;
 mod compare;
+mod environment;
+mod error;
 mod fields;
+mod growth;
+mod hex_text;
 mod input;
 mod kinds;
 mod outcome;
 mod replay;
+mod rule_list;
 mod splits;
 mod tally;
 mod vector;
