@@ -2,7 +2,6 @@
 
 use crate::replay::{Stop, replay};
 use crate::tally::Tally;
-use std::fs::File;
 use std::io::Read;
 use std::rt::Env;
 use std::{env, fs, io};
@@ -51,16 +50,20 @@ fn replay_file(rt: &HostRuntime, path: &str, tally: &mut Tally) -> Result<(), St
 
 /// The words after the program's name, asked for twice where memory is refused.
 fn words(rt: &HostRuntime) -> Result<Vec<String>, Stop> {
-    if let Ok(words) = words_once(rt) {
-        return Ok(words);
-    }
     match words_once(rt) {
+        Err(Stop::Memory) => words_once(rt),
+        words => words,
+    }
+}
+
+fn words_once(rt: &HostRuntime) -> Result<Vec<String>, Stop> {
+    match all_words(rt) {
         Ok(words) => Ok(words),
         Err(error) => Err(stop_of(error)),
     }
 }
 
-fn words_once(rt: &(impl Env + AllocGlobal)) -> io::Result<Vec<String>> {
+fn all_words(rt: &(impl Env + AllocGlobal)) -> io::Result<Vec<String>> {
     let mut words = Vec::new(rt.alloc());
     for word in env::args(rt)?.skip(1) {
         words.push(word)?;
@@ -68,11 +71,15 @@ fn words_once(rt: &(impl Env + AllocGlobal)) -> io::Result<Vec<String>> {
     Ok(words)
 }
 
-/// What a file holds, read twice where that fails.
+/// What a file holds, read twice where memory is refused.
 fn contents(rt: &HostRuntime, path: &str) -> Result<Vec<u8>, Stop> {
-    if let Ok(bytes) = fs::read(rt, path) {
-        return Ok(bytes);
+    match contents_once(rt, path) {
+        Err(Stop::Memory) => contents_once(rt, path),
+        bytes => bytes,
     }
+}
+
+fn contents_once(rt: &HostRuntime, path: &str) -> Result<Vec<u8>, Stop> {
     match fs::read(rt, path) {
         Ok(bytes) => Ok(bytes),
         Err(error) => Err(stop_of(error)),
@@ -82,12 +89,16 @@ fn contents(rt: &HostRuntime, path: &str) -> Result<Vec<u8>, Stop> {
 /// What standard input holds. Where memory is refused it is read on from there.
 fn standard_input(rt: &HostRuntime) -> Result<Vec<u8>, Stop> {
     let mut bytes = Vec::new(rt.alloc());
-    let mut reader = rt.reader();
-    if reader.read_to_end(&mut bytes).is_ok() {
-        return Ok(bytes);
+    match read_on(rt, &mut bytes) {
+        Err(Stop::Memory) => read_on(rt, &mut bytes)?,
+        read => read?,
     }
-    match reader.read_to_end(&mut bytes) {
-        Ok(_) => Ok(bytes),
+    Ok(bytes)
+}
+
+fn read_on(rt: &HostRuntime, bytes: &mut Vec<u8>) -> Result<(), Stop> {
+    match rt.reader().read_to_end(bytes) {
+        Ok(_) => Ok(()),
         Err(error) => Err(stop_of(error)),
     }
 }

@@ -1,5 +1,6 @@
 //! The kinds of vectors. A kind is one module with one function, from what is asked to the answer.
 
+mod error;
 mod excludes;
 mod glob;
 mod global;
@@ -13,6 +14,7 @@ use std::alloc::Global;
 /// What the kind of this name answers, if there is one.
 pub fn answer(alloc: Global, kind: &str, input: &Value) -> Option<Result<Outcome, Trouble>> {
     match kind {
+        "error" => Some(error::answer(alloc, input)),
         "excludes" => Some(excludes::answer(alloc, input)),
         "glob" => Some(glob::answer(alloc, input)),
         "global" => Some(global::answer(alloc, input)),
