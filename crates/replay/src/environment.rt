@@ -19,11 +19,7 @@ pub fn environment(alloc: Global, value: &Value) -> Result<Env, Trouble> {
 }
 
 /// The variable that the member of this name is.
-pub fn variable(
-    alloc: Global,
-    value: &Value,
-    name: &'static str,
-) -> Result<Option<Name>, Trouble> {
+pub fn variable(alloc: Global, value: &Value, name: &'static str) -> Result<Option<Name>, Trouble> {
     let member = field(value, name)?;
     if member.is_null() {
         return Ok(None);

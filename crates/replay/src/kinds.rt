@@ -4,8 +4,13 @@ mod error;
 mod excludes;
 mod glob;
 mod global;
+mod overrides;
+mod path_or_parents;
 mod rulefile;
+mod rules;
+mod strip;
 mod tree;
+mod types;
 
 use crate::outcome::{Outcome, Trouble};
 use serde_json::Value;
@@ -18,8 +23,13 @@ pub fn answer(alloc: Global, kind: &str, input: &Value) -> Option<Result<Outcome
         "excludes" => Some(excludes::answer(alloc, input)),
         "glob" => Some(glob::answer(alloc, input)),
         "global" => Some(global::answer(alloc, input)),
+        "override" => Some(overrides::answer(alloc, input)),
+        "path_or_parents" => Some(path_or_parents::answer(alloc, input)),
         "rulefile" => Some(rulefile::answer(alloc, input)),
+        "rules" => Some(rules::answer(alloc, input)),
+        "strip" => Some(strip::answer(alloc, input)),
         "tree" => Some(tree::answer(alloc, input)),
+        "types" => Some(types::answer(alloc, input)),
         _ => None,
     }
 }

@@ -1,6 +1,7 @@
 //! The program `replay`: asks the library what vectors ask, and compares whole answers.
 #![tactic(auto)]
 
+mod again;
 mod answer;
 mod compare;
 mod environment;
@@ -12,7 +13,7 @@ mod input;
 mod kinds;
 mod outcome;
 mod replay;
-mod rule_list;
+mod rules;
 mod splits;
 mod tally;
 mod vector;

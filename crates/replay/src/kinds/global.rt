@@ -1,12 +1,13 @@
 //! The global file: where it is, and the rules that stand in it.
 
+use crate::again::{add_line, builder};
 use crate::answer::Answer;
 use crate::environment::{environment, excludes_path};
 use crate::error::told_or_null;
 use crate::fields::{field, list, text};
 use crate::growth::{CALLS, grown};
 use crate::outcome::{Outcome, Trouble};
-use crate::rule_list::{begun, rules_value};
+use crate::rules::rules_value;
 use ignore_files::{Env, MemoryTree};
 use ignore_glob::Error;
 use ignore_rules::gitignore::{Gitignore, GitignoreBuilder};
@@ -31,7 +32,7 @@ pub fn answer(alloc: Global, input: &Value) -> Result<Outcome, Trouble> {
     let mut answer = Answer::new(alloc);
     answer.put_text_or_null("path", path.as_deref())?;
     answer.put_text("root", matcher.path())?;
-    answer.put("rules", rules_value(alloc, matcher.rules())?)?;
+    answer.put("rules", rules_value(alloc, &matcher)?)?;
     answer.put("error", told_or_null(alloc, error.as_ref())?)?;
     Ok(Outcome::Answer(answer.into_value()))
 }
@@ -40,10 +41,10 @@ fn matcher(alloc: Global, input: &Value, tree: &MemoryTree, env: &Env) -> Result
     if input.get(LINES).is_none() {
         return global(alloc, tree, env);
     }
-    let mut builder = begun(alloc, ROOT)?;
+    let mut builder = builder(alloc, ROOT)?;
     for line in list(input, LINES)? {
         match line.as_str() {
-            Some(line) => add_line(&mut builder, line)?,
+            Some(line) => add(&mut builder, line)?,
             None => return Err(Trouble::Field(LINES)),
         }
     }
@@ -62,11 +63,7 @@ fn global(alloc: Global, tree: &MemoryTree, env: &Env) -> Result<Read, Trouble> 
 }
 
 /// The matcher of a builder and the global file. Where memory is refused a copy of the builder is asked.
-fn build_global(
-    builder: GitignoreBuilder,
-    tree: &MemoryTree,
-    env: &Env,
-) -> Result<Read, Trouble> {
+fn build_global(builder: GitignoreBuilder, tree: &MemoryTree, env: &Env) -> Result<Read, Trouble> {
     let spare = copied(&builder)?;
     if let Ok(read) = builder.build_global(tree, env) {
         return Ok(read);
@@ -88,24 +85,10 @@ fn copied(builder: &GitignoreBuilder) -> Result<GitignoreBuilder, Trouble> {
     }
 }
 
-/// Adds a line to a builder, and again where memory is refused. A line whose glob has a fault adds nothing.
-fn add_line(builder: &mut GitignoreBuilder, line: &str) -> Result<(), Trouble> {
-    if is_added(builder, line).is_ok() {
-        return Ok(());
-    }
-    is_added(builder, line)
-}
-
-fn is_added(builder: &mut GitignoreBuilder, line: &str) -> Result<(), Trouble> {
-    match builder.add_line(None, line) {
+/// Adds a line to a builder. What is wrong with it isn't told.
+fn add(builder: &mut GitignoreBuilder, line: &str) -> Result<(), Trouble> {
+    match add_line(builder, line) {
         Ok(_) => Ok(()),
-        Err(error) => unless_memory(error),
-    }
-}
-
-fn unless_memory(error: Error) -> Result<(), Trouble> {
-    match error {
-        Error::Memory => Err(Trouble::Memory),
-        _ => Ok(()),
+        Err(trouble) => Err(trouble),
     }
 }

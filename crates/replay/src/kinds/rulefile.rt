@@ -1,12 +1,13 @@
 //! The rules of a file, and what is told of it.
 
+use crate::again::{build, builder};
 use crate::answer::Answer;
 use crate::error::{fault_of, told_or_null};
 use crate::fields::{field, flag, item, text, text_at};
 use crate::growth::{add_dir, add_file, planted, standing};
 use crate::hex_text::bytes_of;
 use crate::outcome::{Outcome, Reason, Trouble};
-use crate::rule_list::{begun, built, rules_value};
+use crate::rules::rules_value;
 use ignore_files::MemoryTree;
 use ignore_glob::Error;
 use ignore_rules::gitignore::GitignoreBuilder;
@@ -29,7 +30,7 @@ pub fn answer(alloc: Global, input: &Value) -> Result<Outcome, Trouble> {
     }
     let path = text(input, "path")?;
     let tree = tree_of(alloc, path, input)?;
-    let mut builder = begun(alloc, ROOT)?;
+    let mut builder = builder(alloc, ROOT)?;
     set_case(&mut builder, flag(input, "ci")?)?;
     let error = added(&mut builder, &tree, path)?;
     told(alloc, &builder, &error)
@@ -40,9 +41,9 @@ fn told(
     builder: &GitignoreBuilder,
     error: &Option<Error>,
 ) -> Result<Outcome, Trouble> {
-    let matcher = built(builder)?;
+    let matcher = build(builder)?;
     let mut answer = Answer::new(alloc);
-    answer.put("rules", rules_value(alloc, matcher.rules())?)?;
+    answer.put("rules", rules_value(alloc, &matcher)?)?;
     answer.put("error", told_or_null(alloc, error.as_ref())?)?;
     answer.put_flag("is_io", is_io(error))?;
     answer.put_flag("is_partial", is_partial(error))?;

@@ -206,19 +206,22 @@ fn listing_value(alloc: Global, listing: &Listing) -> Result<Value, AllocError> 
 /// What is listed: `["entry", "a", "Dir"]`, or `["fault", "BadName"]`.
 fn listed_value(alloc: Global, listed: &Listed) -> Result<Value, AllocError> {
     match listed {
-        Listed::Entry { name, file_type } => {
-            texts_value(alloc, &["entry", name.as_str(), kind_name(*file_type)])
-        }
-        Listed::Fault(fault) => texts_value(alloc, &["fault", fault_name(*fault)]),
+        Listed::Entry { name, file_type } => entry_value(alloc, name.as_str(), *file_type),
+        Listed::Fault(fault) => listed_fault(alloc, *fault),
     }
 }
 
-fn texts_value(alloc: Global, texts: &[&str]) -> Result<Value, AllocError> {
-    let mut items = Vec::new(alloc);
-    for text in texts {
-        items.push(text_value(alloc, text)?)?;
-    }
-    Ok(Value::Array(items))
+fn entry_value(alloc: Global, name: &str, file_type: FileType) -> Result<Value, AllocError> {
+    let tag = text_value(alloc, "entry")?;
+    let name = text_value(alloc, name)?;
+    let kind = text_value(alloc, kind_name(file_type))?;
+    Ok(Value::Array(vec![in alloc; tag, name, kind]?))
+}
+
+fn listed_fault(alloc: Global, fault: Fault) -> Result<Value, AllocError> {
+    let tag = text_value(alloc, "fault")?;
+    let fault = fault_value(alloc, fault)?;
+    Ok(Value::Array(vec![in alloc; tag, fault]?))
 }
 
 fn identity_value(alloc: Global, identity: Option<Identity>) -> Result<Value, AllocError> {
