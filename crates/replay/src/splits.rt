@@ -51,7 +51,10 @@ fn begins_cut(glob: &[u8], place: usize) -> bool {
 /// Whether a `**` begins at a place, alone between slashes or the ends of the glob.
 fn is_between_slashes(glob: &[u8], place: usize) -> bool {
     let begins = place == 0 || byte(glob, place - 1) == Some(b'/');
-    begins && glob[place..].starts_with(b"**") && is_end(byte(glob, place + 2))
+    begins
+        && byte(glob, place) == Some(b'*')
+        && byte(glob, place.saturating_add(1)) == Some(b'*')
+        && is_end(byte(glob, place.saturating_add(2)))
 }
 
 fn is_end(byte: Option<u8>) -> bool {

@@ -202,12 +202,20 @@ fn answers(alloc: Global, input: &Value, types: &Types) -> Result<Value, Trouble
 
 /// What types say of a path, asked twice where memory is refused.
 fn matched<'t>(types: &'t Types, path: &str, is_dir: bool) -> Result<Match<Glob<'t>>, Trouble> {
-    if let Ok(said) = types.matched(path, is_dir) {
-        return Ok(said);
-    }
     match types.matched(path, is_dir) {
         Ok(said) => Ok(said),
-        Err(_) => Err(Trouble::Memory),
+        Err(_error) => matched_again(types, path, is_dir),
+    }
+}
+
+fn matched_again<'t>(
+    types: &'t Types,
+    path: &str,
+    is_dir: bool,
+) -> Result<Match<Glob<'t>>, Trouble> {
+    match types.matched(path, is_dir) {
+        Ok(said) => Ok(said),
+        Err(_error) => Err(Trouble::Memory),
     }
 }
 
