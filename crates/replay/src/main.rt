@@ -4,8 +4,11 @@
 mod again;
 mod answer;
 mod compare;
+mod environment;
 mod error;
 mod fields;
+mod growth;
+mod hex_text;
 mod input;
 mod kinds;
 mod outcome;
