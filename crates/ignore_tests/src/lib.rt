@@ -15,4 +15,8 @@ macro_rules! again {
 }
 
 #[cfg(test)]
+mod disk;
+#[cfg(test)]
 mod example;
+#[cfg(test)]
+mod queries;
