@@ -11,9 +11,12 @@ use std::io::Write;
 
 /// Why a run ends before its end.
 #[derive(Clone, Copy, Drop)]
-pub enum Stop {
+pub enum Stop<'n> {
+    /// Memory was refused twice.
     Memory,
-    Read,
+    /// What has this name can't be read.
+    Read(&'n str),
+    /// What is told can't be written.
     Write,
 }
 
@@ -46,14 +49,14 @@ impl From<Trouble> for Flaw {
 }
 
 /// Asks each vector of a file. A vector whose answer is another one than wanted is told on `out`, and a line that is no vector on `err`; both are counted.
-pub fn replay<W: Write, E: Write>(
+pub fn replay<'n, W: Write, E: Write>(
     alloc: Global,
-    name: &str,
+    name: &'n str,
     bytes: &[u8],
     tally: &mut Tally,
     out: &mut W,
     err: &mut E,
-) -> Result<(), Stop> {
+) -> Result<(), Stop<'n>> {
     let mut number = 0u64;
     for line in bytes.split(|byte| *byte == b'\n') {
         number = number.saturating_add(1);
@@ -116,7 +119,7 @@ fn compared(value: Value, answer: Value) -> Result<Verdict, Flaw> {
     Ok(Verdict::Failed(value, answer))
 }
 
-fn count<W: Write>(verdict: Verdict, tally: &mut Tally, out: &mut W) -> Result<(), Stop> {
+fn count<'n, W: Write>(verdict: Verdict, tally: &mut Tally, out: &mut W) -> Result<(), Stop<'n>> {
     match verdict {
         Verdict::Passed => tally.pass(),
         Verdict::Skipped(reason) => tally.skip(reason),
@@ -129,7 +132,7 @@ fn count<W: Write>(verdict: Verdict, tally: &mut Tally, out: &mut W) -> Result<(
 }
 
 /// Tells of an answer that is another one than wanted.
-fn tell_parting<W: Write>(value: &Value, answer: &Value, out: &mut W) -> Result<(), Stop> {
+fn tell_parting<'n, W: Write>(value: &Value, answer: &Value, out: &mut W) -> Result<(), Stop<'n>> {
     let (Some(id), Some(wanted)) = (value.get("id"), value.get("out")) else {
         return Ok(());
     };
@@ -139,13 +142,13 @@ fn tell_parting<W: Write>(value: &Value, answer: &Value, out: &mut W) -> Result<
     }
 }
 
-fn refuse<E: Write>(
+fn refuse<'n, E: Write>(
     flaw: Flaw,
-    name: &str,
+    name: &'n str,
     number: u64,
     tally: &mut Tally,
     err: &mut E,
-) -> Result<(), Stop> {
+) -> Result<(), Stop<'n>> {
     tally.refuse();
     let written = match flaw {
         Flaw::NoJson => writeln!(err, "replay: {name}: line {number}: no JSON"),
