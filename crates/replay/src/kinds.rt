@@ -2,6 +2,7 @@
 
 mod error;
 mod excludes;
+mod file;
 mod glob;
 mod global;
 mod overrides;
@@ -21,6 +22,7 @@ pub fn answer(alloc: Global, kind: &str, input: &Value) -> Option<Result<Outcome
     match kind {
         "error" => Some(error::answer(alloc, input)),
         "excludes" => Some(excludes::answer(alloc, input)),
+        "file" => Some(file::answer(alloc, input)),
         "glob" => Some(glob::answer(alloc, input)),
         "global" => Some(global::answer(alloc, input)),
         "override" => Some(overrides::answer(alloc, input)),

@@ -7,8 +7,7 @@ mod compare;
 mod environment;
 mod error;
 mod fields;
-mod growth;
-mod hex_text;
+mod hex_digits;
 mod input;
 mod kinds;
 mod outcome;
@@ -16,6 +15,7 @@ mod replay;
 mod rules;
 mod splits;
 mod tally;
+mod tree_calls;
 mod vector;
 
 use input::replay_all;

@@ -3,9 +3,9 @@
 use crate::answer::Answer;
 use crate::environment::{excludes_path, name_of, variable};
 use crate::fields::text;
-use crate::growth::{add_file, planted, standing};
-use crate::hex_text::bytes_of;
+use crate::hex_digits::bytes_of;
 use crate::outcome::{Outcome, Trouble};
+use crate::tree_calls::{add_file, empty_tree, unrefused};
 use ignore_files::{Env, MemoryTree, Name};
 use serde_json::Value;
 use std::alloc::{AllocError, Global};
@@ -29,8 +29,8 @@ pub fn answer(alloc: Global, input: &Value) -> Result<Outcome, Trouble> {
 /// The tree with the configuration alone.
 fn tree_of(alloc: Global, input: &Value) -> Result<MemoryTree, Trouble> {
     let bytes = bytes_of(alloc, text(input, BYTES)?, BYTES)?;
-    let mut tree = standing(planted(alloc, "/"), BYTES)?;
-    standing(add_file(&mut tree, CONFIGURATION, bytes.as_slice()), BYTES)?;
+    let mut tree = unrefused(empty_tree(alloc, "/"), BYTES)?;
+    unrefused(add_file(&mut tree, CONFIGURATION, bytes.as_slice()), BYTES)?;
     Ok(tree)
 }
 

@@ -5,9 +5,9 @@ use crate::answer::Answer;
 use crate::environment::{environment, excludes_path};
 use crate::error::told_or_null;
 use crate::fields::{field, list, text};
-use crate::growth::{CALLS, grown};
 use crate::outcome::{Outcome, Trouble};
 use crate::rules::rules_value;
+use crate::tree_calls::{CALLS, tree_of_calls};
 use ignore_files::{Env, MemoryTree};
 use ignore_glob::Error;
 use ignore_rules::gitignore::{Gitignore, GitignoreBuilder};
@@ -25,7 +25,7 @@ type Read = (Gitignore, Option<Error>);
 
 /// Answers `path`, the path of the excludes file, and of the matcher its `root`, its `rules` and the `error` of its file. The matcher is that of a builder with the lines, or that of the working directory where there is no field of lines.
 pub fn answer(alloc: Global, input: &Value) -> Result<Outcome, Trouble> {
-    let tree = grown(alloc, text(input, "cwd")?, list(input, CALLS)?)?;
+    let tree = tree_of_calls(alloc, text(input, "cwd")?, list(input, CALLS)?)?;
     let env = environment(alloc, field(input, "env")?)?;
     let (matcher, error) = matcher(alloc, input, &tree, &env)?;
     let path = excludes_path(alloc, &tree, &env)?;

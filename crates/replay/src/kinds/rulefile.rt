@@ -4,10 +4,10 @@ use crate::again::{build, builder};
 use crate::answer::Answer;
 use crate::error::{fault_of, told_or_null};
 use crate::fields::{field, flag, item, text, text_at};
-use crate::growth::{add_dir, add_file, planted, standing};
-use crate::hex_text::bytes_of;
+use crate::hex_digits::bytes_of;
 use crate::outcome::{Outcome, Reason, Trouble};
 use crate::rules::rules_value;
+use crate::tree_calls::{add_dir, add_file, empty_tree, unrefused};
 use ignore_files::MemoryTree;
 use ignore_glob::Error;
 use ignore_rules::gitignore::GitignoreBuilder;
@@ -88,11 +88,11 @@ fn added(
 
 /// The tree with the directory and the file, if there is one.
 fn tree_of(alloc: Global, path: &str, input: &Value) -> Result<MemoryTree, Trouble> {
-    let mut tree = standing(planted(alloc, "/"), BYTES)?;
-    standing(add_dir(&mut tree, ROOT), BYTES)?;
+    let mut tree = unrefused(empty_tree(alloc, "/"), BYTES)?;
+    unrefused(add_dir(&mut tree, ROOT), BYTES)?;
     if !field(input, BYTES)?.is_null() {
         let bytes = bytes_of(alloc, text(input, BYTES)?, BYTES)?;
-        standing(add_file(&mut tree, path, bytes.as_slice()), BYTES)?;
+        unrefused(add_file(&mut tree, path, bytes.as_slice()), BYTES)?;
         cut(&mut tree, path, field(input, CUT)?)?;
     }
     Ok(tree)
@@ -107,5 +107,5 @@ fn cut(tree: &mut MemoryTree, path: &str, cut: &Value) -> Result<(), Trouble> {
         return Err(Trouble::Field(CUT));
     };
     let fault = fault_of(text_at(cut, 1, CUT)?, CUT)?;
-    standing(tree.cut_contents(path, len as usize, fault), CUT)
+    unrefused(tree.cut_contents(path, len as usize, fault), CUT)
 }

@@ -3,9 +3,9 @@
 use crate::answer::{Answer, text_value};
 use crate::error::fault_name;
 use crate::fields::{flag_at, list, text, text_at};
-use crate::growth::{CALLS, grow, planted};
-use crate::hex_text::hex_value;
+use crate::hex_digits::hex_value;
 use crate::outcome::{Outcome, Trouble};
+use crate::tree_calls::{CALLS, empty_tree, make_call};
 use ignore_files::{
     Contents, Fault, FileType, Files, Identity, Listed, Listing, MemoryTree, Metadata, Name,
     Refusal, TreeError,
@@ -20,12 +20,12 @@ const ASKS: &str = "asks";
 pub fn answer(alloc: Global, input: &Value) -> Result<Outcome, Trouble> {
     let mut results = Vec::new(alloc);
     let mut answers = Vec::new(alloc);
-    match planted(alloc, text(input, "cwd")?) {
+    match empty_tree(alloc, text(input, "cwd")?) {
         Err(TreeError::Memory) => return Err(Trouble::Memory),
         Err(error) => results.push(refusal_value(Some(error)))?,
         Ok(mut tree) => {
             results.push(Value::Null)?;
-            grow_all(alloc, &mut tree, list(input, CALLS)?, &mut results)?;
+            make_calls(alloc, &mut tree, list(input, CALLS)?, &mut results)?;
             ask_all(alloc, &tree, list(input, ASKS)?, &mut answers)?;
         }
     }
@@ -35,14 +35,14 @@ pub fn answer(alloc: Global, input: &Value) -> Result<Outcome, Trouble> {
     Ok(Outcome::Answer(answer.into_value()))
 }
 
-fn grow_all(
+fn make_calls(
     alloc: Global,
     tree: &mut MemoryTree,
     calls: &[Value],
     results: &mut Vec<Value>,
 ) -> Result<(), Trouble> {
     for call in calls {
-        let refusal = grow(alloc, tree, call)?;
+        let refusal = make_call(alloc, tree, call)?;
         results.push(refusal_value(refusal))?;
     }
     Ok(())

@@ -2,7 +2,7 @@
 
 use crate::error::fault_of;
 use crate::fields::{item, text_at};
-use crate::hex_text::bytes_of;
+use crate::hex_digits::bytes_of;
 use crate::outcome::Trouble;
 use ignore_files::{Fault, Identity, MemoryTree, TreeError};
 use serde_json::Value;
@@ -11,16 +11,16 @@ use std::alloc::Global;
 /// The name of the field that holds the calls.
 pub const CALLS: &str = "calls";
 
-/// The tree without nodes but `/`, asked for twice where memory is refused.
-pub fn planted(alloc: Global, cwd: &str) -> Result<MemoryTree, TreeError> {
+/// The tree of the directory `/` alone, asked for twice where memory is refused.
+pub fn empty_tree(alloc: Global, cwd: &str) -> Result<MemoryTree, TreeError> {
     match MemoryTree::new(alloc, cwd) {
         Err(TreeError::Memory) => MemoryTree::new(alloc, cwd),
-        planted => planted,
+        made => made,
     }
 }
 
-/// What was made, which stands unrefused: the field of this name says so.
-pub fn standing<T: Drop>(made: Result<T, TreeError>, name: &'static str) -> Result<T, Trouble> {
+/// What was made, which nothing but want of memory may refuse: else the field of this name is wrong.
+pub fn unrefused<T: Drop>(made: Result<T, TreeError>, name: &'static str) -> Result<T, Trouble> {
     match made {
         Ok(value) => Ok(value),
         Err(TreeError::Memory) => Err(Trouble::Memory),
@@ -28,11 +28,11 @@ pub fn standing<T: Drop>(made: Result<T, TreeError>, name: &'static str) -> Resu
     }
 }
 
-/// The tree with this working directory and these calls made, none of which is refused.
-pub fn grown(alloc: Global, cwd: &str, calls: &[Value]) -> Result<MemoryTree, Trouble> {
-    let mut tree = standing(planted(alloc, cwd), CALLS)?;
+/// The tree with this working directory after these calls, of which none may be refused.
+pub fn tree_of_calls(alloc: Global, cwd: &str, calls: &[Value]) -> Result<MemoryTree, Trouble> {
+    let mut tree = unrefused(empty_tree(alloc, cwd), CALLS)?;
     for call in calls {
-        if grow(alloc, &mut tree, call)?.is_some() {
+        if make_call(alloc, &mut tree, call)?.is_some() {
             return Err(Trouble::Field(CALLS));
         }
     }
@@ -40,7 +40,7 @@ pub fn grown(alloc: Global, cwd: &str, calls: &[Value]) -> Result<MemoryTree, Tr
 }
 
 /// Makes one call, as `["add_link", "/l", "/d"]`, and answers its refusal, if any.
-pub fn grow(
+pub fn make_call(
     alloc: Global,
     tree: &mut MemoryTree,
     call: &Value,
@@ -61,7 +61,7 @@ pub fn grow(
     refusal(made)
 }
 
-/// The refusal of a call. Want of memory is none of a tree.
+/// The refusal of a call, unless memory was refused.
 fn refusal(made: Result<(), TreeError>) -> Result<Option<TreeError>, Trouble> {
     match made {
         Ok(()) => Ok(None),
