@@ -1,5 +1,5 @@
 -- Rows that grow, and texts that are walked through.
-use Rattle.std.proofs.Common.{◌≡◌, ◌≢◌, ◌+◌, ◌<◌, ◌≤◌, Bool, true, false, ◌&&◌, ℕ, zero, suc, List, [], ◌∷◌, ◌++◌, length, take, drop, get_or, replicate, Result, Ok, Err, refl, sym, ap, ◌∙◌, subst, append_assoc, add-one, arith}
+use Rattle.std.proofs.Common.{◌≡◌, ◌≢◌, ◌≤◌, Bool, true, false, ◌&&◌, ℕ, zero, suc, List, [], ◌∷◌, ◌++◌, length, take, Result, Ok, Err, refl, sym, ap, ◌∙◌, subst, append_assoc, arith}
 use Rattle.std.specs.List.{AllByRecursion, list_all}
 use Rattle.ignore_glob.specs.declared.glob.fault.GlobFault.{GlobFault}
 use Rattle.ignore_glob.specs.declared.glob.lexeme.Lexeme.{Lexeme as CodeLexeme}
@@ -24,31 +24,11 @@ pub put_all-err : (ls : List Lexeme) (f : GlobFault) → put_all ls (Err f) ≡ 
 put_all-err [] f = refl
 put_all-err (l ∷ ls) f = ap (λ x. put_first l x) (put_all-err ls f)
 
-all-suc : (xs : List ℕ) (i : ℕ) → i < length xs → AllByRecursion (λ c. c ≢ 93) (take i xs) → get_or xs i 0 ≢ 93 → AllByRecursion (λ c. c ≢ 93) (take (suc i) xs)
-all-suc [] i h a n = absurd (omega arith)
-all-suc (x ∷ xs) zero h a n = (n, tt)
-all-suc (x ∷ xs) (suc i) h a n = (a.0, all-suc xs i (omega arith) a.1 n)
-
-pub all-more : (xs : List ℕ) (i : ℕ) → i < length xs → AllByRecursion (λ c. c ≢ 93) (take i xs) → get_or xs i 0 ≢ 93 → AllByRecursion (λ c. c ≢ 93) (take (i + 1) xs)
-all-more xs i h a n = rw add-one (all-suc xs i h a n)
-
 pub no_closing : (xs : List ℕ) → AllByRecursion (λ c. c ≢ 93) xs → (m r : List ℕ) → xs ≡ m ++ 93 ∷ r → ⊥
 no_closing [] a [] r e = cc e
 no_closing [] a (c ∷ m) r e = cc e
 no_closing (x ∷ xs) a [] r e = a.0 (cc)
 no_closing (x ∷ xs) a (c ∷ m) r e = let h : xs ≡ m ++ 93 ∷ r = (cc) in no_closing xs a.1 m r h
-
-stars-suc : (xs : List ℕ) (i : ℕ) → i < length xs → xs ≡ replicate i 42 ++ drop i xs → get_or xs i 0 ≡ 42 → xs ≡ replicate (suc i) 42 ++ drop (suc i) xs
-stars-suc [] i h e n = absurd (omega arith)
-stars-suc (x ∷ xs) zero h e n = ap (λ c. c ∷ xs) n
-stars-suc (x ∷ xs) (suc i) h e n =
-    let first : x ≡ 42 = cc in
-    let rest : xs ≡ replicate i 42 ++ drop i xs = (cc) in
-    let more = stars-suc xs i (omega arith) rest n in
-    ap (λ c. c ∷ xs) first ∙ ap (λ t. 42 ∷ t) more
-
-pub stars-more : (xs : List ℕ) (i : ℕ) → i < length xs → xs ≡ replicate i 42 ++ drop i xs → get_or xs i 0 ≡ 42 → xs ≡ replicate (i + 1) 42 ++ drop (i + 1) xs
-stars-more xs i h e n = rw add-one (stars-suc xs i h e n)
 
 pub all-take : (xs : List ℕ) (i : ℕ) → length xs ≤ i → AllByRecursion (λ c. c ≢ 93) (take i xs) → AllByRecursion (λ c. c ≢ 93) xs
 all-take [] i h a = tt

@@ -25,13 +25,6 @@ ends_at b l row ls e told = (λ t. forth (told.0 t), λ h. told.1 (back row e h)
 pub ends_nil : (row : List Lexeme) → row ≡ [] → Ends row
 ends_nil row e = let E : List Lexeme → Type 0 = λ x. Ends x in subst E (sym e) of_glob
 
-pub no_end : (l : Lexeme) (row ls : List Lexeme) → row ≡ l ∷ ls → ((l ≡ run 2) → Ends ls → ⊥) → AtEnd row → ⊥
-no_end l row ls e never h =
-    let both : l ∷ ls ≡ run 2 ∷ h.0 = sym e ∙ h.1 in
-    let first : l ≡ run 2 = cc both in
-    let rest : h.0 ≡ ls = cc both in
-    let E : List Lexeme → Type 0 = λ x. Ends x in never first (subst E rest h.2)
-
 module _ (p : Left) (l : Lexeme) (s : IsSlash l) (n : ℕ) (row rest : List Lexeme) (row_is : row ≡ chain n rest) where
   pub end_at : (more : List Lexeme) → rest ≡ run 2 ∷ more → Ends more → Means p (l ∷ row) (gives 1 G.end more)
   end_at more e h = let M : List Lexeme → Type 0 = λ x. Means p (l ∷ x) (gives 1 G.end more) in subst M (sym (row_is ∙ ap (λ x. chain n x) e)) (end p l n more s h)

@@ -1,5 +1,5 @@
 -- Tokens and branches that grow, and levels of braces that go on.
-use Rattle.std.proofs.Common.{Ok, ◌≡◌, ◌<◌, ◌≤◌, ℕ, zero, suc, List, [], ◌∷◌, ◌++◌, length, Vec, Global, refl, sym, subst, ap, arith}
+use Rattle.std.proofs.Common.{Ok, ◌≡◌, ◌<◌, ℕ, zero, suc, List, [], ◌∷◌, ◌++◌, length, Vec, Global, refl, sym, subst, ap, arith}
 use Rattle.ignore_glob.specs.Glob.{Token, Tokens, done, then, Branches, no_branch, branch}
 use Rattle.ignore_glob.specs.Pieces.{Lexeme, comma, closing, Written}
 use Rattle.ignore_glob.specs.Row.{Left, branch_start, glob_start, times, add_branch, Ends, Row, Reads, Inner, last_branch, further_branch}
@@ -33,10 +33,6 @@ put_branches-none (b ∷ bs) = ap (λ x. branch (tokens_view b.items) x) (put_br
 pub add_some : (ts : List CodeToken) (bs : Branches) → 0 < length ts → branch (tokens_view ts) bs ≡ add_branch (tokens_view ts) bs
 add_some [] bs h = absurd (omega arith)
 add_some (t ∷ ts) bs h = refl
-
-pub add_none : (ts : List CodeToken) (bs : Branches) → length ts ≤ 0 → bs ≡ add_branch (tokens_view ts) bs
-add_none [] bs h = refl
-add_none (t ∷ ts) bs h = absurd (omega arith)
 
 -- the row of a level, at tokens that are known by an equation
 pub Row-at : (p : Left) (ls rest : List Lexeme) (ts us : Tokens) → ts ≡ us → Row p ls ts rest → Row p ls us rest

@@ -8,9 +8,9 @@ mod clean;
 mod prefix;
 
 use crate::Error;
-pub use clean::{is_clean_path, is_clean_root, is_name};
+pub use clean::{is_clean_path, is_clean_root, is_name, is_proper};
 use memchr::memrchr;
-pub use prefix::{strip, strip_law, strip_prefix, trim_root};
+pub use prefix::{has_slash, strip, strip_law, strip_prefix, trim_root};
 use std::alloc::Global;
 
 /// `path` seen from `base`: `path` itself where it begins with `/` or `base` is empty, else the two with one `/` between them (none is added to a `base` that ends with one), as Rust's `Path::join` gives. The only error is `Error::Memory`.
@@ -53,8 +53,8 @@ pub fn is_hidden(path: &str) -> bool
     }
 }
 
-// What follows the last slash.
-fn last_piece(path: &str) -> &str
+/// What follows the last `/` of a path, or all of it where it has none.
+pub fn last_piece(path: &str) -> &str
     ensures { result.now ≡ last_piece (pieces path.now) }
 {
     match memrchr(b'/', path.as_bytes()) {

@@ -136,13 +136,6 @@ fn read_branches(alloc: Global, row: &[Lexeme]) -> Result<(Vec<Vec<Token>>, &[Le
     }
 }
 
-/// The characters of a text.
-fn characters(alloc: Global, text: &str) -> Result<Vec<char>, AllocError>
-    ensures { IfOk result (λ all. all.items ≡ chars text.now) }
-{
-    text.chars().collect(alloc)
-}
-
 /// The tokens of a glob.
 ///
 /// # Errors
@@ -151,7 +144,7 @@ pub(crate) fn read(alloc: Global, text: &str, options: Options) -> Result<Vec<To
     ensures ok { IfOk result (λ tokens. Reads options (chars text.now) (tokens_view tokens.items)) }
     ensures fault { IfErr result (λ e. IfFault e (λ f. IsFaulty options (chars text.now) f)) }
 {
-    let characters = characters(alloc, text)?;
+    let characters: Vec<char> = text.chars().collect(alloc)?;
     let row = pieces(alloc, options, characters.as_slice())?;
     let (tokens, _) = read_level(alloc, Left::GlobStart, row.as_slice())?;
     Ok(tokens)

@@ -68,8 +68,8 @@ fn are_names(text: &str) -> bool
     text.split('/').all(|piece| is_proper(piece))
 }
 
-// Whether a piece, which has no slash, is a name.
-fn is_proper(piece: &str) -> bool
+/// Whether a piece between the slashes of a path is a name: not empty, and neither `.` nor `..`.
+pub fn is_proper(piece: &str) -> bool
     ensures { result ≡ is_proper piece.now }
 {
     !piece.is_empty() && piece != "." && piece != ".."

@@ -60,7 +60,8 @@ fn at_bound(prefix: &str, rest: &str) -> bool
     prefix.is_empty() || prefix.ends_with('/') || rest.is_empty() || rest.starts_with('/')
 }
 
-pub(crate) fn has_slash(path: &str) -> bool
+/// Whether a path has a `/`.
+pub fn has_slash(path: &str) -> bool
     ensures { result ≡ has_slash path.now }
 {
     memchr(b'/', path.as_bytes()).is_some()
