@@ -7,20 +7,17 @@ use Rattle.ignore_glob.specs.declared.match_result.Match.TheVariants.{None, Igno
 -- whether no glob took the path
 abbrev pub is_none : {T : Type 0} → Match T → Bool
 is_none None = true
-is_none (Ignore x) = false
-is_none (Whitelist x) = false
+is_none _ = false
 
 -- whether the path is to be ignored
 abbrev pub is_ignore : {T : Type 0} → Match T → Bool
-is_ignore None = false
 is_ignore (Ignore x) = true
-is_ignore (Whitelist x) = false
+is_ignore _ = false
 
 -- whether the path is whitelisted
 abbrev pub is_whitelist : {T : Type 0} → Match T → Bool
-is_whitelist None = false
-is_whitelist (Ignore x) = false
 is_whitelist (Whitelist x) = true
+is_whitelist _ = false
 
 -- ignore and whitelist change places
 abbrev pub invert : {T : Type 0} → Match T → Match T
@@ -37,8 +34,7 @@ inner (Whitelist x) = std.Some x
 -- the first, unless no glob took the path there, else the second
 abbrev pub match_or : {T : Type 0} → Match T → Match T → Match T
 match_or None other = other
-match_or (Ignore x) other = Ignore x
-match_or (Whitelist x) other = Whitelist x
+match_or one other = one
 
 -- the same variant, with f of what came with it
 abbrev pub match_map : {T U : Type 0} → (T → U) → Match T → Match U
@@ -49,11 +45,6 @@ match_map f (Whitelist x) = Whitelist (f x)
 -- the two have the same variant, and R ties what came with one to what came with the other
 abbrev pub IsMapped : {T U : Type 0} → (T → U → Type 0) → Match T → Match U → Type 0
 IsMapped R None None = Unit {0}
-IsMapped R None (Ignore y) = ⊥
-IsMapped R None (Whitelist y) = ⊥
-IsMapped R (Ignore x) None = ⊥
 IsMapped R (Ignore x) (Ignore y) = R x y
-IsMapped R (Ignore x) (Whitelist y) = ⊥
-IsMapped R (Whitelist x) None = ⊥
-IsMapped R (Whitelist x) (Ignore y) = ⊥
 IsMapped R (Whitelist x) (Whitelist y) = R x y
+IsMapped R _ _ = ⊥

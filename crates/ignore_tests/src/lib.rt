@@ -15,4 +15,10 @@ macro_rules! again {
 }
 
 #[cfg(test)]
+mod deep;
+#[cfg(test)]
+mod disk;
+#[cfg(test)]
 mod example;
+#[cfg(test)]
+mod queries;

@@ -20,9 +20,14 @@ pub const USAGE: &str = "usage: igwalk match ROOT RULES PATH d|f | list ROOT.. |
 /// Why a run ends before its end.
 #[derive(Clone, Copy)]
 pub enum Stop {
+    /// The words ask for nothing that there is.
     Usage,
+    /// Memory was refused.
     Memory,
+    /// The answer can't be written.
     Write,
+    /// The errors can't be written, so nothing more is told.
+    Silence,
 }
 
 /// Tells of a refused line, counted from 1. What is refused for want of memory ends the run.
@@ -33,7 +38,7 @@ fn tell_refusal<E: Write>(err: &mut E, number: u64, error: Error) -> Result<(), 
     match &error {
         Error::Glob { .. } => match writeln!(err, "igwalk: line {number}: {error}") {
             Ok(()) => Ok(()),
-            Err(_) => Err(Stop::Write),
+            Err(_) => Err(Stop::Silence),
         },
         _ => Err(Stop::Memory),
     }
@@ -123,6 +128,7 @@ pub fn tell_stop<E: Write>(err: &mut E, stop: Stop) -> u8
         Stop::Usage => writeln!(err, "{USAGE}"),
         Stop::Memory => writeln!(err, "igwalk: out of memory"),
         Stop::Write => writeln!(err, "igwalk: cannot write"),
+        Stop::Silence => Ok(()),
     };
     2
 }
@@ -133,7 +139,7 @@ pub fn tell_stop<E: Write>(err: &mut E, stop: Stop) -> u8
 /// others are asked.
 ///
 /// The answer is the status: 0; 1 where a line was refused; 2 for wrong arguments, for want of
-/// memory, and where a writer refuses, each told on `err`. Wrong arguments are found before
+/// memory, and where a writer refuses, each told on `err` unless that is the one that refuses. Wrong arguments are found before
 /// anything is written to `out`.
 pub fn run<W: Write, E: Write>(alloc: Global, words: &[String], out: &mut W, err: &mut E) -> u8
     ensures wrong { question_of (map string_bytes words.now) ≡ None → (result ≡ 2) × Appends (W.contents out.old) (W.contents out.new) [] }

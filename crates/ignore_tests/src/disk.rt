@@ -1,0 +1,233 @@
+//! The machine's files beside a tree in memory with the same things.
+use ignore_files::{
+    DiskFiles, Fault, FileType, Files, Identity, Listing, MemoryTree, Metadata, Refusal, TreeError,
+};
+use std::alloc::{AllocError, Global};
+use std::fs::Permissions;
+use std::os::unix::fs::{MetadataExt, PermissionsExt, symlink};
+use std::test::Fail;
+use std::{env, fs, io, process};
+
+/// The tree that has this working directory and nothing in it.
+fn tree_at(alloc: Global, cwd: &str) -> Result<MemoryTree, TreeError> {
+    let mut tree = MemoryTree::new(alloc, cwd)?;
+    let mut path = String::new(alloc);
+    for name in cwd.split('/').skip(1) {
+        path.push('/')?;
+        path.push_str(name)?;
+        tree.add_dir(&path)?;
+    }
+    Ok(tree)
+}
+
+/// Makes a thing on the machine: `PATH/` is a directory, `PATH>TARGET` a link and `PATH=TEXT` a file.
+fn make(rt: &HostRuntime, thing: &str) -> io::Result<()> {
+    if let Some(path) = thing.strip_suffix('/') {
+        fs::create_dir(rt, path)
+    } else if let Some((path, target)) = thing.split_once('>') {
+        symlink(rt, target, path)
+    } else if let Some((path, text)) = thing.split_once('=') {
+        fs::write(rt, path, text)
+    } else {
+        Ok(())
+    }
+}
+
+/// Adds to the tree what `make` makes on the machine. The thing's path is from `/`.
+fn add(tree: &mut MemoryTree, thing: &str) -> Result<(), TreeError> {
+    if let Some(path) = thing.strip_suffix('/') {
+        tree.add_dir(path)
+    } else if let Some((path, target)) = thing.split_once('>') {
+        tree.add_link(path, target)
+    } else if let Some((path, text)) = thing.split_once('=') {
+        tree.add_file(path, text.as_bytes())
+    } else {
+        Ok(())
+    }
+}
+
+/// Makes a folder of this process alone, and works in it from now on. The folder's path. (Each test is a process.)
+fn enter(rt: &HostRuntime) -> io::Result<String> {
+    let folder = format!(in rt.alloc();
+        "{}/ignore_tests-{}",
+        env::temp_dir(rt)?.as_str(),
+        process::id(rt.process())
+    )?;
+    fs::create_dir(rt, folder.as_str())?;
+    env::set_current_dir(rt, folder.as_str())?;
+    Ok(folder)
+}
+
+/// Removes the folder that `enter` made, from outside.
+fn leave(rt: &HostRuntime, folder: &str) -> io::Result<()> {
+    env::set_current_dir(rt, "/")?;
+    fs::remove_dir_all(rt, folder)
+}
+
+/// Makes things, parted by bars, in the working directory of the machine, and gives a tree with the same.
+fn made(rt: &HostRuntime, things: &str) -> Result<MemoryTree, Fail> {
+    let cwd = env::current_dir(rt)?;
+    let mut tree = tree_at(rt.alloc(), cwd.as_str())?;
+    for thing in things.split('|') {
+        make(rt, thing)?;
+        add(
+            &mut tree,
+            &format!(in rt.alloc(); "{}/{thing}", cwd.as_str())?,
+        )?;
+    }
+    Ok(tree)
+}
+
+/// The size of a directory is the system's own.
+fn without_size(metadata: Metadata) -> (FileType, u64) {
+    match metadata.file_type() {
+        FileType::Dir => (FileType::Dir, 0),
+        file_type => (file_type, metadata.len()),
+    }
+}
+
+/// What is listed, each thing as a text, in the order of the texts.
+fn sorted(alloc: Global, answer: Result<Listing, Refusal>) -> Result<Vec<String>, Refusal> {
+    let mut lines = Vec::new(alloc);
+    for listed in answer?.as_slice() {
+        lines.push(format!(in alloc; "{listed:?}")?)?;
+    }
+    lines.sort()?;
+    Ok(lines)
+}
+
+/// What the five calls answer for a path, but for the order of a listing and the size of a directory. Of the identity it tells whether a link has that of what it leads to.
+fn told<F: Files>(alloc: Global, files: &F, path: &str) -> Result<String, AllocError> {
+    let followed = files.stat(alloc, path, true).map(without_size);
+    let own = files.stat(alloc, path, false).map(without_size);
+    let listing = sorted(alloc, files.list(alloc, path));
+    let contents = files.contents(alloc, path);
+    let canonical = files.canonical(alloc, path);
+    let is_one = files.identity(alloc, path, true) == files.identity(alloc, path, false);
+    format!(in alloc; "{followed:?} {own:?} {listing:?} {contents:?} {canonical:?} {is_one}")
+}
+
+/// Asks the machine and a tree, with the same things in them, about the paths of a text, which bars part, and tells what they answer differently.
+fn differences(rt: &HostRuntime, things: &str, paths: &str) -> Result<String, Fail> {
+    let folder = enter(rt)?;
+    let tree = made(rt, things)?;
+    let mut text = String::new(rt.alloc());
+    for path in paths.split('|') {
+        let on_disk = told(rt.alloc(), &DiskFiles::new(rt), path)?;
+        let in_memory = told(rt.alloc(), &tree, path)?;
+        if on_disk != in_memory {
+            write!(text, "{path}: {on_disk}, and not {in_memory}\n")?;
+        }
+    }
+    leave(rt, &folder)?;
+    Ok(text)
+}
+
+#[test]
+fn files_and_folders_are_told_as_in_memory(rt: HostRuntime) -> Result<(), Fail> {
+    let things = "some=ab\u{ff}|none=|below/|below/.hidden=b|below/x/";
+    let paths = ".|./|some|.//none|below|below/|below/../some|below/./.hidden|below/x";
+    assert_eq!(rt; differences(&rt, things, paths)?.as_str(), "");
+    Ok(())
+}
+
+#[test]
+fn paths_that_lead_nowhere_are_told_as_in_memory(rt: HostRuntime) -> Result<(), Fail> {
+    let paths = "|no|no/..|no/|no/below|file/|file/..|file/below|no/../file";
+    assert_eq!(rt; differences(&rt, "file=a", paths)?.as_str(), "");
+    Ok(())
+}
+
+#[test]
+fn links_are_told_as_in_memory(rt: HostRuntime) -> Result<(), Fail> {
+    let things = "dir/|dir/file=a|file>dir/file|twice>./file|to>dir|dir/up>..|at>file/|here>.";
+    let paths = ".|file|twice|to|to/|to/file|to/up|to/..|to/up/to/up/file|at|file/|here|here/to/";
+    assert_eq!(rt; differences(&rt, things, paths)?.as_str(), "");
+    Ok(())
+}
+
+#[test]
+fn links_that_lead_nowhere_are_told_as_in_memory(rt: HostRuntime) -> Result<(), Fail> {
+    let things = "none>no/where|self>self|one>two|two>one";
+    let paths = ".|none|none/|none/..|self|self/|one|two/below";
+    assert_eq!(rt; differences(&rt, things, paths)?.as_str(), "");
+    Ok(())
+}
+
+/// A file of 100,000 bytes: lines of nine digits, which count.
+fn numbers(alloc: Global) -> Result<String, AllocError> {
+    let mut text = String::from_str(alloc, "file=")?;
+    for number in 0u32..10_000 {
+        write!(text, "{number:09}\n")?;
+    }
+    Ok(text)
+}
+
+#[test]
+fn a_large_file_is_read_whole(rt: HostRuntime) -> Result<(), Fail> {
+    let file = numbers(rt.alloc())?;
+    assert_eq!(rt; file.len(), 100_005);
+    assert_eq!(rt; differences(&rt, &file, "file|.")?.as_str(), "");
+    Ok(())
+}
+
+/// What the machine tells of a thing by its numbers, links followed or not.
+fn identity(rt: &HostRuntime, path: &str, follow: bool) -> Result<Option<Identity>, Refusal> {
+    DiskFiles::new(rt).identity(rt.alloc(), path, follow)
+}
+
+#[test]
+fn a_thing_has_one_identity(rt: HostRuntime) -> Result<(), Fail> {
+    let folder = enter(&rt)?;
+    let _ = made(&rt, "file=a|other=a|link>file")?;
+    let file = identity(&rt, "file", true)?;
+    assert_eq!(rt; identity(&rt, "link", true)?, file);
+    assert_ne!(rt; identity(&rt, "link", false)?, file);
+    assert_ne!(rt; identity(&rt, "other", true)?, file);
+    leave(&rt, &folder)?;
+    Ok(())
+}
+
+/// Sets who may use what is at the path.
+fn permit(rt: &HostRuntime, path: &str, mode: u32) -> io::Result<()> {
+    fs::set_permissions(rt, path, Permissions::from_mode(mode))
+}
+
+/// Whether what was made at the path belongs to root, who may read everything.
+fn is_roots(rt: &HostRuntime, path: &str) -> io::Result<bool> {
+    Ok(fs::metadata(rt, path)?.uid() == 0)
+}
+
+/// What the five calls answer where the way to a path is shut.
+const DENIED: &str =
+    "Err(Fault(PermissionDenied)) Err(Fault(PermissionDenied)) Err(Fault(PermissionDenied)) Err(Fault(PermissionDenied)) Err(Fault(PermissionDenied)) true";
+
+/// What the machine lists of the folder `dir`, and answers for the file in it, while nobody may use the folder.
+fn shut(rt: &HostRuntime) -> Result<(Result<Vec<String>, Refusal>, String), Fail> {
+    let disk = DiskFiles::new(rt);
+    permit(rt, "dir", 0)?;
+    let listing = sorted(rt.alloc(), disk.list(rt.alloc(), "dir"));
+    let file = told(rt.alloc(), &disk, "dir/file")?;
+    permit(rt, "dir", 0o755)?;
+    Ok((listing, file))
+}
+
+#[test]
+fn what_may_not_be_read_is_told(rt: HostRuntime) -> Result<(), Fail> {
+    let folder = enter(&rt)?;
+    let _ = made(&rt, "dir/|dir/file=a")?;
+    let (listing, file) = shut(&rt)?;
+    if !is_roots(&rt, "dir")? {
+        assert_eq!(rt; listing, Err(Refusal::Fault(Fault::PermissionDenied)));
+        assert_eq!(rt; file.as_str(), DENIED);
+    }
+    leave(&rt, &folder)?;
+    Ok(())
+}
+
+#[test]
+fn a_device_is_of_another_kind(rt: HostRuntime) -> Result<(), Fail> {
+    let metadata = DiskFiles::new(&rt).stat(rt.alloc(), "/dev/null", true)?;
+    assert_eq!(rt; metadata.file_type(), FileType::Other);
+    Ok(())
+}

@@ -1,0 +1,66 @@
+//! Calls of the library that can be refused memory: each is repeated once, on the same value, so that a refused call which changed its builder shows in the answer.
+
+use crate::outcome::Trouble;
+use ignore_glob::{Error, Match};
+use ignore_rules::gitignore::{Gitignore, GitignoreBuilder, Glob};
+use std::alloc::Global;
+
+/// A builder of gitignore rules below a root.
+pub fn builder(alloc: Global, root: &str) -> Result<GitignoreBuilder, Trouble> {
+    if let Ok(builder) = GitignoreBuilder::new(alloc, root) {
+        return Ok(builder);
+    }
+    match GitignoreBuilder::new(alloc, root) {
+        Ok(builder) => Ok(builder),
+        Err(_) => Err(Trouble::Memory),
+    }
+}
+
+/// Adds a line; the answer is what is wrong with it.
+pub fn add_line(builder: &mut GitignoreBuilder, line: &str) -> Result<Option<Error>, Trouble> {
+    match add_line_once(builder, line) {
+        Err(_) => add_line_once(builder, line),
+        added => added,
+    }
+}
+
+fn add_line_once(builder: &mut GitignoreBuilder, line: &str) -> Result<Option<Error>, Trouble> {
+    match builder.add_line(None, line) {
+        Ok(_) => Ok(None),
+        Err(error) => problem(error),
+    }
+}
+
+/// What is wrong with a line, unless memory was refused.
+pub fn problem(error: Error) -> Result<Option<Error>, Trouble> {
+    match error {
+        Error::Memory => Err(Trouble::Memory),
+        problem => Ok(Some(problem)),
+    }
+}
+
+/// The matcher of a builder.
+pub fn build(builder: &GitignoreBuilder) -> Result<Gitignore, Trouble> {
+    if let Ok(matcher) = builder.build() {
+        return Ok(matcher);
+    }
+    match builder.build() {
+        Ok(matcher) => Ok(matcher),
+        Err(_) => Err(Trouble::Memory),
+    }
+}
+
+/// What a matcher says of a path.
+pub fn matched<'g>(
+    matcher: &'g Gitignore,
+    path: &str,
+    is_dir: bool,
+) -> Result<Match<&'g Glob>, Trouble> {
+    if let Ok(answer) = matcher.matched(path, is_dir) {
+        return Ok(answer);
+    }
+    match matcher.matched(path, is_dir) {
+        Ok(answer) => Ok(answer),
+        Err(_) => Err(Trouble::Memory),
+    }
+}

@@ -1,0 +1,51 @@
+//! Environments of vectors, and the search for the excludes file in them.
+
+use crate::fields::field;
+use crate::outcome::Trouble;
+use ignore_files::{Env, MemoryTree, Name};
+use ignore_rules::gitignore::gitconfig_excludes_path;
+use serde_json::Value;
+use std::alloc::{AllocError, Global};
+
+/// The environment of the variables that an object has; `null` is one that isn't set.
+pub fn environment(alloc: Global, value: &Value) -> Result<Env, Trouble> {
+    Ok(Env {
+        current_dir: variable(alloc, value, "current_dir")?,
+        home: variable(alloc, value, "home")?,
+        xdg_config_home: variable(alloc, value, "xdg_config_home")?,
+        git_config_global: variable(alloc, value, "git_config_global")?,
+        git_config_system: variable(alloc, value, "git_config_system")?,
+    })
+}
+
+/// The variable that the member of this name is.
+pub fn variable(alloc: Global, value: &Value, name: &'static str) -> Result<Option<Name>, Trouble> {
+    let member = field(value, name)?;
+    if member.is_null() {
+        return Ok(None);
+    }
+    match member.as_str() {
+        Some(text) => Ok(Some(name_of(alloc, text)?)),
+        None => Err(Trouble::Field(name)),
+    }
+}
+
+/// A copy of a text.
+pub fn name_of(alloc: Global, text: &str) -> Result<Name, AllocError> {
+    Ok(Name::new(String::from_str(alloc, text)?))
+}
+
+/// The path of the excludes file, asked for twice where memory is refused.
+pub fn excludes_path(
+    alloc: Global,
+    tree: &MemoryTree,
+    env: &Env,
+) -> Result<Option<String>, Trouble> {
+    if let Ok(path) = gitconfig_excludes_path(alloc, tree, env) {
+        return Ok(path);
+    }
+    match gitconfig_excludes_path(alloc, tree, env) {
+        Ok(path) => Ok(path),
+        Err(_) => Err(Trouble::Memory),
+    }
+}

@@ -1,0 +1,20 @@
+//! Bytes as vectors write them: two hex digits each.
+
+use crate::outcome::Trouble;
+use hex::FromHexError;
+use serde_json::Value;
+use std::alloc::{AllocError, Global};
+
+/// The bytes of a hex text, which stands in the field of this name.
+pub fn bytes_of(alloc: Global, text: &str, name: &'static str) -> Result<Vec<u8>, Trouble> {
+    match hex::decode(alloc, text) {
+        Ok(bytes) => Ok(bytes),
+        Err(FromHexError::OutOfMemory) => Err(Trouble::Memory),
+        Err(_) => Err(Trouble::Field(name)),
+    }
+}
+
+/// The hex text of bytes, as a value.
+pub fn hex_value(alloc: Global, bytes: &[u8]) -> Result<Value, AllocError> {
+    Ok(Value::String(hex::encode(alloc, bytes)?))
+}

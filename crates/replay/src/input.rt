@@ -1,0 +1,132 @@
+//! The files of vectors that a run is given, and what it tells at its end.
+
+use crate::replay::{Stop, replay};
+use crate::tally::Tally;
+use std::io::Read;
+use std::rt::Env;
+use std::{env, fs, io};
+
+/// The name by which standard input is told of.
+const STDIN: &str = "stdin";
+
+/// Asks the vectors of the files that the words after the program's name name, in turn, and then those of standard input. The last line on standard output counts them.
+///
+/// The answer is the status: 0; 1 where an answer was another one than wanted, or a line was no vector; 2 for want of memory and for what can't be read or written, told on standard error.
+pub fn replay_all(rt: &HostRuntime) -> u8 {
+    match words(rt) {
+        Ok(words) => replay_words(rt, words.as_slice()),
+        Err(stop) => tell_stop(rt, stop),
+    }
+}
+
+fn replay_words(rt: &HostRuntime, words: &[String]) -> u8 {
+    let mut tally = Tally::new();
+    match replay_files(rt, words, &mut tally) {
+        Ok(()) => tally.status(),
+        Err(stop) => tell_stop(rt, stop),
+    }
+}
+
+fn replay_files<'w>(
+    rt: &HostRuntime,
+    words: &'w [String],
+    tally: &mut Tally,
+) -> Result<(), Stop<'w>> {
+    for word in words {
+        let bytes = contents(rt, word.as_str())?;
+        replay_bytes(rt, word.as_str(), &bytes, tally)?;
+    }
+    let bytes = standard_input(rt)?;
+    replay_bytes(rt, STDIN, &bytes, tally)?;
+    tell_tally(rt, tally)
+}
+
+fn replay_bytes<'w>(
+    rt: &HostRuntime,
+    name: &'w str,
+    bytes: &[u8],
+    tally: &mut Tally,
+) -> Result<(), Stop<'w>> {
+    let mut out = rt.stdout();
+    let mut err = rt.stderr();
+    replay(rt.alloc(), name, bytes, tally, &mut out, &mut err)
+}
+
+/// The words after the program's name, asked for twice where memory is refused.
+fn words(rt: &HostRuntime) -> Result<Vec<String>, Stop<'static>> {
+    match words_once(rt) {
+        Err(Stop::Memory) => words_once(rt),
+        words => words,
+    }
+}
+
+fn words_once(rt: &HostRuntime) -> Result<Vec<String>, Stop<'static>> {
+    match all_words(rt) {
+        Ok(words) => Ok(words),
+        Err(error) => Err(stop_of(error, "the words")),
+    }
+}
+
+fn all_words(rt: &(impl Env + AllocGlobal)) -> io::Result<Vec<String>> {
+    let mut words = Vec::new(rt.alloc());
+    for word in env::args(rt)?.skip(1) {
+        words.push(word)?;
+    }
+    Ok(words)
+}
+
+/// What a file holds, read twice where memory is refused.
+fn contents<'w>(rt: &HostRuntime, path: &'w str) -> Result<Vec<u8>, Stop<'w>> {
+    match contents_once(rt, path) {
+        Err(Stop::Memory) => contents_once(rt, path),
+        bytes => bytes,
+    }
+}
+
+fn contents_once<'w>(rt: &HostRuntime, path: &'w str) -> Result<Vec<u8>, Stop<'w>> {
+    match fs::read(rt, path) {
+        Ok(bytes) => Ok(bytes),
+        Err(error) => Err(stop_of(error, path)),
+    }
+}
+
+/// What standard input holds. Where memory is refused it is read on from there.
+fn standard_input(rt: &HostRuntime) -> Result<Vec<u8>, Stop<'static>> {
+    let mut bytes = Vec::new(rt.alloc());
+    match read_on(rt, &mut bytes) {
+        Err(Stop::Memory) => read_on(rt, &mut bytes)?,
+        read => read?,
+    }
+    Ok(bytes)
+}
+
+fn read_on(rt: &HostRuntime, bytes: &mut Vec<u8>) -> Result<(), Stop<'static>> {
+    match rt.reader().read_to_end(bytes) {
+        Ok(_) => Ok(()),
+        Err(error) => Err(stop_of(error, STDIN)),
+    }
+}
+
+fn stop_of(error: io::Error, name: &str) -> Stop<'_> {
+    match error.kind() {
+        io::ErrorKind::OutOfMemory => Stop::Memory,
+        _ => Stop::Read(name),
+    }
+}
+
+fn tell_tally<'w>(rt: &HostRuntime, tally: &Tally) -> Result<(), Stop<'w>> {
+    match println!(rt; "{tally}") {
+        Ok(()) => Ok(()),
+        Err(_) => Err(Stop::Write),
+    }
+}
+
+/// Tells why a run ended, and answers its status. What can't be told is let go.
+fn tell_stop(rt: &HostRuntime, stop: Stop<'_>) -> u8 {
+    let _ = match stop {
+        Stop::Memory => eprintln!(rt; "replay: out of memory"),
+        Stop::Read(name) => eprintln!(rt; "replay: {name}: cannot read"),
+        Stop::Write => eprintln!(rt; "replay: cannot write"),
+    };
+    2
+}

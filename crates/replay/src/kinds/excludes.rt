@@ -1,0 +1,62 @@
+//! The value of a configuration: the path of its excludes file.
+
+use crate::answer::Answer;
+use crate::environment::{excludes_path, name_of, variable};
+use crate::fields::text;
+use crate::hex_digits::bytes_of;
+use crate::outcome::{Outcome, Trouble};
+use crate::tree_calls::{add_file, empty_tree, unrefused};
+use ignore_files::{Env, MemoryTree, Name};
+use serde_json::Value;
+use std::alloc::{AllocError, Global};
+
+/// The path of the configuration.
+const CONFIGURATION: &str = "/g";
+
+/// The name of the field that holds the bytes of the configuration.
+const BYTES: &str = "hex";
+
+/// Answers `value`: the path that the configuration names, with `home` in it, or `null`.
+pub fn answer(alloc: Global, input: &Value) -> Result<Outcome, Trouble> {
+    let tree = tree_of(alloc, input)?;
+    let home = variable(alloc, input, "home")?;
+    let value = value_of(alloc, &tree, home)?;
+    let mut answer = Answer::new(alloc);
+    answer.put_text_or_null("value", value.as_deref())?;
+    Ok(Outcome::Answer(answer.into_value()))
+}
+
+/// The tree with the configuration alone.
+fn tree_of(alloc: Global, input: &Value) -> Result<MemoryTree, Trouble> {
+    let bytes = bytes_of(alloc, text(input, BYTES)?, BYTES)?;
+    let mut tree = unrefused(empty_tree(alloc, "/"), BYTES)?;
+    unrefused(add_file(&mut tree, CONFIGURATION, bytes.as_slice()), BYTES)?;
+    Ok(tree)
+}
+
+/// The path that the configuration names. Without `home` there is nothing else that could be named, so this tells whether it names any.
+fn value_of(
+    alloc: Global,
+    tree: &MemoryTree,
+    home: Option<Name>,
+) -> Result<Option<String>, Trouble> {
+    let alone = configured(alloc, None)?;
+    match excludes_path(alloc, tree, &alone)? {
+        None => Ok(None),
+        Some(_) => {
+            let env = configured(alloc, home)?;
+            excludes_path(alloc, tree, &env)
+        }
+    }
+}
+
+/// The environment that names the configuration, and maybe `home`.
+fn configured(alloc: Global, home: Option<Name>) -> Result<Env, AllocError> {
+    Ok(Env {
+        current_dir: None,
+        home,
+        xdg_config_home: None,
+        git_config_global: Some(name_of(alloc, CONFIGURATION)?),
+        git_config_system: None,
+    })
+}

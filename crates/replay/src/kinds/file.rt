@@ -1,0 +1,41 @@
+//! The matcher of one file of rules, relative to the directory of the file.
+
+use crate::answer::Answer;
+use crate::error::told_or_null;
+use crate::fields::{list, text};
+use crate::outcome::{Outcome, Trouble};
+use crate::rules::rules_value;
+use crate::tree_calls::{CALLS, tree_of_calls};
+use ignore_files::MemoryTree;
+use ignore_glob::Error;
+use ignore_rules::gitignore::Gitignore;
+use serde_json::Value;
+use std::alloc::Global;
+
+/// Answers `root`, `rules`, `is_empty` and `len` of the matcher, and the `error` of its file.
+pub fn answer(alloc: Global, input: &Value) -> Result<Outcome, Trouble> {
+    let tree = tree_of_calls(alloc, text(input, "cwd")?, list(input, CALLS)?)?;
+    let (matcher, error) = read(alloc, &tree, text(input, "path")?)?;
+    let mut answer = Answer::new(alloc);
+    answer.put_text("root", matcher.path())?;
+    answer.put("rules", rules_value(alloc, &matcher)?)?;
+    answer.put_flag("is_empty", matcher.is_empty())?;
+    answer.put_number("len", matcher.len() as u64)?;
+    answer.put("error", told_or_null(alloc, error.as_ref())?)?;
+    Ok(Outcome::Answer(answer.into_value()))
+}
+
+/// The matcher of a file, asked for twice where memory is refused.
+fn read(
+    alloc: Global,
+    tree: &MemoryTree,
+    path: &str,
+) -> Result<(Gitignore, Option<Error>), Trouble> {
+    if let Ok(read) = Gitignore::new(alloc, tree, path) {
+        return Ok(read);
+    }
+    match Gitignore::new(alloc, tree, path) {
+        Ok(read) => Ok(read),
+        Err(_) => Err(Trouble::Memory),
+    }
+}

@@ -1,0 +1,62 @@
+//! Whether a glob is read, and takes a text.
+
+use crate::answer::Answer;
+use crate::fields::{flag, text};
+use crate::outcome::{Outcome, Reason, Trouble};
+use crate::splits::needs_too_many;
+use ignore_glob::glob::{GlobFault, Options, Pattern, PatternError};
+use serde_json::Value;
+use std::alloc::Global;
+
+/// Answers `fault`, or `taken`.
+pub fn answer(alloc: Global, input: &Value) -> Result<Outcome, Trouble> {
+    let glob = text(input, "glob")?;
+    let asked = text(input, "text")?;
+    let options = options(input)?;
+    match parse(alloc, glob, options) {
+        Err(PatternError::Fault(fault)) => told_fault(alloc, fault),
+        Err(PatternError::Memory) => Err(Trouble::Memory),
+        Ok(_) if needs_too_many(glob, asked) => Ok(Outcome::Skipped(Reason::TooManySplits)),
+        Ok(pattern) => told_taken(alloc, &pattern, asked),
+    }
+}
+
+fn options(input: &Value) -> Result<Options, Trouble> {
+    Ok(Options {
+        case_insensitive: flag(input, "ci")?,
+        allow_unclosed_class: flag(input, "auc")?,
+    })
+}
+
+/// Reads a glob, twice where memory is refused.
+fn parse(alloc: Global, glob: &str, options: Options) -> Result<Pattern, PatternError> {
+    match Pattern::parse(alloc, glob, options) {
+        Err(PatternError::Memory) => Pattern::parse(alloc, glob, options),
+        Err(PatternError::Fault(fault)) => Err(PatternError::Fault(fault)),
+        Ok(pattern) => Ok(pattern),
+    }
+}
+
+fn told_fault(alloc: Global, fault: GlobFault) -> Result<Outcome, Trouble> {
+    let mut answer = Answer::new(alloc);
+    answer.put_number("fault", u64::from(fault.number()))?;
+    Ok(Outcome::Answer(answer.into_value()))
+}
+
+fn told_taken(alloc: Global, pattern: &Pattern, asked: &str) -> Result<Outcome, Trouble> {
+    let taken = takes(pattern, asked)?;
+    let mut answer = Answer::new(alloc);
+    answer.put_flag("taken", taken)?;
+    Ok(Outcome::Answer(answer.into_value()))
+}
+
+/// Whether a pattern takes a text, asked twice where memory is refused.
+fn takes(pattern: &Pattern, asked: &str) -> Result<bool, Trouble> {
+    if let Ok(taken) = pattern.matches(asked) {
+        return Ok(taken);
+    }
+    match pattern.matches(asked) {
+        Ok(taken) => Ok(taken),
+        Err(_) => Err(Trouble::Memory),
+    }
+}

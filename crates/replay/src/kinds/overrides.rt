@@ -1,0 +1,151 @@
+//! What the globs of a command line say of a path.
+
+use crate::again::problem;
+use crate::answer::Answer;
+use crate::fields::{flag, flag_at, list, text, text_at};
+use crate::outcome::{Outcome, Reason, Trouble};
+use crate::rules::refusal;
+use crate::splits::needs_too_many;
+use ignore_glob::{Error, Match};
+use ignore_rules::overrides::{Override, OverrideBuilder};
+use serde_json::Value;
+use std::alloc::Global;
+
+/// The name of the field that holds the operations.
+const OPS: &str = "ops";
+
+/// Answers `kind`, `refused`, `path`, `is_empty` and the counts.
+pub fn answer(alloc: Global, input: &Value) -> Result<Outcome, Trouble> {
+    let path = text(input, "path")?;
+    let collected = after_operations(alloc, input, path)?;
+    if collected.needs_too_many {
+        return Ok(Outcome::Skipped(Reason::TooManySplits));
+    }
+    let globs = build(&collected.builder)?;
+    let kind = kind(&globs, path, flag(input, "is_dir")?)?;
+    let mut answer = Answer::new(alloc);
+    answer.put_text("kind", kind)?;
+    answer.put("refused", Value::Array(collected.refused))?;
+    put_readers(&mut answer, &globs)?;
+    Ok(Outcome::Answer(answer.into_value()))
+}
+
+/// A builder after a vector's operations, what it refused, and whether one of its globs may need too many splits.
+#[derive(Drop)]
+struct Collected {
+    builder: OverrideBuilder,
+    refused: Vec<Value>,
+    needs_too_many: bool,
+}
+
+fn put_readers(answer: &mut Answer, globs: &Override) -> Result<(), Trouble> {
+    answer.put_text("path", globs.path())?;
+    answer.put_flag("is_empty", globs.is_empty())?;
+    answer.put_number("num_ignores", globs.num_ignores())?;
+    answer.put_number("num_whitelists", globs.num_whitelists())?;
+    Ok(())
+}
+
+/// A builder, asked for twice where memory is refused.
+fn builder(alloc: Global, root: &str) -> Result<OverrideBuilder, Trouble> {
+    if let Ok(builder) = OverrideBuilder::new(alloc, root) {
+        return Ok(builder);
+    }
+    match OverrideBuilder::new(alloc, root) {
+        Ok(builder) => Ok(builder),
+        Err(_) => Err(Trouble::Memory),
+    }
+}
+
+/// The builder of a vector, after its operations.
+fn after_operations(alloc: Global, input: &Value, path: &str) -> Result<Collected, Trouble> {
+    let mut collected = Collected {
+        builder: builder(alloc, text(input, "root")?)?,
+        refused: Vec::new(alloc),
+        needs_too_many: false,
+    };
+    let mut number = 0u64;
+    for op in list(input, OPS)? {
+        match apply(&mut collected.builder, op)? {
+            Some(error) => collected.refused.push(refusal(alloc, number, error)?)?,
+            None => collected.needs_too_many |= is_too_much(op, path)?,
+        }
+        number = number.saturating_add(1);
+    }
+    Ok(collected)
+}
+
+/// Whether an operation adds a glob that may need too many splits of a path.
+fn is_too_much(op: &Value, path: &str) -> Result<bool, Trouble> {
+    if text_at(op, 0, OPS)? != "line" {
+        return Ok(false);
+    }
+    let glob = text_at(op, 1, OPS)?;
+    Ok(!glob.starts_with('#') && needs_too_many(glob, path))
+}
+
+/// Does an operation; the answer is what is wrong with its glob.
+fn apply(builder: &mut OverrideBuilder, op: &Value) -> Result<Option<Error>, Trouble> {
+    match text_at(op, 0, OPS)? {
+        "line" => add(builder, text_at(op, 1, OPS)?),
+        "ci" => set_case_insensitive(builder, flag_at(op, 1, OPS)?),
+        "auc" => {
+            builder.allow_unclosed_class(flag_at(op, 1, OPS)?);
+            Ok(None)
+        }
+        _ => Err(Trouble::Field(OPS)),
+    }
+}
+
+fn set_case_insensitive(
+    builder: &mut OverrideBuilder,
+    yes: bool,
+) -> Result<Option<Error>, Trouble> {
+    match builder.case_insensitive(yes) {
+        Ok(_) => Ok(None),
+        Err(_) => Err(Trouble::Memory),
+    }
+}
+
+/// Adds a glob, twice where memory is refused.
+fn add(builder: &mut OverrideBuilder, glob: &str) -> Result<Option<Error>, Trouble> {
+    match add_once(builder, glob) {
+        Err(_) => add_once(builder, glob),
+        added => added,
+    }
+}
+
+fn add_once(builder: &mut OverrideBuilder, glob: &str) -> Result<Option<Error>, Trouble> {
+    match builder.add(glob) {
+        Ok(_) => Ok(None),
+        Err(error) => problem(error),
+    }
+}
+
+/// The globs of a builder, asked for twice where memory is refused.
+fn build(builder: &OverrideBuilder) -> Result<Override, Trouble> {
+    if let Ok(globs) = builder.build() {
+        return Ok(globs);
+    }
+    match builder.build() {
+        Ok(globs) => Ok(globs),
+        Err(_) => Err(Trouble::Memory),
+    }
+}
+
+/// What globs say of a path, asked twice where memory is refused.
+fn kind(globs: &Override, path: &str, is_dir: bool) -> Result<&'static str, Trouble> {
+    match kind_once(globs, path, is_dir) {
+        Err(_) => kind_once(globs, path, is_dir),
+        kind => kind,
+    }
+}
+
+fn kind_once(globs: &Override, path: &str, is_dir: bool) -> Result<&'static str, Trouble> {
+    match globs.matched(path, is_dir) {
+        Ok(Match::None) => Ok("none"),
+        Ok(Match::Ignore(_)) => Ok("ignore"),
+        Ok(Match::Whitelist(_)) => Ok("whitelist"),
+        Err(_) => Err(Trouble::Memory),
+    }
+}

@@ -1,0 +1,54 @@
+//! What the lines of gitignore files say of a path or of the nearest of its parents.
+
+use crate::again::build;
+use crate::answer::Answer;
+use crate::fields::{flag, text};
+use crate::outcome::{Outcome, Reason, Trouble};
+use crate::rules::{after_operations, match_value, reason_against, uses_git_spaces};
+use ignore_glob::Match;
+use ignore_rules::gitignore::{Gitignore, Glob};
+use serde_json::Value;
+use std::alloc::Global;
+
+/// Answers `under_root`, and `answer` where it holds.
+pub fn answer(alloc: Global, input: &Value) -> Result<Outcome, Trouble> {
+    if uses_git_spaces(input)? {
+        return Ok(Outcome::Skipped(Reason::GitTrailingSpaces));
+    }
+    let built = after_operations(alloc, input)?;
+    let matcher = build(&built.builder)?;
+    match reason_against(&matcher, text(input, "path")?) {
+        Some(reason) => Ok(Outcome::Skipped(reason)),
+        None => asked(alloc, input, &matcher),
+    }
+}
+
+fn asked(alloc: Global, input: &Value, matcher: &Gitignore) -> Result<Outcome, Trouble> {
+    let path = text(input, "path")?;
+    let is_dir = flag(input, "is_dir")?;
+    let mut answer = Answer::new(alloc);
+    answer.put_flag("under_root", matcher.is_under_root(path))?;
+    match nearest(matcher, path, is_dir)? {
+        Some(said) => answer.put("answer", match_value(alloc, matcher, said)?)?,
+        None => answer.put("answer", Value::Null)?,
+    }
+    Ok(Outcome::Answer(answer.into_value()))
+}
+
+/// What a matcher says of a path or its nearest parent, asked twice where memory is refused; nothing where the path can't be asked about.
+fn nearest<'g>(
+    matcher: &'g Gitignore,
+    path: &str,
+    is_dir: bool,
+) -> Result<Option<Match<&'g Glob>>, Trouble> {
+    if !matcher.is_under_root(path) {
+        return Ok(None);
+    }
+    if let Ok(said) = matcher.matched_path_or_any_parents(path, is_dir) {
+        return Ok(Some(said));
+    }
+    match matcher.matched_path_or_any_parents(path, is_dir) {
+        Ok(said) => Ok(Some(said)),
+        Err(_) => Err(Trouble::Memory),
+    }
+}

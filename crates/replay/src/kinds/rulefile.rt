@@ -1,0 +1,111 @@
+//! The rules of a file, and what is told of it.
+
+use crate::again::{build, builder};
+use crate::answer::Answer;
+use crate::error::{fault_of, told_or_null};
+use crate::fields::{field, flag, item, text, text_at};
+use crate::hex_digits::bytes_of;
+use crate::outcome::{Outcome, Reason, Trouble};
+use crate::rules::rules_value;
+use crate::tree_calls::{add_dir, add_file, empty_tree, unrefused};
+use ignore_files::MemoryTree;
+use ignore_glob::Error;
+use ignore_rules::gitignore::GitignoreBuilder;
+use serde_json::Value;
+use std::alloc::Global;
+
+/// The directory of the file, and the root of the rules.
+const ROOT: &str = "/r";
+
+/// The name of the field that holds the bytes of the file, or `null` where no file is there.
+const BYTES: &str = "hex";
+
+/// The name of the field that holds how many bytes are read, and the fault behind them.
+const CUT: &str = "cut";
+
+/// Answers `rules`, and the `error` of `add` with what it says of itself.
+pub fn answer(alloc: Global, input: &Value) -> Result<Outcome, Trouble> {
+    if flag(input, "gts")? {
+        return Ok(Outcome::Skipped(Reason::GitTrailingSpaces));
+    }
+    let path = text(input, "path")?;
+    let tree = tree_of(alloc, path, input)?;
+    let mut builder = builder(alloc, ROOT)?;
+    set_case(&mut builder, flag(input, "ci")?)?;
+    let error = added(&mut builder, &tree, path)?;
+    told(alloc, &builder, &error)
+}
+
+fn told(
+    alloc: Global,
+    builder: &GitignoreBuilder,
+    error: &Option<Error>,
+) -> Result<Outcome, Trouble> {
+    let matcher = build(builder)?;
+    let mut answer = Answer::new(alloc);
+    answer.put("rules", rules_value(alloc, &matcher)?)?;
+    answer.put("error", told_or_null(alloc, error.as_ref())?)?;
+    answer.put_flag("is_io", is_io(error))?;
+    answer.put_flag("is_partial", is_partial(error))?;
+    Ok(Outcome::Answer(answer.into_value()))
+}
+
+fn is_io(error: &Option<Error>) -> bool {
+    match error {
+        Some(error) => error.is_io(),
+        None => false,
+    }
+}
+
+fn is_partial(error: &Option<Error>) -> bool {
+    match error {
+        Some(error) => error.is_partial(),
+        None => false,
+    }
+}
+
+fn set_case(builder: &mut GitignoreBuilder, yes: bool) -> Result<(), Trouble> {
+    match builder.case_insensitive(yes) {
+        Ok(_) => Ok(()),
+        Err(_) => Err(Trouble::Memory),
+    }
+}
+
+/// Adds a file to a builder, and again where memory is refused.
+fn added(
+    builder: &mut GitignoreBuilder,
+    tree: &MemoryTree,
+    path: &str,
+) -> Result<Option<Error>, Trouble> {
+    if let Ok(error) = builder.add(tree, path) {
+        return Ok(error);
+    }
+    match builder.add(tree, path) {
+        Ok(error) => Ok(error),
+        Err(_) => Err(Trouble::Memory),
+    }
+}
+
+/// The tree with the directory and the file, if there is one.
+fn tree_of(alloc: Global, path: &str, input: &Value) -> Result<MemoryTree, Trouble> {
+    let mut tree = unrefused(empty_tree(alloc, "/"), BYTES)?;
+    unrefused(add_dir(&mut tree, ROOT), BYTES)?;
+    if !field(input, BYTES)?.is_null() {
+        let bytes = bytes_of(alloc, text(input, BYTES)?, BYTES)?;
+        unrefused(add_file(&mut tree, path, bytes.as_slice()), BYTES)?;
+        cut(&mut tree, path, field(input, CUT)?)?;
+    }
+    Ok(tree)
+}
+
+/// Cuts the file, as `[3, "Other"]` says.
+fn cut(tree: &mut MemoryTree, path: &str, cut: &Value) -> Result<(), Trouble> {
+    if cut.is_null() {
+        return Ok(());
+    }
+    let Some(len) = item(cut, 0, CUT)?.as_u64() else {
+        return Err(Trouble::Field(CUT));
+    };
+    let fault = fault_of(text_at(cut, 1, CUT)?, CUT)?;
+    unrefused(tree.cut_contents(path, len as usize, fault), CUT)
+}

@@ -1,0 +1,242 @@
+//! What file types say of paths, and all that can be read of them.
+
+use crate::again::problem;
+use crate::answer::{Answer, text_value};
+use crate::error::told;
+use crate::fields::{flag_at, list, text_at};
+use crate::outcome::{Outcome, Trouble};
+use crate::rules::refusal;
+use ignore_glob::{Error, Match};
+use ignore_rules::types::{FileTypeDef, Glob, Types, TypesBuilder};
+use serde_json::Value;
+use std::alloc::{AllocError, Global};
+
+/// The name of the field that holds the operations.
+const OPS: &str = "ops";
+
+/// The name of the field that holds the paths that are asked about.
+const ASKS: &str = "asks";
+
+/// Answers `refused`, `definitions`, `build` (its error), and then `len` and `answers`, which is `null` where nothing is built.
+pub fn answer(alloc: Global, input: &Value) -> Result<Outcome, Trouble> {
+    let mut builder = TypesBuilder::new(alloc);
+    let refused = refusals(alloc, &mut builder, input)?;
+    let definitions = definitions(&builder)?;
+    let mut answer = Answer::new(alloc);
+    answer.put("refused", Value::Array(refused))?;
+    answer.put("definitions", definitions_value(alloc, &definitions)?)?;
+    match build(&builder)? {
+        Built::Types(types) => {
+            put_types(&mut answer, alloc, input, &types)?;
+            put_other_definitions(&mut answer, alloc, &types, &definitions)?;
+        }
+        Built::Refused(error) => put_refused(&mut answer, alloc, error)?,
+    }
+    Ok(Outcome::Answer(answer.into_value()))
+}
+
+/// What came of building.
+#[derive(Drop)]
+enum Built {
+    Types(Types),
+    Refused(Error),
+}
+
+fn put_types(
+    answer: &mut Answer,
+    alloc: Global,
+    input: &Value,
+    types: &Types,
+) -> Result<(), Trouble> {
+    answer.put("build", Value::Null)?;
+    answer.put_number("len", types.len() as u64)?;
+    answer.put("answers", answers(alloc, input, types)?)?;
+    Ok(())
+}
+
+/// The definitions of the matcher are a field of their own, which isn't wanted, where they aren't those of the builder.
+fn put_other_definitions(
+    answer: &mut Answer,
+    alloc: Global,
+    types: &Types,
+    definitions: &[FileTypeDef],
+) -> Result<(), AllocError> {
+    if types.definitions() == definitions {
+        return Ok(());
+    }
+    answer.put(
+        "definitions of the matcher",
+        definitions_value(alloc, types.definitions())?,
+    )
+}
+
+fn put_refused(answer: &mut Answer, alloc: Global, error: Error) -> Result<(), AllocError> {
+    answer.put("build", told(alloc, &error)?)?;
+    answer.put("answers", Value::Null)
+}
+
+/// Does the operations of a vector; the answer is what was refused.
+fn refusals(
+    alloc: Global,
+    builder: &mut TypesBuilder,
+    input: &Value,
+) -> Result<Vec<Value>, Trouble> {
+    let mut refused = Vec::new(alloc);
+    let mut number = 0u64;
+    for op in list(input, OPS)? {
+        if let Some(error) = apply(builder, op)? {
+            refused.push(refusal(alloc, number, error)?)?;
+        }
+        number = number.saturating_add(1);
+    }
+    Ok(refused)
+}
+
+/// Does an operation, twice where memory is refused; the answer is what is wrong with it.
+fn apply(builder: &mut TypesBuilder, op: &Value) -> Result<Option<Error>, Trouble> {
+    match apply_once(builder, op) {
+        Err(Trouble::Memory) => apply_once(builder, op),
+        applied => applied,
+    }
+}
+
+fn apply_once(builder: &mut TypesBuilder, op: &Value) -> Result<Option<Error>, Trouble> {
+    match text_at(op, 0, OPS)? {
+        "add" => applied(builder.add(text_at(op, 1, OPS)?, text_at(op, 2, OPS)?)),
+        "add_def" => applied(builder.add_def(text_at(op, 1, OPS)?)),
+        "add_defaults" => add_defaults(builder),
+        "select" => select(builder, text_at(op, 1, OPS)?),
+        "negate" => negate(builder, text_at(op, 1, OPS)?),
+        "clear" => {
+            builder.clear(text_at(op, 1, OPS)?);
+            Ok(None)
+        }
+        _ => Err(Trouble::Field(OPS)),
+    }
+}
+
+fn applied(added: Result<(), Error>) -> Result<Option<Error>, Trouble> {
+    match added {
+        Ok(()) => Ok(None),
+        Err(error) => problem(error),
+    }
+}
+
+fn add_defaults(builder: &mut TypesBuilder) -> Result<Option<Error>, Trouble> {
+    match builder.add_defaults() {
+        Ok(_) => Ok(None),
+        Err(error) => problem(error),
+    }
+}
+
+fn select(builder: &mut TypesBuilder, name: &str) -> Result<Option<Error>, Trouble> {
+    match builder.select(name) {
+        Ok(_) => Ok(None),
+        Err(error) => problem(error),
+    }
+}
+
+fn negate(builder: &mut TypesBuilder, name: &str) -> Result<Option<Error>, Trouble> {
+    match builder.negate(name) {
+        Ok(_) => Ok(None),
+        Err(error) => problem(error),
+    }
+}
+
+/// The definitions of a builder, asked for twice where memory is refused.
+fn definitions(builder: &TypesBuilder) -> Result<Vec<FileTypeDef>, Trouble> {
+    if let Ok(definitions) = builder.definitions() {
+        return Ok(definitions);
+    }
+    match builder.definitions() {
+        Ok(definitions) => Ok(definitions),
+        Err(_) => Err(Trouble::Memory),
+    }
+}
+
+/// The matcher of a builder, asked for twice where memory is refused.
+fn build(builder: &TypesBuilder) -> Result<Built, Trouble> {
+    match build_once(builder) {
+        Err(_) => build_once(builder),
+        built => built,
+    }
+}
+
+fn build_once(builder: &TypesBuilder) -> Result<Built, Trouble> {
+    match builder.build() {
+        Ok(types) => Ok(Built::Types(types)),
+        Err(Error::Memory) => Err(Trouble::Memory),
+        Err(error) => Ok(Built::Refused(error)),
+    }
+}
+
+/// Types, each with its name and its globs.
+fn definitions_value(alloc: Global, definitions: &[FileTypeDef]) -> Result<Value, AllocError> {
+    let mut values = Vec::new(alloc);
+    for definition in definitions {
+        values.push(definition_value(alloc, definition)?)?;
+    }
+    Ok(Value::Array(values))
+}
+
+fn definition_value(alloc: Global, definition: &FileTypeDef) -> Result<Value, AllocError> {
+    let name = text_value(alloc, definition.name())?;
+    let mut globs = Vec::new(alloc);
+    for glob in definition.globs() {
+        globs.push(text_value(alloc, glob.as_str())?)?;
+    }
+    Ok(Value::Array(vec![in alloc; name, Value::Array(globs)]?))
+}
+
+/// What the types say of each path that is asked about.
+fn answers(alloc: Global, input: &Value, types: &Types) -> Result<Value, Trouble> {
+    let mut answers = Vec::new(alloc);
+    for ask in list(input, ASKS)? {
+        let path = text_at(ask, 0, ASKS)?;
+        let is_dir = flag_at(ask, 1, ASKS)?;
+        let said = matched(types, path, is_dir)?;
+        answers.push(match_value(alloc, said)?)?;
+    }
+    Ok(Value::Array(answers))
+}
+
+/// What types say of a path, asked twice where memory is refused.
+fn matched<'t>(types: &'t Types, path: &str, is_dir: bool) -> Result<Match<Glob<'t>>, Trouble> {
+    match types.matched(path, is_dir) {
+        Ok(said) => Ok(said),
+        Err(_error) => matched_again(types, path, is_dir),
+    }
+}
+
+fn matched_again<'t>(
+    types: &'t Types,
+    path: &str,
+    is_dir: bool,
+) -> Result<Match<Glob<'t>>, Trouble> {
+    match types.matched(path, is_dir) {
+        Ok(said) => Ok(said),
+        Err(_error) => Err(Trouble::Memory),
+    }
+}
+
+/// The kind of a match, and the type that decided or `null`.
+fn match_value(alloc: Global, said: Match<Glob<'_>>) -> Result<Value, AllocError> {
+    match said {
+        Match::None => said_value(alloc, "none", None),
+        Match::Ignore(glob) => said_value(alloc, "ignore", glob.file_type_def()),
+        Match::Whitelist(glob) => said_value(alloc, "whitelist", glob.file_type_def()),
+    }
+}
+
+fn said_value(
+    alloc: Global,
+    kind: &str,
+    definition: Option<&FileTypeDef>,
+) -> Result<Value, AllocError> {
+    let kind = text_value(alloc, kind)?;
+    let definition = match definition {
+        Some(definition) => definition_value(alloc, definition)?,
+        None => Value::Null,
+    };
+    Ok(Value::Array(vec![in alloc; kind, definition]?))
+}

@@ -1,0 +1,164 @@
+//! Asking the vectors of a file, line by line.
+
+use crate::compare::agrees;
+use crate::kinds;
+use crate::outcome::{Outcome, Reason, Trouble};
+use crate::tally::Tally;
+use crate::vector::Vector;
+use serde_json::{Category, Error, Value};
+use std::alloc::Global;
+use std::io::Write;
+
+/// Why a run ends before its end.
+#[derive(Clone, Copy, Drop)]
+pub enum Stop<'n> {
+    /// Memory was refused twice.
+    Memory,
+    /// What has this name can't be read.
+    Read(&'n str),
+    /// What is told can't be written.
+    Write,
+}
+
+/// What came of a line.
+#[derive(Drop)]
+enum Verdict {
+    Passed,
+    /// The vector, and what was answered.
+    Failed(Value, Value),
+    Skipped(Reason),
+}
+
+/// Why a line is no vector, or wasn't judged.
+#[derive(Clone, Copy, Drop)]
+enum Flaw {
+    NoJson,
+    NoObject,
+    UnknownKind,
+    Field(&'static str),
+    Memory,
+}
+
+impl From<Trouble> for Flaw {
+    fn from(trouble: Trouble) -> Flaw {
+        match trouble {
+            Trouble::Field(name) => Flaw::Field(name),
+            Trouble::Memory => Flaw::Memory,
+        }
+    }
+}
+
+/// Asks each vector of a file. A vector whose answer is another one than wanted is told on `out`, and a line that is no vector on `err`; both are counted.
+pub fn replay<'n, W: Write, E: Write>(
+    alloc: Global,
+    name: &'n str,
+    bytes: &[u8],
+    tally: &mut Tally,
+    out: &mut W,
+    err: &mut E,
+) -> Result<(), Stop<'n>> {
+    let mut number = 0u64;
+    for line in bytes.split(|byte| *byte == b'\n') {
+        number = number.saturating_add(1);
+        if !line.is_empty() {
+            match judged(alloc, line) {
+                Ok(verdict) => count(verdict, tally, out)?,
+                Err(flaw) => refuse(flaw, name, number, tally, err)?,
+            }
+        }
+    }
+    Ok(())
+}
+
+/// What came of a line, judged afresh where memory is refused.
+fn judged(alloc: Global, line: &[u8]) -> Result<Verdict, Flaw> {
+    match judge(alloc, line) {
+        Err(Flaw::Memory) => judge(alloc, line),
+        verdict => verdict,
+    }
+}
+
+fn judge(alloc: Global, line: &[u8]) -> Result<Verdict, Flaw> {
+    let value = read(alloc, line)?;
+    match answer(alloc, &value)? {
+        Some(Outcome::Skipped(reason)) => Ok(Verdict::Skipped(reason)),
+        Some(Outcome::Answer(answer)) => compared(value, answer),
+        None => Err(Flaw::UnknownKind),
+    }
+}
+
+fn read(alloc: Global, line: &[u8]) -> Result<Value, Flaw> {
+    match Value::from_slice(alloc, line) {
+        Ok(value) if value.is_object() => Ok(value),
+        Ok(_) => Err(Flaw::NoObject),
+        Err(error) => Err(flaw_of(error)),
+    }
+}
+
+fn flaw_of(error: Error) -> Flaw {
+    match error.classify() {
+        Category::Memory => Flaw::Memory,
+        Category::Io | Category::Syntax | Category::Data | Category::Eof => Flaw::NoJson,
+    }
+}
+
+fn answer(alloc: Global, value: &Value) -> Result<Option<Outcome>, Flaw> {
+    let vector = Vector::of(value)?;
+    match kinds::answer(alloc, vector.kind, vector.input) {
+        Some(Ok(outcome)) => Ok(Some(outcome)),
+        Some(Err(trouble)) => Err(Flaw::from(trouble)),
+        None => Ok(None),
+    }
+}
+
+fn compared(value: Value, answer: Value) -> Result<Verdict, Flaw> {
+    let vector = Vector::of(&value)?;
+    if agrees(vector.wanted, &answer, kinds::waiting(vector.kind)) {
+        return Ok(Verdict::Passed);
+    }
+    Ok(Verdict::Failed(value, answer))
+}
+
+fn count<'n, W: Write>(verdict: Verdict, tally: &mut Tally, out: &mut W) -> Result<(), Stop<'n>> {
+    match verdict {
+        Verdict::Passed => tally.pass(),
+        Verdict::Skipped(reason) => tally.skip(reason),
+        Verdict::Failed(value, answer) => {
+            tally.fail();
+            tell_parting(&value, &answer, out)?;
+        }
+    }
+    Ok(())
+}
+
+/// Tells of an answer that is another one than wanted.
+fn tell_parting<'n, W: Write>(value: &Value, answer: &Value, out: &mut W) -> Result<(), Stop<'n>> {
+    let (Some(id), Some(wanted)) = (value.get("id"), value.get("out")) else {
+        return Ok(());
+    };
+    match writeln!(out, "{id}: wanted {wanted}, got {answer}") {
+        Ok(()) => Ok(()),
+        Err(_) => Err(Stop::Write),
+    }
+}
+
+fn refuse<'n, E: Write>(
+    flaw: Flaw,
+    name: &'n str,
+    number: u64,
+    tally: &mut Tally,
+    err: &mut E,
+) -> Result<(), Stop<'n>> {
+    tally.refuse();
+    let written = match flaw {
+        Flaw::NoJson => writeln!(err, "replay: {name}: line {number}: no JSON"),
+        Flaw::NoObject => writeln!(err, "replay: {name}: line {number}: no object"),
+        Flaw::UnknownKind => writeln!(err, "replay: {name}: line {number}: unknown kind"),
+        Flaw::Field(field) => writeln!(err, "replay: {name}: line {number}: bad field {field}"),
+        Flaw::Memory => return Err(Stop::Memory),
+    };
+    match written {
+        Ok(()) => Ok(()),
+        Err(_) => Err(Stop::Write),
+    }
+}

@@ -1,0 +1,160 @@
+//! Builders of gitignore rules, as vectors describe them, and their answers.
+
+use crate::again::{add_line, builder};
+use crate::answer::{text_or_null, text_value};
+use crate::error::printed;
+use crate::fields::{flag_at, list, text, text_at};
+use crate::outcome::{Reason, Trouble};
+use crate::splits::needs_too_many;
+use ignore_glob::{Error, Match};
+use ignore_rules::gitignore::{Gitignore, GitignoreBuilder, Glob};
+use serde_json::Value;
+use std::alloc::{AllocError, Global};
+
+/// The name of the field that holds the operations.
+const OPS: &str = "ops";
+
+/// A builder after a vector's operations, and what it refused: the number of the operation and the text of the error.
+#[derive(Drop)]
+pub struct Built {
+    pub builder: GitignoreBuilder,
+    pub refused: Vec<Value>,
+}
+
+/// Whether some operation turns on a mode that isn't there: that trailing spaces are read as git reads them.
+pub fn uses_git_spaces(input: &Value) -> Result<bool, Trouble> {
+    for op in list(input, OPS)? {
+        if text_at(op, 0, OPS)? == "gts" && flag_at(op, 1, OPS)? {
+            return Ok(true);
+        }
+    }
+    Ok(false)
+}
+
+/// Why a matcher isn't asked about a path, if so.
+pub fn reason_against(matcher: &Gitignore, path: &str) -> Option<Reason> {
+    for rule in matcher.rules() {
+        if needs_too_many(rule.actual(), path) {
+            return Some(Reason::TooManySplits);
+        }
+    }
+    None
+}
+
+/// The builder of a vector, after its operations.
+pub fn after_operations(alloc: Global, input: &Value) -> Result<Built, Trouble> {
+    let mut built = Built {
+        builder: builder(alloc, text(input, "root")?)?,
+        refused: Vec::new(alloc),
+    };
+    let mut number = 0u64;
+    for op in list(input, OPS)? {
+        if let Some(error) = apply(&mut built.builder, op)? {
+            built.refused.push(refusal(alloc, number, error)?)?;
+        }
+        number = number.saturating_add(1);
+    }
+    Ok(built)
+}
+
+/// Does an operation; the answer is what is wrong with its line.
+fn apply(builder: &mut GitignoreBuilder, op: &Value) -> Result<Option<Error>, Trouble> {
+    match text_at(op, 0, OPS)? {
+        "line" => add_line(builder, text_at(op, 1, OPS)?),
+        "ci" => set_case_insensitive(builder, flag_at(op, 1, OPS)?),
+        "auc" => {
+            builder.allow_unclosed_class(flag_at(op, 1, OPS)?);
+            Ok(None)
+        }
+        "gts" => Ok(None),
+        _ => Err(Trouble::Field(OPS)),
+    }
+}
+
+fn set_case_insensitive(
+    builder: &mut GitignoreBuilder,
+    yes: bool,
+) -> Result<Option<Error>, Trouble> {
+    match builder.case_insensitive(yes) {
+        Ok(_) => Ok(None),
+        Err(_) => Err(Trouble::Memory),
+    }
+}
+
+/// The number of an operation that was refused, and the text of its error.
+pub fn refusal(alloc: Global, number: u64, error: Error) -> Result<Value, AllocError> {
+    let told = printed(alloc, &error)?;
+    Ok(Value::Array(vec![in alloc; Value::from(number), told]?))
+}
+
+/// The rules of a matcher, each with all that can be read of it.
+pub fn rules_value(alloc: Global, matcher: &Gitignore) -> Result<Value, AllocError> {
+    let mut rules = Vec::new(alloc);
+    for rule in matcher.rules() {
+        rules.push(rule_value(alloc, rule)?)?;
+    }
+    Ok(Value::Array(rules))
+}
+
+/// All that can be read of a rule.
+fn rule_value(alloc: Global, rule: &Glob) -> Result<Value, AllocError> {
+    let original = text_value(alloc, rule.original())?;
+    let actual = text_value(alloc, rule.actual())?;
+    let is_whitelist = Value::Bool(rule.is_whitelist());
+    let is_only_dir = Value::Bool(rule.is_only_dir());
+    let from = text_or_null(alloc, rule.from())?;
+    let parts = vec![in alloc; original, actual, is_whitelist, is_only_dir, from]?;
+    Ok(Value::Array(parts))
+}
+
+/// What a matcher answered: the kind of the match, and the texts and the place of the rule that decided.
+pub fn match_value(
+    alloc: Global,
+    matcher: &Gitignore,
+    answer: Match<&Glob>,
+) -> Result<Value, AllocError> {
+    match answer {
+        Match::None => kind_value(alloc),
+        Match::Ignore(rule) => decided_value(alloc, "ignore", matcher, rule),
+        Match::Whitelist(rule) => decided_value(alloc, "whitelist", matcher, rule),
+    }
+}
+
+fn kind_value(alloc: Global) -> Result<Value, AllocError> {
+    let kind = text_value(alloc, "none")?;
+    Ok(Value::Array(vec![in alloc; kind]?))
+}
+
+fn decided_value(
+    alloc: Global,
+    kind: &str,
+    matcher: &Gitignore,
+    rule: &Glob,
+) -> Result<Value, AllocError> {
+    let kind = text_value(alloc, kind)?;
+    let original = text_value(alloc, rule.original())?;
+    let actual = text_value(alloc, rule.actual())?;
+    let place = place_value(matcher, rule);
+    Ok(Value::Array(vec![in alloc; kind, original, actual, place]?))
+}
+
+/// The place of the last rule of which the same can be read, or `null`.
+fn place_value(matcher: &Gitignore, rule: &Glob) -> Value {
+    let mut place = Value::Null;
+    let mut number = 0u64;
+    for other in matcher.rules() {
+        if reads_same(rule, other) {
+            place = Value::from(number);
+        }
+        number = number.saturating_add(1);
+    }
+    place
+}
+
+fn reads_same(rule: &Glob, other: &Glob) -> bool {
+    rule.from() == other.from()
+        && rule.original() == other.original()
+        && rule.actual() == other.actual()
+        && rule.is_whitelist() == other.is_whitelist()
+        && rule.is_only_dir() == other.is_only_dir()
+}
