@@ -3,3 +3,4 @@ pub mod Places
 pub mod Walks
 pub mod EntryLemmas
 pub mod NodeLemmas
+mod DiskLemmas

@@ -1,5 +1,5 @@
 -- The pieces of a text that is cut at a slash.
-use Rattle.std.proofs.Common.{◌≡◌, ◌≢◌, ℕ, ◌+◌, ◌<◌, Bool, true, false, cond, eqb, List, [], ◌∷◌, ◌++◌, length, get_or, Some, None, refl, ap, sym, ◌∙◌, arith, Bor, lit<, ◌≤◌, ◌&&◌, ◌||◌, take, drop, suc}
+use Rattle.std.proofs.Common.{◌≡◌, ◌≢◌, ℕ, ◌+◌, ◌<◌, Bool, true, false, cond, eqb, List, [], ◌∷◌, ◌++◌, length, get_or, Some, None, refl, ap, sym, ◌∙◌, arith, Bor, lit<, ◌≤◌, ◌&&◌, ◌||◌, take, drop}
 use Rattle.std.specs.List.{onto_first}
 use Rattle.std.proofs.lemmas.List.{get_or_default, length-append}
 use Rattle.std.proofs.lemmas.List.Splits.{slice_split_none}
@@ -10,9 +10,6 @@ use Rattle.std.proofs.lemmas.List.{take-append-drop}
 use Rattle.std.proofs.lemmas.Str.Pattern.{IsSplitOnceResult, split_parts, drop_at_char, NoCharPasses-char}
 use Rattle.ignore_glob.specs.Paths.{pieces, last_piece, is_proper}
 use Rattle.ignore_files.specs.Memory.{front, is_empty, is_own_path}
-
-not_zero : (n : ℕ) → 0 < n → eqb n 0 ≡ false
-not_zero n h = grind (arith, nat_tests)
 
 no_slash : (b : ℕ) → b ≢ 47 → eqb b 47 ≡ false
 no_slash b h = grind (arith, nat_tests)
@@ -68,11 +65,6 @@ pieces_cut_last bs x (i, j, found, before, after, order, front_len, back_len) =
     ap pieces whole ∙ pieces_cut (take i bs) (drop j bs) ∙ ap (λ ps. pieces (take i bs) ++ ps) one
     ∙ ap (λ r. pieces r ++ drop j bs ∷ []) (sym before) ∙ ap (λ r. pieces x.0.now ++ r ∷ []) (sym after)
 
-pub last_push : (ps : List (List ℕ)) (p : List ℕ) → last_piece (ps ++ p ∷ []) ≡ p
-last_push [] p = refl
-last_push (q ∷ []) p = refl
-last_push (q ∷ r ∷ ps) p = last_push (r ∷ ps) p
-
 pub front_push : (ps : List (List ℕ)) (p : List ℕ) → front (ps ++ p ∷ []) ≡ ps
 front_push [] p = refl
 front_push (q ∷ []) p = refl
@@ -86,11 +78,6 @@ own_none (b ∷ rest) h = sym (ap (λ t. t && (is_empty rest || list_all is_prop
 pub own_rest : (bs rest : List ℕ) → bs ≡ 47 ∷ rest → eqb (length rest) 0 ≡ false → list_all is_proper (pieces rest) ≡ is_own_path bs
 own_rest bs [] e h = cc
 own_rest bs (x ∷ rest) e h = ap is_own_path (sym e)
-
--- a test of the length is a test of the list
-pub empty_length : {A : Type 0} (xs : List A) → is_empty xs ≡ eqb (length xs) 0
-empty_length [] = refl
-empty_length (x ∷ xs) = sym (not_zero (suc (length xs)) (omega arith))
 
 pub pieces_uncut : (bs : List ℕ) → RFindsChar 47 bs None → pieces bs ≡ bs ∷ []
 pieces_uncut bs h = pieces_one bs (λ i l. NoCharPasses-char 47 bs i h (lit< tt) l)

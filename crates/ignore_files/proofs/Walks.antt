@@ -84,10 +84,6 @@ walk_turn nodes follow links here text piece after e =
     ∙ walk_append nodes follow s.0 s.1 links piece [] here
     ∙ ap (λ ps. and_then (λ r. cond (is_dir_at nodes r.node) (walk nodes follow r.links ps r.node) (Err NotADirectory)) (walk nodes true links (piece ∷ []) here)) (sym s.2)
 
--- the last piece has led to a node
-pub walk_end : (nodes : List Node) (follow : Bool) (links here node : ℕ) (piece : List ℕ) → Ok node ≡ enter nodes here piece → walk nodes follow links (piece ∷ []) here ≡ ends follow links (through nodes follow links) node (link_at nodes node)
-walk_end nodes follow links here node piece e = walk_along nodes follow links (piece ∷ []) here ∙ ap (and_then (λ i. ends follow links (through nodes follow links) i (link_at nodes i))) (sym e)
-
 module _ (nodes : List Node) (follow : Bool) (links here : ℕ) (text piece after : List ℕ) (w : Result Reached Fault) (same : walk nodes follow links (pieces text) here ≡ w) (cut : pieces text ≡ piece ∷ pieces after) where
   turned : (r : Result Reached Fault) → r ≡ walk nodes true links (piece ∷ []) here → and_then (λ r. cond (is_dir_at nodes r.node) (walk nodes follow r.links (pieces after) r.node) (Err NotADirectory)) r ≡ w
   turned r e = ap (and_then (λ r. cond (is_dir_at nodes r.node) (walk nodes follow r.links (pieces after) r.node) (Err NotADirectory))) e ∙ sym (walk_turn nodes follow links here text piece after cut) ∙ same

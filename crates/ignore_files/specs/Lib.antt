@@ -7,3 +7,4 @@ pub mod Refusals
 pub mod Resolve
 pub mod Answers
 pub mod Changes
+pub mod Disk

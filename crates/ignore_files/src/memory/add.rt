@@ -4,9 +4,9 @@ ghost use Rattle.ignore_files.specs.Memory.{parent_for};
 ghost use Rattle.ignore_files.specs.Changes.{with_node};
 
 use crate::memory::node::{Kind, Node};
-use crate::memory::own_path::last_name;
 use crate::tree_error::TreeError;
 use crate::types::Name;
+use ignore_glob::text::last_piece;
 
 /// Adds a node to the directory at the place `parent`, which is the one for its path. After an
 /// `Err` nothing has changed.
@@ -25,7 +25,7 @@ pub fn add_node(
     let alloc = *nodes.allocator();
     let place = nodes.len();
     let file_type = kind.file_type();
-    let name = Name::new(String::from_str(alloc, last_name(path))?);
+    let name = Name::new(String::from_str(alloc, last_piece(path))?);
     let path = Name::new(String::from_str(alloc, path)?);
     nodes.push(Node::new(place, parent, path, kind, len))?;
     match nodes[parent].list_named(name, file_type, place) {

@@ -1,18 +1,13 @@
 //! The own paths of nodes: from `/`, by names alone.
 ghost use Rattle.std.specs.Prelude.{◌≡◌, ◌∷◌, [], List, count_by};
-ghost use Rattle.ignore_glob.specs.Paths.{is_proper, last_piece, pieces};
+ghost use Rattle.ignore_glob.specs.Paths.{pieces};
 ghost use Rattle.ignore_files.specs.Memory.{is_own_path, child, place_of, any_kind, is_file, is_directory, sought, folder_sought, parent_for, below, front};
 ghost use Rattle.ignore_files.specs.declared.memory.node.Node.{Node};
 
 use crate::memory::node::{Kind, Node};
 use crate::memory::resolve::is_dir;
 use crate::tree_error::TreeError;
-
-fn is_name(piece: &str) -> bool
-    ensures { result ≡ is_proper piece.now }
-{
-    !piece.is_empty() && piece != "." && piece != ".."
-}
+use ignore_glob::text::is_proper;
 
 /// Whether the path is `/`, or `/` and names joined by single slashes.
 pub fn is_own_path(path: &str) -> bool
@@ -20,7 +15,7 @@ pub fn is_own_path(path: &str) -> bool
 {
     match path.strip_prefix('/') {
         None => false,
-        Some(rest) => rest.is_empty() || rest.split('/').all(is_name),
+        Some(rest) => rest.is_empty() || rest.split('/').all(|piece| is_proper(piece)),
     }
 }
 
@@ -59,16 +54,6 @@ pub fn place_of(nodes: &[Node], path: &str) -> Option<usize>
         rest = after;
     }
     piece_below(nodes, here, rest)
-}
-
-/// The name that a path ends with.
-pub fn last_name(path: &str) -> &str
-    ensures { result.now ≡ last_piece (pieces path.now) }
-{
-    match path.rsplit_once('/') {
-        Some((_, name)) => name,
-        None => path,
-    }
 }
 
 /// What stands before the last slash of a path.

@@ -21,7 +21,7 @@ list_named-requires c =
     let read = c.index_mut.result.now in
     let at = c.index_mut.ensures.value ∙ ap (λ ns. get_or ns c.args.parent read) c.in_ok-push.ensures.items in
     let same = read_before nodes c.new.result c.args.parent there.0 read there.1 at in
-    let name = c.new-name.ensures ∙ c.in_ok-from_str.ensures.ok ∙ c.last_name.ensures in
+    let name = c.new-name.ensures ∙ c.in_ok-from_str.ensures.ok ∙ c.last_piece.ensures in
     ap (λ (n : Node). entry_under c.new-name.result n.kind) same ∙ ap (λ n. entry_under n there.0.kind) name ∙ there.2
 
 pub returns-in-Ok-clause-ok : goal.returns-in-Ok-clause-ok
@@ -32,7 +32,7 @@ returns-in-Ok-clause-ok c =
     let read = c.index_mut.result.now in
     let at = c.index_mut.ensures.value ∙ ap (λ ns. get_or ns parent read) c.in_ok-push.ensures.items in
     let entry = Named c.new-name.result c.file_type-file_type.result c.len-place.result in
-    let name = c.new-name.ensures ∙ c.in_ok-from_str.ensures.ok ∙ c.last_name.ensures in
+    let name = c.new-name.ensures ∙ c.in_ok-from_str.ensures.ok ∙ c.last_piece.ensures in
     let copy = c.new-path.ensures ∙ c.in_ok-from_str-2.ensures.ok in
     ap (λ ns. set ns parent c.list_named.new.self) c.in_ok-push.ensures.items
     ∙ ap (set (nodes ++ c.new.result ∷ []) parent) c.in-Ok.ensures.ok
