@@ -51,9 +51,6 @@ module _ (rules : List Rule) (text : List ℕ) (is_dir : Bool) where
       let place : drop i rules ≡ rule ∷ drop (i + 1) rules = rw add-one (drop-cons rules i rule fits ∙ ap (λ r. r ∷ drop (suc i) rules) (sym is)) in
       ap (λ rest. list_answer rest text is_dir) place ∙ ap (λ m. match_or m (rule_answer text is_dir rule)) none
 
-  pub passed : (i : ℕ) (rule : Rule) → i < length rules → rule ≡ get_or rules i rule → list_answer (drop (i + 1) rules) text is_dir ≡ None → does_apply text is_dir rule ≡ false → list_answer (drop i rules) text is_dir ≡ None
-  passed i rule fits is none e = at_rule i rule fits is none ∙ ap (λ yes. cond yes (told_by rule) None) e
-
 or_settled : (m other : Match Rule) → (m ≡ None → ⊥) → match_or m other ≡ m
 or_settled None other some = absurd (some refl)
 or_settled (Ignore r) other some = refl

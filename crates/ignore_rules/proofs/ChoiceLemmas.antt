@@ -9,12 +9,6 @@ SomeTakes-at name [] i d within takes = absurd (omega arith)
 SomeTakes-at name (r ∷ rs) zero d within takes = inl takes
 SomeTakes-at name (r ∷ rs) (suc i) d within takes = inr (SomeTakes-at name rs i d (omega arith) takes)
 
--- a list from an index on begins with the element there
-pub drop-here : {A : Type 0} (xs : List A) (i : ℕ) (x : A) → i < length xs → x ≡ get_or xs i x → drop i xs ≡ x ∷ drop (suc i) xs
-drop-here [] i x within read = absurd (omega arith)
-drop-here (y ∷ ys) zero x within read = λ j. sym read j ∷ ys
-drop-here (y ∷ ys) (suc i) x within read = drop-here ys i x (omega arith) read
-
 -- a list is what stands before an element, the element and what stands after it
 pub split-at : {A : Type 0} (xs : List A) (i : ℕ) (x : A) → i < length xs → x ≡ get_or xs i x → xs ≡ take i xs ++ x ∷ drop (suc i) xs
 split-at [] i x within read = absurd (omega arith)

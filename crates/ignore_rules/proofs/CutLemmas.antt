@@ -70,14 +70,8 @@ pub one_piece : (bytes : List ℕ) → Nowhere (Passes (is_byte 10) bytes) 0 (le
 one_piece bytes none =
     slice_split_none (λ b. eqb b 10) bytes (All-from_get_or (λ b. eqb b 10 ≡ false) bytes 0 (λ i l. false_from_ne_true _ (none i (omega arith) l)))
 
-pub last_fault : (bytes : List ℕ) (fault : Fault) → IsOnePiece bytes → lines_met bytes (Some fault) ≡ Err fault ∷ []
-last_fault bytes fault one = ap (met_of (Some fault)) one
-
 pub last_line : (bytes : List ℕ) → IsOnePiece bytes → eqb (length bytes) 0 ≡ false → lines_met bytes None ≡ met bytes ∷ []
 last_line bytes one some = ap (met_of None) one ∙ ap (λ b. map met (cond b [] (bytes ∷ []))) some
-
-pub no_line : (bytes : List ℕ) → IsOnePiece bytes → eqb (length bytes) 0 ≡ true → lines_met bytes None ≡ []
-no_line bytes one none = ap (met_of None) one ∙ ap (λ b. map met (cond b [] (bytes ∷ []))) none
 
 -- a line that is UTF-8 is met as its text, any other as a fault
 pub met_text : (line text : List ℕ) → text ≡ line → IsUtf8 line → met line ≡ Ok text

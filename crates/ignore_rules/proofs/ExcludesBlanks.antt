@@ -63,12 +63,6 @@ EndsLine-solid b bs solid (c ∷ cs, rest, e, blank, end) =
 pub EndsLine-append : (blank text : List ℕ) → IsBlank blank → EndsLine text → EndsLine (blank ++ text)
 EndsLine-append blank text h k = (blank ++ k.0, k.1, ap (λ t. blank ++ t) k.2 ∙ sym (append_assoc blank k.0 k.1), IsBlank-append blank k.0 h k.3, k.4)
 
-pub EndsLine-nil : EndsLine []
-EndsLine-nil = ([], [], refl, tt, inl refl)
-
-pub EndsLine-newline : (bs : List ℕ) → EndsLine (10 ∷ bs)
-EndsLine-newline bs = ([], 10 ∷ bs, refl, tt, inr (bs, refl))
-
 -- a byte of white space other than a newline leaves the question to what follows it
 pub EndsLine-more : (b : ℕ) (bs : List ℕ) → (b ≡ 10 → ⊥) → EndsLine (b ∷ bs) → EndsLine bs
 EndsLine-more b bs other ([], rest, e, blank, inl end) = let no : b ∷ bs ≡ [] = e ∙ end in absurd (cc)

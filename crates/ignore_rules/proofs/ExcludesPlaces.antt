@@ -9,11 +9,6 @@ use Rattle.ignore_rules.proofs.ExcludesOnly.{IsValue-one}
 use Rattle.ignore_rules.specs.ExcludesSearch.{ReadGives, ContentsGive, Gives, IsFirstValue, filled, below, or_else, xdg_folder, configurations, path_of, expanded, IsFirstPath, IsExcludesPath}
 use Rattle.ignore_files.specs.declared.env.Env.{Env}
 
--- a place that gives nothing leaves the answer to the others
-pub IsFirstValue-pass : (tree : Tree) (place : Option (List ℕ)) (places : List (Option (List ℕ))) (found : Option (List ℕ)) → Gives tree place None → IsFirstValue tree places found → IsFirstValue tree (place ∷ places) found
-IsFirstValue-pass tree place places None h k = (h, k)
-IsFirstValue-pass tree place places (Some value) h k = inr (h, k)
-
 -- what was read whole gives its value
 ReadGives-whole : (bytes : List ℕ) (fault : Option Fault) (found : Option (List ℕ)) → is_some fault ≡ false → IsValue bytes found → ReadGives bytes fault found
 ReadGives-whole bytes None found e h = h

@@ -13,9 +13,6 @@ abbrev pub LeadsTo : List ℕ → List (Result (List ℕ) Fault) → Building �
 LeadsTo path whole start number rest old problems =
     (new : Building) (more : List Problem) → AddsLines path number rest old new more → AddsLines path 1 whole start new (problems ++ more)
 
-pub from_start : (path : List ℕ) (whole : List (Result (List ℕ) Fault)) (start : Building) → LeadsTo path whole start 1 whole start []
-from_start path whole start new more adds = adds
-
 pub one_more : (path : List ℕ) (whole : List (Result (List ℕ) Fault)) (start : Building) (number : ℕ) (line : List ℕ) (here rest : List (Result (List ℕ) Fault)) (old between : Building) (before after : List Problem)
     → LeadsTo path whole start number here old before → here ≡ Ok line ∷ rest → TakesLine path number line old between before after → LeadsTo path whole start (number + 1) rest between after
 one_more path whole start number line here rest old between before after leads e (inl (adds, same)) new more h =
@@ -40,13 +37,6 @@ done_here path whole start number here old before leads e =
     subst (λ told. AddsLines path 1 whole start old told) (append-nil before) (leads old [] (subst (λ l. AddsLines path number l old old []) (sym e) (done number old)))
 
 -- A builder to which at most rules were added.
-
-pub keeps_same : (old new : Building) → new ≡ old → Keeps old new
-keeps_same old new e = ([], e ∙ ap (λ rules. record { root = old.root; rules = rules; options = old.options }) (sym (append-nil old.rules)))
-
-pub keeps_line : (old : Building) (from : Option (List ℕ)) (line : List ℕ) (new : Building) → AddsLine old from line new → Keeps old new
-keeps_line old from line new (None, says, e) = keeps_same old new e
-keeps_line old from line new (Some rule, says, e) = (rule ∷ [], e)
 
 pub keeps_then : (old between new : Building) → Keeps old between → Keeps between new → Keeps old new
 keeps_then old between new (first, e) (second, f) = (

@@ -8,7 +8,7 @@ use Rattle.std.proofs.lemmas.List.Folds.{list_any_at, list_any_none}
 use Rattle.std.proofs.lemmas.List.Elements.{All-from_get_or}
 use Rattle.std.proofs.lemmas.Bool.{false_from_ne_true}
 use Rattle.memchr.specs.Find.{IsFirstByte, is_byte}
-use Rattle.ignore_rules.specs.Line.{begins, ends, without_start, without_end, has_slash}
+use Rattle.ignore_rules.specs.Line.{begins, ends, without_start, without_end}
 
 -- `strip_prefix`, or else the text itself
 pub strip_start : (start text : List ℕ) (r : Option (Bor (List ℕ))) (whole : Bor (List ℕ)) → whole.now ≡ text → MatchOption r (FindsTextPrefix start text None) (λ x. StripsPrefix (FindsTextPrefix start) text x.now) → (unwrap_or r whole).now ≡ without_start start text
@@ -27,8 +27,3 @@ strip_end end text None whole same h =
 strip_end end text (Some x) whole same (n, found, cut, fits) =
     let test : ends end text ≡ true = sym (ends_text true end text (n, found, omega arith, subst (λ k. IsCharBoundary text (length text - k)) (sym found.0) found.2)) in
     cut ∙ (ap (λ k. take (length text - k) text) found.0 ∙ sym (ap (λ b. cond b (take (length text - length end) text) text) test))
-
--- a place of a slash, or none
-pub slash_found : (text : List ℕ) (r : Option ℕ) → IsFirstByte (is_byte 47) text r → is_some r ≡ has_slash text
-slash_found text None h = sym (list_any_none (is_byte 47) text (All-from_get_or (λ c. is_byte 47 c ≡ false) text 0 (λ i l. false_from_ne_true _ (h i (omega arith) l))))
-slash_found text (Some k) h = sym (list_any_at (is_byte 47) text k 0 h.0.high h.1)

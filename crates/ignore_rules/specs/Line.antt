@@ -2,6 +2,7 @@
 use Rattle.std.specs.Prelude.{◌==◌, ◌-◌, ℕ, Bool, not, ◌&&◌, ◌||◌, if◌then◌else◌, List, ◌++◌, length, take, drop, codes, nat_eq, Option, None, Some}
 use Rattle.std.specs.List.{starts_with, ends_with, list_any}
 use Rattle.std.specs.Str.{trim_end, bytes_eq}
+use Rattle.ignore_glob.specs.Paths.{has_slash}
 
 -- the text begins, or ends, with this one
 abbrev pub begins : List ℕ → List ℕ → Bool
@@ -16,10 +17,6 @@ without_start start text = if begins start text then drop (length start) text el
 
 abbrev pub without_end : List ℕ → List ℕ → List ℕ
 without_end end text = if ends end text then take (length text - length end) text else text
-
--- a `/` stands somewhere in the text
-abbrev pub has_slash : List ℕ → Bool
-has_slash text = list_any (λ c. c == 47) text
 
 -- trailing white space goes, unless the line ends with a backslash and one space
 abbrev pub trimmed : List ℕ → List ℕ

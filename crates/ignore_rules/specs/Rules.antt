@@ -48,10 +48,6 @@ SaysRule options from (Some w) given =
     (tokens : Tokens) × Reads options.glob (chars w.actual) tokens
     × (given ≡ Some (read_rule from w (record { tokens = tokens; case_insensitive = options.glob.case_insensitive })))
 
--- the line gives this rule, or none
-abbrev pub GivesRule : LineOptions → Option (List ℕ) → List ℕ → Option Rule → Type 0
-GivesRule options from line given = SaysRule options from (written line) given
-
 -- what says this is refused, as its glob has a fault
 abbrev pub SaysFault : LineOptions → Option Written → Problem → Type 0
 SaysFault options None problem = ⊥

@@ -1,17 +1,19 @@
 //! The run of the program, over any two writers.
-ghost use Rattle.std.specs.Prelude.{◌≡◌, ◌≢◌, ◌≤◌, ◌==◌, [], ℕ, List, None, Some, true, false, OnOk, IfOk, codes, length, map, string_bytes, if◌then◌else◌};
+ghost use Rattle.std.specs.Prelude.{◌≡◌, ◌≢◌, ◌≤◌, ◌==◌, [], ℕ, List, None, Some, true, false, OnOk, IfOk, IfErr, codes, length, map, string_bytes, if◌then◌else◌};
 ghost use Rattle.std.specs.Io.KnownBytes.{Appends};
 ghost use Rattle.std.specs.Str.Lines.{lines};
 ghost use Rattle.ignore_glob.specs.Errors.{problem_text};
 ghost use Rattle.ignore_glob.specs.Problem.{told, memory};
 ghost use Rattle.ignore_rules.specs.Rules.{begun, built};
 ghost use Rattle.igwalk.specs.Words.{Question, question_of, request_view};
+ghost use Rattle.igwalk.specs.Stops.{EndsAnswer, EndsLines, line_stop, reason};
 ghost use Rattle.igwalk.specs.Matching.{AddsAll, AddsOne, Prints, answer_line, says, refusal};
 
 use crate::words::{Request, read_words};
 use ignore_glob::{Error, Match};
 use ignore_rules::gitignore::{Gitignore, GitignoreBuilder};
 use std::alloc::Global;
+use std::io;
 use std::io::Write;
 
 /// The arguments that the program takes, all of them from the first day on.
@@ -34,6 +36,7 @@ pub enum Stop {
 fn tell_refusal<E: Write>(err: &mut E, number: u64, error: Error) -> Result<(), Stop>
     ensures tells { OnOk result (Appends (E.contents err.old) (E.contents err.new) (refusal number (told error))) }
     ensures line { OnOk result (told error ≢ memory) }
+    ensures untold { IfErr result (λ stop. stop ≡ line_stop (told error)) }
 {
     match &error {
         Error::Glob { .. } => match writeln!(err, "igwalk: line {number}: {error}") {
@@ -51,7 +54,8 @@ fn add_or_tell<E: Write>(
     line: &str,
     err: &mut E,
 ) -> Result<bool, Stop>
-    ensures { IfOk result (AddsOne builder.old number line.now builder.new (Appends (E.contents err.old) (E.contents err.new))) }
+    ensures added { IfOk result (AddsOne builder.old number line.now builder.new (Appends (E.contents err.old) (E.contents err.new))) }
+    ensures untold { IfErr result EndsLines }
 {
     match builder.push_line(None, line) {
         Ok(()) => Ok(false),
@@ -68,8 +72,9 @@ fn add_lines<E: Write>(
     rules: &str,
     err: &mut E,
 ) -> Result<bool, Stop>
-    ensures { (root : List ℕ) → builder.old ≡ begun root
+    ensures added { (root : List ℕ) → builder.old ≡ begun root
         → IfOk result (AddsAll root (lines rules.now) builder.new (Appends (E.contents err.old) (E.contents err.new))) }
+    ensures untold { IfErr result EndsLines }
 {
     let mut number = 0u64;
     let mut refused = false;
@@ -87,7 +92,8 @@ fn tell_answer<W: Write>(
     path: &str,
     is_dir: bool,
 ) -> Result<(), Stop>
-    ensures { OnOk result (Appends (W.contents out.old) (W.contents out.new) (answer_line (says matcher.now path.now is_dir))) }
+    ensures answers { OnOk result (Appends (W.contents out.old) (W.contents out.new) (answer_line (says matcher.now path.now is_dir))) }
+    ensures untold { IfErr result EndsAnswer }
 {
     let written = match matcher.matched(path, is_dir) {
         Ok(Match::None) => writeln!(out, "none"),
@@ -108,8 +114,9 @@ fn answer<W: Write, E: Write>(
     out: &mut W,
     err: &mut E,
 ) -> Result<bool, Stop>
-    ensures { IfOk result (λ refused. Prints (request_view request.entry) (if refused then 1 else 0)
+    ensures prints { IfOk result (λ refused. Prints (request_view request.entry) (if refused then 1 else 0)
         (Appends (W.contents out.old) (W.contents out.new)) (Appends (E.contents err.old) (E.contents err.new))) }
+    ensures asked { IfErr result (λ stop. stop ≢ Stop.Usage) }
 {
     let Ok(mut builder) = GitignoreBuilder::new(alloc, request.root) else {
         return Err(Stop::Memory);
@@ -124,13 +131,20 @@ fn answer<W: Write, E: Write>(
 pub fn tell_stop<E: Write>(err: &mut E, stop: Stop) -> u8
     ensures { result ≡ 2 }
 {
-    let _ = match stop {
+    let _ = tell(err, stop);
+    2
+}
+
+/// Tells why a run ended.
+fn tell<E: Write>(err: &mut E, stop: Stop) -> io::Result<()>
+    ensures { OnOk result (Appends (E.contents err.old) (E.contents err.new) (reason stop)) }
+{
+    match stop {
         Stop::Usage => writeln!(err, "{USAGE}"),
         Stop::Memory => writeln!(err, "igwalk: out of memory"),
         Stop::Write => writeln!(err, "igwalk: cannot write"),
         Stop::Silence => Ok(()),
-    };
-    2
+    }
 }
 
 /// Does what the words after the program's name ask for: `match ROOT RULES PATH d|f` prints what

@@ -2,11 +2,11 @@
 ghost use Rattle.std.specs.Prelude.{◌≡◌, ◌⊎◌, IfOk, Some, string_bytes};
 ghost use Rattle.ignore_glob.specs.GlobFaults.{glob_fault_text};
 ghost use Rattle.ignore_glob.specs.Problem.{told, memory, glob};
-ghost use Rattle.ignore_rules.specs.Line.{begins, ends, without_start, without_end, has_slash, trimmed, is_escaped, is_anchored, body, pattern, is_floating, placed, actual, written};
+ghost use Rattle.ignore_rules.specs.Line.{begins, ends, without_start, without_end, trimmed, is_escaped, is_anchored, body, pattern, is_floating, placed, actual, written};
 
 use ignore_glob::Error;
 use ignore_glob::glob::GlobFault;
-use memchr::memchr;
+use ignore_glob::text::has_slash;
 use std::alloc::{AllocError, Global};
 use std::marker::Model;
 
@@ -137,12 +137,6 @@ fn trimmed(line: &str) -> &str
     } else {
         line.trim_end()
     }
-}
-
-fn has_slash(text: &str) -> bool
-    ensures { result ≡ has_slash text.now }
-{
-    memchr(b'/', text.as_bytes()).is_some()
 }
 
 fn begins(text: &str, start: &str) -> bool

@@ -16,7 +16,7 @@ loop-line-preserved g c =
     let place : c.loop-line.number + 1 ≡ length (map (λ (x : Bor (List ℕ)). x.now) c.loop-line.yielded) + 1 = omega (arith, length-map c.loop-line.yielded (λ (x : Bor (List ℕ)). x.now), c.loop-line.invariant.counted) in
     record {
       counted = counted;
-      added = λ root is. rw (map-append (λ (x : Bor (List ℕ)). x.now) c.loop-line.yielded (c.in-Some.line ∷ [])) (adds_one root _ c.in-Some.line.now _ _ _ _ _ _ c.in_ok-refused.field-0 _ (c.loop-line.invariant.added root is) place c.in_ok-refused.ensures);
+      added = λ root is. rw (map-append (λ (x : Bor (List ℕ)). x.now) c.loop-line.yielded (c.in-Some.line ∷ [])) (adds_one root _ c.in-Some.line.now _ _ _ _ _ _ c.in_ok-refused.field-0 _ (c.loop-line.invariant.added root is) place c.in_ok-refused.ensures.added);
     }
 
 pub overflow_add-number : goal.overflow_add-number
@@ -24,7 +24,7 @@ overflow_add-number g c =
     let t = YieldsList-turn (YieldsList-from_lines c.args.rules.now cc) c.loop-line.yielded _ c.loop-line.yielded_by _ _ c.in-Some.line c.in-Some.is c.next.ensures.steps in
     omega (arith, t.0, length-lines c.args.rules.now, c.loop-line.invariant.counted)
 
-pub returns : goal.returns
-returns g c = λ root is.
+pub returns-clause-added : goal.returns-clause-added
+returns-clause-added g c = λ root is.
     let t = YieldsList-end (YieldsList-from_lines c.args.rules.now cc) c.loop-line.yielded _ c.loop-line.yielded_by _ _ c.in-None.is c.next.ensures.steps in
     subst (λ (ls : List (List ℕ)). AddsAll root ls c.loop-line.builder (Appends (g.E.Write.contents c.args.err.now) (g.E.Write.contents c.loop-line.err)) c.loop-line.refused) t.0 (c.loop-line.invariant.added root is)
