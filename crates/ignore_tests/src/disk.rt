@@ -1,4 +1,5 @@
 //! The machine's files beside a tree in memory with the same things.
+use crate::things::add;
 use ignore_files::{
     DiskFiles, Fault, FileType, Files, Identity, Listing, MemoryTree, Metadata, Refusal, TreeError,
 };
@@ -20,7 +21,7 @@ fn tree_at(alloc: Global, cwd: &str) -> Result<MemoryTree, TreeError> {
     Ok(tree)
 }
 
-/// Makes a thing on the machine: `PATH/` is a directory, `PATH>TARGET` a link and `PATH=TEXT` a file.
+/// Makes on the machine what `add` adds to a tree in memory.
 fn make(rt: &HostRuntime, thing: &str) -> io::Result<()> {
     if let Some(path) = thing.strip_suffix('/') {
         fs::create_dir(rt, path)
@@ -28,19 +29,6 @@ fn make(rt: &HostRuntime, thing: &str) -> io::Result<()> {
         symlink(rt, target, path)
     } else if let Some((path, text)) = thing.split_once('=') {
         fs::write(rt, path, text)
-    } else {
-        Ok(())
-    }
-}
-
-/// Adds to the tree what `make` makes on the machine. The thing's path is from `/`.
-fn add(tree: &mut MemoryTree, thing: &str) -> Result<(), TreeError> {
-    if let Some(path) = thing.strip_suffix('/') {
-        tree.add_dir(path)
-    } else if let Some((path, target)) = thing.split_once('>') {
-        tree.add_link(path, target)
-    } else if let Some((path, text)) = thing.split_once('=') {
-        tree.add_file(path, text.as_bytes())
     } else {
         Ok(())
     }

@@ -21,4 +21,10 @@ mod disk;
 #[cfg(test)]
 mod example;
 #[cfg(test)]
+mod large;
+#[cfg(test)]
 mod queries;
+#[cfg(test)]
+mod refusing;
+#[cfg(test)]
+mod things;

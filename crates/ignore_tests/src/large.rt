@@ -1,0 +1,76 @@
+//! A tree of many nodes and a file of many rules.
+use ignore_files::{Files, MemoryTree, TreeError};
+use ignore_glob::Error;
+use ignore_rules::gitignore::{Gitignore, GitignoreBuilder};
+use std::alloc::{AllocError, Global};
+use std::test::Fail;
+
+/// A tree of one directory with so many files, whose names are numbers from 0.
+fn wide(alloc: Global, count: u32) -> Result<MemoryTree, TreeError> {
+    let mut tree = MemoryTree::new(alloc, "/")?;
+    tree.add_dir("/wide")?;
+    for number in 0..count {
+        tree.add_file(&format!(in alloc; "/wide/{number}")?, b"a")?;
+    }
+    Ok(tree)
+}
+
+#[test]
+fn many_files_are_listed(rt: HostRuntime) -> Result<(), Fail> {
+    let tree = wide(rt.alloc(), 20_000)?;
+    assert_eq!(rt; tree.dir_count(), 2);
+    assert_eq!(rt; tree.list(rt.alloc(), "/wide")?.len(), 20_000);
+    assert!(rt; tree.stat(rt.alloc(), "wide/19999", true)?.is_file());
+    assert!(rt; tree.stat(rt.alloc(), "wide/20000", true).is_err());
+    Ok(())
+}
+
+/// Six lines of 41 bytes, which are three rules that ignore and one that whitelists.
+const LINES: &str = "*.o\n!keep.o\n# comment\n\n/target/\nsrc/**/x\n";
+
+/// A file of a megabyte: the lines 25,600 times, and one more line.
+fn rules(alloc: Global, last: &str) -> Result<String, AllocError> {
+    let mut text = String::new(alloc);
+    for _ in 0u32..25_600 {
+        text.push_str(LINES)?;
+    }
+    text.push_str(last)?;
+    Ok(text)
+}
+
+/// A tree with that file.
+fn with_rules(alloc: Global, last: &str) -> Result<MemoryTree, TreeError> {
+    let text = rules(alloc, last)?;
+    let mut tree = MemoryTree::new(alloc, "/")?;
+    tree.add_file("/rules", text.as_bytes())?;
+    Ok(tree)
+}
+
+/// The rules of that file, and what is wrong with it.
+fn added(alloc: Global, last: &str) -> Result<(Gitignore, Option<Error>), Fail> {
+    let tree = with_rules(alloc, last)?;
+    let mut builder = GitignoreBuilder::new(alloc, "/")?;
+    let error = builder.add(&tree, "/rules")?;
+    Ok((builder.build()?, error))
+}
+
+#[test]
+fn each_rule_of_a_megabyte_counts(rt: HostRuntime) -> Result<(), Fail> {
+    let (rules, error) = added(rt.alloc(), "")?;
+    assert!(rt; error.is_none());
+    assert_eq!(rt; rules.len(), 102_400);
+    assert_eq!(rt; rules.num_ignores(), 76_800);
+    assert_eq!(rt; rules.num_whitelists(), 25_600);
+    Ok(())
+}
+
+const UNCLOSED: &str = "/rules: line 153601: error parsing glob '{': unclosed alternates";
+
+#[test]
+fn the_last_line_of_a_megabyte_is_told(rt: HostRuntime) -> Result<(), Fail> {
+    let (rules, error) = added(rt.alloc(), "{")?;
+    let error = error.ok_or("the last line is refused")?;
+    assert_eq!(rt; format!(in rt.alloc(); "{error}")?.as_str(), UNCLOSED);
+    assert_eq!(rt; rules.len(), 102_400);
+    Ok(())
+}
