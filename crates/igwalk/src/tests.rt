@@ -2,6 +2,8 @@
 
 use crate::run::run;
 use std::alloc::{AllocError, Global};
+use std::io;
+use std::io::Write;
 use std::test::Fail;
 
 fn words_of(alloc: Global, texts: &[&str]) -> Result<Vec<String>, AllocError> {
@@ -74,5 +76,104 @@ fn runs_over_memory(rt: HostRuntime) -> Result<(), Fail> {
         assert_eq!(rt; out.as_slice(), written.as_bytes());
         assert_eq!(rt; err.as_slice(), told.as_bytes());
     }
+    Ok(())
+}
+
+/// A writer that keeps what so many calls write, and refuses all later ones.
+#[derive(Drop)]
+struct Refusing {
+    kept: Vec<u8>,
+    calls: usize,
+}
+
+impl Write for Refusing {
+    fn write(&mut self, bytes: &[u8]) -> io::Result<usize> {
+        if self.calls == 0 {
+            return Err(io::Error::from(io::ErrorKind::BrokenPipe));
+        }
+        self.calls -= 1;
+        self.kept.extend_from_slice(bytes)?;
+        Ok(bytes.len())
+    }
+
+    fn flush(&mut self) -> io::Result<()> {
+        Ok(())
+    }
+}
+
+fn writer_of(alloc: Global, calls: usize) -> Refusing {
+    Refusing {
+        kept: Vec::new(alloc),
+        calls,
+    }
+}
+
+/// The status, what was written and what was told, where the output takes so many calls.
+fn with_refusing_output(alloc: Global, calls: usize) -> Result<(u8, Vec<u8>, Vec<u8>), AllocError> {
+    let words = words_of(alloc, &["match", "/r", "{\n*.rs", "a.rs", "f"])?;
+    let mut out = writer_of(alloc, calls);
+    let mut err: Vec<u8> = Vec::new(alloc);
+    let status = run(alloc, words.as_slice(), &mut out, &mut err);
+    Ok((status, out.kept, err))
+}
+
+/// The same where the errors take so many calls.
+fn with_refusing_errors(alloc: Global, calls: usize) -> Result<(u8, Vec<u8>, Vec<u8>), AllocError> {
+    let words = words_of(alloc, &["match", "/r", "{\n*.rs", "a.rs", "f"])?;
+    let mut out: Vec<u8> = Vec::new(alloc);
+    let mut err = writer_of(alloc, calls);
+    let status = run(alloc, words.as_slice(), &mut out, &mut err);
+    Ok((status, out, err.kept))
+}
+
+const WRITTEN: &[u8] = b"ignore *.rs\n";
+
+const TOLD: &[u8] = b"igwalk: line 1: error parsing glob '{': unclosed alternates\n";
+
+const TOLD_AND_ENDED: &[u8] =
+    b"igwalk: line 1: error parsing glob '{': unclosed alternates\nigwalk: cannot write\n";
+
+#[test]
+fn an_answer_that_cannot_be_written_is_told(rt: HostRuntime) -> Result<(), Fail> {
+    for calls in 0usize..10 {
+        let (status, written, told) = with_refusing_output(rt.alloc(), calls)?;
+        assert!(rt; WRITTEN.starts_with(&written));
+        if written.as_slice() == WRITTEN {
+            assert_eq!(rt; status, 1);
+            assert_eq!(rt; told.as_slice(), TOLD);
+        } else {
+            assert_eq!(rt; status, 2);
+            assert_eq!(rt; told.as_slice(), TOLD_AND_ENDED);
+        }
+    }
+    Ok(())
+}
+
+#[test]
+fn errors_that_cannot_be_written_end_the_run(rt: HostRuntime) -> Result<(), Fail> {
+    for calls in 0usize..20 {
+        let (status, written, told) = with_refusing_errors(rt.alloc(), calls)?;
+        assert!(rt; TOLD.starts_with(&told));
+        if told.as_slice() == TOLD {
+            assert_eq!(rt; status, 1);
+            assert_eq!(rt; written.as_slice(), WRITTEN);
+        } else {
+            assert_eq!(rt; status, 2);
+            assert_eq!(rt; written.len(), 0);
+        }
+    }
+    Ok(())
+}
+
+#[test]
+fn every_write_is_refused_in_turn(rt: HostRuntime) -> Result<(), Fail> {
+    let (status, written, _) = with_refusing_output(rt.alloc(), 0)?;
+    assert_eq!(rt; (status, written.len()), (2, 0));
+    let (status, _, told) = with_refusing_errors(rt.alloc(), 0)?;
+    assert_eq!(rt; (status, told.len()), (2, 0));
+    let (status, _, _) = with_refusing_errors(rt.alloc(), 19)?;
+    assert_eq!(rt; status, 1);
+    let (status, _, _) = with_refusing_output(rt.alloc(), 9)?;
+    assert_eq!(rt; status, 1);
     Ok(())
 }
