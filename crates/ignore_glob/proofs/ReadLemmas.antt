@@ -48,9 +48,9 @@ pub further_at : (ls after mid rest : List Lexeme) (ts : Tokens) (bs : Branches)
 further_at ls after mid rest ts bs e r i = let P : List Lexeme → Type 0 = λ x. Row branch_start ls ts x in further_branch ls mid rest ts bs (subst P e r) i
 
 -- a text and its row, as slices of the program
-module _ (o : Options) (text slice : List ℕ) (slice_is : slice ≡ text) (pieces row : List Lexeme) (row_is : row ≡ pieces) (written : Written o 0 slice (Ok pieces)) where
-  pub balanced_at : Balanced row 0
-  balanced_at = let B : List Lexeme → Type 0 = λ x. Balanced x 0 in subst B (sym row_is) (Written-balanced o 0 slice (Ok pieces) written)
+module _ (o : Options) (text slice : List ℕ) (slice_is : slice ≡ text) (pieces lexemes : List Lexeme) (lexemes_are : lexemes ≡ pieces) (written : Written o 0 slice (Ok pieces)) where
+  pub balanced_at : Balanced lexemes 0
+  balanced_at = let B : List Lexeme → Type 0 = λ x. Balanced x 0 in subst B (sym lexemes_are) (Written-balanced o 0 slice (Ok pieces) written)
 
-  pub reads_at : (ts : Tokens) (rest : List Lexeme) → Row glob_start row ts rest → Ends rest → ((d : ℕ) → Balanced row d → Balanced rest d) → Reads o text ts
-  reads_at ts rest r e b = let P : List Lexeme → Type 0 = λ x. Row glob_start x ts [] in let W : List ℕ → Type 0 = λ x. Written o 0 x (Ok pieces) in (pieces, subst W slice_is written, subst P row_is (ends_glob glob_start row rest ts r e (b 0 balanced_at)))
+  pub reads_at : (ts : Tokens) (rest : List Lexeme) → Row glob_start lexemes ts rest → Ends rest → ((d : ℕ) → Balanced lexemes d → Balanced rest d) → Reads o text ts
+  reads_at ts rest r e b = let P : List Lexeme → Type 0 = λ x. Row glob_start x ts [] in let W : List ℕ → Type 0 = λ x. Written o 0 x (Ok pieces) in (pieces, subst W slice_is written, subst P lexemes_are (ends_glob glob_start lexemes rest ts r e (b 0 balanced_at)))

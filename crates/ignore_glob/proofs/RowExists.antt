@@ -214,7 +214,7 @@ ends_glob p ls rest ts r (at_closing more) b = absurd b
 pub find_reading : (o : Options) (text : List ℕ) → ((ts : Tokens) × Reads o text ts) ⊎ ((f : GlobFault) × Written o 0 text (Err f))
 find_reading o text = let w = find_outcome o text in by_outcome w.0 w.1 (Written-balanced o 0 text w.0 w.1) where
   by_outcome : (out : Result (List Lexeme) GlobFault) → Written o 0 text out → BalancedOutcome out 0 → ((ts : Tokens) × Reads o text ts) ⊎ ((f : GlobFault) × Written o 0 text (Err f))
-  by_outcome (Ok row) w b =
-      let r = row_within (2 * length row + 1) glob_start row 0 (omega arith) b in
-      inl (r.tokens, (row, w, ends_glob glob_start row r.rest r.tokens r.row r.end_here r.balance))
+  by_outcome (Ok ls) w b =
+      let r = row_within (2 * length ls + 1) glob_start ls 0 (omega arith) b in
+      inl (r.tokens, (ls, w, ends_glob glob_start ls r.rest r.tokens r.row r.end_here r.balance))
   by_outcome (Err f) w b = inr (f, w)

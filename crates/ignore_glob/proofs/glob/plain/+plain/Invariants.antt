@@ -1,5 +1,5 @@
 use Rattle.std.proofs.Common.{◌≡◌, ℕ, ◌+◌, ◌*◌, ◌<◌, length, List, ◌++◌, All, ◌≢◌}
-use Rattle.ignore_glob.specs.Glob.{token_size, size, branches_size}
+use Rattle.ignore_glob.proofs.Sizes.{token_size, size, branches_size}
 use Rattle.ignore_glob.specs.Takes.{slash, token_takes, takes}
 use Rattle.ignore_glob.specs.View.{view, tokens_view, branches_view}
 use Rattle.ignore_glob.proofs.glob.plain.+plain.Given as goal
