@@ -233,3 +233,14 @@ impl Clone for Override {
         })
     }
 }
+
+impl Clone for OverrideBuilder {
+    ghost use Rattle.std.specs.Prelude.{◌≡◌};
+
+    ghost is_clone = { λ b c. c ≡ b };
+
+    fn clone(&self) -> Result<OverrideBuilder, AllocError> {
+        let globs = self.globs.clone()?;
+        Ok(OverrideBuilder { globs })
+    }
+}

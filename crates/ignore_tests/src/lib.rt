@@ -15,6 +15,8 @@ macro_rules! again {
 }
 
 #[cfg(test)]
+mod copies;
+#[cfg(test)]
 mod deep;
 #[cfg(test)]
 mod disk;
