@@ -2,8 +2,8 @@
 use ignore_glob::Match;
 use ignore_glob::glob::{Options, Pattern};
 use ignore_rules::gitignore::GitignoreBuilder;
-use ignore_rules::overrides::OverrideBuilder;
-use ignore_rules::types::TypesBuilder;
+use ignore_rules::overrides::{Override, OverrideBuilder};
+use ignore_rules::types::{FileTypeDef, Types, TypesBuilder};
 use std::test::Fail;
 
 const DEFAULT: Options = Options {
@@ -39,6 +39,13 @@ fn rules_are_copied(rt: HostRuntime) -> Result<(), Fail> {
     Ok(())
 }
 
+/// Whether a copy of the answer for a file lets it through.
+fn lets_through(globs: &Override, path: &str) -> Result<bool, Fail> {
+    let found = globs.matched(path, false)?;
+    let copy = found.clone()?;
+    Ok(copy.is_whitelist())
+}
+
 #[test]
 fn overrides_are_copied(rt: HostRuntime) -> Result<(), Fail> {
     let mut builder = again!(OverrideBuilder::new(rt.alloc(), "/r"));
@@ -47,10 +54,19 @@ fn overrides_are_copied(rt: HostRuntime) -> Result<(), Fail> {
     let globs = again!(builder.build());
     let copy = again!(globs.clone());
     assert_eq!(rt; copy.num_whitelists(), 1);
-    let found = again!(copy.matched("/r/a.rs", false));
-    assert!(rt; again!(found.clone()).is_whitelist());
-    assert!(rt; again!(copy.matched("/r/a.o", false)).is_ignore());
+    assert!(rt; lets_through(&copy, "/r/a.rs")?);
+    assert!(rt; !lets_through(&copy, "/r/a.o")?);
     Ok(())
+}
+
+/// Whether a copy of the answer for a file was decided by the type.
+fn is_of(types: &Types, path: &str, definition: &FileTypeDef) -> Result<bool, Fail> {
+    let found = types.matched(path, false)?;
+    let copy = found.clone()?;
+    match copy.inner() {
+        Some(glob) => Ok(glob.file_type_def() == Some(definition)),
+        None => Ok(false),
+    }
 }
 
 #[test]
@@ -66,10 +82,7 @@ fn types_are_copied(rt: HostRuntime) -> Result<(), Fail> {
     };
     let rust = again!(rust.clone());
     assert_eq!(rt; rust.name(), "rust");
-    let found = again!(copy.matched("a.rs", false));
-    let Match::Whitelist(glob) = again!(found.clone()) else {
-        return Err(Fail::from("not whitelisted"));
-    };
-    assert!(rt; glob.file_type_def() == Some(&rust));
+    assert!(rt; is_of(&copy, "a.rs", &rust)?);
+    assert!(rt; !is_of(&copy, "a.o", &rust)?);
     Ok(())
 }
