@@ -25,11 +25,11 @@ pub length-lines : (bs : List ℕ) → length (lines bs) ≤ length bs
 length-lines [] = omega arith
 length-lines (x ∷ xs) = omega (arith, part_more (x == 10) x (length xs) (slice_split (λ b. b == 10) xs) (omega (arith, length-slice_split (λ b. b == 10) xs)) (length-lines xs))
 
-appends_nothing : (a : Option (List ℕ)) → Appends a a []
+pub appends_nothing : (a : Option (List ℕ)) → Appends a a []
 appends_nothing Nothing = tt
 appends_nothing (Some bs) = sym (append-nil bs)
 
-appends_on : (a b c : Option (List ℕ)) (xs ys : List ℕ) → Appends a b xs → Appends b c ys → Appends a c (xs ++ ys)
+pub appends_on : (a b c : Option (List ℕ)) (xs ys : List ℕ) → Appends a b xs → Appends b c ys → Appends a c (xs ++ ys)
 appends_on Nothing b c xs ys p q = tt
 appends_on (Some a) Nothing c xs ys p q = absurd p
 appends_on (Some a) (Some b) Nothing xs ys p q = absurd q

@@ -1,8 +1,12 @@
--- Why a run ends before its end, and what is told of it.
-use Rattle.std.specs.Prelude.{◌≡◌, ◌⊎◌, ℕ, List, [], ◌∷◌, ◌++◌, codes}
+-- Why a run ends early, and what was written and told by then. Errors are told line by line, so what is told begins with the refusals of some of the first lines.
+use Rattle.std.specs.Prelude.{◌≡◌, ◌≢◌, ℕ, List, [], ◌∷◌, ◌++◌, codes, ⊤}
+use Rattle.std.specs.Str.Lines.{lines}
 use Rattle.ignore_glob.specs.Problem.{Problem, several, at_line, at_path, at_depth, loop, io, glob, unrecognized, invalid_definition, memory}
+use Rattle.ignore_rules.specs.Rules.{Building, LineOptions, Refuses}
 use Rattle.igwalk.specs.declared.run.Stop.{Stop}
 use Rattle.igwalk.specs.declared.run.Stop.TheVariants.{Usage, Memory, Write, Silence}
+use Rattle.igwalk.specs.Matching.{Adds}
+use Rattle.igwalk.specs.Words.{Question}
 
 -- what is told: the usage, or what was wanting; nothing where nothing can be told
 abbrev pub reason : Stop → List ℕ
@@ -24,10 +28,59 @@ line_stop (unrecognized name) = Memory
 line_stop invalid_definition = Memory
 line_stop memory = Memory
 
--- what can end the adding of lines: want of memory, or that a refused one can't be told of
-abbrev pub EndsLines : Stop → Type 0
-EndsLines stop = (stop ≡ Memory) ⊎ (stop ≡ Silence)
+-- one line ended the run: for want of memory, with nothing told of it, or as it is refused and can't be told of
+abbrev pub EndsLine : LineOptions → List ℕ → (List ℕ → Type 0) → Stop → Type 0
+EndsLine options line err Usage = ⊥
+EndsLine options line err Memory = err []
+EndsLine options line err Write = ⊥
+EndsLine options line err Silence = (problem : Problem) × Refuses options line problem
 
--- what can end the answer: want of memory, or that it can't be written
-abbrev pub EndsAnswer : Stop → Type 0
-EndsAnswer stop = (stop ≡ Memory) ⊎ (stop ≡ Write)
+-- these lines were added in turn, and the refused ones told of
+abbrev pub Tells : List ℕ → List (List ℕ) → (List ℕ → Type 0) → Type 0
+Tells root lines err = (builder : Building) × (told : List ℕ) × Adds root lines builder told × err told
+
+-- the first of these lines were, up to some line
+abbrev pub TellsFirst : List ℕ → List (List ℕ) → (List ℕ → Type 0) → Type 0
+TellsFirst root lines err = (first rest : List (List ℕ)) × (lines ≡ first ++ rest) × Tells root first err
+
+-- one of these lines is refused, where the earlier ones were added in turn
+abbrev pub HasRefused : List ℕ → List (List ℕ) → Type 0
+HasRefused root lines =
+    (first rest : List (List ℕ)) × (line : List ℕ) × (builder : Building) × (told : List ℕ) × (problem : Problem)
+    × (lines ≡ first ++ line ∷ rest) × Adds root first builder told × Refuses builder.options line problem
+
+-- the adding of lines ended: for want of memory, or at a refused line that can't be told of
+abbrev pub EndsLines : List ℕ → List (List ℕ) → (List ℕ → Type 0) → Stop → Type 0
+EndsLines root lines err Usage = ⊥
+EndsLines root lines err Memory = TellsFirst root lines err
+EndsLines root lines err Write = ⊥
+EndsLines root lines err Silence = HasRefused root lines
+
+-- the answer ended: for want of memory, with nothing written, or as it can't be written
+abbrev pub EndsAnswer : (List ℕ → Type 0) → Stop → Type 0
+EndsAnswer out Usage = ⊥
+EndsAnswer out Memory = out []
+EndsAnswer out Write = ⊤
+EndsAnswer out Silence = ⊥
+
+-- what was written when a run ended: nothing, unless it is what is written that was refused
+abbrev pub Wrote : (List ℕ → Type 0) → Stop → Type 0
+Wrote out Usage = out []
+Wrote out Memory = out []
+Wrote out Write = ⊤
+Wrote out Silence = out []
+
+-- what was told by then of the lines of a question: of the first ones, or of all of them where the answer can't be written; there is a refused one where the errors can't be written
+abbrev pub ToldOf : Question → (List ℕ → Type 0) → Stop → Type 0
+ToldOf question err Usage = ⊥
+ToldOf question err Memory = TellsFirst question.root (lines question.rules) err
+ToldOf question err Write = Tells question.root (lines question.rules) err
+ToldOf question err Silence = HasRefused question.root (lines question.rules)
+
+-- a question's run ended early
+abbrev pub Ends : Question → (List ℕ → Type 0) → (List ℕ → Type 0) → Stop → Type 0
+Ends question out err stop = Wrote out stop × ToldOf question err stop
+
+-- a question's run ended early and why was told: behind what was told of the lines stands the reason
+abbrev pub EndsTold : Question → (List ℕ → Type 0) → (List ℕ → Type 0) → Type 0
+EndsTold question out err = (stop : Stop) × (stop ≢ Silence) × Wrote out stop × ToldOf question (λ told. err (told ++ reason stop)) stop

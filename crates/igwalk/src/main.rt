@@ -33,7 +33,7 @@ fn main(rt: HostRuntime) -> ExitCode {
             &mut rt.stdout(),
             &mut rt.stderr(),
         ),
-        Err(_) => tell_stop(&mut rt.stderr(), Stop::Memory),
+        Err(_) => tell_stop(&mut rt.stderr(), Stop::Memory).unwrap_or(2),
     };
     ExitCode::from(status)
 }

@@ -1,19 +1,18 @@
 //! The run of the program, over any two writers.
-ghost use Rattle.std.specs.Prelude.{◌≡◌, ◌≢◌, ◌≤◌, ◌==◌, [], ℕ, List, None, Some, true, false, OnOk, IfOk, IfErr, codes, length, map, string_bytes, if◌then◌else◌};
+ghost use Rattle.std.specs.Prelude.{◌≡◌, ◌≢◌, ◌≤◌, ◌⊎◌, ◌==◌, [], ℕ, List, None, Some, true, false, ⊤, OnOk, IfOk, IfErr, codes, length, map, string_bytes, if◌then◌else◌};
 ghost use Rattle.std.specs.Io.KnownBytes.{Appends};
 ghost use Rattle.std.specs.Str.Lines.{lines};
 ghost use Rattle.ignore_glob.specs.Errors.{problem_text};
 ghost use Rattle.ignore_glob.specs.Problem.{told, memory};
 ghost use Rattle.ignore_rules.specs.Rules.{begun, built};
 ghost use Rattle.igwalk.specs.Words.{Question, question_of, request_view};
-ghost use Rattle.igwalk.specs.Stops.{EndsAnswer, EndsLines, line_stop, reason};
+ghost use Rattle.igwalk.specs.Stops.{Ends, EndsAnswer, EndsLine, EndsLines, EndsTold, line_stop, reason};
 ghost use Rattle.igwalk.specs.Matching.{AddsAll, AddsOne, Prints, answer_line, says, refusal};
 
 use crate::words::{Request, read_words};
 use ignore_glob::{Error, Match};
 use ignore_rules::gitignore::{Gitignore, GitignoreBuilder};
 use std::alloc::Global;
-use std::io;
 use std::io::Write;
 
 /// The arguments that the program takes, all of them from the first day on.
@@ -37,6 +36,7 @@ fn tell_refusal<E: Write>(err: &mut E, number: u64, error: Error) -> Result<(), 
     ensures tells { OnOk result (Appends (E.contents err.old) (E.contents err.new) (refusal number (told error))) }
     ensures line { OnOk result (told error ≢ memory) }
     ensures untold { IfErr result (λ stop. stop ≡ line_stop (told error)) }
+    ensures kept { IfErr result (λ stop. stop ≡ Stop.Memory → Appends (E.contents err.old) (E.contents err.new) []) }
 {
     match &error {
         Error::Glob { .. } => match writeln!(err, "igwalk: line {number}: {error}") {
@@ -55,7 +55,7 @@ fn add_or_tell<E: Write>(
     err: &mut E,
 ) -> Result<bool, Stop>
     ensures added { IfOk result (AddsOne builder.old number line.now builder.new (Appends (E.contents err.old) (E.contents err.new))) }
-    ensures untold { IfErr result EndsLines }
+    ensures ended { IfErr result (EndsLine builder.old.options line.now (Appends (E.contents err.old) (E.contents err.new))) }
 {
     match builder.push_line(None, line) {
         Ok(()) => Ok(false),
@@ -74,7 +74,8 @@ fn add_lines<E: Write>(
 ) -> Result<bool, Stop>
     ensures added { (root : List ℕ) → builder.old ≡ begun root
         → IfOk result (AddsAll root (lines rules.now) builder.new (Appends (E.contents err.old) (E.contents err.new))) }
-    ensures untold { IfErr result EndsLines }
+    ensures ended { (root : List ℕ) → builder.old ≡ begun root
+        → IfErr result (EndsLines root (lines rules.now) (Appends (E.contents err.old) (E.contents err.new))) }
 {
     let mut number = 0u64;
     let mut refused = false;
@@ -93,7 +94,7 @@ fn tell_answer<W: Write>(
     is_dir: bool,
 ) -> Result<(), Stop>
     ensures answers { OnOk result (Appends (W.contents out.old) (W.contents out.new) (answer_line (says matcher.now path.now is_dir))) }
-    ensures untold { IfErr result EndsAnswer }
+    ensures ended { IfErr result (EndsAnswer (Appends (W.contents out.old) (W.contents out.new))) }
 {
     let written = match matcher.matched(path, is_dir) {
         Ok(Match::None) => writeln!(out, "none"),
@@ -116,7 +117,8 @@ fn answer<W: Write, E: Write>(
 ) -> Result<bool, Stop>
     ensures prints { IfOk result (λ refused. Prints (request_view request.entry) (if refused then 1 else 0)
         (Appends (W.contents out.old) (W.contents out.new)) (Appends (E.contents err.old) (E.contents err.new))) }
-    ensures asked { IfErr result (λ stop. stop ≢ Stop.Usage) }
+    ensures ended { IfErr result (Ends (request_view request.entry)
+        (Appends (W.contents out.old) (W.contents out.new)) (Appends (E.contents err.old) (E.contents err.new))) }
 {
     let Ok(mut builder) = GitignoreBuilder::new(alloc, request.root) else {
         return Err(Stop::Memory);
@@ -127,23 +129,20 @@ fn answer<W: Write, E: Write>(
     Ok(refused)
 }
 
-/// Tells why a run ended, and answers its status. What can't be told is let go.
-pub fn tell_stop<E: Write>(err: &mut E, stop: Stop) -> u8
-    ensures { result ≡ 2 }
+/// Tells why a run ended, and answers its status, or why it ended where that can't be told.
+pub fn tell_stop<E: Write>(err: &mut E, stop: Stop) -> Result<u8, Stop>
+    ensures tells { IfOk result (λ status. (status ≡ 2) × (stop ≢ Stop.Silence) × Appends (E.contents err.old) (E.contents err.new) (reason stop)) }
+    ensures untold { IfErr result (λ why. why ≡ stop) }
 {
-    let _ = tell(err, stop);
-    2
-}
-
-/// Tells why a run ended.
-fn tell<E: Write>(err: &mut E, stop: Stop) -> io::Result<()>
-    ensures { OnOk result (Appends (E.contents err.old) (E.contents err.new) (reason stop)) }
-{
-    match stop {
+    let told = match stop {
         Stop::Usage => writeln!(err, "{USAGE}"),
         Stop::Memory => writeln!(err, "igwalk: out of memory"),
         Stop::Write => writeln!(err, "igwalk: cannot write"),
-        Stop::Silence => Ok(()),
+        Stop::Silence => return Err(stop),
+    };
+    match told {
+        Ok(()) => Ok(2),
+        Err(_) => Err(stop),
     }
 }
 
@@ -153,21 +152,46 @@ fn tell<E: Write>(err: &mut E, stop: Stop) -> io::Result<()>
 /// others are asked.
 ///
 /// The answer is the status: 0; 1 where a line was refused; 2 for wrong arguments, for want of
-/// memory, and where a writer refuses, each told on `err` unless that is the one that refuses. Wrong arguments are found before
-/// anything is written to `out`.
+/// memory, and where a writer refuses, each told on `err` unless that is the one that refuses,
+/// which `run_or_stop` states. Wrong arguments are found before anything is written to `out`.
 pub fn run<W: Write, E: Write>(alloc: Global, words: &[String], out: &mut W, err: &mut E) -> u8
     ensures wrong { question_of (map string_bytes words.now) ≡ None → (result ≡ 2) × Appends (W.contents out.old) (W.contents out.new) [] }
     ensures prints { (question : Question) → question_of (map string_bytes words.now) ≡ Some question → result ≢ 2
         → Prints question result (Appends (W.contents out.old) (W.contents out.new)) (Appends (E.contents err.old) (E.contents err.new)) }
     ensures status { result ≤ 2 }
 {
-    let answered = match read_words(words) {
-        Some(request) => answer(alloc, request, out, err),
-        None => Err(Stop::Usage),
+    match run_or_stop(alloc, words, out, err) {
+        Ok(status) => status,
+        Err(_) => 2,
+    }
+}
+
+/// As `run`, with each early end told, or else an error.
+///
+/// # Errors
+/// Why the run ended, where that can't be told on `err`.
+pub fn run_or_stop<W: Write, E: Write>(
+    alloc: Global,
+    words: &[String],
+    out: &mut W,
+    err: &mut E,
+) -> Result<u8, Stop>
+    ensures wrong { question_of (map string_bytes words.now) ≡ None → Appends (W.contents out.old) (W.contents out.new) [] }
+    ensures usage { question_of (map string_bytes words.now) ≡ None
+        → IfOk result (λ status. (status ≡ 2) × Appends (E.contents err.old) (E.contents err.new) (reason Stop.Usage)) }
+    ensures prints { (question : Question) → question_of (map string_bytes words.now) ≡ Some question
+        → IfOk result (λ status. Prints question status (Appends (W.contents out.old) (W.contents out.new)) (Appends (E.contents err.old) (E.contents err.new))
+        ⊎ ((status ≡ 2) × EndsTold question (Appends (W.contents out.old) (W.contents out.new)) (Appends (E.contents err.old) (E.contents err.new)))) }
+    ensures untold { (question : Question) → question_of (map string_bytes words.now) ≡ Some question
+        → IfErr result (Ends question (Appends (W.contents out.old) (W.contents out.new)) (λ told. ⊤)) }
+    ensures status { IfOk result (λ status. status ≤ 2) }
+{
+    let Some(request) = read_words(words) else {
+        return tell_stop(err, Stop::Usage);
     };
-    match answered {
-        Ok(false) => 0,
-        Ok(true) => 1,
+    match answer(alloc, request, out, err) {
+        Ok(false) => Ok(0),
+        Ok(true) => Ok(1),
         Err(stop) => tell_stop(err, stop),
     }
 }
