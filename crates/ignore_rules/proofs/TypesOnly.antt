@@ -10,7 +10,8 @@ use Rattle.ignore_glob.specs.Problem.{Problem, told, glob, unrecognized, invalid
 use Rattle.ignore_glob.specs.Reading.{Reading}
 use Rattle.ignore_glob.proofs.RowLemmas.{Reads-same, one_fault, never_both}
 use Rattle.ignore_glob.specs.declared.error.Error.{Error}
-use Rattle.ignore_rules.specs.Types.{Definition, Choice, Draft, Becomes, IsSortedCopy, definition_of}
+use Rattle.std.specs.declared.cmp.Ordering.TheVariants.{Less}
+use Rattle.ignore_rules.specs.Types.{Definition, Choice, Draft, Becomes, IsSortedCopy, IsAscending, text_cmp, definition_of}
 use Rattle.ignore_rules.specs.TypeMatch.{Chosen, Matcher, SomeTakes, NoneTakes, IsDeciding, IsNameAnswer, IsTypeAnswer, verdict_of, unmatched}
 use Rattle.ignore_rules.specs.Building.{plain, IsReadAs, IsChosen, IsBuilt, FirstBad, IsGlobProblem, IsChoiceProblem, IsRefusedWith}
 use Rattle.ignore_rules.specs.Refusals.{IsRefusal}
@@ -151,6 +152,16 @@ names_one (d ∷ ds) (e ∷ es) h = ap (λ (name : List ℕ). name ∷ map (λ (
 -- a draft is built with one list of choices, and with the names that it has
 IsBuilt-one : (draft : Draft) (a b : Matcher) → IsBuilt draft a → IsBuilt draft b → (a.choices ≡ b.choices) × (map (λ (d : Definition). d.name) a.definitions ≡ map (λ (d : Definition). d.name) draft.definitions)
 IsBuilt-one draft a b h k = (choices_one draft.definitions draft.choices a.choices b.choices h.choices k.choices, names_one draft.definitions a.definitions h.definitions)
+
+two_ascend : (d e : Definition) (ds : List Definition) → AllZip IsSortedCopy (d ∷ (e ∷ [])) ds → IsAscending ds → text_cmp d.name e.name ≡ Less
+two_ascend d e [] h k = absurd h
+two_ascend d e (x ∷ []) h k = absurd h.1
+two_ascend d e (x ∷ (y ∷ [])) h k = subst (λ (n : List ℕ). text_cmp n e.name ≡ Less) h.0.same_name (subst (λ (n : List ℕ). text_cmp x.name n ≡ Less) h.1.0.same_name k.0.0)
+two_ascend d e (x ∷ (y ∷ (z ∷ ds))) h k = absurd h.1.1
+
+-- a draft of two definitions is built only where their names stand in text order
+IsBuilt-two : (d e : Definition) (choices : List Choice) (m : Matcher) → IsBuilt (record { definitions = d ∷ (e ∷ []); choices = choices }) m → text_cmp d.name e.name ≡ Less
+IsBuilt-two d e choices m h = two_ascend d e m.definitions h.definitions h.by_name
 
 -- What a text of a definition makes of a draft.
 
