@@ -6,13 +6,13 @@ use Rattle.ignore_glob.specs.Glob.{Tokens}
 use Rattle.ignore_glob.specs.GlobFaults.{glob_fault_text}
 use Rattle.ignore_glob.specs.declared.glob.fault.GlobFault.{GlobFault}
 use Rattle.ignore_glob.specs.declared.match_result.Match.{Match}
-use Rattle.ignore_glob.specs.Problem.{Problem, told, glob, unrecognized, invalid_definition, memory}
+use Rattle.ignore_glob.specs.Problem.{Problem, told, glob, invalid_definition, memory}
 use Rattle.ignore_glob.specs.Reading.{Reading}
 use Rattle.ignore_glob.proofs.RowLemmas.{Reads-same, one_fault, never_both}
 use Rattle.ignore_glob.specs.declared.error.Error.{Error}
 use Rattle.std.specs.declared.cmp.Ordering.TheVariants.{Less}
 use Rattle.ignore_rules.specs.Types.{Definition, Choice, Draft, Becomes, IsSortedCopy, IsAscending, text_cmp, definition_of}
-use Rattle.ignore_rules.specs.TypeMatch.{Chosen, Matcher, SomeTakes, NoneTakes, IsDeciding, IsNameAnswer, IsTypeAnswer, verdict_of, unmatched}
+use Rattle.ignore_rules.specs.TypeMatch.{Chosen, Matcher, SomeTakes, NoneTakes, IsNameAnswer, IsTypeAnswer, verdict_of}
 use Rattle.ignore_rules.specs.Building.{plain, IsReadAs, IsChosen, IsBuilt, FirstBad, IsGlobProblem, IsChoiceProblem, IsRefusedWith}
 use Rattle.ignore_rules.specs.Refusals.{IsRefusal}
 
