@@ -4,3 +4,5 @@ pub mod Walks
 pub mod EntryLemmas
 pub mod NodeLemmas
 mod DiskLemmas
+mod ChangesOnly
+mod AnswersOnly

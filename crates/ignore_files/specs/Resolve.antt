@@ -49,7 +49,7 @@ abbrev pub ends : Bool → ℕ → (ℕ → List ℕ → List (List ℕ) → Res
 ends follow links through place None = Ok (record { node = place; links = links })
 ends follow links through place (Some (start, target)) = cond follow (through start target []) (Ok (record { node = place; links = links }))
 
--- where a piece leads that has a slash after it: a link is followed, and from a directory the rest is read
+-- where a piece leads that has a slash after it: a link is followed, from a directory the rest is read, and all else is no directory
 abbrev pub goes : Bool → Result Reached Fault → (ℕ → List ℕ → List (List ℕ) → Result Reached Fault) → List (List ℕ) → Option (ℕ × List ℕ) → Result Reached Fault
 goes is_dir onward through rest None = cond is_dir onward (Err NotADirectory)
 goes is_dir onward through rest (Some (start, target)) = through start target rest

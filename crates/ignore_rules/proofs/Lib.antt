@@ -8,6 +8,8 @@ pub mod ParentLemmas
 pub mod TakingLemmas
 pub mod TextLemmas
 mod WorkedLines
+pub mod LinesOnly
+mod FilesOnly
 pub mod ExcludesBlanks
 pub mod ExcludesValues
 pub mod ExcludesKeys
@@ -19,3 +21,4 @@ mod TextOrder
 mod TypeLemmas
 mod ListLemmas
 mod ChoiceLemmas
+mod TypesOnly

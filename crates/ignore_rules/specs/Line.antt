@@ -52,7 +52,7 @@ is_only_dir line = ends (codes "/") (body line)
 abbrev pub pattern : List ℕ → List ℕ
 pattern line = if is_only_dir line then without_end (codes "\\") (without_end (codes "/") (body line)) else body line
 
--- without any slash and not bound to its root, it is asked at every depth
+-- without any slash and not bound to its root, it is asked at every depth; `**` alone is so as it stands
 abbrev pub is_floating : List ℕ → Bool
 is_floating line = (not (is_anchored line) && not (has_slash (pattern line))) && not (bytes_eq (pattern line) (codes "**"))
 

@@ -99,7 +99,7 @@ pub data Request : Type 0 where
 abbrev pub is_filled : List ℕ → Bool
 is_filled text = not (length text == 0)
 
--- two filled parts are a name and a glob; in three, of which the middle one is the word for it, the last is a list of types
+-- two filled parts are a name and a glob; three, of which the middle one is `include` and the others are filled, are a name and a list of types, cut at each comma; all else asks for nothing
 abbrev pub request_of_parts : List (List ℕ) → Request
 request_of_parts [] = unreadable
 request_of_parts (name ∷ []) = unreadable

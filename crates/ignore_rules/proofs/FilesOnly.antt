@@ -1,0 +1,57 @@
+-- What a file adds is one thing, told with one problem; so is each matcher that is made of it.
+use Rattle.std.proofs.Common.{◌≡◌, ℕ, ◌+◌, List, ◌∷◌, Option, Some, None, Result, Ok, Err, refl, sym, ap, ◌∙◌, subst}
+use Rattle.ignore_glob.specs.declared.fault.Fault.{Fault}
+use Rattle.ignore_glob.specs.Problem.{Problem, joined}
+use Rattle.ignore_files.specs.declared.env.Env.{Env}
+use Rattle.ignore_files.specs.declared.types.Contents.{Contents}
+use Rattle.ignore_files.specs.Tree.{Tree}
+use Rattle.ignore_rules.specs.Rules.{Building, Ruleset, begun, built}
+use Rattle.ignore_rules.specs.RuleFile.{AddsLines, done, stopped, added, refused, AddsContents, at_line_of, said_at, lines_met}
+use Rattle.ignore_rules.specs.Matchers.{BuildsFile, BuildsWith, BuildsGlobal, IsMatcherOf, IsGlobalIn, IsGlobalMatcher, folder_of, global_file, without_fault}
+use Rattle.ignore_rules.proofs.LinesOnly.{AddsLine-one, Refuses-one, AddsLine-never}
+use Rattle.ignore_rules.proofs.ExcludesPlaces.{IsExcludesPath-one}
+
+AddsLines-one : (path : List ℕ) (number : ℕ) (met : List (Result (List ℕ) Fault)) (old a b : Building) (ps qs : List Problem) → AddsLines path number met old a ps → AddsLines path number met old b qs → (a ≡ b) × (ps ≡ qs)
+AddsLines-one path number met old a b ps qs (done n o) (done m u) = (refl, refl)
+AddsLines-one path number met old a b ps qs (stopped n f more o) (stopped m g rest u) = (refl, refl)
+AddsLines-one path number met old a b ps qs (added n line more o between new told h v) (added m text rest u after end others k w) =
+    let same = AddsLine-one o (Some path) (said_at n line) between after h k in
+    AddsLines-one path (n + 1) more between new end told others v (subst (λ (x : Building). AddsLines path (n + 1) more x end others) (sym same) w)
+AddsLines-one path number met old a b ps qs (added n line more o between new told h v) (refused m text rest u end p others k w) = absurd (AddsLine-never o (Some path) (said_at n line) between p h k)
+AddsLines-one path number met old a b ps qs (refused n line more o new p told h v) (added m text rest u after end others k w) = absurd (AddsLine-never o (Some path) (said_at n line) after p k h)
+AddsLines-one path number met old a b ps qs (refused n line more o new p told h v) (refused m text rest u end q others k w) =
+    let one = Refuses-one o.options (said_at n line) p q h k in
+    let same = AddsLines-one path (n + 1) more o new end told others v w in
+    (same.0, ap (λ (x : Problem). at_line_of path n x ∷ told) one ∙ ap (λ (xs : List Problem). at_line_of path n q ∷ xs) same.1)
+
+AddsContents-one : (path : List ℕ) (found : Result Contents Fault) (old a b : Building) (p q : Option Problem) → AddsContents path found old a p → AddsContents path found old b q → (a ≡ b) × (p ≡ q)
+AddsContents-one path (Ok contents) old a b p q h k =
+    let same = AddsLines-one path 1 (lines_met contents.bytes contents.fault) old a b h.0 k.0 h.1 k.1 in
+    (same.0, h.2 ∙ (ap (λ (ps : List Problem). joined ps) same.1 ∙ sym k.2))
+AddsContents-one path (Err fault) old a b p q h k = (h.0 ∙ sym k.0, h.1 ∙ sym k.1)
+
+BuildsFile-one : (tree : Tree) (path : List ℕ) (builder : Building) (a b : Ruleset) (p q : Option Problem) → BuildsFile tree path builder a p → BuildsFile tree path builder b q → (a ≡ b) × (p ≡ q)
+BuildsFile-one tree path builder a b p q h k =
+    let same = AddsContents-one path (tree.contents path) builder h.0 k.0 h.1 k.1 h.2 k.2 in
+    (h.3 ∙ (ap (λ (x : Building). built x) same.0 ∙ sym k.3), h.4 ∙ (ap (λ (x : Option Problem). without_fault x) same.1 ∙ sym k.4))
+
+-- a file has one matcher
+IsMatcherOf-one : (tree : Tree) (path : List ℕ) (a b : Ruleset) (p q : Option Problem) → IsMatcherOf tree path a p → IsMatcherOf tree path b q → (a ≡ b) × (p ≡ q)
+IsMatcherOf-one tree path a b p q h k = BuildsFile-one tree path (begun (folder_of path)) a b p q h k
+
+BuildsWith-one : (tree : Tree) (found : Option (List ℕ)) (builder : Building) (a b : Ruleset) (p q : Option Problem) → BuildsWith tree found builder a p → BuildsWith tree found builder b q → (a ≡ b) × (p ≡ q)
+BuildsWith-one tree None builder a b p q h k = (h.0 ∙ sym k.0, h.1 ∙ sym k.1)
+BuildsWith-one tree (Some path) builder a b p q h k = BuildsFile-one tree path builder a b p q h k
+
+BuildsGlobal-one : (tree : Tree) (env : Env) (builder : Building) (a b : Ruleset) (p q : Option Problem) → BuildsGlobal tree env builder a p → BuildsGlobal tree env builder b q → (a ≡ b) × (p ≡ q)
+BuildsGlobal-one tree env builder a b p q h k =
+    let same = IsExcludesPath-one tree env h.0 k.0 h.1 k.1 in
+    BuildsWith-one tree (global_file tree h.0) builder a b p q h.2 (subst (λ (x : Option (List ℕ)). BuildsWith tree (global_file tree x) builder b q) (sym same) k.2)
+
+IsGlobalIn-one : (tree : Tree) (env : Env) (dir : Option (List ℕ)) (a b : Ruleset) (p q : Option Problem) → IsGlobalIn tree env dir a p → IsGlobalIn tree env dir b q → (a ≡ b) × (p ≡ q)
+IsGlobalIn-one tree env None a b p q h k = (h.0 ∙ sym k.0, h.1 ∙ sym k.1)
+IsGlobalIn-one tree env (Some dir) a b p q h k = BuildsGlobal-one tree env (begun dir) a b p q h k
+
+-- a tree and an environment have one global matcher
+IsGlobalMatcher-one : (tree : Tree) (env : Env) (a b : Ruleset) (p q : Option Problem) → IsGlobalMatcher tree env a p → IsGlobalMatcher tree env b q → (a ≡ b) × (p ≡ q)
+IsGlobalMatcher-one tree env a b p q h k = IsGlobalIn-one tree env env.current_dir a b p q h k
