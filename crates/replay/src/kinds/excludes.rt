@@ -22,8 +22,8 @@ pub fn answer(alloc: Global, input: &Value) -> Result<Outcome, Trouble> {
     let home = variable(alloc, input, "home")?;
     let value = value_of(alloc, &tree, home)?;
     let mut answer = Answer::new(alloc);
-    answer.put_text_or_null("value", value.as_deref())?;
-    Ok(Outcome::Answer(answer.into_value()))
+    answer.put_text_or_null("value", value.as_deref());
+    answer.outcome()
 }
 
 /// The tree with the configuration alone.

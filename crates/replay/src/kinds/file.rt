@@ -17,12 +17,12 @@ pub fn answer(alloc: Global, input: &Value) -> Result<Outcome, Trouble> {
     let tree = tree_of_calls(alloc, text(input, "cwd")?, list(input, CALLS)?)?;
     let (matcher, error) = read(alloc, &tree, text(input, "path")?)?;
     let mut answer = Answer::new(alloc);
-    answer.put_text("root", matcher.path())?;
-    answer.put("rules", rules_value(alloc, &matcher)?)?;
-    answer.put_flag("is_empty", matcher.is_empty())?;
-    answer.put_number("len", matcher.len() as u64)?;
-    answer.put("error", told_or_null(alloc, error.as_ref())?)?;
-    Ok(Outcome::Answer(answer.into_value()))
+    answer.put_text("root", matcher.path());
+    answer.put("rules", rules_value(alloc, &matcher));
+    answer.put_flag("is_empty", matcher.is_empty());
+    answer.put_number("len", matcher.len() as u64);
+    answer.put("error", told_or_null(alloc, error.as_ref()));
+    answer.outcome()
 }
 
 /// The matcher of a file, asked for twice where memory is refused.

@@ -39,15 +39,15 @@ fn parse(alloc: Global, glob: &str, options: Options) -> Result<Pattern, Pattern
 
 fn told_fault(alloc: Global, fault: GlobFault) -> Result<Outcome, Trouble> {
     let mut answer = Answer::new(alloc);
-    answer.put_number("fault", u64::from(fault.number()))?;
-    Ok(Outcome::Answer(answer.into_value()))
+    answer.put_number("fault", u64::from(fault.number()));
+    answer.outcome()
 }
 
 fn told_taken(alloc: Global, pattern: &Pattern, asked: &str) -> Result<Outcome, Trouble> {
     let taken = takes(pattern, asked)?;
     let mut answer = Answer::new(alloc);
-    answer.put_flag("taken", taken)?;
-    Ok(Outcome::Answer(answer.into_value()))
+    answer.put_flag("taken", taken);
+    answer.outcome()
 }
 
 /// Whether a pattern takes a text, asked twice where memory is refused.

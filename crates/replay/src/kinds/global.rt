@@ -30,11 +30,11 @@ pub fn answer(alloc: Global, input: &Value) -> Result<Outcome, Trouble> {
     let (matcher, error) = matcher(alloc, input, &tree, &env)?;
     let path = excludes_path(alloc, &tree, &env)?;
     let mut answer = Answer::new(alloc);
-    answer.put_text_or_null("path", path.as_deref())?;
-    answer.put_text("root", matcher.path())?;
-    answer.put("rules", rules_value(alloc, &matcher)?)?;
-    answer.put("error", told_or_null(alloc, error.as_ref())?)?;
-    Ok(Outcome::Answer(answer.into_value()))
+    answer.put_text_or_null("path", path.as_deref());
+    answer.put_text("root", matcher.path());
+    answer.put("rules", rules_value(alloc, &matcher));
+    answer.put("error", told_or_null(alloc, error.as_ref()));
+    answer.outcome()
 }
 
 fn matcher(alloc: Global, input: &Value, tree: &MemoryTree, env: &Env) -> Result<Read, Trouble> {

@@ -1,7 +1,7 @@
 //! What the globs of a command line say of a path.
 
 use crate::again::problem;
-use crate::answer::Answer;
+use crate::answer::{Answer, Items};
 use crate::fields::{flag, flag_at, list, text, text_at};
 use crate::outcome::{Outcome, Reason, Trouble};
 use crate::rules::refusal;
@@ -24,26 +24,25 @@ pub fn answer(alloc: Global, input: &Value) -> Result<Outcome, Trouble> {
     let globs = build(&collected.builder)?;
     let kind = kind(&globs, path, flag(input, "is_dir")?)?;
     let mut answer = Answer::new(alloc);
-    answer.put_text("kind", kind)?;
-    answer.put("refused", Value::Array(collected.refused))?;
-    put_readers(&mut answer, &globs)?;
-    Ok(Outcome::Answer(answer.into_value()))
+    answer.put_text("kind", kind);
+    answer.put("refused", collected.refused.value());
+    put_readers(&mut answer, &globs);
+    answer.outcome()
 }
 
 /// A builder after a vector's operations, what it refused, and whether one of its globs may need too many splits.
 #[derive(Drop)]
 struct Collected {
     builder: OverrideBuilder,
-    refused: Vec<Value>,
+    refused: Items,
     needs_too_many: bool,
 }
 
-fn put_readers(answer: &mut Answer, globs: &Override) -> Result<(), Trouble> {
-    answer.put_text("path", globs.path())?;
-    answer.put_flag("is_empty", globs.is_empty())?;
-    answer.put_number("num_ignores", globs.num_ignores())?;
-    answer.put_number("num_whitelists", globs.num_whitelists())?;
-    Ok(())
+fn put_readers(answer: &mut Answer, globs: &Override) {
+    answer.put_text("path", globs.path());
+    answer.put_flag("is_empty", globs.is_empty());
+    answer.put_number("num_ignores", globs.num_ignores());
+    answer.put_number("num_whitelists", globs.num_whitelists());
 }
 
 /// A builder, asked for twice where memory is refused.
@@ -61,13 +60,13 @@ fn builder(alloc: Global, root: &str) -> Result<OverrideBuilder, Trouble> {
 fn after_operations(alloc: Global, input: &Value, path: &str) -> Result<Collected, Trouble> {
     let mut collected = Collected {
         builder: builder(alloc, text(input, "root")?)?,
-        refused: Vec::new(alloc),
+        refused: Items::new(alloc),
         needs_too_many: false,
     };
     let mut number = 0u64;
     for op in list(input, OPS)? {
         match apply(&mut collected.builder, op)? {
-            Some(error) => collected.refused.push(refusal(alloc, number, error)?)?,
+            Some(error) => collected.refused.put(refusal(alloc, number, error)),
             None => collected.needs_too_many |= is_too_much(op, path)?,
         }
         number = number.saturating_add(1);

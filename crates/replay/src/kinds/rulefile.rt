@@ -43,11 +43,11 @@ fn told(
 ) -> Result<Outcome, Trouble> {
     let matcher = build(builder)?;
     let mut answer = Answer::new(alloc);
-    answer.put("rules", rules_value(alloc, &matcher)?)?;
-    answer.put("error", told_or_null(alloc, error.as_ref())?)?;
-    answer.put_flag("is_io", is_io(error))?;
-    answer.put_flag("is_partial", is_partial(error))?;
-    Ok(Outcome::Answer(answer.into_value()))
+    answer.put("rules", rules_value(alloc, &matcher));
+    answer.put("error", told_or_null(alloc, error.as_ref()));
+    answer.put_flag("is_io", is_io(error));
+    answer.put_flag("is_partial", is_partial(error));
+    answer.outcome()
 }
 
 fn is_io(error: &Option<Error>) -> bool {

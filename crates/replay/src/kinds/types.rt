@@ -1,7 +1,7 @@
 //! What file types say of paths, and all that can be read of them.
 
 use crate::again::problem;
-use crate::answer::{Answer, text_value};
+use crate::answer::{Answer, Items};
 use crate::error::told;
 use crate::fields::{flag_at, list, text_at};
 use crate::outcome::{Outcome, Trouble};
@@ -23,16 +23,16 @@ pub fn answer(alloc: Global, input: &Value) -> Result<Outcome, Trouble> {
     let refused = refusals(alloc, &mut builder, input)?;
     let definitions = definitions(&builder)?;
     let mut answer = Answer::new(alloc);
-    answer.put("refused", Value::Array(refused))?;
-    answer.put("definitions", definitions_value(alloc, &definitions)?)?;
+    answer.put("refused", refused.value());
+    answer.put("definitions", definitions_value(alloc, &definitions));
     match build(&builder)? {
         Built::Types(types) => {
             put_types(&mut answer, alloc, input, &types)?;
-            put_other_definitions(&mut answer, alloc, &types, &definitions)?;
+            put_other_definitions(&mut answer, alloc, &types, &definitions);
         }
-        Built::Refused(error) => put_refused(&mut answer, alloc, error)?,
+        Built::Refused(error) => put_refused(&mut answer, alloc, error),
     }
-    Ok(Outcome::Answer(answer.into_value()))
+    answer.outcome()
 }
 
 /// What came of building.
@@ -48,9 +48,10 @@ fn put_types(
     input: &Value,
     types: &Types,
 ) -> Result<(), Trouble> {
-    answer.put("build", Value::Null)?;
-    answer.put_number("len", types.len() as u64)?;
-    answer.put("answers", answers(alloc, input, types)?)?;
+    let answers = answers(alloc, input, types)?;
+    answer.put_value("build", Value::Null);
+    answer.put_number("len", types.len() as u64);
+    answer.put("answers", answers.value());
     Ok(())
 }
 
@@ -60,32 +61,25 @@ fn put_other_definitions(
     alloc: Global,
     types: &Types,
     definitions: &[FileTypeDef],
-) -> Result<(), AllocError> {
-    if types.definitions() == definitions {
-        return Ok(());
+) {
+    if types.definitions() != definitions {
+        let others = definitions_value(alloc, types.definitions());
+        answer.put("definitions of the matcher", others);
     }
-    answer.put(
-        "definitions of the matcher",
-        definitions_value(alloc, types.definitions())?,
-    )
 }
 
-fn put_refused(answer: &mut Answer, alloc: Global, error: Error) -> Result<(), AllocError> {
-    answer.put("build", told(alloc, &error)?)?;
-    answer.put("answers", Value::Null)
+fn put_refused(answer: &mut Answer, alloc: Global, error: Error) {
+    answer.put("build", told(alloc, &error));
+    answer.put_value("answers", Value::Null);
 }
 
 /// Does the operations of a vector; the answer is what was refused.
-fn refusals(
-    alloc: Global,
-    builder: &mut TypesBuilder,
-    input: &Value,
-) -> Result<Vec<Value>, Trouble> {
-    let mut refused = Vec::new(alloc);
+fn refusals(alloc: Global, builder: &mut TypesBuilder, input: &Value) -> Result<Items, Trouble> {
+    let mut refused = Items::new(alloc);
     let mut number = 0u64;
     for op in list(input, OPS)? {
         if let Some(error) = apply(builder, op)? {
-            refused.push(refusal(alloc, number, error)?)?;
+            refused.put(refusal(alloc, number, error));
         }
         number = number.saturating_add(1);
     }
@@ -172,32 +166,38 @@ fn build_once(builder: &TypesBuilder) -> Result<Built, Trouble> {
 
 /// Types, each with its name and its globs.
 fn definitions_value(alloc: Global, definitions: &[FileTypeDef]) -> Result<Value, AllocError> {
-    let mut values = Vec::new(alloc);
+    let mut values = Items::new(alloc);
     for definition in definitions {
-        values.push(definition_value(alloc, definition)?)?;
+        values.put(definition_value(alloc, definition));
     }
-    Ok(Value::Array(values))
+    values.value()
 }
 
 fn definition_value(alloc: Global, definition: &FileTypeDef) -> Result<Value, AllocError> {
-    let name = text_value(alloc, definition.name())?;
-    let mut globs = Vec::new(alloc);
-    for glob in definition.globs() {
-        globs.push(text_value(alloc, glob.as_str())?)?;
+    let mut parts = Items::new(alloc);
+    parts.put_text(definition.name());
+    parts.put(globs_value(alloc, definition.globs()));
+    parts.value()
+}
+
+fn globs_value(alloc: Global, globs: &[String]) -> Result<Value, AllocError> {
+    let mut values = Items::new(alloc);
+    for glob in globs {
+        values.put_text(glob.as_str());
     }
-    Ok(Value::Array(vec![in alloc; name, Value::Array(globs)]?))
+    values.value()
 }
 
 /// What the types say of each path that is asked about.
-fn answers(alloc: Global, input: &Value, types: &Types) -> Result<Value, Trouble> {
-    let mut answers = Vec::new(alloc);
+fn answers(alloc: Global, input: &Value, types: &Types) -> Result<Items, Trouble> {
+    let mut answers = Items::new(alloc);
     for ask in list(input, ASKS)? {
         let path = text_at(ask, 0, ASKS)?;
         let is_dir = flag_at(ask, 1, ASKS)?;
         let said = matched(types, path, is_dir)?;
-        answers.push(match_value(alloc, said)?)?;
+        answers.put(match_value(alloc, said));
     }
-    Ok(Value::Array(answers))
+    Ok(answers)
 }
 
 /// What types say of a path, asked twice where memory is refused.
@@ -233,10 +233,11 @@ fn said_value(
     kind: &str,
     definition: Option<&FileTypeDef>,
 ) -> Result<Value, AllocError> {
-    let kind = text_value(alloc, kind)?;
-    let definition = match definition {
-        Some(definition) => definition_value(alloc, definition)?,
-        None => Value::Null,
-    };
-    Ok(Value::Array(vec![in alloc; kind, definition]?))
+    let mut parts = Items::new(alloc);
+    parts.put_text(kind);
+    match definition {
+        Some(definition) => parts.put(definition_value(alloc, definition)),
+        None => parts.put_value(Value::Null),
+    }
+    parts.value()
 }
