@@ -1,5 +1,6 @@
 //! Environments of vectors, and the search for the excludes file in them.
 
+use crate::again::but_for_memory;
 use crate::outcome::Trouble;
 use ignore_files::{Env, MemoryTree, Name};
 use ignore_rules::gitignore::gitconfig_excludes_path;
@@ -37,11 +38,8 @@ pub fn excludes_path(
     tree: &MemoryTree,
     env: &Env,
 ) -> Result<Option<String>, Trouble> {
-    if let Ok(path) = gitconfig_excludes_path(alloc, tree, env) {
-        return Ok(path);
-    }
     match gitconfig_excludes_path(alloc, tree, env) {
         Ok(path) => Ok(path),
-        Err(_) => Err(Trouble::Memory),
+        Err(_) => but_for_memory(gitconfig_excludes_path(alloc, tree, env)),
     }
 }

@@ -47,14 +47,19 @@ pub fn after_operations(alloc: Global, input: &Value) -> Result<Built, Trouble> 
         builder: builder(alloc, text(input, "root")?)?,
         refused: Items::new(alloc),
     };
+    apply_all(alloc, &mut built, list(input, OPS)?)?;
+    Ok(built)
+}
+
+fn apply_all(alloc: Global, built: &mut Built, ops: &[Value]) -> Result<(), Trouble> {
     let mut number = 0u64;
-    for op in list(input, OPS)? {
+    for op in ops {
         if let Some(error) = apply(&mut built.builder, op)? {
             built.refused.put(refusal(alloc, number, error));
         }
         number = number.saturating_add(1);
     }
-    Ok(built)
+    Ok(())
 }
 
 /// Does an operation; the answer is what is wrong with its line.

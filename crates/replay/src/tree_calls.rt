@@ -51,6 +51,18 @@ pub fn make_call(
         "add_nameless" => refusal(add_nameless(tree, path)),
         "add_link" => refusal(add_link(tree, path, text_at(call, 2, CALLS)?)),
         "add_file" => refusal(add_file(tree, path, bytes_at(alloc, call)?.as_slice())),
+        name => change(tree, name, path, call),
+    }
+}
+
+/// Makes a call that changes the node of a path.
+fn change(
+    tree: &mut MemoryTree,
+    name: &str,
+    path: &str,
+    call: &Value,
+) -> Result<Option<TreeError>, Trouble> {
+    match name {
         "set_size" => refusal(tree.set_size(path, number_at(call, 2)?)),
         "set_identity" => refusal(tree.set_identity(path, identity_at(call)?)),
         "fault_stat" => refusal(tree.fault_stat(path, fault_at(call, 2)?)),

@@ -1,5 +1,6 @@
 //! Whether a glob is read, and takes a text.
 
+use crate::again::but_for_memory;
 use crate::answer::Answer;
 use crate::fields::{flag, text};
 use crate::outcome::{Outcome, Reason, Trouble};
@@ -52,11 +53,8 @@ fn told_taken(alloc: Global, pattern: &Pattern, asked: &str) -> Result<Outcome, 
 
 /// Whether a pattern takes a text, asked twice where memory is refused.
 fn takes(pattern: &Pattern, asked: &str) -> Result<bool, Trouble> {
-    if let Ok(taken) = pattern.matches(asked) {
-        return Ok(taken);
-    }
     match pattern.matches(asked) {
         Ok(taken) => Ok(taken),
-        Err(_) => Err(Trouble::Memory),
+        Err(_) => but_for_memory(pattern.matches(asked)),
     }
 }

@@ -15,17 +15,18 @@ pub fn answer(alloc: Global, input: &Value) -> Result<Outcome, Trouble> {
     if uses_git_spaces(input)? {
         return Ok(Outcome::Skipped(Reason::GitTrailingSpaces));
     }
+    let path = text(input, "path")?;
+    let is_dir = flag(input, "is_dir")?;
     let built = after_operations(alloc, input)?;
     let matcher = build(&built.builder)?;
-    match reason_against(&matcher, text(input, "path")?) {
+    match reason_against(&matcher, path) {
         Some(reason) => Ok(Outcome::Skipped(reason)),
-        None => asked(alloc, input, &matcher),
+        None => asked(alloc, path, is_dir, &matcher),
     }
 }
 
-fn asked(alloc: Global, input: &Value, matcher: &Gitignore) -> Result<Outcome, Trouble> {
-    let path = text(input, "path")?;
-    let said = nearest(matcher, path, flag(input, "is_dir")?)?;
+fn asked(alloc: Global, path: &str, is_dir: bool, matcher: &Gitignore) -> Result<Outcome, Trouble> {
+    let said = nearest(matcher, path, is_dir)?;
     let mut answer = Answer::new(alloc);
     answer.put_flag("under_root", matcher.is_under_root(path));
     answer.put("answer", said_value(alloc, matcher, said));

@@ -14,21 +14,24 @@ pub fn answer(alloc: Global, input: &Value) -> Result<Outcome, Trouble> {
     if uses_git_spaces(input)? {
         return Ok(Outcome::Skipped(Reason::GitTrailingSpaces));
     }
+    let path = text(input, "path")?;
+    let is_dir = flag(input, "is_dir")?;
     let built = after_operations(alloc, input)?;
     let matcher = build(&built.builder)?;
-    match reason_against(&matcher, text(input, "path")?) {
+    match reason_against(&matcher, path) {
         Some(reason) => Ok(Outcome::Skipped(reason)),
-        None => asked(alloc, input, &matcher, built.refused),
+        None => asked(alloc, path, is_dir, &matcher, built.refused),
     }
 }
 
 fn asked(
     alloc: Global,
-    input: &Value,
+    path: &str,
+    is_dir: bool,
     matcher: &Gitignore,
     refused: Items,
 ) -> Result<Outcome, Trouble> {
-    let said = matched(matcher, text(input, "path")?, flag(input, "is_dir")?)?;
+    let said = matched(matcher, path, is_dir)?;
     let mut answer = Answer::new(alloc);
     answer.put("answer", match_value(alloc, matcher, said));
     answer.put("rules", rules_value(alloc, matcher));

@@ -1,5 +1,6 @@
 //! What the calls on paths as texts answer.
 
+use crate::again::but_for_memory;
 use crate::answer::Answer;
 use crate::fields::text;
 use crate::outcome::{Outcome, Trouble};
@@ -38,11 +39,8 @@ fn put_stripped(answer: &mut Answer, root: &str, path: &str) {
 
 /// A path joined to a root, asked for twice where memory is refused.
 fn join(alloc: Global, root: &str, path: &str) -> Result<String, Trouble> {
-    if let Ok(joined) = paths::join(alloc, root, path) {
-        return Ok(joined);
-    }
     match paths::join(alloc, root, path) {
         Ok(joined) => Ok(joined),
-        Err(_) => Err(Trouble::Memory),
+        Err(_) => but_for_memory(paths::join(alloc, root, path)),
     }
 }

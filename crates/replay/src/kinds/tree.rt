@@ -1,5 +1,6 @@
 //! What a tree in memory answers, and which changes of it are refused.
 
+use crate::again::but_for_memory;
 use crate::answer::{Answer, Items, text_value};
 use crate::error::fault_name;
 use crate::fields::{flag_at, list, text, text_at};
@@ -102,28 +103,28 @@ fn asked_stat(
     follow: bool,
 ) -> Result<Value, Trouble> {
     match stat(alloc, tree, path, follow) {
-        Ok(metadata) => made(metadata_value(alloc, metadata)),
+        Ok(metadata) => but_for_memory(metadata_value(alloc, metadata)),
         Err(refusal) => refused(alloc, refusal),
     }
 }
 
 fn asked_list(alloc: Global, tree: &MemoryTree, path: &str) -> Result<Value, Trouble> {
     match listing(alloc, tree, path) {
-        Ok(listing) => made(listing_value(alloc, &listing)),
+        Ok(listing) => but_for_memory(listing_value(alloc, &listing)),
         Err(refusal) => refused(alloc, refusal),
     }
 }
 
 fn asked_contents(alloc: Global, tree: &MemoryTree, path: &str) -> Result<Value, Trouble> {
     match contents(alloc, tree, path) {
-        Ok(contents) => made(contents_value(alloc, &contents)),
+        Ok(contents) => but_for_memory(contents_value(alloc, &contents)),
         Err(refusal) => refused(alloc, refusal),
     }
 }
 
 fn asked_canonical(alloc: Global, tree: &MemoryTree, path: &str) -> Result<Value, Trouble> {
     match canonical(alloc, tree, path) {
-        Ok(name) => made(alone(alloc, "value", text_value(alloc, name.as_str()))),
+        Ok(name) => but_for_memory(alone(alloc, "value", text_value(alloc, name.as_str()))),
         Err(refusal) => refused(alloc, refusal),
     }
 }
@@ -135,7 +136,7 @@ fn asked_identity(
     follow: bool,
 ) -> Result<Value, Trouble> {
     match identity(alloc, tree, path, follow) {
-        Ok(identity) => made(alone(alloc, "identity", identity_value(alloc, identity))),
+        Ok(identity) => but_for_memory(alone(alloc, "identity", identity_value(alloc, identity))),
         Err(refusal) => refused(alloc, refusal),
     }
 }
@@ -143,16 +144,8 @@ fn asked_identity(
 /// The fault that a refusal tells.
 fn refused(alloc: Global, refusal: Refusal) -> Result<Value, Trouble> {
     match refusal {
-        Refusal::Fault(fault) => made(alone(alloc, "fault", fault_value(alloc, fault))),
+        Refusal::Fault(fault) => but_for_memory(alone(alloc, "fault", fault_value(alloc, fault))),
         Refusal::Memory => Err(Trouble::Memory),
-    }
-}
-
-/// A value, unless memory was refused for it.
-fn made(value: Result<Value, AllocError>) -> Result<Value, Trouble> {
-    match value {
-        Ok(value) => Ok(value),
-        Err(_) => Err(Trouble::Memory),
     }
 }
 

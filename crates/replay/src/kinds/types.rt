@@ -1,6 +1,6 @@
 //! What file types say of paths, and all that can be read of them.
 
-use crate::again::problem;
+use crate::again::{but_for_memory, problem};
 use crate::answer::{Answer, Items};
 use crate::error::told;
 use crate::fields::{flag_at, list, text_at};
@@ -22,17 +22,24 @@ pub fn answer(alloc: Global, input: &Value) -> Result<Outcome, Trouble> {
     let mut builder = TypesBuilder::new(alloc);
     let refused = refusals(alloc, &mut builder, input)?;
     let definitions = definitions(&builder)?;
+    let built = build(&builder)?;
+    told_built(alloc, input, refused, &definitions, built)
+}
+
+fn told_built(
+    alloc: Global,
+    input: &Value,
+    refused: Items,
+    definitions: &[FileTypeDef],
+    built: Built,
+) -> Result<Outcome, Trouble> {
     let mut answer = Answer::new(alloc);
     answer.put("refused", refused.value());
-    answer.put("definitions", definitions_value(alloc, &definitions));
-    match build(&builder)? {
-        Built::Types(types) => {
-            put_types(&mut answer, alloc, input, &types)?;
-            put_other_definitions(&mut answer, alloc, &types, &definitions);
-        }
-        Built::Refused(error) => put_refused(&mut answer, alloc, error),
+    answer.put("definitions", definitions_value(alloc, definitions));
+    match built {
+        Built::Types(types) => told_types(alloc, input, answer, definitions, &types),
+        Built::Refused(error) => told_refused(alloc, answer, error),
     }
-    answer.outcome()
 }
 
 /// What came of building.
@@ -42,17 +49,19 @@ enum Built {
     Refused(Error),
 }
 
-fn put_types(
-    answer: &mut Answer,
+fn told_types(
     alloc: Global,
     input: &Value,
+    mut answer: Answer,
+    definitions: &[FileTypeDef],
     types: &Types,
-) -> Result<(), Trouble> {
+) -> Result<Outcome, Trouble> {
     let answers = answers(alloc, input, types)?;
     answer.put_value("build", Value::Null);
     answer.put_number("len", types.len() as u64);
     answer.put("answers", answers.value());
-    Ok(())
+    put_other_definitions(&mut answer, alloc, types, definitions);
+    answer.outcome()
 }
 
 /// The definitions of the matcher are a field of their own, which isn't wanted, where they aren't those of the builder.
@@ -68,9 +77,10 @@ fn put_other_definitions(
     }
 }
 
-fn put_refused(answer: &mut Answer, alloc: Global, error: Error) {
+fn told_refused(alloc: Global, mut answer: Answer, error: Error) -> Result<Outcome, Trouble> {
     answer.put("build", told(alloc, &error));
     answer.put_value("answers", Value::Null);
+    answer.outcome()
 }
 
 /// Does the operations of a vector; the answer is what was refused.
@@ -96,13 +106,25 @@ fn apply(builder: &mut TypesBuilder, op: &Value) -> Result<Option<Error>, Troubl
 
 fn apply_once(builder: &mut TypesBuilder, op: &Value) -> Result<Option<Error>, Trouble> {
     match text_at(op, 0, OPS)? {
-        "add" => applied(builder.add(text_at(op, 1, OPS)?, text_at(op, 2, OPS)?)),
-        "add_def" => applied(builder.add_def(text_at(op, 1, OPS)?)),
         "add_defaults" => add_defaults(builder),
-        "select" => select(builder, text_at(op, 1, OPS)?),
-        "negate" => negate(builder, text_at(op, 1, OPS)?),
+        name => apply_to(builder, name, text_at(op, 1, OPS)?, op),
+    }
+}
+
+/// Does an operation whose first word is a type's name or its definition.
+fn apply_to(
+    builder: &mut TypesBuilder,
+    name: &str,
+    word: &str,
+    op: &Value,
+) -> Result<Option<Error>, Trouble> {
+    match name {
+        "add" => applied(builder.add(word, text_at(op, 2, OPS)?)),
+        "add_def" => applied(builder.add_def(word)),
+        "select" => select(builder, word),
+        "negate" => negate(builder, word),
         "clear" => {
-            builder.clear(text_at(op, 1, OPS)?);
+            builder.clear(word);
             Ok(None)
         }
         _ => Err(Trouble::Field(OPS)),
@@ -139,12 +161,9 @@ fn negate(builder: &mut TypesBuilder, name: &str) -> Result<Option<Error>, Troub
 
 /// The definitions of a builder, asked for twice where memory is refused.
 fn definitions(builder: &TypesBuilder) -> Result<Vec<FileTypeDef>, Trouble> {
-    if let Ok(definitions) = builder.definitions() {
-        return Ok(definitions);
-    }
     match builder.definitions() {
         Ok(definitions) => Ok(definitions),
-        Err(_) => Err(Trouble::Memory),
+        Err(_) => but_for_memory(builder.definitions()),
     }
 }
 
@@ -192,30 +211,22 @@ fn globs_value(alloc: Global, globs: &[String]) -> Result<Value, AllocError> {
 fn answers(alloc: Global, input: &Value, types: &Types) -> Result<Items, Trouble> {
     let mut answers = Items::new(alloc);
     for ask in list(input, ASKS)? {
-        let path = text_at(ask, 0, ASKS)?;
-        let is_dir = flag_at(ask, 1, ASKS)?;
-        let said = matched(types, path, is_dir)?;
-        answers.put(match_value(alloc, said));
+        answers.put_value(answered(alloc, ask, types)?);
     }
     Ok(answers)
+}
+
+/// What the types say of a path.
+fn answered(alloc: Global, ask: &Value, types: &Types) -> Result<Value, Trouble> {
+    let said = matched(types, text_at(ask, 0, ASKS)?, flag_at(ask, 1, ASKS)?)?;
+    but_for_memory(match_value(alloc, said))
 }
 
 /// What types say of a path, asked twice where memory is refused.
 fn matched<'t>(types: &'t Types, path: &str, is_dir: bool) -> Result<Match<Glob<'t>>, Trouble> {
     match types.matched(path, is_dir) {
         Ok(said) => Ok(said),
-        Err(_error) => matched_again(types, path, is_dir),
-    }
-}
-
-fn matched_again<'t>(
-    types: &'t Types,
-    path: &str,
-    is_dir: bool,
-) -> Result<Match<Glob<'t>>, Trouble> {
-    match types.matched(path, is_dir) {
-        Ok(said) => Ok(said),
-        Err(_error) => Err(Trouble::Memory),
+        Err(_error) => but_for_memory(types.matched(path, is_dir)),
     }
 }
 
