@@ -7,11 +7,16 @@ use std::alloc::Global;
 
 /// A builder of gitignore rules below a root.
 pub fn builder(alloc: Global, root: &str) -> Result<GitignoreBuilder, Trouble> {
-    if let Ok(builder) = GitignoreBuilder::new(alloc, root) {
-        return Ok(builder);
-    }
     match GitignoreBuilder::new(alloc, root) {
         Ok(builder) => Ok(builder),
+        Err(_) => but_for_memory(GitignoreBuilder::new(alloc, root)),
+    }
+}
+
+/// What a call answered that nothing but want of memory can refuse.
+pub fn but_for_memory<T: Drop, E: Drop>(answer: Result<T, E>) -> Result<T, Trouble> {
+    match answer {
+        Ok(value) => Ok(value),
         Err(_) => Err(Trouble::Memory),
     }
 }
@@ -41,12 +46,9 @@ pub fn problem(error: Error) -> Result<Option<Error>, Trouble> {
 
 /// The matcher of a builder.
 pub fn build(builder: &GitignoreBuilder) -> Result<Gitignore, Trouble> {
-    if let Ok(matcher) = builder.build() {
-        return Ok(matcher);
-    }
     match builder.build() {
         Ok(matcher) => Ok(matcher),
-        Err(_) => Err(Trouble::Memory),
+        Err(_) => but_for_memory(builder.build()),
     }
 }
 
@@ -56,11 +58,8 @@ pub fn matched<'g>(
     path: &str,
     is_dir: bool,
 ) -> Result<Match<&'g Glob>, Trouble> {
-    if let Ok(answer) = matcher.matched(path, is_dir) {
-        return Ok(answer);
-    }
     match matcher.matched(path, is_dir) {
         Ok(answer) => Ok(answer),
-        Err(_) => Err(Trouble::Memory),
+        Err(_) => but_for_memory(matcher.matched(path, is_dir)),
     }
 }

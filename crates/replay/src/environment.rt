@@ -1,6 +1,6 @@
 //! Environments of vectors, and the search for the excludes file in them.
 
-use crate::fields::field;
+use crate::again::but_for_memory;
 use crate::outcome::Trouble;
 use ignore_files::{Env, MemoryTree, Name};
 use ignore_rules::gitignore::gitconfig_excludes_path;
@@ -20,13 +20,10 @@ pub fn environment(alloc: Global, value: &Value) -> Result<Env, Trouble> {
 
 /// The variable that the member of this name is.
 pub fn variable(alloc: Global, value: &Value, name: &'static str) -> Result<Option<Name>, Trouble> {
-    let member = field(value, name)?;
-    if member.is_null() {
-        return Ok(None);
-    }
-    match member.as_str() {
-        Some(text) => Ok(Some(name_of(alloc, text)?)),
-        None => Err(Trouble::Field(name)),
+    match value.get(name) {
+        Some(Value::Null) => Ok(None),
+        Some(Value::String(text)) => Ok(Some(name_of(alloc, text.as_str())?)),
+        _ => Err(Trouble::Field(name)),
     }
 }
 
@@ -41,11 +38,8 @@ pub fn excludes_path(
     tree: &MemoryTree,
     env: &Env,
 ) -> Result<Option<String>, Trouble> {
-    if let Ok(path) = gitconfig_excludes_path(alloc, tree, env) {
-        return Ok(path);
-    }
     match gitconfig_excludes_path(alloc, tree, env) {
         Ok(path) => Ok(path),
-        Err(_) => Err(Trouble::Memory),
+        Err(_) => but_for_memory(gitconfig_excludes_path(alloc, tree, env)),
     }
 }

@@ -1,6 +1,6 @@
 //! Errors in the shape in which vectors write them: a list of the name of the variant and what it holds.
 
-use crate::answer::{Answer, text_or_null, text_value};
+use crate::answer::{Answer, Items, text_value};
 use crate::outcome::Trouble;
 use ignore_glob::{Error, Fault};
 use serde_json::Value;
@@ -9,9 +9,9 @@ use std::alloc::{AllocError, Global};
 /// An error's text and its shape.
 pub fn told(alloc: Global, error: &Error) -> Result<Value, AllocError> {
     let mut answer = Answer::new(alloc);
-    answer.put("text", printed(alloc, error)?)?;
-    answer.put("shape", shape(alloc, error)?)?;
-    Ok(answer.into_value())
+    answer.put("text", printed(alloc, error));
+    answer.put("shape", shape(alloc, error));
+    answer.value()
 }
 
 /// An error's text and its shape, or `null` where there is none.
@@ -31,24 +31,23 @@ pub fn printed(alloc: Global, error: &Error) -> Result<Value, AllocError> {
 pub fn shape(alloc: Global, error: &Error) -> Result<Value, AllocError> {
     match error {
         Error::Partial(errors) => {
-            let mut members = Vec::new(alloc);
+            let mut members = Items::new(alloc);
             for error in errors {
-                members.push(shape(alloc, error)?)?;
+                members.put(shape(alloc, error));
             }
-            tag_shape(alloc, "Partial", Value::Array(members))
+            tag_shape(alloc, "Partial", members.value())
         }
         Error::WithLineNumber { line, err } => {
-            let inner = shape(alloc, err)?;
-            tagged_shape(alloc, "WithLineNumber", Value::from(*line), inner)
+            let line = Ok(Value::from(*line));
+            tagged_shape(alloc, "WithLineNumber", line, shape(alloc, err))
         }
         Error::WithPath { path, err } => {
-            let inner = shape(alloc, err)?;
-            let path = text_value(alloc, path.as_str())?;
-            tagged_shape(alloc, "WithPath", path, inner)
+            let path = text_value(alloc, path.as_str());
+            tagged_shape(alloc, "WithPath", path, shape(alloc, err))
         }
         Error::WithDepth { depth, err } => {
-            let inner = shape(alloc, err)?;
-            tagged_shape(alloc, "WithDepth", Value::from(*depth), inner)
+            let depth = Ok(Value::from(*depth));
+            tagged_shape(alloc, "WithDepth", depth, shape(alloc, err))
         }
         Error::Loop { ancestor, child } => {
             texts_shape(alloc, "Loop", Some(ancestor.as_str()), child.as_str())
@@ -63,9 +62,17 @@ pub fn shape(alloc: Global, error: &Error) -> Result<Value, AllocError> {
     }
 }
 
-fn tagged_shape(alloc: Global, name: &str, tag: Value, inner: Value) -> Result<Value, AllocError> {
-    let name = text_value(alloc, name)?;
-    Ok(Value::Array(vec![in alloc; name, tag, inner]?))
+fn tagged_shape(
+    alloc: Global,
+    name: &str,
+    tag: Result<Value, AllocError>,
+    inner: Result<Value, AllocError>,
+) -> Result<Value, AllocError> {
+    let mut parts = Items::new(alloc);
+    parts.put_text(name);
+    parts.put(tag);
+    parts.put(inner);
+    parts.value()
 }
 
 fn texts_shape(
@@ -74,25 +81,32 @@ fn texts_shape(
     first: Option<&str>,
     second: &str,
 ) -> Result<Value, AllocError> {
-    let name = text_value(alloc, name)?;
-    let first = text_or_null(alloc, first)?;
-    let second = text_value(alloc, second)?;
-    Ok(Value::Array(vec![in alloc; name, first, second]?))
+    let mut parts = Items::new(alloc);
+    parts.put_text(name);
+    parts.put_text_or_null(first);
+    parts.put_text(second);
+    parts.value()
 }
 
 fn name_shape(alloc: Global, name: &str, held: &str) -> Result<Value, AllocError> {
-    let held = text_value(alloc, held)?;
-    tag_shape(alloc, name, held)
+    tag_shape(alloc, name, text_value(alloc, held))
 }
 
-fn tag_shape(alloc: Global, name: &str, held: Value) -> Result<Value, AllocError> {
-    let name = text_value(alloc, name)?;
-    Ok(Value::Array(vec![in alloc; name, held]?))
+fn tag_shape(
+    alloc: Global,
+    name: &str,
+    held: Result<Value, AllocError>,
+) -> Result<Value, AllocError> {
+    let mut parts = Items::new(alloc);
+    parts.put_text(name);
+    parts.put(held);
+    parts.value()
 }
 
 fn bare_shape(alloc: Global, name: &str) -> Result<Value, AllocError> {
-    let name = text_value(alloc, name)?;
-    Ok(Value::Array(vec![in alloc; name]?))
+    let mut parts = Items::new(alloc);
+    parts.put_text(name);
+    parts.value()
 }
 
 /// The name of a fault.

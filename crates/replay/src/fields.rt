@@ -13,25 +13,25 @@ pub fn field<'v>(value: &'v Value, name: &'static str) -> Result<&'v Value, Trou
 
 /// The text that the member of this name is.
 pub fn text<'v>(value: &'v Value, name: &'static str) -> Result<&'v str, Trouble> {
-    match field(value, name)?.as_str() {
-        Some(text) => Ok(text),
-        None => Err(Trouble::Field(name)),
+    match value.get(name) {
+        Some(Value::String(text)) => Ok(text.as_str()),
+        _ => Err(Trouble::Field(name)),
     }
 }
 
 /// The truth value that the member of this name is.
 pub fn flag(value: &Value, name: &'static str) -> Result<bool, Trouble> {
-    match field(value, name)?.as_bool() {
-        Some(yes) => Ok(yes),
-        None => Err(Trouble::Field(name)),
+    match value.get(name) {
+        Some(Value::Bool(yes)) => Ok(*yes),
+        _ => Err(Trouble::Field(name)),
     }
 }
 
 /// The items of the list that the member of this name is.
 pub fn list<'v>(value: &'v Value, name: &'static str) -> Result<&'v [Value], Trouble> {
-    match field(value, name)?.as_array() {
-        Some(items) => Ok(items.as_slice()),
-        None => Err(Trouble::Field(name)),
+    match value.get(name) {
+        Some(Value::Array(items)) => Ok(items.as_slice()),
+        _ => Err(Trouble::Field(name)),
     }
 }
 
@@ -45,16 +45,16 @@ pub fn item<'v>(list: &'v Value, place: usize, name: &'static str) -> Result<&'v
 
 /// The text at a place of a list, which stands in the field of this name.
 pub fn text_at<'v>(list: &'v Value, place: usize, name: &'static str) -> Result<&'v str, Trouble> {
-    match item(list, place, name)?.as_str() {
-        Some(text) => Ok(text),
-        None => Err(Trouble::Field(name)),
+    match list.get(place) {
+        Some(Value::String(text)) => Ok(text.as_str()),
+        _ => Err(Trouble::Field(name)),
     }
 }
 
 /// The truth value at a place of a list, which stands in the field of this name.
 pub fn flag_at(list: &Value, place: usize, name: &'static str) -> Result<bool, Trouble> {
-    match item(list, place, name)?.as_bool() {
-        Some(yes) => Ok(yes),
-        None => Err(Trouble::Field(name)),
+    match list.get(place) {
+        Some(Value::Bool(yes)) => Ok(*yes),
+        _ => Err(Trouble::Field(name)),
     }
 }

@@ -7,7 +7,7 @@ use crate::tally::Tally;
 use crate::vector::Vector;
 use serde_json::{Category, Error, Value};
 use std::alloc::Global;
-use std::io::Write;
+use std::io::{self, Write};
 
 /// Why a run ends before its end.
 #[derive(Clone, Copy, Drop)]
@@ -151,9 +151,9 @@ fn refuse<'n, E: Write>(
 ) -> Result<(), Stop<'n>> {
     tally.refuse();
     let written = match flaw {
-        Flaw::NoJson => writeln!(err, "replay: {name}: line {number}: no JSON"),
-        Flaw::NoObject => writeln!(err, "replay: {name}: line {number}: no object"),
-        Flaw::UnknownKind => writeln!(err, "replay: {name}: line {number}: unknown kind"),
+        Flaw::NoJson => tell(err, name, number, "no JSON"),
+        Flaw::NoObject => tell(err, name, number, "no object"),
+        Flaw::UnknownKind => tell(err, name, number, "unknown kind"),
         Flaw::Field(field) => writeln!(err, "replay: {name}: line {number}: bad field {field}"),
         Flaw::Memory => return Err(Stop::Memory),
     };
@@ -161,4 +161,9 @@ fn refuse<'n, E: Write>(
         Ok(()) => Ok(()),
         Err(_) => Err(Stop::Write),
     }
+}
+
+/// Tells what is wrong with a line.
+fn tell<E: Write>(err: &mut E, name: &str, number: u64, flaw: &str) -> io::Result<()> {
+    writeln!(err, "replay: {name}: line {number}: {flaw}")
 }

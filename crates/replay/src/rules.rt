@@ -1,7 +1,7 @@
 //! Builders of gitignore rules, as vectors describe them, and their answers.
 
 use crate::again::{add_line, builder};
-use crate::answer::{text_or_null, text_value};
+use crate::answer::Items;
 use crate::error::printed;
 use crate::fields::{flag_at, list, text, text_at};
 use crate::outcome::{Reason, Trouble};
@@ -18,7 +18,7 @@ const OPS: &str = "ops";
 #[derive(Drop)]
 pub struct Built {
     pub builder: GitignoreBuilder,
-    pub refused: Vec<Value>,
+    pub refused: Items,
 }
 
 /// Whether some operation turns on a mode that isn't there: that trailing spaces are read as git reads them.
@@ -45,16 +45,21 @@ pub fn reason_against(matcher: &Gitignore, path: &str) -> Option<Reason> {
 pub fn after_operations(alloc: Global, input: &Value) -> Result<Built, Trouble> {
     let mut built = Built {
         builder: builder(alloc, text(input, "root")?)?,
-        refused: Vec::new(alloc),
+        refused: Items::new(alloc),
     };
+    apply_all(alloc, &mut built, list(input, OPS)?)?;
+    Ok(built)
+}
+
+fn apply_all(alloc: Global, built: &mut Built, ops: &[Value]) -> Result<(), Trouble> {
     let mut number = 0u64;
-    for op in list(input, OPS)? {
+    for op in ops {
         if let Some(error) = apply(&mut built.builder, op)? {
-            built.refused.push(refusal(alloc, number, error)?)?;
+            built.refused.put(refusal(alloc, number, error));
         }
         number = number.saturating_add(1);
     }
-    Ok(built)
+    Ok(())
 }
 
 /// Does an operation; the answer is what is wrong with its line.
@@ -83,28 +88,30 @@ fn set_case_insensitive(
 
 /// The number of an operation that was refused, and the text of its error.
 pub fn refusal(alloc: Global, number: u64, error: Error) -> Result<Value, AllocError> {
-    let told = printed(alloc, &error)?;
-    Ok(Value::Array(vec![in alloc; Value::from(number), told]?))
+    let mut parts = Items::new(alloc);
+    parts.put_number(number);
+    parts.put(printed(alloc, &error));
+    parts.value()
 }
 
 /// The rules of a matcher, each with all that can be read of it.
 pub fn rules_value(alloc: Global, matcher: &Gitignore) -> Result<Value, AllocError> {
-    let mut rules = Vec::new(alloc);
+    let mut rules = Items::new(alloc);
     for rule in matcher.rules() {
-        rules.push(rule_value(alloc, rule)?)?;
+        rules.put(rule_value(alloc, rule));
     }
-    Ok(Value::Array(rules))
+    rules.value()
 }
 
 /// All that can be read of a rule.
 fn rule_value(alloc: Global, rule: &Glob) -> Result<Value, AllocError> {
-    let original = text_value(alloc, rule.original())?;
-    let actual = text_value(alloc, rule.actual())?;
-    let is_whitelist = Value::Bool(rule.is_whitelist());
-    let is_only_dir = Value::Bool(rule.is_only_dir());
-    let from = text_or_null(alloc, rule.from())?;
-    let parts = vec![in alloc; original, actual, is_whitelist, is_only_dir, from]?;
-    Ok(Value::Array(parts))
+    let mut parts = Items::new(alloc);
+    parts.put_text(rule.original());
+    parts.put_text(rule.actual());
+    parts.put_flag(rule.is_whitelist());
+    parts.put_flag(rule.is_only_dir());
+    parts.put_text_or_null(rule.from());
+    parts.value()
 }
 
 /// What a matcher answered: the kind of the match, and the texts and the place of the rule that decided.
@@ -121,8 +128,9 @@ pub fn match_value(
 }
 
 fn kind_value(alloc: Global) -> Result<Value, AllocError> {
-    let kind = text_value(alloc, "none")?;
-    Ok(Value::Array(vec![in alloc; kind]?))
+    let mut parts = Items::new(alloc);
+    parts.put_text("none");
+    parts.value()
 }
 
 fn decided_value(
@@ -131,11 +139,12 @@ fn decided_value(
     matcher: &Gitignore,
     rule: &Glob,
 ) -> Result<Value, AllocError> {
-    let kind = text_value(alloc, kind)?;
-    let original = text_value(alloc, rule.original())?;
-    let actual = text_value(alloc, rule.actual())?;
-    let place = place_value(matcher, rule);
-    Ok(Value::Array(vec![in alloc; kind, original, actual, place]?))
+    let mut parts = Items::new(alloc);
+    parts.put_text(kind);
+    parts.put_text(rule.original());
+    parts.put_text(rule.actual());
+    parts.put_value(place_value(matcher, rule));
+    parts.value()
 }
 
 /// The place of the last rule of which the same can be read, or `null`.

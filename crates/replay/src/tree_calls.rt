@@ -46,19 +46,30 @@ pub fn make_call(
     call: &Value,
 ) -> Result<Option<TreeError>, Trouble> {
     let path = text_at(call, 1, CALLS)?;
-    let made = match text_at(call, 0, CALLS)? {
-        "add_dir" => add_dir(tree, path),
-        "add_nameless" => add_nameless(tree, path),
-        "add_link" => add_link(tree, path, text_at(call, 2, CALLS)?),
-        "add_file" => add_file(tree, path, bytes_at(alloc, call)?.as_slice()),
-        "set_size" => tree.set_size(path, number_at(call, 2)?),
-        "set_identity" => tree.set_identity(path, identity_at(call)?),
-        "fault_stat" => tree.fault_stat(path, fault_at(call, 2)?),
-        "fault_list" => tree.fault_list(path, fault_at(call, 2)?),
-        "cut_contents" => cut_contents(tree, path, call)?,
-        _ => return Err(Trouble::Field(CALLS)),
-    };
-    refusal(made)
+    match text_at(call, 0, CALLS)? {
+        "add_dir" => refusal(add_dir(tree, path)),
+        "add_nameless" => refusal(add_nameless(tree, path)),
+        "add_link" => refusal(add_link(tree, path, text_at(call, 2, CALLS)?)),
+        "add_file" => refusal(add_file(tree, path, bytes_at(alloc, call)?.as_slice())),
+        name => change(tree, name, path, call),
+    }
+}
+
+/// Makes a call that changes the node of a path.
+fn change(
+    tree: &mut MemoryTree,
+    name: &str,
+    path: &str,
+    call: &Value,
+) -> Result<Option<TreeError>, Trouble> {
+    match name {
+        "set_size" => refusal(tree.set_size(path, number_at(call, 2)?)),
+        "set_identity" => refusal(tree.set_identity(path, identity_at(call)?)),
+        "fault_stat" => refusal(tree.fault_stat(path, fault_at(call, 2)?)),
+        "fault_list" => refusal(tree.fault_list(path, fault_at(call, 2)?)),
+        "cut_contents" => refusal(cut_contents(tree, path, call)?),
+        _ => Err(Trouble::Field(CALLS)),
+    }
 }
 
 /// The refusal of a call, unless memory was refused.

@@ -1,6 +1,6 @@
 //! One vector.
 
-use crate::fields::{field, text};
+use crate::fields::text;
 use crate::outcome::Trouble;
 use serde_json::{Map, Value};
 
@@ -31,18 +31,16 @@ impl<'v> Vector<'v> {
 
 /// The member of this name, which is an object.
 fn object<'v>(value: &'v Value, name: &'static str) -> Result<&'v Value, Trouble> {
-    let member = field(value, name)?;
-    if member.is_object() {
-        Ok(member)
-    } else {
-        Err(Trouble::Field(name))
+    match value.get(name) {
+        Some(member) if member.is_object() => Ok(member),
+        _ => Err(Trouble::Field(name)),
     }
 }
 
 /// The members of the object that the member of this name is.
 fn members<'v>(value: &'v Value, name: &'static str) -> Result<&'v Map<String, Value>, Trouble> {
-    match field(value, name)?.as_object() {
-        Some(members) => Ok(members),
-        None => Err(Trouble::Field(name)),
+    match value.get(name) {
+        Some(Value::Object(members)) => Ok(members),
+        _ => Err(Trouble::Field(name)),
     }
 }

@@ -15,28 +15,35 @@ const SHAPE: &str = "shape";
 pub fn answer(alloc: Global, input: &Value) -> Result<Outcome, Trouble> {
     let error = error_of(alloc, field(input, SHAPE)?)?;
     let mut answer = Answer::new(alloc);
-    answer.put("text", printed(alloc, &error)?)?;
-    answer.put_flag("is_partial", error.is_partial())?;
-    answer.put_flag("is_io", error.is_io())?;
-    put_fault(&mut answer, "io_error", error.io_error().copied())?;
-    put_depth(&mut answer, error.depth())?;
-    let clone = copy(&error)?;
-    answer.put("clone", shape(alloc, &clone)?)?;
-    put_fault(&mut answer, "into_io_error", error.into_io_error())?;
-    Ok(Outcome::Answer(answer.into_value()))
+    answer.put("text", printed(alloc, &error));
+    answer.put_flag("is_partial", error.is_partial());
+    answer.put_flag("is_io", error.is_io());
+    put_fault(&mut answer, "io_error", error.io_error().copied());
+    put_depth(&mut answer, error.depth());
+    answer.put("clone", copied_shape(alloc, &error));
+    put_fault(&mut answer, "into_io_error", error.into_io_error());
+    answer.outcome()
 }
 
-fn put_fault(answer: &mut Answer, name: &str, fault: Option<Fault>) -> Result<(), AllocError> {
+fn put_fault(answer: &mut Answer, name: &str, fault: Option<Fault>) {
     match fault {
         Some(fault) => answer.put_text(name, fault_name(fault)),
-        None => answer.put(name, Value::Null),
+        None => answer.put_value(name, Value::Null),
     }
 }
 
-fn put_depth(answer: &mut Answer, depth: Option<usize>) -> Result<(), AllocError> {
+fn put_depth(answer: &mut Answer, depth: Option<usize>) {
     match depth {
         Some(depth) => answer.put_number("depth", depth as u64),
-        None => answer.put("depth", Value::Null),
+        None => answer.put_value("depth", Value::Null),
+    }
+}
+
+/// The shape of a clone of an error.
+fn copied_shape(alloc: Global, error: &Error) -> Result<Value, AllocError> {
+    match copy(error) {
+        Ok(copy) => shape(alloc, &copy),
+        Err(error) => Err(error),
     }
 }
 

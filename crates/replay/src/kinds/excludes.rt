@@ -22,15 +22,19 @@ pub fn answer(alloc: Global, input: &Value) -> Result<Outcome, Trouble> {
     let home = variable(alloc, input, "home")?;
     let value = value_of(alloc, &tree, home)?;
     let mut answer = Answer::new(alloc);
-    answer.put_text_or_null("value", value.as_deref())?;
-    Ok(Outcome::Answer(answer.into_value()))
+    answer.put_text_or_null("value", value.as_deref());
+    answer.outcome()
 }
 
 /// The tree with the configuration alone.
 fn tree_of(alloc: Global, input: &Value) -> Result<MemoryTree, Trouble> {
     let bytes = bytes_of(alloc, text(input, BYTES)?, BYTES)?;
+    tree_with(alloc, &bytes)
+}
+
+fn tree_with(alloc: Global, bytes: &[u8]) -> Result<MemoryTree, Trouble> {
     let mut tree = unrefused(empty_tree(alloc, "/"), BYTES)?;
-    unrefused(add_file(&mut tree, CONFIGURATION, bytes.as_slice()), BYTES)?;
+    unrefused(add_file(&mut tree, CONFIGURATION, bytes), BYTES)?;
     Ok(tree)
 }
 
@@ -40,14 +44,19 @@ fn value_of(
     tree: &MemoryTree,
     home: Option<Name>,
 ) -> Result<Option<String>, Trouble> {
-    let alone = configured(alloc, None)?;
-    match excludes_path(alloc, tree, &alone)? {
+    match value_at(alloc, tree, None)? {
         None => Ok(None),
-        Some(_) => {
-            let env = configured(alloc, home)?;
-            excludes_path(alloc, tree, &env)
-        }
+        Some(_) => value_at(alloc, tree, home),
     }
+}
+
+fn value_at(
+    alloc: Global,
+    tree: &MemoryTree,
+    home: Option<Name>,
+) -> Result<Option<String>, Trouble> {
+    let env = configured(alloc, home)?;
+    excludes_path(alloc, tree, &env)
 }
 
 /// The environment that names the configuration, and maybe `home`.

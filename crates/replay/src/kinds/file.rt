@@ -1,5 +1,6 @@
 //! The matcher of one file of rules, relative to the directory of the file.
 
+use crate::again::but_for_memory;
 use crate::answer::Answer;
 use crate::error::told_or_null;
 use crate::fields::{list, text};
@@ -14,15 +15,16 @@ use std::alloc::Global;
 
 /// Answers `root`, `rules`, `is_empty` and `len` of the matcher, and the `error` of its file.
 pub fn answer(alloc: Global, input: &Value) -> Result<Outcome, Trouble> {
+    let path = text(input, "path")?;
     let tree = tree_of_calls(alloc, text(input, "cwd")?, list(input, CALLS)?)?;
-    let (matcher, error) = read(alloc, &tree, text(input, "path")?)?;
+    let (matcher, error) = read(alloc, &tree, path)?;
     let mut answer = Answer::new(alloc);
-    answer.put_text("root", matcher.path())?;
-    answer.put("rules", rules_value(alloc, &matcher)?)?;
-    answer.put_flag("is_empty", matcher.is_empty())?;
-    answer.put_number("len", matcher.len() as u64)?;
-    answer.put("error", told_or_null(alloc, error.as_ref())?)?;
-    Ok(Outcome::Answer(answer.into_value()))
+    answer.put_text("root", matcher.path());
+    answer.put("rules", rules_value(alloc, &matcher));
+    answer.put_flag("is_empty", matcher.is_empty());
+    answer.put_number("len", matcher.len() as u64);
+    answer.put("error", told_or_null(alloc, error.as_ref()));
+    answer.outcome()
 }
 
 /// The matcher of a file, asked for twice where memory is refused.
@@ -31,11 +33,8 @@ fn read(
     tree: &MemoryTree,
     path: &str,
 ) -> Result<(Gitignore, Option<Error>), Trouble> {
-    if let Ok(read) = Gitignore::new(alloc, tree, path) {
-        return Ok(read);
-    }
     match Gitignore::new(alloc, tree, path) {
         Ok(read) => Ok(read),
-        Err(_) => Err(Trouble::Memory),
+        Err(_) => but_for_memory(Gitignore::new(alloc, tree, path)),
     }
 }

@@ -1,5 +1,6 @@
 //! Whether a glob is read, and takes a text.
 
+use crate::again::but_for_memory;
 use crate::answer::Answer;
 use crate::fields::{flag, text};
 use crate::outcome::{Outcome, Reason, Trouble};
@@ -39,24 +40,21 @@ fn parse(alloc: Global, glob: &str, options: Options) -> Result<Pattern, Pattern
 
 fn told_fault(alloc: Global, fault: GlobFault) -> Result<Outcome, Trouble> {
     let mut answer = Answer::new(alloc);
-    answer.put_number("fault", u64::from(fault.number()))?;
-    Ok(Outcome::Answer(answer.into_value()))
+    answer.put_number("fault", u64::from(fault.number()));
+    answer.outcome()
 }
 
 fn told_taken(alloc: Global, pattern: &Pattern, asked: &str) -> Result<Outcome, Trouble> {
     let taken = takes(pattern, asked)?;
     let mut answer = Answer::new(alloc);
-    answer.put_flag("taken", taken)?;
-    Ok(Outcome::Answer(answer.into_value()))
+    answer.put_flag("taken", taken);
+    answer.outcome()
 }
 
 /// Whether a pattern takes a text, asked twice where memory is refused.
 fn takes(pattern: &Pattern, asked: &str) -> Result<bool, Trouble> {
-    if let Ok(taken) = pattern.matches(asked) {
-        return Ok(taken);
-    }
     match pattern.matches(asked) {
         Ok(taken) => Ok(taken),
-        Err(_) => Err(Trouble::Memory),
+        Err(_) => but_for_memory(pattern.matches(asked)),
     }
 }

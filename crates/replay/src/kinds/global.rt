@@ -1,6 +1,6 @@
 //! The global file: where it is, and the rules that stand in it.
 
-use crate::again::{add_line, builder};
+use crate::again::{add_line, builder, but_for_memory};
 use crate::answer::Answer;
 use crate::environment::{environment, excludes_path};
 use crate::error::told_or_null;
@@ -27,14 +27,18 @@ type Read = (Gitignore, Option<Error>);
 pub fn answer(alloc: Global, input: &Value) -> Result<Outcome, Trouble> {
     let tree = tree_of_calls(alloc, text(input, "cwd")?, list(input, CALLS)?)?;
     let env = environment(alloc, field(input, "env")?)?;
-    let (matcher, error) = matcher(alloc, input, &tree, &env)?;
-    let path = excludes_path(alloc, &tree, &env)?;
+    told(alloc, input, &tree, &env)
+}
+
+fn told(alloc: Global, input: &Value, tree: &MemoryTree, env: &Env) -> Result<Outcome, Trouble> {
+    let (matcher, error) = matcher(alloc, input, tree, env)?;
+    let path = excludes_path(alloc, tree, env)?;
     let mut answer = Answer::new(alloc);
-    answer.put_text_or_null("path", path.as_deref())?;
-    answer.put_text("root", matcher.path())?;
-    answer.put("rules", rules_value(alloc, &matcher)?)?;
-    answer.put("error", told_or_null(alloc, error.as_ref())?)?;
-    Ok(Outcome::Answer(answer.into_value()))
+    answer.put_text_or_null("path", path.as_deref());
+    answer.put_text("root", matcher.path());
+    answer.put("rules", rules_value(alloc, &matcher));
+    answer.put("error", told_or_null(alloc, error.as_ref()));
+    answer.outcome()
 }
 
 fn matcher(alloc: Global, input: &Value, tree: &MemoryTree, env: &Env) -> Result<Read, Trouble> {
@@ -42,46 +46,42 @@ fn matcher(alloc: Global, input: &Value, tree: &MemoryTree, env: &Env) -> Result
         return global(alloc, tree, env);
     }
     let mut builder = builder(alloc, ROOT)?;
-    for line in list(input, LINES)? {
+    add_lines(&mut builder, list(input, LINES)?)?;
+    build_global(builder, tree, env)
+}
+
+fn add_lines(builder: &mut GitignoreBuilder, lines: &[Value]) -> Result<(), Trouble> {
+    for line in lines {
         match line.as_str() {
-            Some(line) => add(&mut builder, line)?,
+            Some(line) => add(builder, line)?,
             None => return Err(Trouble::Field(LINES)),
         }
     }
-    build_global(builder, tree, env)
+    Ok(())
 }
 
 /// The matcher of the working directory, asked for twice where memory is refused.
 fn global(alloc: Global, tree: &MemoryTree, env: &Env) -> Result<Read, Trouble> {
-    if let Ok(read) = Gitignore::global(alloc, tree, env) {
-        return Ok(read);
-    }
     match Gitignore::global(alloc, tree, env) {
         Ok(read) => Ok(read),
-        Err(_) => Err(Trouble::Memory),
+        Err(_) => but_for_memory(Gitignore::global(alloc, tree, env)),
     }
 }
 
 /// The matcher of a builder and the global file. Where memory is refused a copy of the builder is asked.
 fn build_global(builder: GitignoreBuilder, tree: &MemoryTree, env: &Env) -> Result<Read, Trouble> {
     let spare = copied(&builder)?;
-    if let Ok(read) = builder.build_global(tree, env) {
-        return Ok(read);
-    }
-    match spare.build_global(tree, env) {
+    match builder.build_global(tree, env) {
         Ok(read) => Ok(read),
-        Err(_) => Err(Trouble::Memory),
+        Err(_) => but_for_memory(spare.build_global(tree, env)),
     }
 }
 
 /// A copy of a builder, asked for twice where memory is refused.
 fn copied(builder: &GitignoreBuilder) -> Result<GitignoreBuilder, Trouble> {
-    if let Ok(copy) = builder.clone() {
-        return Ok(copy);
-    }
     match builder.clone() {
         Ok(copy) => Ok(copy),
-        Err(_) => Err(Trouble::Memory),
+        Err(_) => but_for_memory(builder.clone()),
     }
 }
 

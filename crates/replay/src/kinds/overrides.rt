@@ -1,7 +1,7 @@
 //! What the globs of a command line say of a path.
 
-use crate::again::problem;
-use crate::answer::Answer;
+use crate::again::{but_for_memory, problem};
+use crate::answer::{Answer, Items};
 use crate::fields::{flag, flag_at, list, text, text_at};
 use crate::outcome::{Outcome, Reason, Trouble};
 use crate::rules::refusal;
@@ -17,43 +17,49 @@ const OPS: &str = "ops";
 /// Answers `kind`, `refused`, `path`, `is_empty` and the counts.
 pub fn answer(alloc: Global, input: &Value) -> Result<Outcome, Trouble> {
     let path = text(input, "path")?;
+    let is_dir = flag(input, "is_dir")?;
     let collected = after_operations(alloc, input, path)?;
     if collected.needs_too_many {
         return Ok(Outcome::Skipped(Reason::TooManySplits));
     }
+    asked(alloc, path, is_dir, collected)
+}
+
+fn asked(
+    alloc: Global,
+    path: &str,
+    is_dir: bool,
+    collected: Collected,
+) -> Result<Outcome, Trouble> {
     let globs = build(&collected.builder)?;
-    let kind = kind(&globs, path, flag(input, "is_dir")?)?;
+    let kind = kind(&globs, path, is_dir)?;
     let mut answer = Answer::new(alloc);
-    answer.put_text("kind", kind)?;
-    answer.put("refused", Value::Array(collected.refused))?;
-    put_readers(&mut answer, &globs)?;
-    Ok(Outcome::Answer(answer.into_value()))
+    answer.put_text("kind", kind);
+    answer.put("refused", collected.refused.value());
+    put_readers(&mut answer, &globs);
+    answer.outcome()
 }
 
 /// A builder after a vector's operations, what it refused, and whether one of its globs may need too many splits.
 #[derive(Drop)]
 struct Collected {
     builder: OverrideBuilder,
-    refused: Vec<Value>,
+    refused: Items,
     needs_too_many: bool,
 }
 
-fn put_readers(answer: &mut Answer, globs: &Override) -> Result<(), Trouble> {
-    answer.put_text("path", globs.path())?;
-    answer.put_flag("is_empty", globs.is_empty())?;
-    answer.put_number("num_ignores", globs.num_ignores())?;
-    answer.put_number("num_whitelists", globs.num_whitelists())?;
-    Ok(())
+fn put_readers(answer: &mut Answer, globs: &Override) {
+    answer.put_text("path", globs.path());
+    answer.put_flag("is_empty", globs.is_empty());
+    answer.put_number("num_ignores", globs.num_ignores());
+    answer.put_number("num_whitelists", globs.num_whitelists());
 }
 
 /// A builder, asked for twice where memory is refused.
 fn builder(alloc: Global, root: &str) -> Result<OverrideBuilder, Trouble> {
-    if let Ok(builder) = OverrideBuilder::new(alloc, root) {
-        return Ok(builder);
-    }
     match OverrideBuilder::new(alloc, root) {
         Ok(builder) => Ok(builder),
-        Err(_) => Err(Trouble::Memory),
+        Err(_) => but_for_memory(OverrideBuilder::new(alloc, root)),
     }
 }
 
@@ -61,18 +67,28 @@ fn builder(alloc: Global, root: &str) -> Result<OverrideBuilder, Trouble> {
 fn after_operations(alloc: Global, input: &Value, path: &str) -> Result<Collected, Trouble> {
     let mut collected = Collected {
         builder: builder(alloc, text(input, "root")?)?,
-        refused: Vec::new(alloc),
+        refused: Items::new(alloc),
         needs_too_many: false,
     };
+    apply_all(alloc, &mut collected, list(input, OPS)?, path)?;
+    Ok(collected)
+}
+
+fn apply_all(
+    alloc: Global,
+    collected: &mut Collected,
+    ops: &[Value],
+    path: &str,
+) -> Result<(), Trouble> {
     let mut number = 0u64;
-    for op in list(input, OPS)? {
+    for op in ops {
         match apply(&mut collected.builder, op)? {
-            Some(error) => collected.refused.push(refusal(alloc, number, error)?)?,
+            Some(error) => collected.refused.put(refusal(alloc, number, error)),
             None => collected.needs_too_many |= is_too_much(op, path)?,
         }
         number = number.saturating_add(1);
     }
-    Ok(collected)
+    Ok(())
 }
 
 /// Whether an operation adds a glob that may need too many splits of a path.
@@ -124,12 +140,9 @@ fn add_once(builder: &mut OverrideBuilder, glob: &str) -> Result<Option<Error>, 
 
 /// The globs of a builder, asked for twice where memory is refused.
 fn build(builder: &OverrideBuilder) -> Result<Override, Trouble> {
-    if let Ok(globs) = builder.build() {
-        return Ok(globs);
-    }
     match builder.build() {
         Ok(globs) => Ok(globs),
-        Err(_) => Err(Trouble::Memory),
+        Err(_) => but_for_memory(builder.build()),
     }
 }
 

@@ -8,31 +8,41 @@ use crate::rules::{after_operations, match_value, reason_against, uses_git_space
 use ignore_glob::Match;
 use ignore_rules::gitignore::{Gitignore, Glob};
 use serde_json::Value;
-use std::alloc::Global;
+use std::alloc::{AllocError, Global};
 
 /// Answers `under_root`, and `answer` where it holds.
 pub fn answer(alloc: Global, input: &Value) -> Result<Outcome, Trouble> {
     if uses_git_spaces(input)? {
         return Ok(Outcome::Skipped(Reason::GitTrailingSpaces));
     }
+    let path = text(input, "path")?;
+    let is_dir = flag(input, "is_dir")?;
     let built = after_operations(alloc, input)?;
     let matcher = build(&built.builder)?;
-    match reason_against(&matcher, text(input, "path")?) {
+    match reason_against(&matcher, path) {
         Some(reason) => Ok(Outcome::Skipped(reason)),
-        None => asked(alloc, input, &matcher),
+        None => asked(alloc, path, is_dir, &matcher),
     }
 }
 
-fn asked(alloc: Global, input: &Value, matcher: &Gitignore) -> Result<Outcome, Trouble> {
-    let path = text(input, "path")?;
-    let is_dir = flag(input, "is_dir")?;
+fn asked(alloc: Global, path: &str, is_dir: bool, matcher: &Gitignore) -> Result<Outcome, Trouble> {
+    let said = nearest(matcher, path, is_dir)?;
     let mut answer = Answer::new(alloc);
-    answer.put_flag("under_root", matcher.is_under_root(path))?;
-    match nearest(matcher, path, is_dir)? {
-        Some(said) => answer.put("answer", match_value(alloc, matcher, said)?)?,
-        None => answer.put("answer", Value::Null)?,
+    answer.put_flag("under_root", matcher.is_under_root(path));
+    answer.put("answer", said_value(alloc, matcher, said));
+    answer.outcome()
+}
+
+/// What a matcher said, or `null` where the path can't be asked about.
+fn said_value(
+    alloc: Global,
+    matcher: &Gitignore,
+    said: Option<Match<&Glob>>,
+) -> Result<Value, AllocError> {
+    match said {
+        Some(said) => match_value(alloc, matcher, said),
+        None => Ok(Value::Null),
     }
-    Ok(Outcome::Answer(answer.into_value()))
 }
 
 /// What a matcher says of a path or its nearest parent, asked twice where memory is refused; nothing where the path can't be asked about.

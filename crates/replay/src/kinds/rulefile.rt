@@ -1,6 +1,6 @@
 //! The rules of a file, and what is told of it.
 
-use crate::again::{build, builder};
+use crate::again::{build, builder, but_for_memory};
 use crate::answer::Answer;
 use crate::error::{fault_of, told_or_null};
 use crate::fields::{field, flag, item, text, text_at};
@@ -29,11 +29,21 @@ pub fn answer(alloc: Global, input: &Value) -> Result<Outcome, Trouble> {
         return Ok(Outcome::Skipped(Reason::GitTrailingSpaces));
     }
     let path = text(input, "path")?;
+    let ci = flag(input, "ci")?;
     let tree = tree_of(alloc, path, input)?;
-    let mut builder = builder(alloc, ROOT)?;
-    set_case(&mut builder, flag(input, "ci")?)?;
-    let error = added(&mut builder, &tree, path)?;
+    asked(alloc, &tree, path, ci)
+}
+
+fn asked(alloc: Global, tree: &MemoryTree, path: &str, ci: bool) -> Result<Outcome, Trouble> {
+    let mut builder = builder_of_case(alloc, ci)?;
+    let error = added(&mut builder, tree, path)?;
     told(alloc, &builder, &error)
+}
+
+fn builder_of_case(alloc: Global, ci: bool) -> Result<GitignoreBuilder, Trouble> {
+    let mut builder = builder(alloc, ROOT)?;
+    set_case(&mut builder, ci)?;
+    Ok(builder)
 }
 
 fn told(
@@ -43,11 +53,11 @@ fn told(
 ) -> Result<Outcome, Trouble> {
     let matcher = build(builder)?;
     let mut answer = Answer::new(alloc);
-    answer.put("rules", rules_value(alloc, &matcher)?)?;
-    answer.put("error", told_or_null(alloc, error.as_ref())?)?;
-    answer.put_flag("is_io", is_io(error))?;
-    answer.put_flag("is_partial", is_partial(error))?;
-    Ok(Outcome::Answer(answer.into_value()))
+    answer.put("rules", rules_value(alloc, &matcher));
+    answer.put("error", told_or_null(alloc, error.as_ref()));
+    answer.put_flag("is_io", is_io(error));
+    answer.put_flag("is_partial", is_partial(error));
+    answer.outcome()
 }
 
 fn is_io(error: &Option<Error>) -> bool {
@@ -77,25 +87,37 @@ fn added(
     tree: &MemoryTree,
     path: &str,
 ) -> Result<Option<Error>, Trouble> {
-    if let Ok(error) = builder.add(tree, path) {
-        return Ok(error);
-    }
     match builder.add(tree, path) {
         Ok(error) => Ok(error),
-        Err(_) => Err(Trouble::Memory),
+        Err(_) => but_for_memory(builder.add(tree, path)),
     }
 }
 
 /// The tree with the directory and the file, if there is one.
 fn tree_of(alloc: Global, path: &str, input: &Value) -> Result<MemoryTree, Trouble> {
-    let mut tree = unrefused(empty_tree(alloc, "/"), BYTES)?;
-    unrefused(add_dir(&mut tree, ROOT), BYTES)?;
+    let mut tree = directory(alloc)?;
     if !field(input, BYTES)?.is_null() {
-        let bytes = bytes_of(alloc, text(input, BYTES)?, BYTES)?;
-        unrefused(add_file(&mut tree, path, bytes.as_slice()), BYTES)?;
-        cut(&mut tree, path, field(input, CUT)?)?;
+        put_file(alloc, &mut tree, path, input)?;
     }
     Ok(tree)
+}
+
+/// The tree with the directory alone.
+fn directory(alloc: Global) -> Result<MemoryTree, Trouble> {
+    let mut tree = unrefused(empty_tree(alloc, "/"), BYTES)?;
+    unrefused(add_dir(&mut tree, ROOT), BYTES)?;
+    Ok(tree)
+}
+
+fn put_file(
+    alloc: Global,
+    tree: &mut MemoryTree,
+    path: &str,
+    input: &Value,
+) -> Result<(), Trouble> {
+    let bytes = bytes_of(alloc, text(input, BYTES)?, BYTES)?;
+    unrefused(add_file(tree, path, bytes.as_slice()), BYTES)?;
+    cut(tree, path, field(input, CUT)?)
 }
 
 /// Cuts the file, as `[3, "Other"]` says.

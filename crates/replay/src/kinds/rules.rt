@@ -1,7 +1,7 @@
 //! What the lines of gitignore files say of a path, and all that can be read of their matcher.
 
 use crate::again::{build, matched};
-use crate::answer::Answer;
+use crate::answer::{Answer, Items};
 use crate::fields::{flag, text};
 use crate::outcome::{Outcome, Reason, Trouble};
 use crate::rules::{after_operations, match_value, reason_against, rules_value, uses_git_spaces};
@@ -14,27 +14,30 @@ pub fn answer(alloc: Global, input: &Value) -> Result<Outcome, Trouble> {
     if uses_git_spaces(input)? {
         return Ok(Outcome::Skipped(Reason::GitTrailingSpaces));
     }
+    let path = text(input, "path")?;
+    let is_dir = flag(input, "is_dir")?;
     let built = after_operations(alloc, input)?;
     let matcher = build(&built.builder)?;
-    match reason_against(&matcher, text(input, "path")?) {
+    match reason_against(&matcher, path) {
         Some(reason) => Ok(Outcome::Skipped(reason)),
-        None => asked(alloc, input, &matcher, built.refused),
+        None => asked(alloc, path, is_dir, &matcher, built.refused),
     }
 }
 
 fn asked(
     alloc: Global,
-    input: &Value,
+    path: &str,
+    is_dir: bool,
     matcher: &Gitignore,
-    refused: Vec<Value>,
+    refused: Items,
 ) -> Result<Outcome, Trouble> {
-    let said = matched(matcher, text(input, "path")?, flag(input, "is_dir")?)?;
+    let said = matched(matcher, path, is_dir)?;
     let mut answer = Answer::new(alloc);
-    answer.put("answer", match_value(alloc, matcher, said)?)?;
-    answer.put("rules", rules_value(alloc, matcher)?)?;
-    answer.put("refused", Value::Array(refused))?;
-    answer.put_text("path", matcher.path())?;
-    answer.put_number("num_ignores", matcher.num_ignores())?;
-    answer.put_number("num_whitelists", matcher.num_whitelists())?;
-    Ok(Outcome::Answer(answer.into_value()))
+    answer.put("answer", match_value(alloc, matcher, said));
+    answer.put("rules", rules_value(alloc, matcher));
+    answer.put("refused", refused.value());
+    answer.put_text("path", matcher.path());
+    answer.put_number("num_ignores", matcher.num_ignores());
+    answer.put_number("num_whitelists", matcher.num_whitelists());
+    answer.outcome()
 }

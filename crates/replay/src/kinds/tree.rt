@@ -1,6 +1,7 @@
 //! What a tree in memory answers, and which changes of it are refused.
 
-use crate::answer::{Answer, text_value};
+use crate::again::but_for_memory;
+use crate::answer::{Answer, Items, text_value};
 use crate::error::fault_name;
 use crate::fields::{flag_at, list, text, text_at};
 use crate::hex_digits::hex_value;
@@ -18,32 +19,50 @@ const ASKS: &str = "asks";
 
 /// Answers `results`, the refusals of `new` and of the calls, and `answers`.
 pub fn answer(alloc: Global, input: &Value) -> Result<Outcome, Trouble> {
-    let mut results = Vec::new(alloc);
-    let mut answers = Vec::new(alloc);
     match empty_tree(alloc, text(input, "cwd")?) {
-        Err(TreeError::Memory) => return Err(Trouble::Memory),
-        Err(error) => results.push(refusal_value(Some(error)))?,
-        Ok(mut tree) => {
-            results.push(Value::Null)?;
-            make_calls(alloc, &mut tree, list(input, CALLS)?, &mut results)?;
-            ask_all(alloc, &tree, list(input, ASKS)?, &mut answers)?;
-        }
+        Err(TreeError::Memory) => Err(Trouble::Memory),
+        Err(error) => refused_tree(alloc, error),
+        Ok(tree) => told_tree(alloc, tree, list(input, CALLS)?, list(input, ASKS)?),
     }
+}
+
+/// The answer where the tree itself is refused.
+fn refused_tree(alloc: Global, error: TreeError) -> Result<Outcome, Trouble> {
+    let mut results = Items::new(alloc);
+    results.put_value(refusal_value(Some(error)));
+    told(alloc, results, Items::new(alloc))
+}
+
+/// The answer where a tree is there, which the calls change before it is asked.
+fn told_tree(
+    alloc: Global,
+    mut tree: MemoryTree,
+    calls: &[Value],
+    asks: &[Value],
+) -> Result<Outcome, Trouble> {
+    let mut results = Items::new(alloc);
+    results.put_value(Value::Null);
+    make_calls(alloc, &mut tree, calls, &mut results)?;
+    let answers = ask_all(alloc, &tree, asks)?;
+    told(alloc, results, answers)
+}
+
+fn told(alloc: Global, results: Items, answers: Items) -> Result<Outcome, Trouble> {
     let mut answer = Answer::new(alloc);
-    answer.put("results", Value::Array(results))?;
-    answer.put("answers", Value::Array(answers))?;
-    Ok(Outcome::Answer(answer.into_value()))
+    answer.put("results", results.value());
+    answer.put("answers", answers.value());
+    answer.outcome()
 }
 
 fn make_calls(
     alloc: Global,
     tree: &mut MemoryTree,
     calls: &[Value],
-    results: &mut Vec<Value>,
+    results: &mut Items,
 ) -> Result<(), Trouble> {
     for call in calls {
         let refusal = make_call(alloc, tree, call)?;
-        results.push(refusal_value(refusal))?;
+        results.put_value(refusal_value(refusal));
     }
     Ok(())
 }
@@ -56,16 +75,12 @@ fn refusal_value(refusal: Option<TreeError>) -> Value {
     }
 }
 
-fn ask_all(
-    alloc: Global,
-    tree: &MemoryTree,
-    asks: &[Value],
-    answers: &mut Vec<Value>,
-) -> Result<(), Trouble> {
+fn ask_all(alloc: Global, tree: &MemoryTree, asks: &[Value]) -> Result<Items, Trouble> {
+    let mut answers = Items::new(alloc);
     for ask in asks {
-        answers.push(asked(alloc, tree, ask)?)?;
+        answers.put_value(asked(alloc, tree, ask)?);
     }
-    Ok(())
+    Ok(answers)
 }
 
 /// What the tree answers when it is asked, as by `["stat", "/l", true]`.
@@ -88,28 +103,28 @@ fn asked_stat(
     follow: bool,
 ) -> Result<Value, Trouble> {
     match stat(alloc, tree, path, follow) {
-        Ok(metadata) => Ok(metadata_value(alloc, metadata)?),
+        Ok(metadata) => but_for_memory(metadata_value(alloc, metadata)),
         Err(refusal) => refused(alloc, refusal),
     }
 }
 
 fn asked_list(alloc: Global, tree: &MemoryTree, path: &str) -> Result<Value, Trouble> {
     match listing(alloc, tree, path) {
-        Ok(listing) => Ok(listing_value(alloc, &listing)?),
+        Ok(listing) => but_for_memory(listing_value(alloc, &listing)),
         Err(refusal) => refused(alloc, refusal),
     }
 }
 
 fn asked_contents(alloc: Global, tree: &MemoryTree, path: &str) -> Result<Value, Trouble> {
     match contents(alloc, tree, path) {
-        Ok(contents) => Ok(contents_value(alloc, &contents)?),
+        Ok(contents) => but_for_memory(contents_value(alloc, &contents)),
         Err(refusal) => refused(alloc, refusal),
     }
 }
 
 fn asked_canonical(alloc: Global, tree: &MemoryTree, path: &str) -> Result<Value, Trouble> {
     match canonical(alloc, tree, path) {
-        Ok(name) => Ok(alone(alloc, "value", text_value(alloc, name.as_str())?)?),
+        Ok(name) => but_for_memory(alone(alloc, "value", text_value(alloc, name.as_str()))),
         Err(refusal) => refused(alloc, refusal),
     }
 }
@@ -121,7 +136,7 @@ fn asked_identity(
     follow: bool,
 ) -> Result<Value, Trouble> {
     match identity(alloc, tree, path, follow) {
-        Ok(identity) => Ok(alone(alloc, "identity", identity_value(alloc, identity)?)?),
+        Ok(identity) => but_for_memory(alone(alloc, "identity", identity_value(alloc, identity))),
         Err(refusal) => refused(alloc, refusal),
     }
 }
@@ -129,7 +144,7 @@ fn asked_identity(
 /// The fault that a refusal tells.
 fn refused(alloc: Global, refusal: Refusal) -> Result<Value, Trouble> {
     match refusal {
-        Refusal::Fault(fault) => Ok(alone(alloc, "fault", fault_value(alloc, fault)?)?),
+        Refusal::Fault(fault) => but_for_memory(alone(alloc, "fault", fault_value(alloc, fault))),
         Refusal::Memory => Err(Trouble::Memory),
     }
 }
@@ -175,32 +190,32 @@ fn identity(
 }
 
 /// An object of one field.
-fn alone(alloc: Global, name: &str, value: Value) -> Result<Value, AllocError> {
+fn alone(alloc: Global, name: &str, value: Result<Value, AllocError>) -> Result<Value, AllocError> {
     let mut answer = Answer::new(alloc);
-    answer.put(name, value)?;
-    Ok(answer.into_value())
+    answer.put(name, value);
+    answer.value()
 }
 
 fn metadata_value(alloc: Global, metadata: Metadata) -> Result<Value, AllocError> {
     let mut answer = Answer::new(alloc);
-    answer.put_text("kind", kind_name(metadata.file_type()))?;
-    answer.put_number("len", metadata.len())?;
-    Ok(answer.into_value())
+    answer.put_text("kind", kind_name(metadata.file_type()));
+    answer.put_number("len", metadata.len());
+    answer.value()
 }
 
 fn contents_value(alloc: Global, contents: &Contents) -> Result<Value, AllocError> {
     let mut answer = Answer::new(alloc);
-    answer.put("hex", hex_value(alloc, contents.bytes.as_slice())?)?;
-    answer.put("read_fault", fault_or_null(alloc, contents.fault)?)?;
-    Ok(answer.into_value())
+    answer.put("hex", hex_value(alloc, contents.bytes.as_slice()));
+    answer.put("read_fault", fault_or_null(alloc, contents.fault));
+    answer.value()
 }
 
 fn listing_value(alloc: Global, listing: &Listing) -> Result<Value, AllocError> {
-    let mut entries = Vec::new(alloc);
+    let mut entries = Items::new(alloc);
     for listed in listing.as_slice() {
-        entries.push(listed_value(alloc, listed)?)?;
+        entries.put(listed_value(alloc, listed));
     }
-    alone(alloc, "value", Value::Array(entries))
+    alone(alloc, "value", entries.value())
 }
 
 /// What is listed: `["entry", "a", "Dir"]`, or `["fault", "BadName"]`.
@@ -212,24 +227,27 @@ fn listed_value(alloc: Global, listed: &Listed) -> Result<Value, AllocError> {
 }
 
 fn entry_value(alloc: Global, name: &str, file_type: FileType) -> Result<Value, AllocError> {
-    let tag = text_value(alloc, "entry")?;
-    let name = text_value(alloc, name)?;
-    let kind = text_value(alloc, kind_name(file_type))?;
-    Ok(Value::Array(vec![in alloc; tag, name, kind]?))
+    let mut parts = Items::new(alloc);
+    parts.put_text("entry");
+    parts.put_text(name);
+    parts.put_text(kind_name(file_type));
+    parts.value()
 }
 
 fn listed_fault(alloc: Global, fault: Fault) -> Result<Value, AllocError> {
-    let tag = text_value(alloc, "fault")?;
-    let fault = fault_value(alloc, fault)?;
-    Ok(Value::Array(vec![in alloc; tag, fault]?))
+    let mut parts = Items::new(alloc);
+    parts.put_text("fault");
+    parts.put_text(fault_name(fault));
+    parts.value()
 }
 
 fn identity_value(alloc: Global, identity: Option<Identity>) -> Result<Value, AllocError> {
     match identity {
         Some(identity) => {
-            let device = Value::from(identity.device);
-            let inode = Value::from(identity.inode);
-            Ok(Value::Array(vec![in alloc; device, inode]?))
+            let mut parts = Items::new(alloc);
+            parts.put_number(identity.device);
+            parts.put_number(identity.inode);
+            parts.value()
         }
         None => Ok(Value::Null),
     }

@@ -1,7 +1,7 @@
 //! What file types say of paths, and all that can be read of them.
 
-use crate::again::problem;
-use crate::answer::{Answer, text_value};
+use crate::again::{but_for_memory, problem};
+use crate::answer::{Answer, Items};
 use crate::error::told;
 use crate::fields::{flag_at, list, text_at};
 use crate::outcome::{Outcome, Trouble};
@@ -22,17 +22,24 @@ pub fn answer(alloc: Global, input: &Value) -> Result<Outcome, Trouble> {
     let mut builder = TypesBuilder::new(alloc);
     let refused = refusals(alloc, &mut builder, input)?;
     let definitions = definitions(&builder)?;
+    let built = build(&builder)?;
+    told_built(alloc, input, refused, &definitions, built)
+}
+
+fn told_built(
+    alloc: Global,
+    input: &Value,
+    refused: Items,
+    definitions: &[FileTypeDef],
+    built: Built,
+) -> Result<Outcome, Trouble> {
     let mut answer = Answer::new(alloc);
-    answer.put("refused", Value::Array(refused))?;
-    answer.put("definitions", definitions_value(alloc, &definitions)?)?;
-    match build(&builder)? {
-        Built::Types(types) => {
-            put_types(&mut answer, alloc, input, &types)?;
-            put_other_definitions(&mut answer, alloc, &types, &definitions)?;
-        }
-        Built::Refused(error) => put_refused(&mut answer, alloc, error)?,
+    answer.put("refused", refused.value());
+    answer.put("definitions", definitions_value(alloc, definitions));
+    match built {
+        Built::Types(types) => told_types(alloc, input, answer, definitions, &types),
+        Built::Refused(error) => told_refused(alloc, answer, error),
     }
-    Ok(Outcome::Answer(answer.into_value()))
 }
 
 /// What came of building.
@@ -42,16 +49,19 @@ enum Built {
     Refused(Error),
 }
 
-fn put_types(
-    answer: &mut Answer,
+fn told_types(
     alloc: Global,
     input: &Value,
+    mut answer: Answer,
+    definitions: &[FileTypeDef],
     types: &Types,
-) -> Result<(), Trouble> {
-    answer.put("build", Value::Null)?;
-    answer.put_number("len", types.len() as u64)?;
-    answer.put("answers", answers(alloc, input, types)?)?;
-    Ok(())
+) -> Result<Outcome, Trouble> {
+    let answers = answers(alloc, input, types)?;
+    answer.put_value("build", Value::Null);
+    answer.put_number("len", types.len() as u64);
+    answer.put("answers", answers.value());
+    put_other_definitions(&mut answer, alloc, types, definitions);
+    answer.outcome()
 }
 
 /// The definitions of the matcher are a field of their own, which isn't wanted, where they aren't those of the builder.
@@ -60,32 +70,26 @@ fn put_other_definitions(
     alloc: Global,
     types: &Types,
     definitions: &[FileTypeDef],
-) -> Result<(), AllocError> {
-    if types.definitions() == definitions {
-        return Ok(());
+) {
+    if types.definitions() != definitions {
+        let others = definitions_value(alloc, types.definitions());
+        answer.put("definitions of the matcher", others);
     }
-    answer.put(
-        "definitions of the matcher",
-        definitions_value(alloc, types.definitions())?,
-    )
 }
 
-fn put_refused(answer: &mut Answer, alloc: Global, error: Error) -> Result<(), AllocError> {
-    answer.put("build", told(alloc, &error)?)?;
-    answer.put("answers", Value::Null)
+fn told_refused(alloc: Global, mut answer: Answer, error: Error) -> Result<Outcome, Trouble> {
+    answer.put("build", told(alloc, &error));
+    answer.put_value("answers", Value::Null);
+    answer.outcome()
 }
 
 /// Does the operations of a vector; the answer is what was refused.
-fn refusals(
-    alloc: Global,
-    builder: &mut TypesBuilder,
-    input: &Value,
-) -> Result<Vec<Value>, Trouble> {
-    let mut refused = Vec::new(alloc);
+fn refusals(alloc: Global, builder: &mut TypesBuilder, input: &Value) -> Result<Items, Trouble> {
+    let mut refused = Items::new(alloc);
     let mut number = 0u64;
     for op in list(input, OPS)? {
         if let Some(error) = apply(builder, op)? {
-            refused.push(refusal(alloc, number, error)?)?;
+            refused.put(refusal(alloc, number, error));
         }
         number = number.saturating_add(1);
     }
@@ -102,13 +106,25 @@ fn apply(builder: &mut TypesBuilder, op: &Value) -> Result<Option<Error>, Troubl
 
 fn apply_once(builder: &mut TypesBuilder, op: &Value) -> Result<Option<Error>, Trouble> {
     match text_at(op, 0, OPS)? {
-        "add" => applied(builder.add(text_at(op, 1, OPS)?, text_at(op, 2, OPS)?)),
-        "add_def" => applied(builder.add_def(text_at(op, 1, OPS)?)),
         "add_defaults" => add_defaults(builder),
-        "select" => select(builder, text_at(op, 1, OPS)?),
-        "negate" => negate(builder, text_at(op, 1, OPS)?),
+        name => apply_to(builder, name, text_at(op, 1, OPS)?, op),
+    }
+}
+
+/// Does an operation whose first word is a type's name or its definition.
+fn apply_to(
+    builder: &mut TypesBuilder,
+    name: &str,
+    word: &str,
+    op: &Value,
+) -> Result<Option<Error>, Trouble> {
+    match name {
+        "add" => applied(builder.add(word, text_at(op, 2, OPS)?)),
+        "add_def" => applied(builder.add_def(word)),
+        "select" => select(builder, word),
+        "negate" => negate(builder, word),
         "clear" => {
-            builder.clear(text_at(op, 1, OPS)?);
+            builder.clear(word);
             Ok(None)
         }
         _ => Err(Trouble::Field(OPS)),
@@ -145,12 +161,9 @@ fn negate(builder: &mut TypesBuilder, name: &str) -> Result<Option<Error>, Troub
 
 /// The definitions of a builder, asked for twice where memory is refused.
 fn definitions(builder: &TypesBuilder) -> Result<Vec<FileTypeDef>, Trouble> {
-    if let Ok(definitions) = builder.definitions() {
-        return Ok(definitions);
-    }
     match builder.definitions() {
         Ok(definitions) => Ok(definitions),
-        Err(_) => Err(Trouble::Memory),
+        Err(_) => but_for_memory(builder.definitions()),
     }
 }
 
@@ -172,50 +185,48 @@ fn build_once(builder: &TypesBuilder) -> Result<Built, Trouble> {
 
 /// Types, each with its name and its globs.
 fn definitions_value(alloc: Global, definitions: &[FileTypeDef]) -> Result<Value, AllocError> {
-    let mut values = Vec::new(alloc);
+    let mut values = Items::new(alloc);
     for definition in definitions {
-        values.push(definition_value(alloc, definition)?)?;
+        values.put(definition_value(alloc, definition));
     }
-    Ok(Value::Array(values))
+    values.value()
 }
 
 fn definition_value(alloc: Global, definition: &FileTypeDef) -> Result<Value, AllocError> {
-    let name = text_value(alloc, definition.name())?;
-    let mut globs = Vec::new(alloc);
-    for glob in definition.globs() {
-        globs.push(text_value(alloc, glob.as_str())?)?;
+    let mut parts = Items::new(alloc);
+    parts.put_text(definition.name());
+    parts.put(globs_value(alloc, definition.globs()));
+    parts.value()
+}
+
+fn globs_value(alloc: Global, globs: &[String]) -> Result<Value, AllocError> {
+    let mut values = Items::new(alloc);
+    for glob in globs {
+        values.put_text(glob.as_str());
     }
-    Ok(Value::Array(vec![in alloc; name, Value::Array(globs)]?))
+    values.value()
 }
 
 /// What the types say of each path that is asked about.
-fn answers(alloc: Global, input: &Value, types: &Types) -> Result<Value, Trouble> {
-    let mut answers = Vec::new(alloc);
+fn answers(alloc: Global, input: &Value, types: &Types) -> Result<Items, Trouble> {
+    let mut answers = Items::new(alloc);
     for ask in list(input, ASKS)? {
-        let path = text_at(ask, 0, ASKS)?;
-        let is_dir = flag_at(ask, 1, ASKS)?;
-        let said = matched(types, path, is_dir)?;
-        answers.push(match_value(alloc, said)?)?;
+        answers.put_value(answered(alloc, ask, types)?);
     }
-    Ok(Value::Array(answers))
+    Ok(answers)
+}
+
+/// What the types say of a path.
+fn answered(alloc: Global, ask: &Value, types: &Types) -> Result<Value, Trouble> {
+    let said = matched(types, text_at(ask, 0, ASKS)?, flag_at(ask, 1, ASKS)?)?;
+    but_for_memory(match_value(alloc, said))
 }
 
 /// What types say of a path, asked twice where memory is refused.
 fn matched<'t>(types: &'t Types, path: &str, is_dir: bool) -> Result<Match<Glob<'t>>, Trouble> {
     match types.matched(path, is_dir) {
         Ok(said) => Ok(said),
-        Err(_error) => matched_again(types, path, is_dir),
-    }
-}
-
-fn matched_again<'t>(
-    types: &'t Types,
-    path: &str,
-    is_dir: bool,
-) -> Result<Match<Glob<'t>>, Trouble> {
-    match types.matched(path, is_dir) {
-        Ok(said) => Ok(said),
-        Err(_error) => Err(Trouble::Memory),
+        Err(_error) => but_for_memory(types.matched(path, is_dir)),
     }
 }
 
@@ -233,10 +244,11 @@ fn said_value(
     kind: &str,
     definition: Option<&FileTypeDef>,
 ) -> Result<Value, AllocError> {
-    let kind = text_value(alloc, kind)?;
-    let definition = match definition {
-        Some(definition) => definition_value(alloc, definition)?,
-        None => Value::Null,
-    };
-    Ok(Value::Array(vec![in alloc; kind, definition]?))
+    let mut parts = Items::new(alloc);
+    parts.put_text(kind);
+    match definition {
+        Some(definition) => parts.put(definition_value(alloc, definition)),
+        None => parts.put_value(Value::Null),
+    }
+    parts.value()
 }
