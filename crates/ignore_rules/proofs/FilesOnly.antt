@@ -9,7 +9,7 @@ use Rattle.ignore_rules.specs.Rules.{Building, Ruleset, begun, built}
 use Rattle.ignore_rules.specs.RuleFile.{AddsLines, done, stopped, added, refused, AddsContents, at_line_of, said_at, lines_met}
 use Rattle.ignore_rules.specs.Matchers.{BuildsFile, BuildsWith, BuildsGlobal, IsMatcherOf, IsGlobalIn, IsGlobalMatcher, folder_of, global_file, without_fault}
 use Rattle.ignore_rules.proofs.LinesOnly.{AddsLine-one, Refuses-one, AddsLine-never}
-use Rattle.ignore_rules.proofs.ExcludesPlaces.{IsExcludesPath-one}
+use Rattle.ignore_excludes.proofs.ExcludesPlaces.{IsExcludesPath-one}
 
 AddsLines-one : (path : List ℕ) (number : ℕ) (met : List (Result (List ℕ) Fault)) (old a b : Building) (ps qs : List Problem) → AddsLines path number met old a ps → AddsLines path number met old b qs → (a ≡ b) × (ps ≡ qs)
 AddsLines-one path number met old a b ps qs (done n o) (done m u) = (refl, refl)

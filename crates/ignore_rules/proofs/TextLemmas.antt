@@ -1,13 +1,9 @@
 -- Beginnings, ends and slashes of a text, as the calls that look for them tell it.
 use Rattle.std.proofs.Common.{◌≡◌, ◌-◌, ℕ, true, false, List, length, take, drop, Option, Some, None, MatchOption, Bor, sym, ◌∙◌, ap, subst, arith, cond}
-use Rattle.std.specs.Option.{unwrap_or, is_some}
+use Rattle.std.specs.Option.{unwrap_or}
 use Rattle.std.specs.Str.{IsCharBoundary}
 use Rattle.std.specs.Str.Pattern.{FindsTextPrefix, FindsTextSuffix, StripsPrefix, StripsSuffix}
 use Rattle.std.proofs.lemmas.Str.Pattern.{starts_text, ends_text}
-use Rattle.std.proofs.lemmas.List.Folds.{list_any_at, list_any_none}
-use Rattle.std.proofs.lemmas.List.Elements.{All-from_get_or}
-use Rattle.std.proofs.lemmas.Bool.{false_from_ne_true}
-use Rattle.memchr.specs.Find.{IsFirstByte, is_byte}
 use Rattle.ignore_rules.specs.Line.{begins, ends, without_start, without_end}
 
 -- `strip_prefix`, or else the text itself

@@ -1,6 +1,6 @@
 -- What a line of a gitignore file says, before its pattern is read. A text is the list of its bytes.
 use Rattle.std.specs.Prelude.{◌==◌, ◌-◌, ℕ, Bool, not, ◌&&◌, ◌||◌, if◌then◌else◌, List, ◌++◌, length, take, drop, codes, nat_eq, Option, None, Some}
-use Rattle.std.specs.List.{starts_with, ends_with, list_any}
+use Rattle.std.specs.List.{starts_with, ends_with}
 use Rattle.std.specs.Str.{trim_end, bytes_eq}
 use Rattle.ignore_glob.specs.Paths.{has_slash}
 

@@ -10,7 +10,7 @@ use Rattle.ignore_files.specs.declared.types.Metadata.{Metadata}
 use Rattle.ignore_files.specs.Kinds.{is_file}
 use Rattle.ignore_files.specs.Tree.{Tree}
 use Rattle.ignore_rules.specs.Rules.{Building, Ruleset, begun, built, empty}
-use Rattle.ignore_rules.specs.ExcludesSearch.{IsExcludesPath}
+use Rattle.ignore_excludes.specs.ExcludesSearch.{IsExcludesPath}
 use Rattle.ignore_rules.specs.RuleFile.{AddsFile}
 
 -- the pieces but the last

@@ -1,8 +1,6 @@
 //! The rules of gitignore files, as gitignore(5) describes them: lines are read to rules, and the last rule that takes a path decides.
 
 mod builder;
-mod config;
-mod excludes;
 mod file;
 mod glob;
 mod global;
@@ -13,6 +11,6 @@ mod open;
 mod parents;
 
 pub use builder::GitignoreBuilder;
-pub use config::gitconfig_excludes_path;
 pub use glob::Glob;
+pub use ignore_excludes::gitconfig_excludes_path;
 pub use matcher::Gitignore;

@@ -1,7 +1,7 @@
 //! Rules over paths: the lines and files of gitignore(5), the excludes file of git's configuration, overrides and file types.
 #![tactic(auto)]
 
-pub mod default_types;
 pub mod gitignore;
 pub mod overrides;
-pub mod types;
+
+pub use ignore_types::{default_types, types};

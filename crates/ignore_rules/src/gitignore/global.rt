@@ -3,12 +3,12 @@ ghost use Rattle.std.specs.Prelude.{◌≡◌, ℕ, List, Option, true, IfOk, If
 ghost use Rattle.ignore_files.specs.Gives.{IsHonest};
 ghost use Rattle.ignore_files.specs.Tree.{Tree};
 ghost use Rattle.ignore_glob.specs.Problem.{told, memory};
-ghost use Rattle.ignore_rules.specs.ExcludesSearch.{IsExcludesPath};
+ghost use Rattle.ignore_excludes.specs.ExcludesSearch.{IsExcludesPath};
 ghost use Rattle.ignore_rules.specs.Matchers.{BuildsGlobal, IsGlobalMatcher, global_file, says_file};
 
 use crate::gitignore::builder::GitignoreBuilder;
-use crate::gitignore::config::gitconfig_excludes_path;
 use crate::gitignore::matcher::Gitignore;
+use ignore_excludes::gitconfig_excludes_path;
 use ignore_files::{Env, Fault, Files, Refusal};
 use ignore_glob::Error;
 use std::alloc::Global;

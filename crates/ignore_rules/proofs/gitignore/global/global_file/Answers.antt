@@ -2,7 +2,7 @@ use Rattle.std.proofs.Common.{◌≡◌, ℕ, Bool, true, List, Option, Some, No
 use Rattle.std.specs.Option.{option_map}
 use Rattle.std.specs.String.{string_bytes}
 use Rattle.ignore_files.specs.Tree.{Tree}
-use Rattle.ignore_rules.specs.ExcludesSearch.{IsExcludesPath}
+use Rattle.ignore_excludes.specs.ExcludesSearch.{IsExcludesPath}
 use Rattle.ignore_rules.specs.Matchers.{global_file, says_file}
 use Rattle.ignore_rules.proofs.gitignore.global.global_file.Goals as goal
 

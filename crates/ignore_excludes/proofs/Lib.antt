@@ -1,0 +1,7 @@
+pub mod ExcludesBlanks
+pub mod ExcludesValues
+pub mod ExcludesKeys
+pub mod ExcludesLines
+pub mod ExcludesOnly
+pub mod ExcludesHome
+pub mod ExcludesPlaces

@@ -1,0 +1,2 @@
+pub mod Excludes
+pub mod ExcludesSearch

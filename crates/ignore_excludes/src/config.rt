@@ -1,0 +1,176 @@
+//! The search of git's configuration for the excludes file.
+ghost use Rattle.std.specs.Prelude.{◌≡◌, ℕ, List, Option, codes, Some, IfOk, IfErr, map, option_map, string_bytes};
+ghost use Rattle.std.specs.Option.{option_copied};
+ghost use Rattle.ignore_glob.specs.Problem.{told, memory};
+ghost use Rattle.ignore_files.specs.Tree.{Tree};
+ghost use Rattle.ignore_files.specs.Gives.{IsHonest};
+ghost use Rattle.ignore_excludes.specs.ExcludesSearch.{filled, below, or_else, xdg_folder, expanded, GivesPath, IsFirstPath, IsExcludesPath};
+
+use crate::excludes::excludes_value;
+use ignore_files::{Env, Files, Name, Refusal};
+use ignore_glob::Error;
+use ignore_glob::text::join;
+use std::alloc::Global;
+
+/// The text of a variable that is set.
+fn known(variable: &Option<Name>) -> Option<&str>
+    ensures { option_copied result ≡ variable.now }
+{
+    match variable {
+        None => None,
+        Some(name) => Some(name.as_str()),
+    }
+}
+
+/// The text of a variable that is set and not empty.
+fn filled(variable: &Option<Name>) -> Option<&str>
+    ensures { option_copied result ≡ filled variable.now }
+{
+    match known(variable) {
+        None => None,
+        Some(text) => { if text.is_empty() { None } else { Some(text) } }
+    }
+}
+
+fn text_of(path: &Option<String>) -> Option<&str>
+    ensures { option_copied result ≡ option_map string_bytes path.now }
+{
+    match path {
+        None => None,
+        Some(path) => Some(path.as_str()),
+    }
+}
+
+/// The path below the folder, where the folder is known.
+fn below(alloc: Global, folder: Option<&str>, path: &str) -> Result<Option<String>, Error>
+    ensures joins { IfOk result (λ found. option_map string_bytes found ≡ below (option_copied folder.entry) path.now) }
+    ensures refuses { IfErr result (λ error. told error ≡ memory) }
+{
+    match folder {
+        None => Ok(None),
+        Some(folder) => Ok(Some(join(alloc, folder, path)?)),
+    }
+}
+
+/// The folder of the user's configuration.
+fn xdg_folder(alloc: Global, env: &Env) -> Result<Option<String>, Error>
+    ensures folder { IfOk result (λ found. option_map string_bytes found ≡ xdg_folder env.now) }
+    ensures refuses { IfErr result (λ error. told error ≡ memory) }
+{
+    match filled(&env.xdg_config_home) {
+        Some(folder) => Ok(Some(String::from_str(alloc, folder)?)),
+        None => below(alloc, known(&env.home), ".config"),
+    }
+}
+
+/// The file of the system's configuration.
+fn system_config(env: &Env) -> &str
+    ensures { Some result.now ≡ or_else (filled env.now.git_config_system) (Some (codes "/etc/gitconfig")) }
+{
+    match filled(&env.git_config_system) {
+        None => "/etc/gitconfig",
+        Some(path) => path,
+    }
+}
+
+/// The value with `home` in place of each `~`.
+fn with_home(alloc: Global, home: &str, value: &str) -> Result<String, Error>
+    ensures text { IfOk result (λ text. string_bytes text ≡ expanded (Some home.now) value.now) }
+    ensures refuses { IfErr result (λ error. told error ≡ memory) }
+{
+    let mut text = String::new(alloc);
+    let mut rest = value;
+    while let Some((before, after)) = rest.split_once('~') {
+        text.push_str(before)?;
+        text.push_str(home)?;
+        rest = after;
+    }
+    text.push_str(rest)?;
+    Ok(text)
+}
+
+/// The value with the home directory in place of each `~`, where that is known.
+fn expanded(alloc: Global, home: Option<&str>, value: &str) -> Result<String, Error>
+    ensures text { IfOk result (λ text. string_bytes text ≡ expanded (option_copied home.entry) value.now) }
+    ensures refuses { IfErr result (λ error. told error ≡ memory) }
+{
+    match home {
+        None => Ok(String::from_str(alloc, value)?),
+        Some(home) => with_home(alloc, home, value),
+    }
+}
+
+/// The path that the configuration in the file `path` names, if it can be read whole and gives a value.
+fn path_from<F: Files>(
+    alloc: Global,
+    files: &F,
+    home: Option<&str>,
+    path: &str,
+) -> Result<Option<String>, Error>
+    ensures gives { (tree : Tree) → IsHonest F.Files files.now tree → IfOk result (λ found. GivesPath tree (option_copied home.entry) (Some path.now) (option_map string_bytes found)) }
+    ensures refuses { IfErr result (λ error. told error ≡ memory) }
+{
+    match files.contents(alloc, path) {
+        Err(Refusal::Memory) => Err(Error::Memory),
+        Err(Refusal::Fault(_)) => Ok(None),
+        Ok(contents) => {
+            if contents.fault.is_some() {
+                return Ok(None);
+            }
+            match excludes_value(contents.bytes.as_slice()) {
+                None => Ok(None),
+                Some(value) => Ok(Some(expanded(alloc, home, value)?)),
+            }
+        }
+    }
+}
+
+/// The path that the first of these configurations that gives a value names.
+fn first_path<F: Files>(
+    alloc: Global,
+    files: &F,
+    home: Option<&str>,
+    places: &[Option<&str>],
+) -> Result<Option<String>, Error>
+    ensures first { (tree : Tree) → IsHonest F.Files files.now tree → IfOk result (λ found. IsFirstPath tree (option_copied home.entry) (map option_copied places.now) (option_map string_bytes found)) }
+    ensures refuses { IfErr result (λ error. told error ≡ memory) }
+{
+    for place in places {
+        if let Some(path) = *place {
+            if let Some(found) = path_from(alloc, files, home, path)? {
+                return Ok(Some(found));
+            }
+        }
+    }
+    Ok(None)
+}
+
+/// The path of the excludes file that git's configuration names, or none.
+///
+/// Asked in turn are the file of `git_config_global`, `.gitconfig` in `home`, `git/config` in the folder of the user's configuration (`xdg_config_home`, else `.config` in `home`), and the file of `git_config_system`, else `/etc/gitconfig`; an empty variable counts as unset, but for `home`. A file that can't be read whole gives nothing. The first value of `core.excludesFile` decides, with `home` in place of each `~`; without one it is `git/ignore` in the folder of the user's configuration. Nothing says that the file at the path is there.
+///
+/// The only error is `Error::Memory`. The search and the form of the value are this library's own.
+pub fn gitconfig_excludes_path<F: Files>(
+    alloc: Global,
+    files: &F,
+    env: &Env,
+) -> Result<Option<String>, Error>
+    ensures found { (tree : Tree) → IsHonest F.Files files.now tree → IfOk result (λ found. IsExcludesPath tree env.now (option_map string_bytes found)) }
+    ensures only { (tree : Tree) → IsHonest F.Files files.now tree → IfOk result (λ found. (other : Option (List ℕ)) → IsExcludesPath tree env.now other → option_map string_bytes found ≡ other) }
+    ensures refuses { IfErr result (λ error. told error ≡ memory) }
+{
+    let home = known(&env.home);
+    let user = below(alloc, home, ".gitconfig")?;
+    let folder = xdg_folder(alloc, env)?;
+    let config = below(alloc, text_of(&folder), "git/config")?;
+    let places = [
+        filled(&env.git_config_global),
+        text_of(&user),
+        text_of(&config),
+        Some(system_config(env)),
+    ];
+    match first_path(alloc, files, home, &places)? {
+        None => below(alloc, text_of(&folder), "git/ignore"),
+        Some(path) => Ok(Some(path)),
+    }
+}

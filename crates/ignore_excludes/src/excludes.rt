@@ -1,0 +1,167 @@
+//! The value of `core.excludesFile` in the bytes of one configuration of git.
+ghost use Rattle.std.specs.Prelude.{◌≡◌, ◌↔◌, ◌≤◌, ◌++◌, ℕ, List, Option, length, drop, IsTrue};
+ghost use Rattle.std.specs.Option.{option_copied};
+ghost use Rattle.ignore_excludes.specs.Excludes.{is_space, trimmed, IsSolid, EndsLine, HasValue, Assigns, SetsKey, IsShortest, IsPreferred, IsChosen, IsValue, StartsBlank, Closes, IsUnquoted};
+
+use memchr::memchr;
+use std::str;
+
+const KEY: &[u8; 12] = b"excludesfile";
+
+fn is_space(byte: u8) -> bool
+    ensures { result ≡ is_space byte }
+{
+    byte == b' ' || (b'\t' <= byte && byte <= b'\r')
+}
+
+/// How many bytes of white space the text begins with.
+fn space_len(text: &[u8]) -> usize
+    ensures within { result ≤ length text.now }
+    ensures rest { drop result text.now ≡ trimmed text.now }
+{
+    for (i, byte) in text.iter().enumerate() {
+        if !is_space(*byte) {
+            return i;
+        }
+    }
+    text.len()
+}
+
+/// The text cut behind its first word, which is empty where white space stands first.
+fn split_word(text: &[u8]) -> (&[u8], &[u8])
+    ensures parts { text.now ≡ result.0.now ++ result.1.now }
+    ensures word { IsSolid result.0.now }
+    ensures after { StartsBlank result.1.now }
+{
+    for (i, byte) in text.iter().enumerate() {
+        if is_space(*byte) {
+            return text.split_at(i);
+        }
+    }
+    text.split_at(text.len())
+}
+
+fn trim(text: &[u8]) -> &[u8]
+    ensures { result.now ≡ trimmed text.now }
+{
+    &text[space_len(text)..]
+}
+
+/// Whether only white space stands before the next newline or the end.
+fn ends_line(text: &[u8]) -> bool
+    ensures { IsTrue result ↔ EndsLine text.now }
+{
+    for byte in text {
+        if *byte == b'\n' {
+            return true;
+        }
+        if !is_space(*byte) {
+            return false;
+        }
+    }
+    true
+}
+
+/// Whether the line ends with no more than white space and one `"` in it.
+fn closes(text: &[u8]) -> bool
+    ensures { IsTrue result ↔ Closes text.now }
+{
+    if ends_line(text) {
+        return true;
+    }
+    match trim(text).split_first() {
+        None => false,
+        Some((quote, rest)) => *quote == b'"' && ends_line(rest),
+    }
+}
+
+/// The word without a `"` at its end, where something stands before that.
+fn unquoted(word: &[u8]) -> &[u8]
+    ensures { IsUnquoted word.now result.now }
+{
+    match word.split_last() {
+        None => word,
+        Some((quote, front)) => {
+            if *quote == b'"' && !front.is_empty() {
+                front
+            } else {
+                word
+            }
+        }
+    }
+}
+
+/// The shortest value that the text can begin with.
+fn first_value(text: &[u8]) -> Option<&[u8]>
+    ensures { IsShortest (λ value. HasValue value text.now) (option_copied result) }
+{
+    let (word, after) = split_word(text);
+    if word.is_empty() {
+        return None;
+    }
+    if ends_line(after) {
+        return Some(unquoted(word));
+    }
+    if closes(after) {
+        return Some(word);
+    }
+    None
+}
+
+/// The value behind an equals sign.
+fn assigned_value(text: &[u8]) -> Option<&[u8]>
+    ensures { IsPreferred (λ quoted value. Assigns quoted value text.now) (option_copied result) }
+{
+    let text = trim(text);
+    let (first, rest) = text.split_first()?;
+    if *first == b'"' {
+        if let Some(value) = first_value(trim(rest)) {
+            return Some(value);
+        }
+    }
+    first_value(text)
+}
+
+/// The value of the key that the text begins with.
+fn value_of_key(text: &[u8]) -> Option<&[u8]>
+    ensures { IsPreferred (λ quoted value. SetsKey quoted value text.now) (option_copied result) }
+{
+    let (key, rest) = text.split_at_checked(KEY.len())?;
+    if !key.eq_ignore_ascii_case(KEY) {
+        return None;
+    }
+    let (equals, rest) = trim(rest).split_first()?;
+    if *equals != b'=' {
+        return None;
+    }
+    assigned_value(rest)
+}
+
+/// The value of the first key that has a reading.
+fn chosen_value(bytes: &[u8]) -> Option<&[u8]>
+    ensures { IsChosen bytes.now (option_copied result) }
+{
+    let mut at = 0;
+    loop {
+        let (_, rest) = bytes.split_at(at);
+        let start = space_len(rest);
+        let (_, line) = rest.split_at(start);
+        if let Some(value) = value_of_key(line) {
+            return Some(value);
+        }
+        match memchr(b'\n', line) {
+            None => return None,
+            Some(end) => at += start + end + 1,
+        }
+    }
+}
+
+/// The value of `core.excludesFile` in the bytes of a configuration, quotes and white space around it taken off.
+///
+/// None where no line reads as the key with a value, and where the value isn't UTF-8.
+pub(crate) fn excludes_value(bytes: &[u8]) -> Option<&str>
+    ensures value { IsValue bytes.now (option_copied result) }
+    ensures only { (other : Option (List ℕ)) → IsValue bytes.now other → option_copied result ≡ other }
+{
+    str::from_utf8(chosen_value(bytes)?).ok()
+}

@@ -1,0 +1,7 @@
+//! The excludes file that git's configuration names. `ignore_rules` hands this crate on, in its module `gitignore`.
+#![tactic(auto)]
+
+mod config;
+mod excludes;
+
+pub use config::gitconfig_excludes_path;

@@ -1,6 +1,0 @@
-use Rattle.std.proofs.Common.{◌≡◌, drop}
-use Rattle.ignore_rules.specs.Excludes.{trimmed}
-use Rattle.ignore_rules.proofs.gitignore.excludes.space_len.Given as goal
-
-abbrev pub invariant-loop-i : goal.invariant-loop-i
-invariant-loop-i l = trimmed (drop l.i l.text) ≡ trimmed l.text

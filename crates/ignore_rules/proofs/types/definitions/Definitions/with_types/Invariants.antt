@@ -1,7 +1,0 @@
--- Adding what is left of the sources gives what adding all of them does.
-use Rattle.std.proofs.Common.{◌≡◌, map, drop}
-use Rattle.ignore_rules.specs.Types.{with_types}
-use Rattle.ignore_rules.proofs.types.definitions.Definitions.with_types.Given as goal
-
-abbrev pub invariant-loop-source : goal.invariant-loop-source
-invariant-loop-source l = with_types l.name (map (λ s. s.now) (drop l.source-index l.sources)) l.definitions ≡ with_types l.name (map (λ s. s.now) l.sources) l.self

@@ -1,0 +1,5 @@
+mod TextOrder
+mod TypeLemmas
+mod ListLemmas
+mod ChoiceLemmas
+mod TypesOnly

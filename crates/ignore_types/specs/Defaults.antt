@@ -1,0 +1,12 @@
+-- Adding the rows of a table of default types.
+use Rattle.std.specs.Prelude.{ℕ, List, [], ◌∷◌}
+use Rattle.ignore_types.specs.Types.{Definition, with_names}
+
+-- a row of the table: some names, and the globs of each
+abbrev pub Row : Type 0
+Row = List (List ℕ) × List (List ℕ)
+
+-- the definitions with each row in turn: its globs for each of its names
+abbrev pub with_rows : List Row → List Definition → List Definition
+with_rows [] ds = ds
+with_rows (row ∷ rows) ds = with_rows rows (with_names row.0 row.1 ds)

@@ -1,0 +1,342 @@
+//! Collecting file types, and choices among them.
+ghost use Rattle.std.specs.Prelude.{◌≡◌, ◌⊎◌, ◌==◌, [], true, false, map, OnOk, OnErr, IfOk, IfErr};
+ghost use Rattle.std.specs.List.{AllZip, slice_split};
+ghost use Rattle.ignore_glob.specs.Problem.{told, memory, unrecognized};
+ghost use Rattle.ignore_types.specs.Types.{Draft, IsSortedCopy, IsAscending, one_glob, included, request_of, request_of_parts, after_request, Becomes, with_chosen, without};
+ghost use Rattle.ignore_types.specs.Building.{IsBuilt, IsChosen, IsChoiceProblem, IsRefusedWith, FirstBad};
+ghost use Rattle.ignore_types.specs.Refusals.{IsRefusal};
+ghost use Rattle.ignore_types.specs.Defaults.{with_rows};
+
+use crate::default_types::DEFAULT_TYPES;
+use crate::types::chosen::{ChosenType, read_globs};
+use crate::types::definition::FileTypeDef;
+use crate::types::definitions::Definitions;
+use crate::types::matcher::Types;
+use crate::types::name::is_allowed;
+use crate::types::parts::parts;
+use crate::types::selection::{Selection, selection_of, selections_of};
+use ignore_glob::Error;
+use std::alloc::{AllocError, Global};
+use std::marker::Model;
+
+/// Collects file types and choices among them, for a `Types`.
+///
+/// A choice names a type and is looked up when the matcher is built, so types
+/// may be added after they are chosen.
+#[derive(Drop)]
+pub struct TypesBuilder {
+    types: Definitions,
+    selections: Vec<Selection>,
+}
+
+impl Model for TypesBuilder {
+    ghost use Rattle.ignore_types.specs.Types.{Draft};
+
+    ghost Value = { Draft };
+
+    ghost view = { λ b. record { definitions = b.types; choices = b.selections.items } };
+}
+
+impl TypesBuilder {
+    /// A builder without types and without choices.
+    pub fn new(alloc: Global) -> TypesBuilder
+        ensures { result ≡ record { definitions = []; choices = [] } }
+    {
+        TypesBuilder {
+            types: Definitions::new(alloc),
+            selections: Vec::new(alloc),
+        }
+    }
+
+    /// Adds a glob to the type of this name, behind those that it has. A name
+    /// that isn't there yet becomes a type.
+    ///
+    /// # Errors
+    /// `InvalidDefinition` for the name `all`, and for a name with a character
+    /// that is neither alphabetic nor a number (of the general categories Nd,
+    /// Nl and No); `Memory`. After an error the builder is as before.
+    pub fn add(&mut self, name: &str, glob: &str) -> Result<(), Error>
+        ensures added { OnOk result (Becomes self.old (after_request (one_glob name.now glob.now) self.old.definitions) self.new) }
+        ensures refused { IfErr result (IsRefusal (after_request (one_glob name.now glob.now) self.old.definitions)) }
+        ensures unchanged { OnErr result (self.new ≡ self.old) }
+    {
+        if !is_allowed(name) {
+            return Err(Error::InvalidDefinition);
+        }
+        match self.types.add(name, glob) {
+            Ok(()) => Ok(()),
+            Err(_) => Err(Error::Memory),
+        }
+    }
+
+    /// Adds what a text defines.
+    ///
+    /// `name:glob` is as `add` of the two. `name:include:one,two` appends the
+    /// globs of each of the types behind `include` to the type of the name, in
+    /// turn: a type that stands there twice is appended twice, and the type
+    /// itself with what it has by then.
+    ///
+    /// # Errors
+    /// `InvalidDefinition` for a text of another form or with an empty part,
+    /// for a name that `add` refuses, and where a type of the list isn't there;
+    /// `Memory`. After an error the builder is as before.
+    pub fn add_def(&mut self, definition: &str) -> Result<(), Error>
+        ensures added { OnOk result (Becomes self.old (after_request (request_of definition.now) self.old.definitions) self.new) }
+        ensures refused { IfErr result (IsRefusal (after_request (request_of definition.now) self.old.definitions)) }
+        ensures unchanged { OnErr result (self.new ≡ self.old) }
+    {
+        match parts(*self.selections.allocator(), definition, ':') {
+            Ok(parts) => self.add_parts(&parts),
+            Err(_) => Err(Error::Memory),
+        }
+    }
+
+    fn add_parts(&mut self, parts: &[&str]) -> Result<(), Error>
+        ensures added { OnOk result (Becomes self.old (after_request (request_of_parts (map (λ p. p.now) parts.now)) self.old.definitions) self.new) }
+        ensures refused { IfErr result (IsRefusal (after_request (request_of_parts (map (λ p. p.now) parts.now)) self.old.definitions)) }
+        ensures unchanged { OnErr result (self.new ≡ self.old) }
+    {
+        match parts {
+            [name, glob] => {
+                if name.is_empty() || glob.is_empty() {
+                    return Err(Error::InvalidDefinition);
+                }
+                self.add(name, glob)
+            }
+            [name, word, sources] => {
+                if *word != "include" {
+                    return Err(Error::InvalidDefinition);
+                }
+                if name.is_empty() {
+                    return Err(Error::InvalidDefinition);
+                }
+                if sources.is_empty() {
+                    return Err(Error::InvalidDefinition);
+                }
+                self.include(name, sources)
+            }
+            [] => Err(Error::InvalidDefinition),
+            [_] => Err(Error::InvalidDefinition),
+            [_, _, _, _, ..] => Err(Error::InvalidDefinition),
+        }
+    }
+
+    fn include(&mut self, name: &str, sources: &str) -> Result<(), Error>
+        ensures added { OnOk result (Becomes self.old (after_request (included name.now (slice_split (λ b. b == 44) sources.now)) self.old.definitions) self.new) }
+        ensures refused { IfErr result (IsRefusal (after_request (included name.now (slice_split (λ b. b == 44) sources.now)) self.old.definitions)) }
+        ensures unchanged { OnErr result (self.new ≡ self.old) }
+    {
+        if !is_allowed(name) {
+            return Err(Error::InvalidDefinition);
+        }
+        let Ok(sources) = parts(*self.selections.allocator(), sources, ',') else {
+            return Err(Error::Memory);
+        };
+        if !self.types.has_all(&sources) {
+            return Err(Error::InvalidDefinition);
+        }
+        match self.types.with_types(name, &sources) {
+            Ok(types) => {
+                self.types = types;
+                Ok(())
+            }
+            Err(_) => Err(Error::Memory),
+        }
+    }
+
+    /// The matcher of the types and choices so far. The builder can be used
+    /// further.
+    ///
+    /// # Errors
+    /// For the first choice that is refused, in the order of choosing:
+    /// `UnrecognizedFileType` with its name where no type has it, or `Glob` for
+    /// the first of the type's globs that has a fault; `Memory`.
+    pub fn build(&self) -> Result<Types, Error>
+        ensures built { IfOk result (IsBuilt self.now) }
+        ensures refused { IfErr result (λ e. (told e ≡ memory) ⊎ IsRefusedWith self.now (told e)) }
+    {
+        match self.chosen_types() {
+            Ok(choices) => match self.types.sorted_copies() {
+                Ok(definitions) => Ok(Types::new(definitions, choices)),
+                Err(_) => Err(Error::Memory),
+            },
+            Err(e) => Err(e),
+        }
+    }
+
+    fn chosen_types(&self) -> Result<Vec<ChosenType>, Error>
+        ensures built { IfOk result (λ all. AllZip (IsChosen self.now.definitions) self.now.choices all.items) }
+        ensures refused { IfErr result (λ e. (told e ≡ memory) ⊎ IsRefusedWith self.now (told e)) }
+    {
+        chosen_types(*self.selections.allocator(), &self.types, &self.selections)
+    }
+
+    /// The types added so far, sorted by name, each with its globs sorted.
+    ///
+    /// # Errors
+    /// `Memory` alone, as the types are copied.
+    pub fn definitions(&self) -> Result<Vec<FileTypeDef>, Error>
+        ensures copies { IfOk result (λ ds. AllZip IsSortedCopy self.now.definitions ds.items) }
+        ensures by_name { IfOk result (λ ds. IsAscending ds.items) }
+        ensures refused { IfErr result (λ e. told e ≡ memory) }
+    {
+        match self.types.sorted_copies() {
+            Ok(definitions) => Ok(definitions),
+            Err(_) => Err(Error::Memory),
+        }
+    }
+
+    /// Drops the type of this name, if it is there. Choices that name it stay,
+    /// and are refused by `build` unless the type is added again.
+    pub fn clear(&mut self, name: &str) -> &mut Self
+        ensures same_reference { result.ghost_name ≡ self.entry.ghost_name }
+        ensures value { result.now ≡ record { definitions = without name.now self.old.definitions; choices = self.old.choices } }
+    {
+        self.types.remove(name);
+        self
+    }
+
+    /// Selects the type of this name, behind the choices made so far. `all`
+    /// stands for each type that is there at this call, in text order.
+    ///
+    /// # Errors
+    /// `Memory` alone. After it the builder is as before, which
+    /// `push_selection` states.
+    pub fn select(&mut self, name: &str) -> Result<&mut Self, Error>
+        ensures same_reference { IfOk result (λ b. b.ghost_name ≡ self.entry.ghost_name) }
+        ensures selected { IfOk result (λ b. b.now ≡ with_chosen false name.now self.old) }
+        ensures refused { IfErr result (λ e. told e ≡ memory) }
+    {
+        match self.push_selection(name, false) {
+            Ok(()) => Ok(self),
+            Err(e) => Err(e),
+        }
+    }
+
+    /// Negates the type of this name, behind the choices made so far. `all`
+    /// stands for each type that is there at this call, in text order.
+    ///
+    /// # Errors
+    /// `Memory` alone. After it the builder is as before, which
+    /// `push_selection` states.
+    pub fn negate(&mut self, name: &str) -> Result<&mut Self, Error>
+        ensures same_reference { IfOk result (λ b. b.ghost_name ≡ self.entry.ghost_name) }
+        ensures negated { IfOk result (λ b. b.now ≡ with_chosen true name.now self.old) }
+        ensures refused { IfErr result (λ e. told e ≡ memory) }
+    {
+        match self.push_selection(name, true) {
+            Ok(()) => Ok(self),
+            Err(e) => Err(e),
+        }
+    }
+
+    /// For the crates above: as `select`, or as `negate`, without the builder
+    /// in the answer.
+    pub fn push_selection(&mut self, name: &str, negated: bool) -> Result<(), Error>
+        ensures chosen { OnOk result (self.new ≡ with_chosen negated name.now self.old) }
+        ensures refused { IfErr result (λ e. told e ≡ memory) }
+        ensures unchanged { OnErr result (self.new ≡ self.old) }
+    {
+        match self.choose(name, negated) {
+            Ok(()) => Ok(()),
+            Err(_) => Err(Error::Memory),
+        }
+    }
+
+    fn choose(&mut self, name: &str, negated: bool) -> Result<(), AllocError>
+        ensures chosen { OnOk result (self.new ≡ with_chosen negated name.now self.old) }
+        ensures unchanged { OnErr result (self.new ≡ self.old) }
+    {
+        let alloc = *self.selections.allocator();
+        let mut more = if name == "all" {
+            selections_of(alloc, self.types.as_slice(), negated)?
+        } else {
+            selection_of(alloc, name, negated)?
+        };
+        self.selections.append(&mut more)
+    }
+
+    /// Adds the rows of the table of default types, in its order.
+    ///
+    /// # Errors
+    /// `Memory` alone. After it the builder is as before, which `push_defaults`
+    /// states.
+    pub fn add_defaults(&mut self) -> Result<&mut Self, Error>
+        ensures same_reference { IfOk result (λ b. b.ghost_name ≡ self.entry.ghost_name) }
+        ensures added { IfOk result (λ b. b.now ≡ record { definitions = with_rows (map (λ r. (map (λ n. n.now) r.0.now, map (λ g. g.now) r.1.now)) DEFAULT_TYPES) self.old.definitions; choices = self.old.choices }) }
+        ensures refused { IfErr result (λ e. told e ≡ memory) }
+    {
+        match self.push_defaults() {
+            Ok(()) => Ok(self),
+            Err(e) => Err(e),
+        }
+    }
+
+    /// For the crates above: as `add_defaults`, without the builder in the
+    /// answer.
+    pub fn push_defaults(&mut self) -> Result<(), Error>
+        ensures added { OnOk result (self.new ≡ record { definitions = with_rows (map (λ r. (map (λ n. n.now) r.0.now, map (λ g. g.now) r.1.now)) DEFAULT_TYPES) self.old.definitions; choices = self.old.choices }) }
+        ensures refused { IfErr result (λ e. told e ≡ memory) }
+        ensures unchanged { OnErr result (self.new ≡ self.old) }
+    {
+        match self.types.with_rows(&DEFAULT_TYPES) {
+            Ok(types) => {
+                self.types = types;
+                Ok(())
+            }
+            Err(_) => Err(Error::Memory),
+        }
+    }
+}
+
+fn chosen_types(
+    alloc: Global,
+    types: &Definitions,
+    selections: &[Selection],
+) -> Result<Vec<ChosenType>, Error>
+    ensures built { IfOk result (λ all. AllZip (IsChosen types.now) selections.now all.items) }
+    ensures refused { IfErr result (λ e. (told e ≡ memory) ⊎ FirstBad (IsChosen types.now) (IsChoiceProblem types.now (told e)) selections.now) }
+{
+    let mut all = Vec::new(alloc);
+    for selection in selections {
+        match chosen_type(alloc, types, selection) {
+            Ok(choice) => {
+                if let Err(_) = all.push(choice) {
+                    return Err(Error::Memory);
+                }
+            }
+            Err(e) => return Err(e),
+        }
+    }
+    Ok(all)
+}
+
+fn chosen_type(
+    alloc: Global,
+    types: &Definitions,
+    selection: &Selection,
+) -> Result<ChosenType, Error>
+    ensures built { IfOk result (IsChosen types.now selection.now) }
+    ensures refused { IfErr result (λ e. (told e ≡ memory) ⊎ IsChoiceProblem types.now (told e) selection.now) }
+{
+    match types.get(selection.name()) {
+        None => Err(unrecognized(alloc, selection.name())),
+        Some(definition) => match read_globs(alloc, definition.globs()) {
+            Ok(patterns) => match definition.clone() {
+                Ok(copy) => Ok(ChosenType::new(copy, patterns, selection.is_negated())),
+                Err(_) => Err(Error::Memory),
+            },
+            Err(e) => Err(e),
+        },
+    }
+}
+
+/// The error of a choice whose name no type has, or `Error::Memory`.
+fn unrecognized(alloc: Global, name: &str) -> Error
+    ensures { (told result ≡ memory) ⊎ (told result ≡ unrecognized name.now) }
+{
+    match String::from_str(alloc, name) {
+        Ok(name) => Error::UnrecognizedFileType(name),
+        Err(_) => Error::Memory,
+    }
+}

@@ -1,0 +1,162 @@
+//! A chosen type of a matcher.
+ghost use Rattle.std.specs.Prelude.{◌≡◌, ◌⊎◌, ◌↔◌, ℕ, IsTrue, IfOk, IfErr, MatchOption, map, not, string_bytes, Some};
+ghost use Rattle.std.specs.List.{AllZip, list_any};
+ghost use Rattle.ignore_glob.specs.Problem.{told, memory, glob as glob_problem};
+ghost use Rattle.ignore_glob.specs.GlobFaults.{glob_fault_text};
+ghost use Rattle.ignore_types.specs.TypeMatch.{SomeTakes, NoneTakes, IsDeciding};
+ghost use Rattle.ignore_types.specs.Building.{plain, IsReadAs, FirstBad, IsGlobProblem};
+
+use crate::types::definition::FileTypeDef;
+use ignore_glob::Error;
+use ignore_glob::glob::{GlobFault, Options, Pattern, PatternError};
+use std::alloc::{AllocError, Global};
+use std::marker::Model;
+
+/// A chosen type of a matcher: its definition, its globs as they were read, and
+/// whether it was negated.
+#[derive(Debug, Drop)]
+pub(super) struct ChosenType {
+    definition: FileTypeDef,
+    patterns: Vec<Pattern>,
+    negated: bool,
+}
+
+impl Model for ChosenType {
+    ghost use Rattle.ignore_types.specs.TypeMatch.{Chosen, chosen_code};
+
+    ghost Value = { Chosen };
+
+    ghost coded = { chosen_code };
+
+    ghost view = { λ c. record { definition = c.definition; readings = c.patterns.items; negated = c.negated } };
+}
+
+impl ChosenType {
+    pub(super) fn new(definition: FileTypeDef, patterns: Vec<Pattern>, negated: bool) -> ChosenType
+        ensures { result ≡ record { definition = definition; readings = patterns.items; negated = negated } }
+    {
+        ChosenType {
+            definition,
+            patterns,
+            negated,
+        }
+    }
+
+    pub(super) fn definition(&self) -> &FileTypeDef
+        ensures { result.now ≡ self.now.definition }
+    {
+        &self.definition
+    }
+
+    pub(super) fn is_negated(&self) -> bool
+        ensures { result ≡ self.now.negated }
+    {
+        self.negated
+    }
+
+    /// Whether some glob of the type takes the name.
+    pub(super) fn takes(&self, name: &[char]) -> bool
+        ensures { IsTrue result ↔ SomeTakes name.now self.now.readings }
+    {
+        some_takes(&self.patterns, name)
+    }
+}
+
+impl Clone for ChosenType {
+    ghost use Rattle.std.specs.Prelude.{◌≡◌};
+
+    ghost is_clone = { λ c copy. copy ≡ c };
+
+    fn clone(&self) -> Result<ChosenType, AllocError> {
+        let definition = self.definition.clone()?;
+        let patterns = self.patterns.clone()?;
+        Ok(ChosenType {
+            definition,
+            patterns,
+            negated: self.negated,
+        })
+    }
+}
+
+fn some_takes(patterns: &[Pattern], name: &[char]) -> bool
+    ensures { IsTrue result ↔ SomeTakes name.now patterns.now }
+{
+    for pattern in patterns {
+        if pattern.matches_chars(name) {
+            return true;
+        }
+    }
+    false
+}
+
+/// The choice of the last glob that takes the name.
+pub(super) fn deciding<'a>(choices: &'a [ChosenType], name: &[char]) -> Option<&'a ChosenType>
+    ensures { MatchOption result (NoneTakes name.now choices.now) (λ c. IsDeciding name.now choices.now c.now) }
+{
+    let mut i = choices.len();
+    while i > 0 {
+        i -= 1;
+        if choices[i].takes(name) {
+            return Some(&choices[i]);
+        }
+    }
+    None
+}
+
+/// Whether some choice selects.
+pub(super) fn some_selected(choices: &[ChosenType]) -> bool
+    ensures { result ≡ list_any (λ c. not c.negated) choices.now }
+{
+    choices.iter().any(|choice| !choice.is_negated())
+}
+
+/// The globs of a type as they are read, or the fault of the first that has
+/// one.
+pub(super) fn read_globs(alloc: Global, globs: &[String]) -> Result<Vec<Pattern>, Error>
+    ensures read { IfOk result (λ all. AllZip IsReadAs (map string_bytes globs.now) all.items) }
+    ensures refused { IfErr result (λ e. (told e ≡ memory) ⊎ FirstBad IsReadAs (IsGlobProblem (told e)) (map string_bytes globs.now)) }
+{
+    let mut all = Vec::new(alloc);
+    for glob in globs {
+        match read_glob(alloc, glob.as_str()) {
+            Ok(pattern) => {
+                if let Err(_) = all.push(pattern) {
+                    return Err(Error::Memory);
+                }
+            }
+            Err(e) => return Err(e),
+        }
+    }
+    Ok(all)
+}
+
+fn read_glob(alloc: Global, glob: &str) -> Result<Pattern, Error>
+    ensures read { IfOk result (IsReadAs glob.now) }
+    ensures refused { IfErr result (λ e. (told e ≡ memory) ⊎ IsGlobProblem (told e) glob.now) }
+{
+    let options = Options {
+        case_insensitive: false,
+        allow_unclosed_class: false,
+    };
+    match Pattern::parse(alloc, glob, options) {
+        Ok(pattern) => Ok(pattern),
+        Err(PatternError::Fault(fault)) => Err(glob_error(alloc, glob, fault)),
+        Err(PatternError::Memory) => Err(Error::Memory),
+    }
+}
+
+/// The error of a glob with this fault, or `Error::Memory`.
+fn glob_error(alloc: Global, glob: &str, fault: GlobFault) -> Error
+    ensures { (told result ≡ memory) ⊎ (told result ≡ glob_problem (Some glob.now) (glob_fault_text fault)) }
+{
+    let Ok(text) = format!(in alloc; "{fault}") else {
+        return Error::Memory;
+    };
+    match String::from_str(alloc, glob) {
+        Ok(glob) => Error::Glob {
+            glob: Some(glob),
+            err: text,
+        },
+        Err(_) => Error::Memory,
+    }
+}

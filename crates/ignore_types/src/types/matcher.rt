@@ -1,0 +1,186 @@
+//! Matching the names of files against chosen types.
+ghost use Rattle.std.specs.Prelude.{◌≡◌, ◌==◌, [], length, IfOk, IfErr};
+ghost use Rattle.std.specs.Option.{option_copied};
+ghost use Rattle.ignore_glob.specs.Problem.{told, memory};
+ghost use Rattle.ignore_glob.specs.Paths.{file_name_of};
+ghost use Rattle.ignore_types.specs.TypeMatch.{verdict_of, unmatched, IsNameAnswer, IsTypeAnswer};
+
+use crate::types::chosen::{ChosenType, deciding, some_selected};
+use crate::types::definition::FileTypeDef;
+use ignore_glob::glob::characters;
+use ignore_glob::text::file_name;
+use ignore_glob::{Error, Match};
+use std::alloc::{AllocError, Global};
+use std::marker::Model;
+
+/// What decided a match of file types.
+#[derive(Debug, Drop)]
+pub struct Glob<'a> {
+    definition: Option<&'a FileTypeDef>,
+}
+
+impl<'a> Model for Glob<'a> {
+    ghost use Rattle.std.specs.Prelude.{Option};
+    ghost use Rattle.std.specs.Option.{option_copied};
+    ghost use Rattle.ignore_types.specs.Types.{Definition};
+
+    ghost Value = { Option Definition };
+
+    ghost view = { λ g. option_copied g.definition };
+}
+
+impl<'a> Glob<'a> {
+    /// The type whose glob took the file's name, with its globs in the order of
+    /// adding. None where no glob took it, and it is ignored since other types
+    /// were selected.
+    pub fn file_type_def(&self) -> Option<&FileTypeDef>
+        ensures { option_copied result ≡ self.now }
+    {
+        self.definition
+    }
+}
+
+impl<'a> Clone for Glob<'a> {
+    ghost use Rattle.std.specs.Prelude.{◌≡◌};
+
+    ghost is_clone = { λ g copy. copy ≡ g };
+
+    fn clone(&self) -> Result<Glob<'a>, AllocError> {
+        Ok(Glob {
+            definition: self.definition,
+        })
+    }
+}
+
+/// A matcher of file types: which of them there are, and which were chosen.
+#[derive(Debug, Drop)]
+pub struct Types {
+    definitions: Vec<FileTypeDef>,
+    choices: Vec<ChosenType>,
+}
+
+impl Model for Types {
+    ghost use Rattle.ignore_types.specs.TypeMatch.{Matcher, matcher_code};
+
+    ghost Value = { Matcher };
+
+    ghost coded = { matcher_code };
+
+    ghost view = { λ t. record { definitions = t.definitions.items; choices = t.choices.items } };
+}
+
+impl Types {
+    /// A matcher without types, which never matches.
+    pub fn empty(alloc: Global) -> Types
+        ensures { result ≡ record { definitions = []; choices = [] } }
+    {
+        Types {
+            definitions: Vec::new(alloc),
+            choices: Vec::new(alloc),
+        }
+    }
+
+    pub(super) fn new(definitions: Vec<FileTypeDef>, choices: Vec<ChosenType>) -> Types
+        ensures { result ≡ record { definitions = definitions.items; choices = choices.items } }
+    {
+        Types {
+            definitions,
+            choices,
+        }
+    }
+
+    /// Whether nothing was chosen.
+    pub fn is_empty(&self) -> bool
+        ensures { result ≡ (length self.now.choices == 0) }
+    {
+        self.choices.is_empty()
+    }
+
+    /// How many types were chosen, selected or negated. `all` counts once for
+    /// each type that it stood for.
+    pub fn len(&self) -> usize
+        ensures { result ≡ length self.now.choices }
+    {
+        self.choices.len()
+    }
+
+    /// The types that there are, sorted by name, each with its globs sorted.
+    pub fn definitions(&self) -> &[FileTypeDef]
+        ensures { result.now ≡ self.now.definitions }
+    {
+        self.definitions.as_slice()
+    }
+
+    /// The answer for a path, by its file name alone.
+    ///
+    /// The last glob that takes the name decides, in the order of choosing and
+    /// then of adding: the file is whitelisted if its type was selected, and
+    /// ignored if it was negated. A file that no glob takes, or that has no
+    /// file name, is ignored if some type was selected. Directories have no
+    /// match.
+    ///
+    /// # Errors
+    /// `Error::Memory` alone, since the characters of the name are kept for the
+    /// time of the call.
+    pub fn matched(&self, path: &str, is_dir: bool) -> Result<Match<Glob<'_>>, Error>
+        ensures decided { IfOk result (IsTypeAnswer self.now.choices is_dir (file_name_of path.now)) }
+        ensures refused { IfErr result (λ e. told e ≡ memory) }
+    {
+        if is_dir {
+            return Ok(Match::None);
+        }
+        match file_name(path) {
+            None => Ok(unmatched(&self.choices)),
+            Some(name) => match characters(*self.choices.allocator(), name) {
+                Ok(name) => Ok(matched_name(&self.choices, &name)),
+                Err(e) => Err(e),
+            },
+        }
+    }
+}
+
+impl Clone for Types {
+    ghost use Rattle.std.specs.Prelude.{◌≡◌};
+
+    ghost is_clone = { λ t copy. copy ≡ t };
+
+    fn clone(&self) -> Result<Types, AllocError> {
+        let definitions = self.definitions.clone()?;
+        let choices = self.choices.clone()?;
+        Ok(Types {
+            definitions,
+            choices,
+        })
+    }
+}
+
+fn matched_name<'a>(choices: &'a [ChosenType], name: &[char]) -> Match<Glob<'a>>
+    ensures { IsNameAnswer choices.now name.now result }
+{
+    match deciding(choices, name) {
+        Some(choice) => verdict(choice),
+        None => unmatched(choices),
+    }
+}
+
+fn verdict(choice: &ChosenType) -> Match<Glob<'_>>
+    ensures { result ≡ verdict_of choice.now }
+{
+    let glob = Glob {
+        definition: Some(choice.definition()),
+    };
+    if choice.is_negated() {
+        Match::Ignore(glob)
+    } else {
+        Match::Whitelist(glob)
+    }
+}
+
+fn unmatched(choices: &[ChosenType]) -> Match<Glob<'_>>
+    ensures { result ≡ unmatched choices.now }
+{
+    if some_selected(choices) {
+        return Match::Ignore(Glob { definition: None });
+    }
+    Match::None
+}
