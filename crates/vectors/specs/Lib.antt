@@ -1,0 +1,4 @@
+pub mod Agrees
+pub mod Vectors
+pub mod Tallies
+pub mod Verdicts

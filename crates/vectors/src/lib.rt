@@ -1,0 +1,18 @@
+//! Vectors: what a library is asked, with the answer that is wanted; whether an answer agrees with it, and how many do.
+#![tactic(auto)]
+
+mod agree;
+mod equal;
+mod fields;
+mod outcome;
+mod tally;
+mod vector;
+mod verdict;
+
+pub use agree::agrees;
+pub use equal::is_equal;
+pub use fields::{field, flag, flag_at, item, list, members, object, text, text_at};
+pub use outcome::{Outcome, Reason, Trouble};
+pub use tally::Tally;
+pub use vector::Vector;
+pub use verdict::Verdict;

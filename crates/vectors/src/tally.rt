@@ -1,0 +1,115 @@
+//! What came of the vectors.
+ghost use Rattle.std.specs.Prelude.{◌≡◌, ◌≤◌, ◌↔◌, Some};
+ghost use Rattle.vectors.specs.Tallies.{nothing, with_passed, with_failed, with_unread, with_skipped, skipped, tally_text};
+
+use crate::outcome::Reason;
+use std::fmt;
+use std::marker::Model;
+
+/// How many vectors passed, failed and were skipped, and how many lines were no vectors.
+#[derive(Drop)]
+pub struct Tally {
+    passed: u64,
+    failed: u64,
+    git_trailing_spaces: u64,
+    too_many_splits: u64,
+    unread: u64,
+}
+
+impl Model for Tally {
+    ghost use Rattle.vectors.specs.Tallies.{Counts};
+
+    ghost Value = { Counts };
+
+    ghost view = { λ t. record { passed = t.passed; failed = t.failed; git_trailing_spaces = t.git_trailing_spaces; too_many_splits = t.too_many_splits; unread = t.unread } };
+}
+
+impl Tally {
+    /// Nothing came yet.
+    pub fn new() -> Tally
+        ensures { result ≡ nothing }
+    {
+        Tally {
+            passed: 0,
+            failed: 0,
+            git_trailing_spaces: 0,
+            too_many_splits: 0,
+            unread: 0,
+        }
+    }
+
+    /// Counts a vector whose answer is the wanted one.
+    pub fn pass(&mut self)
+        ensures { self.new ≡ with_passed self.old }
+    {
+        self.passed = self.passed.saturating_add(1);
+    }
+
+    /// Counts a vector whose answer is another one.
+    pub fn fail(&mut self)
+        ensures { self.new ≡ with_failed self.old }
+    {
+        self.failed = self.failed.saturating_add(1);
+    }
+
+    /// Counts a line that is no vector.
+    pub fn refuse(&mut self)
+        ensures { self.new ≡ with_unread self.old }
+    {
+        self.unread = self.unread.saturating_add(1);
+    }
+
+    /// Counts a vector that wasn't asked.
+    pub fn skip(&mut self, reason: Reason)
+        ensures { self.new ≡ with_skipped reason self.old }
+    {
+        match reason {
+            Reason::GitTrailingSpaces => {
+                self.git_trailing_spaces = self.git_trailing_spaces.saturating_add(1);
+            }
+            Reason::TooManySplits => {
+                self.too_many_splits = self.too_many_splits.saturating_add(1);
+            }
+        }
+    }
+
+    fn skipped(&self) -> u64
+        ensures { result ≡ skipped self.now }
+    {
+        self.git_trailing_spaces
+            .saturating_add(self.too_many_splits)
+    }
+
+    /// The status of a run that came to its end: 0, or 1 where a vector failed or a line was no vector.
+    pub fn status(&self) -> u8
+        ensures good { (result ≡ 0) ↔ ((self.now.failed ≡ 0) × (self.now.unread ≡ 0)) }
+        ensures bound { result ≤ 1 }
+    {
+        if self.failed == 0 && self.unread == 0 {
+            0
+        } else {
+            1
+        }
+    }
+}
+
+/// The counts, in words; reasons for which no vector was skipped aren't told.
+impl fmt::Display for Tally {
+    ghost output = { λ t. Some (tally_text t) };
+
+    fn fmt<W: fmt::Write>(&self, f: &mut fmt::Formatter<W>) -> fmt::Result {
+        let passed = self.passed;
+        let failed = self.failed;
+        let skipped = self.skipped();
+        write!(f, "{passed} passed, {failed} failed, {skipped} skipped")?;
+        if self.git_trailing_spaces > 0 {
+            let count = self.git_trailing_spaces;
+            write!(f, ", git_trailing_spaces {count}")?;
+        }
+        if self.too_many_splits > 0 {
+            let count = self.too_many_splits;
+            write!(f, ", too_many_splits {count}")?;
+        }
+        Ok(())
+    }
+}
