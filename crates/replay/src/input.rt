@@ -1,10 +1,10 @@
 //! The files of vectors that a run is given, and what it tells at its end.
 
 use crate::replay::{Stop, replay};
-use crate::tally::Tally;
 use std::io::Read;
 use std::rt::Env;
 use std::{env, fs, io};
+use vectors::Tally;
 
 /// The name by which standard input is told of.
 const STDIN: &str = "stdin";

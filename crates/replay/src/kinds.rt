@@ -13,9 +13,9 @@ mod strip;
 mod tree;
 mod types;
 
-use crate::outcome::{Outcome, Trouble};
 use serde_json::Value;
 use std::alloc::Global;
+use vectors::{Outcome, Trouble};
 
 /// What the kind of this name answers, if there is one.
 pub fn answer(alloc: Global, kind: &str, input: &Value) -> Option<Result<Outcome, Trouble>> {

@@ -1,13 +1,10 @@
 //! Asking the vectors of a file, line by line.
 
-use crate::compare::agrees;
 use crate::kinds;
-use crate::outcome::{Outcome, Reason, Trouble};
-use crate::tally::Tally;
-use crate::vector::Vector;
 use serde_json::{Category, Error, Value};
 use std::alloc::Global;
 use std::io::{self, Write};
+use vectors::{Outcome, Tally, Trouble, Vector, Verdict};
 
 /// Why a run ends before its end.
 #[derive(Clone, Copy, Drop)]
@@ -18,15 +15,6 @@ pub enum Stop<'n> {
     Read(&'n str),
     /// What is told can't be written.
     Write,
-}
-
-/// What came of a line.
-#[derive(Drop)]
-enum Verdict {
-    Passed,
-    /// The vector, and what was answered.
-    Failed(Value, Value),
-    Skipped(Reason),
 }
 
 /// Why a line is no vector, or wasn't judged.
@@ -80,11 +68,8 @@ fn judged(alloc: Global, line: &[u8]) -> Result<Verdict, Flaw> {
 
 fn judge(alloc: Global, line: &[u8]) -> Result<Verdict, Flaw> {
     let value = read(alloc, line)?;
-    match answer(alloc, &value)? {
-        Some(Outcome::Skipped(reason)) => Ok(Verdict::Skipped(reason)),
-        Some(Outcome::Answer(answer)) => compared(value, answer),
-        None => Err(Flaw::UnknownKind),
-    }
+    let (outcome, waiting) = answer(alloc, &value)?;
+    Ok(Verdict::of(value, outcome, waiting)?)
 }
 
 fn read(alloc: Global, line: &[u8]) -> Result<Value, Flaw> {
@@ -102,41 +87,18 @@ fn flaw_of(error: Error) -> Flaw {
     }
 }
 
-fn answer(alloc: Global, value: &Value) -> Result<Option<Outcome>, Flaw> {
+/// What a kind answers for the vector that a value is, and the fields that wait for their calls.
+fn answer(alloc: Global, value: &Value) -> Result<(Outcome, &'static [&'static str]), Flaw> {
     let vector = Vector::of(value)?;
     match kinds::answer(alloc, vector.kind, vector.input) {
-        Some(Ok(outcome)) => Ok(Some(outcome)),
+        Some(Ok(outcome)) => Ok((outcome, kinds::waiting(vector.kind))),
         Some(Err(trouble)) => Err(Flaw::from(trouble)),
-        None => Ok(None),
+        None => Err(Flaw::UnknownKind),
     }
-}
-
-fn compared(value: Value, answer: Value) -> Result<Verdict, Flaw> {
-    let vector = Vector::of(&value)?;
-    if agrees(vector.wanted, &answer, kinds::waiting(vector.kind)) {
-        return Ok(Verdict::Passed);
-    }
-    Ok(Verdict::Failed(value, answer))
 }
 
 fn count<'n, W: Write>(verdict: Verdict, tally: &mut Tally, out: &mut W) -> Result<(), Stop<'n>> {
-    match verdict {
-        Verdict::Passed => tally.pass(),
-        Verdict::Skipped(reason) => tally.skip(reason),
-        Verdict::Failed(value, answer) => {
-            tally.fail();
-            tell_parting(&value, &answer, out)?;
-        }
-    }
-    Ok(())
-}
-
-/// Tells of an answer that is another one than wanted.
-fn tell_parting<'n, W: Write>(value: &Value, answer: &Value, out: &mut W) -> Result<(), Stop<'n>> {
-    let (Some(id), Some(wanted)) = (value.get("id"), value.get("out")) else {
-        return Ok(());
-    };
-    match writeln!(out, "{id}: wanted {wanted}, got {answer}") {
+    match tally.count(verdict, out) {
         Ok(()) => Ok(()),
         Err(_) => Err(Stop::Write),
     }
