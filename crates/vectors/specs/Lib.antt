@@ -2,3 +2,4 @@ pub mod Agrees
 pub mod Vectors
 pub mod Tallies
 pub mod Verdicts
+pub mod Lines
