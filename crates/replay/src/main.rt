@@ -8,7 +8,6 @@ mod error;
 mod hex_digits;
 mod input;
 mod kinds;
-mod replay;
 mod rules;
 mod splits;
 mod tree_calls;
