@@ -1,9 +1,9 @@
 //! Calls of the library that can be refused memory: each is repeated once, on the same value, so that a refused call which changed its builder shows in the answer.
 
-use crate::outcome::Trouble;
 use ignore_glob::{Error, Match};
 use ignore_rules::gitignore::{Gitignore, GitignoreBuilder, Glob};
 use std::alloc::Global;
+use vectors::Trouble;
 
 /// A builder of gitignore rules below a root.
 pub fn builder(alloc: Global, root: &str) -> Result<GitignoreBuilder, Trouble> {

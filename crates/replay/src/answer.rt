@@ -1,8 +1,8 @@
 //! Putting answers together, field by field and item by item. Where memory is refused for one of them, this is told once, when the whole is asked for.
 
-use crate::outcome::{Outcome, Trouble};
 use serde_json::{Map, Value};
 use std::alloc::{AllocError, Global};
+use vectors::{Outcome, Trouble};
 
 /// The fields of an answer.
 #[derive(Drop)]

@@ -1,11 +1,11 @@
 //! Environments of vectors, and the search for the excludes file in them.
 
 use crate::again::but_for_memory;
-use crate::outcome::Trouble;
 use ignore_files::{Env, MemoryTree, Name};
 use ignore_rules::gitignore::gitconfig_excludes_path;
 use serde_json::Value;
 use std::alloc::{AllocError, Global};
+use vectors::Trouble;
 
 /// The environment of the variables that an object has; `null` is one that isn't set.
 pub fn environment(alloc: Global, value: &Value) -> Result<Env, Trouble> {

@@ -1,10 +1,10 @@
 //! Errors in the shape in which vectors write them: a list of the name of the variant and what it holds.
 
 use crate::answer::{Answer, Items, text_value};
-use crate::outcome::Trouble;
 use ignore_glob::{Error, Fault};
 use serde_json::Value;
 use std::alloc::{AllocError, Global};
+use vectors::Trouble;
 
 /// An error's text and its shape.
 pub fn told(alloc: Global, error: &Error) -> Result<Value, AllocError> {

@@ -1,9 +1,9 @@
 //! Bytes as vectors write them: two hex digits each.
 
-use crate::outcome::Trouble;
 use hex::FromHexError;
 use serde_json::Value;
 use std::alloc::{AllocError, Global};
+use vectors::Trouble;
 
 /// The bytes of a hex text, which stands in the field of this name.
 pub fn bytes_of(alloc: Global, text: &str, name: &'static str) -> Result<Vec<u8>, Trouble> {

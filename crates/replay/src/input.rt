@@ -1,13 +1,24 @@
 //! The files of vectors that a run is given, and what it tells at its end.
 
-use crate::replay::{Stop, replay};
-use crate::tally::Tally;
+use crate::kinds::Library;
 use std::io::Read;
 use std::rt::Env;
 use std::{env, fs, io};
+use vectors::{Tally, replay};
 
 /// The name by which standard input is told of.
 const STDIN: &str = "stdin";
+
+/// Why a run ends before its end.
+#[derive(Clone, Copy, Drop)]
+enum Stop<'n> {
+    /// Memory was refused twice.
+    Memory,
+    /// What has this name can't be read.
+    Read(&'n str),
+    /// What is told can't be written.
+    Write,
+}
 
 /// Asks the vectors of the files that the words after the program's name name, in turn, and then those of standard input. The last line on standard output counts them.
 ///
@@ -49,7 +60,11 @@ fn replay_bytes<'w>(
 ) -> Result<(), Stop<'w>> {
     let mut out = rt.stdout();
     let mut err = rt.stderr();
-    replay(rt.alloc(), name, bytes, tally, &mut out, &mut err)
+    match replay(rt.alloc(), &Library, name, bytes, tally, &mut out, &mut err) {
+        Ok(()) => Ok(()),
+        Err(vectors::Stop::Memory) => Err(Stop::Memory),
+        Err(vectors::Stop::Write) => Err(Stop::Write),
+    }
 }
 
 /// The words after the program's name, asked for twice where memory is refused.

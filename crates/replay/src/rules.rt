@@ -3,13 +3,12 @@
 use crate::again::{add_line, builder};
 use crate::answer::Items;
 use crate::error::printed;
-use crate::fields::{flag_at, list, text, text_at};
-use crate::outcome::{Reason, Trouble};
 use crate::splits::needs_too_many;
 use ignore_glob::{Error, Match};
 use ignore_rules::gitignore::{Gitignore, GitignoreBuilder, Glob};
 use serde_json::Value;
 use std::alloc::{AllocError, Global};
+use vectors::{Reason, Trouble, flag_at, list, text, text_at};
 
 /// The name of the field that holds the operations.
 const OPS: &str = "ops";

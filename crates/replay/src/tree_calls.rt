@@ -1,12 +1,11 @@
 //! Trees in memory, built by the calls of a vector.
 
 use crate::error::fault_of;
-use crate::fields::{item, text_at};
 use crate::hex_digits::bytes_of;
-use crate::outcome::Trouble;
 use ignore_files::{Fault, Identity, MemoryTree, TreeError};
 use serde_json::Value;
 use std::alloc::Global;
+use vectors::{Trouble, item, text_at};
 
 /// The name of the field that holds the calls.
 pub const CALLS: &str = "calls";

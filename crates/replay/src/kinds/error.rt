@@ -2,11 +2,10 @@
 
 use crate::answer::Answer;
 use crate::error::{fault_name, fault_of, printed, shape};
-use crate::fields::field;
-use crate::outcome::{Outcome, Trouble};
 use ignore_glob::{Error, Fault};
 use serde_json::Value;
 use std::alloc::{AllocError, Global};
+use vectors::{Outcome, Trouble, field};
 
 /// The name of the field that holds the shape.
 const SHAPE: &str = "shape";

@@ -2,13 +2,12 @@
 
 use crate::answer::Answer;
 use crate::environment::{excludes_path, name_of, variable};
-use crate::fields::text;
 use crate::hex_digits::bytes_of;
-use crate::outcome::{Outcome, Trouble};
 use crate::tree_calls::{add_file, empty_tree, unrefused};
 use ignore_files::{Env, MemoryTree, Name};
 use serde_json::Value;
 use std::alloc::{AllocError, Global};
+use vectors::{Outcome, Trouble, text};
 
 /// The path of the configuration.
 const CONFIGURATION: &str = "/g";

@@ -3,8 +3,6 @@
 use crate::again::but_for_memory;
 use crate::answer::Answer;
 use crate::error::told_or_null;
-use crate::fields::{list, text};
-use crate::outcome::{Outcome, Trouble};
 use crate::rules::rules_value;
 use crate::tree_calls::{CALLS, tree_of_calls};
 use ignore_files::MemoryTree;
@@ -12,6 +10,7 @@ use ignore_glob::Error;
 use ignore_rules::gitignore::Gitignore;
 use serde_json::Value;
 use std::alloc::Global;
+use vectors::{Outcome, Trouble, list, text};
 
 /// Answers `root`, `rules`, `is_empty` and `len` of the matcher, and the `error` of its file.
 pub fn answer(alloc: Global, input: &Value) -> Result<Outcome, Trouble> {

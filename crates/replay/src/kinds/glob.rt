@@ -2,12 +2,11 @@
 
 use crate::again::but_for_memory;
 use crate::answer::Answer;
-use crate::fields::{flag, text};
-use crate::outcome::{Outcome, Reason, Trouble};
 use crate::splits::needs_too_many;
 use ignore_glob::glob::{GlobFault, Options, Pattern, PatternError};
 use serde_json::Value;
 use std::alloc::Global;
+use vectors::{Outcome, Reason, Trouble, flag, text};
 
 /// Answers `fault`, or `taken`.
 pub fn answer(alloc: Global, input: &Value) -> Result<Outcome, Trouble> {

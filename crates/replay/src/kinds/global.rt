@@ -4,8 +4,6 @@ use crate::again::{add_line, builder, but_for_memory};
 use crate::answer::Answer;
 use crate::environment::{environment, excludes_path};
 use crate::error::told_or_null;
-use crate::fields::{field, list, text};
-use crate::outcome::{Outcome, Trouble};
 use crate::rules::rules_value;
 use crate::tree_calls::{CALLS, tree_of_calls};
 use ignore_files::{Env, MemoryTree};
@@ -13,6 +11,7 @@ use ignore_glob::Error;
 use ignore_rules::gitignore::{Gitignore, GitignoreBuilder};
 use serde_json::Value;
 use std::alloc::Global;
+use vectors::{Outcome, Trouble, field, list, text};
 
 /// The name of the field that holds the lines that stand before the rules of the global file.
 const LINES: &str = "lines";

@@ -2,14 +2,13 @@
 
 use crate::again::{but_for_memory, problem};
 use crate::answer::{Answer, Items};
-use crate::fields::{flag, flag_at, list, text, text_at};
-use crate::outcome::{Outcome, Reason, Trouble};
 use crate::rules::refusal;
 use crate::splits::needs_too_many;
 use ignore_glob::{Error, Match};
 use ignore_rules::overrides::{Override, OverrideBuilder};
 use serde_json::Value;
 use std::alloc::Global;
+use vectors::{Outcome, Reason, Trouble, flag, flag_at, list, text, text_at};
 
 /// The name of the field that holds the operations.
 const OPS: &str = "ops";

@@ -2,13 +2,12 @@
 
 use crate::again::build;
 use crate::answer::Answer;
-use crate::fields::{flag, text};
-use crate::outcome::{Outcome, Reason, Trouble};
 use crate::rules::{after_operations, match_value, reason_against, uses_git_spaces};
 use ignore_glob::Match;
 use ignore_rules::gitignore::{Gitignore, Glob};
 use serde_json::Value;
 use std::alloc::{AllocError, Global};
+use vectors::{Outcome, Reason, Trouble, flag, text};
 
 /// Answers `under_root`, and `answer` where it holds.
 pub fn answer(alloc: Global, input: &Value) -> Result<Outcome, Trouble> {

@@ -3,9 +3,7 @@
 use crate::again::{build, builder, but_for_memory};
 use crate::answer::Answer;
 use crate::error::{fault_of, told_or_null};
-use crate::fields::{field, flag, item, text, text_at};
 use crate::hex_digits::bytes_of;
-use crate::outcome::{Outcome, Reason, Trouble};
 use crate::rules::rules_value;
 use crate::tree_calls::{add_dir, add_file, empty_tree, unrefused};
 use ignore_files::MemoryTree;
@@ -13,6 +11,7 @@ use ignore_glob::Error;
 use ignore_rules::gitignore::GitignoreBuilder;
 use serde_json::Value;
 use std::alloc::Global;
+use vectors::{Outcome, Reason, Trouble, field, flag, item, text, text_at};
 
 /// The directory of the file, and the root of the rules.
 const ROOT: &str = "/r";

@@ -2,12 +2,11 @@
 
 use crate::again::{build, matched};
 use crate::answer::{Answer, Items};
-use crate::fields::{flag, text};
-use crate::outcome::{Outcome, Reason, Trouble};
 use crate::rules::{after_operations, match_value, reason_against, rules_value, uses_git_spaces};
 use ignore_rules::gitignore::Gitignore;
 use serde_json::Value;
 use std::alloc::Global;
+use vectors::{Outcome, Reason, Trouble, flag, text};
 
 /// Answers `answer`, `rules`, `refused`, `path` and the counts.
 pub fn answer(alloc: Global, input: &Value) -> Result<Outcome, Trouble> {

@@ -2,11 +2,10 @@
 
 use crate::again::but_for_memory;
 use crate::answer::Answer;
-use crate::fields::text;
-use crate::outcome::{Outcome, Trouble};
 use ignore_glob::text as paths;
 use serde_json::Value;
 use std::alloc::Global;
+use vectors::{Outcome, Trouble, text};
 
 /// Answers each call of a root and a path.
 pub fn answer(alloc: Global, input: &Value) -> Result<Outcome, Trouble> {

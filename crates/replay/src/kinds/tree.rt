@@ -3,9 +3,7 @@
 use crate::again::but_for_memory;
 use crate::answer::{Answer, Items, text_value};
 use crate::error::fault_name;
-use crate::fields::{flag_at, list, text, text_at};
 use crate::hex_digits::hex_value;
-use crate::outcome::{Outcome, Trouble};
 use crate::tree_calls::{CALLS, empty_tree, make_call};
 use ignore_files::{
     Contents, Fault, FileType, Files, Identity, Listed, Listing, MemoryTree, Metadata, Name,
@@ -13,6 +11,7 @@ use ignore_files::{
 };
 use serde_json::Value;
 use std::alloc::{AllocError, Global};
+use vectors::{Outcome, Trouble, flag_at, list, text, text_at};
 
 /// The name of the field that holds what is asked.
 const ASKS: &str = "asks";

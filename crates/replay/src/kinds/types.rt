@@ -3,13 +3,12 @@
 use crate::again::{but_for_memory, problem};
 use crate::answer::{Answer, Items};
 use crate::error::told;
-use crate::fields::{flag_at, list, text_at};
-use crate::outcome::{Outcome, Trouble};
 use crate::rules::refusal;
 use ignore_glob::{Error, Match};
 use ignore_rules::types::{FileTypeDef, Glob, Types, TypesBuilder};
 use serde_json::Value;
 use std::alloc::{AllocError, Global};
+use vectors::{Outcome, Trouble, flag_at, list, text_at};
 
 /// The name of the field that holds the operations.
 const OPS: &str = "ops";

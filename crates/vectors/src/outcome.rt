@@ -1,4 +1,6 @@
 //! What a kind answers for a vector.
+ghost use Rattle.std.specs.Prelude.{◌≡◌};
+ghost use Rattle.vectors.specs.declared.outcome.Trouble.TheVariants.{Memory};
 
 use serde_json::Value;
 use std::alloc::{AllocError, AllocFailed};
@@ -31,12 +33,16 @@ pub enum Trouble {
 }
 
 impl From<AllocError> for Trouble {
+    ghost from_gives = { λ _ t. t ≡ Memory };
+
     fn from(_error: AllocError) -> Trouble {
         Trouble::Memory
     }
 }
 
 impl<T: Drop> From<AllocFailed<T>> for Trouble {
+    ghost from_gives = { λ _ t. t ≡ Memory };
+
     fn from(_error: AllocFailed<T>) -> Trouble {
         Trouble::Memory
     }

@@ -1,7 +1,10 @@
 //! What came of the vectors.
+ghost use Rattle.std.specs.Prelude.{◌≡◌, ◌≤◌, ◌↔◌, Some};
+ghost use Rattle.vectors.specs.Tallies.{nothing, with_passed, with_failed, with_unread, with_skipped, skipped, tally_text};
 
 use crate::outcome::Reason;
 use std::fmt;
+use std::marker::Model;
 
 /// How many vectors passed, failed and were skipped, and how many lines were no vectors.
 #[derive(Drop)]
@@ -13,9 +16,19 @@ pub struct Tally {
     unread: u64,
 }
 
+impl Model for Tally {
+    ghost use Rattle.vectors.specs.Tallies.{Counts};
+
+    ghost Value = { Counts };
+
+    ghost view = { λ t. record { passed = t.passed; failed = t.failed; git_trailing_spaces = t.git_trailing_spaces; too_many_splits = t.too_many_splits; unread = t.unread } };
+}
+
 impl Tally {
     /// Nothing came yet.
-    pub fn new() -> Tally {
+    pub fn new() -> Tally
+        ensures { result ≡ nothing }
+    {
         Tally {
             passed: 0,
             failed: 0,
@@ -26,22 +39,30 @@ impl Tally {
     }
 
     /// Counts a vector whose answer is the wanted one.
-    pub fn pass(&mut self) {
+    pub fn pass(&mut self)
+        ensures { self.new ≡ with_passed self.old }
+    {
         self.passed = self.passed.saturating_add(1);
     }
 
     /// Counts a vector whose answer is another one.
-    pub fn fail(&mut self) {
+    pub fn fail(&mut self)
+        ensures { self.new ≡ with_failed self.old }
+    {
         self.failed = self.failed.saturating_add(1);
     }
 
     /// Counts a line that is no vector.
-    pub fn refuse(&mut self) {
+    pub fn refuse(&mut self)
+        ensures { self.new ≡ with_unread self.old }
+    {
         self.unread = self.unread.saturating_add(1);
     }
 
     /// Counts a vector that wasn't asked.
-    pub fn skip(&mut self, reason: Reason) {
+    pub fn skip(&mut self, reason: Reason)
+        ensures { self.new ≡ with_skipped reason self.old }
+    {
         match reason {
             Reason::GitTrailingSpaces => {
                 self.git_trailing_spaces = self.git_trailing_spaces.saturating_add(1);
@@ -52,13 +73,18 @@ impl Tally {
         }
     }
 
-    fn skipped(&self) -> u64 {
+    fn skipped(&self) -> u64
+        ensures { result ≡ skipped self.now }
+    {
         self.git_trailing_spaces
             .saturating_add(self.too_many_splits)
     }
 
     /// The status of a run that came to its end: 0, or 1 where a vector failed or a line was no vector.
-    pub fn status(&self) -> u8 {
+    pub fn status(&self) -> u8
+        ensures good { (result ≡ 0) ↔ ((self.now.failed ≡ 0) × (self.now.unread ≡ 0)) }
+        ensures bound { result ≤ 1 }
+    {
         if self.failed == 0 && self.unread == 0 {
             0
         } else {
@@ -67,7 +93,10 @@ impl Tally {
     }
 }
 
+/// The counts, in words; reasons for which no vector was skipped aren't told.
 impl fmt::Display for Tally {
+    ghost output = { λ t. Some (tally_text t) };
+
     fn fmt<W: fmt::Write>(&self, f: &mut fmt::Formatter<W>) -> fmt::Result {
         let passed = self.passed;
         let failed = self.failed;

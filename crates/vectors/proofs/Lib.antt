@@ -1,0 +1,4 @@
+mod Names
+mod Objects
+mod Cuts
+mod Counting

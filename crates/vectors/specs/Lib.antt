@@ -1,0 +1,5 @@
+pub mod Agrees
+pub mod Vectors
+pub mod Tallies
+pub mod Verdicts
+pub mod Lines

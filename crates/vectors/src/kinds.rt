@@ -1,0 +1,29 @@
+//! What is asked.
+
+use crate::outcome::{Outcome, Trouble};
+use serde_json::Value;
+use std::alloc::Global;
+
+/// What answers the vectors, by their kinds.
+///
+/// A contract sees, for each call, a relation between the value, the call and an answer that
+/// the call may give.
+pub trait Kinds {
+    ghost use Rattle.std.specs.Prelude.{ℕ, List, Option, Result, ⊤, map};
+    ghost use Rattle.serde_json.specs.Data.{Data};
+    ghost use Rattle.serde_json.specs.View.{view};
+    ghost use Rattle.vectors.specs.declared.outcome.Outcome.{Outcome};
+    ghost use Rattle.vectors.specs.declared.outcome.Trouble.{Trouble};
+
+    ghost gives: { Self → List ℕ → Data → Option (Result Outcome Trouble) → Type 0 } = { λ _ _ _ _. ⊤ };
+
+    ghost waits: { Self → List ℕ → List (List ℕ) → Type 0 } = { λ _ _ _. ⊤ };
+
+    /// What the kind of this name answers, if there is one.
+    fn answer(&self, alloc: Global, kind: &str, input: &Value) -> Option<Result<Outcome, Trouble>>
+        ensures { gives self.now kind.now (view input.now) result };
+
+    /// The fields of a kind that may be missing in its answers.
+    fn waiting(&self, kind: &str) -> &'static [&'static str]
+        ensures { waits self.now kind.now (map (λ w. w.now) result.now) };
+}

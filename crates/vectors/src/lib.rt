@@ -1,0 +1,23 @@
+//! Vectors: what a library is asked, with the answer that is wanted; whether an answer agrees with it, and how many do.
+#![tactic(auto)]
+
+mod agree;
+mod equal;
+mod fields;
+mod kinds;
+mod line;
+mod outcome;
+mod run;
+mod tally;
+mod vector;
+mod verdict;
+
+pub use agree::agrees;
+pub use equal::is_equal;
+pub use fields::{field, flag, flag_at, item, list, members, object, text, text_at};
+pub use kinds::Kinds;
+pub use outcome::{Outcome, Reason, Trouble};
+pub use run::{Stop, replay};
+pub use tally::Tally;
+pub use vector::Vector;
+pub use verdict::Verdict;
