@@ -26,11 +26,6 @@ abbrev pub is_empty : {A : Type 0} → List A → Bool
 is_empty [] = true
 is_empty (x ∷ xs) = false
 
--- the text begins with a slash
-abbrev pub is_rooted : List ℕ → Bool
-is_rooted [] = false
-is_rooted (b ∷ bs) = b == 47
-
 -- it is a directory
 abbrev pub is_directory : Kind → Bool
 is_directory (Dir entries) = true

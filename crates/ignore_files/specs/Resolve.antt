@@ -3,8 +3,8 @@ use Rattle.std.specs.Prelude.{ℕ, zero, suc, Bool, true, List, [], ◌∷◌, �
 use Rattle.ignore_glob.specs.declared.fault.Fault.{Fault}
 use Rattle.ignore_glob.specs.declared.fault.Fault.TheVariants.{NotFound, NotADirectory, LinkLimit}
 use Rattle.ignore_files.specs.Entries.{named}
-use Rattle.ignore_glob.specs.Paths.{pieces}
-use Rattle.ignore_files.specs.Memory.{and_then, is_empty, is_rooted, entries_of, is_dir_at}
+use Rattle.ignore_glob.specs.Paths.{pieces, is_absolute}
+use Rattle.ignore_files.specs.Memory.{and_then, is_empty, entries_of, is_dir_at}
 use Rattle.ignore_files.specs.declared.memory.entry.Entry.{Entry}
 use Rattle.ignore_files.specs.declared.memory.node.Node.{Node}
 use Rattle.ignore_files.specs.declared.memory.node.Kind.{Kind}
@@ -33,7 +33,7 @@ enter nodes here piece = cond (stays piece) (Ok here) (enter_node piece (slice_g
 abbrev pub target_of : ℕ → Kind → Option (ℕ × List ℕ)
 target_of parent (Dir entries) = None
 target_of parent (File bytes) = None
-target_of parent (Link target) = Some (cond (is_rooted target) 0 parent, target)
+target_of parent (Link target) = Some (cond (is_absolute target) 0 parent, target)
 
 -- the same of the node that stands at a place
 abbrev pub link_of : Option Node → Option (ℕ × List ℕ)
@@ -71,7 +71,7 @@ link_limit = 40
 
 -- where a text is read from: `/`, or the place to which the working directory leads, whose links count
 abbrev pub start_of : List ℕ → List Node → List ℕ → Result Reached Fault
-start_of cwd nodes path = cond (is_rooted path) (Ok (record { node = 0; links = link_limit })) (walk nodes true link_limit (pieces cwd) 0)
+start_of cwd nodes path = cond (is_absolute path) (Ok (record { node = 0; links = link_limit })) (walk nodes true link_limit (pieces cwd) 0)
 
 -- the place to which a text leads, or the fault of its resolving
 abbrev pub resolved : List ℕ → List Node → List ℕ → Bool → Result ℕ Fault

@@ -1,4 +1,5 @@
-//! A tree of files by five answers: the trait, its types, and trees in memory.
+//! A tree of files by five answers: the trait, its types, trees in memory and the machine's
+//! files; and the environment of a run (`Env`), which is handed in.
 #![tactic(auto)]
 
 mod disk;

@@ -45,7 +45,8 @@ impl Model for MemoryTree {
 
 impl MemoryTree {
     /// The tree with the directory `/` alone, and this working directory, which needn't be
-    /// there. `NotClean` where `cwd` isn't `/`, or `/` and names joined by single slashes.
+    /// there. Refused with `NotClean` where `cwd` isn't `/`, or `/` and names joined by single
+    /// slashes; with `Memory` for want of memory.
     pub fn new(alloc: Global, cwd: &str) -> Result<MemoryTree, TreeError>
         ensures { MakesIfRoom (made cwd.now) result }
     {
@@ -59,9 +60,10 @@ impl MemoryTree {
         Ok(MemoryTree { cwd, nodes })
     }
 
-    /// Adds a directory with nothing in it. `NotClean` where the path isn't `/`, or `/` and
-    /// names joined by single slashes; `NoParent` where what it should be in isn't a directory
-    /// of the tree; `Exists` where something is there already, as `/` always is.
+    /// Adds a directory with nothing in it. Refused with `NotClean` where the path isn't `/`, or
+    /// `/` and names joined by single slashes; with `NoParent` where what it should be in isn't
+    /// a directory of the tree; with `Exists` where something is there already, as `/` always
+    /// is; and else with `Memory` for want of memory. A refused call changes nothing.
     pub fn add_dir(&mut self, path: &str) -> Result<(), TreeError>
         ensures { LeavesIfRoom (dir_added self.old path.now) result self.old self.new }
     {
@@ -76,7 +78,8 @@ impl MemoryTree {
         )
     }
 
-    /// Adds a file with these bytes. Refused as `add_dir`.
+    /// Adds a file with these bytes. Refused as `add_dir`: with `NotClean`, `NoParent`, `Exists`
+    /// or `Memory`. A refused call changes nothing.
     pub fn add_file(&mut self, path: &str, bytes: &[u8]) -> Result<(), TreeError>
         ensures { LeavesIfRoom (file_added bytes.now self.old path.now) result self.old self.new }
     {
@@ -91,7 +94,8 @@ impl MemoryTree {
         )
     }
 
-    /// Adds a link, whose target needn't be there. Refused as `add_dir`.
+    /// Adds a link, whose target needn't be there. Refused as `add_dir`: with `NotClean`,
+    /// `NoParent`, `Exists` or `Memory`. A refused call changes nothing.
     pub fn add_link(&mut self, path: &str, target: &str) -> Result<(), TreeError>
         ensures { LeavesIfRoom (link_added target.now self.old path.now) result self.old self.new }
     {
@@ -107,8 +111,9 @@ impl MemoryTree {
     }
 
     /// Adds to a directory something whose name can't be told: its listing has the fault
-    /// `BadName` there. It is no node, and takes no inode. `NotClean` as for `add_dir`;
-    /// `Missing` where no directory is at the path.
+    /// `BadName` there. It is no node, and takes no inode. Refused with `NotClean` as `add_dir`
+    /// is; with `Missing` where no directory is at the path; and else with `Memory` for want of
+    /// memory. A refused call changes nothing.
     pub fn add_nameless(&mut self, dir: &str) -> Result<(), TreeError>
         ensures { LeavesIfRoom (nameless_added self.old dir.now) result self.old self.new }
     {

@@ -174,7 +174,8 @@ impl Name {
         self.text.as_str()
     }
 
-    /// Its text, given back. It takes no memory.
+    /// Its text, given back without taking memory.
+    /// For the crates above.
     pub fn into_string(self) -> String
         ensures { string_bytes result ≡ self }
     {
@@ -228,7 +229,8 @@ impl Listing {
         self.items.len()
     }
 
-    /// The things that are listed, given back. It takes no memory.
+    /// The things that are listed, given back without taking memory.
+    /// For the crates above.
     pub fn into_vec(self) -> Vec<Listed>
         ensures { result.items ≡ self }
     {
@@ -263,7 +265,8 @@ impl Bytes {
         self.bytes.as_slice()
     }
 
-    /// The bytes, given back. It takes no memory.
+    /// The bytes, given back without taking memory.
+    /// For the crates above.
     pub fn into_vec(self) -> Vec<u8>
         ensures { result.items ≡ self }
     {

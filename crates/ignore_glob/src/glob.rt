@@ -15,4 +15,3 @@ mod token;
 pub use fault::{GlobFault, PatternError};
 pub use options::Options;
 pub use pattern::{Pattern, characters};
-pub use token::{Class, Token};

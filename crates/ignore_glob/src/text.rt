@@ -54,6 +54,7 @@ pub fn is_hidden(path: &str) -> bool
 }
 
 /// What follows the last `/` of a path, or all of it where it has none.
+/// For the crates above.
 pub fn last_piece(path: &str) -> &str
     ensures { result.now ≡ last_piece (pieces path.now) }
 {

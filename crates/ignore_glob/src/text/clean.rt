@@ -7,6 +7,7 @@ ghost use Rattle.ignore_glob.specs.Roots.{IsWithoutEnd, rises, is_rooted};
 use crate::text::prefix::{has_slash, trim_root, without_slash};
 
 /// Whether a text is a name: not empty, without `/`, and neither `.` nor `..`.
+/// For the crates above.
 pub fn is_name(text: &str) -> bool
     ensures { IsTrue result ↔ IsName text.now }
 {
@@ -69,6 +70,7 @@ fn are_names(text: &str) -> bool
 }
 
 /// Whether a piece between the slashes of a path is a name: not empty, and neither `.` nor `..`.
+/// For the crates above.
 pub fn is_proper(piece: &str) -> bool
     ensures { result ≡ is_proper piece.now }
 {

@@ -32,6 +32,7 @@ pub fn strip<'p>(root: &str, path: &'p str) -> &'p str
 }
 
 /// A root as a gitignore builder keeps it: without one leading `./`.
+/// For the crates above.
 pub fn trim_root(root: &str) -> &str
     ensures { result.now ≡ trim_of root.now }
 {
@@ -61,6 +62,7 @@ fn at_bound(prefix: &str, rest: &str) -> bool
 }
 
 /// Whether a path has a `/`.
+/// For the crates above.
 pub fn has_slash(path: &str) -> bool
     ensures { result ≡ has_slash path.now }
 {
