@@ -6,12 +6,14 @@ use Rattle.ignore_glob.specs.Errors.{io_fault}
 use Rattle.ignore_glob.specs.Paths.{is_absolute, joined, pieces}
 use Rattle.ignore_glob.specs.Problem.{Problem, io}
 use Rattle.ignore_files.specs.declared.env.Env.{Env}
+use Rattle.ignore_files.specs.declared.types.Contents.{Contents}
 use Rattle.ignore_files.specs.declared.types.Metadata.{Metadata}
+use Rattle.ignore_files.specs.declared.types.Refusal.{Refusal}
 use Rattle.ignore_files.specs.Kinds.{is_file}
 use Rattle.ignore_files.specs.Tree.{Tree}
 use Rattle.ignore_rules.specs.Rules.{Building, Ruleset, begun, built, empty}
 use Rattle.ignore_excludes.specs.ExcludesSearch.{IsExcludesPath}
-use Rattle.ignore_rules.specs.RuleFile.{AddsFile}
+use Rattle.ignore_rules.specs.RuleFile.{AddsFile, AddsAnswer}
 
 -- the pieces but the last
 abbrev pub but_last : List (List ℕ) → List (List ℕ)
@@ -32,6 +34,11 @@ without_fault (Some problem) = if is_some (io_fault problem) then None else Some
 abbrev pub BuildsFile : Tree → List ℕ → Building → Ruleset → Option Problem → Type 0
 BuildsFile tree path builder matcher told =
     (filled : Building) × (problem : Option Problem) × AddsFile tree path builder filled problem × (matcher ≡ built filled) × (told ≡ without_fault problem)
+
+-- the matcher of the builder to which what one call answered for the file was added, and what is told of that
+abbrev pub BuildsAnswer : List ℕ → Result Contents Refusal → Building → Ruleset → Option Problem → Type 0
+BuildsAnswer path answer builder matcher told =
+    (filled : Building) × (problem : Option Problem) × AddsAnswer path answer builder filled problem × (matcher ≡ built filled) × (told ≡ without_fault problem)
 
 -- the matcher of one file, relative to the directory of the file
 abbrev pub IsMatcherOf : Tree → List ℕ → Ruleset → Option Problem → Type 0
