@@ -1,5 +1,5 @@
 -- Matchers that are read from files: of one file, and of the global one.
-use Rattle.std.specs.Prelude.{◌≡◌, ◌==◌, ◌&&◌, ℕ, Bool, true, false, List, [], ◌∷◌, length, codes, Option, None, Some, is_some, Result, Ok, Err, if◌then◌else◌}
+use Rattle.std.specs.Prelude.{◌≡◌, ◌⊎◌, ◌==◌, ◌&&◌, ℕ, Bool, true, false, List, [], ◌∷◌, length, codes, Option, None, Some, is_some, Result, Ok, Err, if◌then◌else◌}
 use Rattle.ignore_glob.specs.declared.fault.Fault.{Fault}
 use Rattle.ignore_glob.specs.declared.fault.Fault.TheVariants.{NoCurrentDir}
 use Rattle.ignore_glob.specs.Errors.{io_fault}
@@ -39,6 +39,12 @@ BuildsFile tree path builder matcher told =
 abbrev pub BuildsAnswer : List ℕ → Result Contents Refusal → Building → Ruleset → Option Problem → Type 0
 BuildsAnswer path answer builder matcher told =
     (filled : Building) × (problem : Option Problem) × AddsAnswer path answer builder filled problem × (matcher ≡ built filled) × (told ≡ without_fault problem)
+
+-- the empty matcher, or that of the builder to which what one call answered for some file was added
+abbrev pub BuildsAnyAnswer : (List ℕ → Result Contents Refusal → Type 0) → Building → Ruleset → Option Problem → Type 0
+BuildsAnyAnswer Gives builder matcher told =
+    ((matcher ≡ empty) × (told ≡ None))
+    ⊎ ((path : List ℕ) × (answer : Result Contents Refusal) × Gives path answer × BuildsAnswer path answer builder matcher told)
 
 -- the matcher of one file, relative to the directory of the file
 abbrev pub IsMatcherOf : Tree → List ℕ → Ruleset → Option Problem → Type 0
