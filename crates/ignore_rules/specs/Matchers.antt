@@ -1,5 +1,5 @@
 -- Matchers that are read from files: of one file, and of the global one.
-use Rattle.std.specs.Prelude.{◌≡◌, ◌⊎◌, ◌==◌, ◌&&◌, ℕ, Bool, true, false, List, [], ◌∷◌, length, codes, Option, None, Some, is_some, Result, Ok, Err, if◌then◌else◌}
+use Rattle.std.specs.Prelude.{◌≡◌, ◌⊎◌, ◌==◌, ◌&&◌, ℕ, Bool, true, false, List, length, codes, Option, None, Some, is_some, Result, Ok, Err, if◌then◌else◌}
 use Rattle.ignore_glob.specs.declared.fault.Fault.{Fault}
 use Rattle.ignore_glob.specs.declared.fault.Fault.TheVariants.{NoCurrentDir}
 use Rattle.ignore_glob.specs.Errors.{io_fault}
@@ -10,20 +10,15 @@ use Rattle.ignore_files.specs.declared.types.Contents.{Contents}
 use Rattle.ignore_files.specs.declared.types.Metadata.{Metadata}
 use Rattle.ignore_files.specs.declared.types.Refusal.{Refusal}
 use Rattle.ignore_files.specs.Kinds.{is_file}
+use Rattle.ignore_files.specs.Memory.{front}
 use Rattle.ignore_files.specs.Tree.{Tree}
 use Rattle.ignore_rules.specs.Rules.{Building, Ruleset, begun, built, empty}
 use Rattle.ignore_excludes.specs.ExcludesSearch.{IsExcludesPath}
 use Rattle.ignore_rules.specs.RuleFile.{AddsFile, AddsAnswer}
 
--- the pieces but the last
-abbrev pub but_last : List (List ℕ) → List (List ℕ)
-but_last [] = []
-but_last (piece ∷ []) = []
-but_last (piece ∷ (next ∷ more)) = piece ∷ but_last (next ∷ more)
-
 -- what stands before the last slash of a path; a path without a slash gives the empty text, a path directly below `/` gives `/`
 abbrev pub folder_of : List ℕ → List ℕ
-folder_of path = let folder = joined (but_last (pieces path)) in if is_absolute path && length folder == 0 then codes "/" else folder
+folder_of path = let folder = joined (front (pieces path)) in if is_absolute path && length folder == 0 then codes "/" else folder
 
 -- the problem, unless it comes down to a fault of the file system
 abbrev pub without_fault : Option Problem → Option Problem
