@@ -2,27 +2,27 @@
 use Rattle.std.proofs.Common.{◌≡◌, inl, inr, ℕ, Bool, false, List, [], ◌∷◌, ◌++◌, if◌then◌else◌, refl, sym, ap, ◌∙◌, subst}
 use Rattle.std.proofs.lemmas.List.{append_assoc}
 use Rattle.std.proofs.lemmas.Bool.{cases_Bool, both_ways}
-use Rattle.ignore_excludes.specs.Excludes.{is_space, IsBlank, Then, EndsLine, trimmed}
+use Rattle.ignore_excludes.specs.Excludes.{is_space, IsBlank, Then, EndsLine, trimmed_start}
 
 -- no byte, or first one that is no white space
 abbrev pub StartsSolid : List ℕ → Type 0
 StartsSolid [] = Unit {0}
 StartsSolid (b ∷ bs) = is_space b ≡ false
 
-pub trimmed-append : (blank rest : List ℕ) → IsBlank blank → trimmed (blank ++ rest) ≡ trimmed rest
-trimmed-append [] rest h = refl
-trimmed-append (b ∷ bs) rest h = rw h.0 (trimmed-append bs rest h.1)
+pub trimmed_start-append : (blank rest : List ℕ) → IsBlank blank → trimmed_start (blank ++ rest) ≡ trimmed_start rest
+trimmed_start-append [] rest h = refl
+trimmed_start-append (b ∷ bs) rest h = rw h.0 (trimmed_start-append bs rest h.1)
 
-pub trimmed-solid : (text : List ℕ) → StartsSolid text → trimmed text ≡ text
-trimmed-solid [] h = refl
-trimmed-solid (b ∷ bs) h = rw h refl
+pub trimmed_start-solid : (text : List ℕ) → StartsSolid text → trimmed_start text ≡ text
+trimmed_start-solid [] h = refl
+trimmed_start-solid (b ∷ bs) h = rw h refl
 
-pub StartsSolid-trimmed : (text : List ℕ) → StartsSolid (trimmed text)
-StartsSolid-trimmed [] = tt
-StartsSolid-trimmed (b ∷ bs) =
-    let P : Bool → Type 0 = λ t. StartsSolid (if t then trimmed bs else b ∷ bs) in
+pub StartsSolid-trimmed_start : (text : List ℕ) → StartsSolid (trimmed_start text)
+StartsSolid-trimmed_start [] = tt
+StartsSolid-trimmed_start (b ∷ bs) =
+    let P : Bool → Type 0 = λ t. StartsSolid (if t then trimmed_start bs else b ∷ bs) in
     elim (cases_Bool (is_space b)) [
-      | inl e ↦ subst P (sym e) (StartsSolid-trimmed bs)
+      | inl e ↦ subst P (sym e) (StartsSolid-trimmed_start bs)
       | inr e ↦ subst P (sym e) e
     ]
 
@@ -31,23 +31,23 @@ IsBlank-append [] b h k = k
 IsBlank-append (x ∷ xs) b h k = (h.0, IsBlank-append xs b h.1 k)
 
 -- the white space that a text begins with
-pub front_of : (text : List ℕ) → (blank : List ℕ) × (text ≡ blank ++ trimmed text) × IsBlank blank
+pub front_of : (text : List ℕ) → (blank : List ℕ) × (text ≡ blank ++ trimmed_start text) × IsBlank blank
 front_of [] = ([], refl, tt)
 front_of (b ∷ bs) =
-    let P : Bool → Type 0 = λ t. (blank : List ℕ) × (b ∷ bs ≡ blank ++ (if t then trimmed bs else b ∷ bs)) × IsBlank blank in
+    let P : Bool → Type 0 = λ t. (blank : List ℕ) × (b ∷ bs ≡ blank ++ (if t then trimmed_start bs else b ∷ bs)) × IsBlank blank in
     elim (cases_Bool (is_space b)) [
       | inl e ↦ (let more = front_of bs in subst P (sym e) (b ∷ more.0, ap (λ t. b ∷ t) more.1, (e, more.2)))
       | inr e ↦ subst P (sym e) ([], refl, tt)
     ]
 
 -- what follows white space, where that begins with none
-pub after_blank : (Q : List ℕ → Type 0) (text : List ℕ) → ((rest : List ℕ) → Q rest → StartsSolid rest) → Then IsBlank Q text → Q (trimmed text)
+pub after_blank : (Q : List ℕ → Type 0) (text : List ℕ) → ((rest : List ℕ) → Q rest → StartsSolid rest) → Then IsBlank Q text → Q (trimmed_start text)
 after_blank Q text starts h =
-    let e : trimmed text ≡ h.1 = ap trimmed h.2 ∙ (trimmed-append h.0 h.1 h.3 ∙ trimmed-solid h.1 (starts h.1 h.4)) in
+    let e : trimmed_start text ≡ h.1 = ap trimmed_start h.2 ∙ (trimmed_start-append h.0 h.1 h.3 ∙ trimmed_start-solid h.1 (starts h.1 h.4)) in
     subst Q (sym e) h.4
 
-pub before_blank : (Q : List ℕ → Type 0) (text : List ℕ) → Q (trimmed text) → Then IsBlank Q text
-before_blank Q text h = let front = front_of text in (front.0, trimmed text, front.1, front.2, h)
+pub before_blank : (Q : List ℕ → Type 0) (text : List ℕ) → Q (trimmed_start text) → Then IsBlank Q text
+before_blank Q text h = let front = front_of text in (front.0, trimmed_start text, front.1, front.2, h)
 
 -- no line ends at a byte that is no white space
 pub EndsLine-solid : (b : ℕ) (bs : List ℕ) → is_space b ≡ false → EndsLine (b ∷ bs) → ⊥

@@ -3,8 +3,8 @@ use Rattle.std.proofs.Common.{◌≡◌, inl, inr, ℕ, Bool, true, false, List,
 use Rattle.std.specs.Char.{to_ascii_lowercase}
 use Rattle.std.proofs.lemmas.List.{take-append-drop, take_at, drop_at, length-map}
 use Rattle.std.proofs.lemmas.Grind.{common_steps}
-use Rattle.ignore_excludes.specs.Excludes.{is_space, IsBlank, Then, IsQuote, IsKey, IsEquals, HasValue, Assigns, SetsKey, IsShortest, IsPreferred, trimmed}
-use Rattle.ignore_excludes.proofs.ExcludesBlanks.{StartsSolid, trimmed-append, front_of, after_blank, before_blank}
+use Rattle.ignore_excludes.specs.Excludes.{is_space, IsBlank, Then, IsQuote, IsKey, IsEquals, HasValue, Assigns, SetsKey, IsShortest, IsPreferred, trimmed_start}
+use Rattle.ignore_excludes.proofs.ExcludesBlanks.{StartsSolid, trimmed_start-append, front_of, after_blank, before_blank}
 use Rattle.ignore_excludes.proofs.ExcludesValues.{HasValue-solid}
 
 -- P and Q hold for the same values
@@ -25,47 +25,47 @@ IsPreferred-plain R (Some v) h k = inr (h, k)
 quoted-solid : (Q : List ℕ → Type 0) (text : List ℕ) → Then (IsQuote true) Q text → StartsSolid text
 quoted-solid Q text (front, rest, e, one, h) = let first : text ≡ 34 ∷ rest = cc in subst StartsSolid (sym first) refl
 
-pub Assigns-quoted : (v text : List ℕ) → Assigns true v text → (rest : List ℕ) × (trimmed text ≡ 34 ∷ rest) × HasValue v (trimmed rest)
+pub Assigns-quoted : (v text : List ℕ) → Assigns true v text → (rest : List ℕ) × (trimmed_start text ≡ 34 ∷ rest) × HasValue v (trimmed_start rest)
 Assigns-quoted v text h =
     let Q : List ℕ → Type 0 = λ t. Then (IsQuote true) (Then IsBlank (HasValue v)) t in
     let k = after_blank Q text (λ rest. quoted-solid (Then IsBlank (HasValue v)) rest) h in
-    let first : trimmed text ≡ 34 ∷ k.1 = (let e = k.2 in let one = k.3 in cc) in
+    let first : trimmed_start text ≡ 34 ∷ k.1 = (let e = k.2 in let one = k.3 in cc) in
     (k.1, first, after_blank (HasValue v) k.1 (HasValue-solid v) k.4)
 
-pub Assigns-plain : (v text : List ℕ) → Assigns false v text → HasValue v (trimmed text)
+pub Assigns-plain : (v text : List ℕ) → Assigns false v text → HasValue v (trimmed_start text)
 Assigns-plain v text (a, r, e, blank, (q, s, d, none, h)) =
     let same : r ≡ s = cc in
-    let whole : trimmed text ≡ trimmed s = ap trimmed e ∙ (trimmed-append a r blank ∙ ap trimmed same) in
+    let whole : trimmed_start text ≡ trimmed_start s = ap trimmed_start e ∙ (trimmed_start-append a r blank ∙ ap trimmed_start same) in
     subst (HasValue v) (sym whole) (after_blank (HasValue v) s (HasValue-solid v) h)
 
-pub Assigns-from_quoted : (v text rest : List ℕ) → trimmed text ≡ 34 ∷ rest → HasValue v (trimmed rest) → Assigns true v text
+pub Assigns-from_quoted : (v text rest : List ℕ) → trimmed_start text ≡ 34 ∷ rest → HasValue v (trimmed_start rest) → Assigns true v text
 Assigns-from_quoted v text rest e h =
     let front = front_of text in
-    (front.0, trimmed text, front.1, front.2, (34 ∷ [], rest, e, refl, before_blank (HasValue v) rest h))
+    (front.0, trimmed_start text, front.1, front.2, (34 ∷ [], rest, e, refl, before_blank (HasValue v) rest h))
 
-pub Assigns-from_plain : (v text : List ℕ) → HasValue v (trimmed text) → Assigns false v text
+pub Assigns-from_plain : (v text : List ℕ) → HasValue v (trimmed_start text) → Assigns false v text
 Assigns-from_plain v text h =
     let front = front_of text in
-    (front.0, trimmed text, front.1, front.2, ([], trimmed text, refl, refl, ([], trimmed text, refl, tt, h)))
+    (front.0, trimmed_start text, front.1, front.2, ([], trimmed_start text, refl, refl, ([], trimmed_start text, refl, tt, h)))
 
 HasValue-nil : (v : List ℕ) → HasValue v [] → ⊥
 HasValue-nil v ([], rest, e, (is, ne, solid), closes) = ne (sym is)
 HasValue-nil v (b ∷ bs, rest, e, (is, ne, solid), closes) = cc
 
-pub assigned_nothing : (text : List ℕ) → trimmed text ≡ [] → IsPreferred (λ (q : Bool) (v : List ℕ). Assigns q v text) None
+pub assigned_nothing : (text : List ℕ) → trimmed_start text ≡ [] → IsPreferred (λ (q : Bool) (v : List ℕ). Assigns q v text) None
 assigned_nothing text e true v h = (let k = Assigns-quoted v text h in let d = k.1 in cc)
 assigned_nothing text e false v h = HasValue-nil v (subst (HasValue v) e (Assigns-plain v text h))
 
-pub assigned_quoted : (text rest v : List ℕ) → trimmed text ≡ 34 ∷ rest → IsShortest (λ (v : List ℕ). HasValue v (trimmed rest)) (Some v) → IsPreferred (λ (q : Bool) (v : List ℕ). Assigns q v text) (Some v)
+pub assigned_quoted : (text rest v : List ℕ) → trimmed_start text ≡ 34 ∷ rest → IsShortest (λ (v : List ℕ). HasValue v (trimmed_start rest)) (Some v) → IsPreferred (λ (q : Bool) (v : List ℕ). Assigns q v text) (Some v)
 assigned_quoted text rest v e h =
-    let P : List ℕ → Type 0 = λ w. HasValue w (trimmed rest) in
+    let P : List ℕ → Type 0 = λ w. HasValue w (trimmed_start rest) in
     let Q : List ℕ → Type 0 = λ w. Assigns true w text in
-    let back : (w : List ℕ) → Q w → P w = λ w k. (let q = Assigns-quoted w text k in let d = q.1 in let same : q.0 ≡ rest = cc in subst (λ (t : List ℕ). HasValue w (trimmed t)) same q.2) in
+    let back : (w : List ℕ) → Q w → P w = λ w k. (let q = Assigns-quoted w text k in let d = q.1 in let same : q.0 ≡ rest = cc in subst (λ (t : List ℕ). HasValue w (trimmed_start t)) same q.2) in
     inl (IsShortest-iff P Q (λ w k. Assigns-from_quoted w text rest e k) back (Some v) h)
 
-pub assigned_plain : (text : List ℕ) (r : Option (List ℕ)) → ((rest : List ℕ) → trimmed text ≡ 34 ∷ rest → IsShortest (λ (v : List ℕ). HasValue v (trimmed rest)) None) → IsShortest (λ (v : List ℕ). HasValue v (trimmed text)) r → IsPreferred (λ (q : Bool) (v : List ℕ). Assigns q v text) r
+pub assigned_plain : (text : List ℕ) (r : Option (List ℕ)) → ((rest : List ℕ) → trimmed_start text ≡ 34 ∷ rest → IsShortest (λ (v : List ℕ). HasValue v (trimmed_start rest)) None) → IsShortest (λ (v : List ℕ). HasValue v (trimmed_start text)) r → IsPreferred (λ (q : Bool) (v : List ℕ). Assigns q v text) r
 assigned_plain text r none h =
-    let P : List ℕ → Type 0 = λ w. HasValue w (trimmed text) in
+    let P : List ℕ → Type 0 = λ w. HasValue w (trimmed_start text) in
     let Q : List ℕ → Type 0 = λ w. Assigns false w text in
     IsPreferred-plain (λ (q : Bool) (v : List ℕ). Assigns q v text) r
     (λ v k. (let q = Assigns-quoted v text k in none q.0 q.1 v q.2))
@@ -87,23 +87,23 @@ SetsKey-solid q v text (b ∷ bs, rest, e, key, h) =
 equals-solid : (Q : List ℕ → Type 0) (text : List ℕ) → Then IsEquals Q text → StartsSolid text
 equals-solid Q text (front, rest, e, one, h) = let first : text ≡ 61 ∷ rest = cc in subst StartsSolid (sym first) refl
 
-pub SetsKey-parts : (q : Bool) (v text : List ℕ) → SetsKey q v text → IsKey (take 12 text) × ((rest : List ℕ) × (trimmed (drop 12 text) ≡ 61 ∷ rest) × Assigns q v rest)
+pub SetsKey-parts : (q : Bool) (v text : List ℕ) → SetsKey q v text → IsKey (take 12 text) × ((rest : List ℕ) × (trimmed_start (drop 12 text) ≡ 61 ∷ rest) × Assigns q v rest)
 SetsKey-parts q v text (key, more, e, is, h) =
     let len = key-length key is in
     let front : take 12 text ≡ key = ap (λ t. take 12 t) e ∙ take_at key more 12 len in
     let back : drop 12 text ≡ more = ap (λ t. drop 12 t) e ∙ drop_at key more 12 len in
     let k = after_blank (Then IsEquals (Assigns q v)) more (λ rest. equals-solid (Assigns q v) rest) h in
-    let first : trimmed more ≡ 61 ∷ k.1 = (let d = k.2 in let one = k.3 in cc) in
-    (subst IsKey (sym front) is, (k.1, ap trimmed back ∙ first, k.4))
+    let first : trimmed_start more ≡ 61 ∷ k.1 = (let d = k.2 in let one = k.3 in cc) in
+    (subst IsKey (sym front) is, (k.1, ap trimmed_start back ∙ first, k.4))
 
-pub SetsKey-from_parts : (q : Bool) (v text rest : List ℕ) → IsKey (take 12 text) → trimmed (drop 12 text) ≡ 61 ∷ rest → Assigns q v rest → SetsKey q v text
+pub SetsKey-from_parts : (q : Bool) (v text rest : List ℕ) → IsKey (take 12 text) → trimmed_start (drop 12 text) ≡ 61 ∷ rest → Assigns q v rest → SetsKey q v text
 SetsKey-from_parts q v text rest key e h =
     (take 12 text, drop 12 text, sym (take-append-drop 12 text), key, before_blank (Then IsEquals (Assigns q v)) (drop 12 text) (61 ∷ [], rest, e, refl, h))
 
-pub key_nothing : (text : List ℕ) → (IsKey (take 12 text) → ((rest : List ℕ) → trimmed (drop 12 text) ≡ 61 ∷ rest → ⊥)) → IsPreferred (λ (q : Bool) (v : List ℕ). SetsKey q v text) None
+pub key_nothing : (text : List ℕ) → (IsKey (take 12 text) → ((rest : List ℕ) → trimmed_start (drop 12 text) ≡ 61 ∷ rest → ⊥)) → IsPreferred (λ (q : Bool) (v : List ℕ). SetsKey q v text) None
 key_nothing text never q v h = let k = SetsKey-parts q v text h in never k.0 k.1.0 k.1.1
 
-pub key_value : (text rest : List ℕ) (r : Option (List ℕ)) → IsKey (take 12 text) → trimmed (drop 12 text) ≡ 61 ∷ rest → IsPreferred (λ (q : Bool) (v : List ℕ). Assigns q v rest) r → IsPreferred (λ (q : Bool) (v : List ℕ). SetsKey q v text) r
+pub key_value : (text rest : List ℕ) (r : Option (List ℕ)) → IsKey (take 12 text) → trimmed_start (drop 12 text) ≡ 61 ∷ rest → IsPreferred (λ (q : Bool) (v : List ℕ). Assigns q v rest) r → IsPreferred (λ (q : Bool) (v : List ℕ). SetsKey q v text) r
 key_value text rest r key e h =
     let R : Bool → List ℕ → Type 0 = λ q v. Assigns q v rest in
     let S : Bool → List ℕ → Type 0 = λ q v. SetsKey q v text in

@@ -3,8 +3,8 @@ use Rattle.std.proofs.Common.{◌≡◌, ◌≢◌, ◌⊎◌, inl, inr, ℕ, su
 use Rattle.std.proofs.lemmas.List.{append_assoc, append_cancel_right, nil_from_length, get_or_at, take-append-drop, drop_more, length-take-le, get_or-take}
 use Rattle.std.proofs.lemmas.Bool.{eqb-true, eq-eqb}
 use Rattle.memchr.specs.Find.{IsFirstByte, is_byte}
-use Rattle.ignore_excludes.specs.Excludes.{IsBlank, IsLineStart, SetsKey, Reads, IsPreferred, IsChosen, trimmed}
-use Rattle.ignore_excludes.proofs.ExcludesBlanks.{StartsSolid, StartsSolid-trimmed, trimmed-append, trimmed-solid, front_of}
+use Rattle.ignore_excludes.specs.Excludes.{IsBlank, IsLineStart, SetsKey, Reads, IsPreferred, IsChosen, trimmed_start}
+use Rattle.ignore_excludes.proofs.ExcludesBlanks.{StartsSolid, StartsSolid-trimmed_start, trimmed_start-append, trimmed_start-solid, front_of}
 use Rattle.ignore_excludes.proofs.ExcludesKeys.{IsPreferred-iff, SetsKey-solid}
 
 -- no newline in the text
@@ -58,9 +58,9 @@ Reads-cases w u place q v white solid (before, rest, e, len, (start, indent, d, 
       | inl h ↦ (
           let x = h.0 in
           let left : IsBlank x = IsBlank-back start x (subst IsBlank h.1 white) in
-          let one : trimmed (indent ++ rest) ≡ rest = trimmed-append indent rest blank ∙ trimmed-solid rest (SetsKey-solid q v rest key) in
-          let two : trimmed (x ++ u) ≡ u = trimmed-append x u left ∙ trimmed-solid u solid in
-          let same : rest ≡ u = sym one ∙ (ap trimmed h.2 ∙ two) in
+          let one : trimmed_start (indent ++ rest) ≡ rest = trimmed_start-append indent rest blank ∙ trimmed_start-solid rest (SetsKey-solid q v rest key) in
+          let two : trimmed_start (x ++ u) ≡ u = trimmed_start-append x u left ∙ trimmed_start-solid u solid in
+          let same : rest ≡ u = sym one ∙ (ap trimmed_start h.2 ∙ two) in
           let gap : indent ≡ x = append_cancel_right indent x u (ap (λ t. indent ++ t) (sym same) ∙ h.2) in
           let lens = ap length gap in
           let lend = ap length d in
@@ -164,20 +164,20 @@ further w u line next white solid e one never (Some v) h =
     )
 
 -- the same three, of a text with white space before its first line
-pub chosen_here : (text v : List ℕ) → IsPreferred (λ (q : Bool) (v : List ℕ). SetsKey q v (trimmed text)) (Some v) → IsChosen text (Some v)
+pub chosen_here : (text v : List ℕ) → IsPreferred (λ (q : Bool) (v : List ℕ). SetsKey q v (trimmed_start text)) (Some v) → IsChosen text (Some v)
 chosen_here text v h =
     let front = front_of text in
-    subst (λ (t : List ℕ). IsChosen t (Some v)) (sym front.1) (here front.0 (trimmed text) v front.2 (StartsSolid-trimmed text) h)
+    subst (λ (t : List ℕ). IsChosen t (Some v)) (sym front.1) (here front.0 (trimmed_start text) v front.2 (StartsSolid-trimmed_start text) h)
 
-pub chosen_nowhere : (text : List ℕ) → IsOneLine (trimmed text) → IsPreferred (λ (q : Bool) (v : List ℕ). SetsKey q v (trimmed text)) None → IsChosen text None
+pub chosen_nowhere : (text : List ℕ) → IsOneLine (trimmed_start text) → IsPreferred (λ (q : Bool) (v : List ℕ). SetsKey q v (trimmed_start text)) None → IsChosen text None
 chosen_nowhere text one never =
     let front = front_of text in
-    subst (λ (t : List ℕ). IsChosen t None) (sym front.1) (nowhere front.0 (trimmed text) front.2 (StartsSolid-trimmed text) one never)
+    subst (λ (t : List ℕ). IsChosen t None) (sym front.1) (nowhere front.0 (trimmed_start text) front.2 (StartsSolid-trimmed_start text) one never)
 
-pub chosen_further : (text line next : List ℕ) → trimmed text ≡ line ++ 10 ∷ next → IsOneLine line → IsPreferred (λ (q : Bool) (v : List ℕ). SetsKey q v (trimmed text)) None → (found : Option (List ℕ)) → IsChosen next found → IsChosen text found
+pub chosen_further : (text line next : List ℕ) → trimmed_start text ≡ line ++ 10 ∷ next → IsOneLine line → IsPreferred (λ (q : Bool) (v : List ℕ). SetsKey q v (trimmed_start text)) None → (found : Option (List ℕ)) → IsChosen next found → IsChosen text found
 chosen_further text line next e one never found h =
     let front = front_of text in
-    subst (λ (t : List ℕ). IsChosen t found) (sym front.1) (further front.0 (trimmed text) line next front.2 (StartsSolid-trimmed text) e one never found h)
+    subst (λ (t : List ℕ). IsChosen t found) (sym front.1) (further front.0 (trimmed_start text) line next front.2 (StartsSolid-trimmed_start text) e one never found h)
 
 -- where a search for a newline stops
 pub IsOneLine-none : (text : List ℕ) → IsFirstByte (is_byte 10) text None → IsOneLine text

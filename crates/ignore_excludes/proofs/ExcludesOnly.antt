@@ -5,7 +5,7 @@ use Rattle.std.specs.Result.{result_ok}
 use Rattle.std.specs.Str.{IsUtf8}
 use Rattle.std.proofs.lemmas.List.{take_at, drop_at}
 use Rattle.std.proofs.lemmas.Bool.{cases_order}
-use Rattle.ignore_excludes.specs.Excludes.{HasValue, Assigns, SetsKey, Reads, IsShortest, IsPreferred, IsChosen, IsValue, trimmed}
+use Rattle.ignore_excludes.specs.Excludes.{HasValue, Assigns, SetsKey, Reads, IsShortest, IsPreferred, IsChosen, IsValue, trimmed_start}
 use Rattle.ignore_excludes.proofs.ExcludesKeys.{Assigns-quoted, Assigns-plain, SetsKey-parts}
 
 -- P holds for one value of each length at most
@@ -23,8 +23,8 @@ Assigns-one true text v w len h k =
     let a = Assigns-quoted v text h in
     let b = Assigns-quoted w text k in
     let same : b.0 ≡ a.0 = (let d = a.1 in let e = b.1 in cc) in
-    HasValue-one (trimmed a.0) v w len a.2 (subst (λ (t : List ℕ). HasValue w (trimmed t)) same b.2)
-Assigns-one false text v w len h k = HasValue-one (trimmed text) v w len (Assigns-plain v text h) (Assigns-plain w text k)
+    HasValue-one (trimmed_start a.0) v w len a.2 (subst (λ (t : List ℕ). HasValue w (trimmed_start t)) same b.2)
+Assigns-one false text v w len h k = HasValue-one (trimmed_start text) v w len (Assigns-plain v text h) (Assigns-plain w text k)
 
 Reads-one : (text : List ℕ) (place : ℕ) (q : Bool) → IsOnePerLength (Reads text place q)
 Reads-one text place q v w len h k =

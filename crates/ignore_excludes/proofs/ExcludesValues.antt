@@ -2,8 +2,8 @@
 use Rattle.std.proofs.Common.{◌≡◌, ◌≢◌, ◌⊎◌, inl, inr, ℕ, true, false, List, [], ◌∷◌, ◌++◌, None, Some, length, length-append, refl, sym, ap, ◌∙◌, subst, arith}
 use Rattle.std.proofs.lemmas.List.{append_cancel_right, append_assoc}
 use Rattle.std.proofs.lemmas.Bool.{both_ways}
-use Rattle.ignore_excludes.specs.Excludes.{is_space, IsSolid, EndsLine, Closes, HasValue, IsShortest, trimmed, StartsBlank, IsUnquoted}
-use Rattle.ignore_excludes.proofs.ExcludesBlanks.{StartsSolid, trimmed-append, trimmed-solid, front_of, EndsLine-solid, EndsLine-append}
+use Rattle.ignore_excludes.specs.Excludes.{is_space, IsSolid, EndsLine, Closes, HasValue, IsShortest, trimmed_start, StartsBlank, IsUnquoted}
+use Rattle.ignore_excludes.proofs.ExcludesBlanks.{StartsSolid, trimmed_start-append, trimmed_start-solid, front_of, EndsLine-solid, EndsLine-append}
 
 -- a byte that is no white space and closes the line is a `"`
 closing : (x : ℕ) (w rest after : List ℕ) → rest ≡ x ∷ (w ++ after) → is_space x ≡ false → IsSolid w → Closes rest → (x ∷ w ≡ 34 ∷ []) × EndsLine after
@@ -39,19 +39,19 @@ first_word (b ∷ v) (x ∷ w) rest after e p q s c =
     ]
 
 -- what may close the line: white space alone, or one `"` in it
-pub Closes-cases : (after : List ℕ) → Closes after → EndsLine after ⊎ ((rest : List ℕ) × (trimmed after ≡ 34 ∷ rest) × EndsLine rest)
+pub Closes-cases : (after : List ℕ) → Closes after → EndsLine after ⊎ ((rest : List ℕ) × (trimmed_start after ≡ 34 ∷ rest) × EndsLine rest)
 Closes-cases after (a, r, d, blank, (q, s, f, (false, none), ends)) =
     let same : s ≡ r = cc in
     inl (subst EndsLine (sym d) (EndsLine-append a r blank (subst EndsLine same ends)))
 Closes-cases after (a, r, d, blank, (q, s, f, (true, one), ends)) =
     let same : r ≡ 34 ∷ s = cc in
-    inr (s, ap trimmed d ∙ (trimmed-append a r blank ∙ (ap trimmed same ∙ trimmed-solid (34 ∷ s) refl)), ends)
+    inr (s, ap trimmed_start d ∙ (trimmed_start-append a r blank ∙ (ap trimmed_start same ∙ trimmed_start-solid (34 ∷ s) refl)), ends)
 
 pub Closes-plain : (after : List ℕ) → EndsLine after → Closes after
 Closes-plain after h = ([], after, refl, tt, ([], after, refl, (false, refl), h))
 
-pub Closes-quote : (after rest : List ℕ) → trimmed after ≡ 34 ∷ rest → EndsLine rest → Closes after
-Closes-quote after rest e h = let front = front_of after in (front.0, trimmed after, front.1, front.2, (34 ∷ [], rest, e, (true, refl), h))
+pub Closes-quote : (after rest : List ℕ) → trimmed_start after ≡ 34 ∷ rest → EndsLine rest → Closes after
+Closes-quote after rest e h = let front = front_of after in (front.0, trimmed_start after, front.1, front.2, (34 ∷ [], rest, e, (true, refl), h))
 
 -- a value stands at the front, and its line closes behind it
 pub HasValue-solid : (v text : List ℕ) → HasValue v text → StartsSolid text

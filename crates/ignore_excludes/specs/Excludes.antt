@@ -89,9 +89,9 @@ IsValue text None = IsChosen text None ⊎ ((value : List ℕ) × IsChosen text 
 IsValue text (Some value) = IsChosen text (Some value) × IsUtf8 value
 
 -- the text without the white space that it begins with
-abbrev pub trimmed : List ℕ → List ℕ
-trimmed [] = []
-trimmed (b ∷ bs) = if is_space b then trimmed bs else b ∷ bs
+abbrev pub trimmed_start : List ℕ → List ℕ
+trimmed_start [] = []
+trimmed_start (b ∷ bs) = if is_space b then trimmed_start bs else b ∷ bs
 
 -- no byte, or first one of white space
 abbrev pub StartsBlank : List ℕ → Type 0

@@ -1,7 +1,7 @@
 //! The value of `core.excludesFile` in the bytes of one configuration of git.
 ghost use Rattle.std.specs.Prelude.{◌≡◌, ◌↔◌, ◌≤◌, ◌++◌, ℕ, List, Option, length, drop, IsTrue};
 ghost use Rattle.std.specs.Option.{option_copied};
-ghost use Rattle.ignore_excludes.specs.Excludes.{is_space, trimmed, IsSolid, EndsLine, HasValue, Assigns, SetsKey, IsShortest, IsPreferred, IsChosen, IsValue, StartsBlank, Closes, IsUnquoted};
+ghost use Rattle.ignore_excludes.specs.Excludes.{is_space, trimmed_start, IsSolid, EndsLine, HasValue, Assigns, SetsKey, IsShortest, IsPreferred, IsChosen, IsValue, StartsBlank, Closes, IsUnquoted};
 
 use memchr::memchr;
 use std::str;
@@ -17,7 +17,7 @@ fn is_space(byte: u8) -> bool
 /// How many bytes of white space the text begins with.
 fn space_len(text: &[u8]) -> usize
     ensures within { result ≤ length text.now }
-    ensures rest { drop result text.now ≡ trimmed text.now }
+    ensures rest { drop result text.now ≡ trimmed_start text.now }
 {
     for (i, byte) in text.iter().enumerate() {
         if !is_space(*byte) {
@@ -42,7 +42,7 @@ fn split_word(text: &[u8]) -> (&[u8], &[u8])
 }
 
 fn trim(text: &[u8]) -> &[u8]
-    ensures { result.now ≡ trimmed text.now }
+    ensures { result.now ≡ trimmed_start text.now }
 {
     &text[space_len(text)..]
 }

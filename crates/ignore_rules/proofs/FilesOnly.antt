@@ -1,12 +1,17 @@
--- What a file adds is one thing, told with one problem; so is each matcher that is made of it.
+-- What a file adds is one thing, told with one problem; so is each matcher that is made of it. What is added of one answer of a value that is honest for a tree is what the tree's file adds.
 use Rattle.std.proofs.Common.{◌≡◌, ℕ, ◌+◌, List, ◌∷◌, Option, Some, None, Result, Ok, Err, refl, sym, ap, ◌∙◌, subst}
 use Rattle.ignore_glob.specs.declared.fault.Fault.{Fault}
 use Rattle.ignore_glob.specs.Problem.{Problem, joined}
 use Rattle.ignore_files.specs.declared.env.Env.{Env}
 use Rattle.ignore_files.specs.declared.types.Contents.{Contents}
-use Rattle.ignore_files.specs.Tree.{Tree}
+use Rattle.ignore_files.specs.declared.types.Refusal.{Refusal}
+use Rattle.ignore_files.specs.declared.types.Refusal.TheVariants.{Memory}
+use Rattle.ignore_files.specs.declared.types.Refusal.TheVariants.{Fault as Refused}
+use Rattle.ignore_files.specs.declared.files.Files.{Ghosts}
+use Rattle.ignore_files.specs.Gives.{IsHonest}
+use Rattle.ignore_files.specs.Tree.{Tree, Answers}
 use Rattle.ignore_rules.specs.Rules.{Building, Ruleset, begun, built}
-use Rattle.ignore_rules.specs.RuleFile.{AddsLines, done, stopped, added, refused, AddsContents, at_line_of, said_at, lines_met}
+use Rattle.ignore_rules.specs.RuleFile.{AddsLines, done, stopped, added, refused, AddsContents, AddsFile, AddsAnswer, at_line_of, said_at, lines_met}
 use Rattle.ignore_rules.specs.Matchers.{BuildsFile, BuildsWith, BuildsGlobal, IsMatcherOf, IsGlobalIn, IsGlobalMatcher, folder_of, global_file, without_fault}
 use Rattle.ignore_rules.proofs.LinesOnly.{AddsLine-one, Refuses-one, AddsLine-never}
 use Rattle.ignore_excludes.proofs.ExcludesPlaces.{IsExcludesPath-one}
@@ -29,6 +34,15 @@ AddsContents-one path (Ok contents) old a b p q h k =
     let same = AddsLines-one path 1 (lines_met contents.bytes contents.fault) old a b h.0 k.0 h.1 k.1 in
     (same.0, h.2 ∙ (ap (λ (ps : List Problem). joined ps) same.1 ∙ sym k.2))
 AddsContents-one path (Err fault) old a b p q h k = (h.0 ∙ sym k.0, h.1 ∙ sym k.1)
+
+AddsAnswer-told : (path : List ℕ) (told : Result Contents Fault) (answer : Result Contents Refusal) (old new : Building) (problem : Option Problem) → Answers told answer → AddsAnswer path answer old new problem → AddsContents path told old new problem
+AddsAnswer-told path told (Ok contents) old new problem h k = subst (λ (r : Result Contents Fault). AddsContents path r old new problem) (sym h) k
+AddsAnswer-told path told (Err (Refused fault)) old new problem h k = subst (λ (r : Result Contents Fault). AddsContents path r old new problem) (sym h) k
+AddsAnswer-told path told (Err Memory) old new problem h k = absurd k
+
+-- the clauses on one answer give those on a tree
+AddsFile-answered : {F : Type 0} (files : Ghosts F) (f : F) (tree : Tree) (path : List ℕ) (answer : Result Contents Refusal) (old new : Building) (problem : Option Problem) → IsHonest files f tree → files.contents_gives f path answer → AddsAnswer path answer old new problem → AddsFile tree path old new problem
+AddsFile-answered files f tree path answer old new problem honest gives h = AddsAnswer-told path (tree.contents path) answer old new problem (honest.contents path answer gives) h
 
 BuildsFile-one : (tree : Tree) (path : List ℕ) (builder : Building) (a b : Ruleset) (p q : Option Problem) → BuildsFile tree path builder a p → BuildsFile tree path builder b q → (a ≡ b) × (p ≡ q)
 BuildsFile-one tree path builder a b p q h k =

@@ -1,27 +1,24 @@
 -- Matchers that are read from files: of one file, and of the global one.
-use Rattle.std.specs.Prelude.{◌≡◌, ◌==◌, ◌&&◌, ℕ, Bool, true, false, List, [], ◌∷◌, length, codes, Option, None, Some, is_some, Result, Ok, Err, if◌then◌else◌}
+use Rattle.std.specs.Prelude.{◌≡◌, ◌⊎◌, ◌==◌, ◌&&◌, ℕ, Bool, true, false, List, length, codes, Option, None, Some, is_some, Result, Ok, Err, if◌then◌else◌}
 use Rattle.ignore_glob.specs.declared.fault.Fault.{Fault}
 use Rattle.ignore_glob.specs.declared.fault.Fault.TheVariants.{NoCurrentDir}
 use Rattle.ignore_glob.specs.Errors.{io_fault}
 use Rattle.ignore_glob.specs.Paths.{is_absolute, joined, pieces}
 use Rattle.ignore_glob.specs.Problem.{Problem, io}
 use Rattle.ignore_files.specs.declared.env.Env.{Env}
+use Rattle.ignore_files.specs.declared.types.Contents.{Contents}
 use Rattle.ignore_files.specs.declared.types.Metadata.{Metadata}
+use Rattle.ignore_files.specs.declared.types.Refusal.{Refusal}
 use Rattle.ignore_files.specs.Kinds.{is_file}
+use Rattle.ignore_files.specs.Memory.{front}
 use Rattle.ignore_files.specs.Tree.{Tree}
 use Rattle.ignore_rules.specs.Rules.{Building, Ruleset, begun, built, empty}
 use Rattle.ignore_excludes.specs.ExcludesSearch.{IsExcludesPath}
-use Rattle.ignore_rules.specs.RuleFile.{AddsFile}
-
--- the pieces but the last
-abbrev pub but_last : List (List ℕ) → List (List ℕ)
-but_last [] = []
-but_last (piece ∷ []) = []
-but_last (piece ∷ (next ∷ more)) = piece ∷ but_last (next ∷ more)
+use Rattle.ignore_rules.specs.RuleFile.{AddsFile, AddsAnswer}
 
 -- what stands before the last slash of a path; a path without a slash gives the empty text, a path directly below `/` gives `/`
 abbrev pub folder_of : List ℕ → List ℕ
-folder_of path = let folder = joined (but_last (pieces path)) in if is_absolute path && length folder == 0 then codes "/" else folder
+folder_of path = let folder = joined (front (pieces path)) in if is_absolute path && length folder == 0 then codes "/" else folder
 
 -- the problem, unless it comes down to a fault of the file system
 abbrev pub without_fault : Option Problem → Option Problem
@@ -32,6 +29,17 @@ without_fault (Some problem) = if is_some (io_fault problem) then None else Some
 abbrev pub BuildsFile : Tree → List ℕ → Building → Ruleset → Option Problem → Type 0
 BuildsFile tree path builder matcher told =
     (filled : Building) × (problem : Option Problem) × AddsFile tree path builder filled problem × (matcher ≡ built filled) × (told ≡ without_fault problem)
+
+-- the matcher of the builder to which what one call answered for the file was added, and what is told of that
+abbrev pub BuildsAnswer : List ℕ → Result Contents Refusal → Building → Ruleset → Option Problem → Type 0
+BuildsAnswer path answer builder matcher told =
+    (filled : Building) × (problem : Option Problem) × AddsAnswer path answer builder filled problem × (matcher ≡ built filled) × (told ≡ without_fault problem)
+
+-- the empty matcher, or that of the builder to which what one call answered for some file was added
+abbrev pub BuildsAnyAnswer : (List ℕ → Result Contents Refusal → Type 0) → Building → Ruleset → Option Problem → Type 0
+BuildsAnyAnswer Gives builder matcher told =
+    ((matcher ≡ empty) × (told ≡ None))
+    ⊎ ((path : List ℕ) × (answer : Result Contents Refusal) × Gives path answer × BuildsAnswer path answer builder matcher told)
 
 -- the matcher of one file, relative to the directory of the file
 abbrev pub IsMatcherOf : Tree → List ℕ → Ruleset → Option Problem → Type 0

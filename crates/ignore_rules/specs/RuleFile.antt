@@ -7,6 +7,9 @@ use Rattle.ignore_glob.specs.declared.fault.Fault.{Fault}
 use Rattle.ignore_glob.specs.declared.fault.Fault.TheVariants.{InvalidData}
 use Rattle.ignore_glob.specs.Problem.{Problem, several, at_line, at_path, at_depth, loop, io, glob, unrecognized, invalid_definition, memory, joined}
 use Rattle.ignore_files.specs.declared.types.Contents.{Contents}
+use Rattle.ignore_files.specs.declared.types.Refusal.{Refusal}
+use Rattle.ignore_files.specs.declared.types.Refusal.TheVariants.{Memory}
+use Rattle.ignore_files.specs.declared.types.Refusal.TheVariants.{Fault as Refused}
 use Rattle.ignore_files.specs.Tree.{Tree}
 use Rattle.ignore_rules.specs.Rules.{Building, AddsLine, Refuses}
 
@@ -69,6 +72,12 @@ AddsContents path (Err fault) old new problem = (new ≡ old) × (problem ≡ So
 -- the file at the path in the tree was added
 abbrev pub AddsFile : Tree → List ℕ → Building → Building → Option Problem → Type 0
 AddsFile tree path old new problem = AddsContents path (tree.contents path) old new problem
+
+-- what one call answered for the file was added; it wasn't that memory ran out
+abbrev pub AddsAnswer : List ℕ → Result Contents Refusal → Building → Building → Option Problem → Type 0
+AddsAnswer path (Ok contents) old new problem = AddsContents path (Ok contents) old new problem
+AddsAnswer path (Err (Refused fault)) old new problem = AddsContents path (Err fault) old new problem
+AddsAnswer path (Err Memory) old new problem = ⊥
 
 -- the problem is that memory ran out
 abbrev pub is_memory : Problem → Bool

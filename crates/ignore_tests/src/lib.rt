@@ -1,9 +1,7 @@
-//! Tests of the crates below: worked examples, each public call with ample memory, and calls with memory refused.
+//! Tests of the crates below: worked examples, public calls with ample memory, and calls over files that fail or refuse memory.
 #![tactic(auto)]
 
-/// The answer of a call; where it is refused, that of the same call made again.
-/// So a run in which one request for memory is refused passes too, if the
-/// refusal is told at the call and changes no later answer.
+/// The answer of a call. A call that is refused memory is made again, once.
 #[cfg(test)]
 macro_rules! again {
     ($call:expr) => {

@@ -15,7 +15,7 @@ use ignore_rules::gitignore::{Gitignore, GitignoreBuilder};
 use std::alloc::Global;
 use std::io::Write;
 
-/// The arguments that the program takes, all of them from the first day on.
+/// What is told of wrong arguments. It names three commands, of which `match` alone can be run: `list` and `check` are wrong arguments.
 pub const USAGE: &str = "usage: igwalk match ROOT RULES PATH d|f | list ROOT.. | check ROOT PATH..";
 
 /// Why a run ends before its end.

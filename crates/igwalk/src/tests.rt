@@ -165,8 +165,9 @@ fn errors_that_cannot_be_written_end_the_run(rt: HostRuntime) -> Result<(), Fail
     Ok(())
 }
 
+/// The two tests above refuse each write in turn: they begin at the first, and at last refuse none.
 #[test]
-fn every_write_is_refused_in_turn(rt: HostRuntime) -> Result<(), Fail> {
+fn writes_are_refused_from_the_first_to_none(rt: HostRuntime) -> Result<(), Fail> {
     let (status, written, _) = with_refusing_output(rt.alloc(), 0)?;
     assert_eq!(rt; (status, written.len()), (2, 0));
     let (status, _, told) = with_refusing_errors(rt.alloc(), 0)?;

@@ -1,11 +1,13 @@
 //! Files of rules added to a builder.
 ghost use Rattle.std.specs.Prelude.{◌≡◌, ◌⊎◌, ◌++◌, ◌∷◌, [], ◌<◌, ◌≤◌, ◌+◌, length, take, drop, map, None, Some, Ok, Err, IfOk, IfErr, OnOk, OnErr, option_map, List, Result};
 ghost use Rattle.std.specs.Str.Lines.{strip_carriage_return};
+ghost use Rattle.ignore_files.specs.declared.types.Contents.{Contents};
+ghost use Rattle.ignore_files.specs.declared.types.Refusal.{Refusal};
 ghost use Rattle.ignore_files.specs.Gives.{IsHonest};
 ghost use Rattle.ignore_files.specs.Tree.{Tree};
 ghost use Rattle.ignore_glob.specs.Problem.{told, memory, at_path, io, Problem};
 ghost use Rattle.ignore_rules.specs.Rules.{AddsLine, Refuses};
-ghost use Rattle.ignore_rules.specs.RuleFile.{AddsFile, AddsContents, AddsLines, lines_met, at_line_of, in_file, is_memory, said_at, unmarked};
+ghost use Rattle.ignore_rules.specs.RuleFile.{AddsFile, AddsAnswer, AddsContents, AddsLines, lines_met, at_line_of, in_file, is_memory, said_at, unmarked};
 ghost use Rattle.ignore_rules.specs.RuleSteps.{IsOnePiece, IsMetAs, IsLastMet, IsLineAt, TakesLine, Keeps};
 
 use crate::gitignore::builder::GitignoreBuilder;
@@ -39,6 +41,7 @@ impl GitignoreBuilder {
     /// `Error::Memory` alone, and then the builder is as before.
     pub fn add<F: Files>(&mut self, files: &F, path: &str) -> Result<Option<Error>, Error>
         ensures added { (tree : Tree) → IsHonest F.Files files.now tree → IfOk result (λ problem. AddsFile tree path.now self.old self.new (option_map told problem)) }
+        ensures answered { IfOk result (λ problem. (answer : Result Contents Refusal) × F.contents_gives files.now path.now answer × AddsAnswer path.now answer self.old self.new (option_map told problem)) }
         ensures refused { IfErr result (λ e. told e ≡ memory) }
         ensures unchanged { OnErr result (self.new ≡ self.old) }
     {

@@ -1,10 +1,12 @@
 //! Matchers of the global file, which git's configuration names.
-ghost use Rattle.std.specs.Prelude.{◌≡◌, ℕ, List, Option, true, IfOk, IfErr, option_map, string_bytes};
+ghost use Rattle.std.specs.Prelude.{◌≡◌, ℕ, List, Option, None, Some, true, IfOk, IfErr, IsOkAnd, option_map, string_bytes};
 ghost use Rattle.ignore_files.specs.Gives.{IsHonest};
 ghost use Rattle.ignore_files.specs.Tree.{Tree};
-ghost use Rattle.ignore_glob.specs.Problem.{told, memory};
+ghost use Rattle.ignore_glob.specs.declared.fault.Fault.TheVariants.{NoCurrentDir};
+ghost use Rattle.ignore_glob.specs.Problem.{told, memory, io};
 ghost use Rattle.ignore_excludes.specs.ExcludesSearch.{IsExcludesPath};
-ghost use Rattle.ignore_rules.specs.Matchers.{BuildsGlobal, IsGlobalMatcher, global_file, says_file};
+ghost use Rattle.ignore_rules.specs.Matchers.{BuildsGlobal, BuildsAnyAnswer, IsGlobalMatcher, global_file, says_file};
+ghost use Rattle.ignore_rules.specs.Rules.{begun, empty};
 
 use crate::gitignore::builder::GitignoreBuilder;
 use crate::gitignore::matcher::Gitignore;
@@ -26,6 +28,7 @@ impl GitignoreBuilder {
         env: &Env,
     ) -> Result<(Gitignore, Option<Error>), Error>
         ensures read { (tree : Tree) → IsHonest F.Files files.now tree → IfOk result (λ r. BuildsGlobal tree env.now self r.0 (option_map told r.1)) }
+        ensures answered { IfOk result (λ r. BuildsAnyAnswer (F.contents_gives files.now) self r.0 (option_map told r.1)) }
         ensures refused { IfErr result (λ e. told e ≡ memory) }
     {
         let alloc = self.allocator();
@@ -47,6 +50,8 @@ impl Gitignore {
         env: &Env,
     ) -> Result<(Gitignore, Option<Error>), Error>
         ensures read { (tree : Tree) → IsHonest F.Files files.now tree → IfOk result (λ r. IsGlobalMatcher tree env.now r.0 (option_map told r.1)) }
+        ensures answered { (dir : List ℕ) → env.now.current_dir ≡ Some dir → IfOk result (λ r. BuildsAnyAnswer (F.contents_gives files.now) (begun dir) r.0 (option_map told r.1)) }
+        ensures unknown { env.now.current_dir ≡ None → IsOkAnd result (λ r. (r.0 ≡ empty) × (option_map told r.1 ≡ Some (io NoCurrentDir))) }
         ensures refused { IfErr result (λ e. told e ≡ memory) }
     {
         match &env.current_dir {

@@ -12,7 +12,7 @@ use ignore_glob::{Error, Match};
 use std::alloc::{AllocError, Global};
 use std::marker::Model;
 
-/// The rules of one or more gitignore files in one directory, their root, which paths can be asked of.
+/// A matcher of paths: rules in order, and the root that they are relative to.
 #[derive(Debug, Drop)]
 pub struct Gitignore {
     root: String,

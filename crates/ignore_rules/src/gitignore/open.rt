@@ -1,9 +1,12 @@
 //! Matchers of whole files.
-ghost use Rattle.std.specs.Prelude.{◌≡◌, IfOk, IfErr, option_map};
+ghost use Rattle.std.specs.Prelude.{◌≡◌, IfOk, IfErr, option_map, Result};
+ghost use Rattle.ignore_files.specs.declared.types.Contents.{Contents};
+ghost use Rattle.ignore_files.specs.declared.types.Refusal.{Refusal};
 ghost use Rattle.ignore_files.specs.Gives.{IsHonest};
 ghost use Rattle.ignore_files.specs.Tree.{Tree};
 ghost use Rattle.ignore_glob.specs.Problem.{told, memory};
-ghost use Rattle.ignore_rules.specs.Matchers.{IsMatcherOf, BuildsFile, folder_of, without_fault};
+ghost use Rattle.ignore_rules.specs.Matchers.{IsMatcherOf, BuildsFile, BuildsAnswer, folder_of, without_fault};
+ghost use Rattle.ignore_rules.specs.Rules.{begun};
 
 use crate::gitignore::builder::GitignoreBuilder;
 use crate::gitignore::matcher::Gitignore;
@@ -25,6 +28,7 @@ impl Gitignore {
         path: &str,
     ) -> Result<(Gitignore, Option<Error>), Error>
         ensures read { (tree : Tree) → IsHonest F.Files files.now tree → IfOk result (λ r. IsMatcherOf tree path.now r.0 (option_map told r.1)) }
+        ensures answered { IfOk result (λ r. (answer : Result Contents Refusal) × F.contents_gives files.now path.now answer × BuildsAnswer path.now answer (begun (folder_of path.now)) r.0 (option_map told r.1)) }
         ensures refused { IfErr result (λ e. told e ≡ memory) }
     {
         let builder = GitignoreBuilder::new(alloc, folder_of(path))?;
@@ -40,6 +44,7 @@ impl GitignoreBuilder {
         path: &str,
     ) -> Result<(Gitignore, Option<Error>), Error>
         ensures read { (tree : Tree) → IsHonest F.Files files.now tree → IfOk result (λ r. BuildsFile tree path.now self r.0 (option_map told r.1)) }
+        ensures answered { IfOk result (λ r. (answer : Result Contents Refusal) × F.contents_gives files.now path.now answer × BuildsAnswer path.now answer self r.0 (option_map told r.1)) }
         ensures refused { IfErr result (λ e. told e ≡ memory) }
     {
         let error = self.add(files, path)?;

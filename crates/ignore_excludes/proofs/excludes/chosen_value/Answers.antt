@@ -1,15 +1,15 @@
 -- Each turn looks at the first key of the text that is left, and drops the line of a key that has no value.
 use Rattle.std.proofs.Common.{◌≡◌, ℕ, Bool, List, ◌∷◌, ◌++◌, Option, None, Some, ◌+◌, take, drop, subst, sym, ◌∙◌, ap, arith}
 use Rattle.std.proofs.lemmas.List.{drop-drop}
-use Rattle.ignore_excludes.specs.Excludes.{trimmed, SetsKey, IsPreferred, IsChosen}
+use Rattle.ignore_excludes.specs.Excludes.{trimmed_start, SetsKey, IsPreferred, IsChosen}
 use Rattle.ignore_excludes.proofs.ExcludesLines.{IsOneLine, IsOneLine-none, first_line, chosen_here, chosen_nowhere, chosen_further}
 use Rattle.ignore_excludes.proofs.excludes.chosen_value.Goals as goal
 
 -- the line stands in place of the text without its first white space
-line_is : (rest line : List ℕ) (start : ℕ) → line ≡ drop start rest → drop start rest ≡ trimmed rest → line ≡ trimmed rest
+line_is : (rest line : List ℕ) (start : ℕ) → line ≡ drop start rest → drop start rest ≡ trimmed_start rest → line ≡ trimmed_start rest
 line_is rest line start e h = e ∙ h
 
-preferred : (rest line : List ℕ) (r : Option (List ℕ)) → line ≡ trimmed rest → IsPreferred (λ (q : Bool) (v : List ℕ). SetsKey q v line) r → IsPreferred (λ (q : Bool) (v : List ℕ). SetsKey q v (trimmed rest)) r
+preferred : (rest line : List ℕ) (r : Option (List ℕ)) → line ≡ trimmed_start rest → IsPreferred (λ (q : Bool) (v : List ℕ). SetsKey q v line) r → IsPreferred (λ (q : Bool) (v : List ℕ). SetsKey q v (trimmed_start rest)) r
 preferred rest line r e h = subst (λ (t : List ℕ). IsPreferred (λ (q : Bool) (v : List ℕ). SetsKey q v t) r) e h
 
 pub returns-in-Some : goal.returns-in-Some
@@ -26,7 +26,7 @@ returns-in-None c =
     let rest = c.split_at.result.1.now in
     let line = c.split_at-in-loop-value.result.1.now in
     let same = line_is rest line c.space_len-start.result c.split_at-in-loop-value.ensures.back c.space_len-start.ensures.rest in
-    let one : IsOneLine (trimmed rest) = subst IsOneLine same (IsOneLine-none line c.in-None.ensures) in
+    let one : IsOneLine (trimmed_start rest) = subst IsOneLine same (IsOneLine-none line c.in-None.ensures) in
     let nowhere = chosen_nowhere rest one (preferred rest line None same c.in_default.ensures) in
     c.loop-value.invariant.1 None (subst (λ (t : List ℕ). IsChosen t None) c.split_at.ensures.back nowhere)
 
@@ -47,7 +47,7 @@ loop-value-preserved c =
     ∙ (sym (drop-drop (end + 1) start rest)
     ∙ ap (λ t. drop (end + 1) t) (sym c.split_at-in-loop-value.ensures.back))))
     ) in
-    let cut : trimmed rest ≡ take end line ++ 10 ∷ drop (end + 1) line = sym same ∙ parts.0 in
+    let cut : trimmed_start rest ≡ take end line ++ 10 ∷ drop (end + 1) line = sym same ∙ parts.0 in
     let back = c.split_at.ensures.back_len in
     let inner = c.split_at-in-loop-value.ensures.back_len in
     let inside = parts.1 in (
