@@ -2,3 +2,4 @@ mod Names
 mod Objects
 mod Cuts
 mod Counting
+mod Worked

@@ -1,0 +1,39 @@
+-- Worked vectors: what the definitions say of small ones, computed from them.
+use Rattle.std.proofs.Common.{◌≡◌, inl, true, [], ◌∷◌, Some, None, refl, codes}
+use Rattle.std.proofs.lemmas.Bool.{false≢true}
+use Rattle.std.specs.Prelude.{IsSome}
+use Rattle.serde_json.specs.Data.{null, boolean, Members, no_members, member}
+use Rattle.serde_json.specs.Find.{get_member}
+use Rattle.vectors.specs.Agrees.{EachMember, Stands}
+use Rattle.vectors.specs.Tallies.{nothing, with_passed, with_failed, with_skipped, skipped, together}
+use Rattle.vectors.specs.declared.outcome.Reason.TheVariants.{GitTrailingSpaces, TooManySplits}
+use Rattle.vectors.specs.Vectors.{wrong_field}
+use Rattle.vectors.specs.Lines.{lines_left}
+
+-- {"a": true}
+abbrev yes : Members
+yes = member (codes "a") (boolean true) no_members
+
+same_value_stands : Stands yes [] (codes "a") (boolean true)
+same_value_stands = inl refl
+
+other_field_is_extra : EachMember (λ name _. IsSome (get_member name yes)) (member (codes "b") null no_members) → ⊥
+other_field_is_extra h = false≢true h.0
+
+no_object_lacks_its_name : wrong_field null ≡ Some (codes "id")
+no_object_lacks_its_name = refl
+
+counted_once : with_failed (with_passed nothing) ≡ record { passed = 1; failed = 1; git_trailing_spaces = 0; too_many_splits = 0; unread = 0 }
+counted_once = refl
+
+both_reasons : skipped (with_skipped TooManySplits (with_skipped GitTrailingSpaces nothing)) ≡ 2
+both_reasons = refl
+
+full : together 18446744073709551615 1 ≡ 18446744073709551615
+full = refl
+
+two_lines : lines_left (Some (97 ∷ (10 ∷ []))) ≡ (97 ∷ []) ∷ ([] ∷ [])
+two_lines = refl
+
+nothing_left : lines_left None ≡ []
+nothing_left = refl
