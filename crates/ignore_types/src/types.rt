@@ -5,7 +5,7 @@ mod definition;
 mod definitions;
 mod matcher;
 mod name;
-mod parts;
+mod fields;
 mod selection;
 
 pub use builder::TypesBuilder;

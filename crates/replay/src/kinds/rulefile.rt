@@ -2,7 +2,7 @@
 
 use crate::again::{build, builder, but_for_memory};
 use crate::answer::Answer;
-use crate::error::{fault_of, told_or_null};
+use crate::error::{fault_of, reported_or_null};
 use crate::hex_digits::bytes_of;
 use crate::rules::rules_value;
 use crate::tree_calls::{add_dir, add_file, empty_tree, unrefused};
@@ -36,7 +36,7 @@ pub fn answer(alloc: Global, input: &Value) -> Result<Outcome, Trouble> {
 fn asked(alloc: Global, tree: &MemoryTree, path: &str, ci: bool) -> Result<Outcome, Trouble> {
     let mut builder = builder_of_case(alloc, ci)?;
     let error = added(&mut builder, tree, path)?;
-    told(alloc, &builder, &error)
+    reported(alloc, &builder, &error)
 }
 
 fn builder_of_case(alloc: Global, ci: bool) -> Result<GitignoreBuilder, Trouble> {
@@ -45,7 +45,7 @@ fn builder_of_case(alloc: Global, ci: bool) -> Result<GitignoreBuilder, Trouble>
     Ok(builder)
 }
 
-fn told(
+fn reported(
     alloc: Global,
     builder: &GitignoreBuilder,
     error: &Option<Error>,
@@ -53,7 +53,7 @@ fn told(
     let matcher = build(builder)?;
     let mut answer = Answer::new(alloc);
     answer.put("rules", rules_value(alloc, &matcher));
-    answer.put("error", told_or_null(alloc, error.as_ref()));
+    answer.put("error", reported_or_null(alloc, error.as_ref()));
     answer.put_flag("is_io", is_io(error));
     answer.put_flag("is_partial", is_partial(error));
     answer.outcome()
