@@ -10,6 +10,8 @@ pub mod Lexing
 pub mod Row
 pub mod LexemeViews
 pub mod Matches
+pub mod Nodes
+pub mod Flags
 pub mod Codes
 pub mod Reading
 pub mod Paths
