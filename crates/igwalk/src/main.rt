@@ -6,7 +6,7 @@ mod run;
 mod tests;
 mod words;
 
-use run::{Stop, run, report_stop};
+use run::{Stop, report_stop, run};
 use std::process::ExitCode;
 use std::rt::Env;
 use std::{env, io};

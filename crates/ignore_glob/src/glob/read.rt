@@ -10,7 +10,7 @@ ghost use Rattle.ignore_glob.specs.LexemeViews.{row_view, left_view, simple_toke
 
 use crate::glob::fault::PatternError;
 use crate::glob::lexeme::{Lexeme, lexemes};
-use crate::glob::meaning::{SimpleToken, Left, Meaning, meaning_of};
+use crate::glob::meaning::{Left, Meaning, SimpleToken, meaning_of};
 use crate::glob::options::Options;
 use crate::glob::token::{Class, Token};
 use std::alloc::{AllocError, Global};

@@ -29,7 +29,12 @@ pub fn answer(alloc: Global, input: &Value) -> Result<Outcome, Trouble> {
     reported(alloc, input, &tree, &env)
 }
 
-fn reported(alloc: Global, input: &Value, tree: &MemoryTree, env: &Env) -> Result<Outcome, Trouble> {
+fn reported(
+    alloc: Global,
+    input: &Value,
+    tree: &MemoryTree,
+    env: &Env,
+) -> Result<Outcome, Trouble> {
     let (matcher, error) = matcher(alloc, input, tree, env)?;
     let path = excludes_path(alloc, tree, env)?;
     let mut answer = Answer::new(alloc);
