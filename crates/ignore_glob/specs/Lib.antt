@@ -10,6 +10,8 @@ pub mod Pieces
 pub mod Row
 pub mod Lexemes
 pub mod Takes
+pub mod Nodes
+pub mod Flags
 pub mod Codes
 pub mod Reading
 pub mod Paths
