@@ -1,5 +1,5 @@
 -- What a line of a gitignore file says, before its pattern is read. A text is the list of its bytes.
-use Rattle.std.specs.Prelude.{◌==◌, ◌-◌, ℕ, Bool, not, ◌&&◌, ◌||◌, if◌then◌else◌, List, ◌++◌, length, take, drop, codes, nat_eq, Option, None, Some}
+use Rattle.std.specs.Prelude.{◌==◌, ◌-◌, ℕ, Bool, false, not, ◌&&◌, ◌||◌, if◌then◌else◌, List, [], ◌∷◌, ◌++◌, length, take, drop, reverse, codes, nat_eq, Option, None, Some}
 use Rattle.std.specs.List.{starts_with, ends_with}
 use Rattle.std.specs.Str.{trim_end, bytes_eq}
 use Rattle.ignore_glob.specs.Paths.{has_slash}
@@ -18,13 +18,31 @@ without_prefix start text = if has_prefix start text then drop (length start) te
 abbrev pub without_suffix : List ℕ → List ℕ → List ℕ
 without_suffix end text = if has_suffix end text then take (length text - length end) text else text
 
--- trailing white space goes, unless the line ends with a backslash and one space
-abbrev pub trimmed : List ℕ → List ℕ
-trimmed line = if has_suffix (codes "\\ ") line then line else trim_end line
+-- trailing white space is removed, unless the line ends with a backslash and one space
+abbrev pub default_trimmed : List ℕ → List ℕ
+default_trimmed line = if has_suffix (codes "\\ ") line then line else trim_end line
+
+-- a text that is read from its end begins with an odd number of backslashes
+abbrev pub is_odd : List ℕ → Bool
+is_odd [] = false
+is_odd (c ∷ before) = c == 92 && not (is_odd before)
+
+-- as long as a text that is read from its end begins with a space, and the number of backslashes before that is even, the space is removed
+abbrev pub without_spaces : List ℕ → List ℕ
+without_spaces [] = []
+without_spaces (c ∷ before) = if c == 32 && not (is_odd before) then without_spaces before else c ∷ before
+
+-- the same of a line: git's own rule for white space at the end
+abbrev pub git_trimmed : List ℕ → List ℕ
+git_trimmed line = reverse (without_spaces (reverse line))
+
+-- the line without the white space at its end, by git's own rule or by that of the original
+abbrev pub trimmed : Bool → List ℕ → List ℕ
+trimmed as_git line = if as_git then git_trimmed line else default_trimmed line
 
 -- a comment, or nothing but white space
-abbrev pub is_silent : List ℕ → Bool
-is_silent line = has_prefix (codes "#") line || length (trimmed line) == 0
+abbrev pub is_silent : Bool → List ℕ → Bool
+is_silent as_git line = has_prefix (codes "#") line || length (trimmed as_git line) == 0
 
 -- What follows speaks of a trimmed line.
 
@@ -76,5 +94,5 @@ abbrev pub parsed_as : List ℕ → ParsedLine
 parsed_as line = record { original = line; actual = actual line; is_whitelist = is_whitelist line; is_only_dir = is_only_dir line }
 
 -- what a whole line says, if anything
-abbrev pub parsed_line : List ℕ → Option ParsedLine
-parsed_line line = if is_silent line then None else Some (parsed_as (trimmed line))
+abbrev pub parsed_line : Bool → List ℕ → Option ParsedLine
+parsed_line as_git line = if is_silent as_git line then None else Some (parsed_as (trimmed as_git line))
