@@ -1,4 +1,4 @@
-//! What one line says, before its pattern is read.
+//! Parsing one line to its parts, before its glob is parsed.
 ghost use Rattle.std.specs.Prelude.{◌≡◌, ◌≤◌, ◌==◌, ◌⊎◌, IfOk, Some, length, string_bytes};
 ghost use Rattle.std.specs.List.{suffix_len};
 ghost use Rattle.ignore_glob.specs.GlobFaults.{glob_fault_text};
@@ -11,7 +11,7 @@ use ignore_glob::text::has_slash;
 use std::alloc::{AllocError, Global};
 use std::marker::Model;
 
-/// A line that says something: neither blank nor a comment.
+/// A parsed line: one that is neither blank nor a comment.
 #[derive(Drop)]
 pub struct ParsedLine {
     pub original: String,
@@ -30,7 +30,8 @@ impl Model for ParsedLine {
 }
 
 impl ParsedLine {
-    /// What the line says, if anything; `as_git` decides what becomes of white space at its end.
+    /// What the line parses to: nothing for a comment or a blank line. `as_git` says whether white
+    /// space at its end is read by git's own rule.
     pub fn of(alloc: Global, line: &str, as_git: bool) -> Result<Option<ParsedLine>, AllocError>
         ensures { IfOk result (λ parsed. parsed ≡ parsed_line as_git line.now) }
     {
@@ -54,7 +55,7 @@ impl ParsedLine {
         self.actual.as_str()
     }
 
-    /// The error of a line whose glob has this fault, or `Error::Memory`.
+    /// The error of a line whose glob is invalid, or `Error::Memory`.
     pub fn refused(self, alloc: Global, fault: GlobFault) -> Error
         ensures { (problem_of result ≡ memory) ⊎ (problem_of result ≡ glob (Some self.original) (glob_fault_text fault)) }
     {
