@@ -3,7 +3,7 @@ use Rattle.std.proofs.Common.{◌≡◌, ◌≤◌, ◌↔◌, inl, inr, ℕ, ze
 use Rattle.std.proofs.lemmas.Option.{slice_get_within}
 use Rattle.std.proofs.Math.Seq.{drop-length}
 use Rattle.ignore_glob.specs.Glob.{Tokens}
-use Rattle.ignore_glob.specs.Takes.{takes, glob_takes}
+use Rattle.ignore_glob.specs.Matches.{tokens_match, glob_matches}
 use Rattle.ignore_glob.specs.Nodes.{Node, StepsByNothing, Reached, here, on, SteppedTo, Marked, AreNodes, AreGlobNodes}
 use Rattle.ignore_glob.proofs.NodePaths.{Path, ends, nothing, character, matching_path, lone_path}
 
@@ -53,14 +53,14 @@ module _ (fold : Bool) (nodes : List Node) (text : List ℕ) where
       let next = slice_get_from_drop o text c u e in
       path_marks q u r (suc o) (here q (c, next.0, (p, k, m, at, s))) next.1 (let l = slice_get_within text o c next.0 in omega (arith, l))
 
-  pub tokens_mark : (ts : Tokens) → AreNodes nodes ts → (takes fold ts text ↔ Marked fold nodes text (length text) (length nodes))
+  pub tokens_mark : (ts : Tokens) → AreNodes nodes ts → (tokens_match fold ts text ↔ Marked fold nodes text (length text) (length nodes))
   tokens_mark ts at = (
     (λ h. path_marks 0 text ((matching_path fold nodes ts text at).0 h) 0 (here 0 refl) refl (omega arith)),
     (λ m. (matching_path fold nodes ts text at).1 (marks_back (length text) (length nodes) m (rw drop-length ends))),
   )
 
   -- the whole glob matches exactly where the end is marked at the end of the text
-  pub matching_mark : (ts : Tokens) → AreGlobNodes nodes ts → (glob_takes fold ts text ↔ Marked fold nodes text (length text) (length nodes))
+  pub matching_mark : (ts : Tokens) → AreGlobNodes nodes ts → (glob_matches fold ts text ↔ Marked fold nodes text (length text) (length nodes))
   matching_mark ts at = elim at [
     | inl lone ↦ ((λ h. path_marks 0 text (lone_path fold nodes text lone.1) 0 (here 0 refl) refl (omega arith)), (λ m. inl lone.0))
     | inr plain ↦ let both = tokens_mark ts plain.1 in

@@ -5,7 +5,7 @@ use Rattle.std.proofs.lemmas.List.{append-nil}
 use Rattle.std.proofs.lemmas.Option.{slice_get_within}
 use Rattle.std.proofs.lemmas.List.Elements.{All-head, All-tail, All-cons}
 use Rattle.ignore_glob.specs.Glob.{Token, literal, any, star, start, middle, end, class, alternates, Tokens, done, then, Branches, no_branch, branch}
-use Rattle.ignore_glob.specs.Takes.{slash, token_takes, takes, branch_takes}
+use Rattle.ignore_glob.specs.Matches.{slash, token_matches, tokens_match, branch_matches}
 use Rattle.ignore_glob.specs.Nodes.{Node, literal_at, any_at, star_at, start_at, middle_at, end_at, until_slash, until_end, class_at, fork_at, StepsByNothing, StepsBy, token_width, width, entry, entries, fork, TokenAt, TokensAt, BranchesAt, AreNodes}
 
 -- from the position, some steps by this text lead to the end
@@ -44,7 +44,7 @@ module _ (fold : Bool) (nodes : List Node) where
       let first : c ≡ slash = cc in
       rw append_assoc (character b (b + 1) c (x ++ slash ∷ v) (middle_at e) at (first, inl refl) (past_slash (b + 1) e x v inside p))
 
-  fork_path : (bs : Branches) (b e : ℕ) (a v : List ℕ) → TokenAt nodes (alternates bs) b e → token_takes fold (alternates bs) a → Path fold nodes e v → (branch_takes fold bs a → (q : ℕ) × Contains (entries bs (b + 1) e) q × Path fold nodes q (a ++ v)) → Path fold nodes b (a ++ v)
+  fork_path : (bs : Branches) (b e : ℕ) (a v : List ℕ) → TokenAt nodes (alternates bs) b e → token_matches fold (alternates bs) a → Path fold nodes e v → (branch_matches fold bs a → (q : ℕ) × Contains (entries bs (b + 1) e) q × Path fold nodes q (a ++ v)) → Path fold nodes b (a ++ v)
   fork_path no_branch b e a v at h p find = elim h [
     | inl none ↦ rw none.1 (nothing b e v (fork_at (e ∷ [])) at.0 (Contains-head e []) p)
     | inr some ↦ absurd some
@@ -55,7 +55,7 @@ module _ (fold : Bool) (nodes : List Node) where
   ]
 
   mutual
-    token_path : (t : Token) (b e : ℕ) (a v : List ℕ) → TokenAt nodes t b e → token_takes fold t a → Path fold nodes e v → Path fold nodes b (a ++ v)
+    token_path : (t : Token) (b e : ℕ) (a v : List ℕ) → TokenAt nodes t b e → token_matches fold t a → Path fold nodes e v → Path fold nodes b (a ++ v)
     token_path (literal c) b e a v at h p = rw h.1 (character b e h.0 v (literal_at c e) at (h.2, refl) p)
     token_path any b e a v at h p = rw h.1 (character b e h.0 v (any_at e) at (h.2, refl) p)
     token_path star b e a v at h p = past_star b e a v at h p
@@ -68,19 +68,20 @@ module _ (fold : Bool) (nodes : List Node) where
     token_path (class negated ranges) b e a v at h p = rw h.1 (character b e h.0 v (class_at negated ranges e) at (h.2, refl) p)
     token_path (alternates bs) b e a v at h p = fork_path bs b e a v at h p (λ some. branches_path bs (b + 1) e a v at.1 some p)
 
-    tokens_path : (ts : Tokens) (b e : ℕ) (a v : List ℕ) → TokensAt nodes ts b e → takes fold ts a → Path fold nodes e v → Path fold nodes (entry ts b e) (a ++ v)
+    tokens_path : (ts : Tokens) (b e : ℕ) (a v : List ℕ) → TokensAt nodes ts b e → tokens_match fold ts a → Path fold nodes e v → Path fold nodes (entry ts b e) (a ++ v)
     tokens_path done b e a v at h p = rw h p
     tokens_path (then t ts) b e a v at h p =
         rw (h.2, append_assoc) (token_path t b (entry ts (b + token_width t) e) h.0 (h.1 ++ v) at.0 h.3 (tokens_path ts (b + token_width t) e h.1 v at.1 h.4 p))
 
-    branches_path : (bs : Branches) (b e : ℕ) (a v : List ℕ) → BranchesAt nodes bs b e → branch_takes fold bs a → Path fold nodes e v → (q : ℕ) × Contains (entries bs b e) q × Path fold nodes q (a ++ v)
+    branches_path : (bs : Branches) (b e : ℕ) (a v : List ℕ) → BranchesAt nodes bs b e → branch_matches fold bs a → Path fold nodes e v → (q : ℕ) × Contains (entries bs b e) q × Path fold nodes q (a ++ v)
     branches_path no_branch b e a v at h p = absurd h
     branches_path (branch ts bs) b e a v at h p = elim h [
       | inl here ↦ (entry ts b e, Contains-head (entry ts b e) (entries bs (b + width ts) e), tokens_path ts b e a v at.0 here p)
       | inr later ↦ let more = branches_path bs (b + width ts) e a v at.1 later p in (more.0, Contains-tail (entry ts b e) more.0 (entries bs (b + width ts) e) more.1, more.2)
     ]
 
-  -- the way back: a path from a token's first position is what it takes, and then a path from the next
+  -- the way back: a path from a token's first position is what it matches, and then a path from the
+  -- next
   abbrev Splits : (List ℕ → Type 0) → ℕ → List ℕ → Type 0
   Splits T e w = (a v : List ℕ) × (w ≡ a ++ v) × T a × Path fold nodes e v
 
@@ -109,7 +110,7 @@ module _ (fold : Bool) (nodes : List Node) where
   end_back m w (nothing p q u k here s r) e = absurd (let h = slice_get_within nodes p k here in omega (arith, h, e))
   end_back m w (character p q c u k here s r) e = absurd (let h = slice_get_within nodes p k here in omega (arith, h, e))
 
-  star_back : (p : ℕ) (w : List ℕ) → Path fold nodes p w → (b e : ℕ) → p ≡ b → slice_get nodes b ≡ Some (star_at e) → Splits (token_takes fold star) e w
+  star_back : (p : ℕ) (w : List ℕ) → Path fold nodes p w → (b e : ℕ) → p ≡ b → slice_get nodes b ≡ Some (star_at e) → Splits (token_matches fold star) e w
   star_back m w ends b e same at = absurd (let P : ℕ → Type 0 = λ n. slice_get nodes n ≡ Some (star_at e) in nowhere (star_at e) (subst P (sym same) at))
   star_back m w (nothing p q u k here s r) b e same at =
       let node : k ≡ star_at e = cc (at, here, same) in
@@ -148,7 +149,7 @@ module _ (fold : Bool) (nodes : List Node) where
       let more = inside_end_back q u r b e (subst P node s ∙ same) at in
       (c ∷ more.0, more.1, ap (λ x. c ∷ x) more.2, more.3)
 
-  fork_back : (bs : Branches) (b e q : ℕ) (w : List ℕ) → Contains (fork bs (b + 1) e) q → Path fold nodes q w → (Contains (entries bs (b + 1) e) q → Splits (branch_takes fold bs) e w) → Splits (token_takes fold (alternates bs)) e w
+  fork_back : (bs : Branches) (b e q : ℕ) (w : List ℕ) → Contains (fork bs (b + 1) e) q → Path fold nodes q w → (Contains (entries bs (b + 1) e) q → Splits (branch_matches fold bs) e w) → Splits (token_matches fold (alternates bs)) e w
   fork_back no_branch b e q w has r find = elim (Contains-cases e q [] has) [
     | inl here ↦ ([], w, refl, inl (refl, refl), moved q e w here r)
     | inr none ↦ absurd (omega (arith, none.1))
@@ -156,7 +157,7 @@ module _ (fold : Bool) (nodes : List Node) where
   fork_back (branch ts bs) b e q w has r find = let found = find has in (found.0, found.1, found.2, inr found.3, found.4)
 
   mutual
-    token_back : (t : Token) (b e : ℕ) (w : List ℕ) → TokenAt nodes t b e → Path fold nodes b w → Splits (token_takes fold t) e w
+    token_back : (t : Token) (b e : ℕ) (w : List ℕ) → TokenAt nodes t b e → Path fold nodes b w → Splits (token_matches fold t) e w
     token_back (literal c) b e w at r = elim (step_from b w r (literal_at c e) at) [
       | inl s ↦ absurd s.1
       | inr s ↦ (s.0 ∷ [], s.2, s.3, (s.0, refl, s.4.0), moved s.1 e s.2 s.4.1 s.5)
@@ -197,14 +198,14 @@ module _ (fold : Bool) (nodes : List Node) where
       | inr s ↦ absurd s.4
     ]
 
-    tokens_back : (ts : Tokens) (b e : ℕ) (w : List ℕ) → TokensAt nodes ts b e → Path fold nodes (entry ts b e) w → Splits (takes fold ts) e w
+    tokens_back : (ts : Tokens) (b e : ℕ) (w : List ℕ) → TokensAt nodes ts b e → Path fold nodes (entry ts b e) w → Splits (tokens_match fold ts) e w
     tokens_back done b e w at r = ([], w, refl, refl, r)
     tokens_back (then t ts) b e w at r =
         let first = token_back t b (entry ts (b + token_width t) e) w at.0 r in
         let more = tokens_back ts (b + token_width t) e first.1 at.1 first.4 in
         (first.0 ++ more.0, more.1, first.2 ∙ (ap (λ x. first.0 ++ x) more.2 ∙ sym (append_assoc first.0 more.0 more.1)), (first.0, more.0, refl, first.3, more.3), more.4)
 
-    branches_back : (bs : Branches) (b e q : ℕ) (w : List ℕ) → BranchesAt nodes bs b e → Contains (entries bs b e) q → Path fold nodes q w → Splits (branch_takes fold bs) e w
+    branches_back : (bs : Branches) (b e q : ℕ) (w : List ℕ) → BranchesAt nodes bs b e → Contains (entries bs b e) q → Path fold nodes q w → Splits (branch_matches fold bs) e w
     branches_back no_branch b e q w at has r = absurd (omega (arith, has.1))
     branches_back (branch ts bs) b e q w at has r = elim (Contains-cases (entry ts b e) q (entries bs (b + width ts) e) has) [
       | inl here ↦ let found = tokens_back ts b e w at.0 (moved q (entry ts b e) w here r) in (found.0, found.1, found.2, inl found.3, found.4)
@@ -215,13 +216,13 @@ module _ (fold : Bool) (nodes : List Node) where
   entry_zero done e = e
   entry_zero (then t ts) e = refl
 
-  pub matching_path : (ts : Tokens) (w : List ℕ) → AreNodes nodes ts → (takes fold ts w ↔ Path fold nodes 0 w)
+  pub matching_path : (ts : Tokens) (w : List ℕ) → AreNodes nodes ts → (tokens_match fold ts w ↔ Path fold nodes 0 w)
   matching_path ts w at = (
     (λ h. let r = tokens_path ts 0 (length nodes) w [] at.0 h ends in rw append-nil at (moved _ 0 _ (entry_zero ts at.1) r)),
     (λ r. let back = tokens_back ts 0 (length nodes) w at.0 (moved 0 (entry ts 0 (length nodes)) w (sym (entry_zero ts at.1)) r) in
         let none : back.1 ≡ [] = end_back (length nodes) back.1 back.4 refl in
         let whole : w ≡ back.0 = back.2 ∙ (ap (λ v. back.0 ++ v) none ∙ append-nil back.0) in
-        let P : List ℕ → Type 0 = λ v. takes fold ts v in
+        let P : List ℕ → Type 0 = λ v. tokens_match fold ts v in
         subst P (sym whole) back.3),
   )
 

@@ -1,4 +1,5 @@
--- What an error tells, as plain data: contracts compare errors by this, since two errors that tell the same may lie in different memory.
+-- Problems: what an error reports, as plain data. Contracts compare errors by their problems, since
+-- two errors that report the same may lie in different memory.
 use Rattle.std.specs.Prelude.{ℕ, List, [], ◌∷◌, Option, Some, None, option_map, string_bytes}
 use Rattle.ignore_glob.specs.declared.fault.Fault.{Fault}
 use Rattle.ignore_glob.specs.declared.error.Error.{Error}
@@ -31,24 +32,25 @@ abbrev pub problems_of : List Problem → Problems
 problems_of [] = no_problems
 problems_of (p ∷ ps) = problem p (problems_of ps)
 
--- what one layer of an error tells, where the errors inside have been told
-abbrev pub told_step : Error-F Problem → Problem
-told_step (Partial errors) = several (problems_of errors.items)
-told_step (WithLineNumber line err) = at_line line err.value
-told_step (WithPath path err) = at_path (string_bytes path) err.value
-told_step (WithDepth depth err) = at_depth depth err.value
-told_step (Loop ancestor child) = loop (string_bytes ancestor) (string_bytes child)
-told_step (Io fault) = io fault
-told_step (Glob pattern err) = glob (option_map string_bytes pattern) (string_bytes err)
-told_step (UnrecognizedFileType name) = unrecognized (string_bytes name)
-told_step InvalidDefinition = invalid_definition
-told_step Memory = memory
+-- the problem of one layer of an error, given the problems of the errors inside
+abbrev pub problem_step : Error-F Problem → Problem
+problem_step (Partial errors) = several (problems_of errors.items)
+problem_step (WithLineNumber line err) = at_line line err.value
+problem_step (WithPath path err) = at_path (string_bytes path) err.value
+problem_step (WithDepth depth err) = at_depth depth err.value
+problem_step (Loop ancestor child) = loop (string_bytes ancestor) (string_bytes child)
+problem_step (Io fault) = io fault
+problem_step (Glob pattern err) = glob (option_map string_bytes pattern) (string_bytes err)
+problem_step (UnrecognizedFileType name) = unrecognized (string_bytes name)
+problem_step InvalidDefinition = invalid_definition
+problem_step Memory = memory
 
--- the problem that an error tells
-abbrev pub told : Error → Problem
-told = fold-Error Problem told_step
+-- the problem that an error reports
+abbrev pub problem_of : Error → Problem
+problem_of = fold-Error Problem problem_step
 
--- none for no problem, the problem itself for one, else one that is several, with all of them in order: a member that is several itself stays one member
+-- none for no problem, the problem itself for one, else several, with all of them in order: a
+-- member that is several itself stays one member
 abbrev pub joined : List Problem → Option Problem
 joined [] = None
 joined (one ∷ []) = Some one

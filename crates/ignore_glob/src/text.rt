@@ -1,8 +1,8 @@
 //! Paths as texts: joining, file names, prefixes, and which paths are clean.
 ghost use Rattle.std.specs.Prelude.{◌≡◌, ◌↔◌, IfOk, IfErr, IsTrue, string_bytes};
 ghost use Rattle.std.specs.Option.{option_copied};
-ghost use Rattle.ignore_glob.specs.Paths.{pieces, last_piece, join_of, file_name_of, IsHidden};
-ghost use Rattle.ignore_glob.specs.Problem.{told, memory};
+ghost use Rattle.ignore_glob.specs.Paths.{components, last_component, join_of, file_name_of, IsHidden};
+ghost use Rattle.ignore_glob.specs.Problem.{problem_of, memory};
 
 mod clean;
 mod prefix;
@@ -13,10 +13,15 @@ use memchr::memrchr;
 pub use prefix::{has_slash, strip, strip_law, strip_prefix, trim_root};
 use std::alloc::Global;
 
-/// `path` seen from `base`: `path` itself where it begins with `/` or `base` is empty, else the two with one `/` between them (none is added to a `base` that ends with one), as Rust's `Path::join` gives. The only error is `Error::Memory`.
+/// `path` seen from `base`, as Rust's `Path::join`: `path` itself where it begins with `/` or
+/// `base` is empty, else the two separated by one `/` (none is added to a `base` that ends with
+/// one).
+///
+/// # Errors
+/// `Error::Memory` alone.
 pub fn join(alloc: Global, base: &str, path: &str) -> Result<String, Error>
     ensures joins { IfOk result (λ text. string_bytes text ≡ join_of base.now path.now) }
-    ensures refuses { IfErr result (λ error. told error ≡ memory) }
+    ensures out_of_memory { IfErr result (λ error. problem_of error ≡ memory) }
 {
     if path.starts_with('/') || base.is_empty() {
         return Ok(String::from_str(alloc, path)?);
@@ -29,14 +34,15 @@ pub fn join(alloc: Global, base: &str, path: &str) -> Result<String, Error>
     Ok(text)
 }
 
-/// The last piece of a path, behind its last `/`: the empty text where the path ends with one, none where the piece is `.` or `..`, and none for the empty path.
+/// The last component of a path, after its last `/`: empty where the path ends with one, none where
+/// it is `.` or `..`, and none for the empty path.
 pub fn file_name(path: &str) -> Option<&str>
     ensures { option_copied result ≡ file_name_of path.now }
 {
     if path.is_empty() {
         return None;
     }
-    let name = last_piece(path);
+    let name = last_component(path);
     if name == "." || name == ".." {
         return None;
     }
@@ -54,9 +60,9 @@ pub fn is_hidden(path: &str) -> bool
 }
 
 /// What follows the last `/` of a path, or all of it where it has none.
-/// For the crates above.
-pub fn last_piece(path: &str) -> &str
-    ensures { result.now ≡ last_piece (pieces path.now) }
+/// For dependents.
+pub fn last_component(path: &str) -> &str
+    ensures { result.now ≡ last_component (components path.now) }
 {
     match memrchr(b'/', path.as_bytes()) {
         Some(slash) => &path[slash + 1..],

@@ -5,8 +5,9 @@ pub mod FileLemmas
 pub mod FolderLemmas
 pub mod MarkLemmas
 pub mod ParentLemmas
-pub mod TakingLemmas
+pub mod DoesMatchLemmas
 pub mod TextLemmas
+pub mod TrailingLemmas
 mod WorkedLines
 pub mod LinesOnly
 mod FilesOnly

@@ -40,7 +40,7 @@ fn rules_are_copied(rt: HostRuntime) -> Result<(), Fail> {
 }
 
 /// Whether a copy of the answer for a file lets it through.
-fn lets_through(globs: &Override, path: &str) -> Result<bool, Fail> {
+fn is_whitelisted_by(globs: &Override, path: &str) -> Result<bool, Fail> {
     let found = globs.matched(path, false)?;
     let copy = found.clone()?;
     Ok(copy.is_whitelist())
@@ -54,8 +54,8 @@ fn overrides_are_copied(rt: HostRuntime) -> Result<(), Fail> {
     let globs = again!(builder.build());
     let copy = again!(globs.clone());
     assert_eq!(rt; copy.num_whitelists(), 1);
-    assert!(rt; lets_through(&copy, "/r/a.rs")?);
-    assert!(rt; !lets_through(&copy, "/r/a.o")?);
+    assert!(rt; is_whitelisted_by(&copy, "/r/a.rs")?);
+    assert!(rt; !is_whitelisted_by(&copy, "/r/a.o")?);
     Ok(())
 }
 

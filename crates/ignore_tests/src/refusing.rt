@@ -164,7 +164,7 @@ fn path(alloc: Global, files: &Refusing<'_>, env: &Env) -> Result<String, AllocE
 }
 
 /// What the four calls come to where the turn of this number is refused in each.
-fn told(
+fn reported(
     alloc: Global,
     tree: &MemoryTree,
     env: &Env,
@@ -184,7 +184,7 @@ fn rows(alloc: Global, refusal: Refusal) -> Result<String, Fail> {
     let env = env(alloc)?;
     let mut text = String::new(alloc);
     for turn in 1u64..8 {
-        write!(text, "{}\n", told(alloc, &tree, &env, turn, refusal)?)?;
+        write!(text, "{}\n", reported(alloc, &tree, &env, turn, refusal)?)?;
     }
     Ok(text)
 }
@@ -210,7 +210,7 @@ const FAULTS: &str = "0 1 2 /e
 ";
 
 #[test]
-fn refused_memory_is_told_as_itself(rt: HostRuntime) -> Result<(), Fail> {
+fn refused_memory_is_reported_as_itself(rt: HostRuntime) -> Result<(), Fail> {
     let text = rows(rt.alloc(), Refusal::Memory)?;
     assert_eq!(rt; text.as_str(), REFUSED_MEMORY);
     Ok(())

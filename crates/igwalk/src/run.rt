@@ -3,11 +3,11 @@ ghost use Rattle.std.specs.Prelude.{◌≡◌, ◌≢◌, ◌≤◌, ◌⊎◌, 
 ghost use Rattle.std.specs.Io.KnownBytes.{Appends};
 ghost use Rattle.std.specs.Str.Lines.{lines};
 ghost use Rattle.ignore_glob.specs.Errors.{problem_text};
-ghost use Rattle.ignore_glob.specs.Problem.{told, memory};
+ghost use Rattle.ignore_glob.specs.Problem.{problem_of, memory};
 ghost use Rattle.ignore_rules.specs.Rules.{begun, built};
 ghost use Rattle.igwalk.specs.Words.{Question, question_of, request_view};
-ghost use Rattle.igwalk.specs.Stops.{Ends, EndsAnswer, EndsLine, EndsLines, EndsTold, line_stop, reason};
-ghost use Rattle.igwalk.specs.Matching.{AddsAll, AddsOne, Prints, answer_line, says, refusal};
+ghost use Rattle.igwalk.specs.Stops.{Ends, EndsAnswer, EndsLine, EndsLines, EndsReported, line_stop, reason};
+ghost use Rattle.igwalk.specs.Matching.{AddsAll, AddsOne, Prints, answer_line, answer_of, refusal};
 
 use crate::words::{Request, read_words};
 use ignore_glob::{Error, Match};
@@ -15,27 +15,28 @@ use ignore_rules::gitignore::{Gitignore, GitignoreBuilder};
 use std::alloc::Global;
 use std::io::Write;
 
-/// What is told of wrong arguments. It names three commands, of which `match` alone can be run: `list` and `check` are wrong arguments.
+/// The usage, which is written for wrong arguments. It names three commands, of which only `match`
+/// can be run: `list` and `check` are wrong arguments.
 pub const USAGE: &str = "usage: igwalk match ROOT RULES PATH d|f | list ROOT.. | check ROOT PATH..";
 
-/// Why a run ends before its end.
+/// Why a run ends early.
 #[derive(Clone, Copy)]
 pub enum Stop {
-    /// The words ask for nothing that there is.
+    /// The arguments are wrong.
     Usage,
-    /// Memory was refused.
+    /// Out of memory.
     Memory,
     /// The answer can't be written.
     Write,
-    /// The errors can't be written, so nothing more is told.
+    /// The errors can't be written, so nothing more is reported.
     Silence,
 }
 
-/// Tells of a refused line, counted from 1. What is refused for want of memory ends the run.
-fn tell_refusal<E: Write>(err: &mut E, number: u64, error: Error) -> Result<(), Stop>
-    ensures tells { OnOk result (Appends (E.contents err.old) (E.contents err.new) (refusal number (told error))) }
-    ensures line { OnOk result (told error ≢ memory) }
-    ensures untold { IfErr result (λ stop. stop ≡ line_stop (told error)) }
+/// Reports a rejected line, counted from 1. Out of memory ends the run.
+fn report_refusal<E: Write>(err: &mut E, number: u64, error: Error) -> Result<(), Stop>
+    ensures reports { OnOk result (Appends (E.contents err.old) (E.contents err.new) (refusal number (problem_of error))) }
+    ensures line { OnOk result (problem_of error ≢ memory) }
+    ensures unreported { IfErr result (λ stop. stop ≡ line_stop (problem_of error)) }
     ensures kept { IfErr result (λ stop. stop ≡ Stop.Memory → Appends (E.contents err.old) (E.contents err.new) []) }
 {
     match &error {
@@ -47,8 +48,9 @@ fn tell_refusal<E: Write>(err: &mut E, number: u64, error: Error) -> Result<(), 
     }
 }
 
-/// Adds a line of rules, counted from 1, and tells of it where it is refused. Whether it was.
-fn add_or_tell<E: Write>(
+/// Adds a line of rules, counted from 1, and reports it where it is rejected. Returns whether it
+/// was.
+fn add_or_report<E: Write>(
     builder: &mut GitignoreBuilder,
     number: u64,
     line: &str,
@@ -59,14 +61,14 @@ fn add_or_tell<E: Write>(
 {
     match builder.push_line(None, line) {
         Ok(()) => Ok(false),
-        Err(error) => match tell_refusal(err, number, error) {
+        Err(error) => match report_refusal(err, number, error) {
             Ok(()) => Ok(true),
             Err(stop) => Err(stop),
         },
     }
 }
 
-/// Adds the lines of rules, and tells of each that is refused. Whether one was.
+/// Adds the lines of rules, and reports each that is rejected. Returns whether one was.
 fn add_lines<E: Write>(
     builder: &mut GitignoreBuilder,
     rules: &str,
@@ -81,19 +83,19 @@ fn add_lines<E: Write>(
     let mut refused = false;
     for line in rules.lines() {
         number += 1;
-        refused |= add_or_tell(builder, number, line, err)?;
+        refused |= add_or_report(builder, number, line, err)?;
     }
     Ok(refused)
 }
 
-/// Writes what a matcher says of a path.
-fn tell_answer<W: Write>(
+/// Writes the answer of a matcher for a path.
+fn write_answer<W: Write>(
     out: &mut W,
     matcher: &Gitignore,
     path: &str,
     is_dir: bool,
 ) -> Result<(), Stop>
-    ensures answers { OnOk result (Appends (W.contents out.old) (W.contents out.new) (answer_line (says matcher.now path.now is_dir))) }
+    ensures answers { OnOk result (Appends (W.contents out.old) (W.contents out.new) (answer_line (answer_of matcher.now path.now is_dir))) }
     ensures ended { IfErr result (EndsAnswer (Appends (W.contents out.old) (W.contents out.new))) }
 {
     let written = match matcher.matched(path, is_dir) {
@@ -108,7 +110,7 @@ fn tell_answer<W: Write>(
     }
 }
 
-/// Answers a question. Whether a line of its rules was refused.
+/// Answers a question. Returns whether a line of its rules was rejected.
 fn answer<W: Write, E: Write>(
     alloc: Global,
     request: Request<'_>,
@@ -125,35 +127,35 @@ fn answer<W: Write, E: Write>(
     };
     let refused = add_lines(&mut builder, request.rules, err)?;
     let matcher = builder.into_gitignore();
-    tell_answer(out, &matcher, request.path, request.is_dir)?;
+    write_answer(out, &matcher, request.path, request.is_dir)?;
     Ok(refused)
 }
 
-/// Tells why a run ended, and answers its status, or why it ended where that can't be told.
-pub fn tell_stop<E: Write>(err: &mut E, stop: Stop) -> Result<u8, Stop>
-    ensures tells { IfOk result (λ status. (status ≡ 2) × (stop ≢ Stop.Silence) × Appends (E.contents err.old) (E.contents err.new) (reason stop)) }
-    ensures untold { IfErr result (λ why. why ≡ stop) }
+/// Reports why a run ended, and returns its status, or why it ended where that can't be written.
+pub fn report_stop<E: Write>(err: &mut E, stop: Stop) -> Result<u8, Stop>
+    ensures reports { IfOk result (λ status. (status ≡ 2) × (stop ≢ Stop.Silence) × Appends (E.contents err.old) (E.contents err.new) (reason stop)) }
+    ensures unreported { IfErr result (λ why. why ≡ stop) }
 {
-    let told = match stop {
+    let problem_of = match stop {
         Stop::Usage => writeln!(err, "{USAGE}"),
         Stop::Memory => writeln!(err, "igwalk: out of memory"),
         Stop::Write => writeln!(err, "igwalk: cannot write"),
         Stop::Silence => return Err(stop),
     };
-    match told {
+    match problem_of {
         Ok(()) => Ok(2),
         Err(_) => Err(stop),
     }
 }
 
-/// Does what the words after the program's name ask for: `match ROOT RULES PATH d|f` prints what
-/// the lines of RULES say, relative to ROOT, of PATH, a directory (`d`) or not (`f`): `none`, or
-/// `ignore` or `whitelist` and the line that decided. A refused line is told on `err`, and the
-/// others are asked.
+/// Runs the command in the words after the program's name. `match ROOT RULES PATH d|f` writes the
+/// answer of the lines of RULES, relative to ROOT, for PATH, a directory (`d`) or not (`f`):
+/// `none`, or `ignore` or `whitelist` and the line that decided. A rejected line is reported on
+/// `err`, and the other lines count.
 ///
-/// The answer is the status: 0; 1 where a line was refused; 2 for wrong arguments, for want of
-/// memory, and where a writer refuses, each told on `err` unless that is the one that refuses,
-/// which `run_or_stop` states. Wrong arguments are found before anything is written to `out`.
+/// It returns the status: 0; 1 where a line was rejected; 2 for wrong arguments, out of memory and
+/// a failed write. Status 2 is reported on `err`, unless writing to `err` failed, which
+/// `run_or_stop` states. Wrong arguments are found before anything is written to `out`.
 pub fn run<W: Write, E: Write>(alloc: Global, words: &[String], out: &mut W, err: &mut E) -> u8
     ensures wrong { question_of (map string_bytes words.now) ≡ None → (result ≡ 2) × Appends (W.contents out.old) (W.contents out.new) [] }
     ensures prints { (question : Question) → question_of (map string_bytes words.now) ≡ Some question → result ≢ 2
@@ -166,10 +168,10 @@ pub fn run<W: Write, E: Write>(alloc: Global, words: &[String], out: &mut W, err
     }
 }
 
-/// As `run`, with each early end told, or else an error.
+/// As `run`, with each early end reported, or else an error.
 ///
 /// # Errors
-/// Why the run ended, where that can't be told on `err`.
+/// Why the run ended, where that can't be written to `err`.
 pub fn run_or_stop<W: Write, E: Write>(
     alloc: Global,
     words: &[String],
@@ -181,17 +183,17 @@ pub fn run_or_stop<W: Write, E: Write>(
         → IfOk result (λ status. (status ≡ 2) × Appends (E.contents err.old) (E.contents err.new) (reason Stop.Usage)) }
     ensures prints { (question : Question) → question_of (map string_bytes words.now) ≡ Some question
         → IfOk result (λ status. Prints question status (Appends (W.contents out.old) (W.contents out.new)) (Appends (E.contents err.old) (E.contents err.new))
-        ⊎ ((status ≡ 2) × EndsTold question (Appends (W.contents out.old) (W.contents out.new)) (Appends (E.contents err.old) (E.contents err.new)))) }
-    ensures untold { (question : Question) → question_of (map string_bytes words.now) ≡ Some question
-        → IfErr result (Ends question (Appends (W.contents out.old) (W.contents out.new)) (λ told. ⊤)) }
+        ⊎ ((status ≡ 2) × EndsReported question (Appends (W.contents out.old) (W.contents out.new)) (Appends (E.contents err.old) (E.contents err.new)))) }
+    ensures unreported { (question : Question) → question_of (map string_bytes words.now) ≡ Some question
+        → IfErr result (Ends question (Appends (W.contents out.old) (W.contents out.new)) (λ problem_of. ⊤)) }
     ensures status { IfOk result (λ status. status ≤ 2) }
 {
     let Some(request) = read_words(words) else {
-        return tell_stop(err, Stop::Usage);
+        return report_stop(err, Stop::Usage);
     };
     match answer(alloc, request, out, err) {
         Ok(false) => Ok(0),
         Ok(true) => Ok(1),
-        Err(stop) => tell_stop(err, stop),
+        Err(stop) => report_stop(err, stop),
     }
 }

@@ -20,7 +20,7 @@ pub struct Cut {
     pub fault: Fault,
 }
 
-/// A node: the directory that it is in, its own path, and what the calls answer of it.
+/// A node: the directory that it is in, its canonical path, and the answers of calls for it.
 #[derive(Debug, Drop)]
 pub struct Node {
     pub parent: usize,
@@ -60,7 +60,7 @@ impl Kind {
         }
     }
 
-    /// The kind as a tree tells it.
+    /// The kind as a tree reports it.
     pub fn file_type(&self) -> FileType
         ensures { result ≡ file_type_of self.now }
     {
@@ -106,8 +106,8 @@ impl Node {
         node: usize,
     ) -> Result<(), AllocError>
         requires { entry_under name self.old.kind ≡ None }
-        ensures ok { OnOk result (self.new ≡ listing_too (Named name file_type node) self.old) }
-        ensures err { OnErr result (self.new ≡ self.old) }
+        ensures added { OnOk result (self.new ≡ listing_too (Named name file_type node) self.old) }
+        ensures unchanged { OnErr result (self.new ≡ self.old) }
     {
         match &mut self.kind {
             Kind::Dir(entries) => entries.push(name, file_type, node),
@@ -119,8 +119,8 @@ impl Node {
     /// Lists something without a name too, if this is a directory. After an `Err` nothing has
     /// changed.
     pub fn list_nameless(&mut self) -> Result<(), AllocError>
-        ensures ok { OnOk result (self.new ≡ listing_too Nameless self.old) }
-        ensures err { OnErr result (self.new ≡ self.old) }
+        ensures added { OnOk result (self.new ≡ listing_too Nameless self.old) }
+        ensures unchanged { OnErr result (self.new ≡ self.old) }
     {
         match &mut self.kind {
             Kind::Dir(entries) => entries.push_nameless(),

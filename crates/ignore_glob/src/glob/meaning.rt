@@ -1,24 +1,25 @@
-//! The tokens that a row of pieces begins with: runs of two stars are judged by their neighbours.
+//! The token that a row of lexemes begins with: its neighbours decide what a run of two stars
+//! means.
 ghost use Rattle.std.specs.Prelude.{◌≡◌, ◌⊎◌, ◌+◌, ◌<◌, ◌≤◌, ◌↔◌, ◌∷◌, [], List, length, IsTrue, IfSome, IfNone};
-ghost use Rattle.ignore_glob.specs.Pieces as P;
+ghost use Rattle.ignore_glob.specs.Lexing as P;
 ghost use Rattle.ignore_glob.specs.Row as R;
 ghost use Rattle.ignore_glob.specs.Row.{IsSlash, IsStart, Ends, AtEnd, BeforeSlash, chain, Means};
-ghost use Rattle.ignore_glob.specs.Lexemes.{lexeme_view, row_view, left_view, meaning_view};
+ghost use Rattle.ignore_glob.specs.LexemeViews.{lexeme_view, row_view, left_view, meaning_view};
 
 use crate::glob::lexeme::Lexeme;
 use crate::glob::token::Class;
 
-/// What stands left of a place.
+/// What is left of a place.
 #[derive(Clone, Copy)]
 pub enum Left {
     GlobStart,
     BranchStart,
-    Piece,
+    Lexeme,
 }
 
 /// A token without branches.
 #[derive(Clone, Copy)]
-pub enum Given<'a> {
+pub enum SimpleToken<'a> {
     Literal(char),
     Any,
     Star,
@@ -31,33 +32,33 @@ pub enum Given<'a> {
 /// What a row begins with.
 #[derive(Clone, Copy)]
 pub enum Meaning<'a> {
-    Gives(usize, Given<'a>, &'a [Lexeme]),
+    Gives(usize, SimpleToken<'a>, &'a [Lexeme]),
     Braces(&'a [Lexeme]),
-    Over,
+    Ended,
 }
 
-fn is_pair(piece: &Lexeme) -> bool
-    ensures { IsTrue result ↔ (lexeme_view piece.now ≡ P.run 2) }
+fn is_pair(lexeme: &Lexeme) -> bool
+    ensures { IsTrue result ↔ (lexeme_view lexeme.now ≡ P.run 2) }
 {
-    match piece {
+    match lexeme {
         Lexeme::Run(n) => *n == 2,
         _ => false,
     }
 }
 
-fn is_plain_slash(piece: &Lexeme) -> bool
-    ensures { IsTrue result ↔ (lexeme_view piece.now ≡ P.char 47) }
+fn is_plain_slash(lexeme: &Lexeme) -> bool
+    ensures { IsTrue result ↔ (lexeme_view lexeme.now ≡ P.char 47) }
 {
-    match piece {
+    match lexeme {
         Lexeme::Char(c) => *c == '/',
         _ => false,
     }
 }
 
-fn is_branch_end(piece: &Lexeme) -> bool
-    ensures { IsTrue result ↔ ((lexeme_view piece.now ≡ P.comma) ⊎ (lexeme_view piece.now ≡ P.closing)) }
+fn is_branch_end(lexeme: &Lexeme) -> bool
+    ensures { IsTrue result ↔ ((lexeme_view lexeme.now ≡ P.comma) ⊎ (lexeme_view lexeme.now ≡ P.closing)) }
 {
-    match piece {
+    match lexeme {
         Lexeme::Comma | Lexeme::Closing => true,
         _ => false,
     }
@@ -72,7 +73,7 @@ fn is_end(row: &[Lexeme]) -> bool
     }
 }
 
-/// What follows a `**/` at the front.
+/// What follows a leading `**/`.
 fn past_slash(row: &[Lexeme]) -> Option<&[Lexeme]>
     ensures some { IfSome result (λ more. row_view row.now ≡ P.run 2 ∷ P.char 47 ∷ row_view more.now) }
     ensures shorter { IfSome result (λ more. length more.now < length row.now) }
@@ -104,7 +105,7 @@ fn past_chain(row: &[Lexeme]) -> (usize, &[Lexeme])
     (n, rest)
 }
 
-/// What follows a last `**` at the front.
+/// What follows a leading `**` that ends the glob or a branch.
 fn past_end(row: &[Lexeme]) -> Option<&[Lexeme]>
     ensures some { IfSome result (λ more. row_view row.now ≡ P.run 2 ∷ row_view more.now) }
     ensures ends { IfSome result (λ more. Ends (row_view more.now)) }
@@ -124,11 +125,11 @@ fn after_slash(row: &[Lexeme]) -> Meaning<'_>
 {
     let (n, rest) = past_chain(row);
     if let Some(more) = past_end(rest) {
-        Meaning::Gives(1, Given::End, more)
+        Meaning::Gives(1, SimpleToken::End, more)
     } else if n > 0 {
-        Meaning::Gives(1, Given::Middle, rest)
+        Meaning::Gives(1, SimpleToken::Middle, rest)
     } else {
-        Meaning::Gives(1, Given::Literal('/'), rest)
+        Meaning::Gives(1, SimpleToken::Literal('/'), rest)
     }
 }
 
@@ -137,7 +138,7 @@ fn is_start(left: Left) -> bool
 {
     match left {
         Left::GlobStart | Left::BranchStart => true,
-        Left::Piece => false,
+        Left::Lexeme => false,
     }
 }
 
@@ -147,28 +148,28 @@ fn is_alone(left: Left, n: usize, after: &[Lexeme]) -> bool
 {
     match left {
         Left::GlobStart => n == 2 && after.is_empty(),
-        Left::BranchStart | Left::Piece => false,
+        Left::BranchStart | Left::Lexeme => false,
     }
 }
 
-/// What a run begins at the front of a row.
+/// What a row begins with whose first lexeme is a run.
 fn at_run<'a>(left: Left, row: &'a [Lexeme], n: usize, after: &'a [Lexeme]) -> Meaning<'a>
     requires { row_view row.now ≡ P.run n ∷ row_view after.now }
     ensures { Means (left_view left) (row_view row.now) (meaning_view result) }
 {
     if !is_start(left) {
-        return Meaning::Gives(n, Given::Star, after);
+        return Meaning::Gives(n, SimpleToken::Star, after);
     }
     let (k, rest) = past_chain(row);
     if k > 0 {
         match past_end(rest) {
-            Some(more) => Meaning::Gives(1, Given::Start, more),
-            None => Meaning::Gives(1, Given::Start, rest),
+            Some(more) => Meaning::Gives(1, SimpleToken::Start, more),
+            None => Meaning::Gives(1, SimpleToken::Start, rest),
         }
     } else if is_alone(left, n, after) {
-        Meaning::Gives(1, Given::Start, after)
+        Meaning::Gives(1, SimpleToken::Start, after)
     } else {
-        Meaning::Gives(n, Given::Star, after)
+        Meaning::Gives(n, SimpleToken::Star, after)
     }
 }
 
@@ -180,25 +181,25 @@ fn at_character(c: char, rest: &[Lexeme]) -> Meaning<'_>
     if c == '/' {
         after_slash(rest)
     } else {
-        Meaning::Gives(1, Given::Literal(c), rest)
+        Meaning::Gives(1, SimpleToken::Literal(c), rest)
     }
 }
 
-/// What a row begins with, with this left of it.
-pub fn begins(left: Left, row: &[Lexeme]) -> Meaning<'_>
+/// What a row begins with, given what is left of it.
+pub fn meaning_of(left: Left, row: &[Lexeme]) -> Meaning<'_>
     ensures { Means (left_view left) (row_view row.now) (meaning_view result) }
 {
     let Some((first, rest)) = row.split_first() else {
-        return Meaning::Over;
+        return Meaning::Ended;
     };
     match first {
         Lexeme::Char(c) => at_character(*c, rest),
         Lexeme::Escaped(c) => at_character(*c, rest),
-        Lexeme::Any => Meaning::Gives(1, Given::Any, rest),
+        Lexeme::Any => Meaning::Gives(1, SimpleToken::Any, rest),
         Lexeme::Run(n) => at_run(left, row, *n, rest),
-        Lexeme::Class(class) => Meaning::Gives(1, Given::Class(class), rest),
+        Lexeme::Class(class) => Meaning::Gives(1, SimpleToken::Class(class), rest),
         Lexeme::Opening => Meaning::Braces(rest),
-        Lexeme::Comma => Meaning::Over,
-        Lexeme::Closing => Meaning::Over,
+        Lexeme::Comma => Meaning::Ended,
+        Lexeme::Closing => Meaning::Ended,
     }
 }

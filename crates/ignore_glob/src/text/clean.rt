@@ -1,13 +1,13 @@
 //! Names, clean paths and clean roots.
 ghost use Rattle.std.specs.Prelude.{◌≡◌, ◌↔◌, IsTrue};
 ghost use Rattle.std.specs.List.{list_all};
-ghost use Rattle.ignore_glob.specs.Paths.{pieces, is_proper, IsName, IsCleanPath, IsCleanRoot};
+ghost use Rattle.ignore_glob.specs.Paths.{components, is_proper, IsName, IsCleanPath, IsCleanRoot};
 ghost use Rattle.ignore_glob.specs.Roots.{IsWithoutEnd, rises, is_rooted};
 
 use crate::text::prefix::{has_slash, trim_root, without_slash};
 
 /// Whether a text is a name: not empty, without `/`, and neither `.` nor `..`.
-/// For the crates above.
+/// For dependents.
 pub fn is_name(text: &str) -> bool
     ensures { IsTrue result ↔ IsName text.now }
 {
@@ -21,7 +21,9 @@ pub fn is_clean_path(path: &str) -> bool
     path.is_empty() || are_names(path)
 }
 
-/// Whether a root is clean: `.`, `./` or `/`; or names, joined by single slashes, behind nothing, `/` or `./`; or pieces `..` before names or alone. One `/` may follow. `-` is not clean, as it stands for standard input.
+/// Whether a root is clean: `.`, `./` or `/`; or names, joined by single slashes, after nothing,
+/// `/` or `./`; or components `..`, alone or before names. One `/` may follow. `-` is not clean, as
+/// it means standard input.
 pub fn is_clean_root(root: &str) -> bool
     ensures { IsTrue result ↔ IsCleanRoot root.now }
 {
@@ -40,7 +42,7 @@ fn without_end(path: &str) -> &str
     }
 }
 
-// Whether a root without a slash at its end is names behind what may stand before them.
+// Whether a root without a final slash is names after what may precede them.
 fn is_rooted(body: &str) -> bool
     ensures { result ≡ is_rooted body.now }
 {
@@ -53,26 +55,26 @@ fn is_rooted(body: &str) -> bool
     rises(body)
 }
 
-// Whether the pieces of a text are `..` and then names.
+// Whether the components of a text are `..` and then names.
 fn rises(text: &str) -> bool
-    ensures { result ≡ rises (pieces text.now) }
+    ensures { result ≡ rises (components text.now) }
 {
     text.split('/')
-        .skip_while(|piece| *piece == "..")
-        .all(|piece| is_proper(piece))
+        .skip_while(|component| *component == "..")
+        .all(|component| is_proper(component))
 }
 
-// Whether each piece of a text is a name.
+// Whether each component of a text is a name.
 fn are_names(text: &str) -> bool
-    ensures { result ≡ list_all is_proper (pieces text.now) }
+    ensures { result ≡ list_all is_proper (components text.now) }
 {
-    text.split('/').all(|piece| is_proper(piece))
+    text.split('/').all(|component| is_proper(component))
 }
 
-/// Whether a piece between the slashes of a path is a name: not empty, and neither `.` nor `..`.
-/// For the crates above.
-pub fn is_proper(piece: &str) -> bool
-    ensures { result ≡ is_proper piece.now }
+/// Whether a component of a path is a name: not empty, and neither `.` nor `..`.
+/// For dependents.
+pub fn is_proper(component: &str) -> bool
+    ensures { result ≡ is_proper component.now }
 {
-    !piece.is_empty() && piece != "." && piece != ".."
+    !component.is_empty() && component != "." && component != ".."
 }

@@ -1,7 +1,7 @@
 //! A matcher of rules.
 ghost use Rattle.std.specs.Prelude.{◌≡◌, ◌+◌, ◌==◌, IfOk, IfErr, length, string_bytes};
 ghost use Rattle.ignore_glob.specs.Match.{match_map};
-ghost use Rattle.ignore_glob.specs.Problem.{told, memory};
+ghost use Rattle.ignore_glob.specs.Problem.{problem_of, memory};
 ghost use Rattle.ignore_rules.specs.Answer.{answer, list_answer};
 ghost use Rattle.ignore_rules.specs.Rules.{empty, ignore_count, whitelist_count};
 
@@ -31,7 +31,7 @@ impl Model for Gitignore {
 }
 
 impl Gitignore {
-    /// The matcher of no rules: it answers no match for every path, and its path is empty.
+    /// The matcher of no rules: each path has no match, and its root is empty.
     pub fn empty(alloc: Global) -> Gitignore
         ensures { result ≡ empty }
     {
@@ -61,7 +61,7 @@ impl Gitignore {
         self.globs.is_empty()
     }
 
-    /// For the crates above: the rules, in the order in which they were added.
+    /// For dependents: the rules, in the order in which they were added.
     pub fn rules(&self) -> &[Glob]
         ensures { result.now ≡ self.now.rules }
     {
@@ -76,7 +76,7 @@ impl Gitignore {
         self.globs.len()
     }
 
-    /// How many rules ignore what they take.
+    /// How many rules ignore what they match.
     pub fn num_ignores(&self) -> u64
         ensures { result ≡ ignore_count self.now.rules }
     {
@@ -86,22 +86,26 @@ impl Gitignore {
             .count() as u64
     }
 
-    /// How many rules whitelist what they take.
+    /// How many rules whitelist what they match.
     pub fn num_whitelists(&self) -> u64
         ensures { result ≡ whitelist_count self.now.rules }
     {
         self.globs.iter().filter(|glob| glob.is_whitelist()).count() as u64
     }
 
-    /// What the rules say of a path, with the rule that decided: the last one that takes the path and speaks of its kind, as in gitignore(5), where a later line overrides an earlier one.
+    /// The answer of the rules for a path, with the rule that decided: the last one that matches
+    /// the path and applies to its kind, as in gitignore(5), where a later line overrides an
+    /// earlier one.
     ///
-    /// One leading `./` of the path and the root are taken off first. `is_dir` says whether the path is a directory. A path below an ignored directory has a match of its own or none: its directories aren't asked.
+    /// One leading `./` of the path and the root are stripped first. `is_dir` says whether the path
+    /// is a directory. A path below an ignored directory has a match of its own or none: its
+    /// parents aren't matched.
     ///
     /// # Errors
     /// `Error::Memory` alone.
     pub fn matched(&self, path: &str, is_dir: bool) -> Result<Match<&Glob>, Error>
         ensures answered { IfOk result (λ m. match_map (λ g. g.now) m ≡ answer self.now.root self.now.rules path.now is_dir) }
-        ensures refused { IfErr result (λ e. told e ≡ memory) }
+        ensures out_of_memory { IfErr result (λ e. problem_of e ≡ memory) }
     {
         if self.is_empty() {
             return Ok(Match::None);
@@ -120,7 +124,7 @@ pub(crate) fn last_answer<'g>(globs: &'g [Glob], text: &[char], is_dir: bool) ->
     for i in (0..globs.len()).rev() {
         let glob = &globs[i];
         if glob.applies(text, is_dir) {
-            return glob.tells();
+            return glob.decision();
         }
     }
     Match::None

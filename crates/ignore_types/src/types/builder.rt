@@ -1,8 +1,8 @@
 //! Collecting file types, and choices among them.
 ghost use Rattle.std.specs.Prelude.{◌≡◌, ◌⊎◌, ◌==◌, [], true, false, map, OnOk, OnErr, IfOk, IfErr};
 ghost use Rattle.std.specs.List.{AllZip, slice_split};
-ghost use Rattle.ignore_glob.specs.Problem.{told, memory, unrecognized};
-ghost use Rattle.ignore_types.specs.Types.{Draft, IsSortedCopy, IsAscending, one_glob, included, request_of, request_of_parts, after_request, Becomes, with_chosen, without};
+ghost use Rattle.ignore_glob.specs.Problem.{problem_of, memory, unrecognized};
+ghost use Rattle.ignore_types.specs.Types.{Draft, IsSortedCopy, IsAscending, one_glob, included, request_of, request_of_fields, after_request, Becomes, with_chosen, without};
 ghost use Rattle.ignore_types.specs.Building.{IsBuilt, IsChosen, IsChoiceProblem, IsRefusedWith, FirstBad};
 ghost use Rattle.ignore_types.specs.Refusals.{IsRefusal};
 ghost use Rattle.ignore_types.specs.Defaults.{with_rows};
@@ -11,9 +11,9 @@ use crate::default_types::DEFAULT_TYPES;
 use crate::types::chosen::{ChosenType, read_globs};
 use crate::types::definition::FileTypeDef;
 use crate::types::definitions::Definitions;
+use crate::types::fields::fields;
 use crate::types::matcher::Types;
 use crate::types::name::is_allowed;
-use crate::types::parts::parts;
 use crate::types::selection::{Selection, selection_of, selections_of};
 use ignore_glob::Error;
 use std::alloc::{AllocError, Global};
@@ -48,8 +48,7 @@ impl TypesBuilder {
         }
     }
 
-    /// Adds a glob to the type of this name, behind those that it has. A name
-    /// that isn't there yet becomes a type.
+    /// Appends a glob to the type of this name. A new name becomes a type.
     ///
     /// # Errors
     /// `InvalidDefinition` for the name `all`, and for a name with a character
@@ -69,34 +68,34 @@ impl TypesBuilder {
         }
     }
 
-    /// Adds what a text defines.
+    /// Adds the definition in a text.
     ///
     /// `name:glob` is as `add` of the two. `name:include:one,two` appends the
-    /// globs of each of the types behind `include` to the type of the name, in
-    /// turn: a type that stands there twice is appended twice, and the type
-    /// itself with what it has by then.
+    /// globs of each of the types after `include` to the type of the name, in
+    /// turn: a type that is listed twice is appended twice, and the type itself
+    /// with what it has by then.
     ///
     /// # Errors
-    /// `InvalidDefinition` for a text of another form or with an empty part,
-    /// for a name that `add` refuses, and where a type of the list isn't there;
+    /// `InvalidDefinition` for a text of another form or with an empty field,
+    /// for a name that `add` rejects, and where a type of the list is unknown;
     /// `Memory`. After an error the builder is as before.
     pub fn add_def(&mut self, definition: &str) -> Result<(), Error>
         ensures added { OnOk result (Becomes self.old (after_request (request_of definition.now) self.old.definitions) self.new) }
         ensures refused { IfErr result (IsRefusal (after_request (request_of definition.now) self.old.definitions)) }
         ensures unchanged { OnErr result (self.new ≡ self.old) }
     {
-        match parts(*self.selections.allocator(), definition, ':') {
-            Ok(parts) => self.add_parts(&parts),
+        match fields(*self.selections.allocator(), definition, ':') {
+            Ok(fields) => self.add_fields(&fields),
             Err(_) => Err(Error::Memory),
         }
     }
 
-    fn add_parts(&mut self, parts: &[&str]) -> Result<(), Error>
-        ensures added { OnOk result (Becomes self.old (after_request (request_of_parts (map (λ p. p.now) parts.now)) self.old.definitions) self.new) }
-        ensures refused { IfErr result (IsRefusal (after_request (request_of_parts (map (λ p. p.now) parts.now)) self.old.definitions)) }
+    fn add_fields(&mut self, fields: &[&str]) -> Result<(), Error>
+        ensures added { OnOk result (Becomes self.old (after_request (request_of_fields (map (λ p. p.now) fields.now)) self.old.definitions) self.new) }
+        ensures refused { IfErr result (IsRefusal (after_request (request_of_fields (map (λ p. p.now) fields.now)) self.old.definitions)) }
         ensures unchanged { OnErr result (self.new ≡ self.old) }
     {
-        match parts {
+        match fields {
             [name, glob] => {
                 if name.is_empty() || glob.is_empty() {
                     return Err(Error::InvalidDefinition);
@@ -129,7 +128,7 @@ impl TypesBuilder {
         if !is_allowed(name) {
             return Err(Error::InvalidDefinition);
         }
-        let Ok(sources) = parts(*self.selections.allocator(), sources, ',') else {
+        let Ok(sources) = fields(*self.selections.allocator(), sources, ',') else {
             return Err(Error::Memory);
         };
         if !self.types.has_all(&sources) {
@@ -148,12 +147,12 @@ impl TypesBuilder {
     /// further.
     ///
     /// # Errors
-    /// For the first choice that is refused, in the order of choosing:
+    /// For the first choice that is rejected, in the order of choosing:
     /// `UnrecognizedFileType` with its name where no type has it, or `Glob` for
-    /// the first of the type's globs that has a fault; `Memory`.
+    /// the first invalid glob of its type; `Memory`.
     pub fn build(&self) -> Result<Types, Error>
         ensures built { IfOk result (IsBuilt self.now) }
-        ensures refused { IfErr result (λ e. (told e ≡ memory) ⊎ IsRefusedWith self.now (told e)) }
+        ensures refused { IfErr result (λ e. (problem_of e ≡ memory) ⊎ IsRefusedWith self.now (problem_of e)) }
     {
         match self.chosen_types() {
             Ok(choices) => match self.types.sorted_copies() {
@@ -166,7 +165,7 @@ impl TypesBuilder {
 
     fn chosen_types(&self) -> Result<Vec<ChosenType>, Error>
         ensures built { IfOk result (λ all. AllZip (IsChosen self.now.definitions) self.now.choices all.items) }
-        ensures refused { IfErr result (λ e. (told e ≡ memory) ⊎ IsRefusedWith self.now (told e)) }
+        ensures refused { IfErr result (λ e. (problem_of e ≡ memory) ⊎ IsRefusedWith self.now (problem_of e)) }
     {
         chosen_types(*self.selections.allocator(), &self.types, &self.selections)
     }
@@ -178,7 +177,7 @@ impl TypesBuilder {
     pub fn definitions(&self) -> Result<Vec<FileTypeDef>, Error>
         ensures copies { IfOk result (λ ds. AllZip IsSortedCopy self.now.definitions ds.items) }
         ensures by_name { IfOk result (λ ds. IsAscending ds.items) }
-        ensures refused { IfErr result (λ e. told e ≡ memory) }
+        ensures out_of_memory { IfErr result (λ e. problem_of e ≡ memory) }
     {
         match self.types.sorted_copies() {
             Ok(definitions) => Ok(definitions),
@@ -186,8 +185,8 @@ impl TypesBuilder {
         }
     }
 
-    /// Drops the type of this name, if it is there. Choices that name it stay,
-    /// and are refused by `build` unless the type is added again.
+    /// Drops the type of this name, if there is one. Choices that name it stay,
+    /// and `build` rejects them unless the type is added again.
     pub fn clear(&mut self, name: &str) -> &mut Self
         ensures same_reference { result.ghost_name ≡ self.entry.ghost_name }
         ensures value { result.now ≡ record { definitions = without name.now self.old.definitions; choices = self.old.choices } }
@@ -196,8 +195,8 @@ impl TypesBuilder {
         self
     }
 
-    /// Selects the type of this name, behind the choices made so far. `all`
-    /// stands for each type that is there at this call, in text order.
+    /// Selects the type of this name, after the choices made so far. `all`
+    /// stands for each type that exists at this call, in text order.
     ///
     /// # Errors
     /// `Memory` alone. After it the builder is as before, which
@@ -205,7 +204,7 @@ impl TypesBuilder {
     pub fn select(&mut self, name: &str) -> Result<&mut Self, Error>
         ensures same_reference { IfOk result (λ b. b.ghost_name ≡ self.entry.ghost_name) }
         ensures selected { IfOk result (λ b. b.now ≡ with_chosen false name.now self.old) }
-        ensures refused { IfErr result (λ e. told e ≡ memory) }
+        ensures out_of_memory { IfErr result (λ e. problem_of e ≡ memory) }
     {
         match self.push_selection(name, false) {
             Ok(()) => Ok(self),
@@ -213,8 +212,8 @@ impl TypesBuilder {
         }
     }
 
-    /// Negates the type of this name, behind the choices made so far. `all`
-    /// stands for each type that is there at this call, in text order.
+    /// Negates the type of this name, after the choices made so far. `all`
+    /// stands for each type that exists at this call, in text order.
     ///
     /// # Errors
     /// `Memory` alone. After it the builder is as before, which
@@ -222,7 +221,7 @@ impl TypesBuilder {
     pub fn negate(&mut self, name: &str) -> Result<&mut Self, Error>
         ensures same_reference { IfOk result (λ b. b.ghost_name ≡ self.entry.ghost_name) }
         ensures negated { IfOk result (λ b. b.now ≡ with_chosen true name.now self.old) }
-        ensures refused { IfErr result (λ e. told e ≡ memory) }
+        ensures out_of_memory { IfErr result (λ e. problem_of e ≡ memory) }
     {
         match self.push_selection(name, true) {
             Ok(()) => Ok(self),
@@ -230,11 +229,11 @@ impl TypesBuilder {
         }
     }
 
-    /// For the crates above: as `select`, or as `negate`, without the builder
-    /// in the answer.
+    /// For dependents: as `select`, or as `negate`, without the builder in the
+    /// result.
     pub fn push_selection(&mut self, name: &str, negated: bool) -> Result<(), Error>
         ensures chosen { OnOk result (self.new ≡ with_chosen negated name.now self.old) }
-        ensures refused { IfErr result (λ e. told e ≡ memory) }
+        ensures out_of_memory { IfErr result (λ e. problem_of e ≡ memory) }
         ensures unchanged { OnErr result (self.new ≡ self.old) }
     {
         match self.choose(name, negated) {
@@ -264,7 +263,7 @@ impl TypesBuilder {
     pub fn add_defaults(&mut self) -> Result<&mut Self, Error>
         ensures same_reference { IfOk result (λ b. b.ghost_name ≡ self.entry.ghost_name) }
         ensures added { IfOk result (λ b. b.now ≡ record { definitions = with_rows (map (λ r. (map (λ n. n.now) r.0.now, map (λ g. g.now) r.1.now)) DEFAULT_TYPES) self.old.definitions; choices = self.old.choices }) }
-        ensures refused { IfErr result (λ e. told e ≡ memory) }
+        ensures out_of_memory { IfErr result (λ e. problem_of e ≡ memory) }
     {
         match self.push_defaults() {
             Ok(()) => Ok(self),
@@ -272,11 +271,10 @@ impl TypesBuilder {
         }
     }
 
-    /// For the crates above: as `add_defaults`, without the builder in the
-    /// answer.
+    /// For dependents: as `add_defaults`, without the builder in the result.
     pub fn push_defaults(&mut self) -> Result<(), Error>
         ensures added { OnOk result (self.new ≡ record { definitions = with_rows (map (λ r. (map (λ n. n.now) r.0.now, map (λ g. g.now) r.1.now)) DEFAULT_TYPES) self.old.definitions; choices = self.old.choices }) }
-        ensures refused { IfErr result (λ e. told e ≡ memory) }
+        ensures out_of_memory { IfErr result (λ e. problem_of e ≡ memory) }
         ensures unchanged { OnErr result (self.new ≡ self.old) }
     {
         match self.types.with_rows(&DEFAULT_TYPES) {
@@ -295,7 +293,7 @@ fn chosen_types(
     selections: &[Selection],
 ) -> Result<Vec<ChosenType>, Error>
     ensures built { IfOk result (λ all. AllZip (IsChosen types.now) selections.now all.items) }
-    ensures refused { IfErr result (λ e. (told e ≡ memory) ⊎ FirstBad (IsChosen types.now) (IsChoiceProblem types.now (told e)) selections.now) }
+    ensures refused { IfErr result (λ e. (problem_of e ≡ memory) ⊎ FirstBad (IsChosen types.now) (IsChoiceProblem types.now (problem_of e)) selections.now) }
 {
     let mut all = Vec::new(alloc);
     for selection in selections {
@@ -317,7 +315,7 @@ fn chosen_type(
     selection: &Selection,
 ) -> Result<ChosenType, Error>
     ensures built { IfOk result (IsChosen types.now selection.now) }
-    ensures refused { IfErr result (λ e. (told e ≡ memory) ⊎ IsChoiceProblem types.now (told e) selection.now) }
+    ensures refused { IfErr result (λ e. (problem_of e ≡ memory) ⊎ IsChoiceProblem types.now (problem_of e) selection.now) }
 {
     match types.get(selection.name()) {
         None => Err(unrecognized(alloc, selection.name())),
@@ -333,7 +331,7 @@ fn chosen_type(
 
 /// The error of a choice whose name no type has, or `Error::Memory`.
 fn unrecognized(alloc: Global, name: &str) -> Error
-    ensures { (told result ≡ memory) ⊎ (told result ≡ unrecognized name.now) }
+    ensures { (problem_of result ≡ memory) ⊎ (problem_of result ≡ unrecognized name.now) }
 {
     match String::from_str(alloc, name) {
         Ok(name) => Error::UnrecognizedFileType(name),

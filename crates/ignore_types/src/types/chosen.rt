@@ -1,9 +1,9 @@
 //! A chosen type of a matcher.
 ghost use Rattle.std.specs.Prelude.{◌≡◌, ◌⊎◌, ◌↔◌, ℕ, IsTrue, IfOk, IfErr, MatchOption, map, not, string_bytes, Some};
 ghost use Rattle.std.specs.List.{AllZip, list_any};
-ghost use Rattle.ignore_glob.specs.Problem.{told, memory, glob as glob_problem};
+ghost use Rattle.ignore_glob.specs.Problem.{problem_of, memory, glob as glob_problem};
 ghost use Rattle.ignore_glob.specs.GlobFaults.{glob_fault_text};
-ghost use Rattle.ignore_types.specs.TypeMatch.{SomeTakes, NoneTakes, IsDeciding};
+ghost use Rattle.ignore_types.specs.TypeMatch.{SomeMatches, NoneMatches, IsDeciding};
 ghost use Rattle.ignore_types.specs.Building.{plain, IsReadAs, FirstBad, IsGlobProblem};
 
 use crate::types::definition::FileTypeDef;
@@ -12,8 +12,8 @@ use ignore_glob::glob::{GlobFault, Options, Pattern, PatternError};
 use std::alloc::{AllocError, Global};
 use std::marker::Model;
 
-/// A chosen type of a matcher: its definition, its globs as they were read, and
-/// whether it was negated.
+/// A chosen type of a matcher: its definition, its parsed globs, and whether it
+/// was negated.
 #[derive(Debug, Drop)]
 pub(super) struct ChosenType {
     definition: FileTypeDef,
@@ -54,11 +54,11 @@ impl ChosenType {
         self.negated
     }
 
-    /// Whether some glob of the type takes the name.
-    pub(super) fn takes(&self, name: &[char]) -> bool
-        ensures { IsTrue result ↔ SomeTakes name.now self.now.readings }
+    /// Whether some glob of the type matches the name.
+    pub(super) fn matches(&self, name: &[char]) -> bool
+        ensures { IsTrue result ↔ SomeMatches name.now self.now.readings }
     {
-        some_takes(&self.patterns, name)
+        some_matches(&self.patterns, name)
     }
 }
 
@@ -78,8 +78,8 @@ impl Clone for ChosenType {
     }
 }
 
-fn some_takes(patterns: &[Pattern], name: &[char]) -> bool
-    ensures { IsTrue result ↔ SomeTakes name.now patterns.now }
+fn some_matches(patterns: &[Pattern], name: &[char]) -> bool
+    ensures { IsTrue result ↔ SomeMatches name.now patterns.now }
 {
     for pattern in patterns {
         if pattern.matches_chars(name) {
@@ -89,14 +89,14 @@ fn some_takes(patterns: &[Pattern], name: &[char]) -> bool
     false
 }
 
-/// The choice of the last glob that takes the name.
+/// The choice of the last glob that matches the name.
 pub(super) fn deciding<'a>(choices: &'a [ChosenType], name: &[char]) -> Option<&'a ChosenType>
-    ensures { MatchOption result (NoneTakes name.now choices.now) (λ c. IsDeciding name.now choices.now c.now) }
+    ensures { MatchOption result (NoneMatches name.now choices.now) (λ c. IsDeciding name.now choices.now c.now) }
 {
     let mut i = choices.len();
     while i > 0 {
         i -= 1;
-        if choices[i].takes(name) {
+        if choices[i].matches(name) {
             return Some(&choices[i]);
         }
     }
@@ -110,11 +110,10 @@ pub(super) fn some_selected(choices: &[ChosenType]) -> bool
     choices.iter().any(|choice| !choice.is_negated())
 }
 
-/// The globs of a type as they are read, or the fault of the first that has
-/// one.
+/// The parsed globs of a type, or the error of the first invalid one.
 pub(super) fn read_globs(alloc: Global, globs: &[String]) -> Result<Vec<Pattern>, Error>
     ensures read { IfOk result (λ all. AllZip IsReadAs (map string_bytes globs.now) all.items) }
-    ensures refused { IfErr result (λ e. (told e ≡ memory) ⊎ FirstBad IsReadAs (IsGlobProblem (told e)) (map string_bytes globs.now)) }
+    ensures refused { IfErr result (λ e. (problem_of e ≡ memory) ⊎ FirstBad IsReadAs (IsGlobProblem (problem_of e)) (map string_bytes globs.now)) }
 {
     let mut all = Vec::new(alloc);
     for glob in globs {
@@ -132,7 +131,7 @@ pub(super) fn read_globs(alloc: Global, globs: &[String]) -> Result<Vec<Pattern>
 
 fn read_glob(alloc: Global, glob: &str) -> Result<Pattern, Error>
     ensures read { IfOk result (IsReadAs glob.now) }
-    ensures refused { IfErr result (λ e. (told e ≡ memory) ⊎ IsGlobProblem (told e) glob.now) }
+    ensures refused { IfErr result (λ e. (problem_of e ≡ memory) ⊎ IsGlobProblem (problem_of e) glob.now) }
 {
     let options = Options {
         case_insensitive: false,
@@ -145,9 +144,9 @@ fn read_glob(alloc: Global, glob: &str) -> Result<Pattern, Error>
     }
 }
 
-/// The error of a glob with this fault, or `Error::Memory`.
+/// The error of an invalid glob, or `Error::Memory`.
 fn glob_error(alloc: Global, glob: &str, fault: GlobFault) -> Error
-    ensures { (told result ≡ memory) ⊎ (told result ≡ glob_problem (Some glob.now) (glob_fault_text fault)) }
+    ensures { (problem_of result ≡ memory) ⊎ (problem_of result ≡ glob_problem (Some glob.now) (glob_fault_text fault)) }
 {
     let Ok(text) = format!(in alloc; "{fault}") else {
         return Error::Memory;

@@ -1,7 +1,7 @@
 //! Matching the names of files against chosen types.
 ghost use Rattle.std.specs.Prelude.{◌≡◌, ◌==◌, [], length, IfOk, IfErr};
 ghost use Rattle.std.specs.Option.{option_copied};
-ghost use Rattle.ignore_glob.specs.Problem.{told, memory};
+ghost use Rattle.ignore_glob.specs.Problem.{problem_of, memory};
 ghost use Rattle.ignore_glob.specs.Paths.{file_name_of};
 ghost use Rattle.ignore_types.specs.TypeMatch.{verdict_of, unmatched, IsNameAnswer, IsTypeAnswer};
 
@@ -30,9 +30,9 @@ impl<'a> Model for Glob<'a> {
 }
 
 impl<'a> Glob<'a> {
-    /// The type whose glob took the file's name, with its globs in the order of
-    /// adding. None where no glob took it, and it is ignored since other types
-    /// were selected.
+    /// The type whose glob matched the file's name, with its globs in the order
+    /// of adding. None where no glob matched, and the file is ignored since
+    /// other types were selected.
     pub fn file_type_def(&self) -> Option<&FileTypeDef>
         ensures { option_copied result ≡ self.now }
     {
@@ -52,7 +52,7 @@ impl<'a> Clone for Glob<'a> {
     }
 }
 
-/// A matcher of file types: which of them there are, and which were chosen.
+/// A matcher of file types: all types, and those that were chosen.
 #[derive(Debug, Drop)]
 pub struct Types {
     definitions: Vec<FileTypeDef>,
@@ -104,7 +104,7 @@ impl Types {
         self.choices.len()
     }
 
-    /// The types that there are, sorted by name, each with its globs sorted.
+    /// All types, sorted by name, each with its globs sorted.
     pub fn definitions(&self) -> &[FileTypeDef]
         ensures { result.now ≡ self.now.definitions }
     {
@@ -113,9 +113,9 @@ impl Types {
 
     /// The answer for a path, by its file name alone.
     ///
-    /// The last glob that takes the name decides, in the order of choosing and
+    /// The last glob that matches the name decides, in the order of choosing and
     /// then of adding: the file is whitelisted if its type was selected, and
-    /// ignored if it was negated. A file that no glob takes, or that has no
+    /// ignored if it was negated. A file that no glob matches, or that has no
     /// file name, is ignored if some type was selected. Directories have no
     /// match.
     ///
@@ -124,7 +124,7 @@ impl Types {
     /// time of the call.
     pub fn matched(&self, path: &str, is_dir: bool) -> Result<Match<Glob<'_>>, Error>
         ensures decided { IfOk result (IsTypeAnswer self.now.choices is_dir (file_name_of path.now)) }
-        ensures refused { IfErr result (λ e. told e ≡ memory) }
+        ensures out_of_memory { IfErr result (λ e. problem_of e ≡ memory) }
     {
         if is_dir {
             return Ok(Match::None);

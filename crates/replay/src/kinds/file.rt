@@ -2,7 +2,7 @@
 
 use crate::again::but_for_memory;
 use crate::answer::Answer;
-use crate::error::told_or_null;
+use crate::error::reported_or_null;
 use crate::rules::rules_value;
 use crate::tree_calls::{CALLS, tree_of_calls};
 use ignore_files::MemoryTree;
@@ -22,7 +22,7 @@ pub fn answer(alloc: Global, input: &Value) -> Result<Outcome, Trouble> {
     answer.put("rules", rules_value(alloc, &matcher));
     answer.put_flag("is_empty", matcher.is_empty());
     answer.put_number("len", matcher.len() as u64);
-    answer.put("error", told_or_null(alloc, error.as_ref()));
+    answer.put("error", reported_or_null(alloc, error.as_ref()));
     answer.outcome()
 }
 

@@ -3,7 +3,7 @@
 use crate::again::{add_line, builder, but_for_memory};
 use crate::answer::Answer;
 use crate::environment::{environment, excludes_path};
-use crate::error::told_or_null;
+use crate::error::reported_or_null;
 use crate::rules::rules_value;
 use crate::tree_calls::{CALLS, tree_of_calls};
 use ignore_files::{Env, MemoryTree};
@@ -26,17 +26,22 @@ type Read = (Gitignore, Option<Error>);
 pub fn answer(alloc: Global, input: &Value) -> Result<Outcome, Trouble> {
     let tree = tree_of_calls(alloc, text(input, "cwd")?, list(input, CALLS)?)?;
     let env = environment(alloc, field(input, "env")?)?;
-    told(alloc, input, &tree, &env)
+    reported(alloc, input, &tree, &env)
 }
 
-fn told(alloc: Global, input: &Value, tree: &MemoryTree, env: &Env) -> Result<Outcome, Trouble> {
+fn reported(
+    alloc: Global,
+    input: &Value,
+    tree: &MemoryTree,
+    env: &Env,
+) -> Result<Outcome, Trouble> {
     let (matcher, error) = matcher(alloc, input, tree, env)?;
     let path = excludes_path(alloc, tree, env)?;
     let mut answer = Answer::new(alloc);
     answer.put_text_or_null("path", path.as_deref());
     answer.put_text("root", matcher.path());
     answer.put("rules", rules_value(alloc, &matcher));
-    answer.put("error", told_or_null(alloc, error.as_ref()));
+    answer.put("error", reported_or_null(alloc, error.as_ref()));
     answer.outcome()
 }
 

@@ -2,7 +2,7 @@
 
 use crate::again::{but_for_memory, problem};
 use crate::answer::{Answer, Items};
-use crate::error::told;
+use crate::error::reported;
 use crate::rules::refusal;
 use ignore_glob::{Error, Match};
 use ignore_rules::types::{FileTypeDef, Glob, Types, TypesBuilder};
@@ -22,10 +22,10 @@ pub fn answer(alloc: Global, input: &Value) -> Result<Outcome, Trouble> {
     let refused = refusals(alloc, &mut builder, input)?;
     let definitions = definitions(&builder)?;
     let built = build(&builder)?;
-    told_built(alloc, input, refused, &definitions, built)
+    reported_built(alloc, input, refused, &definitions, built)
 }
 
-fn told_built(
+fn reported_built(
     alloc: Global,
     input: &Value,
     refused: Items,
@@ -36,8 +36,8 @@ fn told_built(
     answer.put("refused", refused.value());
     answer.put("definitions", definitions_value(alloc, definitions));
     match built {
-        Built::Types(types) => told_types(alloc, input, answer, definitions, &types),
-        Built::Refused(error) => told_refused(alloc, answer, error),
+        Built::Types(types) => reported_types(alloc, input, answer, definitions, &types),
+        Built::Refused(error) => reported_refused(alloc, answer, error),
     }
 }
 
@@ -48,7 +48,7 @@ enum Built {
     Refused(Error),
 }
 
-fn told_types(
+fn reported_types(
     alloc: Global,
     input: &Value,
     mut answer: Answer,
@@ -76,8 +76,8 @@ fn put_other_definitions(
     }
 }
 
-fn told_refused(alloc: Global, mut answer: Answer, error: Error) -> Result<Outcome, Trouble> {
-    answer.put("build", told(alloc, &error));
+fn reported_refused(alloc: Global, mut answer: Answer, error: Error) -> Result<Outcome, Trouble> {
+    answer.put("build", reported(alloc, &error));
     answer.put_value("answers", Value::Null);
     answer.outcome()
 }
