@@ -11,7 +11,6 @@ ghost use Rattle.ignore_rules.specs.RuleFile.{AddsFile, AddsAnswer, AddsContents
 ghost use Rattle.ignore_rules.specs.RuleSteps.{IsOneSegment, IsLineRead, IsLastLineRead, IsLineAt, AddsOrReports, Keeps};
 
 use crate::gitignore::builder::GitignoreBuilder;
-use crate::gitignore::line::ParsedLine;
 use ignore_files::{Contents, Fault, Files, Refusal};
 use ignore_glob::Error;
 use memchr::memchr;
@@ -133,7 +132,7 @@ impl GitignoreBuilder {
         ensures refused { IfErr result (λ e. (problem_of e ≡ memory) ⊎ Refuses self.old.options line.now (problem_of e)) }
         ensures unchanged { OnErr result (self.new ≡ self.old) }
     {
-        let Some(parsed_line) = ParsedLine::of(self.allocator(), line)? else {
+        let Some(parsed_line) = self.parsed_line(line)? else {
             return Ok(());
         };
         let from = String::from_str(self.allocator(), path)?;
