@@ -9,4 +9,5 @@ pub mod DoesMatchLemmas
 pub mod TextLemmas
 mod WorkedLines
 pub mod LinesOnly
-mod FilesOnly
+pub mod FilesOnly
+pub mod FileResult
