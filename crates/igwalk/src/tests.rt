@@ -72,7 +72,7 @@ fn runs_over_memory(rt: HostRuntime) -> Result<(), Fail> {
         let mut out: Vec<u8> = Vec::new(alloc);
         let mut err: Vec<u8> = Vec::new(alloc);
         let got = run(alloc, words.as_slice(), &mut out, &mut err).unwrap_or(2);
-        assert_eq!(rt; got, status, "{told}");
+        assert_eq!(rt; got, status, "{reported}");
         assert_eq!(rt; out.as_slice(), written.as_bytes());
         assert_eq!(rt; err.as_slice(), reported.as_bytes());
     }
