@@ -40,18 +40,18 @@ abbrev LinesGive : List ℕ → LineOptions → ℕ → List (Result (List ℕ) 
 LinesGive path options number decoded rules problems = (old : Building) → old.options ≡ options → AddsLines path number decoded old (with_rules old rules) problems
 
 after_rule : (path : List ℕ) (options : LineOptions) (number : ℕ) (line : List ℕ) (more : List (Result (List ℕ) Fault)) (given : Option Rule) (rules : List Rule) (problems : List Problem)
-    → GivesRule options (Some path) (parsed_line (line_content number line)) given → LinesGive path options (number + 1) more rules problems → LinesGive path options number (Ok line ∷ more) (rules_of given ++ rules) problems
+    → GivesRule options (Some path) (parsed_line options.git_trailing_spaces (line_content number line)) given → LinesGive path options (number + 1) more rules problems → LinesGive path options number (Ok line ∷ more) (rules_of given ++ rules) problems
 after_rule path options number line more given rules problems h rest = λ old same.
-    let parsed : GivesRule old.options (Some path) (parsed_line (line_content number line)) given = subst (λ (o : LineOptions). GivesRule o (Some path) (parsed_line (line_content number line)) given) (sym same) h in
+    let parsed : GivesRule old.options (Some path) (parsed_line old.options.git_trailing_spaces (line_content number line)) given = subst (λ (o : LineOptions). GivesRule o (Some path) (parsed_line o.git_trailing_spaces (line_content number line)) given) (sym same) h in
     let further : AddsLines path (number + 1) more (with_rules old (rules_of given)) (with_rules (with_rules old (rules_of given)) rules) problems = rest (with_rules old (rules_of given)) same in
     added number line more old (with_rules old (rules_of given)) (with_rules old (rules_of given ++ rules)) problems
     (given, parsed, sym (with_rule-rules old given))
     (subst (λ (b : Building). AddsLines path (number + 1) more (with_rules old (rules_of given)) b problems) (with_rules-twice old (rules_of given) rules) further)
 
 after_refusal : (path : List ℕ) (options : LineOptions) (number : ℕ) (line : List ℕ) (more : List (Result (List ℕ) Fault)) (problem : Problem) (rules : List Rule) (problems : List Problem)
-    → GivesProblem options (parsed_line (line_content number line)) problem → LinesGive path options (number + 1) more rules problems → LinesGive path options number (Ok line ∷ more) rules (at_line_of path number problem ∷ problems)
+    → GivesProblem options (parsed_line options.git_trailing_spaces (line_content number line)) problem → LinesGive path options (number + 1) more rules problems → LinesGive path options number (Ok line ∷ more) rules (at_line_of path number problem ∷ problems)
 after_refusal path options number line more problem rules problems h rest = λ old same.
-    refused number line more old (with_rules old rules) problem problems (subst (λ (o : LineOptions). GivesProblem o (parsed_line (line_content number line)) problem) (sym same) h) (rest old same)
+    refused number line more old (with_rules old rules) problem problems (subst (λ (o : LineOptions). GivesProblem o (parsed_line o.git_trailing_spaces (line_content number line)) problem) (sym same) h) (rest old same)
 
 lines_give : (path : List ℕ) (options : LineOptions) (number : ℕ) (decoded : List (Result (List ℕ) Fault)) → (rules : List Rule) × (problems : List Problem) × LinesGive path options number decoded rules problems
 lines_give path options number [] = ([], [], λ old same. subst (λ (b : Building). AddsLines path number [] old b []) (no_rules old) (done number old))
@@ -59,7 +59,7 @@ lines_give path options number (Err fault ∷ more) =
     ([], at_line_of path number (io fault) ∷ [], λ old same. subst (λ (b : Building). AddsLines path number (Err fault ∷ more) old b (at_line_of path number (io fault) ∷ [])) (no_rules old) (stopped number fault more old))
 lines_give path options number (Ok line ∷ more) =
     let rest = lines_give path options (number + 1) more in
-    elim (says_outcome options (Some path) (parsed_line (line_content number line))) [
+    elim (says_outcome options (Some path) (parsed_line options.git_trailing_spaces (line_content number line))) [
       | inl (given, h) ↦ (rules_of given ++ rest.0, rest.1, after_rule path options number line more given rest.0 rest.1 h rest.2)
       | inr (problem, h) ↦ (rest.0, at_line_of path number problem ∷ rest.1, after_refusal path options number line more problem rest.0 rest.1 h rest.2)
     ]
