@@ -14,7 +14,7 @@ use std::alloc::Global;
 /// # Errors
 /// `Error::Memory` alone.
 pub fn is_packed(rules: &Gitignore, path: &str) -> Result<bool, Error>
-    ensures added_or_reported { IfOk result (λ yes. yes ≡ is_packed rules.now path.now) }
+    ensures value { IfOk result (λ yes. yes ≡ is_packed rules.now path.now) }
     ensures out_of_memory { IfErr result (λ e. problem_of e ≡ memory) }
 {
     if !rules.is_under_root(path) {
@@ -35,7 +35,7 @@ pub fn packed<'p>(
     rules: &Gitignore,
     paths: &[&'p str],
 ) -> Result<Vec<&'p str>, Error>
-    ensures added_or_reported { IfOk result (λ all. map (λ p. p.now) all.items ≡ filter (λ p. is_packed rules.now p) (map (λ p. p.now) paths.now)) }
+    ensures value { IfOk result (λ all. map (λ p. p.now) all.items ≡ filter (λ p. is_packed rules.now p) (map (λ p. p.now) paths.now)) }
     ensures out_of_memory { IfErr result (λ e. problem_of e ≡ memory) }
 {
     let mut all = Vec::new(alloc);

@@ -41,7 +41,7 @@ fn rules(alloc: Global) -> Result<Gitignore, Error> {
 }
 
 #[test]
-fn an_editor_is_told_why(rt: HostRuntime) -> Result<(), Fail> {
+fn an_editor_reports_why(rt: HostRuntime) -> Result<(), Fail> {
     let rules = rules(rt.alloc())?;
     assert_eq!(rt; deciding_line(&rules, "p/a.o", false)?, Some("*.o"));
     assert_eq!(rt;
