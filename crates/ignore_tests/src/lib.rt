@@ -13,8 +13,6 @@ macro_rules! again {
 }
 
 #[cfg(test)]
-mod brackets;
-#[cfg(test)]
 mod copies;
 #[cfg(test)]
 mod deep;
@@ -23,11 +21,7 @@ mod disk;
 #[cfg(test)]
 mod example;
 #[cfg(test)]
-mod faults;
-#[cfg(test)]
 mod large;
-#[cfg(test)]
-mod process;
 #[cfg(test)]
 mod queries;
 #[cfg(test)]

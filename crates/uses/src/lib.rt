@@ -9,5 +9,3 @@ pub mod lines;
 pub mod linter;
 pub mod packer;
 pub mod reason;
-#[cfg(test)]
-mod tests;
