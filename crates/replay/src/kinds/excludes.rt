@@ -1,10 +1,12 @@
 //! The value of a configuration: the path of its excludes file.
 
+use crate::again::but_for_memory;
 use crate::answer::Answer;
-use crate::environment::{excludes_path, name_of, variable};
+use crate::environment::{name_of, variable};
 use crate::hex_digits::bytes_of;
 use crate::tree_calls::{add_file, empty_tree, unrefused};
 use ignore_files::{Env, MemoryTree, Name};
+use ignore_rules::gitignore::gitconfig_excludes_path;
 use serde_json::Value;
 use std::alloc::{AllocError, Global};
 use vectors::{Outcome, Trouble, text};
@@ -55,7 +57,7 @@ fn value_at(
     home: Option<Name>,
 ) -> Result<Option<String>, Trouble> {
     let env = configured(alloc, home)?;
-    excludes_path(alloc, tree, &env)
+    but_for_memory(gitconfig_excludes_path(alloc, tree, &env))
 }
 
 /// The environment that names the configuration, and maybe `home`.

@@ -1,10 +1,11 @@
 //! The rules of a file, and what is told of it.
 
-use crate::again::{build, builder, but_for_memory};
+use crate::again::{build, but_for_memory};
 use crate::answer::Answer;
 use crate::error::{fault_of, told_or_null};
 use crate::hex_digits::bytes_of;
-use crate::rules::rules_value;
+use crate::refusing::Refusing;
+use crate::rules::{builder_of_lines, rules_value};
 use crate::tree_calls::{add_dir, add_file, empty_tree, unrefused};
 use ignore_files::MemoryTree;
 use ignore_glob::Error;
@@ -22,27 +23,27 @@ const BYTES: &str = "hex";
 /// The name of the field that holds how many bytes are read, and the fault behind them.
 const CUT: &str = "cut";
 
-/// Answers `rules`, and the `error` of `add` with what it says of itself.
+/// Answers `rules`, and the `error` of `add` with what it says of itself. Where there are lines,
+/// they stand before the rules of the file.
 pub fn answer(alloc: Global, input: &Value) -> Result<Outcome, Trouble> {
     if flag(input, "gts")? {
         return Ok(Outcome::Skipped(Reason::GitTrailingSpaces));
     }
     let path = text(input, "path")?;
-    let ci = flag(input, "ci")?;
     let tree = tree_of(alloc, path, input)?;
-    asked(alloc, &tree, path, ci)
+    asked(alloc, input, &Refusing::of(&tree, input)?, path)
 }
 
-fn asked(alloc: Global, tree: &MemoryTree, path: &str, ci: bool) -> Result<Outcome, Trouble> {
-    let mut builder = builder_of_case(alloc, ci)?;
-    let error = added(&mut builder, tree, path)?;
+fn asked(
+    alloc: Global,
+    input: &Value,
+    files: &Refusing<'_>,
+    path: &str,
+) -> Result<Outcome, Trouble> {
+    let mut builder = builder_of_lines(alloc, input)?;
+    set_case(&mut builder, flag(input, "ci")?)?;
+    let error = added(&mut builder, files, path)?;
     told(alloc, &builder, &error)
-}
-
-fn builder_of_case(alloc: Global, ci: bool) -> Result<GitignoreBuilder, Trouble> {
-    let mut builder = builder(alloc, ROOT)?;
-    set_case(&mut builder, ci)?;
-    Ok(builder)
 }
 
 fn told(
@@ -80,15 +81,16 @@ fn set_case(builder: &mut GitignoreBuilder, yes: bool) -> Result<(), Trouble> {
     }
 }
 
-/// Adds a file to a builder, and again where memory is refused.
+/// Adds a file to a builder, and again where memory is refused, but not by the files.
 fn added(
     builder: &mut GitignoreBuilder,
-    tree: &MemoryTree,
+    files: &Refusing<'_>,
     path: &str,
 ) -> Result<Option<Error>, Trouble> {
-    match builder.add(tree, path) {
+    match builder.add(files, path) {
         Ok(error) => Ok(error),
-        Err(_) => but_for_memory(builder.add(tree, path)),
+        Err(error) if files.refused_memory() => Ok(Some(error)),
+        Err(_) => but_for_memory(builder.add(files, path)),
     }
 }
 
