@@ -31,12 +31,12 @@ IsBlank-append [] b h k = k
 IsBlank-append (x ∷ xs) b h k = (h.0, IsBlank-append xs b h.1 k)
 
 -- the white space that a text begins with
-pub front_of : (text : List ℕ) → (blank : List ℕ) × (text ≡ blank ++ trimmed_start text) × IsBlank blank
-front_of [] = ([], refl, tt)
-front_of (b ∷ bs) =
+pub prefix_of : (text : List ℕ) → (blank : List ℕ) × (text ≡ blank ++ trimmed_start text) × IsBlank blank
+prefix_of [] = ([], refl, tt)
+prefix_of (b ∷ bs) =
     let P : Bool → Type 0 = λ t. (blank : List ℕ) × (b ∷ bs ≡ blank ++ (if t then trimmed_start bs else b ∷ bs)) × IsBlank blank in
     elim (cases_Bool (is_space b)) [
-      | inl e ↦ (let more = front_of bs in subst P (sym e) (b ∷ more.0, ap (λ t. b ∷ t) more.1, (e, more.2)))
+      | inl e ↦ (let more = prefix_of bs in subst P (sym e) (b ∷ more.0, ap (λ t. b ∷ t) more.1, (e, more.2)))
       | inr e ↦ subst P (sym e) ([], refl, tt)
     ]
 
@@ -47,7 +47,7 @@ after_blank Q text starts h =
     subst Q (sym e) h.4
 
 pub before_blank : (Q : List ℕ → Type 0) (text : List ℕ) → Q (trimmed_start text) → Then IsBlank Q text
-before_blank Q text h = let front = front_of text in (front.0, trimmed_start text, front.1, front.2, h)
+before_blank Q text h = let prefix = prefix_of text in (prefix.0, trimmed_start text, prefix.1, prefix.2, h)
 
 -- no line ends at a byte that is no white space
 pub EndsLine-solid : (b : ℕ) (bs : List ℕ) → is_space b ≡ false → EndsLine (b ∷ bs) → ⊥

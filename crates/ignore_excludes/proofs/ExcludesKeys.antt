@@ -4,7 +4,7 @@ use Rattle.std.specs.Char.{to_ascii_lowercase}
 use Rattle.std.proofs.lemmas.List.{take-append-drop, take_at, drop_at, length-map}
 use Rattle.std.proofs.lemmas.Grind.{common_steps}
 use Rattle.ignore_excludes.specs.Excludes.{is_space, IsBlank, Then, IsQuote, IsKey, IsEquals, HasValue, Assigns, SetsKey, IsShortest, IsPreferred, trimmed_start}
-use Rattle.ignore_excludes.proofs.ExcludesBlanks.{StartsSolid, trimmed_start-append, front_of, after_blank, before_blank}
+use Rattle.ignore_excludes.proofs.ExcludesBlanks.{StartsSolid, trimmed_start-append, prefix_of, after_blank, before_blank}
 use Rattle.ignore_excludes.proofs.ExcludesValues.{HasValue-solid}
 
 -- P and Q hold for the same values
@@ -23,7 +23,7 @@ IsPreferred-plain R None h k = λ q. elim q as (λ q. (v : List ℕ) → R q v �
 IsPreferred-plain R (Some v) h k = inr (h, k)
 
 quoted-solid : (Q : List ℕ → Type 0) (text : List ℕ) → Then (IsQuote true) Q text → StartsSolid text
-quoted-solid Q text (front, rest, e, one, h) = let first : text ≡ 34 ∷ rest = cc in subst StartsSolid (sym first) refl
+quoted-solid Q text (prefix, rest, e, one, h) = let first : text ≡ 34 ∷ rest = cc in subst StartsSolid (sym first) refl
 
 pub Assigns-quoted : (v text : List ℕ) → Assigns true v text → (rest : List ℕ) × (trimmed_start text ≡ 34 ∷ rest) × HasValue v (trimmed_start rest)
 Assigns-quoted v text h =
@@ -40,13 +40,13 @@ Assigns-plain v text (a, r, e, blank, (q, s, d, none, h)) =
 
 pub Assigns-from_quoted : (v text rest : List ℕ) → trimmed_start text ≡ 34 ∷ rest → HasValue v (trimmed_start rest) → Assigns true v text
 Assigns-from_quoted v text rest e h =
-    let front = front_of text in
-    (front.0, trimmed_start text, front.1, front.2, (34 ∷ [], rest, e, refl, before_blank (HasValue v) rest h))
+    let prefix = prefix_of text in
+    (prefix.0, trimmed_start text, prefix.1, prefix.2, (34 ∷ [], rest, e, refl, before_blank (HasValue v) rest h))
 
 pub Assigns-from_plain : (v text : List ℕ) → HasValue v (trimmed_start text) → Assigns false v text
 Assigns-from_plain v text h =
-    let front = front_of text in
-    (front.0, trimmed_start text, front.1, front.2, ([], trimmed_start text, refl, refl, ([], trimmed_start text, refl, tt, h)))
+    let prefix = prefix_of text in
+    (prefix.0, trimmed_start text, prefix.1, prefix.2, ([], trimmed_start text, refl, refl, ([], trimmed_start text, refl, tt, h)))
 
 HasValue-nil : (v : List ℕ) → HasValue v [] → ⊥
 HasValue-nil v ([], rest, e, (is, ne, solid), closes) = ne (sym is)
@@ -72,8 +72,8 @@ assigned_plain text r none h =
     (IsShortest-iff P Q (λ w k. Assigns-from_plain w text k) (λ w k. Assigns-plain w text k) r h)
 
 -- the key has twelve bytes, the first of them a letter
-key-length : (front : List ℕ) → IsKey front → length front ≡ 12
-key-length front h = sym (length-map front to_ascii_lowercase) ∙ ap length h
+key-length : (prefix : List ℕ) → IsKey prefix → length prefix ≡ 12
+key-length prefix h = sym (length-map prefix to_ascii_lowercase) ∙ ap length h
 
 letter-solid : (b : ℕ) → to_ascii_lowercase b ≡ 101 → is_space b ≡ false
 letter-solid b h = grind (arith, common_steps)
@@ -85,16 +85,16 @@ SetsKey-solid q v text (b ∷ bs, rest, e, key, h) =
     subst StartsSolid (sym e) (letter-solid b first)
 
 equals-solid : (Q : List ℕ → Type 0) (text : List ℕ) → Then IsEquals Q text → StartsSolid text
-equals-solid Q text (front, rest, e, one, h) = let first : text ≡ 61 ∷ rest = cc in subst StartsSolid (sym first) refl
+equals-solid Q text (prefix, rest, e, one, h) = let first : text ≡ 61 ∷ rest = cc in subst StartsSolid (sym first) refl
 
 pub SetsKey-parts : (q : Bool) (v text : List ℕ) → SetsKey q v text → IsKey (take 12 text) × ((rest : List ℕ) × (trimmed_start (drop 12 text) ≡ 61 ∷ rest) × Assigns q v rest)
 SetsKey-parts q v text (key, more, e, is, h) =
     let len = key-length key is in
-    let front : take 12 text ≡ key = ap (λ t. take 12 t) e ∙ take_at key more 12 len in
+    let prefix : take 12 text ≡ key = ap (λ t. take 12 t) e ∙ take_at key more 12 len in
     let back : drop 12 text ≡ more = ap (λ t. drop 12 t) e ∙ drop_at key more 12 len in
     let k = after_blank (Then IsEquals (Assigns q v)) more (λ rest. equals-solid (Assigns q v) rest) h in
     let first : trimmed_start more ≡ 61 ∷ k.1 = (let d = k.2 in let one = k.3 in cc) in
-    (subst IsKey (sym front) is, (k.1, ap trimmed_start back ∙ first, k.4))
+    (subst IsKey (sym prefix) is, (k.1, ap trimmed_start back ∙ first, k.4))
 
 pub SetsKey-from_parts : (q : Bool) (v text rest : List ℕ) → IsKey (take 12 text) → trimmed_start (drop 12 text) ≡ 61 ∷ rest → Assigns q v rest → SetsKey q v text
 SetsKey-from_parts q v text rest key e h =

@@ -4,7 +4,7 @@ use Rattle.std.proofs.lemmas.List.{append_assoc, append_cancel_right, nil_from_l
 use Rattle.std.proofs.lemmas.Bool.{eqb-true, eq-eqb}
 use Rattle.memchr.specs.Find.{IsFirstByte, is_byte}
 use Rattle.ignore_excludes.specs.Excludes.{IsBlank, IsLineStart, SetsKey, Reads, IsPreferred, IsChosen, trimmed_start}
-use Rattle.ignore_excludes.proofs.ExcludesBlanks.{StartsSolid, StartsSolid-trimmed_start, trimmed_start-append, trimmed_start-solid, front_of}
+use Rattle.ignore_excludes.proofs.ExcludesBlanks.{StartsSolid, StartsSolid-trimmed_start, trimmed_start-append, trimmed_start-solid, prefix_of}
 use Rattle.ignore_excludes.proofs.ExcludesKeys.{IsPreferred-iff, SetsKey-solid}
 
 -- no newline in the text
@@ -12,17 +12,17 @@ abbrev pub IsOneLine : List ℕ → Type 0
 IsOneLine text = (k : ℕ) → k < length text → get_or text k 0 ≢ 10
 
 -- the text has readings, further right, where what follows a newline has them
-line_start : (front start : List ℕ) → IsLineStart start → IsLineStart (front ++ 10 ∷ start)
-line_start front start (inl e) = inr (front, ap (λ t. front ++ 10 ∷ t) e)
-line_start front start (inr (lines, e)) = inr (front ++ 10 ∷ lines, ap (λ t. front ++ 10 ∷ t) e ∙ sym (append_assoc front (10 ∷ lines) (10 ∷ [])))
+line_start : (prefix start : List ℕ) → IsLineStart start → IsLineStart (prefix ++ 10 ∷ start)
+line_start prefix start (inl e) = inr (prefix, ap (λ t. prefix ++ 10 ∷ t) e)
+line_start prefix start (inr (lines, e)) = inr (prefix ++ 10 ∷ lines, ap (λ t. prefix ++ 10 ∷ t) e ∙ sym (append_assoc prefix (10 ∷ lines) (10 ∷ [])))
 
-Reads-shift : (front next : List ℕ) (place : ℕ) (q : Bool) (v : List ℕ) → Reads next place q v → Reads (front ++ 10 ∷ next) (length front + 1 + place) q v
-Reads-shift front next place q v (before, rest, e, len, (start, indent, d, starts, blank), key) = (
-  front ++ 10 ∷ before,
+Reads-shift : (prefix next : List ℕ) (place : ℕ) (q : Bool) (v : List ℕ) → Reads next place q v → Reads (prefix ++ 10 ∷ next) (length prefix + 1 + place) q v
+Reads-shift prefix next place q v (before, rest, e, len, (start, indent, d, starts, blank), key) = (
+  prefix ++ 10 ∷ before,
   rest,
-  ap (λ t. front ++ 10 ∷ t) e ∙ sym (append_assoc front (10 ∷ before) rest),
-  omega (arith, length-append front (10 ∷ before)),
-  (front ++ 10 ∷ start, indent, ap (λ t. front ++ 10 ∷ t) d ∙ sym (append_assoc front (10 ∷ start) indent), line_start front start starts, blank),
+  ap (λ t. prefix ++ 10 ∷ t) e ∙ sym (append_assoc prefix (10 ∷ before) rest),
+  omega (arith, length-append prefix (10 ∷ before)),
+  (prefix ++ 10 ∷ start, indent, ap (λ t. prefix ++ 10 ∷ t) d ∙ sym (append_assoc prefix (10 ∷ start) indent), line_start prefix start starts, blank),
   key,
 )
 
@@ -152,11 +152,11 @@ nowhere w u white solid one never place q v r = elim (Reads-cases w u place q v 
 further : (w u line next : List ℕ) → IsBlank w → StartsSolid u → u ≡ line ++ 10 ∷ next → IsOneLine line → IsPreferred (λ (q : Bool) (v : List ℕ). SetsKey q v u) None → (found : Option (List ℕ)) → IsChosen next found → IsChosen (w ++ u) found
 further w u line next white solid e one never None h = λ place q v r. (let k = Reads-next w u line next place q v white solid e one never r in h k.0 q v k.2)
 further w u line next white solid e one never (Some v) h =
-    let front : List ℕ = w ++ line in
-    let whole : w ++ u ≡ front ++ 10 ∷ next = ap (λ t. w ++ t) e ∙ sym (append_assoc w line (10 ∷ next)) in
-    let far : ℕ = length front + 1 + h.0 in
+    let prefix : List ℕ = w ++ line in
+    let whole : w ++ u ≡ prefix ++ 10 ∷ next = ap (λ t. w ++ t) e ∙ sym (append_assoc w line (10 ∷ next)) in
+    let far : ℕ = length prefix + 1 + h.0 in
     let lens = length-append w line in
-    let there : (q : Bool) (x : List ℕ) → Reads next h.0 q x → Reads (w ++ u) far q x = λ q x r. subst (λ (t : List ℕ). Reads t far q x) (sym whole) (Reads-shift front next h.0 q x r) in
+    let there : (q : Bool) (x : List ℕ) → Reads next h.0 q x → Reads (w ++ u) far q x = λ q x r. subst (λ (t : List ℕ). Reads t far q x) (sym whole) (Reads-shift prefix next h.0 q x r) in
     let back : (q : Bool) (x : List ℕ) → Reads (w ++ u) far q x → Reads next h.0 q x = λ q x r. (let k = Reads-next w u line next far q x white solid e one never r in let same : k.0 ≡ h.0 = (let is = k.1 in omega arith) in subst (λ (n : ℕ). Reads next n q x) same k.2) in (
       far,
       IsPreferred-iff (Reads next h.0) (Reads (w ++ u) far) there back (Some v) h.1,
@@ -166,18 +166,18 @@ further w u line next white solid e one never (Some v) h =
 -- the same three, of a text with white space before its first line
 pub chosen_here : (text v : List ℕ) → IsPreferred (λ (q : Bool) (v : List ℕ). SetsKey q v (trimmed_start text)) (Some v) → IsChosen text (Some v)
 chosen_here text v h =
-    let front = front_of text in
-    subst (λ (t : List ℕ). IsChosen t (Some v)) (sym front.1) (here front.0 (trimmed_start text) v front.2 (StartsSolid-trimmed_start text) h)
+    let prefix = prefix_of text in
+    subst (λ (t : List ℕ). IsChosen t (Some v)) (sym prefix.1) (here prefix.0 (trimmed_start text) v prefix.2 (StartsSolid-trimmed_start text) h)
 
 pub chosen_nowhere : (text : List ℕ) → IsOneLine (trimmed_start text) → IsPreferred (λ (q : Bool) (v : List ℕ). SetsKey q v (trimmed_start text)) None → IsChosen text None
 chosen_nowhere text one never =
-    let front = front_of text in
-    subst (λ (t : List ℕ). IsChosen t None) (sym front.1) (nowhere front.0 (trimmed_start text) front.2 (StartsSolid-trimmed_start text) one never)
+    let prefix = prefix_of text in
+    subst (λ (t : List ℕ). IsChosen t None) (sym prefix.1) (nowhere prefix.0 (trimmed_start text) prefix.2 (StartsSolid-trimmed_start text) one never)
 
 pub chosen_further : (text line next : List ℕ) → trimmed_start text ≡ line ++ 10 ∷ next → IsOneLine line → IsPreferred (λ (q : Bool) (v : List ℕ). SetsKey q v (trimmed_start text)) None → (found : Option (List ℕ)) → IsChosen next found → IsChosen text found
 chosen_further text line next e one never found h =
-    let front = front_of text in
-    subst (λ (t : List ℕ). IsChosen t found) (sym front.1) (further front.0 (trimmed_start text) line next front.2 (StartsSolid-trimmed_start text) e one never found h)
+    let prefix = prefix_of text in
+    subst (λ (t : List ℕ). IsChosen t found) (sym prefix.1) (further prefix.0 (trimmed_start text) line next prefix.2 (StartsSolid-trimmed_start text) e one never found h)
 
 -- where a search for a newline stops
 pub IsOneLine-none : (text : List ℕ) → IsFirstByte (is_byte 10) text None → IsOneLine text

@@ -14,8 +14,8 @@ ReadGives-whole : (bytes : List ℕ) (fault : Option Fault) (found : Option (Lis
 ReadGives-whole bytes None found e h = h
 ReadGives-whole bytes (Some fault) found e h = absurd (true≢false e)
 
-pub ContentsGive-whole : (told : Result Contents Fault) (contents : Contents) (bytes : List ℕ) (found : Option (List ℕ)) → told ≡ Ok contents → is_some contents.fault ≡ false → bytes ≡ contents.bytes → IsValue bytes found → ContentsGive told found
-ContentsGive-whole told contents bytes found e whole same h =
+pub ContentsGive-whole : (reported : Result Contents Fault) (contents : Contents) (bytes : List ℕ) (found : Option (List ℕ)) → reported ≡ Ok contents → is_some contents.fault ≡ false → bytes ≡ contents.bytes → IsValue bytes found → ContentsGive reported found
+ContentsGive-whole reported contents bytes found e whole same h =
     let value : IsValue contents.bytes found = subst (λ (t : List ℕ). IsValue t found) same h in
     subst (λ (t : Result Contents Fault). ContentsGive t found) (sym e) (ReadGives-whole contents.bytes contents.fault found whole value)
 
@@ -38,7 +38,7 @@ ReadGives-one : (bytes : List ℕ) (fault : Option Fault) (a b : Option (List �
 ReadGives-one bytes None a b h k = IsValue-one bytes a b h k
 ReadGives-one bytes (Some fault) a b h k = h ∙ sym k
 
-ContentsGive-one : (told : Result Contents Fault) (a b : Option (List ℕ)) → ContentsGive told a → ContentsGive told b → a ≡ b
+ContentsGive-one : (reported : Result Contents Fault) (a b : Option (List ℕ)) → ContentsGive reported a → ContentsGive reported b → a ≡ b
 ContentsGive-one (Ok contents) a b h k = ReadGives-one contents.bytes contents.fault a b h k
 ContentsGive-one (Err fault) a b h k = h ∙ sym k
 

@@ -3,7 +3,7 @@ use Rattle.std.proofs.Common.{◌≡◌, ◌≢◌, ◌⊎◌, inl, inr, ℕ, tr
 use Rattle.std.proofs.lemmas.List.{append_cancel_right, append_assoc}
 use Rattle.std.proofs.lemmas.Bool.{both_ways}
 use Rattle.ignore_excludes.specs.Excludes.{is_space, IsSolid, EndsLine, Closes, HasValue, IsShortest, trimmed_start, StartsBlank, IsUnquoted}
-use Rattle.ignore_excludes.proofs.ExcludesBlanks.{StartsSolid, trimmed_start-append, trimmed_start-solid, front_of, EndsLine-solid, EndsLine-append}
+use Rattle.ignore_excludes.proofs.ExcludesBlanks.{StartsSolid, trimmed_start-append, trimmed_start-solid, prefix_of, EndsLine-solid, EndsLine-append}
 
 -- a byte that is no white space and closes the line is a `"`
 closing : (x : ℕ) (w rest after : List ℕ) → rest ≡ x ∷ (w ++ after) → is_space x ≡ false → IsSolid w → Closes rest → (x ∷ w ≡ 34 ∷ []) × EndsLine after
@@ -51,7 +51,7 @@ pub Closes-plain : (after : List ℕ) → EndsLine after → Closes after
 Closes-plain after h = ([], after, refl, tt, ([], after, refl, (false, refl), h))
 
 pub Closes-quote : (after rest : List ℕ) → trimmed_start after ≡ 34 ∷ rest → EndsLine rest → Closes after
-Closes-quote after rest e h = let front = front_of after in (front.0, trimmed_start after, front.1, front.2, (34 ∷ [], rest, e, (true, refl), h))
+Closes-quote after rest e h = let prefix = prefix_of after in (prefix.0, trimmed_start after, prefix.1, prefix.2, (34 ∷ [], rest, e, (true, refl), h))
 
 -- a value stands at the front, and its line closes behind it
 pub HasValue-solid : (v text : List ℕ) → HasValue v text → StartsSolid text
@@ -60,12 +60,12 @@ HasValue-solid v text (b ∷ bs, rest, e, (is, ne, solid), closes) =
     let first : IsSolid (b ∷ bs) = subst IsSolid (sym is) solid in
     subst StartsSolid (sym e) first.0
 
-IsSolid-front : (a b : List ℕ) → IsSolid (a ++ b) → IsSolid a
-IsSolid-front [] b h = tt
-IsSolid-front (x ∷ a) b h = (h.0, IsSolid-front a b h.1)
+IsSolid-prefix : (a b : List ℕ) → IsSolid (a ++ b) → IsSolid a
+IsSolid-prefix [] b h = tt
+IsSolid-prefix (x ∷ a) b h = (h.0, IsSolid-prefix a b h.1)
 
 pub HasValue-cases : (v word after : List ℕ) → IsSolid word → StartsBlank after → HasValue v (word ++ after) → (v ≢ []) × (((v ≡ word) × Closes after) ⊎ ((word ≡ v ++ 34 ∷ []) × EndsLine after))
-HasValue-cases v word after q s (front, rest, e, (is, ne, solid), closes) =
+HasValue-cases v word after q s (prefix, rest, e, (is, ne, solid), closes) =
     let whole : v ++ rest ≡ word ++ after = ap (λ t. t ++ rest) (sym is) ∙ sym e in (
       ne,
       elim (first_word v word rest after whole solid q s closes) [
@@ -85,7 +85,7 @@ no_word after s v h =
 -- behind the word the line ends
 pub unquoted_word : (word after value : List ℕ) → word ≢ [] → IsSolid word → StartsBlank after → EndsLine after → IsUnquoted word value → IsShortest (λ (v : List ℕ). HasValue v (word ++ after)) (Some value)
 unquoted_word word after value ne q s ends (inl (some, e)) = (
-  (value, 34 ∷ after, ap (λ t. t ++ after) e ∙ append_assoc value (34 ∷ []) after, (refl, some, IsSolid-front value (34 ∷ []) (subst IsSolid e q)), ([], 34 ∷ after, refl, tt, (34 ∷ [], after, refl, (true, refl), ends))),
+  (value, 34 ∷ after, ap (λ t. t ++ after) e ∙ append_assoc value (34 ∷ []) after, (refl, some, IsSolid-prefix value (34 ∷ []) (subst IsSolid e q)), ([], 34 ∷ after, refl, tt, (34 ∷ [], after, refl, (true, refl), ends))),
   λ v h. (
       let cases = HasValue-cases v word after q s h in
       let len = ap length e in

@@ -19,7 +19,7 @@ IsSolid text = AllByRecursion (λ b. is_space b ≡ false) text
 
 -- the text is, at some split, a front for which P holds and then a rest for which Q holds
 abbrev pub Then : (List ℕ → Type 0) → (List ℕ → Type 0) → List ℕ → Type 0
-Then P Q text = (front rest : List ℕ) × (text ≡ front ++ rest) × P front × Q rest
+Then P Q text = (prefix rest : List ℕ) × (text ≡ prefix ++ rest) × P prefix × Q rest
 
 -- what stands before a line: nothing, or a text that ends with a newline
 abbrev pub IsLineStart : List ℕ → Type 0
@@ -31,18 +31,18 @@ IsLineEnd after = (after ≡ []) ⊎ ((lines : List ℕ) × (after ≡ 10 ∷ li
 
 -- a `"`, or nothing where there is none
 abbrev pub IsQuote : Bool → List ℕ → Type 0
-IsQuote true front = front ≡ 34 ∷ []
-IsQuote false front = front ≡ []
+IsQuote true prefix = prefix ≡ 34 ∷ []
+IsQuote false prefix = prefix ≡ []
 
 abbrev pub IsOptionalQuote : List ℕ → Type 0
-IsOptionalQuote front = (quoted : Bool) × IsQuote quoted front
+IsOptionalQuote prefix = (quoted : Bool) × IsQuote quoted prefix
 
 abbrev pub IsEquals : List ℕ → Type 0
-IsEquals front = front ≡ 61 ∷ []
+IsEquals prefix = prefix ≡ 61 ∷ []
 
 -- `excludesfile` in any ASCII case
 abbrev pub IsKey : List ℕ → Type 0
-IsKey front = map to_ascii_lowercase front ≡ codes "excludesfile"
+IsKey prefix = map to_ascii_lowercase prefix ≡ codes "excludesfile"
 
 -- white space or none, and then the end of the file or just before a newline
 abbrev pub EndsLine : List ℕ → Type 0
@@ -54,7 +54,7 @@ Closes text = Then IsBlank (Then IsOptionalQuote EndsLine) text
 
 -- the value, nonempty and without white space, and what follows it
 abbrev pub HasValue : List ℕ → List ℕ → Type 0
-HasValue value text = Then (λ front. (front ≡ value) × (value ≢ []) × IsSolid value) Closes text
+HasValue value text = Then (λ prefix. (prefix ≡ value) × (value ≢ []) × IsSolid value) Closes text
 
 -- what follows the equals sign: white space or none, a `"` where the value is quoted, white space or none, and the value
 abbrev pub Assigns : Bool → List ℕ → List ℕ → Type 0
@@ -100,4 +100,4 @@ StartsBlank (b ∷ bs) = is_space b ≡ true
 
 -- the word less a `"` at its end, if something is left, else the word
 abbrev pub IsUnquoted : List ℕ → List ℕ → Type 0
-IsUnquoted word value = ((value ≢ []) × (word ≡ value ++ 34 ∷ [])) ⊎ ((value ≡ word) × ((front : List ℕ) → front ≢ [] → word ≢ front ++ 34 ∷ []))
+IsUnquoted word value = ((value ≢ []) × (word ≡ value ++ 34 ∷ [])) ⊎ ((value ≡ word) × ((prefix : List ℕ) → prefix ≢ [] → word ≢ prefix ++ 34 ∷ []))

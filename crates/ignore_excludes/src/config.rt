@@ -1,7 +1,7 @@
 //! The search of git's configuration for the excludes file.
 ghost use Rattle.std.specs.Prelude.{◌≡◌, ℕ, List, Option, codes, Some, IfOk, IfErr, map, option_map, string_bytes};
 ghost use Rattle.std.specs.Option.{option_copied};
-ghost use Rattle.ignore_glob.specs.Problem.{told, memory};
+ghost use Rattle.ignore_glob.specs.Problem.{problem_of, memory};
 ghost use Rattle.ignore_files.specs.Tree.{Tree};
 ghost use Rattle.ignore_files.specs.Gives.{IsHonest};
 ghost use Rattle.ignore_excludes.specs.ExcludesSearch.{filled, below, or_else, xdg_folder, expanded, GivesPath, IsFirstPath, IsExcludesPath};
@@ -44,7 +44,7 @@ fn text_of(path: &Option<String>) -> Option<&str>
 /// The path below the folder, where the folder is known.
 fn below(alloc: Global, folder: Option<&str>, path: &str) -> Result<Option<String>, Error>
     ensures joins { IfOk result (λ found. option_map string_bytes found ≡ below (option_copied folder.entry) path.now) }
-    ensures refuses { IfErr result (λ error. told error ≡ memory) }
+    ensures out_of_memory { IfErr result (λ error. problem_of error ≡ memory) }
 {
     match folder {
         None => Ok(None),
@@ -55,7 +55,7 @@ fn below(alloc: Global, folder: Option<&str>, path: &str) -> Result<Option<Strin
 /// The folder of the user's configuration.
 fn xdg_folder(alloc: Global, env: &Env) -> Result<Option<String>, Error>
     ensures folder { IfOk result (λ found. option_map string_bytes found ≡ xdg_folder env.now) }
-    ensures refuses { IfErr result (λ error. told error ≡ memory) }
+    ensures out_of_memory { IfErr result (λ error. problem_of error ≡ memory) }
 {
     match filled(&env.xdg_config_home) {
         Some(folder) => Ok(Some(String::from_str(alloc, folder)?)),
@@ -76,7 +76,7 @@ fn system_config(env: &Env) -> &str
 /// The value with `home` in place of each `~`.
 fn with_home(alloc: Global, home: &str, value: &str) -> Result<String, Error>
     ensures text { IfOk result (λ text. string_bytes text ≡ expanded (Some home.now) value.now) }
-    ensures refuses { IfErr result (λ error. told error ≡ memory) }
+    ensures out_of_memory { IfErr result (λ error. problem_of error ≡ memory) }
 {
     let mut text = String::new(alloc);
     let mut rest = value;
@@ -92,7 +92,7 @@ fn with_home(alloc: Global, home: &str, value: &str) -> Result<String, Error>
 /// The value with the home directory in place of each `~`, where that is known.
 fn expanded(alloc: Global, home: Option<&str>, value: &str) -> Result<String, Error>
     ensures text { IfOk result (λ text. string_bytes text ≡ expanded (option_copied home.entry) value.now) }
-    ensures refuses { IfErr result (λ error. told error ≡ memory) }
+    ensures out_of_memory { IfErr result (λ error. problem_of error ≡ memory) }
 {
     match home {
         None => Ok(String::from_str(alloc, value)?),
@@ -108,7 +108,7 @@ fn path_from<F: Files>(
     path: &str,
 ) -> Result<Option<String>, Error>
     ensures gives { (tree : Tree) → IsHonest F.Files files.now tree → IfOk result (λ found. GivesPath tree (option_copied home.entry) (Some path.now) (option_map string_bytes found)) }
-    ensures refuses { IfErr result (λ error. told error ≡ memory) }
+    ensures out_of_memory { IfErr result (λ error. problem_of error ≡ memory) }
 {
     match files.contents(alloc, path) {
         Err(Refusal::Memory) => Err(Error::Memory),
@@ -133,7 +133,7 @@ fn first_path<F: Files>(
     places: &[Option<&str>],
 ) -> Result<Option<String>, Error>
     ensures first { (tree : Tree) → IsHonest F.Files files.now tree → IfOk result (λ found. IsFirstPath tree (option_copied home.entry) (map option_copied places.now) (option_map string_bytes found)) }
-    ensures refuses { IfErr result (λ error. told error ≡ memory) }
+    ensures out_of_memory { IfErr result (λ error. problem_of error ≡ memory) }
 {
     for place in places {
         if let Some(path) = *place {
@@ -157,7 +157,7 @@ pub fn gitconfig_excludes_path<F: Files>(
 ) -> Result<Option<String>, Error>
     ensures found { (tree : Tree) → IsHonest F.Files files.now tree → IfOk result (λ found. IsExcludesPath tree env.now (option_map string_bytes found)) }
     ensures only { (tree : Tree) → IsHonest F.Files files.now tree → IfOk result (λ found. (other : Option (List ℕ)) → IsExcludesPath tree env.now other → option_map string_bytes found ≡ other) }
-    ensures refuses { IfErr result (λ error. told error ≡ memory) }
+    ensures out_of_memory { IfErr result (λ error. problem_of error ≡ memory) }
 {
     let home = known(&env.home);
     let user = below(alloc, home, ".gitconfig")?;

@@ -81,9 +81,9 @@ fn unquoted(word: &[u8]) -> &[u8]
 {
     match word.split_last() {
         None => word,
-        Some((quote, front)) => {
-            if *quote == b'"' && !front.is_empty() {
-                front
+        Some((quote, prefix)) => {
+            if *quote == b'"' && !prefix.is_empty() {
+                prefix
             } else {
                 word
             }

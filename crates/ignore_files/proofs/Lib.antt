@@ -1,4 +1,4 @@
-pub mod Pieces
+pub mod Components
 pub mod Places
 pub mod Walks
 pub mod EntryLemmas

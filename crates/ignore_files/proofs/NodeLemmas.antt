@@ -2,7 +2,7 @@
 use Rattle.std.proofs.Common.{◌≡◌, ℕ, zero, suc, Bool, List, [], ◌∷◌, ◌++◌, length, get_or, set, Some, Result, Ok, slice_get, ap, sym, subst, ◌∙◌}
 use Rattle.std.proofs.lemmas.List.{get_or_append_left, set-append_left}
 use Rattle.std.proofs.lemmas.Option.{get_or_from_slice_get, slice_get_within}
-use Rattle.ignore_glob.specs.Paths.{pieces, last_piece}
+use Rattle.ignore_glob.specs.Paths.{components, last_component}
 use Rattle.ignore_files.specs.Memory.{Memory, and_then, sought, new_node}
 use Rattle.ignore_files.specs.Answers.{file_type_of}
 use Rattle.ignore_files.specs.Changes.{changed, set_at, Leaves, LeavesIfRoom, listing_too, with_node}
@@ -37,20 +37,20 @@ module _ (test : Kind → Bool) (f : Node → Node) (tree : Memory) (path : List
   written : record tree { nodes = set tree.nodes place (f read) } ≡ record tree { nodes = changed f tree.nodes place }
   written = let there = sought_ok test tree.nodes path place found in ap (λ ns. record tree { nodes = ns }) (write_changed f tree.nodes place there.0 read there.1 is)
 
-  told : Ok (record tree { nodes = changed f tree.nodes place }) ≡ set_at test f tree path
-  told = ap (and_then (λ i. Ok (record tree { nodes = changed f tree.nodes i }))) found
+  reported : Ok (record tree { nodes = changed f tree.nodes place }) ≡ set_at test f tree path
+  reported = ap (and_then (λ i. Ok (record tree { nodes = changed f tree.nodes i }))) found
 
   pub leaves_written : Leaves {A = Unit {0}} (set_at test f tree path) (Ok tt) tree (record tree { nodes = set tree.nodes place (f read) })
-  leaves_written = subst (λ (made : Result Memory TreeError). Leaves {A = Unit {0}} made (Ok tt) tree (record tree { nodes = set tree.nodes place (f read) })) told written
+  leaves_written = subst (λ (made : Result Memory TreeError). Leaves {A = Unit {0}} made (Ok tt) tree (record tree { nodes = set tree.nodes place (f read) })) reported written
 
   pub leaves_room : (x : Node) → x ≡ f read → LeavesIfRoom {A = Unit {0}} (set_at test f tree path) (Ok tt) tree (record tree { nodes = set tree.nodes place x })
-  leaves_room x e = subst (λ (made : Result Memory TreeError). LeavesIfRoom {A = Unit {0}} made (Ok tt) tree (record tree { nodes = set tree.nodes place x })) told (ap (λ y. record tree { nodes = set tree.nodes place y }) e ∙ written)
+  leaves_room x e = subst (λ (made : Result Memory TreeError). LeavesIfRoom {A = Unit {0}} made (Ok tt) tree (record tree { nodes = set tree.nodes place x })) reported (ap (λ y. record tree { nodes = set tree.nodes place y }) e ∙ written)
 
 -- a node added, by what its parts are
-pub with_node_is : (nodes : List Node) (path : List ℕ) (kind : Kind) (len parent : ℕ) (name : List ℕ) (told : FileType) (place : ℕ) (copy : List ℕ) (node : Node) → name ≡ last_piece (pieces path) → told ≡ file_type_of kind → place ≡ length nodes → copy ≡ path → node ≡ new_node place parent copy kind len → changed (listing_too (Named name told place)) nodes parent ++ node ∷ [] ≡ with_node nodes path kind len parent
-with_node_is nodes path kind len parent name told place copy node name_is told_is place_is copy_is node_is =
-    ap (λ n. changed (listing_too (Named name told place)) nodes parent ++ n ∷ []) node_is
-    ∙ ap (λ n. changed (listing_too (Named n told place)) nodes parent ++ new_node place parent copy kind len ∷ []) name_is
-    ∙ ap (λ t. changed (listing_too (Named (last_piece (pieces path)) t place)) nodes parent ++ new_node place parent copy kind len ∷ []) told_is
-    ∙ ap (λ i. changed (listing_too (Named (last_piece (pieces path)) (file_type_of kind) i)) nodes parent ++ new_node i parent copy kind len ∷ []) place_is
-    ∙ ap (λ p. changed (listing_too (Named (last_piece (pieces path)) (file_type_of kind) (length nodes))) nodes parent ++ new_node (length nodes) parent p kind len ∷ []) copy_is
+pub with_node_is : (nodes : List Node) (path : List ℕ) (kind : Kind) (len parent : ℕ) (name : List ℕ) (reported : FileType) (place : ℕ) (copy : List ℕ) (node : Node) → name ≡ last_component (components path) → reported ≡ file_type_of kind → place ≡ length nodes → copy ≡ path → node ≡ new_node place parent copy kind len → changed (listing_too (Named name reported place)) nodes parent ++ node ∷ [] ≡ with_node nodes path kind len parent
+with_node_is nodes path kind len parent name reported place copy node name_is reported_is place_is copy_is node_is =
+    ap (λ n. changed (listing_too (Named name reported place)) nodes parent ++ n ∷ []) node_is
+    ∙ ap (λ n. changed (listing_too (Named n reported place)) nodes parent ++ new_node place parent copy kind len ∷ []) name_is
+    ∙ ap (λ t. changed (listing_too (Named (last_component (components path)) t place)) nodes parent ++ new_node place parent copy kind len ∷ []) reported_is
+    ∙ ap (λ i. changed (listing_too (Named (last_component (components path)) (file_type_of kind) i)) nodes parent ++ new_node i parent copy kind len ∷ []) place_is
+    ∙ ap (λ p. changed (listing_too (Named (last_component (components path)) (file_type_of kind) (length nodes))) nodes parent ++ new_node (length nodes) parent p kind len ∷ []) copy_is

@@ -1,11 +1,11 @@
 -- Names followed from a place.
 use Rattle.std.proofs.Common.{◌≡◌, ℕ, Bool, true, false, cond, List, [], ◌∷◌, ◌++◌, Option, Some, None, Result, Ok, Err, option_and_then, slice_get, refl, ap, sym, ◌∙◌}
-use Rattle.ignore_glob.specs.Paths.{pieces, last_piece}
-use Rattle.ignore_files.specs.Memory.{and_then, is_empty, child, below, place_of, is_directory, is_at, is_own_path, passing, sought, folder_sought, vacant, parent_for, entry_under, front}
+use Rattle.ignore_glob.specs.Paths.{components, last_component}
+use Rattle.ignore_files.specs.Memory.{and_then, is_empty, child, below, place_of, is_directory, is_at, is_canonical_path, passing, sought, folder_sought, vacant, parent_for, entry_under, but_last}
 use Rattle.std.specs.Option.{option_map_or}
 use Rattle.ignore_files.specs.declared.tree_error.TreeError.{TreeError}
 use Rattle.ignore_files.specs.declared.tree_error.TreeError.TheVariants as refusal
-use Rattle.ignore_files.proofs.Pieces.{pieces_some, front_last}
+use Rattle.ignore_files.proofs.Components.{components_some, but_last_then_last}
 use Rattle.ignore_files.specs.declared.memory.node.Node.{Node}
 use Rattle.ignore_files.specs.declared.memory.node.Kind.{Kind}
 
@@ -37,13 +37,13 @@ at_some test (Some n) h = (n, refl)
 -- a node stands where one is found
 pub sought_ok : (test : Kind → Bool) (nodes : List Node) (path : List ℕ) (place : ℕ) → Ok place ≡ sought test nodes path → (n : Node) × (slice_get nodes place ≡ Some n)
 sought_ok test nodes path place h =
-    let clean = chosen (is_own_path path) place _ refusal.NotClean h in
+    let clean = chosen (is_canonical_path path) place _ refusal.NotClean h in
     at_some test (slice_get nodes place) (passing_ok test refusal.Missing nodes (place_of nodes path) place clean.1).1
 
-folder_ok : (nodes : List Node) (path : List ℕ) (place : ℕ) → Ok place ≡ folder_sought nodes path → (below nodes 0 (front (pieces path)) ≡ Some place) × ((n : Node) × (slice_get nodes place ≡ Some n))
+folder_ok : (nodes : List Node) (path : List ℕ) (place : ℕ) → Ok place ≡ folder_sought nodes path → (below nodes 0 (but_last (components path)) ≡ Some place) × ((n : Node) × (slice_get nodes place ≡ Some n))
 folder_ok nodes path place h =
-    let clean = chosen (is_own_path path) place _ refusal.NotClean h in
-    let there = passing_ok is_directory refusal.NoParent nodes (below nodes 0 (front (pieces path))) place clean.1 in
+    let clean = chosen (is_canonical_path path) place _ refusal.NotClean h in
+    let there = passing_ok is_directory refusal.NoParent nodes (below nodes 0 (but_last (components path))) place clean.1 in
     (there.0, at_some is_directory (slice_get nodes place) there.1)
 
 nothing : (b : Bool) (x : ℕ) (o : Option ℕ) → cond b (Some x) (option_and_then (λ i. Some i) o) ≡ None → o ≡ None
@@ -60,25 +60,25 @@ parent_found nodes path parent (Ok x) h = let v = vacant_ok (place_of nodes path
 parent_found nodes path parent (Err e) h = cc
 
 -- where a node may be added, its directory stands and has nothing under its name
-pub parent_ok : (nodes : List Node) (path : List ℕ) (parent : ℕ) → parent_for nodes path ≡ Ok parent → (n : Node) × (slice_get nodes parent ≡ Some n) × (entry_under (last_piece (pieces path)) n.kind ≡ None)
+pub parent_ok : (nodes : List Node) (path : List ℕ) (parent : ℕ) → parent_for nodes path ≡ Ok parent → (n : Node) × (slice_get nodes parent ≡ Some n) × (entry_under (last_component (components path)) n.kind ≡ None)
 parent_ok nodes path parent h =
     let found = parent_found nodes path parent (folder_sought nodes path) h in
     let folder = folder_ok nodes path parent (sym found.0) in
-    let some = pieces_some path in
-    let whole : front (pieces path) ++ last_piece (pieces path) ∷ [] ≡ pieces path = ap (λ ps. front ps ++ last_piece ps ∷ []) some.2 ∙ front_last some.0 some.1 ∙ sym some.2 in
-    let name = last_piece (pieces path) in
+    let some = components_some path in
+    let whole : but_last (components path) ++ last_component (components path) ∷ [] ≡ components path = ap (λ ps. but_last ps ++ last_component ps ∷ []) some.2 ∙ but_last_then_last some.0 some.1 ∙ sym some.2 in
+    let name = last_component (components path) in
     let led : below nodes parent (name ∷ []) ≡ None =
-    ap (option_and_then (λ i. below nodes i (name ∷ []))) (sym folder.0) ∙ sym (below_append nodes 0 (front (pieces path)) (name ∷ [])) ∙ ap (below nodes 0) whole ∙ found.1 in
+    ap (option_and_then (λ i. below nodes i (name ∷ []))) (sym folder.0) ∙ sym (below_append nodes 0 (but_last (components path)) (name ∷ [])) ∙ ap (below nodes 0) whole ∙ found.1 in
     let n = folder.1 in
     (n.0, n.1, ap (option_and_then (λ m. entry_under name m.kind)) (sym n.1) ∙ nothing (is_empty name) parent (child nodes parent name) led)
 
 -- the first piece leads on to where the rest leads
-module _ (nodes : List Node) (here : ℕ) (text piece after : List ℕ) (cut : pieces text ≡ piece ∷ pieces after) where
-  below_turn : below nodes here (pieces text) ≡ option_and_then (λ i. below nodes i (pieces after)) (below nodes here (piece ∷ []))
-  below_turn = ap (below nodes here) cut ∙ below_append nodes here (piece ∷ []) (pieces after)
+module _ (nodes : List Node) (here : ℕ) (text component after : List ℕ) (cut : components text ≡ component ∷ components after) where
+  below_turn : below nodes here (components text) ≡ option_and_then (λ i. below nodes i (components after)) (below nodes here (component ∷ []))
+  below_turn = ap (below nodes here) cut ∙ below_append nodes here (component ∷ []) (components after)
 
-  pub below_some : (i : ℕ) → Some i ≡ below nodes here (piece ∷ []) → below nodes i (pieces after) ≡ below nodes here (pieces text)
-  below_some i e = sym (below_turn ∙ ap (option_and_then (λ i. below nodes i (pieces after))) (sym e))
+  pub below_some : (i : ℕ) → Some i ≡ below nodes here (component ∷ []) → below nodes i (components after) ≡ below nodes here (components text)
+  below_some i e = sym (below_turn ∙ ap (option_and_then (λ i. below nodes i (components after))) (sym e))
 
-  pub below_none : None ≡ below nodes here (piece ∷ []) → None ≡ below nodes here (pieces text)
-  below_none e = sym (below_turn ∙ ap (option_and_then (λ i. below nodes i (pieces after))) (sym e))
+  pub below_none : None ≡ below nodes here (component ∷ []) → None ≡ below nodes here (components text)
+  below_none e = sym (below_turn ∙ ap (option_and_then (λ i. below nodes i (components after))) (sym e))

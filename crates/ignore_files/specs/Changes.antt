@@ -1,8 +1,8 @@
 -- What each call makes of a tree in memory: the tree after it, or its refusal.
 use Rattle.std.specs.Prelude.{◌≡◌, ℕ, zero, suc, Bool, List, [], ◌∷◌, ◌++◌, length, Option, Some, Result, Ok, Err, cond}
 use Rattle.ignore_glob.specs.declared.fault.Fault.{Fault}
-use Rattle.ignore_glob.specs.Paths.{pieces, last_piece}
-use Rattle.ignore_files.specs.Memory.{Memory, and_then, is_own_path, is_directory, is_file, any_kind, sought, parent_for, new_node}
+use Rattle.ignore_glob.specs.Paths.{components, last_component}
+use Rattle.ignore_files.specs.Memory.{Memory, and_then, is_canonical_path, is_directory, is_file, any_kind, sought, parent_for, new_node}
 use Rattle.ignore_files.specs.Answers.{file_type_of}
 use Rattle.ignore_files.specs.declared.tree_error.TreeError.{TreeError}
 use Rattle.ignore_files.specs.declared.tree_error.TreeError.TheVariants as refusal
@@ -25,7 +25,7 @@ root_alone cwd = record { cwd = cwd; nodes = new_node 0 0 (47 ∷ []) (Dir []) 0
 
 -- the tree that `new` makes, or its refusal
 abbrev pub made : List ℕ → Result Memory TreeError
-made cwd = cond (is_own_path cwd) (Ok (root_alone cwd)) (Err refusal.NotClean)
+made cwd = cond (is_canonical_path cwd) (Ok (root_alone cwd)) (Err refusal.NotClean)
 
 -- one entry more in a directory
 abbrev pub with_entry : Entry → Kind → Kind
@@ -39,7 +39,7 @@ listing_too entry n = record n { kind = with_entry entry n.kind }
 
 -- the nodes with one more, which is the last entry of the directory at a place
 abbrev pub with_node : List Node → List ℕ → Kind → ℕ → ℕ → List Node
-with_node nodes path kind len parent = changed (listing_too (Named (last_piece (pieces path)) (file_type_of kind) (length nodes))) nodes parent ++ new_node (length nodes) parent path kind len ∷ []
+with_node nodes path kind len parent = changed (listing_too (Named (last_component (components path)) (file_type_of kind) (length nodes))) nodes parent ++ new_node (length nodes) parent path kind len ∷ []
 
 -- a node is added at a path, of this kind and size
 abbrev pub added : Kind → ℕ → Memory → List ℕ → Result Memory TreeError

@@ -41,16 +41,16 @@ refusal_of code OutOfMemory = Memory
 refusal_of code _ = Refused fault.Other
 
 -- the fault of a refusal, which may stand in an answer; want of memory can't
-abbrev pub told_fault : Refusal → Result Fault Refusal
-told_fault (Refused fault) = Ok fault
-told_fault Memory = Err Memory
+abbrev pub reported_fault : Refusal → Result Fault Refusal
+reported_fault (Refused fault) = Ok fault
+reported_fault Memory = Err Memory
 
 -- the machine's type of a file is told as this
-abbrev pub IsToldAs : MachineType → FileType → Type 0
-IsToldAs t Dir = IsDir t
-IsToldAs t File = IsFile t
-IsToldAs t Symlink = IsSymlink t
-IsToldAs t Other = (IsDir t → ⊥) × (IsFile t → ⊥) × (IsSymlink t → ⊥)
+abbrev pub IsReportedAs : MachineType → FileType → Type 0
+IsReportedAs t Dir = IsDir t
+IsReportedAs t File = IsFile t
+IsReportedAs t Symlink = IsSymlink t
+IsReportedAs t Other = (IsDir t → ⊥) × (IsFile t → ⊥) × (IsSymlink t → ⊥)
 
 -- an error is told by its fault
 abbrev pub IsFaultOf : Error → Listed → Type 0
@@ -59,22 +59,22 @@ IsFaultOf error (listed.Fault f) = refusal_of (raw_os_error error) (error_kind e
 
 -- an entry is told under its name with its kind, or by a fault where its kind can't be told
 abbrev pub IsEntryOf : List ℕ → Result MachineType Error → Listed → Type 0
-IsEntryOf name (Ok t) (listed.Entry n kind) = (n ≡ name) × IsToldAs t kind
+IsEntryOf name (Ok t) (listed.Entry n kind) = (n ≡ name) × IsReportedAs t kind
 IsEntryOf name (Ok t) (listed.Fault f) = ⊥
 IsEntryOf name (Err error) item = IsFaultOf error item
 
 -- one thing that the machine lists is told
-abbrev pub IsToldOf : {R A F D : Type 0} → Result (DirEntry R A F D) Error → Listed → Type 0
-IsToldOf (Ok entry) item = (kind : Result MachineType Error) × IsEntryOf (dir_entry_name entry) kind item
-IsToldOf (Err error) item = IsFaultOf error item
+abbrev pub IsReported : {R A F D : Type 0} → Result (DirEntry R A F D) Error → Listed → Type 0
+IsReported (Ok entry) item = (kind : Result MachineType Error) × IsEntryOf (dir_entry_name entry) kind item
+IsReported (Err error) item = IsFaultOf error item
 
 -- all of them are told, in their order
-abbrev pub AreTold : {R A F D : Type 0} → List (Result (DirEntry R A F D) Error) → List Listed → Type 0
-AreTold [] [] = Unit {0}
-AreTold [] (item ∷ items) = ⊥
-AreTold (one ∷ more) [] = ⊥
-AreTold (one ∷ more) (item ∷ items) = IsToldOf one item × AreTold more items
+abbrev pub AreReported : {R A F D : Type 0} → List (Result (DirEntry R A F D) Error) → List Listed → Type 0
+AreReported [] [] = Unit {0}
+AreReported [] (item ∷ items) = ⊥
+AreReported (one ∷ more) [] = ⊥
+AreReported (one ∷ more) (item ∷ items) = IsReported one item × AreReported more items
 
 -- the listing tells all that the machine lists, from its first to its end
 abbrev pub IsListingOf : {S R A F D : Type 0} → (S → Option (Result (DirEntry R A F D) Error) → S → Type 0) → S → List Listed → Type 0
-IsListingOf {S} {R} {A} {F} {D} steps s listing = (all : List (Result (DirEntry R A F D) Error)) × Drains steps s all × AreTold all listing
+IsListingOf {S} {R} {A} {F} {D} steps s listing = (all : List (Result (DirEntry R A F D) Error)) × Drains steps s all × AreReported all listing

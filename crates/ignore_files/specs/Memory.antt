@@ -1,7 +1,7 @@
 -- Trees in memory: their nodes, and the nodes that own paths lead to.
 use Rattle.std.specs.Prelude.{ℕ, ◌+◌, Bool, true, false, List, [], ◌∷◌, Option, Some, None, option_and_then, Result, Ok, Err, slice_get, ◌==◌, ◌||◌, ◌&&◌, cond, count_by}
 use Rattle.std.specs.List.{list_all}
-use Rattle.ignore_glob.specs.Paths.{pieces, is_proper}
+use Rattle.ignore_glob.specs.Paths.{components, is_proper}
 use Rattle.std.specs.Option.{option_map_or}
 use Rattle.ignore_files.specs.Entries.{named}
 use Rattle.ignore_files.specs.declared.tree_error.TreeError.{TreeError}
@@ -71,22 +71,22 @@ child nodes place name = option_and_then (λ n. entry_under name n.kind) (slice_
 -- the node to which names lead, one after another and through no links; empty pieces are passed over
 abbrev pub below : List Node → ℕ → List (List ℕ) → Option ℕ
 below nodes place [] = Some place
-below nodes place (piece ∷ rest) = cond (is_empty piece) (below nodes place rest) (option_and_then (λ i. below nodes i rest) (child nodes place piece))
+below nodes place (component ∷ rest) = cond (is_empty component) (below nodes place rest) (option_and_then (λ i. below nodes i rest) (child nodes place component))
 
 -- the node at an own path
 abbrev pub place_of : List Node → List ℕ → Option ℕ
-place_of nodes path = below nodes 0 (pieces path)
+place_of nodes path = below nodes 0 (components path)
 
 -- an own path: `/`, or `/` and names joined by single slashes
-abbrev pub is_own_path : List ℕ → Bool
-is_own_path [] = false
-is_own_path (b ∷ rest) = (b == 47) && (is_empty rest || list_all is_proper (pieces rest))
+abbrev pub is_canonical_path : List ℕ → Bool
+is_canonical_path [] = false
+is_canonical_path (b ∷ rest) = (b == 47) && (is_empty rest || list_all is_proper (components rest))
 
 -- the pieces but the last
-abbrev pub front : List (List ℕ) → List (List ℕ)
-front [] = []
-front (piece ∷ []) = []
-front (piece ∷ next ∷ rest) = piece ∷ front (next ∷ rest)
+abbrev pub but_last : List (List ℕ) → List (List ℕ)
+but_last [] = []
+but_last (component ∷ []) = []
+but_last (component ∷ next ∷ rest) = component ∷ but_last (next ∷ rest)
 
 -- the place, if there is one and a node stands there whose kind passes; else the refusal
 abbrev pub passing : (Kind → Bool) → TreeError → List Node → Option ℕ → Result ℕ TreeError
@@ -95,11 +95,11 @@ passing test refused nodes (Some place) = cond (is_at test nodes place) (Ok plac
 
 -- the place at an own path of a node whose kind passes
 abbrev pub sought : (Kind → Bool) → List Node → List ℕ → Result ℕ TreeError
-sought test nodes path = cond (is_own_path path) (passing test refusal.Missing nodes (place_of nodes path)) (Err refusal.NotClean)
+sought test nodes path = cond (is_canonical_path path) (passing test refusal.Missing nodes (place_of nodes path)) (Err refusal.NotClean)
 
 -- the place of the directory that an own path is in
 abbrev pub folder_sought : List Node → List ℕ → Result ℕ TreeError
-folder_sought nodes path = cond (is_own_path path) (passing is_directory refusal.NoParent nodes (below nodes 0 (front (pieces path)))) (Err refusal.NotClean)
+folder_sought nodes path = cond (is_canonical_path path) (passing is_directory refusal.NoParent nodes (below nodes 0 (but_last (components path)))) (Err refusal.NotClean)
 
 -- the directory, unless a node is there already
 abbrev pub vacant : Option ℕ → ℕ → Result ℕ TreeError

@@ -3,7 +3,7 @@ use Rattle.std.specs.Prelude.{ℕ, zero, suc, Bool, true, List, [], ◌∷◌, �
 use Rattle.ignore_glob.specs.declared.fault.Fault.{Fault}
 use Rattle.ignore_glob.specs.declared.fault.Fault.TheVariants.{NotFound, NotADirectory, LinkLimit}
 use Rattle.ignore_files.specs.Entries.{named}
-use Rattle.ignore_glob.specs.Paths.{pieces, is_absolute}
+use Rattle.ignore_glob.specs.Paths.{components, is_absolute}
 use Rattle.ignore_files.specs.Memory.{and_then, is_empty, entries_of, is_dir_at}
 use Rattle.ignore_files.specs.declared.memory.entry.Entry.{Entry}
 use Rattle.ignore_files.specs.declared.memory.node.Node.{Node}
@@ -13,21 +13,21 @@ use Rattle.ignore_files.specs.declared.memory.resolve.Reached.{Reached}
 
 -- a piece that leads nowhere else: an empty one, or `.`
 abbrev pub stays : List ℕ → Bool
-stays piece = is_empty piece || bytes_eq piece (codes ".")
+stays component = is_empty component || bytes_eq component (codes ".")
 
 -- from a directory `..` leads to the place of the directory that it is in, and a name to what it has under the name; from all else nothing leads on
 abbrev pub enter_directory : ℕ → List ℕ → Option (List Entry) → Result ℕ Fault
-enter_directory parent piece (Some entries) = cond (bytes_eq piece (codes "..")) (Ok parent) (ok_or (named piece entries) NotFound)
-enter_directory parent piece None = Err NotADirectory
+enter_directory parent component (Some entries) = cond (bytes_eq component (codes "..")) (Ok parent) (ok_or (named component entries) NotFound)
+enter_directory parent component None = Err NotADirectory
 
 -- the same from the node that stands at a place
 abbrev pub enter_node : List ℕ → Option Node → Result ℕ Fault
-enter_node piece (Some n) = enter_directory n.parent piece (entries_of n.kind)
-enter_node piece None = Err NotADirectory
+enter_node component (Some n) = enter_directory n.parent component (entries_of n.kind)
+enter_node component None = Err NotADirectory
 
 -- where one piece leads from a place, links not followed
 abbrev pub enter : List Node → ℕ → List ℕ → Result ℕ Fault
-enter nodes here piece = cond (stays piece) (Ok here) (enter_node piece (slice_get nodes here))
+enter nodes here component = cond (stays component) (Ok here) (enter_node component (slice_get nodes here))
 
 -- of a link that is in the directory at a place, where its target begins (at `/` or there) and the target
 abbrev pub target_of : ℕ → Kind → Option (ℕ × List ℕ)
@@ -45,25 +45,25 @@ abbrev pub link_at : List Node → ℕ → Option (ℕ × List ℕ)
 link_at nodes place = link_of (slice_get nodes place)
 
 -- where the last piece ends that has led to a place: a link is followed if that is asked for
-abbrev pub ends : Bool → ℕ → (ℕ → List ℕ → List (List ℕ) → Result Reached Fault) → ℕ → Option (ℕ × List ℕ) → Result Reached Fault
-ends follow links through place None = Ok (record { node = place; links = links })
-ends follow links through place (Some (start, target)) = cond follow (through start target []) (Ok (record { node = place; links = links }))
+abbrev pub resolve_last : Bool → ℕ → (ℕ → List ℕ → List (List ℕ) → Result Reached Fault) → ℕ → Option (ℕ × List ℕ) → Result Reached Fault
+resolve_last follow links after_link place None = Ok (record { node = place; links = links })
+resolve_last follow links after_link place (Some (start, target)) = cond follow (after_link start target []) (Ok (record { node = place; links = links }))
 
 -- where a piece leads that has a slash after it: a link is followed, from a directory the rest is read, and all else is no directory
-abbrev pub goes : Bool → Result Reached Fault → (ℕ → List ℕ → List (List ℕ) → Result Reached Fault) → List (List ℕ) → Option (ℕ × List ℕ) → Result Reached Fault
-goes is_dir onward through rest None = cond is_dir onward (Err NotADirectory)
-goes is_dir onward through rest (Some (start, target)) = through start target rest
+abbrev pub resolve_inner : Bool → Result Reached Fault → (ℕ → List ℕ → List (List ℕ) → Result Reached Fault) → List (List ℕ) → Option (ℕ × List ℕ) → Result Reached Fault
+resolve_inner is_dir onward after_link rest None = cond is_dir onward (Err NotADirectory)
+resolve_inner is_dir onward after_link rest (Some (start, target)) = after_link start target rest
 
 -- where pieces lead from a place, given where a link leads with the pieces after it
-abbrev pub along : List Node → Bool → ℕ → (ℕ → List ℕ → List (List ℕ) → Result Reached Fault) → List (List ℕ) → ℕ → Result Reached Fault
-along nodes follow links through [] here = Ok (record { node = here; links = links })
-along nodes follow links through (piece ∷ []) here = and_then (λ i. ends follow links through i (link_at nodes i)) (enter nodes here piece)
-along nodes follow links through (piece ∷ next ∷ rest) here = and_then (λ i. goes (is_dir_at nodes i) (along nodes follow links through (next ∷ rest) i) through (next ∷ rest) (link_at nodes i)) (enter nodes here piece)
+abbrev pub resolve_components : List Node → Bool → ℕ → (ℕ → List ℕ → List (List ℕ) → Result Reached Fault) → List (List ℕ) → ℕ → Result Reached Fault
+resolve_components nodes follow links after_link [] here = Ok (record { node = here; links = links })
+resolve_components nodes follow links after_link (component ∷ []) here = and_then (λ i. resolve_last follow links after_link i (link_at nodes i)) (enter nodes here component)
+resolve_components nodes follow links after_link (component ∷ next ∷ rest) here = and_then (λ i. resolve_inner (is_dir_at nodes i) (resolve_components nodes follow links after_link (next ∷ rest) i) after_link (next ∷ rest) (link_at nodes i)) (enter nodes here component)
 
 -- where pieces lead from a place while so many links may be followed, and how many may be followed from there. A link that is followed is read in its place: the pieces of its target, and then those after it; an empty target leads nowhere
 abbrev pub walk : List Node → Bool → ℕ → List (List ℕ) → ℕ → Result Reached Fault
-walk nodes follow zero ps here = along nodes follow 0 (λ start target rest. Err LinkLimit) ps here
-walk nodes follow (suc links) ps here = along nodes follow (suc links) (λ start target rest. cond (is_empty target) (Err NotFound) (walk nodes follow links (pieces target ++ rest) start)) ps here
+walk nodes follow zero ps here = resolve_components nodes follow 0 (λ start target rest. Err LinkLimit) ps here
+walk nodes follow (suc links) ps here = resolve_components nodes follow (suc links) (λ start target rest. cond (is_empty target) (Err NotFound) (walk nodes follow links (components target ++ rest) start)) ps here
 
 -- how many links one resolving may follow
 abbrev pub link_limit : ℕ
@@ -71,11 +71,11 @@ link_limit = 40
 
 -- where a text is read from: `/`, or the place to which the working directory leads, whose links count
 abbrev pub start_of : List ℕ → List Node → List ℕ → Result Reached Fault
-start_of cwd nodes path = cond (is_absolute path) (Ok (record { node = 0; links = link_limit })) (walk nodes true link_limit (pieces cwd) 0)
+start_of cwd nodes path = cond (is_absolute path) (Ok (record { node = 0; links = link_limit })) (walk nodes true link_limit (components cwd) 0)
 
 -- the place to which a text leads, or the fault of its resolving
 abbrev pub resolved : List ℕ → List Node → List ℕ → Bool → Result ℕ Fault
-resolved cwd nodes path follow = cond (is_empty path) (Err NotFound) (and_then (λ start. and_then (λ reached. Ok reached.node) (walk nodes follow start.links (pieces path) start.node)) (start_of cwd nodes path))
+resolved cwd nodes path follow = cond (is_empty path) (Err NotFound) (and_then (λ start. and_then (λ reached. Ok reached.node) (walk nodes follow start.links (components path) start.node)) (start_of cwd nodes path))
 
 -- the node to which a text leads
 abbrev pub node_found : List ℕ → List Node → List ℕ → Bool → Result Node Fault

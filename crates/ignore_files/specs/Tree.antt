@@ -19,6 +19,6 @@ pub record Tree : Type 0 where
 
 -- the answer is what the tree tells, unless it is that memory ran out
 abbrev pub Answers : {A : Type 0} → Result A Fault → Result A Refusal → Type 0
-Answers told (Ok a) = told ≡ Ok a
-Answers told (Err (Refused fault)) = told ≡ Err fault
-Answers told (Err Memory) = Unit {0}
+Answers reported (Ok a) = reported ≡ Ok a
+Answers reported (Err (Refused fault)) = reported ≡ Err fault
+Answers reported (Err Memory) = Unit {0}

@@ -4,7 +4,7 @@ ghost use Rattle.std.specs.Fs.{dir_entry_name, file_type, metadata_len};
 ghost use Rattle.std.specs.Io.KnownBytes.{Consumes};
 ghost use Rattle.std.specs.Iterator.{IsFinite};
 ghost use Rattle.std.specs.IoError.{error_kind, raw_os_error};
-ghost use Rattle.ignore_files.specs.Disk.{refusal_of, told_fault, IsEntryOf, IsListingOf, IsToldAs, IsToldOf, runtime_of};
+ghost use Rattle.ignore_files.specs.Disk.{refusal_of, reported_fault, IsEntryOf, IsListingOf, IsReportedAs, IsReported, runtime_of};
 
 use crate::files::Files;
 use crate::types::{Bytes, Contents, FileType, Identity, Listed, Listing, Metadata, Name, Refusal};
@@ -62,7 +62,7 @@ fn refusal_of(error: io::Error) -> Refusal
 
 /// A fault that stands in the answer; a refused allocation ends the call.
 fn fault_of(error: io::Error) -> Result<Fault, Refusal>
-    ensures { result ≡ told_fault (refusal_of (raw_os_error error) (error_kind error)) }
+    ensures { result ≡ reported_fault (refusal_of (raw_os_error error) (error_kind error)) }
 {
     match refusal_of(error) {
         Refusal::Fault(fault) => Ok(fault),
@@ -72,7 +72,7 @@ fn fault_of(error: io::Error) -> Result<Fault, Refusal>
 
 /// What is told of the machine's type of a file.
 fn kind_of(kind: fs::FileType) -> FileType
-    ensures { IsToldAs kind result }
+    ensures { IsReportedAs kind result }
 {
     if kind.is_dir() {
         FileType::Dir
@@ -86,8 +86,8 @@ fn kind_of(kind: fs::FileType) -> FileType
 }
 
 /// What is told of a path.
-fn told(metadata: &fs::Metadata) -> Metadata
-    ensures file_type { IsToldAs (file_type metadata.now) result.file_type }
+fn reported(metadata: &fs::Metadata) -> Metadata
+    ensures file_type { IsReportedAs (file_type metadata.now) result.file_type }
     ensures len { result.len ≡ metadata_len metadata.now }
 {
     Metadata {
@@ -100,7 +100,7 @@ fn told(metadata: &fs::Metadata) -> Metadata
 fn read<F: Read>(alloc: Global, file: &mut F) -> Result<Contents, Refusal>
     ensures whole { IfOk result (λ contents. contents.fault ≡ None → IfSome (F.remaining file.old) (λ bytes. contents.bytes ≡ bytes)) }
     ensures in_order { IfOk result (λ contents. Consumes (F.remaining file.old) (F.remaining file.new) contents.bytes) }
-    ensures err { IfErr result (λ e. e ≡ Refusal.Memory) }
+    ensures out_of_memory { IfErr result (λ e. e ≡ Refusal.Memory) }
 {
     let mut bytes = Vec::with_capacity(alloc, FIRST_READ)?;
     let fault = match file.read_to_end(&mut bytes) {
@@ -134,7 +134,7 @@ fn listed_of<R>(
 ) -> Result<Listed, Refusal>
 where
     R: rt::Files + Clone + Drop + AllocGlobal,
-    ensures { MatchResult result (λ listed. IsToldOf entry listed) (λ e. e ≡ Refusal.Memory) }
+    ensures { MatchResult result (λ listed. IsReported entry listed) (λ e. e ≡ Refusal.Memory) }
 {
     match entry {
         Ok(entry) => entry_of(alloc, &entry, entry.file_type()),
@@ -180,7 +180,7 @@ where
     R: rt::Files + Clone + Drop + AllocGlobal,
 {
     fn stat(&self, _alloc: Global, path: &str, follow: bool) -> Result<Metadata, Refusal> {
-        Ok(told(&self.metadata_of(path, follow)?))
+        Ok(reported(&self.metadata_of(path, follow)?))
     }
 
     fn list(&self, alloc: Global, path: &str) -> Result<Listing, Refusal> {

@@ -5,18 +5,18 @@ ghost use Rattle.ignore_files.specs.Changes.{made, MakesIfRoom, Leaves, LeavesIf
 
 mod add;
 mod answers;
+mod canonical_path;
 mod directory;
 mod entry;
 mod node;
-mod own_path;
 mod resolve;
 
 use crate::memory::add::add_node;
+use crate::memory::canonical_path::{
+    any_place, count_dirs, dir_place, file_place, is_canonical_path, parent_for,
+};
 use crate::memory::directory::Directory;
 use crate::memory::node::{Cut, Kind, Node};
-use crate::memory::own_path::{
-    any_place, count_dirs, dir_place, file_place, is_own_path, parent_for,
-};
 use crate::tree_error::TreeError;
 use crate::types::{Bytes, Identity, Name};
 use ignore_glob::Fault;
@@ -50,7 +50,7 @@ impl MemoryTree {
     pub fn new(alloc: Global, cwd: &str) -> Result<MemoryTree, TreeError>
         ensures { MakesIfRoom (made cwd.now) result }
     {
-        if !is_own_path(cwd) {
+        if !is_canonical_path(cwd) {
             return Err(TreeError::NotClean);
         }
         let cwd = Name::new(String::from_str(alloc, cwd)?);

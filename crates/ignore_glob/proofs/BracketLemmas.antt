@@ -3,7 +3,7 @@ use Rattle.std.proofs.Common.{◌≡◌, ◌≢◌, ◌⊎◌, inl, inr, ◌≤�
 use Rattle.std.specs.List.{AllByRecursion}
 use Rattle.std.proofs.lemmas.Bool.{cases_eq}
 use Rattle.ignore_glob.specs.declared.glob.options.Options.{Options}
-use Rattle.ignore_glob.specs.Pieces.{class, piece, fault, over, Step, Closes, turns, NoTurn, Items, are_in_order, after_sign, is_negated, ranges, Bracket, whole, disordered, literal, unclosed}
+use Rattle.ignore_glob.specs.Lexing.{class, lexeme, fault, ended, Step, Closes, turns, NoTurn, Items, are_in_order, after_sign, is_negated, ranges, Bracket, whole, disordered, literal, unclosed}
 
 -- the first `]` parts a text in one way
 first_closing : (m k r s : List ℕ) → AllByRecursion (λ c. c ≢ 93) m → AllByRecursion (λ c. c ≢ 93) k → m ++ 93 ∷ r ≡ k ++ 93 ∷ s → (m ≡ k) × (r ≡ s)
@@ -52,7 +52,7 @@ Class-same text body rest body' rest' is js c i d j =
 pub Bracket-same : (o : Options) (depth : ℕ) (text : List ℕ) (s t : Step) → Bracket o depth text s → Bracket o depth text t → s ≡ t
 Bracket-same o depth text s t (whole body rest is c i a) (whole body' rest' js d j b) =
     let h = Class-same (after_sign text) body rest body' rest' is js c i d j in
-    ap (λ k. piece (class (is_negated text) (ranges k)) rest depth) h.0 ∙ ap (λ r. piece (class (is_negated text) (ranges js)) r depth) h.1
+    ap (λ k. lexeme (class (is_negated text) (ranges k)) rest depth) h.0 ∙ ap (λ r. lexeme (class (is_negated text) (ranges js)) r depth) h.1
 Bracket-same o depth text s t (whole body rest is c i a) (disordered body' rest' js d j b) = absurd (let h = Class-same (after_sign text) body rest body' rest' is js c i d j in let e : are_in_order is ≡ are_in_order js = ap (λ k. are_in_order k) h.0 in cc (a, b, e))
 Bracket-same o depth text s t (whole body rest is c i a) (literal u b) = absurd (u body rest c)
 Bracket-same o depth text s t (whole body rest is c i a) (unclosed u b) = absurd (u body rest c)
@@ -144,9 +144,9 @@ IsRest-shorter text rest h = rw (h.1, length-append) (omega (arith, h.2))
 
 -- a piece leaves a rest
 abbrev pub LeavesRest : List ℕ → Step → Type 0
-LeavesRest text (piece l rest e) = IsRest text rest
+LeavesRest text (lexeme l rest e) = IsRest text rest
 LeavesRest text (fault f) = Unit {0}
-LeavesRest text over = Unit {0}
+LeavesRest text ended = Unit {0}
 
 class-rest : (text body rest : List ℕ) → Closes (after_sign text) body rest → IsRest (91 ∷ text) rest
 class-rest text body rest c =

@@ -5,11 +5,11 @@ use Rattle.std.proofs.lemmas.Bool.{cond-true, cond-false, cases_Bool, false_from
 use Rattle.std.proofs.lemmas.Bool.Decides.{Decides-eqb}
 use Rattle.std.proofs.lemmas.List.{append-nil, same_from_push}
 use Rattle.std.proofs.lemmas.Slice.Eq.{starts_is, bytes_eq-Decides}
-use Rattle.ignore_glob.specs.Paths.{is_slash, pieces, joined, last_piece, is_absolute, trim_of, without_slash, is_proper, IsName, IsEnd, IsLead, IsCleanRoot, dot, dot_slash, slash, named, above}
+use Rattle.ignore_glob.specs.Paths.{is_slash, components, joined, last_component, is_absolute, trim_of, without_slash, is_proper, IsName, IsEnd, IsLead, IsCleanRoot, dot, dot_slash, slash, named, above}
 use Rattle.ignore_glob.specs.Roots.{IsWithoutEnd, is_up, rises, is_rooted}
-use Rattle.ignore_glob.proofs.PieceLemmas.{front, others, pieces-front, pieces-slash, joined-pieces, last_piece-snoc}
-use Rattle.ignore_glob.proofs.FrontLemmas.{front-joined, front-absolute}
-use Rattle.ignore_glob.proofs.CleanLemmas.{clear, names_each, names-pieces, first_name, other_names, proper_each, pieces-whole}
+use Rattle.ignore_glob.proofs.ComponentLemmas.{first_component, others, components-first_component, components-slash, joined-components, last_component-snoc}
+use Rattle.ignore_glob.proofs.FirstComponentLemmas.{first_component-joined, first_component-absolute}
+use Rattle.ignore_glob.proofs.CleanLemmas.{clear, names_each, names-components, first_name, other_names, proper_each, components-whole}
 use Rattle.ignore_glob.proofs.RootLemmas.{cons_nil, ups_whole}
 
 -- what is left past the pieces `..` is names where the pieces rise
@@ -45,21 +45,21 @@ ended root body (inl w) = ([], inl refl, w.0 ∙ sym (append-nil body))
 ended root body (inr e) = (codes "/", inr refl, e)
 
 -- names behind a lead
-lead_named : (root body lead rest : List ℕ) → IsWithoutEnd root body → IsLead lead → body ≡ lead ++ rest → list_all is_proper (pieces rest) ≡ true → root ≢ codes "-" → IsCleanRoot root
+lead_named : (root body lead rest : List ℕ) → IsWithoutEnd root body → IsLead lead → body ≡ lead ++ rest → list_all is_proper (components rest) ≡ true → root ≢ codes "-" → IsCleanRoot root
 lead_named root body lead rest without is_lead at proper other =
-    let all : All IsName (front rest ∷ others rest) = subst (All IsName) (pieces-front rest) (names-pieces rest proper) in
-    let text : rest ≡ joined (front rest ∷ others rest) = sym (joined-pieces rest) ∙ ap joined (pieces-front rest) in
+    let all : All IsName (first_component rest ∷ others rest) = subst (All IsName) (components-first_component rest) (names-components rest proper) in
+    let text : rest ≡ joined (first_component rest ∷ others rest) = sym (joined-components rest) ∙ ap joined (components-first_component rest) in
     let e = ended root body without in
-    named lead (front rest) (others rest) e.0 is_lead (first_name (front rest) (others rest) all) (other_names (front rest) (others rest) all) e.1
-    (e.2 ∙ ap (λ b. b ++ e.0) (at ∙ ap (λ r. lead ++ r) text) ∙ append_assoc lead (joined (front rest ∷ others rest)) e.0) other
+    named lead (first_component rest) (others rest) e.0 is_lead (first_name (first_component rest) (others rest) all) (other_names (first_component rest) (others rest) all) e.1
+    (e.2 ∙ ap (λ b. b ++ e.0) (at ∙ ap (λ r. lead ++ r) text) ∙ append_assoc lead (joined (first_component rest ∷ others rest)) e.0) other
 
-rising_from : (root body : List ℕ) → IsWithoutEnd root body → root ≢ codes "-" → (ups names : List (List ℕ)) → All (λ up. up ≡ codes "..") ups → All IsName names → pieces body ≡ ups ++ names → IsCleanRoot root
+rising_from : (root body : List ℕ) → IsWithoutEnd root body → root ≢ codes "-" → (ups names : List (List ℕ)) → All (λ up. up ≡ codes "..") ups → All IsName names → components body ≡ ups ++ names → IsCleanRoot root
 rising_from root body without other [] names us ns e =
     lead_named root body [] body without (inl refl) refl (ap (list_all is_proper) e ∙ proper_each names ns) other
 rising_from root body without other (u ∷ ups) names us ns e =
     let w = ended root body without in
     above ups names w.0 (λ k d l. us (suc k) d (omega (arith, l))) ns w.1
-    (w.2 ∙ ap (λ b. b ++ w.0) (sym (joined-pieces body) ∙ ap joined (e ∙ ap (λ v. v ∷ (ups ++ names)) (us zero u (omega arith)))))
+    (w.2 ∙ ap (λ b. b ++ w.0) (sym (joined-components body) ∙ ap joined (e ∙ ap (λ v. v ∷ (ups ++ names)) (us zero u (omega arith)))))
 
 sound : (root body : List ℕ) → IsWithoutEnd root body → root ≢ codes "-" → is_rooted body ≡ true → IsCleanRoot root
 sound root body without other e =
@@ -67,19 +67,19 @@ sound root body without other e =
     (λ s.
     let at : body ≡ (46 ∷ (47 ∷ [])) ++ drop 2 body = (starts_is Decides-eqb body (46 ∷ (47 ∷ [])) _ refl).0 s in
     let is : trim_of body ≡ drop 2 body = cond-true (starts_with nat_eq body (codes "./")) (drop 2 body) body s in
-    lead_named root body (codes "./") (drop 2 body) without (inr (inr refl)) at (ap (λ b. list_all is_proper (pieces b)) (sym is) ∙ sym (cond-true (starts_with nat_eq body (codes "./")) (list_all is_proper (pieces (trim_of body))) _ s) ∙ e) other)
-    (λ s. further (sym (cond-false (starts_with nat_eq body (codes "./")) (list_all is_proper (pieces (trim_of body))) (cond (is_absolute body) (list_all is_proper (pieces (without_slash body))) (rises (pieces body))) s) ∙ e))
+    lead_named root body (codes "./") (drop 2 body) without (inr (inr refl)) at (ap (λ b. list_all is_proper (components b)) (sym is) ∙ sym (cond-true (starts_with nat_eq body (codes "./")) (list_all is_proper (components (trim_of body))) _ s) ∙ e) other)
+    (λ s. further (sym (cond-false (starts_with nat_eq body (codes "./")) (list_all is_proper (components (trim_of body))) (cond (is_absolute body) (list_all is_proper (components (without_slash body))) (rises (components body))) s) ∙ e))
     (cases_Bool (starts_with nat_eq body (codes "./")))
   where
     behind : (b : List ℕ) → is_absolute b ≡ true → b ≡ 47 ∷ without_slash b
     behind [] a = cc
     behind (x ∷ xs) a = ap (λ y. y ∷ xs) (eqb-true x 47 a) ∙ ap (λ r. 47 ∷ r) (sym (cond-true (is_slash x) xs (x ∷ xs) a))
 
-    further : cond (is_absolute body) (list_all is_proper (pieces (without_slash body))) (rises (pieces body)) ≡ true → IsCleanRoot root
+    further : cond (is_absolute body) (list_all is_proper (components (without_slash body))) (rises (components body)) ≡ true → IsCleanRoot root
     further f =
         ⊎_elim
-        (λ a. lead_named root body (codes "/") (without_slash body) without (inr (inl refl)) (behind body a) (sym (cond-true (is_absolute body) (list_all is_proper (pieces (without_slash body))) (rises (pieces body)) a) ∙ f) other)
-        (λ a. let w = split_ups (pieces body) (clear body) (sym (cond-false (is_absolute body) (list_all is_proper (pieces (without_slash body))) (rises (pieces body)) a) ∙ f) in rising_from root body without other w.0 w.1 w.2 w.3 w.4)
+        (λ a. lead_named root body (codes "/") (without_slash body) without (inr (inl refl)) (behind body a) (sym (cond-true (is_absolute body) (list_all is_proper (components (without_slash body))) (rises (components body)) a) ∙ f) other)
+        (λ a. let w = split_ups (components body) (clear body) (sym (cond-false (is_absolute body) (list_all is_proper (components (without_slash body))) (rises (components body)) a) ∙ f) in rising_from root body without other w.0 w.1 w.2 w.3 w.4)
         (cases_Bool (is_absolute body))
 
 -- the body of a text that does not end with a slash, and of that text and a slash
@@ -90,22 +90,22 @@ body_is root body text end (inl w) (inr z) at open_end = absurd (w.1 text (at �
 body_is root body text end (inr w) (inr z) at open_end = (same_from_push body text 47 47 (sym w ∙ at ∙ ap (λ e. text ++ e) z)).0
 
 -- clear pieces that are joined are the pieces
-pieces-clear : (x : List ℕ) (xs : List (List ℕ)) → IsClear (x ∷ xs) → pieces (joined (x ∷ xs)) ≡ x ∷ xs
-pieces-clear x [] h = pieces-whole x h.0
-pieces-clear x (y ∷ xs) h = pieces-slash x (joined (y ∷ xs)) ∙ ap (λ l. l ++ pieces (joined (y ∷ xs))) (pieces-whole x h.0) ∙ ap (λ l. x ∷ l) (pieces-clear y xs h.1)
+components-clear : (x : List ℕ) (xs : List (List ℕ)) → IsClear (x ∷ xs) → components (joined (x ∷ xs)) ≡ x ∷ xs
+components-clear x [] h = components-whole x h.0
+components-clear x (y ∷ xs) h = components-slash x (joined (y ∷ xs)) ∙ ap (λ l. l ++ components (joined (y ∷ xs))) (components-whole x h.0) ∙ ap (λ l. x ∷ l) (components-clear y xs h.1)
 
-last_filled : (x : List ℕ) (xs : List (List ℕ)) → AllByRecursion (λ q. q ≢ []) (x ∷ xs) → last_piece (x ∷ xs) ≢ []
+last_filled : (x : List ℕ) (xs : List (List ℕ)) → AllByRecursion (λ q. q ≢ []) (x ∷ xs) → last_component (x ∷ xs) ≢ []
 last_filled x [] h = h.0
 last_filled x (y ∷ xs) h = last_filled y xs h.1
 
 -- no slash at the end
 open_ended : (lead : List ℕ) (x : List ℕ) (xs : List (List ℕ)) → IsLead lead → IsClear (x ∷ xs) → AllByRecursion (λ q. q ≢ []) (x ∷ xs) → (ys : List ℕ) → lead ++ joined (x ∷ xs) ≢ ys ++ 47 ∷ []
-open_ended lead x xs is_lead h some ys e = last_filled x xs some (sym (shows lead is_lead) ∙ ap (λ t. last_piece (pieces t)) e ∙ ap last_piece (pieces-slash ys []) ∙ last_piece-snoc (pieces ys) [])
+open_ended lead x xs is_lead h some ys e = last_filled x xs some (sym (shows lead is_lead) ∙ ap (λ t. last_component (components t)) e ∙ ap last_component (components-slash ys []) ∙ last_component-snoc (components ys) [])
   where
-    shows : (l : List ℕ) → IsLead l → last_piece (pieces (l ++ joined (x ∷ xs))) ≡ last_piece (x ∷ xs)
-    shows l (inl z) = ap (λ k. last_piece (pieces (k ++ joined (x ∷ xs)))) z ∙ ap last_piece (pieces-clear x xs h)
-    shows l (inr (inl z)) = ap (λ k. last_piece (pieces (k ++ joined (x ∷ xs)))) z ∙ ap (λ ps. last_piece ([] ∷ ps)) (pieces-clear x xs h)
-    shows l (inr (inr z)) = ap (λ k. last_piece (pieces (k ++ joined (x ∷ xs)))) z ∙ ap (λ ps. last_piece ((46 ∷ []) ∷ ps)) (pieces-clear x xs h)
+    shows : (l : List ℕ) → IsLead l → last_component (components (l ++ joined (x ∷ xs))) ≡ last_component (x ∷ xs)
+    shows l (inl z) = ap (λ k. last_component (components (k ++ joined (x ∷ xs)))) z ∙ ap last_component (components-clear x xs h)
+    shows l (inr (inl z)) = ap (λ k. last_component (components (k ++ joined (x ∷ xs)))) z ∙ ap (λ ps. last_component ([] ∷ ps)) (components-clear x xs h)
+    shows l (inr (inr z)) = ap (λ k. last_component (components (k ++ joined (x ∷ xs)))) z ∙ ap (λ ps. last_component ((46 ∷ []) ∷ ps)) (components-clear x xs h)
 
 clear_names : (ps : List (List ℕ)) → All IsName ps → IsClear ps
 clear_names [] h = tt
@@ -123,13 +123,13 @@ rises-names [] h = refl
 rises-names (p ∷ ps) h = cond-false (is_up p) (rises ps) (list_all is_proper (p ∷ ps)) (not_up p (first_name p ps h)) ∙ proper_each (p ∷ ps) h
 
 -- a text whose first piece is neither empty nor `.`
-plain : (text : List ℕ) → front text ≢ 46 ∷ [] → front text ≢ [] → is_rooted text ≡ rises (pieces text)
+plain : (text : List ℕ) → first_component text ≢ 46 ∷ [] → first_component text ≢ [] → is_rooted text ≡ rises (components text)
 plain text no_dot some =
-    cond-false (starts_with nat_eq text (codes "./")) (list_all is_proper (pieces (trim_of text))) _ (false_from_ne_true _ (λ s. no_dot (ap front ((starts_is Decides-eqb text (46 ∷ (47 ∷ [])) _ refl).0 s))))
-    ∙ cond-false (is_absolute text) (list_all is_proper (pieces (without_slash text))) (rises (pieces text)) (false_from_ne_true _ (λ a. some (front-absolute text a)))
+    cond-false (starts_with nat_eq text (codes "./")) (list_all is_proper (components (trim_of text))) _ (false_from_ne_true _ (λ s. no_dot (ap first_component ((starts_is Decides-eqb text (46 ∷ (47 ∷ [])) _ refl).0 s))))
+    ∙ cond-false (is_absolute text) (list_all is_proper (components (without_slash text))) (rises (components text)) (false_from_ne_true _ (λ a. some (first_component-absolute text a)))
 
-front_plain : (x : List ℕ) (xs : List (List ℕ)) → ¬ Contains x 47 → front (joined (x ∷ xs)) ≡ x
-front_plain x xs h = sym (ap front (append-nil (joined (x ∷ xs)))) ∙ front-joined x xs [] h (inl refl)
+front_plain : (x : List ℕ) (xs : List (List ℕ)) → ¬ Contains x 47 → first_component (joined (x ∷ xs)) ≡ x
+front_plain x xs h = sym (ap first_component (append-nil (joined (x ∷ xs)))) ∙ first_component-joined x xs [] h (inl refl)
 
 named_rooted : (lead x : List ℕ) (xs : List (List ℕ)) → IsLead lead → All IsName (x ∷ xs) → is_rooted (lead ++ joined (x ∷ xs)) ≡ true
 named_rooted lead x xs (inl z) h =
@@ -137,10 +137,10 @@ named_rooted lead x xs (inl z) h =
     let first = front_plain x xs n.whole in
     ap (λ l. is_rooted (l ++ joined (x ∷ xs))) z
     ∙ plain (joined (x ∷ xs)) (λ k. n.no_dot (sym first ∙ k)) (λ k. n.filled (sym first ∙ k))
-    ∙ ap rises (pieces-clear x xs (clear_names (x ∷ xs) h))
+    ∙ ap rises (components-clear x xs (clear_names (x ∷ xs) h))
     ∙ rises-names (x ∷ xs) h
-named_rooted lead x xs (inr (inl z)) h = ap (λ l. is_rooted (l ++ joined (x ∷ xs))) z ∙ ap (list_all is_proper) (pieces-clear x xs (clear_names (x ∷ xs) h)) ∙ proper_each (x ∷ xs) h
-named_rooted lead x xs (inr (inr z)) h = ap (λ l. is_rooted (l ++ joined (x ∷ xs))) z ∙ ap (list_all is_proper) (pieces-clear x xs (clear_names (x ∷ xs) h)) ∙ proper_each (x ∷ xs) h
+named_rooted lead x xs (inr (inl z)) h = ap (λ l. is_rooted (l ++ joined (x ∷ xs))) z ∙ ap (list_all is_proper) (components-clear x xs (clear_names (x ∷ xs) h)) ∙ proper_each (x ∷ xs) h
+named_rooted lead x xs (inr (inr z)) h = ap (λ l. is_rooted (l ++ joined (x ∷ xs))) z ∙ ap (list_all is_proper) (components-clear x xs (clear_names (x ∷ xs) h)) ∙ proper_each (x ∷ xs) h
 
 -- pieces `..` and names
 clear_ups : (ups names : List (List ℕ)) → All (λ up. up ≡ codes "..") ups → All IsName names → IsClear (ups ++ names)
@@ -178,7 +178,7 @@ complete root body without a b c (above ups names end us ns e at) =
     let first = front_plain up rest ups_whole in
     ap is_rooted (body_is root body (joined (up ∷ rest)) end without e at (open_ended [] up rest (inl refl) clears fills))
     ∙ plain (joined (up ∷ rest)) (λ k. two_one (sym first ∙ k)) (λ k. cons_nil 46 (46 ∷ []) (sym first ∙ k))
-    ∙ ap rises (pieces-clear up rest clears)
+    ∙ ap rises (components-clear up rest clears)
     ∙ rises_ups ups names us ns
 
 pub Decides-clean_root : (root body : List ℕ) → IsWithoutEnd root body → root ≢ codes "." → root ≢ codes "./" → root ≢ codes "/" → root ≢ codes "-" → Decides (is_rooted body) (IsCleanRoot root)

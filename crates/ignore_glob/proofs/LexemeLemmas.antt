@@ -3,8 +3,8 @@ use Rattle.std.proofs.Common.{◌≡◌, ◌≢◌, ◌≤◌, Bool, true, false
 use Rattle.std.specs.List.{AllByRecursion, list_all}
 use Rattle.ignore_glob.specs.declared.glob.fault.GlobFault.{GlobFault}
 use Rattle.ignore_glob.specs.declared.glob.lexeme.Lexeme.{Lexeme as CodeLexeme}
-use Rattle.ignore_glob.specs.Pieces.{Lexeme, put_first, turns, last_end, after_sign}
-use Rattle.ignore_glob.specs.Lexemes.{lexeme_view, row_view, ClosesBefore}
+use Rattle.ignore_glob.specs.Lexing.{Lexeme, put_first, turns, last_end, after_sign}
+use Rattle.ignore_glob.specs.LexemeViews.{lexeme_view, row_view, ClosesBefore}
 use Rattle.ignore_glob.proofs.BracketLemmas.{sign-cut}
 
 -- an outcome, with these pieces before it
@@ -55,8 +55,8 @@ list_all-more p (d ∷ ends) e = ap (λ b. p d && b) (list_all-more p ends e) �
   assoc false b c = refl
 
 -- what follows each `]` of a text follows it in a rest of the text
-pub ClosesBefore-rest : (n : ℕ) (text front rest : List ℕ) → text ≡ front ++ rest → ClosesBefore n text → ClosesBefore n rest
-ClosesBefore-rest n text front rest e h m r f = h (front ++ m) r (e ∙ (ap (λ x. front ++ x) f ∙ sym (append_assoc front m (93 ∷ r))))
+pub ClosesBefore-rest : (n : ℕ) (text prefix rest : List ℕ) → text ≡ prefix ++ rest → ClosesBefore n text → ClosesBefore n rest
+ClosesBefore-rest n text prefix rest e h m r f = h (prefix ++ m) r (e ∙ (ap (λ x. prefix ++ x) f ∙ sym (append_assoc prefix m (93 ∷ r))))
 
 pub ClosesBefore-sign : (n : ℕ) (text inside : List ℕ) → inside ≡ after_sign text → ClosesBefore n text → ClosesBefore n inside
 ClosesBefore-sign n text inside e h = let C : List ℕ → Type 0 = λ x. ClosesBefore n x in let s = sign-cut text in subst C (sym e) (ClosesBefore-rest n text s.0 (after_sign text) s.1 h)

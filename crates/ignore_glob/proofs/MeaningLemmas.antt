@@ -1,8 +1,8 @@
 -- The rows of the table of meanings, at values that are known by equations.
 use Rattle.std.proofs.Common.{◌≡◌, ◌⊎◌, inl, inr, ◌↔◌, ◌+◌, ◌<◌, ◌≤◌, ℕ, zero, suc, Bool, IsTrue, List, [], ◌∷◌, refl, sym, ap, ◌∙◌, subst, add-one, arith}
 use Rattle.ignore_glob.specs.Glob as G
-use Rattle.ignore_glob.specs.Pieces.{Lexeme, char, run, comma, closing}
-use Rattle.ignore_glob.specs.Row.{IsSlash, Ends, of_glob, at_comma, at_closing, chain, BeforeSlash, AtEnd, Left, glob_start, branch_start, piece, IsStart, IsRecursive, Meaning, gives, Means, slash, middle, end, stars, start, start_to_end, alone}
+use Rattle.ignore_glob.specs.Lexing.{Lexeme, char, run, comma, closing}
+use Rattle.ignore_glob.specs.Row.{IsSlash, Ends, of_glob, at_comma, at_closing, chain, BeforeSlash, AtEnd, Left, glob_start, branch_start, lexeme, IsStart, IsRecursive, Meaning, gives, Means, slash, middle, end, stars, start, start_to_end, alone}
 
 chain-suc : (n : ℕ) (ls : List Lexeme) → chain n (run 2 ∷ char 47 ∷ ls) ≡ chain (suc n) ls
 chain-suc zero ls = refl
@@ -12,7 +12,7 @@ pub chain-more : (n : ℕ) (row rest more : List Lexeme) → row ≡ chain n res
 chain-more n row rest more e f = rw add-one (e ∙ (ap (λ x. chain n x) f ∙ chain-suc n more))
 
 pub ends_at : (b : Bool) (l : Lexeme) (row ls : List Lexeme) → row ≡ l ∷ ls → (IsTrue b ↔ ((l ≡ comma) ⊎ (l ≡ closing))) → IsTrue b ↔ Ends row
-ends_at b l row ls e told = (λ t. forth (told.0 t), λ h. told.1 (back row e h)) where
+ends_at b l row ls e reported = (λ t. forth (reported.0 t), λ h. reported.1 (back row e h)) where
   forth : (l ≡ comma) ⊎ (l ≡ closing) → Ends row
   forth (inl c) = let E : List Lexeme → Type 0 = λ x. Ends x in let r : comma ∷ ls ≡ row = sym (e ∙ ap (λ x. x ∷ ls) c) in subst E r (at_comma ls)
   forth (inr c) = let E : List Lexeme → Type 0 = λ x. Ends x in let r : closing ∷ ls ≡ row = sym (e ∙ ap (λ x. x ∷ ls) c) in subst E r (at_closing ls)
@@ -62,7 +62,7 @@ module _ (p : Left) (row rest : List Lexeme) (k : ℕ) (row_is : row ≡ chain k
     plain : (q : Left) → ((q ≡ glob_start) × (n ≡ 2) × (after ≡ []) → ⊥) → IsRecursive q (run n ∷ after) → ⊥
     plain glob_start never r = elim r [ inl x ↦ none_before x | inr x ↦ never (refl, (cc x), (cc x)) ]
     plain branch_start never r = none_before r
-    plain piece never r = r
+    plain lexeme never r = r
 
 pub alone_at : (p : Left) (row after : List Lexeme) (n : ℕ) → row ≡ run n ∷ after → p ≡ glob_start → n ≡ 2 → after ≡ [] → Means p row (gives 1 G.start after)
 alone_at p row after n e q m none =
@@ -77,7 +77,7 @@ inside_at p row after n e not_start = let M : List Lexeme → Type 0 = λ x. Mea
   by : (q : Left) → (IsStart q → ⊥) → IsRecursive q (run n ∷ after) → ⊥
   by glob_start s r = s tt
   by branch_start s r = s tt
-  by piece s r = r
+  by lexeme s r = r
 
 pub means_at : (p : Left) (row same : List Lexeme) (m : Meaning) → row ≡ same → Means p same m → Means p row m
 means_at p row same m e h = let M : List Lexeme → Type 0 = λ x. Means p x m in subst M (sym e) h

@@ -9,23 +9,23 @@ use Rattle.std.proofs.lemmas.Bool.Decides.{Decides-eqb}
 use Rattle.std.proofs.lemmas.List.{drop_at}
 use Rattle.std.proofs.lemmas.Slice.Eq.{starts_is}
 use Rattle.memchr.specs.Find.{IsFirstByte, is_byte}
-use Rattle.ignore_glob.specs.Paths.{is_slash, pieces, last_piece, name_in, file_name_of, at_bound, strip_prefix_of, has_slash, is_dot, below, without_slash}
+use Rattle.ignore_glob.specs.Paths.{is_slash, components, last_component, name_in, file_name_of, at_bound, strip_prefix_of, has_slash, is_dot, below, without_slash}
 
 pub file_name_of-nil : file_name_of [] ≡ None
 unfolding file_name_of
 file_name_of-nil = refl
 
-pub file_name_of-some : (path : List ℕ) → path ≢ [] → file_name_of path ≡ name_in (last_piece (pieces path))
+pub file_name_of-some : (path : List ℕ) → path ≢ [] → file_name_of path ≡ name_in (last_component (components path))
 unfolding file_name_of
 file_name_of-some [] some = absurd (some refl)
 file_name_of-some (b ∷ bs) some = refl
 
-pub name_in-none : (piece : List ℕ) → (bytes_eq piece (codes ".") ≡ true) ⊎ (bytes_eq piece (codes "..") ≡ true) → name_in piece ≡ None
-name_in-none piece (inl e) = cond-true (bytes_eq piece (codes ".") || bytes_eq piece (codes "..")) None (Some piece) (or_left (bytes_eq piece (codes ".")) (bytes_eq piece (codes "..")) e)
-name_in-none piece (inr e) = cond-true (bytes_eq piece (codes ".") || bytes_eq piece (codes "..")) None (Some piece) (or_right (bytes_eq piece (codes ".")) (bytes_eq piece (codes "..")) e)
+pub name_in-none : (component : List ℕ) → (bytes_eq component (codes ".") ≡ true) ⊎ (bytes_eq component (codes "..") ≡ true) → name_in component ≡ None
+name_in-none component (inl e) = cond-true (bytes_eq component (codes ".") || bytes_eq component (codes "..")) None (Some component) (or_left (bytes_eq component (codes ".")) (bytes_eq component (codes "..")) e)
+name_in-none component (inr e) = cond-true (bytes_eq component (codes ".") || bytes_eq component (codes "..")) None (Some component) (or_right (bytes_eq component (codes ".")) (bytes_eq component (codes "..")) e)
 
-pub name_in-some : (piece : List ℕ) → bytes_eq piece (codes ".") ≡ false → bytes_eq piece (codes "..") ≡ false → name_in piece ≡ Some piece
-name_in-some piece e f = cond-false (bytes_eq piece (codes ".") || bytes_eq piece (codes "..")) None (Some piece) (or_from (bytes_eq piece (codes ".")) (bytes_eq piece (codes "..")) e f)
+pub name_in-some : (component : List ℕ) → bytes_eq component (codes ".") ≡ false → bytes_eq component (codes "..") ≡ false → name_in component ≡ Some component
+name_in-some component e f = cond-false (bytes_eq component (codes ".") || bytes_eq component (codes "..")) None (Some component) (or_from (bytes_eq component (codes ".")) (bytes_eq component (codes "..")) e f)
 
 -- a slash at some place, or at none
 pub has_slash-at : (xs : List ℕ) (k : ℕ) → k < length xs → is_slash (get_or xs k 0) ≡ true → has_slash xs ≡ true

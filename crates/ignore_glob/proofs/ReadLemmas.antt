@@ -1,12 +1,12 @@
 -- Tokens and branches that grow, and levels of braces that go on.
 use Rattle.std.proofs.Common.{Ok, ◌≡◌, ◌<◌, ℕ, zero, suc, List, [], ◌∷◌, ◌++◌, length, Vec, Global, refl, sym, subst, ap, arith}
 use Rattle.ignore_glob.specs.Glob.{Token, Tokens, done, then, Branches, no_branch, branch}
-use Rattle.ignore_glob.specs.Pieces.{Lexeme, comma, closing, Written}
+use Rattle.ignore_glob.specs.Lexing.{Lexeme, comma, closing, Lexed}
 use Rattle.ignore_glob.specs.Row.{Left, branch_start, glob_start, times, add_branch, Ends, Row, Reads, Inner, last_branch, further_branch}
 use Rattle.ignore_glob.specs.View.{view, tokens_view, branches_view}
-use Rattle.ignore_glob.specs.Lexemes.{Balanced, put_tokens, put_branches}
+use Rattle.ignore_glob.specs.LexemeViews.{Balanced, put_tokens, put_branches}
 use Rattle.ignore_glob.specs.declared.glob.options.Options.{Options}
-use Rattle.ignore_glob.proofs.RowExists.{Written-balanced, ends_glob}
+use Rattle.ignore_glob.proofs.RowExists.{Lexed-balanced, ends_glob}
 use Rattle.ignore_glob.specs.declared.glob.token.Token.{Token as CodeToken}
 
 pub put_tokens-push : (ts : List CodeToken) (t : CodeToken) (us : Tokens) → put_tokens (ts ++ t ∷ []) us ≡ put_tokens ts (then (view t) us)
@@ -48,9 +48,9 @@ pub further_at : (ls after mid rest : List Lexeme) (ts : Tokens) (bs : Branches)
 further_at ls after mid rest ts bs e r i = let P : List Lexeme → Type 0 = λ x. Row branch_start ls ts x in further_branch ls mid rest ts bs (subst P e r) i
 
 -- a text and its row, as slices of the program
-module _ (o : Options) (text slice : List ℕ) (slice_is : slice ≡ text) (pieces lexemes : List Lexeme) (lexemes_are : lexemes ≡ pieces) (written : Written o 0 slice (Ok pieces)) where
+module _ (o : Options) (text slice : List ℕ) (slice_is : slice ≡ text) (found lexemes : List Lexeme) (lexemes_are : lexemes ≡ found) (written : Lexed o 0 slice (Ok found)) where
   pub balanced_at : Balanced lexemes 0
-  balanced_at = let B : List Lexeme → Type 0 = λ x. Balanced x 0 in subst B (sym lexemes_are) (Written-balanced o 0 slice (Ok pieces) written)
+  balanced_at = let B : List Lexeme → Type 0 = λ x. Balanced x 0 in subst B (sym lexemes_are) (Lexed-balanced o 0 slice (Ok found) written)
 
   pub reads_at : (ts : Tokens) (rest : List Lexeme) → Row glob_start lexemes ts rest → Ends rest → ((d : ℕ) → Balanced lexemes d → Balanced rest d) → Reads o text ts
-  reads_at ts rest r e b = let P : List Lexeme → Type 0 = λ x. Row glob_start x ts [] in let W : List ℕ → Type 0 = λ x. Written o 0 x (Ok pieces) in (pieces, subst W slice_is written, subst P lexemes_are (ends_glob glob_start lexemes rest ts r e (b 0 balanced_at)))
+  reads_at ts rest r e b = let P : List Lexeme → Type 0 = λ x. Row glob_start x ts [] in let W : List ℕ → Type 0 = λ x. Lexed o 0 x (Ok found) in (found, subst W slice_is written, subst P lexemes_are (ends_glob glob_start lexemes rest ts r e (b 0 balanced_at)))

@@ -7,37 +7,37 @@ use Rattle.std.proofs.lemmas.Bool.{cond-true, cond-false, cases_Bool, false_from
 use Rattle.std.proofs.lemmas.Bool.Decides.{Decides-eqb}
 use Rattle.std.proofs.lemmas.List.{append-nil, get_or_at, length-append, same_from_push}
 use Rattle.std.proofs.lemmas.Slice.Eq.{starts_is, bytes_eq-Decides}
-use Rattle.ignore_glob.specs.Paths.{pieces, joined, is_absolute, at_bound, trim_of, without_slash, has_slash, is_dot, below, strip_of, join_of, IsName, IsCleanRoot, dot, dot_slash, slash, named, above, StripsDirectories}
-use Rattle.ignore_glob.proofs.PieceLemmas.{front, others, pieces-front, front-slash, ending}
-use Rattle.ignore_glob.proofs.FrontLemmas.{front-joined, front-absolute, joined-append}
+use Rattle.ignore_glob.specs.Paths.{components, joined, is_absolute, at_bound, trim_of, without_slash, has_slash, is_dot, below, strip_of, join_of, IsName, IsCleanRoot, dot, dot_slash, slash, named, above, StripsDirectories}
+use Rattle.ignore_glob.proofs.ComponentLemmas.{first_component, others, components-first_component, first_component-slash, ending}
+use Rattle.ignore_glob.proofs.FirstComponentLemmas.{first_component-joined, first_component-absolute, joined-append}
 use Rattle.ignore_glob.proofs.JoinLemmas.{join_of-closed, join_of-open}
 use Rattle.ignore_glob.proofs.PathLemmas.{strip_prefix_of-at, has_slash-inside, below-dot, below-flat, below-deep}
 
 -- its first piece isn't `.`
 abbrev pub Stands : List ℕ → Type 0
-Stands path = front path ≢ 46 ∷ []
+Stands path = first_component path ≢ 46 ∷ []
 
 pub trim_of-stands : (xs : List ℕ) → Stands xs → trim_of xs ≡ xs
 trim_of-stands xs h =
     cond-false (starts_with nat_eq xs (46 ∷ (47 ∷ []))) (drop 2 xs) xs (false_from_ne_true _ (λ e. h (dotted ((starts_is Decides-eqb xs (46 ∷ (47 ∷ [])) _ refl).0 e))))
   where
-    dotted : xs ≡ (46 ∷ (47 ∷ [])) ++ drop 2 xs → front xs ≡ 46 ∷ []
-    dotted e = ap front e
+    dotted : xs ≡ (46 ∷ (47 ∷ [])) ++ drop 2 xs → first_component xs ≡ 46 ∷ []
+    dotted e = ap first_component e
 
 abbrev idle : List ℕ → Bool
-idle piece = bytes_eq piece (46 ∷ []) || length piece == 0
+idle component = bytes_eq component (46 ∷ []) || length component == 0
 
 is_dot-at : (xs : List ℕ) → Stands (46 ∷ xs) → is_dot (46 ∷ xs) ≡ false
 is_dot-at xs h =
-    let no : idle (46 ∷ front xs) ≡ false = or_from (bytes_eq (46 ∷ front xs) (46 ∷ [])) (length (46 ∷ front xs) == 0) (false_from_ne_true _ (λ e. h ((bytes_eq-Decides (46 ∷ front xs) (46 ∷ [])).0 e))) (ne_eqb (length (46 ∷ front xs)) 0 (λ e. absurd (omega (arith, e)))) in
-    ap (list_all idle) (pieces-front (46 ∷ xs)) ∙ and_left (idle (46 ∷ front xs)) (list_all idle (others xs)) no
+    let no : idle (46 ∷ first_component xs) ≡ false = or_from (bytes_eq (46 ∷ first_component xs) (46 ∷ [])) (length (46 ∷ first_component xs) == 0) (false_from_ne_true _ (λ e. h ((bytes_eq-Decides (46 ∷ first_component xs) (46 ∷ [])).0 e))) (ne_eqb (length (46 ∷ first_component xs)) 0 (λ e. absurd (omega (arith, e)))) in
+    ap (list_all idle) (components-first_component (46 ∷ xs)) ∙ and_left (idle (46 ∷ first_component xs)) (list_all idle (others xs)) no
 
 pub is_dot-stands : (xs : List ℕ) → Stands xs → is_dot xs ≡ false
 is_dot-stands [] h = refl
 is_dot-stands (x ∷ xs) h =
     ⊎_elim
-    (λ e. let same : x ∷ xs ≡ 46 ∷ xs = ap (λ y. y ∷ xs) (eqb-true x 46 e) in ap is_dot same ∙ is_dot-at xs (λ k. h (ap front same ∙ k)))
-    (λ e. and_left (x == 46) (list_all idle (pieces (x ∷ xs))) e)
+    (λ e. let same : x ∷ xs ≡ 46 ∷ xs = ap (λ y. y ∷ xs) (eqb-true x 46 e) in ap is_dot same ∙ is_dot-at xs (λ k. h (ap first_component same ∙ k)))
+    (λ e. and_left (x == 46) (list_all idle (components (x ∷ xs))) e)
     (cases_Bool (x == 46))
 
 without_slash-relative : (q : List ℕ) → is_absolute q ≡ false → without_slash q ≡ q
@@ -76,7 +76,7 @@ Trims path = Stands path ⊎ ((u : List ℕ) × (path ≡ 46 ∷ (47 ∷ u)) × 
 strips : (root q : List ℕ) → Trims root → strip_of (trim_of root) (root ++ 47 ∷ q) ≡ q
 strips root q (inl h) =
     ap (λ r. strip_of r (root ++ 47 ∷ q)) (trim_of-stands root h)
-    ∙ ap (below root) (trim_of-stands (root ++ 47 ∷ q) (λ e. h (sym (front-slash root q) ∙ e)))
+    ∙ ap (below root) (trim_of-stands (root ++ 47 ∷ q) (λ e. h (sym (first_component-slash root q) ∙ e)))
     ∙ below-open root q h
 strips root q (inr w) = ap (λ r. strip_of (trim_of r) (r ++ 47 ∷ q)) w.1 ∙ below-open w.0 q w.2
 
@@ -108,14 +108,14 @@ tail_ends u (a ∷ (b ∷ ys)) e = inr (ys, cc)
 closed_root : (root q t : List ℕ) → root ≡ t ++ 47 ∷ [] → Trims root → is_absolute q ≡ false → strip_of (trim_of root) (root ++ q) ≡ q
 closed_root root q t e (inl s) rel =
     ap (λ r. strip_of r (root ++ q)) (trim_of-stands root s)
-    ∙ ap (below root) (trim_of-stands (root ++ q) (λ k. s (ap front e ∙ front-slash t [] ∙ sym (front-slash t q) ∙ ap front (sym (append_assoc t (47 ∷ []) q) ∙ ap (λ r. r ++ q) (sym e)) ∙ k)))
+    ∙ ap (below root) (trim_of-stands (root ++ q) (λ k. s (ap first_component e ∙ first_component-slash t [] ∙ sym (first_component-slash t q) ∙ ap first_component (sym (append_assoc t (47 ∷ []) q) ∙ ap (λ r. r ++ q) (sym e)) ∙ k)))
     ∙ ap (λ r. below r (r ++ q)) e
-    ∙ below-closed t q (λ k. s (ap front e ∙ k)) rel
+    ∙ below-closed t q (λ k. s (ap first_component e ∙ k)) rel
 closed_root root q t e (inr w) rel =
     ap (λ r. strip_of (trim_of r) (r ++ q)) w.1
     ∙ ⊎_elim
     (λ none. ap (λ u. below u (u ++ q)) none ∙ below-nil q rel)
-    (λ v. ap (λ u. below u (u ++ q)) v.1 ∙ below-closed v.0 q (λ k. w.2 (ap front v.1 ∙ k)) rel)
+    (λ v. ap (λ u. below u (u ++ q)) v.1 ∙ below-closed v.0 q (λ k. w.2 (ap first_component v.1 ∙ k)) rel)
     (tail_ends w.0 t (sym w.1 ∙ e))
 
 -- the root itself
@@ -134,15 +134,15 @@ at_root root q some (inr h) rel = let w = leads root some in go w.0 w.1 w.2
 trims_below : (root t d : List ℕ) → (root ≡ t ++ 47 ∷ []) ⊎ (root ≡ t) → (root ≡ 46 ∷ []) ⊎ Trims root → Stands d → Trims (t ++ 47 ∷ d)
 trims_below root t d (inl e) (inl k) stands = absurd (dot_alone t (sym k ∙ e))
 trims_below root t d (inr e) (inl k) stands = inr (d, ap (λ r. r ++ 47 ∷ d) (sym e ∙ k), stands)
-trims_below root t d (inl e) (inr (inl s)) stands = inl (λ k. s (ap front e ∙ front-slash t [] ∙ sym (front-slash t d) ∙ k))
-trims_below root t d (inr e) (inr (inl s)) stands = inl (λ k. s (ap front e ∙ sym (front-slash t d) ∙ k))
-trims_below root t d (inr e) (inr (inr w)) stands = inr (w.0 ++ 47 ∷ d, ap (λ r. r ++ 47 ∷ d) (sym e ∙ w.1), λ k. w.2 (sym (front-slash w.0 d) ∙ k))
+trims_below root t d (inl e) (inr (inl s)) stands = inl (λ k. s (ap first_component e ∙ first_component-slash t [] ∙ sym (first_component-slash t d) ∙ k))
+trims_below root t d (inr e) (inr (inl s)) stands = inl (λ k. s (ap first_component e ∙ sym (first_component-slash t d) ∙ k))
+trims_below root t d (inr e) (inr (inr w)) stands = inr (w.0 ++ 47 ∷ d, ap (λ r. r ++ 47 ∷ d) (sym e ∙ w.1), λ k. w.2 (sym (first_component-slash w.0 d) ∙ k))
 trims_below root t d (inl e) (inr (inr w)) stands = inr (
   w.0 ++ d,
   sym (append_assoc t (47 ∷ []) d) ∙ ap (λ r. r ++ d) (sym e ∙ w.1),
   ⊎_elim
-      (λ none k. stands (ap (λ u. front (u ++ d)) (sym none) ∙ k))
-      (λ v k. w.2 (ap front v.1 ∙ front-slash v.0 [] ∙ sym (front-slash v.0 d) ∙ ap front (sym (append_assoc v.0 (47 ∷ []) d) ∙ ap (λ u. u ++ d) (sym v.1)) ∙ k))
+      (λ none k. stands (ap (λ u. first_component (u ++ d)) (sym none) ∙ k))
+      (λ v k. w.2 (ap first_component v.1 ∙ first_component-slash v.0 [] ∙ sym (first_component-slash v.0 d) ∙ ap first_component (sym (append_assoc v.0 (47 ∷ []) d) ∙ ap (λ u. u ++ d) (sym v.1)) ∙ k))
       (tail_ends w.0 t (sym w.1 ∙ e)),
 )
 
@@ -157,11 +157,11 @@ in_directory root d q some kind rel rel_more stands =
     ∙ strips X q (trims_below root w.0 d w.1 kind stands)
 
 -- names that are joined
-front-names : (name : List ℕ) (names : List (List ℕ)) → IsName name → front (joined (name ∷ names)) ≡ name
-front-names name names n = sym (ap front (append-nil (joined (name ∷ names)))) ∙ front-joined name names [] n.whole (inl refl)
+first_component-names : (name : List ℕ) (names : List (List ℕ)) → IsName name → first_component (joined (name ∷ names)) ≡ name
+first_component-names name names n = sym (ap first_component (append-nil (joined (name ∷ names)))) ∙ first_component-joined name names [] n.whole (inl refl)
 
 relative : (name : List ℕ) (names : List (List ℕ)) → IsName name → is_absolute (joined (name ∷ names)) ≡ false
-relative name names n = false_from_ne_true _ (λ e. n.filled (sym (front-names name names n) ∙ front-absolute (joined (name ∷ names)) e))
+relative name names n = false_from_ne_true _ (λ e. n.filled (sym (first_component-names name names n) ∙ first_component-absolute (joined (name ∷ names)) e))
 
 pub ups_whole : ¬ Contains {X = ℕ} (46 ∷ (46 ∷ [])) 47
 ups_whole (zero, l, e) = absurd (omega (arith, e))
@@ -177,20 +177,20 @@ two_one e = cc
 kind_of : (root : List ℕ) → IsCleanRoot root → (root ≡ 46 ∷ []) ⊎ Trims root
 kind_of root (dot e) = inl e
 kind_of root (dot_slash e) = inr (inr ([], e, nil_dot))
-kind_of root (slash e) = inr (inl (λ k. nil_dot (sym (ap front e) ∙ k)))
-kind_of root (named lead name names end (inl z) n ns e at minus) = inr (inl (λ k. n.no_dot (sym (ap front (at ∙ ap (λ l. l ++ (joined (name ∷ names) ++ end)) z) ∙ front-joined name names end n.whole e) ∙ k)))
-kind_of root (named lead name names end (inr (inl z)) n ns e at minus) = inr (inl (λ k. nil_dot (sym (ap front (at ∙ ap (λ l. l ++ (joined (name ∷ names) ++ end)) z)) ∙ k)))
-kind_of root (named lead name names end (inr (inr z)) n ns e at minus) = inr (inr (joined (name ∷ names) ++ end, at ∙ ap (λ l. l ++ (joined (name ∷ names) ++ end)) z, λ k. n.no_dot (sym (front-joined name names end n.whole e) ∙ k)))
-kind_of root (above ups names end us ns e at) = inr (inl (λ k. two_one (sym (ap front at ∙ front-joined (46 ∷ (46 ∷ [])) (ups ++ names) end ups_whole e) ∙ k)))
+kind_of root (slash e) = inr (inl (λ k. nil_dot (sym (ap first_component e) ∙ k)))
+kind_of root (named lead name names end (inl z) n ns e at minus) = inr (inl (λ k. n.no_dot (sym (ap first_component (at ∙ ap (λ l. l ++ (joined (name ∷ names) ++ end)) z) ∙ first_component-joined name names end n.whole e) ∙ k)))
+kind_of root (named lead name names end (inr (inl z)) n ns e at minus) = inr (inl (λ k. nil_dot (sym (ap first_component (at ∙ ap (λ l. l ++ (joined (name ∷ names) ++ end)) z)) ∙ k)))
+kind_of root (named lead name names end (inr (inr z)) n ns e at minus) = inr (inr (joined (name ∷ names) ++ end, at ∙ ap (λ l. l ++ (joined (name ∷ names) ++ end)) z, λ k. n.no_dot (sym (first_component-joined name names end n.whole e) ∙ k)))
+kind_of root (above ups names end us ns e at) = inr (inl (λ k. two_one (sym (ap first_component at ∙ first_component-joined (46 ∷ (46 ∷ [])) (ups ++ names) end ups_whole e) ∙ k)))
 
 filled_root : (root : List ℕ) → IsCleanRoot root → root ≢ []
 filled_root root (dot e) z = cons_nil 46 [] (sym e ∙ z)
 filled_root root (dot_slash e) z = cons_nil 46 (47 ∷ []) (sym e ∙ z)
 filled_root root (slash e) z = cons_nil 47 [] (sym e ∙ z)
-filled_root root (named lead name names end (inl y) n ns e at minus) z = n.filled (sym (front-joined name names end n.whole e) ∙ ap front (sym (at ∙ ap (λ l. l ++ (joined (name ∷ names) ++ end)) y) ∙ z))
+filled_root root (named lead name names end (inl y) n ns e at minus) z = n.filled (sym (first_component-joined name names end n.whole e) ∙ ap first_component (sym (at ∙ ap (λ l. l ++ (joined (name ∷ names) ++ end)) y) ∙ z))
 filled_root root (named lead name names end (inr (inl y)) n ns e at minus) z = cons_nil 47 (joined (name ∷ names) ++ end) (sym (at ∙ ap (λ l. l ++ (joined (name ∷ names) ++ end)) y) ∙ z)
 filled_root root (named lead name names end (inr (inr y)) n ns e at minus) z = cons_nil 46 (47 ∷ (joined (name ∷ names) ++ end)) (sym (at ∙ ap (λ l. l ++ (joined (name ∷ names) ++ end)) y) ∙ z)
-filled_root root (above ups names end us ns e at) z = cons_nil 46 (46 ∷ []) (sym (front-joined (46 ∷ (46 ∷ [])) (ups ++ names) end ups_whole e) ∙ ap front (sym at ∙ z))
+filled_root root (above ups names end us ns e at) z = cons_nil 46 (46 ∷ []) (sym (first_component-joined (46 ∷ (46 ∷ [])) (ups ++ names) end ups_whole e) ∙ ap first_component (sym at ∙ z))
 
 pub strips_directories : StripsDirectories
 strips_directories root [] name more clean above_names n below_names = at_root root (joined (name ∷ more)) (filled_root root clean) (kind_of root clean) (relative name more n)
@@ -199,4 +199,4 @@ strips_directories root (d ∷ ds) name more clean above_names n below_names =
     let together = joined-append d ds name more in
     let rel_more : is_absolute (joined (d ∷ ds) ++ 47 ∷ joined (name ∷ more)) ≡ false = ap is_absolute (sym together) ∙ relative d (ds ++ (name ∷ more)) first in
     ap (λ p. strip_of (trim_of (join_of root (joined (d ∷ ds)))) (join_of root p)) together
-    ∙ in_directory root (joined (d ∷ ds)) (joined (name ∷ more)) (filled_root root clean) (kind_of root clean) (relative d ds first) rel_more (λ k. first.no_dot (sym (front-names d ds first) ∙ k))
+    ∙ in_directory root (joined (d ∷ ds)) (joined (name ∷ more)) (filled_root root clean) (kind_of root clean) (relative d ds first) rel_more (λ k. first.no_dot (sym (first_component-names d ds first) ∙ k))

@@ -5,16 +5,16 @@ use Rattle.ignore_glob.specs.declared.glob.options.Options.{Options}
 use Rattle.ignore_glob.specs.declared.glob.fault.GlobFault.{GlobFault}
 use Rattle.ignore_glob.specs.Glob as G
 use Rattle.ignore_glob.specs.Glob.{Token, Tokens, done, Branches, no_branch, branch}
-use Rattle.ignore_glob.specs.Pieces as P
-use Rattle.ignore_glob.specs.Pieces.{Lexeme, char, escaped, any, run, class, opening, comma, closing, Step, Begins, put_first, Written}
-use Rattle.ignore_glob.specs.Row.{IsSlash, Ends, of_glob, at_comma, at_closing, chain, BeforeSlash, AtEnd, Left, glob_start, branch_start, piece, IsStart, Meaning, gives, braces, over, Means, character, escape, question, bracket, stars, slash, middle, end, start, start_to_end, alone, opens, ends, times, add_branch, Row, nothing, further, nested, Inner, last_branch, further_branch, Reads}
-use Rattle.ignore_glob.specs.Lexemes.{Balanced}
+use Rattle.ignore_glob.specs.Lexing as P
+use Rattle.ignore_glob.specs.Lexing.{Lexeme, char, escaped, any, run, class, opening, comma, closing, Step, Begins, put_first, Lexed}
+use Rattle.ignore_glob.specs.Row.{IsSlash, Ends, of_glob, at_comma, at_closing, chain, BeforeSlash, AtEnd, Left, glob_start, branch_start, lexeme, IsStart, Meaning, gives, braces, ended, Means, character, escape, question, bracket, stars, slash, middle, end, start, start_to_end, alone, opens, ends, times, add_branch, Row, nothing, further, nested, Inner, last_branch, further_branch, Reads}
+use Rattle.ignore_glob.specs.LexemeViews.{Balanced}
 use Rattle.ignore_glob.proofs.OutcomeLemmas.{find_outcome}
 
 abbrev Nests : ℕ → Step → Type 0
-Nests d (P.piece l rest e) = (row : List Lexeme) → Balanced row e → Balanced (l ∷ row) d
+Nests d (P.lexeme l rest e) = (row : List Lexeme) → Balanced row e → Balanced (l ∷ row) d
 Nests d (P.fault f) = Unit {0}
-Nests d P.over = d ≡ 0
+Nests d P.ended = d ≡ 0
 
 Bracket-nests : (o : Options) (d : ℕ) (text : List ℕ) (s : Step) → P.Bracket o d text s → Nests d s
 Bracket-nests o d text s (P.whole body rest is c i a) = λ row b. b
@@ -31,7 +31,7 @@ Begins-nests o d text s (P.stars d' n rest p) = λ row b. b
 Begins-nests o d text s (P.bracket d' inside step b) = Bracket-nests o d' inside step b
 Begins-nests o d text s (P.opens d' rest h) = λ row b. b
 Begins-nests o d text s (P.too_deep d' rest h) = tt
-Begins-nests o d text s (P.parts d' rest) = λ row b. b
+Begins-nests o d text s (P.separates d' rest) = λ row b. b
 Begins-nests o d text s (P.closes d' rest) = λ row b. b
 Begins-nests o d text s (P.unopened rest) = tt
 Begins-nests o d text s (P.left_open d') = tt
@@ -41,10 +41,10 @@ abbrev BalancedOutcome : Result (List Lexeme) GlobFault → ℕ → Type 0
 BalancedOutcome (Ok row) d = Balanced row d
 BalancedOutcome (Err f) d = Unit {0}
 
-pub Written-balanced : (o : Options) (d : ℕ) (text : List ℕ) (out : Result (List Lexeme) GlobFault) → Written o d text out → BalancedOutcome out d
-Written-balanced o d text out (P.ends d' t b) = let z : d' ≡ 0 = Begins-nests o d' t P.over b in let B : ℕ → Type 0 = λ x. Balanced [] x in subst B (sym z) tt
-Written-balanced o d text out (P.stops d' t f b) = tt
-Written-balanced o d text out (P.goes_on d' e t rest l out' b w) = put out' (Written-balanced o e rest out' w) (Begins-nests o d' t (P.piece l rest e) b) where
+pub Lexed-balanced : (o : Options) (d : ℕ) (text : List ℕ) (out : Result (List Lexeme) GlobFault) → Lexed o d text out → BalancedOutcome out d
+Lexed-balanced o d text out (P.ends d' t b) = let z : d' ≡ 0 = Begins-nests o d' t P.ended b in let B : ℕ → Type 0 = λ x. Balanced [] x in subst B (sym z) tt
+Lexed-balanced o d text out (P.stops d' t f b) = tt
+Lexed-balanced o d text out (P.continues d' e t rest l out' b w) = put out' (Lexed-balanced o e rest out' w) (Begins-nests o d' t (P.lexeme l rest e) b) where
   put : (out : Result (List Lexeme) GlobFault) → BalancedOutcome out e → ((row : List Lexeme) → Balanced row e → Balanced (l ∷ row) d') → BalancedOutcome (put_first l out) d'
   put (Ok row) h n = n row h
   put (Err f) h n = tt
@@ -102,7 +102,7 @@ find_lone n [] b = elim (cases_eq n 2) [
 find_lone n (l ∷ ls) b = (gives n G.star (l ∷ ls), stars glob_start n (l ∷ ls) (λ r. elim r [ inl h ↦ b h | inr h ↦ cc h ]))
 
 find_run : (p : Left) (n : ℕ) (ls : List Lexeme) → HasMeaning p (run n ∷ ls)
-find_run piece n ls = (gives n G.star ls, stars piece n ls (λ r. r))
+find_run lexeme n ls = (gives n G.star ls, stars lexeme n ls (λ r. r))
 find_run branch_start n ls = let q = find_chain (run n ∷ ls) in by_count q.0 q.1 q.2 q.3 where
   by_count : (k : ℕ) (rest : List Lexeme) → run n ∷ ls ≡ chain k rest → (BeforeSlash rest → ⊥) → HasMeaning branch_start (run n ∷ ls)
   by_count zero rest e b = let B : List Lexeme → Type 0 = λ x. BeforeSlash x → ⊥ in (gives n G.star ls, stars branch_start n ls (subst B (sym e) b))
@@ -113,7 +113,7 @@ find_run glob_start n ls = let q = find_chain (run n ∷ ls) in by_count q.0 q.1
   by_count (suc k) rest e b = let M : List Lexeme → Type 0 = λ x. HasMeaning glob_start x in subst M (sym e) (at_start glob_start k rest tt b)
 
 find_meaning : (p : Left) (ls : List Lexeme) → HasMeaning p ls
-find_meaning p [] = (over, ends p [] of_glob)
+find_meaning p [] = (ended, ends p [] of_glob)
 find_meaning p (char c ∷ ls) = elim (cases_eq c 47) [
   | inl e ↦ at_slash p (char c) ls (inl (ap (λ x. char x) e))
   | inr k ↦ (gives 1 (G.literal c) ls, character p c ls k)
@@ -126,14 +126,14 @@ find_meaning p (any ∷ ls) = (gives 1 G.any ls, question p ls)
 find_meaning p (run n ∷ ls) = find_run p n ls
 find_meaning p (class negated ranges ∷ ls) = (gives 1 (G.class negated ranges) ls, bracket p negated ranges ls)
 find_meaning p (opening ∷ ls) = (braces ls, opens p ls)
-find_meaning p (comma ∷ ls) = (over, ends p (comma ∷ ls) (at_comma ls))
-find_meaning p (closing ∷ ls) = (over, ends p (closing ∷ ls) (at_closing ls))
+find_meaning p (comma ∷ ls) = (ended, ends p (comma ∷ ls) (at_comma ls))
+find_meaning p (closing ∷ ls) = (ended, ends p (closing ∷ ls) (at_closing ls))
 
 -- what a meaning leaves: a shorter row, balanced as before
 abbrev pub Leaves : List Lexeme → Meaning → Type 0
 Leaves ls (gives n t mid) = (length mid < length ls) × ((d : ℕ) → Balanced ls d → Balanced mid d)
 Leaves ls (braces mid) = (length mid < length ls) × ((d : ℕ) → Balanced ls d → Balanced mid (suc d))
-Leaves ls over = Ends ls
+Leaves ls ended = Ends ls
 
 chain-longer : (n : ℕ) (rest : List Lexeme) → length rest ≤ length (chain n rest)
 chain-longer zero rest = omega arith
@@ -178,8 +178,8 @@ record HasInner (ls : List Lexeme) (d : ℕ) : Type 0 where
   balance : Balanced rest d
   shorter : length rest < length ls
 
-by_meaning : (p : Left) (ls : List Lexeme) (d : ℕ) (m : Meaning) → Means p ls m → Leaves ls m → Balanced ls d → ((mid : List Lexeme) → length mid < length ls → Balanced mid d → HasRow piece mid d) → ((mid : List Lexeme) → length mid < length ls → Balanced mid (suc d) → HasInner mid d) → HasRow p ls d
-by_meaning p ls d over m l b rows inners = record { tokens = done; rest = ls; row = nothing p ls m; end_here = l; balance = b; shorter = omega arith }
+by_meaning : (p : Left) (ls : List Lexeme) (d : ℕ) (m : Meaning) → Means p ls m → Leaves ls m → Balanced ls d → ((mid : List Lexeme) → length mid < length ls → Balanced mid d → HasRow lexeme mid d) → ((mid : List Lexeme) → length mid < length ls → Balanced mid (suc d) → HasInner mid d) → HasRow p ls d
+by_meaning p ls d ended m l b rows inners = record { tokens = done; rest = ls; row = nothing p ls m; end_here = l; balance = b; shorter = omega arith }
 by_meaning p ls d (gives n t mid) m l b rows inners =
     let r = rows mid l.0 (l.1 d b) in
     record { tokens = times n t r.tokens; rest = r.rest; row = further p ls mid r.rest n t r.tokens m r.row; end_here = r.end_here; balance = r.balance; shorter = omega (arith, l.0, r.shorter) }
@@ -199,7 +199,7 @@ by_branch ls d ts rest r (at_closing mid) b s inners =
 mutual
   row_within : (n : ℕ) (p : Left) (ls : List Lexeme) (d : ℕ) → 2 * length ls < n → Balanced ls d → HasRow p ls d
   row_within zero p ls d h b = absurd (omega arith)
-  row_within (suc n) p ls d h b = let f = find_meaning p ls in by_meaning p ls d f.0 f.1 (Means-leaves p ls f.0 f.1) b (λ mid k c. row_within n piece mid d (omega arith) c) (λ mid k c. inner_within n mid d (omega arith) c)
+  row_within (suc n) p ls d h b = let f = find_meaning p ls in by_meaning p ls d f.0 f.1 (Means-leaves p ls f.0 f.1) b (λ mid k c. row_within n lexeme mid d (omega arith) c) (λ mid k c. inner_within n mid d (omega arith) c)
 
   inner_within : (n : ℕ) (ls : List Lexeme) (d : ℕ) → 2 * length ls + 1 < n → Balanced ls (suc d) → HasInner ls d
   inner_within zero ls d h b = absurd (omega arith)
@@ -211,9 +211,9 @@ ends_glob p ls rest ts r (at_comma more) b = absurd b
 ends_glob p ls rest ts r (at_closing more) b = absurd b
 
 -- a text has tokens or a fault
-pub find_reading : (o : Options) (text : List ℕ) → ((ts : Tokens) × Reads o text ts) ⊎ ((f : GlobFault) × Written o 0 text (Err f))
-find_reading o text = let w = find_outcome o text in by_outcome w.0 w.1 (Written-balanced o 0 text w.0 w.1) where
-  by_outcome : (out : Result (List Lexeme) GlobFault) → Written o 0 text out → BalancedOutcome out 0 → ((ts : Tokens) × Reads o text ts) ⊎ ((f : GlobFault) × Written o 0 text (Err f))
+pub find_reading : (o : Options) (text : List ℕ) → ((ts : Tokens) × Reads o text ts) ⊎ ((f : GlobFault) × Lexed o 0 text (Err f))
+find_reading o text = let w = find_outcome o text in by_outcome w.0 w.1 (Lexed-balanced o 0 text w.0 w.1) where
+  by_outcome : (out : Result (List Lexeme) GlobFault) → Lexed o 0 text out → BalancedOutcome out 0 → ((ts : Tokens) × Reads o text ts) ⊎ ((f : GlobFault) × Lexed o 0 text (Err f))
   by_outcome (Ok ls) w b =
       let r = row_within (2 * length ls + 1) glob_start ls 0 (omega arith) b in
       inl (r.tokens, (ls, w, ends_glob glob_start ls r.rest r.tokens r.row r.end_here r.balance))

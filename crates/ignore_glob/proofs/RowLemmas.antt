@@ -5,9 +5,9 @@ use Rattle.ignore_glob.specs.declared.glob.options.Options.{Options}
 use Rattle.ignore_glob.specs.declared.glob.fault.GlobFault.{GlobFault}
 use Rattle.ignore_glob.specs.Glob as G
 use Rattle.ignore_glob.specs.Glob.{Token, Tokens, done, then, Branches, no_branch, branch}
-use Rattle.ignore_glob.specs.Pieces.{Lexeme, char, escaped, any, run, class, opening, comma, closing}
-use Rattle.ignore_glob.specs.Row.{IsSlash, Ends, of_glob, at_comma, at_closing, chain, BeforeSlash, AtEnd, Left, glob_start, branch_start, piece, IsStart, IsRecursive, Meaning, gives, braces, over, Means, character, escape, question, bracket, stars, slash, middle, end, start, start_to_end, alone, opens, ends, times, add_branch, Row, nothing, further, nested, Inner, last_branch, further_branch, Reads, IsFaulty}
-use Rattle.ignore_glob.proofs.OutcomeLemmas.{Written-same}
+use Rattle.ignore_glob.specs.Lexing.{Lexeme, char, escaped, any, run, class, opening, comma, closing}
+use Rattle.ignore_glob.specs.Row.{IsSlash, Ends, of_glob, at_comma, at_closing, chain, BeforeSlash, AtEnd, Left, glob_start, branch_start, lexeme, IsStart, IsRecursive, Meaning, gives, braces, ended, Means, character, escape, question, bracket, stars, slash, middle, end, start, start_to_end, alone, opens, ends, times, add_branch, Row, nothing, further, nested, Inner, last_branch, further_branch, Reads, IsFaulty}
+use Rattle.ignore_glob.proofs.OutcomeLemmas.{Lexed-same}
 
 -- how many times the row goes on with `**/`, and what follows
 abbrev past_chain : List Lexeme → ℕ × List Lexeme
@@ -44,21 +44,21 @@ lone n [] = if n == 2 then gives 1 G.start [] else gives n G.star []
 lone n (l ∷ ls) = gives n G.star (l ∷ ls)
 
 abbrev at_run : Left → ℕ → List Lexeme → Meaning
-at_run piece n ls = gives n G.star ls
+at_run lexeme n ls = gives n G.star ls
 at_run branch_start n ls = at_chain (past_chain (run n ∷ ls)).0 (past_chain (run n ∷ ls)).1 (gives n G.star ls)
 at_run glob_start n ls = at_chain (past_chain (run n ∷ ls)).0 (past_chain (run n ∷ ls)).1 (lone n ls)
 
 -- what a row begins with, computed
 abbrev meaning_of : Left → List Lexeme → Meaning
-meaning_of p [] = over
+meaning_of p [] = ended
 meaning_of p (char c ∷ ls) = if c == 47 then after_slash (past_chain ls) else gives 1 (G.literal c) ls
 meaning_of p (escaped c ∷ ls) = if c == 47 then after_slash (past_chain ls) else gives 1 (G.literal c) ls
 meaning_of p (any ∷ ls) = gives 1 G.any ls
 meaning_of p (run n ∷ ls) = at_run p n ls
 meaning_of p (class negated ranges ∷ ls) = gives 1 (G.class negated ranges) ls
 meaning_of p (opening ∷ ls) = braces ls
-meaning_of p (comma ∷ ls) = over
-meaning_of p (closing ∷ ls) = over
+meaning_of p (comma ∷ ls) = ended
+meaning_of p (closing ∷ ls) = ended
 
 before_slash : (n c : ℕ) (ls : List Lexeme) → (BeforeSlash (run n ∷ char c ∷ ls) → ⊥) → (n == 2 && c == 47) ≡ false
 before_slash n c ls p = elim (cases_eq n 2) [
@@ -114,7 +114,7 @@ end_meaning n rest h = ap after_slash (past_chain-chain n (run 2 ∷ rest) (ends
 start_meaning : (p : Left) (n : ℕ) (rest : List Lexeme) → IsStart p → (BeforeSlash rest → ⊥) → meaning_of p (chain (suc n) rest) ≡ gives 1 G.start (if is_at_end rest then tail rest else rest)
 start_meaning glob_start n rest s b = ap (λ (q : ℕ × List Lexeme). gives 1 G.start (if is_at_end q.1 then tail q.1 else q.1)) (past_chain-chain n rest b)
 start_meaning branch_start n rest s b = ap (λ (q : ℕ × List Lexeme). gives 1 G.start (if is_at_end q.1 then tail q.1 else q.1)) (past_chain-chain n rest b)
-start_meaning piece n rest s b = absurd s
+start_meaning lexeme n rest s b = absurd s
 
 lone-stars : (n : ℕ) (ls : List Lexeme) → (run n ∷ ls ≡ run 2 ∷ [] → ⊥) → lone n ls ≡ gives n G.star ls
 lone-stars n [] p = ap (λ b. if b then gives 1 G.start [] else gives n G.star []) (ne_eqb n 2 (λ e. p (ap (λ m. run m ∷ []) e)))
@@ -123,7 +123,7 @@ lone-stars n (l ∷ ls) p = refl
 stars_meaning : (p : Left) (n : ℕ) (ls : List Lexeme) → (IsRecursive p (run n ∷ ls) → ⊥) → at_run p n ls ≡ gives n G.star ls
 stars_meaning glob_start n ls r = ap (λ (q : ℕ × List Lexeme). at_chain q.0 q.1 (lone n ls)) (past_chain-none (run n ∷ ls) (λ b. r (inl b))) ∙ lone-stars n ls (λ e. r (inr e))
 stars_meaning branch_start n ls r = ap (λ (q : ℕ × List Lexeme). at_chain q.0 q.1 (gives n G.star ls)) (past_chain-none (run n ∷ ls) r)
-stars_meaning piece n ls r = refl
+stars_meaning lexeme n ls r = refl
 
 Means-meaning : (p : Left) (ls : List Lexeme) (m : Meaning) → Means p ls m → m ≡ meaning_of p ls
 Means-meaning p ls m (character q c rest n) = sym (ap (λ b. if b then after_slash (past_chain rest) else gives 1 (G.literal c) rest) (ne_eqb c 47 n))
@@ -138,11 +138,11 @@ Means-meaning p ls m (start q n rest s b a) = sym (start_meaning q n rest s b �
 Means-meaning p ls m (start_to_end q n rest s h) = sym (start_meaning q n (run 2 ∷ rest) s (ends_before rest h) ∙ ap (λ t. gives 1 G.start (if t then rest else run 2 ∷ rest)) (is_end-true rest h))
 Means-meaning p ls m alone = refl
 Means-meaning p ls m (opens q rest) = refl
-Means-meaning p ls m (ends q rest h) = ends_over q rest h where
-  ends_over : (p : Left) (ls : List Lexeme) → Ends ls → over ≡ meaning_of p ls
-  ends_over p ls of_glob = refl
-  ends_over p ls (at_comma more) = refl
-  ends_over p ls (at_closing more) = refl
+Means-meaning p ls m (ends q rest h) = ends_ended q rest h where
+  ends_ended : (p : Left) (ls : List Lexeme) → Ends ls → ended ≡ meaning_of p ls
+  ends_ended p ls of_glob = refl
+  ends_ended p ls (at_comma more) = refl
+  ends_ended p ls (at_closing more) = refl
 
 pub Means-same : (p : Left) (ls : List Lexeme) (m k : Meaning) → Means p ls m → Means p ls k → m ≡ k
 Means-same p ls m k a b = Means-meaning p ls m a ∙ sym (Means-meaning p ls k b)
@@ -150,27 +150,27 @@ Means-same p ls m k a b = Means-meaning p ls m a ∙ sym (Means-meaning p ls k b
 mutual
   pub Row-same : (p : Left) (ls r s : List Lexeme) (ts us : Tokens) → Row p ls ts r → Row p ls us s → (ts ≡ us) × (r ≡ s)
   Row-same p ls r s ts us (nothing p1 l1 a) (nothing p2 l2 b) = (refl, refl)
-  Row-same p ls r s ts us (nothing p1 l1 a) (further p2 l2 mid rest n t vs b w) = absurd (let e : over ≡ gives n t mid = Means-same p1 l1 over (gives n t mid) a b in cc e)
-  Row-same p ls r s ts us (nothing p1 l1 a) (nested p2 l2 inner after rest bs vs b i w) = absurd (let e : over ≡ braces inner = Means-same p1 l1 over (braces inner) a b in cc e)
-  Row-same p ls r s ts us (further p1 l1 mid rest n t vs a v) (nothing p2 l2 b) = absurd (let e : gives n t mid ≡ over = Means-same p1 l1 (gives n t mid) over a b in cc e)
+  Row-same p ls r s ts us (nothing p1 l1 a) (further p2 l2 mid rest n t vs b w) = absurd (let e : ended ≡ gives n t mid = Means-same p1 l1 ended (gives n t mid) a b in cc e)
+  Row-same p ls r s ts us (nothing p1 l1 a) (nested p2 l2 inner after rest bs vs b i w) = absurd (let e : ended ≡ braces inner = Means-same p1 l1 ended (braces inner) a b in cc e)
+  Row-same p ls r s ts us (further p1 l1 mid rest n t vs a v) (nothing p2 l2 b) = absurd (let e : gives n t mid ≡ ended = Means-same p1 l1 (gives n t mid) ended a b in cc e)
   Row-same p ls r s ts us (further p1 l1 mid rest n t vs a v) (further p2 l2 mid' rest' n' t' vs' b w) =
       let e : gives n t mid ≡ gives n' t' mid' = Means-same p1 l1 (gives n t mid) (gives n' t' mid') a b in
       let n_is : n ≡ n' = cc e in
       let t_is : t ≡ t' = cc e in
       let mid_is : mid ≡ mid' = cc e in
-      let P : List Lexeme → Type 0 = λ x. Row piece x vs' rest' in
-      let h = Row-same piece mid rest rest' vs vs' v (subst P (sym mid_is) w) in
+      let P : List Lexeme → Type 0 = λ x. Row lexeme x vs' rest' in
+      let h = Row-same lexeme mid rest rest' vs vs' v (subst P (sym mid_is) w) in
       (ap (λ x. times x t vs) n_is ∙ (ap (λ x. times n' x vs) t_is ∙ ap (λ x. times n' t' x) h.0), h.1)
   Row-same p ls r s ts us (further p1 l1 mid rest n t vs a v) (nested p2 l2 inner after rest' bs vs' b i w) = absurd (let e : gives n t mid ≡ braces inner = Means-same p1 l1 (gives n t mid) (braces inner) a b in cc e)
-  Row-same p ls r s ts us (nested p1 l1 inner after rest bs vs a i v) (nothing p2 l2 b) = absurd (let e : braces inner ≡ over = Means-same p1 l1 (braces inner) over a b in cc e)
+  Row-same p ls r s ts us (nested p1 l1 inner after rest bs vs a i v) (nothing p2 l2 b) = absurd (let e : braces inner ≡ ended = Means-same p1 l1 (braces inner) ended a b in cc e)
   Row-same p ls r s ts us (nested p1 l1 inner after rest bs vs a i v) (further p2 l2 mid' rest' n' t' vs' b w) = absurd (let e : braces inner ≡ gives n' t' mid' = Means-same p1 l1 (braces inner) (gives n' t' mid') a b in cc e)
   Row-same p ls r s ts us (nested p1 l1 inner after rest bs vs a i v) (nested p2 l2 inner' after' rest' cs vs' b j w) =
       let e : braces inner ≡ braces inner' = Means-same p1 l1 (braces inner) (braces inner') a b in
       let inner_is : inner ≡ inner' = cc e in
       let Q : List Lexeme → Type 0 = λ x. Inner x cs after' in
       let g = Inner-same inner after after' bs cs i (subst Q (sym inner_is) j) in
-      let P : List Lexeme → Type 0 = λ x. Row piece x vs' rest' in
-      let h = Row-same piece after rest rest' vs vs' v (subst P (sym g.1) w) in
+      let P : List Lexeme → Type 0 = λ x. Row lexeme x vs' rest' in
+      let h = Row-same lexeme after rest rest' vs vs' v (subst P (sym g.1) w) in
       (ap (λ x. (then) (G.alternates x) vs) g.0 ∙ ap (λ x. (then) (G.alternates cs) x) h.0, h.1)
 
   pub Inner-same : (ls r s : List Lexeme) (bs cs : Branches) → Inner ls bs r → Inner ls cs s → (bs ≡ cs) × (r ≡ s)
@@ -190,13 +190,13 @@ mutual
 -- a text has one list of tokens at most
 pub Reads-same : (o : Options) (text : List ℕ) (ts us : Tokens) → Reads o text ts → Reads o text us → ts ≡ us
 Reads-same o text ts us a b =
-    let e : ◌≡◌ {A = Result (List Lexeme) GlobFault} (Ok a.0) (Ok b.0) = Written-same o 0 text (Ok a.0) (Ok b.0) a.1 b.1 in
+    let e : ◌≡◌ {A = Result (List Lexeme) GlobFault} (Ok a.0) (Ok b.0) = Lexed-same o 0 text (Ok a.0) (Ok b.0) a.1 b.1 in
     let row_is : a.0 ≡ b.0 = cc e in
     let P : List Lexeme → Type 0 = λ x. Row glob_start x us [] in
     (Row-same glob_start a.0 [] [] ts us a.2 (subst P (sym row_is) b.2)).0
 
 pub one_fault : (o : Options) (text : List ℕ) (f g : GlobFault) → IsFaulty o text f → IsFaulty o text g → f ≡ g
-one_fault o text f g a b = let e : ◌≡◌ {A = Result (List Lexeme) GlobFault} (Err f) (Err g) = Written-same o 0 text (Err f) (Err g) a b in cc e
+one_fault o text f g a b = let e : ◌≡◌ {A = Result (List Lexeme) GlobFault} (Err f) (Err g) = Lexed-same o 0 text (Err f) (Err g) a b in cc e
 
 pub never_both : (o : Options) (text : List ℕ) (ts : Tokens) (f : GlobFault) → Reads o text ts → IsFaulty o text f → ⊥
-never_both o text ts f a b = let e : ◌≡◌ {A = Result (List Lexeme) GlobFault} (Ok a.0) (Err f) = Written-same o 0 text (Ok a.0) (Err f) a.1 b in cc e
+never_both o text ts f a b = let e : ◌≡◌ {A = Result (List Lexeme) GlobFault} (Ok a.0) (Err f) = Lexed-same o 0 text (Ok a.0) (Err f) a.1 b in cc e

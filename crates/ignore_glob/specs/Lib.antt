@@ -6,10 +6,12 @@ pub mod Match
 pub mod Glob
 pub mod View
 pub mod GlobFaults
-pub mod Pieces
+pub mod Lexing
 pub mod Row
-pub mod Lexemes
-pub mod Takes
+pub mod LexemeViews
+pub mod Matches
+pub mod Nodes
+pub mod Flags
 pub mod Codes
 pub mod Reading
 pub mod Paths

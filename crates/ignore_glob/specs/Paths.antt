@@ -9,18 +9,18 @@ abbrev pub is_slash : ℕ → Bool
 is_slash b = b == 47
 
 -- the pieces of a path: it is cut at each slash
-abbrev pub pieces : List ℕ → List (List ℕ)
-pieces path = slice_split is_slash path
+abbrev pub components : List ℕ → List (List ℕ)
+components path = slice_split is_slash path
 
 -- pieces joined by single slashes
 abbrev pub joined : List (List ℕ) → List ℕ
 joined = join_with_byte 47
 
 -- the last of the pieces
-abbrev pub last_piece : List (List ℕ) → List ℕ
-last_piece [] = []
-last_piece (piece ∷ []) = piece
-last_piece (piece ∷ (next ∷ more)) = last_piece (next ∷ more)
+abbrev pub last_component : List (List ℕ) → List ℕ
+last_component [] = []
+last_component (component ∷ []) = component
+last_component (component ∷ (next ∷ more)) = last_component (next ∷ more)
 
 -- the piece alone, or no piece where it is empty
 abbrev pub filled : List ℕ → List (List ℕ)
@@ -28,10 +28,10 @@ filled [] = []
 filled (b ∷ bs) = (b ∷ bs) ∷ []
 
 -- the pieces but for an empty last one
-abbrev pub whole_pieces : List (List ℕ) → List (List ℕ)
-whole_pieces [] = []
-whole_pieces (piece ∷ []) = filled piece
-whole_pieces (piece ∷ (next ∷ more)) = piece ∷ whole_pieces (next ∷ more)
+abbrev pub whole_components : List (List ℕ) → List (List ℕ)
+whole_components [] = []
+whole_components (component ∷ []) = filled component
+whole_components (component ∷ (next ∷ more)) = component ∷ whole_components (next ∷ more)
 
 -- it begins with a slash, and it ends with one
 abbrev pub is_absolute : List ℕ → Bool
@@ -42,16 +42,16 @@ ends_with_slash path = slice_index path (length path - 1) == 47
 
 -- the second path, where it begins with a slash; else the pieces of the first, but for an empty last one, and then those of the second
 unfoldable pub join_of : List ℕ → List ℕ → List ℕ
-join_of base path = if is_absolute path then path else joined (whole_pieces (pieces base) ++ pieces path)
+join_of base path = if is_absolute path then path else joined (whole_components (components base) ++ components path)
 
 -- the name that a piece is: `.` and `..` are none
 abbrev pub name_in : List ℕ → Option (List ℕ)
-name_in piece = if bytes_eq piece (codes ".") || bytes_eq piece (codes "..") then None else Some piece
+name_in component = if bytes_eq component (codes ".") || bytes_eq component (codes "..") then None else Some component
 
 -- the file name of a path is its last piece; `.`, `..` and the empty path have none
 unfoldable pub file_name_of : List ℕ → Option (List ℕ)
 file_name_of [] = None
-file_name_of (b ∷ bs) = name_in (last_piece (pieces (b ∷ bs)))
+file_name_of (b ∷ bs) = name_in (last_component (components (b ∷ bs)))
 
 -- its file name begins with a dot
 abbrev pub IsHidden : List ℕ → Type 0
@@ -77,7 +77,7 @@ without_slash path = if is_absolute path then drop 1 path else path
 
 -- a root that is the working directory: it begins with a dot, and each of its pieces is `.` or empty
 abbrev pub is_dot : List ℕ → Bool
-is_dot root = slice_index root 0 == 46 && list_all (λ piece. bytes_eq piece (codes ".") || length piece == 0) (pieces root)
+is_dot root = slice_index root 0 == 46 && list_all (λ component. bytes_eq component (codes ".") || length component == 0) (components root)
 
 -- it has a slash
 abbrev pub has_slash : List ℕ → Bool
@@ -102,7 +102,7 @@ pub record IsName (text : List ℕ) : Type 0 where
 
 -- the test that a piece is a name: it is not empty, `.` or `..`
 abbrev pub is_proper : List ℕ → Bool
-is_proper piece = not (length piece == 0) && not (bytes_eq piece (codes ".")) && not (bytes_eq piece (codes ".."))
+is_proper component = not (length component == 0) && not (bytes_eq component (codes ".")) && not (bytes_eq component (codes ".."))
 
 -- a clean path: names joined by single slashes (no names are the empty path)
 abbrev pub IsCleanPath : List ℕ → Type 0

@@ -32,21 +32,21 @@ problems_of [] = no_problems
 problems_of (p ∷ ps) = problem p (problems_of ps)
 
 -- what one layer of an error tells, where the errors inside have been told
-abbrev pub told_step : Error-F Problem → Problem
-told_step (Partial errors) = several (problems_of errors.items)
-told_step (WithLineNumber line err) = at_line line err.value
-told_step (WithPath path err) = at_path (string_bytes path) err.value
-told_step (WithDepth depth err) = at_depth depth err.value
-told_step (Loop ancestor child) = loop (string_bytes ancestor) (string_bytes child)
-told_step (Io fault) = io fault
-told_step (Glob pattern err) = glob (option_map string_bytes pattern) (string_bytes err)
-told_step (UnrecognizedFileType name) = unrecognized (string_bytes name)
-told_step InvalidDefinition = invalid_definition
-told_step Memory = memory
+abbrev pub problem_step : Error-F Problem → Problem
+problem_step (Partial errors) = several (problems_of errors.items)
+problem_step (WithLineNumber line err) = at_line line err.value
+problem_step (WithPath path err) = at_path (string_bytes path) err.value
+problem_step (WithDepth depth err) = at_depth depth err.value
+problem_step (Loop ancestor child) = loop (string_bytes ancestor) (string_bytes child)
+problem_step (Io fault) = io fault
+problem_step (Glob pattern err) = glob (option_map string_bytes pattern) (string_bytes err)
+problem_step (UnrecognizedFileType name) = unrecognized (string_bytes name)
+problem_step InvalidDefinition = invalid_definition
+problem_step Memory = memory
 
 -- the problem that an error tells
-abbrev pub told : Error → Problem
-told = fold-Error Problem told_step
+abbrev pub problem_of : Error → Problem
+problem_of = fold-Error Problem problem_step
 
 -- none for no problem, the problem itself for one, else one that is several, with all of them in order: a member that is several itself stays one member
 abbrev pub joined : List Problem → Option Problem

@@ -2,7 +2,7 @@
 use Rattle.std.specs.Prelude.{ℕ, Bool, List, refl}
 use Rattle.std.specs.Coded.{Coded, code_by, coded×, coded_bool}
 use Rattle.ignore_glob.specs.Glob.{Tokens}
-use Rattle.ignore_glob.specs.Takes.{glob_takes}
+use Rattle.ignore_glob.specs.Matches.{glob_matches}
 use Rattle.ignore_glob.specs.Codes.{tokens_code}
 
 pub record Reading : Type 0 where
@@ -10,8 +10,8 @@ pub record Reading : Type 0 where
   pub case_insensitive : Bool
 
 -- the pattern takes the text, a list of characters
-abbrev pub Takes : Reading → List ℕ → Type 0
-Takes reading text = glob_takes reading.case_insensitive reading.tokens text
+abbrev pub Matches : Reading → List ℕ → Type 0
+Matches reading text = glob_matches reading.case_insensitive reading.tokens text
 
 -- proofs tell two readings apart by the pair of their fields
 abbrev pub reading_code : Coded Reading

@@ -2,24 +2,24 @@
 use Rattle.std.specs.Prelude.{◌≡◌, ◌≢◌, ◌⊎◌, ℕ, Bool, true, nat_eq, List, [], ◌∷◌, ◌++◌, codes, if◌then◌else◌}
 use Rattle.std.specs.List.{starts_with, list_all}
 use Rattle.std.specs.Str.{bytes_eq}
-use Rattle.ignore_glob.specs.Paths.{pieces, is_absolute, trim_of, without_slash, is_proper}
+use Rattle.ignore_glob.specs.Paths.{components, is_absolute, trim_of, without_slash, is_proper}
 
 -- the path without one slash at its end, if it has one
 abbrev pub IsWithoutEnd : List ℕ → List ℕ → Type 0
-IsWithoutEnd path body = ((path ≡ body) × ((front : List ℕ) → path ≢ front ++ codes "/")) ⊎ (path ≡ body ++ codes "/")
+IsWithoutEnd path body = ((path ≡ body) × ((prefix : List ℕ) → path ≢ prefix ++ codes "/")) ⊎ (path ≡ body ++ codes "/")
 
 -- the test that a piece is `..`
 abbrev pub is_up : List ℕ → Bool
-is_up piece = bytes_eq piece (codes "..")
+is_up component = bytes_eq component (codes "..")
 
 -- pieces `..`, if any, and then names, if any
 abbrev pub rises : List (List ℕ) → Bool
 rises [] = true
-rises (piece ∷ more) = if is_up piece then rises more else list_all is_proper (piece ∷ more)
+rises (component ∷ more) = if is_up component then rises more else list_all is_proper (component ∷ more)
 
 -- names behind `./` or a slash, or behind pieces `..`
 abbrev pub is_rooted : List ℕ → Bool
 is_rooted body =
-    if starts_with nat_eq body (codes "./") then list_all is_proper (pieces (trim_of body))
-    else if is_absolute body then list_all is_proper (pieces (without_slash body))
-    else rises (pieces body)
+    if starts_with nat_eq body (codes "./") then list_all is_proper (components (trim_of body))
+    else if is_absolute body then list_all is_proper (components (without_slash body))
+    else rises (components body)

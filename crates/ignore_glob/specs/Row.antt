@@ -5,7 +5,7 @@ use Rattle.ignore_glob.specs.declared.glob.options.Options.{Options}
 use Rattle.ignore_glob.specs.declared.glob.fault.GlobFault.{GlobFault}
 use Rattle.ignore_glob.specs.Glob as G
 use Rattle.ignore_glob.specs.Glob.{Token, Tokens, done, then, Branches, no_branch, branch}
-use Rattle.ignore_glob.specs.Pieces.{Lexeme, char, escaped, any, run, class, opening, comma, closing, Written}
+use Rattle.ignore_glob.specs.Lexing.{Lexeme, char, escaped, any, run, class, opening, comma, closing, Lexed}
 
 -- on the left of a run an escaped slash counts as a slash too: `\/**` is an end
 abbrev pub IsSlash : Lexeme → Type 0
@@ -34,26 +34,26 @@ AtEnd ls = (more : List Lexeme) × (ls ≡ run 2 ∷ more) × Ends more
 pub data Left : Type 0 where
   glob_start : Left
   branch_start : Left
-  piece : Left
+  lexeme : Left
 
 -- the glob or a branch starts here
 abbrev pub IsStart : Left → Type 0
 IsStart glob_start = Unit {0}
 IsStart branch_start = Unit {0}
-IsStart piece = ⊥
+IsStart lexeme = ⊥
 
 -- The row begins with a recursive start: `**/` at a start, or `**` as the whole glob.
 -- Behind a slash a run belongs to the slash's token.
 abbrev pub IsRecursive : Left → List Lexeme → Type 0
 IsRecursive glob_start ls = BeforeSlash ls ⊎ (ls ≡ run 2 ∷ [])
 IsRecursive branch_start ls = BeforeSlash ls
-IsRecursive piece ls = ⊥
+IsRecursive lexeme ls = ⊥
 
 -- What stands first: a token so many times, and the row after it; braces, before this row; or the end.
 pub data Meaning : Type 0 where
   gives : ℕ → Token → List Lexeme → Meaning
   braces : List Lexeme → Meaning
-  over : Meaning
+  ended : Meaning
 
 -- what a row begins with, with this left of it
 pub data Means : Left → List Lexeme → Meaning → Type 0 where
@@ -77,7 +77,7 @@ pub data Means : Left → List Lexeme → Meaning → Type 0 where
   alone : Means glob_start (run 2 ∷ []) (gives 1 G.start [])
   -- braces are read by themselves; a comma, a closing brace or nothing is the end
   opens : (p : Left) (rest : List Lexeme) → Means p (opening ∷ rest) (braces rest)
-  ends : (p : Left) (rest : List Lexeme) → Ends rest → Means p rest over
+  ends : (p : Left) (rest : List Lexeme) → Ends rest → Means p rest ended
 
 -- a token so many times, before these
 abbrev pub times : ℕ → Token → Tokens → Tokens
@@ -92,9 +92,9 @@ add_branch (then t ts) bs = branch (then t ts) bs
 mutual
   -- with this left of it, the row has these tokens up to an end, where this row stands
   pub data Row : Left → List Lexeme → Tokens → List Lexeme → Type 0 where
-    nothing : (p : Left) (ls : List Lexeme) → Means p ls over → Row p ls done ls
-    further : (p : Left) (ls mid rest : List Lexeme) (n : ℕ) (t : Token) (ts : Tokens) → Means p ls (gives n t mid) → Row piece mid ts rest → Row p ls (times n t ts) rest
-    nested : (p : Left) (ls inner after rest : List Lexeme) (bs : Branches) (ts : Tokens) → Means p ls (braces inner) → Inner inner bs after → Row piece after ts rest → Row p ls (then (G.alternates bs) ts) rest
+    nothing : (p : Left) (ls : List Lexeme) → Means p ls ended → Row p ls done ls
+    further : (p : Left) (ls mid rest : List Lexeme) (n : ℕ) (t : Token) (ts : Tokens) → Means p ls (gives n t mid) → Row lexeme mid ts rest → Row p ls (times n t ts) rest
+    nested : (p : Left) (ls inner after rest : List Lexeme) (bs : Branches) (ts : Tokens) → Means p ls (braces inner) → Inner inner bs after → Row lexeme after ts rest → Row p ls (then (G.alternates bs) ts) rest
 
   -- the row has these branches, then a closing brace, and then this row
   pub data Inner : List Lexeme → Branches → List Lexeme → Type 0 where
@@ -103,8 +103,8 @@ mutual
 
 -- the text is a row of written pieces with these tokens
 abbrev pub Reads : Options → List ℕ → Tokens → Type 0
-Reads o text tokens = (row : List Lexeme) × Written o 0 text (Ok row) × Row glob_start row tokens []
+Reads o text tokens = (row : List Lexeme) × Lexed o 0 text (Ok row) × Row glob_start row tokens []
 
 -- the text's fault, the one that begins leftmost, is this
 abbrev pub IsFaulty : Options → List ℕ → GlobFault → Type 0
-IsFaulty o text f = Written o 0 text (Err f)
+IsFaulty o text f = Lexed o 0 text (Err f)

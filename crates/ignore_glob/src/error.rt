@@ -2,7 +2,7 @@
 ghost use Rattle.std.specs.Prelude.{◌≡◌, is_some, map, option_map};
 ghost use Rattle.std.specs.Option.{option_copied};
 ghost use Rattle.ignore_glob.specs.Errors.{is_partial, io_fault, depth_of};
-ghost use Rattle.ignore_glob.specs.Problem.{told, joined};
+ghost use Rattle.ignore_glob.specs.Problem.{problem_of, joined};
 
 mod clone;
 mod display;
@@ -80,7 +80,7 @@ impl Error {
     /// Whether this is a partial error: whether it is several, maybe tagged
     /// with a line, a path or a depth.
     pub fn is_partial(&self) -> bool
-        ensures { result ≡ is_partial (told self.now) }
+        ensures { result ≡ is_partial (problem_of self.now) }
     {
         match self {
             Error::Partial(_) => true,
@@ -94,7 +94,7 @@ impl Error {
     /// Whether this is a fault and nothing else: whether `io_error` answers
     /// one.
     pub fn is_io(&self) -> bool
-        ensures { result ≡ is_some (io_fault (told self.now)) }
+        ensures { result ≡ is_some (io_fault (problem_of self.now)) }
     {
         self.io_error().is_some()
     }
@@ -103,7 +103,7 @@ impl Error {
     /// path and the depth that it is tagged with are passed over, and so is a
     /// partial error that has exactly one member. Of several no fault is told.
     pub fn io_error(&self) -> Option<&Fault>
-        ensures { option_copied result ≡ io_fault (told self.now) }
+        ensures { option_copied result ≡ io_fault (problem_of self.now) }
     {
         match self {
             Error::Partial(errors) => match errors.as_slice() {
@@ -122,7 +122,7 @@ impl Error {
     /// The fault that `io_error` tells, by value: the error is used up. It
     /// takes no memory.
     pub fn into_io_error(self) -> Option<Fault>
-        ensures { result ≡ io_fault (told self) }
+        ensures { result ≡ io_fault (problem_of self) }
     {
         self.io_error().copied()
     }
@@ -131,7 +131,7 @@ impl Error {
     /// stands before it. Behind a line number or inside a partial error no
     /// depth is told.
     pub fn depth(&self) -> Option<usize>
-        ensures { result ≡ depth_of (told self.now) }
+        ensures { result ≡ depth_of (problem_of self.now) }
     {
         match self {
             Error::WithPath { err, .. } => err.depth(),
@@ -146,7 +146,7 @@ impl Error {
     ///
     /// For the crates above; no part of the surface of `ignore`.
     pub fn joined(mut errors: Vec<Error>) -> Option<Error>
-        ensures { option_map told result ≡ joined (map told errors.items) }
+        ensures { option_map problem_of result ≡ joined (map problem_of errors.items) }
     {
         if errors.len() < 2 {
             return errors.pop();

@@ -1,8 +1,8 @@
 //! Paths as texts: joining, file names, prefixes, and which paths are clean.
 ghost use Rattle.std.specs.Prelude.{◌≡◌, ◌↔◌, IfOk, IfErr, IsTrue, string_bytes};
 ghost use Rattle.std.specs.Option.{option_copied};
-ghost use Rattle.ignore_glob.specs.Paths.{pieces, last_piece, join_of, file_name_of, IsHidden};
-ghost use Rattle.ignore_glob.specs.Problem.{told, memory};
+ghost use Rattle.ignore_glob.specs.Paths.{components, last_component, join_of, file_name_of, IsHidden};
+ghost use Rattle.ignore_glob.specs.Problem.{problem_of, memory};
 
 mod clean;
 mod prefix;
@@ -16,7 +16,7 @@ use std::alloc::Global;
 /// `path` seen from `base`: `path` itself where it begins with `/` or `base` is empty, else the two with one `/` between them (none is added to a `base` that ends with one), as Rust's `Path::join` gives. The only error is `Error::Memory`.
 pub fn join(alloc: Global, base: &str, path: &str) -> Result<String, Error>
     ensures joins { IfOk result (λ text. string_bytes text ≡ join_of base.now path.now) }
-    ensures refuses { IfErr result (λ error. told error ≡ memory) }
+    ensures out_of_memory { IfErr result (λ error. problem_of error ≡ memory) }
 {
     if path.starts_with('/') || base.is_empty() {
         return Ok(String::from_str(alloc, path)?);
@@ -36,7 +36,7 @@ pub fn file_name(path: &str) -> Option<&str>
     if path.is_empty() {
         return None;
     }
-    let name = last_piece(path);
+    let name = last_component(path);
     if name == "." || name == ".." {
         return None;
     }
@@ -55,8 +55,8 @@ pub fn is_hidden(path: &str) -> bool
 
 /// What follows the last `/` of a path, or all of it where it has none.
 /// For the crates above.
-pub fn last_piece(path: &str) -> &str
-    ensures { result.now ≡ last_piece (pieces path.now) }
+pub fn last_component(path: &str) -> &str
+    ensures { result.now ≡ last_component (components path.now) }
 {
     match memrchr(b'/', path.as_bytes()) {
         Some(slash) => &path[slash + 1..],

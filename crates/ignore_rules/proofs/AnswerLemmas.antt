@@ -8,17 +8,17 @@ use Rattle.ignore_glob.specs.declared.match_result.Match.{Match}
 use Rattle.ignore_glob.specs.declared.match_result.Match.TheVariants.{None, Ignore, Whitelist}
 use Rattle.ignore_glob.specs.Match.{match_or}
 use Rattle.ignore_rules.specs.Rules.{Rule, ignore_count, whitelist_count}
-use Rattle.ignore_rules.specs.Taking.{does_take}
-use Rattle.ignore_rules.specs.Answer.{does_apply, told_by, rule_answer, list_answer, Applies, IsLast, IsAnswer}
-use Rattle.ignore_rules.proofs.TakingLemmas.{taking_decided}
+use Rattle.ignore_rules.specs.DoesMatch.{does_match}
+use Rattle.ignore_rules.specs.Answer.{does_apply, decision_of, rule_answer, list_answer, Applies, IsLast, IsAnswer}
+use Rattle.ignore_rules.proofs.DoesMatchLemmas.{matching_decided}
 
-speaks_of_kind : (only_dir is_dir : Bool) → Decides (not only_dir || is_dir) ((only_dir ≡ false) ⊎ (is_dir ≡ true))
-speaks_of_kind false is_dir = (λ _. inl refl, λ _. refl)
-speaks_of_kind true is_dir = (λ e. inr e, λ h. elim h [ inl wrong ↦ absurd (false≢true (sym wrong)) | inr e ↦ e ])
+applies_to_kind : (only_dir is_dir : Bool) → Decides (not only_dir || is_dir) ((only_dir ≡ false) ⊎ (is_dir ≡ true))
+applies_to_kind false is_dir = (λ _. inl refl, λ _. refl)
+applies_to_kind true is_dir = (λ e. inr e, λ h. elim h [ inl wrong ↦ absurd (false≢true (sym wrong)) | inr e ↦ e ])
 
 pub applies_decided : (text : List ℕ) (is_dir : Bool) (rule : Rule) → Decides (does_apply text is_dir rule) (Applies text is_dir rule)
 applies_decided text is_dir rule =
-    Decides-and (not rule.is_only_dir || is_dir) (does_take rule.reading text) (speaks_of_kind rule.is_only_dir is_dir) (taking_decided rule.reading text)
+    Decides-and (not rule.is_only_dir || is_dir) (does_match rule.reading text) (applies_to_kind rule.is_only_dir is_dir) (matching_decided rule.reading text)
 
 -- one rule alone
 alone : (text : List ℕ) (is_dir : Bool) (rule : Rule) (rules : List Rule) → IsAnswer rules text is_dir None → (yes : Bool) (flag : Bool) → does_apply text is_dir rule ≡ yes → rule.is_whitelist ≡ flag → IsAnswer (rule ∷ rules) text is_dir (cond yes (cond flag (Whitelist rule) (Ignore rule)) None)
@@ -64,14 +64,14 @@ settled (rule ∷ rules) text is_dir (suc i) some =
     let kept : list_answer rules text is_dir ≡ None → ⊥ = λ e. some (sym later ∙ e) in
     or_settled (list_answer rules text is_dir) (rule_answer text is_dir rule) kept ∙ later
 
-told_by_some : (rule : Rule) (flag : Bool) → cond flag (Whitelist rule) (Ignore rule) ≡ None → ⊥
-told_by_some rule true e = cc
-told_by_some rule false e = cc
+decision_of_some : (rule : Rule) (flag : Bool) → cond flag (Whitelist rule) (Ignore rule) ≡ None → ⊥
+decision_of_some rule true e = cc
+decision_of_some rule false e = cc
 
-pub decided : (rules : List Rule) (text : List ℕ) (is_dir : Bool) (i : ℕ) (rule : Rule) → i < length rules → rule ≡ get_or rules i rule → list_answer (drop (i + 1) rules) text is_dir ≡ None → does_apply text is_dir rule ≡ true → list_answer rules text is_dir ≡ told_by rule
+pub decided : (rules : List Rule) (text : List ℕ) (is_dir : Bool) (i : ℕ) (rule : Rule) → i < length rules → rule ≡ get_or rules i rule → list_answer (drop (i + 1) rules) text is_dir ≡ None → does_apply text is_dir rule ≡ true → list_answer rules text is_dir ≡ decision_of rule
 decided rules text is_dir i rule fits is none e =
-    let here : list_answer (drop i rules) text is_dir ≡ told_by rule = at_rule rules text is_dir i rule fits is none ∙ ap (λ yes. cond yes (told_by rule) None) e in
-    settled rules text is_dir i (λ f. told_by_some rule rule.is_whitelist (sym here ∙ f)) ∙ here
+    let here : list_answer (drop i rules) text is_dir ≡ decision_of rule = at_rule rules text is_dir i rule fits is none ∙ ap (λ yes. cond yes (decision_of rule) None) e in
+    settled rules text is_dir i (λ f. decision_of_some rule rule.is_whitelist (sym here ∙ f)) ∙ here
 
 one_more : (flag : Bool) (n a b : ℕ) → n ≡ a + b → suc n ≡ (cond (not flag) 1 0 + a) + (cond flag 1 0 + b)
 one_more true n a b e = omega arith

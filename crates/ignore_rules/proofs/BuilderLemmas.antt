@@ -4,11 +4,11 @@ use Rattle.std.specs.Str.{chars}
 use Rattle.ignore_glob.specs.declared.glob.options.Options.{Options}
 use Rattle.ignore_glob.specs.Reading.{Reading}
 use Rattle.ignore_glob.specs.Row.{Reads}
-use Rattle.ignore_rules.specs.Line.{Written}
-use Rattle.ignore_rules.specs.Rules.{Rule, LineOptions, read_rule, SaysRule}
+use Rattle.ignore_rules.specs.Line.{ParsedLine}
+use Rattle.ignore_rules.specs.Rules.{Rule, LineOptions, read_rule, GivesRule}
 
-pub says_rule : (options : LineOptions) (used : Options) (from : Option (List ℕ)) (w : Written) (text : List ℕ) (p : Reading) (rule : Rule) → used ≡ options.glob → text ≡ w.actual → Reads used (chars text) p.tokens → p.case_insensitive ≡ used.case_insensitive → rule ≡ read_rule from w p → SaysRule options from (Some w) (Some rule)
-says_rule options used from w text p rule same is reads folds made =
+pub gives_rule : (options : LineOptions) (used : Options) (from : Option (List ℕ)) (w : ParsedLine) (text : List ℕ) (p : Reading) (rule : Rule) → used ≡ options.glob → text ≡ w.actual → Reads used (chars text) p.tokens → p.case_insensitive ≡ used.case_insensitive → rule ≡ read_rule from w p → GivesRule options from (Some w) (Some rule)
+gives_rule options used from w text p rule same is reads folds made =
     let read = subst (λ o. Reads o (chars text) p.tokens) same reads in
     let folded : p.case_insensitive ≡ options.glob.case_insensitive = folds ∙ ap (λ (o : Options). o.case_insensitive) same in (
       p.tokens,

@@ -11,24 +11,24 @@ use Rattle.std.proofs.lemmas.List.Splits.{slice_split-cons_yes, slice_split-cons
 use Rattle.memchr.specs.Find.{Nowhere, Passes, is_byte, IsFirstByte}
 use Rattle.ignore_glob.specs.declared.fault.Fault.{Fault}
 use Rattle.ignore_glob.specs.declared.fault.Fault.TheVariants.{InvalidData}
-use Rattle.ignore_rules.specs.RuleFile.{met, ended_of_parts, lines_met}
+use Rattle.ignore_rules.specs.RuleFile.{decoded, ended_of_segments, lines_read}
 use Rattle.ignore_rules.specs.declared.gitignore.file.Line.{Line}
 use Rattle.ignore_rules.specs.declared.gitignore.file.Line.TheVariants.{Text, End}
 use Rattle.ignore_rules.specs.declared.gitignore.file.Line.TheVariants.{Fault as Stop}
-use Rattle.ignore_rules.specs.RuleSteps.{IsOnePiece, IsMetAs, IsLastMet, IsLineAt}
+use Rattle.ignore_rules.specs.RuleSteps.{IsOneSegment, IsLineRead, IsLastLineRead, IsLineAt}
 
 is_end : ℕ → Bool
 is_end = λ b. eqb b 10
 
 -- there is a first piece
-first_piece : (bytes : List ℕ) → (piece : List ℕ) × (pieces : List (List ℕ)) × (slice_split (λ b. eqb b 10) bytes ≡ piece ∷ pieces)
-first_piece [] = ([], [], refl)
-first_piece (x ∷ xs) = cases (eqb x 10) (slice_split (λ b. eqb b 10) xs)
+first_segment : (bytes : List ℕ) → (segment : List ℕ) × (segments : List (List ℕ)) × (slice_split (λ b. eqb b 10) bytes ≡ segment ∷ segments)
+first_segment [] = ([], [], refl)
+first_segment (x ∷ xs) = cases (eqb x 10) (slice_split (λ b. eqb b 10) xs)
   where
-    cases : (b : Bool) (pieces : List (List ℕ)) → (piece : List ℕ) × (more : List (List ℕ)) × (cond b ([] ∷ pieces) (onto_first x pieces) ≡ piece ∷ more)
-    cases true pieces = ([], pieces, refl)
+    cases : (b : Bool) (segments : List (List ℕ)) → (segment : List ℕ) × (more : List (List ℕ)) × (cond b ([] ∷ segments) (onto_first x segments) ≡ segment ∷ more)
+    cases true segments = ([], segments, refl)
     cases false [] = (x ∷ [], [], refl)
-    cases false (piece ∷ pieces) = (x ∷ piece, pieces, refl)
+    cases false (segment ∷ segments) = (x ∷ segment, segments, refl)
 
 -- the first piece ends before the first line end
 pub cut_at : (bytes : List ℕ) (k : ℕ) → k < length bytes → eqb (get_or bytes k 0) 10 ≡ true → ((i : ℕ) → i < k → eqb (get_or bytes i 0) 10 ≡ false) → slice_split (λ b. eqb b 10) bytes ≡ take k bytes ∷ slice_split (λ b. eqb b 10) (drop (suc k) bytes)
@@ -38,78 +38,78 @@ cut_at (x ∷ xs) (suc k) l here before =
     slice_split-cons_no (λ b. eqb b 10) x xs (before 0 (omega arith)) ∙ ap (onto_first x) (cut_at xs k (omega (arith, l)) here (λ i h. before (suc i) (omega (arith, h))))
 
 -- the lines of pieces, as they are met
-abbrev met_of : Option Fault → List (List ℕ) → List (Result (List ℕ) Fault)
-met_of None pieces = map met (lines_of_parts pieces)
-met_of (Some fault) pieces = map met (ended_of_parts pieces) ++ Err fault ∷ []
+abbrev lines_read_of : Option Fault → List (List ℕ) → List (Result (List ℕ) Fault)
+lines_read_of None segments = map decoded (lines_of_parts segments)
+lines_read_of (Some fault) segments = map decoded (ended_of_segments segments) ++ Err fault ∷ []
 
-lines_met-pieces : (bytes : List ℕ) (fault : Option Fault) → lines_met bytes fault ≡ met_of fault (slice_split (λ b. eqb b 10) bytes)
-lines_met-pieces bytes None = refl
-lines_met-pieces bytes (Some fault) = refl
+lines_read-segments : (bytes : List ℕ) (fault : Option Fault) → lines_read bytes fault ≡ lines_read_of fault (slice_split (λ b. eqb b 10) bytes)
+lines_read-segments bytes None = refl
+lines_read-segments bytes (Some fault) = refl
 
-line_before : (line piece : List ℕ) (more : List (List ℕ)) (fault : Option Fault) → met_of fault (line ∷ (piece ∷ more)) ≡ met (strip_carriage_return line) ∷ met_of fault (piece ∷ more)
-line_before line piece more None = refl
-line_before line piece more (Some fault) = refl
+line_before : (line segment : List ℕ) (more : List (List ℕ)) (fault : Option Fault) → lines_read_of fault (line ∷ (segment ∷ more)) ≡ decoded (strip_carriage_return line) ∷ lines_read_of fault (segment ∷ more)
+line_before line segment more None = refl
+line_before line segment more (Some fault) = refl
 
 -- a line that has an end is met before those behind it
-pub ended_line : (bytes line rest : List ℕ) (fault : Option Fault) → slice_split (λ b. eqb b 10) bytes ≡ line ∷ slice_split (λ b. eqb b 10) rest → lines_met bytes fault ≡ met (strip_carriage_return line) ∷ lines_met rest fault
+pub ended_line : (bytes line rest : List ℕ) (fault : Option Fault) → slice_split (λ b. eqb b 10) bytes ≡ line ∷ slice_split (λ b. eqb b 10) rest → lines_read bytes fault ≡ decoded (strip_carriage_return line) ∷ lines_read rest fault
 ended_line bytes line rest fault e =
-    let first = first_piece rest in
-    let behind : met_of fault (first.0 ∷ first.1) ≡ lines_met rest fault = sym (lines_met-pieces rest fault ∙ ap (met_of fault) first.2) in
-    lines_met-pieces bytes fault
-    ∙ (ap (met_of fault) (e ∙ ap (λ pieces. line ∷ pieces) first.2)
-    ∙ (line_before line first.0 first.1 fault ∙ ap (λ l. met (strip_carriage_return line) ∷ l) behind))
+    let first = first_segment rest in
+    let behind : lines_read_of fault (first.0 ∷ first.1) ≡ lines_read rest fault = sym (lines_read-segments rest fault ∙ ap (lines_read_of fault) first.2) in
+    lines_read-segments bytes fault
+    ∙ (ap (lines_read_of fault) (e ∙ ap (λ segments. line ∷ segments) first.2)
+    ∙ (line_before line first.0 first.1 fault ∙ ap (λ l. decoded (strip_carriage_return line) ∷ l) behind))
 
 -- a byte that is the first of its kind is the end of the first line
-pub first_line : (bytes : List ℕ) (k : ℕ) (fault : Option Fault) → k < length bytes → Passes (is_byte 10) bytes k → Nowhere (Passes (is_byte 10) bytes) 0 k → lines_met bytes fault ≡ met (strip_carriage_return (take k bytes)) ∷ lines_met (drop (k + 1) bytes) fault
+pub first_line : (bytes : List ℕ) (k : ℕ) (fault : Option Fault) → k < length bytes → Passes (is_byte 10) bytes k → Nowhere (Passes (is_byte 10) bytes) 0 k → lines_read bytes fault ≡ decoded (strip_carriage_return (take k bytes)) ∷ lines_read (drop (k + 1) bytes) fault
 first_line bytes k fault l here before =
     let cut = cut_at bytes k l here (λ i h. false_from_ne_true _ (before i (omega arith) h)) in
     ended_line bytes (take k bytes) (drop (k + 1) bytes) fault (cut ∙ ap (λ n. take k bytes ∷ slice_split (λ b. eqb b 10) (drop n bytes)) (sym (add-one k)))
 
 -- bytes in which no line end was found are one piece
-pub one_piece : (bytes : List ℕ) → Nowhere (Passes (is_byte 10) bytes) 0 (length bytes) → IsOnePiece bytes
-one_piece bytes none =
+pub one_segment : (bytes : List ℕ) → Nowhere (Passes (is_byte 10) bytes) 0 (length bytes) → IsOneSegment bytes
+one_segment bytes none =
     slice_split_none (λ b. eqb b 10) bytes (All-from_get_or (λ b. eqb b 10 ≡ false) bytes 0 (λ i l. false_from_ne_true _ (none i (omega arith) l)))
 
-pub last_line : (bytes : List ℕ) → IsOnePiece bytes → eqb (length bytes) 0 ≡ false → lines_met bytes None ≡ met bytes ∷ []
-last_line bytes one some = ap (met_of None) one ∙ ap (λ b. map met (cond b [] (bytes ∷ []))) some
+pub last_line : (bytes : List ℕ) → IsOneSegment bytes → eqb (length bytes) 0 ≡ false → lines_read bytes None ≡ decoded bytes ∷ []
+last_line bytes one some = ap (lines_read_of None) one ∙ ap (λ b. map decoded (cond b [] (bytes ∷ []))) some
 
 -- a line that is UTF-8 is met as its text, any other as a fault
-pub met_text : (line text : List ℕ) → text ≡ line → IsUtf8 line → met line ≡ Ok text
-met_text line text same utf8 = ap (λ b. cond b (Ok line) (Err InvalidData)) (is_utf8-from_IsUtf8 line utf8) ∙ ap Ok (sym same)
+pub read_text : (line text : List ℕ) → text ≡ line → IsUtf8 line → decoded line ≡ Ok text
+read_text line text same utf8 = ap (λ b. cond b (Ok line) (Err InvalidData)) (is_utf8-from_IsUtf8 line utf8) ∙ ap Ok (sym same)
 
-pub met_other : (line : List ℕ) → ¬ (IsUtf8 line) → met line ≡ Err InvalidData
-met_other line other = ap (λ b. cond b (Ok line) (Err InvalidData)) (false_from_ne_true _ (λ e. other (IsUtf8-from_is_utf8 line e)))
+pub read_other : (line : List ℕ) → ¬ (IsUtf8 line) → decoded line ≡ Err InvalidData
+read_other line other = ap (λ b. cond b (Ok line) (Err InvalidData)) (false_from_ne_true _ (λ e. other (IsUtf8-from_is_utf8 line e)))
 
 -- A line at a place in the bytes.
 
-here_then : (bytes : List ℕ) (fault : Option Fault) (at end : ℕ) (rest line : List ℕ) → rest ≡ drop at bytes → IsFirstByte (is_byte 10) rest (Some end) → line ≡ strip_carriage_return (take end rest) → lines_met (drop at bytes) fault ≡ met line ∷ lines_met (drop (at + (end + 1)) bytes) fault
+here_then : (bytes : List ℕ) (fault : Option Fault) (at end : ℕ) (rest line : List ℕ) → rest ≡ drop at bytes → IsFirstByte (is_byte 10) rest (Some end) → line ≡ strip_carriage_return (take end rest) → lines_read (drop at bytes) fault ≡ decoded line ∷ lines_read (drop (at + (end + 1)) bytes) fault
 here_then bytes fault at end rest line same found is =
-    ap (λ l. lines_met l fault) (sym same)
+    ap (λ l. lines_read l fault) (sym same)
     ∙ (first_line rest end fault found.0.high found.1 found.0.before
-    ∙ (ap (λ l. met l ∷ lines_met (drop (end + 1) rest) fault) (sym is)
-    ∙ (ap (λ l. met line ∷ lines_met (drop (end + 1) l) fault) same ∙ ap (λ l. met line ∷ lines_met l fault) (drop-drop (end + 1) at bytes))))
+    ∙ (ap (λ l. decoded l ∷ lines_read (drop (end + 1) rest) fault) (sym is)
+    ∙ (ap (λ l. decoded line ∷ lines_read (drop (end + 1) l) fault) same ∙ ap (λ l. decoded line ∷ lines_read l fault) (drop-drop (end + 1) at bytes))))
 
 -- a line that has an end
-pub met_before_end : (bytes : List ℕ) (fault : Option Fault) (at end : ℕ) (rest line : List ℕ) → rest ≡ drop at bytes → IsFirstByte (is_byte 10) rest (Some end) → line ≡ strip_carriage_return (take end rest) → (r : Line) → IsMetAs line (at + end + 1) r → IsLineAt bytes fault at r
-met_before_end bytes fault at end rest line same found is (Text text place) (m, e) =
+pub read_before_end : (bytes : List ℕ) (fault : Option Fault) (at end : ℕ) (rest line : List ℕ) → rest ≡ drop at bytes → IsFirstByte (is_byte 10) rest (Some end) → line ≡ strip_carriage_return (take end rest) → (r : Line) → IsLineRead line (at + end + 1) r → IsLineAt bytes fault at r
+read_before_end bytes fault at end rest line same found is (Text text place) (m, e) =
     let next : at + (end + 1) ≡ place = omega arith in
     let within : end < length (drop at bytes) = subst (λ l. end < length l) same found.0.high in (
       here_then bytes fault at end rest line same found is
-          ∙ (ap (λ l. l ∷ lines_met (drop (at + (end + 1)) bytes) fault) m ∙ ap (λ n. Ok text.now ∷ lines_met (drop n bytes) fault) next),
+          ∙ (ap (λ l. l ∷ lines_read (drop (at + (end + 1)) bytes) fault) m ∙ ap (λ n. Ok text.now ∷ lines_read (drop n bytes) fault) next),
       omega arith,
       omega (arith, length-drop at bytes),
     )
-met_before_end bytes fault at end rest line same found is (Stop told) m =
-    (lines_met (drop (at + (end + 1)) bytes) fault, here_then bytes fault at end rest line same found is ∙ ap (λ l. l ∷ lines_met (drop (at + (end + 1)) bytes) fault) m)
-met_before_end bytes fault at end rest line same found is End m = absurd m
+read_before_end bytes fault at end rest line same found is (Stop reported) m =
+    (lines_read (drop (at + (end + 1)) bytes) fault, here_then bytes fault at end rest line same found is ∙ ap (λ l. l ∷ lines_read (drop (at + (end + 1)) bytes) fault) m)
+read_before_end bytes fault at end rest line same found is End m = absurd m
 
 -- a line that has none
-pub met_at_last : (bytes : List ℕ) (fault : Option Fault) (at : ℕ) (rest : List ℕ) → rest ≡ drop at bytes → (r : Line) → IsLastMet rest fault (length bytes) r → IsLineAt bytes fault at r
-met_at_last bytes fault at rest same (Text text place) (m, e, some) =
+pub read_at_last : (bytes : List ℕ) (fault : Option Fault) (at : ℕ) (rest : List ℕ) → rest ≡ drop at bytes → (r : Line) → IsLastLineRead rest fault (length bytes) r → IsLineAt bytes fault at r
+read_at_last bytes fault at rest same (Text text place) (m, e, some) =
     let within : 0 < length (drop at bytes) = subst (λ l. 0 < length l) same some in (
-      ap (λ l. lines_met l fault) (sym same) ∙ (m ∙ ap (λ l. Ok text.now ∷ lines_met l fault) (sym (drop_all place bytes (omega arith)))),
+      ap (λ l. lines_read l fault) (sym same) ∙ (m ∙ ap (λ l. Ok text.now ∷ lines_read l fault) (sym (drop_all place bytes (omega arith)))),
       omega (arith, length-drop at bytes),
       omega arith,
     )
-met_at_last bytes fault at rest same (Stop told) (more, m) = (more, ap (λ l. lines_met l fault) (sym same) ∙ m)
-met_at_last bytes fault at rest same End m = ap (λ l. lines_met l fault) (sym same) ∙ m
+read_at_last bytes fault at rest same (Stop reported) (more, m) = (more, ap (λ l. lines_read l fault) (sym same) ∙ m)
+read_at_last bytes fault at rest same End m = ap (λ l. lines_read l fault) (sym same) ∙ m

@@ -6,7 +6,7 @@ use Rattle.ignore_glob.specs.declared.fault.Fault.{Fault}
 use Rattle.ignore_glob.specs.Problem.{Problem, io, memory}
 use Rattle.ignore_rules.specs.Rules.{Building}
 use Rattle.ignore_rules.specs.RuleFile.{AddsLines, done, stopped, added, refused, at_line_of, is_memory}
-use Rattle.ignore_rules.specs.RuleSteps.{TakesLine, Keeps}
+use Rattle.ignore_rules.specs.RuleSteps.{AddsOrReports, Keeps}
 
 -- what is yet to be met from the line with a number on, added to a builder, makes up the whole with what was met before
 abbrev pub LeadsTo : List ℕ → List (Result (List ℕ) Fault) → Building → ℕ → List (Result (List ℕ) Fault) → Building → List Problem → Type 0
@@ -14,16 +14,16 @@ LeadsTo path whole start number rest old problems =
     (new : Building) (more : List Problem) → AddsLines path number rest old new more → AddsLines path 1 whole start new (problems ++ more)
 
 pub one_more : (path : List ℕ) (whole : List (Result (List ℕ) Fault)) (start : Building) (number : ℕ) (line : List ℕ) (here rest : List (Result (List ℕ) Fault)) (old between : Building) (before after : List Problem)
-    → LeadsTo path whole start number here old before → here ≡ Ok line ∷ rest → TakesLine path number line old between before after → LeadsTo path whole start (number + 1) rest between after
+    → LeadsTo path whole start number here old before → here ≡ Ok line ∷ rest → AddsOrReports path number line old between before after → LeadsTo path whole start (number + 1) rest between after
 one_more path whole start number line here rest old between before after leads e (inl (adds, same)) new more h =
-    subst (λ told. AddsLines path 1 whole start new (told ++ more)) (sym same)
+    subst (λ reported. AddsLines path 1 whole start new (reported ++ more)) (sym same)
     (leads new more (subst (λ l. AddsLines path number l old new more) (sym e) (added number line rest old between new more adds h)))
 one_more path whole start number line here rest old between before after leads e (inr (problem, refuses, kept, same)) new more h =
     let adds : AddsLines path number (Ok line ∷ rest) old new (at_line_of path number problem ∷ more) =
     refused number line rest old new problem more refuses (subst (λ b. AddsLines path (number + 1) rest b new more) kept h) in
     let joined : before ++ at_line_of path number problem ∷ more ≡ after ++ more =
-    sym (append_assoc before (at_line_of path number problem ∷ []) more) ∙ ap (λ told. told ++ more) (sym same) in
-    subst (λ told. AddsLines path 1 whole start new told) joined
+    sym (append_assoc before (at_line_of path number problem ∷ []) more) ∙ ap (λ reported. reported ++ more) (sym same) in
+    subst (λ reported. AddsLines path 1 whole start new reported) joined
     (leads new (at_line_of path number problem ∷ more) (subst (λ l. AddsLines path number l old new (at_line_of path number problem ∷ more)) (sym e) adds))
 
 pub stopped_here : (path : List ℕ) (whole : List (Result (List ℕ) Fault)) (start : Building) (number : ℕ) (fault : Fault) (here rest : List (Result (List ℕ) Fault)) (old : Building) (before : List Problem)
@@ -34,7 +34,7 @@ stopped_here path whole start number fault here rest old before leads e =
 pub done_here : (path : List ℕ) (whole : List (Result (List ℕ) Fault)) (start : Building) (number : ℕ) (here : List (Result (List ℕ) Fault)) (old : Building) (before : List Problem)
     → LeadsTo path whole start number here old before → here ≡ [] → AddsLines path 1 whole start old before
 done_here path whole start number here old before leads e =
-    subst (λ told. AddsLines path 1 whole start old told) (append-nil before) (leads old [] (subst (λ l. AddsLines path number l old old []) (sym e) (done number old)))
+    subst (λ reported. AddsLines path 1 whole start old reported) (append-nil before) (leads old [] (subst (λ l. AddsLines path number l old old []) (sym e) (done number old)))
 
 -- A builder to which at most rules were added.
 

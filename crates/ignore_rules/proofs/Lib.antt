@@ -5,7 +5,7 @@ pub mod FileLemmas
 pub mod FolderLemmas
 pub mod MarkLemmas
 pub mod ParentLemmas
-pub mod TakingLemmas
+pub mod DoesMatchLemmas
 pub mod TextLemmas
 mod WorkedLines
 pub mod LinesOnly

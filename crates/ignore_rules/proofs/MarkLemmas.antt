@@ -6,8 +6,8 @@ use Rattle.std.specs.Str.Pattern.{FindsTextPrefix, CutsPrefixes, IsTrimStartMatc
 use Rattle.std.proofs.lemmas.Str.Pattern.{starts_text}
 use Rattle.ignore_rules.specs.RuleFile.{mark, unmarked}
 
-unmarked-front : (text : List ℕ) → unmarked (mark ++ text) ≡ unmarked text
-unmarked-front text = refl
+unmarked-prefix : (text : List ℕ) → unmarked (mark ++ text) ≡ unmarked text
+unmarked-prefix text = refl
 
 unmarked-same : (text : List ℕ) → starts_with nat_eq text mark ≡ false → unmarked text ≡ text
 unmarked-same [] h = refl
@@ -18,7 +18,7 @@ unmarked-same (a ∷ (b ∷ (c ∷ text))) h = ap (λ t. cond t (unmarked text) 
 cut_marks : (text : List ℕ) (ns : List ℕ) (rest : List ℕ) → CutsPrefixes (FindsTextPrefix mark) text ns rest → unmarked text ≡ unmarked rest
 cut_marks text [] rest e = ap unmarked (sym e)
 cut_marks text (n ∷ ns) rest (left, cuts, found, e) =
-    cut_marks text ns left cuts ∙ (ap unmarked found.1 ∙ (unmarked-front (drop n left) ∙ ap unmarked (sym e)))
+    cut_marks text ns left cuts ∙ (ap unmarked found.1 ∙ (unmarked-prefix (drop n left) ∙ ap unmarked (sym e)))
 
 no_mark_left : (rest : List ℕ) (o : Option ℕ) → FindsTextPrefix mark rest o → IfSome o (λ n. n ≡ 0) → unmarked rest ≡ rest
 no_mark_left rest None found zero = unmarked-same rest (sym (starts_text false mark rest found))

@@ -5,52 +5,52 @@ use Rattle.std.proofs.lemmas.List.{map-append, length-take, length-take-le, leng
 use Rattle.std.proofs.lemmas.Str.{encodes-chars, byte_from_char}
 use Rattle.std.specs.Str.{IsUtf8, chars}
 use lib.Utf8.{encodes}
-use Rattle.ignore_glob.proofs.PieceLemmas.{cut_at}
+use Rattle.ignore_glob.proofs.ComponentLemmas.{cut_at}
 use Rattle.ignore_glob.specs.declared.match_result.Match.{Match}
 use Rattle.ignore_glob.specs.declared.match_result.Match.TheVariants.{None, Ignore, Whitelist}
 use Rattle.ignore_glob.specs.Match.{is_none, match_or, match_map}
 use Rattle.ignore_rules.specs.Rules.{Rule, Ruleset}
 use Rattle.ignore_glob.specs.Paths.{is_absolute, strip_of}
-use Rattle.ignore_rules.specs.Parents.{fronts, fronts_from, parents, directories_answer, nearest_answer, is_under_root}
+use Rattle.ignore_rules.specs.Parents.{slash_prefixes, slash_prefixes_from, parents, directories_answer, nearest_answer, is_under_root}
 use Rattle.ignore_rules.specs.Answer.{list_answer}
 
 -- without a slash there is no front
-fronts_none : (path : List ℕ) → ((k : ℕ) → k < length path → get_or path k 0 ≡ 47 → ⊥) → fronts path ≡ []
-fronts_none [] h = refl
-fronts_none (c ∷ path) h =
+slash_prefixes_none : (path : List ℕ) → ((k : ℕ) → k < length path → get_or path k 0 ≡ 47 → ⊥) → slash_prefixes path ≡ []
+slash_prefixes_none [] h = refl
+slash_prefixes_none (c ∷ path) h =
     let here : eqb c 47 ≡ false = false_from_ne_true _ (λ e. h 0 (omega arith) (eqb-true c 47 e)) in
-    let later = fronts_none path (λ k l. h (suc k) (omega arith)) in
-    ap (λ b. cond b ([] ∷ map (λ front. c ∷ front) (fronts path)) (map (λ front. c ∷ front) (fronts path))) here ∙ ap (map (λ front. c ∷ front)) later
+    let later = slash_prefixes_none path (λ k l. h (suc k) (omega arith)) in
+    ap (λ b. cond b ([] ∷ map (λ prefix. c ∷ prefix) (slash_prefixes path)) (map (λ prefix. c ∷ prefix) (slash_prefixes path))) here ∙ ap (map (λ prefix. c ∷ prefix)) later
 
 -- the front before the last slash is the longest
-fronts_last : (front rest : List ℕ) → fronts rest ≡ [] → fronts (front ++ 47 ∷ rest) ≡ fronts front ++ front ∷ []
-fronts_last [] rest none = ap (λ l. [] ∷ map (λ front. 47 ∷ front) l) none
-fronts_last (c ∷ front) rest none = ap (fronts_from c) (fronts_last front rest none) ∙ more (eqb c 47)
+slash_prefixes_last : (prefix rest : List ℕ) → slash_prefixes rest ≡ [] → slash_prefixes (prefix ++ 47 ∷ rest) ≡ slash_prefixes prefix ++ prefix ∷ []
+slash_prefixes_last [] rest none = ap (λ l. [] ∷ map (λ prefix. 47 ∷ prefix) l) none
+slash_prefixes_last (c ∷ prefix) rest none = ap (slash_prefixes_from c) (slash_prefixes_last prefix rest none) ∙ more (eqb c 47)
   where
-    more : (b : Bool) → cond b ([] ∷ map (λ front. c ∷ front) (fronts front ++ front ∷ [])) (map (λ front. c ∷ front) (fronts front ++ front ∷ [])) ≡ cond b ([] ∷ map (λ front. c ∷ front) (fronts front)) (map (λ front. c ∷ front) (fronts front)) ++ (c ∷ front) ∷ []
-    more true = ap (λ l. [] ∷ l) (map-append (λ front. c ∷ front) (fronts front) (front ∷ []))
-    more false = map-append (λ front. c ∷ front) (fronts front) (front ∷ [])
+    more : (b : Bool) → cond b ([] ∷ map (λ prefix. c ∷ prefix) (slash_prefixes prefix ++ prefix ∷ [])) (map (λ prefix. c ∷ prefix) (slash_prefixes prefix ++ prefix ∷ [])) ≡ cond b ([] ∷ map (λ prefix. c ∷ prefix) (slash_prefixes prefix)) (map (λ prefix. c ∷ prefix) (slash_prefixes prefix)) ++ (c ∷ prefix) ∷ []
+    more true = ap (λ l. [] ∷ l) (map-append (λ prefix. c ∷ prefix) (slash_prefixes prefix) (prefix ∷ []))
+    more false = map-append (λ prefix. c ∷ prefix) (slash_prefixes prefix) (prefix ∷ [])
 
-parents-filled : (path : List ℕ) → 0 < length path → parents path ≡ reverse ([] ∷ fronts path)
+parents-filled : (path : List ℕ) → 0 < length path → parents path ≡ reverse ([] ∷ slash_prefixes path)
 parents-filled [] h = absurd (omega (arith, h))
 parents-filled (c ∷ path) h = refl
 
 -- a path is cut before its last slash, or else to the empty path
 pub parents-cut : (path : List ℕ) (n : ℕ) → 0 < length path → get_or path 0 0 ≢ 47 → n < length path → (0 < n → get_or path n 0 ≡ 47) → ((k : ℕ) → n < k → k < length path → get_or path k 0 ≢ 47) → parents path ≡ take n path ∷ parents (take n path)
 parents-cut path zero some first l here last =
-    parents-filled path some ∙ ap (λ l. reverse ([] ∷ l)) (fronts_none path none)
+    parents-filled path some ∙ ap (λ l. reverse ([] ∷ l)) (slash_prefixes_none path none)
   where
     none : (k : ℕ) → k < length path → get_or path k 0 ≡ 47 → ⊥
     none zero h = first
     none (suc k) h = last (suc k) (omega arith) h
 parents-cut path (suc n) some first l here last =
     let cut : path ≡ take (suc n) path ++ 47 ∷ drop (suc n + 1) path = cut_at path (suc n) l (eq-eqb _ 47 (here (omega arith))) in
-    let none = fronts_none (drop (suc n + 1) path) (λ k h e. last (suc n + 1 + k) (omega arith) (omega (arith, length-drop (suc n + 1) path, h)) (sym (get_or-drop (suc n + 1) path k 0) ∙ e)) in
-    let front = parents-filled (take (suc n) path) (omega (arith, length-take (suc n) path)) in
+    let none = slash_prefixes_none (drop (suc n + 1) path) (λ k h e. last (suc n + 1 + k) (omega arith) (omega (arith, length-drop (suc n + 1) path, h)) (sym (get_or-drop (suc n + 1) path k 0) ∙ e)) in
+    let prefix = parents-filled (take (suc n) path) (omega (arith, length-take (suc n) path)) in
     parents-filled path some
-    ∙ (ap (λ l. reverse ([] ∷ fronts l)) cut
-    ∙ (ap (λ l. reverse ([] ∷ l)) (fronts_last (take (suc n) path) (drop (suc n + 1) path) none)
-    ∙ (reverse-append ([] ∷ fronts (take (suc n) path)) (take (suc n) path ∷ []) ∙ ap (λ l. take (suc n) path ∷ l) (sym front))))
+    ∙ (ap (λ l. reverse ([] ∷ slash_prefixes l)) cut
+    ∙ (ap (λ l. reverse ([] ∷ l)) (slash_prefixes_last (take (suc n) path) (drop (suc n + 1) path) none)
+    ∙ (reverse-append ([] ∷ slash_prefixes (take (suc n) path)) (take (suc n) path ∷ []) ∙ ap (λ l. take (suc n) path ∷ l) (sym prefix))))
 
 -- the directories that are left to be asked
 pub ask_parent : (rules : List Rule) (path : List ℕ) (n : ℕ) → 0 < length path → get_or path 0 0 ≢ 47 → n < length path → (0 < n → get_or path n 0 ≡ 47) → ((k : ℕ) → n < k → k < length path → get_or path k 0 ≢ 47) → directories_answer rules (parents path) ≡ match_or (list_answer rules (take n path) true) (directories_answer rules (parents (take n path)))
@@ -93,8 +93,8 @@ pub first_slash : (bytes : List ℕ) → IsUtf8 bytes → get_or (chars bytes) 0
 first_slash bytes utf8 e = first (chars bytes) (encodes-chars bytes utf8) e
   where
     first : (cs : List ℕ) → encodes cs ≡ bytes → get_or cs 0 0 ≡ 47 → get_or bytes 0 0 ≡ 47
-    first [] written h = absurd (false≢true (ap (λ (n : ℕ). eqb n 47) h))
-    first (c ∷ cs) written h = let is : c ≡ 47 = h in byte_from_char bytes (encodes cs) c (sym written) (omega arith) ∙ is
+    first [] parsed_line h = absurd (false≢true (ap (λ (n : ℕ). eqb n 47) h))
+    first (c ∷ cs) parsed_line h = let is : c ≡ 47 = h in byte_from_char bytes (encodes cs) c (sym parsed_line) (omega arith) ∙ is
 
 -- a path that can be asked about together with its parents leaves no text that begins with a slash
 pub no_first_slash : (g : Ruleset) (path bytes : List ℕ) → bytes ≡ strip_of g.root path → IsUtf8 bytes → is_under_root g path ≡ true → eqb (length g.rules) 0 ≡ false → get_or (chars bytes) 0 0 ≡ 47 → ⊥

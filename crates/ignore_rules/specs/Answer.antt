@@ -5,21 +5,21 @@ use Rattle.ignore_glob.specs.declared.match_result.Match.{Match}
 use Rattle.ignore_glob.specs.declared.match_result.Match.TheVariants.{None, Ignore, Whitelist}
 use Rattle.ignore_glob.specs.Match.{match_or}
 use Rattle.ignore_glob.specs.Paths.{strip_of}
-use Rattle.ignore_glob.specs.Reading.{Takes}
+use Rattle.ignore_glob.specs.Reading.{Matches}
 use Rattle.ignore_rules.specs.Rules.{Rule}
-use Rattle.ignore_rules.specs.Taking.{does_take}
+use Rattle.ignore_rules.specs.DoesMatch.{does_match}
 
 -- whether the rule takes the text and speaks of the kind
 abbrev pub does_apply : List ℕ → Bool → Rule → Bool
-does_apply text is_dir rule = (not rule.is_only_dir || is_dir) && does_take rule.reading text
+does_apply text is_dir rule = (not rule.is_only_dir || is_dir) && does_match rule.reading text
 
 -- what the rule says of a path where it decides
-abbrev pub told_by : Rule → Match Rule
-told_by rule = if rule.is_whitelist then Whitelist rule else Ignore rule
+abbrev pub decision_of : Rule → Match Rule
+decision_of rule = if rule.is_whitelist then Whitelist rule else Ignore rule
 
 -- what a rule says where it applies
 abbrev pub rule_answer : List ℕ → Bool → Rule → Match Rule
-rule_answer text is_dir rule = if does_apply text is_dir rule then told_by rule else None
+rule_answer text is_dir rule = if does_apply text is_dir rule then decision_of rule else None
 
 -- what the last rule that applies says: a later one overrides
 abbrev pub list_answer : List Rule → List ℕ → Bool → Match Rule
@@ -34,7 +34,7 @@ answer root rules path is_dir = list_answer rules (chars (strip_of root path)) i
 
 -- the rule takes the text, and a rule for directories is asked about one
 abbrev pub Applies : List ℕ → Bool → Rule → Type 0
-Applies text is_dir rule = ((rule.is_only_dir ≡ false) ⊎ (is_dir ≡ true)) × Takes rule.reading text
+Applies text is_dir rule = ((rule.is_only_dir ≡ false) ⊎ (is_dir ≡ true)) × Matches rule.reading text
 
 -- the rule with the greatest index that applies
 pub record IsLast (rules : List Rule) (text : List ℕ) (is_dir : Bool) (rule : Rule) : Type 0 where

@@ -1,5 +1,5 @@
 pub mod Line
-pub mod Taking
+pub mod DoesMatch
 pub mod Rules
 pub mod Answer
 pub mod Overrides

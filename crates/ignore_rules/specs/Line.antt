@@ -5,52 +5,52 @@ use Rattle.std.specs.Str.{trim_end, bytes_eq}
 use Rattle.ignore_glob.specs.Paths.{has_slash}
 
 -- the text begins, or ends, with this one
-abbrev pub begins : List ℕ → List ℕ → Bool
-begins start text = starts_with nat_eq text start
+abbrev pub has_prefix : List ℕ → List ℕ → Bool
+has_prefix start text = starts_with nat_eq text start
 
-abbrev pub ends : List ℕ → List ℕ → Bool
-ends end text = ends_with nat_eq text end
+abbrev pub has_suffix : List ℕ → List ℕ → Bool
+has_suffix end text = ends_with nat_eq text end
 
 -- the text without this beginning, or this end, where it has it
-abbrev pub without_start : List ℕ → List ℕ → List ℕ
-without_start start text = if begins start text then drop (length start) text else text
+abbrev pub without_prefix : List ℕ → List ℕ → List ℕ
+without_prefix start text = if has_prefix start text then drop (length start) text else text
 
-abbrev pub without_end : List ℕ → List ℕ → List ℕ
-without_end end text = if ends end text then take (length text - length end) text else text
+abbrev pub without_suffix : List ℕ → List ℕ → List ℕ
+without_suffix end text = if has_suffix end text then take (length text - length end) text else text
 
 -- trailing white space goes, unless the line ends with a backslash and one space
 abbrev pub trimmed : List ℕ → List ℕ
-trimmed line = if ends (codes "\\ ") line then line else trim_end line
+trimmed line = if has_suffix (codes "\\ ") line then line else trim_end line
 
 -- a comment, or nothing but white space
 abbrev pub is_silent : List ℕ → Bool
-is_silent line = begins (codes "#") line || length (trimmed line) == 0
+is_silent line = has_prefix (codes "#") line || length (trimmed line) == 0
 
 -- What follows speaks of a trimmed line.
 
 -- a leading `!` turns the rule round
 abbrev pub is_whitelist : List ℕ → Bool
-is_whitelist line = begins (codes "!") line
+is_whitelist line = has_prefix (codes "!") line
 
 -- then a leading `/` binds it to its root
 abbrev pub is_anchored : List ℕ → Bool
-is_anchored line = begins (codes "/") (without_start (codes "!") line)
+is_anchored line = has_prefix (codes "/") (without_prefix (codes "!") line)
 
 -- the first character is a `!` or a `#` for itself
 abbrev pub is_escaped : List ℕ → Bool
-is_escaped line = begins (codes "\\!") line || begins (codes "\\#") line
+is_escaped line = has_prefix (codes "\\!") line || has_prefix (codes "\\#") line
 
 -- the line without what stands before its pattern
 abbrev pub body : List ℕ → List ℕ
-body line = if is_escaped line then drop 1 line else without_start (codes "/") (without_start (codes "!") line)
+body line = if is_escaped line then drop 1 line else without_prefix (codes "/") (without_prefix (codes "!") line)
 
 -- a final `/` speaks of directories only
 abbrev pub is_only_dir : List ℕ → Bool
-is_only_dir line = ends (codes "/") (body line)
+is_only_dir line = has_suffix (codes "/") (body line)
 
 -- it goes, and a backslash directly before it goes too
 abbrev pub pattern : List ℕ → List ℕ
-pattern line = if is_only_dir line then without_end (codes "\\") (without_end (codes "/") (body line)) else body line
+pattern line = if is_only_dir line then without_suffix (codes "\\") (without_suffix (codes "/") (body line)) else body line
 
 -- without any slash and not bound to its root, it is asked at every depth; `**` alone is so as it stands
 abbrev pub is_floating : List ℕ → Bool
@@ -62,19 +62,19 @@ placed line = if is_floating line then codes "**/" ++ pattern line else pattern 
 
 -- what takes all below a directory doesn't take the directory
 abbrev pub actual : List ℕ → List ℕ
-actual line = if ends (codes "/**") (placed line) then placed line ++ codes "/*" else placed line
+actual line = if has_suffix (codes "/**") (placed line) then placed line ++ codes "/*" else placed line
 
 -- a line that says something
-pub record Written : Type 0 where
+pub record ParsedLine : Type 0 where
   pub original : List ℕ
   pub actual : List ℕ
   pub is_whitelist : Bool
   pub is_only_dir : Bool
 
 -- what a trimmed line says
-abbrev pub written_as : List ℕ → Written
-written_as line = record { original = line; actual = actual line; is_whitelist = is_whitelist line; is_only_dir = is_only_dir line }
+abbrev pub parsed_as : List ℕ → ParsedLine
+parsed_as line = record { original = line; actual = actual line; is_whitelist = is_whitelist line; is_only_dir = is_only_dir line }
 
 -- what a whole line says, if anything
-abbrev pub written : List ℕ → Option Written
-written line = if is_silent line then None else Some (written_as (trimmed line))
+abbrev pub parsed_line : List ℕ → Option ParsedLine
+parsed_line line = if is_silent line then None else Some (parsed_as (trimmed line))

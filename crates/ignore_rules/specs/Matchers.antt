@@ -3,14 +3,14 @@ use Rattle.std.specs.Prelude.{◌≡◌, ◌⊎◌, ◌==◌, ◌&&◌, ℕ, Boo
 use Rattle.ignore_glob.specs.declared.fault.Fault.{Fault}
 use Rattle.ignore_glob.specs.declared.fault.Fault.TheVariants.{NoCurrentDir}
 use Rattle.ignore_glob.specs.Errors.{io_fault}
-use Rattle.ignore_glob.specs.Paths.{is_absolute, joined, pieces}
+use Rattle.ignore_glob.specs.Paths.{is_absolute, joined, components}
 use Rattle.ignore_glob.specs.Problem.{Problem, io}
 use Rattle.ignore_files.specs.declared.env.Env.{Env}
 use Rattle.ignore_files.specs.declared.types.Contents.{Contents}
 use Rattle.ignore_files.specs.declared.types.Metadata.{Metadata}
 use Rattle.ignore_files.specs.declared.types.Refusal.{Refusal}
 use Rattle.ignore_files.specs.Kinds.{is_file}
-use Rattle.ignore_files.specs.Memory.{front}
+use Rattle.ignore_files.specs.Memory.{but_last}
 use Rattle.ignore_files.specs.Tree.{Tree}
 use Rattle.ignore_rules.specs.Rules.{Building, Ruleset, begun, built, empty}
 use Rattle.ignore_excludes.specs.ExcludesSearch.{IsExcludesPath}
@@ -18,7 +18,7 @@ use Rattle.ignore_rules.specs.RuleFile.{AddsFile, AddsAnswer}
 
 -- what stands before the last slash of a path; a path without a slash gives the empty text, a path directly below `/` gives `/`
 abbrev pub folder_of : List ℕ → List ℕ
-folder_of path = let folder = joined (front (pieces path)) in if is_absolute path && length folder == 0 then codes "/" else folder
+folder_of path = let folder = joined (but_last (components path)) in if is_absolute path && length folder == 0 then codes "/" else folder
 
 -- the problem, unless it comes down to a fault of the file system
 abbrev pub without_fault : Option Problem → Option Problem
@@ -27,48 +27,48 @@ without_fault (Some problem) = if is_some (io_fault problem) then None else Some
 
 -- the matcher of the builder to which the file was added, and what is told of that
 abbrev pub BuildsFile : Tree → List ℕ → Building → Ruleset → Option Problem → Type 0
-BuildsFile tree path builder matcher told =
-    (filled : Building) × (problem : Option Problem) × AddsFile tree path builder filled problem × (matcher ≡ built filled) × (told ≡ without_fault problem)
+BuildsFile tree path builder matcher reported =
+    (filled : Building) × (problem : Option Problem) × AddsFile tree path builder filled problem × (matcher ≡ built filled) × (reported ≡ without_fault problem)
 
 -- the matcher of the builder to which what one call answered for the file was added, and what is told of that
 abbrev pub BuildsAnswer : List ℕ → Result Contents Refusal → Building → Ruleset → Option Problem → Type 0
-BuildsAnswer path answer builder matcher told =
-    (filled : Building) × (problem : Option Problem) × AddsAnswer path answer builder filled problem × (matcher ≡ built filled) × (told ≡ without_fault problem)
+BuildsAnswer path answer builder matcher reported =
+    (filled : Building) × (problem : Option Problem) × AddsAnswer path answer builder filled problem × (matcher ≡ built filled) × (reported ≡ without_fault problem)
 
 -- the empty matcher, or that of the builder to which what one call answered for some file was added
 abbrev pub BuildsAnyAnswer : (List ℕ → Result Contents Refusal → Type 0) → Building → Ruleset → Option Problem → Type 0
-BuildsAnyAnswer Gives builder matcher told =
-    ((matcher ≡ empty) × (told ≡ None))
-    ⊎ ((path : List ℕ) × (answer : Result Contents Refusal) × Gives path answer × BuildsAnswer path answer builder matcher told)
+BuildsAnyAnswer Gives builder matcher reported =
+    ((matcher ≡ empty) × (reported ≡ None))
+    ⊎ ((path : List ℕ) × (answer : Result Contents Refusal) × Gives path answer × BuildsAnswer path answer builder matcher reported)
 
 -- the matcher of one file, relative to the directory of the file
 abbrev pub IsMatcherOf : Tree → List ℕ → Ruleset → Option Problem → Type 0
-IsMatcherOf tree path matcher told = BuildsFile tree path (begun (folder_of path)) matcher told
+IsMatcherOf tree path matcher reported = BuildsFile tree path (begun (folder_of path)) matcher reported
 
 -- a followed `stat` says that a file is there
-abbrev pub says_file : Result Metadata Fault → Bool
-says_file (Ok metadata) = is_file metadata.file_type
-says_file (Err fault) = false
+abbrev pub is_file_there : Result Metadata Fault → Bool
+is_file_there (Ok metadata) = is_file metadata.file_type
+is_file_there (Err fault) = false
 
 -- the global file, where the path of the excludes file leads to a file
 abbrev pub global_file : Tree → Option (List ℕ) → Option (List ℕ)
 global_file tree None = None
-global_file tree (Some path) = if says_file (tree.stat path true) then Some path else None
+global_file tree (Some path) = if is_file_there (tree.stat path true) then Some path else None
 
 -- the matcher of the builder to which the global file was added, if there is one, else the empty matcher
 abbrev pub BuildsWith : Tree → Option (List ℕ) → Building → Ruleset → Option Problem → Type 0
-BuildsWith tree None builder matcher told = (matcher ≡ empty) × (told ≡ None)
-BuildsWith tree (Some path) builder matcher told = BuildsFile tree path builder matcher told
+BuildsWith tree None builder matcher reported = (matcher ≡ empty) × (reported ≡ None)
+BuildsWith tree (Some path) builder matcher reported = BuildsFile tree path builder matcher reported
 
 -- the same, with the global file that git's configuration names
 abbrev pub BuildsGlobal : Tree → Env → Building → Ruleset → Option Problem → Type 0
-BuildsGlobal tree env builder matcher told =
-    (found : Option (List ℕ)) × IsExcludesPath tree env found × BuildsWith tree (global_file tree found) builder matcher told
+BuildsGlobal tree env builder matcher reported =
+    (found : Option (List ℕ)) × IsExcludesPath tree env found × BuildsWith tree (global_file tree found) builder matcher reported
 
 -- the matcher of the global file, relative to the working directory, if that is known
 abbrev pub IsGlobalIn : Tree → Env → Option (List ℕ) → Ruleset → Option Problem → Type 0
-IsGlobalIn tree env None matcher told = (matcher ≡ empty) × (told ≡ Some (io NoCurrentDir))
-IsGlobalIn tree env (Some dir) matcher told = BuildsGlobal tree env (begun dir) matcher told
+IsGlobalIn tree env None matcher reported = (matcher ≡ empty) × (reported ≡ Some (io NoCurrentDir))
+IsGlobalIn tree env (Some dir) matcher reported = BuildsGlobal tree env (begun dir) matcher reported
 
 abbrev pub IsGlobalMatcher : Tree → Env → Ruleset → Option Problem → Type 0
-IsGlobalMatcher tree env matcher told = IsGlobalIn tree env env.current_dir matcher told
+IsGlobalMatcher tree env matcher reported = IsGlobalIn tree env env.current_dir matcher reported

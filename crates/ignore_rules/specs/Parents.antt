@@ -9,18 +9,18 @@ use Rattle.ignore_rules.specs.Rules.{Rule, Ruleset}
 use Rattle.ignore_rules.specs.Answer.{list_answer}
 
 -- the front before a first slash, if it is one, and the further fronts
-abbrev pub fronts_from : ℕ → List (List ℕ) → List (List ℕ)
-fronts_from c fronts = if c == 47 then [] ∷ map (λ front. c ∷ front) fronts else map (λ front. c ∷ front) fronts
+abbrev pub slash_prefixes_from : ℕ → List (List ℕ) → List (List ℕ)
+slash_prefixes_from c slash_prefixes = if c == 47 then [] ∷ map (λ prefix. c ∷ prefix) slash_prefixes else map (λ prefix. c ∷ prefix) slash_prefixes
 
 -- the fronts of a path before each of its slashes, the shortest first
-abbrev pub fronts : List ℕ → List (List ℕ)
-fronts [] = []
-fronts (c ∷ path) = fronts_from c (fronts path)
+abbrev pub slash_prefixes : List ℕ → List (List ℕ)
+slash_prefixes [] = []
+slash_prefixes (c ∷ path) = slash_prefixes_from c (slash_prefixes path)
 
 -- the parents of a path, the nearest first: it is cut before its last slash, before the one before that, and so on; the last is the empty path, which has no parent
 abbrev pub parents : List ℕ → List (List ℕ)
 parents [] = []
-parents (c ∷ path) = reverse ([] ∷ fronts (c ∷ path))
+parents (c ∷ path) = reverse ([] ∷ slash_prefixes (c ∷ path))
 
 -- the first answer that is a match
 abbrev pub first_match : List (Match Rule) → Match Rule

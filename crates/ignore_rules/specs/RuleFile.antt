@@ -25,26 +25,26 @@ unmarked (a ∷ (b ∷ [])) = a ∷ (b ∷ [])
 unmarked (a ∷ (b ∷ (c ∷ text))) = if starts_with nat_eq (a ∷ (b ∷ (c ∷ text))) mark then unmarked text else a ∷ (b ∷ (c ∷ text))
 
 -- what the line with a number says: marks go from the first
-abbrev pub said_at : ℕ → List ℕ → List ℕ
-said_at number line = if number == 1 then unmarked line else line
+abbrev pub line_content : ℕ → List ℕ → List ℕ
+line_content number line = if number == 1 then unmarked line else line
 
 -- a line that is met: a text, or the fault that it isn't one
-abbrev pub met : List ℕ → Result (List ℕ) Fault
-met line = if is_utf8 line then Ok line else Err InvalidData
+abbrev pub decoded : List ℕ → Result (List ℕ) Fault
+decoded line = if is_utf8 line then Ok line else Err InvalidData
 
 -- of the pieces between line ends the lines that have an end: all but the last
-abbrev pub ended_of_parts : List (List ℕ) → List (List ℕ)
-ended_of_parts [] = []
-ended_of_parts (last ∷ []) = []
-ended_of_parts (line ∷ (next ∷ more)) = strip_carriage_return line ∷ ended_of_parts (next ∷ more)
+abbrev pub ended_of_segments : List (List ℕ) → List (List ℕ)
+ended_of_segments [] = []
+ended_of_segments (last ∷ []) = []
+ended_of_segments (line ∷ (next ∷ more)) = strip_carriage_return line ∷ ended_of_segments (next ∷ more)
 
 abbrev pub ended_lines : List ℕ → List (List ℕ)
-ended_lines bytes = ended_of_parts (slice_split (λ b. b == 10) bytes)
+ended_lines bytes = ended_of_segments (slice_split (λ b. b == 10) bytes)
 
 -- what is met, line by line: the lines of a file that was read to its end; before a fault the lines that have an end, and then the fault
-abbrev pub lines_met : List ℕ → Option Fault → List (Result (List ℕ) Fault)
-lines_met bytes None = map met (lines bytes)
-lines_met bytes (Some fault) = map met (ended_lines bytes) ++ Err fault ∷ []
+abbrev pub lines_read : List ℕ → Option Fault → List (Result (List ℕ) Fault)
+lines_read bytes None = map decoded (lines bytes)
+lines_read bytes (Some fault) = map decoded (ended_lines bytes) ++ Err fault ∷ []
 
 -- a problem in a file: an empty path isn't told
 abbrev pub in_file : List ℕ → Problem → Problem
@@ -59,14 +59,14 @@ pub data AddsLines (path : List ℕ) : ℕ → List (Result (List ℕ) Fault) �
   done : (number : ℕ) (old : Building) → AddsLines path number [] old old []
   stopped : (number : ℕ) (fault : Fault) (more : List (Result (List ℕ) Fault)) (old : Building) → AddsLines path number (Err fault ∷ more) old old (at_line_of path number (io fault) ∷ [])
   added : (number : ℕ) (line : List ℕ) (more : List (Result (List ℕ) Fault)) (old between new : Building) (problems : List Problem)
-      → AddsLine old (Some path) (said_at number line) between → AddsLines path (number + 1) more between new problems → AddsLines path number (Ok line ∷ more) old new problems
+      → AddsLine old (Some path) (line_content number line) between → AddsLines path (number + 1) more between new problems → AddsLines path number (Ok line ∷ more) old new problems
   refused : (number : ℕ) (line : List ℕ) (more : List (Result (List ℕ) Fault)) (old new : Building) (problem : Problem) (problems : List Problem)
-      → Refuses old.options (said_at number line) problem → AddsLines path (number + 1) more old new problems → AddsLines path number (Ok line ∷ more) old new (at_line_of path number problem ∷ problems)
+      → Refuses old.options (line_content number line) problem → AddsLines path (number + 1) more old new problems → AddsLines path number (Ok line ∷ more) old new (at_line_of path number problem ∷ problems)
 
 -- what a file gave was added, with this problem, if any: all problems of its lines as one, or that it can't be opened
 abbrev pub AddsContents : List ℕ → Result Contents Fault → Building → Building → Option Problem → Type 0
 AddsContents path (Ok contents) old new problem =
-    (problems : List Problem) × AddsLines path 1 (lines_met contents.bytes contents.fault) old new problems × (problem ≡ joined problems)
+    (problems : List Problem) × AddsLines path 1 (lines_read contents.bytes contents.fault) old new problems × (problem ≡ joined problems)
 AddsContents path (Err fault) old new problem = (new ≡ old) × (problem ≡ Some (at_path path (io fault)))
 
 -- the file at the path in the tree was added

@@ -10,7 +10,7 @@ use Rattle.ignore_glob.specs.Paths.{trim_of}
 use Rattle.ignore_glob.specs.Problem.{Problem, glob}
 use Rattle.ignore_glob.specs.Reading.{Reading, reading_code}
 use Rattle.ignore_glob.specs.Row.{Reads, IsFaulty}
-use Rattle.ignore_rules.specs.Line.{Written, written}
+use Rattle.ignore_rules.specs.Line.{ParsedLine, parsed_line}
 
 -- a rule: where it came from, its line, the glob that the line stands for, how that was read, and its two flags
 pub record Rule : Type 0 where
@@ -37,25 +37,25 @@ pub record Building : Type 0 where
   pub options : LineOptions
 
 -- the rule of a line that says this, whose glob has this reading
-abbrev pub read_rule : Option (List ℕ) → Written → Reading → Rule
+abbrev pub read_rule : Option (List ℕ) → ParsedLine → Reading → Rule
 read_rule from w reading =
     record { from = from; original = w.original; actual = w.actual; is_whitelist = w.is_whitelist; is_only_dir = w.is_only_dir; reading = reading }
 
 -- what says this gives this rule, or none
-abbrev pub SaysRule : LineOptions → Option (List ℕ) → Option Written → Option Rule → Type 0
-SaysRule options from None given = given ≡ None
-SaysRule options from (Some w) given =
+abbrev pub GivesRule : LineOptions → Option (List ℕ) → Option ParsedLine → Option Rule → Type 0
+GivesRule options from None given = given ≡ None
+GivesRule options from (Some w) given =
     (tokens : Tokens) × Reads options.glob (chars w.actual) tokens
     × (given ≡ Some (read_rule from w (record { tokens = tokens; case_insensitive = options.glob.case_insensitive })))
 
 -- what says this is refused, as its glob has a fault
-abbrev pub SaysFault : LineOptions → Option Written → Problem → Type 0
-SaysFault options None problem = ⊥
-SaysFault options (Some w) problem = (f : GlobFault) × IsFaulty options.glob (chars w.actual) f × (problem ≡ glob (Some w.original) (glob_fault_text f))
+abbrev pub GivesProblem : LineOptions → Option ParsedLine → Problem → Type 0
+GivesProblem options None problem = ⊥
+GivesProblem options (Some w) problem = (f : GlobFault) × IsFaulty options.glob (chars w.actual) f × (problem ≡ glob (Some w.original) (glob_fault_text f))
 
 -- the line is refused, with this problem
 abbrev pub Refuses : LineOptions → List ℕ → Problem → Type 0
-Refuses options line problem = SaysFault options (written line) problem
+Refuses options line problem = GivesProblem options (parsed_line line) problem
 
 -- the builder with one more rule, if any
 abbrev pub with_rule : Building → Option Rule → Building
@@ -63,12 +63,12 @@ with_rule b None = b
 with_rule b (Some rule) = record { root = b.root; rules = b.rules ++ rule ∷ []; options = b.options }
 
 -- from the old builder to the new one, a line that says this was added
-abbrev pub AddsWritten : Building → Option (List ℕ) → Option Written → Building → Type 0
-AddsWritten old from says new = (given : Option Rule) × SaysRule old.options from says given × (new ≡ with_rule old given)
+abbrev pub AddsParsed : Building → Option (List ℕ) → Option ParsedLine → Building → Type 0
+AddsParsed old from parsed new = (given : Option Rule) × GivesRule old.options from parsed given × (new ≡ with_rule old given)
 
 -- from the old builder to the new one, a line was added
 abbrev pub AddsLine : Building → Option (List ℕ) → List ℕ → Building → Type 0
-AddsLine old from line new = AddsWritten old from (written line) new
+AddsLine old from line new = AddsParsed old from (parsed_line line) new
 
 -- a builder at its start: no rules, both ASCII cases told apart, an unclosed class allowed
 abbrev pub begun : List ℕ → Building

@@ -3,7 +3,7 @@
 //! They are gitignore globs with the meaning turned round: a glob lets through what it takes, and
 //! one behind a `!` hides it.
 ghost use Rattle.std.specs.Prelude.{◌≡◌, ◌⊎◌, ◌==◌, None, false, IfOk, IfErr, IsOk, OnOk, OnErr, length};
-ghost use Rattle.ignore_glob.specs.Problem.{told, memory};
+ghost use Rattle.ignore_glob.specs.Problem.{problem_of, memory};
 ghost use Rattle.ignore_rules.specs.Overrides.{has_whitelist, override_answer};
 ghost use Rattle.ignore_rules.specs.Rules.{begun, empty, built, AddsLine, Refuses, ignore_count, whitelist_count, with_case_insensitive, with_unclosed_class};
 
@@ -105,7 +105,7 @@ impl Override {
     /// `Error::Memory` alone.
     pub fn matched(&self, path: &str, is_dir: bool) -> Result<Match<Glob<'_>>, Error>
         ensures answered { IfOk result (λ m. m ≡ override_answer self.now path.now is_dir) }
-        ensures refused { IfErr result (λ e. told e ≡ memory) }
+        ensures out_of_memory { IfErr result (λ e. problem_of e ≡ memory) }
     {
         match self.globs.matched(path, is_dir) {
             Ok(Match::Ignore(rule)) => Ok(Match::Whitelist(Glob { rule: Some(rule) })),
@@ -149,8 +149,8 @@ impl OverrideBuilder {
     /// # Errors
     /// `Error::Memory` alone.
     pub fn new(alloc: Global, root: &str) -> Result<OverrideBuilder, Error>
-        ensures ok { IfOk result (λ b. b ≡ with_unclosed_class (begun root.now) false) }
-        ensures refused { IfErr result (λ e. told e ≡ memory) }
+        ensures value { IfOk result (λ b. b ≡ with_unclosed_class (begun root.now) false) }
+        ensures out_of_memory { IfErr result (λ e. problem_of e ≡ memory) }
     {
         match GitignoreBuilder::new(alloc, root) {
             Ok(mut globs) => {
@@ -169,7 +169,7 @@ impl OverrideBuilder {
     pub fn add(&mut self, glob: &str) -> Result<&mut Self, Error>
         ensures same_reference { IfOk result (λ b. b.ghost_name ≡ self.entry.ghost_name) }
         ensures added { IfOk result (λ b. AddsLine self.old None glob.now b.now) }
-        ensures refused { IfErr result (λ e. (told e ≡ memory) ⊎ Refuses self.old.options glob.now (told e)) }
+        ensures refused { IfErr result (λ e. (problem_of e ≡ memory) ⊎ Refuses self.old.options glob.now (problem_of e)) }
     {
         match self.push(glob) {
             Ok(()) => Ok(self),
@@ -180,7 +180,7 @@ impl OverrideBuilder {
     /// For the crates above: as `add`, without the builder in the answer.
     pub fn push(&mut self, glob: &str) -> Result<(), Error>
         ensures added { OnOk result (AddsLine self.old None glob.now self.new) }
-        ensures refused { IfErr result (λ e. (told e ≡ memory) ⊎ Refuses self.old.options glob.now (told e)) }
+        ensures refused { IfErr result (λ e. (problem_of e ≡ memory) ⊎ Refuses self.old.options glob.now (problem_of e)) }
         ensures unchanged { OnErr result (self.new ≡ self.old) }
     {
         self.globs.push_line(None, glob)
@@ -191,8 +191,8 @@ impl OverrideBuilder {
     /// # Errors
     /// `Error::Memory` alone.
     pub fn build(&self) -> Result<Override, Error>
-        ensures ok { IfOk result (λ o. o ≡ built self.now) }
-        ensures refused { IfErr result (λ e. told e ≡ memory) }
+        ensures value { IfOk result (λ o. o ≡ built self.now) }
+        ensures out_of_memory { IfErr result (λ e. problem_of e ≡ memory) }
     {
         match self.globs.build() {
             Ok(globs) => Ok(Override { globs }),
@@ -202,7 +202,7 @@ impl OverrideBuilder {
 
     /// Whether later globs take both ASCII cases of a letter. It is off at first, and always `Ok`.
     pub fn case_insensitive(&mut self, yes: bool) -> Result<&mut Self, Error>
-        ensures ok { IsOk result }
+        ensures succeeds { IsOk result }
         ensures same_reference { IfOk result (λ b. b.ghost_name ≡ self.entry.ghost_name) }
         ensures value { IfOk result (λ b. b.now ≡ with_case_insensitive self.old yes) }
     {

@@ -97,7 +97,7 @@ fn sorted(alloc: Global, answer: Result<Listing, Refusal>) -> Result<Vec<String>
 }
 
 /// What the five calls answer for a path, but for the order of a listing and the size of a directory. Of the identity it tells whether a link has that of what it leads to.
-fn told<F: Files>(alloc: Global, files: &F, path: &str) -> Result<String, AllocError> {
+fn reported<F: Files>(alloc: Global, files: &F, path: &str) -> Result<String, AllocError> {
     let followed = files.stat(alloc, path, true).map(without_size);
     let own = files.stat(alloc, path, false).map(without_size);
     let listing = sorted(alloc, files.list(alloc, path));
@@ -113,8 +113,8 @@ fn differences(rt: &HostRuntime, things: &str, paths: &str) -> Result<String, Fa
     let tree = made(rt, things)?;
     let mut text = String::new(rt.alloc());
     for path in paths.split('|') {
-        let on_disk = told(rt.alloc(), &DiskFiles::new(rt), path)?;
-        let in_memory = told(rt.alloc(), &tree, path)?;
+        let on_disk = reported(rt.alloc(), &DiskFiles::new(rt), path)?;
+        let in_memory = reported(rt.alloc(), &tree, path)?;
         if on_disk != in_memory {
             write!(text, "{path}: {on_disk}, and not {in_memory}\n")?;
         }
@@ -124,7 +124,7 @@ fn differences(rt: &HostRuntime, things: &str, paths: &str) -> Result<String, Fa
 }
 
 #[test]
-fn files_and_folders_are_told_as_in_memory(rt: HostRuntime) -> Result<(), Fail> {
+fn files_and_folders_are_reported_as_in_memory(rt: HostRuntime) -> Result<(), Fail> {
     let things = "some=ab\u{ff}|none=|below/|below/.hidden=b|below/x/";
     let paths = ".|./|some|.//none|below|below/|below/../some|below/./.hidden|below/x";
     assert_eq!(rt; differences(&rt, things, paths)?.as_str(), "");
@@ -132,14 +132,14 @@ fn files_and_folders_are_told_as_in_memory(rt: HostRuntime) -> Result<(), Fail> 
 }
 
 #[test]
-fn paths_that_lead_nowhere_are_told_as_in_memory(rt: HostRuntime) -> Result<(), Fail> {
+fn paths_that_lead_nowhere_are_reported_as_in_memory(rt: HostRuntime) -> Result<(), Fail> {
     let paths = "|no|no/..|no/|no/below|file/|file/..|file/below|no/../file";
     assert_eq!(rt; differences(&rt, "file=a", paths)?.as_str(), "");
     Ok(())
 }
 
 #[test]
-fn links_are_told_as_in_memory(rt: HostRuntime) -> Result<(), Fail> {
+fn links_are_reported_as_in_memory(rt: HostRuntime) -> Result<(), Fail> {
     let things = "dir/|dir/file=a|file>dir/file|twice>./file|to>dir|dir/up>..|at>file/|here>.";
     let paths = ".|file|twice|to|to/|to/file|to/up|to/..|to/up/to/up/file|at|file/|here|here/to/";
     assert_eq!(rt; differences(&rt, things, paths)?.as_str(), "");
@@ -147,7 +147,7 @@ fn links_are_told_as_in_memory(rt: HostRuntime) -> Result<(), Fail> {
 }
 
 #[test]
-fn links_that_lead_nowhere_are_told_as_in_memory(rt: HostRuntime) -> Result<(), Fail> {
+fn links_that_lead_nowhere_are_reported_as_in_memory(rt: HostRuntime) -> Result<(), Fail> {
     let things = "none>no/where|self>self|one>two|two>one";
     let paths = ".|none|none/|none/..|self|self/|one|two/below";
     assert_eq!(rt; differences(&rt, things, paths)?.as_str(), "");
@@ -207,13 +207,13 @@ fn shut(rt: &HostRuntime) -> Result<(Result<Vec<String>, Refusal>, String), Fail
     let disk = DiskFiles::new(rt);
     permit(rt, "dir", 0)?;
     let listing = sorted(rt.alloc(), disk.list(rt.alloc(), "dir"));
-    let file = told(rt.alloc(), &disk, "dir/file")?;
+    let file = reported(rt.alloc(), &disk, "dir/file")?;
     permit(rt, "dir", 0o755)?;
     Ok((listing, file))
 }
 
 #[test]
-fn what_may_not_be_read_is_told(rt: HostRuntime) -> Result<(), Fail> {
+fn what_may_not_be_read_is_reported(rt: HostRuntime) -> Result<(), Fail> {
     let folder = enter(&rt)?;
     let _ = made(&rt, "dir/|dir/file=a")?;
     let (listing, file) = shut(&rt)?;

@@ -67,7 +67,7 @@ fn each_rule_of_a_megabyte_counts(rt: HostRuntime) -> Result<(), Fail> {
 const UNCLOSED: &str = "/rules: line 153601: error parsing glob '{': unclosed alternates";
 
 #[test]
-fn the_last_line_of_a_megabyte_is_told(rt: HostRuntime) -> Result<(), Fail> {
+fn the_last_line_of_a_megabyte_is_reported(rt: HostRuntime) -> Result<(), Fail> {
     let (rules, error) = added(rt.alloc(), "{")?;
     let error = error.ok_or("the last line is refused")?;
     assert_eq!(rt; format!(in rt.alloc(); "{error}")?.as_str(), UNCLOSED);

@@ -67,17 +67,17 @@ fn a_kind_answers_by_its_case(rt: HostRuntime) {
 }
 
 /// Whether metadata of seven bytes and this kind are of a file and of a directory.
-fn told(file_type: FileType) -> (bool, bool) {
+fn reported(file_type: FileType) -> (bool, bool) {
     let metadata = Metadata { file_type, len: 7 };
     (metadata.is_file(), metadata.is_dir())
 }
 
 #[test]
 fn metadata_answer_by_their_kind(rt: HostRuntime) {
-    assert_eq!(rt; told(FileType::File), (true, false));
-    assert_eq!(rt; told(FileType::Dir), (false, true));
-    assert_eq!(rt; told(FileType::Symlink), (false, false));
-    assert_eq!(rt; told(FileType::Other), (false, false));
+    assert_eq!(rt; reported(FileType::File), (true, false));
+    assert_eq!(rt; reported(FileType::Dir), (false, true));
+    assert_eq!(rt; reported(FileType::Symlink), (false, false));
+    assert_eq!(rt; reported(FileType::Other), (false, false));
 }
 
 #[test]

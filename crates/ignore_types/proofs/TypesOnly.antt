@@ -6,36 +6,36 @@ use Rattle.ignore_glob.specs.Glob.{Tokens}
 use Rattle.ignore_glob.specs.GlobFaults.{glob_fault_text}
 use Rattle.ignore_glob.specs.declared.glob.fault.GlobFault.{GlobFault}
 use Rattle.ignore_glob.specs.declared.match_result.Match.{Match}
-use Rattle.ignore_glob.specs.Problem.{Problem, told, glob, invalid_definition, memory}
+use Rattle.ignore_glob.specs.Problem.{Problem, problem_of, glob, invalid_definition, memory}
 use Rattle.ignore_glob.specs.Reading.{Reading}
 use Rattle.ignore_glob.proofs.RowLemmas.{Reads-same, one_fault, never_both}
 use Rattle.ignore_glob.specs.declared.error.Error.{Error}
 use Rattle.std.specs.declared.cmp.Ordering.TheVariants.{Less}
 use Rattle.ignore_types.specs.Types.{Definition, Choice, Draft, Becomes, IsSortedCopy, IsAscending, text_cmp, definition_of}
-use Rattle.ignore_types.specs.TypeMatch.{Chosen, Matcher, SomeTakes, NoneTakes, IsNameAnswer, IsTypeAnswer, verdict_of}
+use Rattle.ignore_types.specs.TypeMatch.{Chosen, Matcher, SomeMatches, NoneMatches, IsNameAnswer, IsTypeAnswer, verdict_of}
 use Rattle.ignore_types.specs.Building.{plain, IsReadAs, IsChosen, IsBuilt, FirstBad, IsGlobProblem, IsChoiceProblem, IsRefusedWith}
 use Rattle.ignore_types.specs.Refusals.{IsRefusal}
 
 -- The answer.
 
-none_at : (name : List ℕ) (before : List Chosen) (c : Chosen) (after : List Chosen) → NoneTakes name (before ++ c ∷ after) → SomeTakes name c.readings → ⊥
-none_at name [] c after none takes = none.0 takes
-none_at name (b ∷ before) c after none takes = none_at name before c after none.1 takes
+none_at : (name : List ℕ) (before : List Chosen) (c : Chosen) (after : List Chosen) → NoneMatches name (before ++ c ∷ after) → SomeMatches name c.readings → ⊥
+none_at name [] c after none matches = none.0 matches
+none_at name (b ∷ before) c after none matches = none_at name before c after none.1 matches
 
-one_choice : (name : List ℕ) (before front : List Chosen) (c d : Chosen) (after rest : List Chosen) → before ++ c ∷ after ≡ front ++ d ∷ rest → SomeTakes name c.readings → NoneTakes name after → SomeTakes name d.readings → NoneTakes name rest → c ≡ d
-one_choice name [] [] c d after rest e takes none others later = let same : c ≡ d = cc e in same
-one_choice name [] (x ∷ front) c d after rest e takes none others later =
-    let left : after ≡ front ++ d ∷ rest = cc e in absurd (none_at name front d rest (subst (NoneTakes name) left none) others)
-one_choice name (b ∷ before) [] c d after rest e takes none others later =
-    let left : before ++ c ∷ after ≡ rest = cc e in absurd (none_at name before c after (subst (NoneTakes name) (sym left) later) takes)
-one_choice name (b ∷ before) (x ∷ front) c d after rest e takes none others later =
-    let left : before ++ c ∷ after ≡ front ++ d ∷ rest = cc e in one_choice name before front c d after rest left takes none others later
+one_choice : (name : List ℕ) (before front : List Chosen) (c d : Chosen) (after rest : List Chosen) → before ++ c ∷ after ≡ front ++ d ∷ rest → SomeMatches name c.readings → NoneMatches name after → SomeMatches name d.readings → NoneMatches name rest → c ≡ d
+one_choice name [] [] c d after rest e matches none others later = let same : c ≡ d = cc e in same
+one_choice name [] (x ∷ front) c d after rest e matches none others later =
+    let left : after ≡ front ++ d ∷ rest = cc e in absurd (none_at name front d rest (subst (NoneMatches name) left none) others)
+one_choice name (b ∷ before) [] c d after rest e matches none others later =
+    let left : before ++ c ∷ after ≡ rest = cc e in absurd (none_at name before c after (subst (NoneMatches name) (sym left) later) matches)
+one_choice name (b ∷ before) (x ∷ front) c d after rest e matches none others later =
+    let left : before ++ c ∷ after ≡ front ++ d ∷ rest = cc e in one_choice name before front c d after rest left matches none others later
 
 IsNameAnswer-one : (choices : List Chosen) (name : List ℕ) (m k : Match (Option Definition)) → IsNameAnswer choices name m → IsNameAnswer choices name k → m ≡ k
 IsNameAnswer-one choices name m k (inl (c, here, e)) (inl (d, there, f)) =
-    e ∙ (ap (λ (x : Chosen). verdict_of x) (one_choice name here.before there.before c d here.after there.after (sym here.split ∙ there.split) here.takes here.later there.takes there.later) ∙ sym f)
-IsNameAnswer-one choices name m k (inl (c, here, e)) (inr (none, f)) = absurd (none_at name here.before c here.after (subst (NoneTakes name) here.split none) here.takes)
-IsNameAnswer-one choices name m k (inr (none, e)) (inl (d, there, f)) = absurd (none_at name there.before d there.after (subst (NoneTakes name) there.split none) there.takes)
+    e ∙ (ap (λ (x : Chosen). verdict_of x) (one_choice name here.before there.before c d here.after there.after (sym here.split ∙ there.split) here.matches here.later there.matches there.later) ∙ sym f)
+IsNameAnswer-one choices name m k (inl (c, here, e)) (inr (none, f)) = absurd (none_at name here.before c here.after (subst (NoneMatches name) here.split none) here.matches)
+IsNameAnswer-one choices name m k (inr (none, e)) (inl (d, there, f)) = absurd (none_at name there.before d there.after (subst (NoneMatches name) there.split none) there.matches)
 IsNameAnswer-one choices name m k (inr (none, e)) (inr (others, f)) = e ∙ sym f
 
 -- a path has one answer
@@ -172,13 +172,13 @@ Becomes-one old definitions a b h k =
     ∙ ap (λ (cs : List Choice). let d : Draft = record { definitions = b.definitions; choices = cs } in d) (h.1 ∙ sym k.1)
 
 -- it is refused for want of memory, or told as invalid where it isn't allowed
-IsRefusal-told : (allowed : Option (List Definition)) (e : Error) → IsRefusal allowed e → (told e ≡ memory) ⊎ (told e ≡ invalid_definition)
-IsRefusal-told allowed e (inl h) = inl h
-IsRefusal-told allowed e (inr h) = inr h.0
+IsRefusal-problem_of : (allowed : Option (List Definition)) (e : Error) → IsRefusal allowed e → (problem_of e ≡ memory) ⊎ (problem_of e ≡ invalid_definition)
+IsRefusal-problem_of allowed e (inl h) = inl h
+IsRefusal-problem_of allowed e (inr h) = inr h.0
 
 apart : (p : Problem) → p ≡ memory → p ≡ invalid_definition → ⊥
 apart p h k = cc
 
-IsRefusal-never : (old new : Draft) (allowed : Option (List Definition)) (e : Error) → told e ≡ invalid_definition → IsRefusal allowed e → Becomes old allowed new → ⊥
-IsRefusal-never old new allowed e invalid (inl h) k = apart (told e) h invalid
+IsRefusal-never : (old new : Draft) (allowed : Option (List Definition)) (e : Error) → problem_of e ≡ invalid_definition → IsRefusal allowed e → Becomes old allowed new → ⊥
+IsRefusal-never old new allowed e invalid (inl h) k = apart (problem_of e) h invalid
 IsRefusal-never old new allowed e invalid (inr h) k = none_or_some allowed new.definitions h.1 k.0

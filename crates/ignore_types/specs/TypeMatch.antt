@@ -4,7 +4,7 @@ use Rattle.std.specs.Prelude as std
 use Rattle.std.specs.List.{list_any}
 use Rattle.std.specs.Str.{chars}
 use Rattle.std.specs.Coded.{Coded, code_by, coded×, coded_bool, coded_list, coded_ℕ}
-use Rattle.ignore_glob.specs.Reading.{Reading, Takes, reading_code}
+use Rattle.ignore_glob.specs.Reading.{Reading, Matches, reading_code}
 use Rattle.ignore_glob.specs.declared.match_result.Match.{Match}
 use Rattle.ignore_glob.specs.declared.match_result.Match.TheVariants.{None, Ignore, Whitelist}
 use Rattle.ignore_types.specs.Types.{Definition}
@@ -35,22 +35,22 @@ matcher_code =
     (λ m. (m.definitions, m.choices)) (λ p. record { definitions = p.0; choices = p.1 }) (λ _. refl)
 
 -- some of the globs takes the name
-abbrev pub SomeTakes : List ℕ → List Reading → Type 0
-SomeTakes name [] = ⊥
-SomeTakes name (r ∷ rs) = Takes r name ⊎ SomeTakes name rs
+abbrev pub SomeMatches : List ℕ → List Reading → Type 0
+SomeMatches name [] = ⊥
+SomeMatches name (r ∷ rs) = Matches r name ⊎ SomeMatches name rs
 
 -- no glob of these choices takes the name
-abbrev pub NoneTakes : List ℕ → List Chosen → Type 0
-NoneTakes name [] = Unit {0}
-NoneTakes name (c ∷ cs) = ¬ SomeTakes name c.readings × NoneTakes name cs
+abbrev pub NoneMatches : List ℕ → List Chosen → Type 0
+NoneMatches name [] = Unit {0}
+NoneMatches name (c ∷ cs) = ¬ SomeMatches name c.readings × NoneMatches name cs
 
 -- the choice whose glob is the last that takes the name: some of its globs does, and none of a later choice
 pub record IsDeciding (name : List ℕ) (choices : List Chosen) (choice : Chosen) : Type 0 where
   pub before : List Chosen
   pub after : List Chosen
   pub split : choices ≡ before ++ choice ∷ after
-  pub takes : SomeTakes name choice.readings
-  pub later : NoneTakes name after
+  pub matches : SomeMatches name choice.readings
+  pub later : NoneMatches name after
 
 -- a file that was chosen is whitelisted, or ignored where its type was negated
 abbrev pub verdict_of : Chosen → Match (Option Definition)
@@ -62,7 +62,7 @@ unmatched choices = if list_any (λ c. not c.negated) choices then Ignore std.No
 
 -- the answer for a file of this name, a list of characters
 abbrev pub IsNameAnswer : List Chosen → List ℕ → Match (Option Definition) → Type 0
-IsNameAnswer choices name m = ((c : Chosen) × IsDeciding name choices c × (m ≡ verdict_of c)) ⊎ (NoneTakes name choices × (m ≡ unmatched choices))
+IsNameAnswer choices name m = ((c : Chosen) × IsDeciding name choices c × (m ≡ verdict_of c)) ⊎ (NoneMatches name choices × (m ≡ unmatched choices))
 
 -- the answer for a path that is a directory or not, by its file name alone: a directory has none, and a file without a name is one that no glob takes
 abbrev pub IsTypeAnswer : List Chosen → Bool → Option (List ℕ) → Match (Option Definition) → Type 0

@@ -100,17 +100,17 @@ abbrev pub is_filled : List ℕ → Bool
 is_filled text = not (length text == 0)
 
 -- two filled parts are a name and a glob; three, of which the middle one is `include` and the others are filled, are a name and a list of types, cut at each comma; all else asks for nothing
-abbrev pub request_of_parts : List (List ℕ) → Request
-request_of_parts [] = unreadable
-request_of_parts (name ∷ []) = unreadable
-request_of_parts (name ∷ (glob ∷ [])) = if is_filled name && is_filled glob then one_glob name glob else unreadable
-request_of_parts (name ∷ (word ∷ (sources ∷ []))) =
+abbrev pub request_of_fields : List (List ℕ) → Request
+request_of_fields [] = unreadable
+request_of_fields (name ∷ []) = unreadable
+request_of_fields (name ∷ (glob ∷ [])) = if is_filled name && is_filled glob then one_glob name glob else unreadable
+request_of_fields (name ∷ (word ∷ (sources ∷ []))) =
     if is_filled name && bytes_eq word (codes "include") && is_filled sources then included name (slice_split (λ b. b == 44) sources) else unreadable
-request_of_parts (name ∷ (word ∷ (sources ∷ (part ∷ parts)))) = unreadable
+request_of_fields (name ∷ (word ∷ (sources ∷ (field ∷ fields)))) = unreadable
 
 -- the text of a definition is cut at each colon
 abbrev pub request_of : List ℕ → Request
-request_of text = request_of_parts (slice_split (λ b. b == 58) text)
+request_of text = request_of_fields (slice_split (λ b. b == 58) text)
 
 -- the definitions after a request, where it is allowed: its name may be one, and each type that it includes is there
 abbrev pub after_request : Request → List Definition → Option (List Definition)

@@ -3,9 +3,9 @@ mod builder;
 mod chosen;
 mod definition;
 mod definitions;
+mod fields;
 mod matcher;
 mod name;
-mod parts;
 mod selection;
 
 pub use builder::TypesBuilder;

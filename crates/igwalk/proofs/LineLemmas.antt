@@ -8,7 +8,7 @@ use Rattle.std.specs.List.{slice_split, onto_first}
 use Rattle.std.specs.Str.Lines.{lines, lines_of_parts}
 use Rattle.std.specs.Io.KnownBytes.{Appends}
 use Rattle.ignore_rules.specs.Rules.{Building, begun}
-use Rattle.igwalk.specs.Matching.{Adds, AddsAll, AddsOne, begins, added, refused, refusal}
+use Rattle.igwalk.specs.Matching.{Adds, AddsAll, AddsOne, no_line, added, refused, refusal}
 
 one_line : (x : ℕ) (p : List ℕ) → length (lines_of_parts ((x ∷ p) ∷ [])) ≤ 1
 one_line x p = rw (eqb-suc-zero (length p)) (omega arith)
@@ -40,7 +40,7 @@ some_text [] y ys = rw (eqb-suc-zero (length ys))
 some_text (x ∷ xs) y ys = rw (eqb-suc-zero (length (xs ++ y ∷ ys)))
 
 pub adds_none : (root : List ℕ) (err : Option (List ℕ)) → AddsAll root [] (begun root) (Appends err err) false
-adds_none root err = ([], begins, appends_nothing err, refl)
+adds_none root err = ([], no_line, appends_nothing err, refl)
 
 or-true : (b : Bool) → (b || true) ≡ true
 or-true true = refl

@@ -5,7 +5,7 @@ use Rattle.std.specs.Str.Lines.{lines}
 use Rattle.ignore_glob.specs.Problem.{Problem}
 use Rattle.ignore_rules.specs.Rules.{Building, built, AddsLine, Refuses}
 use Rattle.ignore_rules.proofs.LinesOnly.{AddsLine-one, Refuses-one, AddsLine-never}
-use Rattle.igwalk.specs.Matching.{Adds, begins, added, refused, refusal, Prints, answer_line, says}
+use Rattle.igwalk.specs.Matching.{Adds, no_line, added, refused, refusal, Prints, answer_line, answer_of}
 use Rattle.igwalk.specs.Stops.{EndsLines, EndsAnswer}
 use Rattle.igwalk.specs.Words.{Question}
 use Rattle.igwalk.specs.declared.run.Stop.TheVariants.{Usage, Write, Silence}
@@ -29,25 +29,25 @@ moved : (old other : Building) (line text : List ℕ) (new : Building) → old �
 moved old other line text new e f h = subst (λ (t : List ℕ). AddsLine other Nothing t new) f (subst (λ (b : Building). AddsLine b Nothing line new) e h)
 
 -- lines that are added in turn give one builder, and one text of those that were refused
-Adds-one : (root : List ℕ) (ls ms : List (List ℕ)) (a b : Building) (told other : List ℕ) → ls ≡ ms → Adds root ls a told → Adds root ms b other → (a ≡ b) × (told ≡ other)
-Adds-one root ls ms a b told other e begins begins = (refl, refl)
-Adds-one root ls ms a b told other e begins (added ys y old new text v h) = absurd (no_end ys y e)
-Adds-one root ls ms a b told other e begins (refused ys y builder text p v h) = absurd (no_end ys y e)
-Adds-one root ls ms a b told other e (added xs x old new text v h) begins = absurd (no_end xs x (sym e))
-Adds-one root ls ms a b told other e (refused xs x builder text p v h) begins = absurd (no_end xs x (sym e))
-Adds-one root ls ms a b told other e (added xs x old new text v h) (added ys y before after words w k) =
+Adds-one : (root : List ℕ) (ls ms : List (List ℕ)) (a b : Building) (reported other : List ℕ) → ls ≡ ms → Adds root ls a reported → Adds root ms b other → (a ≡ b) × (reported ≡ other)
+Adds-one root ls ms a b reported other e no_line no_line = (refl, refl)
+Adds-one root ls ms a b reported other e no_line (added ys y old new text v h) = absurd (no_end ys y e)
+Adds-one root ls ms a b reported other e no_line (refused ys y builder text p v h) = absurd (no_end ys y e)
+Adds-one root ls ms a b reported other e (added xs x old new text v h) no_line = absurd (no_end xs x (sym e))
+Adds-one root ls ms a b reported other e (refused xs x builder text p v h) no_line = absurd (no_end xs x (sym e))
+Adds-one root ls ms a b reported other e (added xs x old new text v h) (added ys y before after words w k) =
     let at = last_same xs ys x y e in
     let same = Adds-one root xs ys old before text words at.0 v w in
     (AddsLine-one before Nothing y new after (moved old before x y new same.0 at.1 h) k, same.1)
-Adds-one root ls ms a b told other e (added xs x old new text v h) (refused ys y builder words p w k) =
+Adds-one root ls ms a b reported other e (added xs x old new text v h) (refused ys y builder words p w k) =
     let at = last_same xs ys x y e in
     let same = Adds-one root xs ys old builder text words at.0 v w in
     absurd (AddsLine-never builder Nothing y new p (moved old builder x y new same.0 at.1 h) k)
-Adds-one root ls ms a b told other e (refused xs x builder text p v h) (added ys y before after words w k) =
+Adds-one root ls ms a b reported other e (refused xs x builder text p v h) (added ys y before after words w k) =
     let at = last_same xs ys x y e in
     let same = Adds-one root xs ys builder before text words at.0 v w in
     absurd (AddsLine-never builder Nothing x after p (moved before builder y x after (sym same.0) (sym at.1) k) h)
-Adds-one root ls ms a b told other e (refused xs x builder text p v h) (refused ys y maker words q w k) =
+Adds-one root ls ms a b reported other e (refused xs x builder text p v h) (refused ys y maker words q w k) =
     let at = last_same xs ys x y e in
     let same = Adds-one root xs ys builder maker text words at.0 v w in
     let here = subst (λ (t : List ℕ). Refuses maker.options t p) at.1 (subst (λ (z : Building). Refuses z.options x p) same.0 h) in
@@ -60,7 +60,7 @@ Prints-one question s t out err text words h k =
     let same = Adds-one question.root (lines question.rules) (lines question.rules) h.builder k.builder h.adds.0 k.adds.0 refl h.adds.1 k.adds.1 in
     let any : h.refused ≡ k.refused = h.adds.3 ∙ (ap (λ (l : List ℕ). not (length l == 0)) same.1 ∙ sym k.adds.3) in (
       h.ends ∙ (ap (λ (b : Bool). cond b 1 0) any ∙ sym k.ends),
-      sym h.answers ∙ (ap (λ (b : Building). answer_line (says (built b) question.path question.is_dir)) same.0 ∙ k.answers),
+      sym h.answers ∙ (ap (λ (b : Building). answer_line (answer_of (built b) question.path question.is_dir)) same.0 ∙ k.answers),
       sym h.adds.2 ∙ (same.1 ∙ k.adds.2),
     )
 

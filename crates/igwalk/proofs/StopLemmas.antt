@@ -9,7 +9,7 @@ use Rattle.igwalk.specs.declared.run.Stop.{Stop}
 use Rattle.igwalk.specs.declared.run.Stop.TheVariants.{Usage, Memory, Write, Silence}
 use Rattle.igwalk.specs.Matching.{AddsAll}
 use Rattle.igwalk.specs.Words.{Question}
-use Rattle.igwalk.specs.Stops.{Ends, EndsAnswer, EndsLine, EndsLines, EndsTold, reason}
+use Rattle.igwalk.specs.Stops.{Ends, EndsAnswer, EndsLine, EndsLines, EndsReported, reason}
 use Rattle.igwalk.proofs.LineLemmas.{appends_nothing, appends_on}
 
 -- a list around one of its members
@@ -44,16 +44,16 @@ ends_at_answer question out err builder any Write h so = (tt, (builder, so.0, so
 ends_at_answer question out err builder any Silence h so = absurd h
 
 -- the reason is told behind what was told before
-pub ends_told : (question : Question) (out : List ℕ → Type 0) (before middle after : Option (List ℕ)) (stop : Stop) → Ends question out (Appends before middle) stop → stop ≢ Silence → Appends middle after (reason stop) → EndsTold question out (Appends before after)
-ends_told question out before middle after Usage h told more = absurd h.1
-ends_told question out before middle after Memory h told more =
-    let so = h.1.3 in (Memory, told, h.0, (h.1.0, h.1.1, h.1.2, (so.0, so.1, so.2, appends_on before middle after so.1 (reason Memory) so.3 more)))
-ends_told question out before middle after Write h told more =
-    let so = h.1 in (Write, told, h.0, (so.0, so.1, so.2, appends_on before middle after so.1 (reason Write) so.3 more))
-ends_told question out before middle after Silence h told more = absurd (told refl)
+pub ends_reported : (question : Question) (out : List ℕ → Type 0) (before middle after : Option (List ℕ)) (stop : Stop) → Ends question out (Appends before middle) stop → stop ≢ Silence → Appends middle after (reason stop) → EndsReported question out (Appends before after)
+ends_reported question out before middle after Usage h reported more = absurd h.1
+ends_reported question out before middle after Memory h reported more =
+    let so = h.1.3 in (Memory, reported, h.0, (h.1.0, h.1.1, h.1.2, (so.0, so.1, so.2, appends_on before middle after so.1 (reason Memory) so.3 more)))
+ends_reported question out before middle after Write h reported more =
+    let so = h.1 in (Write, reported, h.0, (so.0, so.1, so.2, appends_on before middle after so.1 (reason Write) so.3 more))
+ends_reported question out before middle after Silence h reported more = absurd (reported refl)
 
 -- less said of what was told
-pub ends_anyhow : (question : Question) (out err : List ℕ → Type 0) (stop : Stop) → Ends question out err stop → Ends question out (λ told. ⊤) stop
+pub ends_anyhow : (question : Question) (out err : List ℕ → Type 0) (stop : Stop) → Ends question out err stop → Ends question out (λ reported. ⊤) stop
 ends_anyhow question out err Usage h = absurd h.1
 ends_anyhow question out err Memory h = let so = h.1.3 in (h.0, (h.1.0, h.1.1, h.1.2, (so.0, so.1, so.2, tt)))
 ends_anyhow question out err Write h = let so = h.1 in (h.0, (so.0, so.1, so.2, tt))

@@ -17,13 +17,13 @@ refusal number problem = codes "igwalk: line " ++ (decimal number ++ (codes ": "
 
 -- these lines of rules were added in turn, which gave this builder; the refused ones were left out and told of
 pub data Adds (root : List ℕ) : List (List ℕ) → Building → List ℕ → Type 0 where
-  begins : Adds root [] (begun root) []
-  added : (lines : List (List ℕ)) (line : List ℕ) (old new : Building) (told : List ℕ) → Adds root lines old told → AddsLine old Nothing line new → Adds root (lines ++ line ∷ []) new told
-  refused : (lines : List (List ℕ)) (line : List ℕ) (builder : Building) (told : List ℕ) (problem : Problem) → Adds root lines builder told → Refuses builder.options line problem → Adds root (lines ++ line ∷ []) builder (told ++ refusal (length lines + 1) problem)
+  no_line : Adds root [] (begun root) []
+  added : (lines : List (List ℕ)) (line : List ℕ) (old new : Building) (reported : List ℕ) → Adds root lines old reported → AddsLine old Nothing line new → Adds root (lines ++ line ∷ []) new reported
+  refused : (lines : List (List ℕ)) (line : List ℕ) (builder : Building) (reported : List ℕ) (problem : Problem) → Adds root lines builder reported → Refuses builder.options line problem → Adds root (lines ++ line ∷ []) builder (reported ++ refusal (length lines + 1) problem)
 
 -- these lines were added in turn, this was told of the refused ones, and whether any was
 abbrev pub AddsAll : List ℕ → List (List ℕ) → Building → (List ℕ → Type 0) → Bool → Type 0
-AddsAll root lines builder err any = (told : List ℕ) × Adds root lines builder told × err told × (any ≡ not (length told == 0))
+AddsAll root lines builder err any = (reported : List ℕ) × Adds root lines builder reported × err reported × (any ≡ not (length reported == 0))
 
 -- a line was refused and told of with its number, or added with nothing told
 abbrev pub AddsOne : Building → ℕ → List ℕ → Building → (List ℕ → Type 0) → Bool → Type 0
@@ -37,13 +37,13 @@ answer_line (Ignore rule) = codes "ignore " ++ (rule.original ++ 10 ∷ [])
 answer_line (Whitelist rule) = codes "whitelist " ++ (rule.original ++ 10 ∷ [])
 
 -- what a matcher answers for a path
-abbrev pub says : Ruleset → List ℕ → Bool → Match Rule
-says matcher path is_dir = answer matcher.root matcher.rules path is_dir
+abbrev pub answer_of : Ruleset → List ℕ → Bool → Match Rule
+answer_of matcher path is_dir = answer matcher.root matcher.rules path is_dir
 
 -- the answer stands in what was written, what the refused lines are told by stands in the errors, and the status is 1 where there was one
 pub record Prints (question : Question) (status : ℕ) (out err : List ℕ → Type 0) : Type 0 where
   pub builder : Building
   pub refused : Bool
   pub adds : AddsAll question.root (lines question.rules) builder err refused
-  pub answers : out (answer_line (says (built builder) question.path question.is_dir))
+  pub answers : out (answer_line (answer_of (built builder) question.path question.is_dir))
   pub ends : status ≡ (if refused then 1 else 0)

@@ -36,23 +36,23 @@ EndsLine options line err Write = ⊥
 EndsLine options line err Silence = (problem : Problem) × Refuses options line problem
 
 -- these lines were added in turn, and the refused ones told of
-abbrev pub Tells : List ℕ → List (List ℕ) → (List ℕ → Type 0) → Type 0
-Tells root lines err = (builder : Building) × (told : List ℕ) × Adds root lines builder told × err told
+abbrev pub Reports : List ℕ → List (List ℕ) → (List ℕ → Type 0) → Type 0
+Reports root lines err = (builder : Building) × (reported : List ℕ) × Adds root lines builder reported × err reported
 
 -- the first of these lines were, up to some line
-abbrev pub TellsFirst : List ℕ → List (List ℕ) → (List ℕ → Type 0) → Type 0
-TellsFirst root lines err = (first rest : List (List ℕ)) × (lines ≡ first ++ rest) × Tells root first err
+abbrev pub ReportsFirst : List ℕ → List (List ℕ) → (List ℕ → Type 0) → Type 0
+ReportsFirst root lines err = (first rest : List (List ℕ)) × (lines ≡ first ++ rest) × Reports root first err
 
 -- one of these lines is refused, where the earlier ones were added in turn
 abbrev pub HasRefused : List ℕ → List (List ℕ) → Type 0
 HasRefused root lines =
-    (first rest : List (List ℕ)) × (line : List ℕ) × (builder : Building) × (told : List ℕ) × (problem : Problem)
-    × (lines ≡ first ++ line ∷ rest) × Adds root first builder told × Refuses builder.options line problem
+    (first rest : List (List ℕ)) × (line : List ℕ) × (builder : Building) × (reported : List ℕ) × (problem : Problem)
+    × (lines ≡ first ++ line ∷ rest) × Adds root first builder reported × Refuses builder.options line problem
 
 -- the adding of lines ended: for want of memory, or at a refused line that can't be told of
 abbrev pub EndsLines : List ℕ → List (List ℕ) → (List ℕ → Type 0) → Stop → Type 0
 EndsLines root lines err Usage = ⊥
-EndsLines root lines err Memory = TellsFirst root lines err
+EndsLines root lines err Memory = ReportsFirst root lines err
 EndsLines root lines err Write = ⊥
 EndsLines root lines err Silence = HasRefused root lines
 
@@ -71,16 +71,16 @@ Wrote out Write = ⊤
 Wrote out Silence = out []
 
 -- what was told by then of the lines of a question: of the first ones, or of all of them where the answer can't be written; there is a refused one where the errors can't be written
-abbrev pub ToldOf : Question → (List ℕ → Type 0) → Stop → Type 0
-ToldOf question err Usage = ⊥
-ToldOf question err Memory = TellsFirst question.root (lines question.rules) err
-ToldOf question err Write = Tells question.root (lines question.rules) err
-ToldOf question err Silence = HasRefused question.root (lines question.rules)
+abbrev pub ReportedOf : Question → (List ℕ → Type 0) → Stop → Type 0
+ReportedOf question err Usage = ⊥
+ReportedOf question err Memory = ReportsFirst question.root (lines question.rules) err
+ReportedOf question err Write = Reports question.root (lines question.rules) err
+ReportedOf question err Silence = HasRefused question.root (lines question.rules)
 
 -- a question's run ended early
 abbrev pub Ends : Question → (List ℕ → Type 0) → (List ℕ → Type 0) → Stop → Type 0
-Ends question out err stop = Wrote out stop × ToldOf question err stop
+Ends question out err stop = Wrote out stop × ReportedOf question err stop
 
 -- a question's run ended early and why was told: behind what was told of the lines stands the reason
-abbrev pub EndsTold : Question → (List ℕ → Type 0) → (List ℕ → Type 0) → Type 0
-EndsTold question out err = (stop : Stop) × (stop ≢ Silence) × Wrote out stop × ToldOf question (λ told. err (told ++ reason stop)) stop
+abbrev pub EndsReported : Question → (List ℕ → Type 0) → (List ℕ → Type 0) → Type 0
+EndsReported question out err = (stop : Stop) × (stop ≢ Silence) × Wrote out stop × ReportedOf question (λ reported. err (reported ++ reason stop)) stop

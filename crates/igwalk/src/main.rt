@@ -6,7 +6,7 @@ mod run;
 mod tests;
 mod words;
 
-use run::{Stop, run, tell_stop};
+use run::{Stop, report_stop, run};
 use std::process::ExitCode;
 use std::rt::Env;
 use std::{env, io};
@@ -33,7 +33,7 @@ fn main(rt: HostRuntime) -> ExitCode {
             &mut rt.stdout(),
             &mut rt.stderr(),
         ),
-        Err(_) => tell_stop(&mut rt.stderr(), Stop::Memory).unwrap_or(2),
+        Err(_) => report_stop(&mut rt.stderr(), Stop::Memory).unwrap_or(2),
     };
     ExitCode::from(status)
 }

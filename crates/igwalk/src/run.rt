@@ -3,11 +3,11 @@ ghost use Rattle.std.specs.Prelude.{◌≡◌, ◌≢◌, ◌≤◌, ◌⊎◌, 
 ghost use Rattle.std.specs.Io.KnownBytes.{Appends};
 ghost use Rattle.std.specs.Str.Lines.{lines};
 ghost use Rattle.ignore_glob.specs.Errors.{problem_text};
-ghost use Rattle.ignore_glob.specs.Problem.{told, memory};
+ghost use Rattle.ignore_glob.specs.Problem.{problem_of, memory};
 ghost use Rattle.ignore_rules.specs.Rules.{begun, built};
 ghost use Rattle.igwalk.specs.Words.{Question, question_of, request_view};
-ghost use Rattle.igwalk.specs.Stops.{Ends, EndsAnswer, EndsLine, EndsLines, EndsTold, line_stop, reason};
-ghost use Rattle.igwalk.specs.Matching.{AddsAll, AddsOne, Prints, answer_line, says, refusal};
+ghost use Rattle.igwalk.specs.Stops.{Ends, EndsAnswer, EndsLine, EndsLines, EndsReported, line_stop, reason};
+ghost use Rattle.igwalk.specs.Matching.{AddsAll, AddsOne, Prints, answer_line, answer_of, refusal};
 
 use crate::words::{Request, read_words};
 use ignore_glob::{Error, Match};
@@ -32,10 +32,10 @@ pub enum Stop {
 }
 
 /// Tells of a refused line, counted from 1. What is refused for want of memory ends the run.
-fn tell_refusal<E: Write>(err: &mut E, number: u64, error: Error) -> Result<(), Stop>
-    ensures tells { OnOk result (Appends (E.contents err.old) (E.contents err.new) (refusal number (told error))) }
-    ensures line { OnOk result (told error ≢ memory) }
-    ensures untold { IfErr result (λ stop. stop ≡ line_stop (told error)) }
+fn report_refusal<E: Write>(err: &mut E, number: u64, error: Error) -> Result<(), Stop>
+    ensures reports { OnOk result (Appends (E.contents err.old) (E.contents err.new) (refusal number (problem_of error))) }
+    ensures line { OnOk result (problem_of error ≢ memory) }
+    ensures unreported { IfErr result (λ stop. stop ≡ line_stop (problem_of error)) }
     ensures kept { IfErr result (λ stop. stop ≡ Stop.Memory → Appends (E.contents err.old) (E.contents err.new) []) }
 {
     match &error {
@@ -48,7 +48,7 @@ fn tell_refusal<E: Write>(err: &mut E, number: u64, error: Error) -> Result<(), 
 }
 
 /// Adds a line of rules, counted from 1, and tells of it where it is refused. Whether it was.
-fn add_or_tell<E: Write>(
+fn add_or_report<E: Write>(
     builder: &mut GitignoreBuilder,
     number: u64,
     line: &str,
@@ -59,7 +59,7 @@ fn add_or_tell<E: Write>(
 {
     match builder.push_line(None, line) {
         Ok(()) => Ok(false),
-        Err(error) => match tell_refusal(err, number, error) {
+        Err(error) => match report_refusal(err, number, error) {
             Ok(()) => Ok(true),
             Err(stop) => Err(stop),
         },
@@ -81,19 +81,19 @@ fn add_lines<E: Write>(
     let mut refused = false;
     for line in rules.lines() {
         number += 1;
-        refused |= add_or_tell(builder, number, line, err)?;
+        refused |= add_or_report(builder, number, line, err)?;
     }
     Ok(refused)
 }
 
 /// Writes what a matcher says of a path.
-fn tell_answer<W: Write>(
+fn write_answer<W: Write>(
     out: &mut W,
     matcher: &Gitignore,
     path: &str,
     is_dir: bool,
 ) -> Result<(), Stop>
-    ensures answers { OnOk result (Appends (W.contents out.old) (W.contents out.new) (answer_line (says matcher.now path.now is_dir))) }
+    ensures answers { OnOk result (Appends (W.contents out.old) (W.contents out.new) (answer_line (answer_of matcher.now path.now is_dir))) }
     ensures ended { IfErr result (EndsAnswer (Appends (W.contents out.old) (W.contents out.new))) }
 {
     let written = match matcher.matched(path, is_dir) {
@@ -125,22 +125,22 @@ fn answer<W: Write, E: Write>(
     };
     let refused = add_lines(&mut builder, request.rules, err)?;
     let matcher = builder.into_gitignore();
-    tell_answer(out, &matcher, request.path, request.is_dir)?;
+    write_answer(out, &matcher, request.path, request.is_dir)?;
     Ok(refused)
 }
 
 /// Tells why a run ended, and answers its status, or why it ended where that can't be told.
-pub fn tell_stop<E: Write>(err: &mut E, stop: Stop) -> Result<u8, Stop>
-    ensures tells { IfOk result (λ status. (status ≡ 2) × (stop ≢ Stop.Silence) × Appends (E.contents err.old) (E.contents err.new) (reason stop)) }
-    ensures untold { IfErr result (λ why. why ≡ stop) }
+pub fn report_stop<E: Write>(err: &mut E, stop: Stop) -> Result<u8, Stop>
+    ensures reports { IfOk result (λ status. (status ≡ 2) × (stop ≢ Stop.Silence) × Appends (E.contents err.old) (E.contents err.new) (reason stop)) }
+    ensures unreported { IfErr result (λ why. why ≡ stop) }
 {
-    let told = match stop {
+    let problem_of = match stop {
         Stop::Usage => writeln!(err, "{USAGE}"),
         Stop::Memory => writeln!(err, "igwalk: out of memory"),
         Stop::Write => writeln!(err, "igwalk: cannot write"),
         Stop::Silence => return Err(stop),
     };
-    match told {
+    match problem_of {
         Ok(()) => Ok(2),
         Err(_) => Err(stop),
     }
@@ -181,17 +181,17 @@ pub fn run_or_stop<W: Write, E: Write>(
         → IfOk result (λ status. (status ≡ 2) × Appends (E.contents err.old) (E.contents err.new) (reason Stop.Usage)) }
     ensures prints { (question : Question) → question_of (map string_bytes words.now) ≡ Some question
         → IfOk result (λ status. Prints question status (Appends (W.contents out.old) (W.contents out.new)) (Appends (E.contents err.old) (E.contents err.new))
-        ⊎ ((status ≡ 2) × EndsTold question (Appends (W.contents out.old) (W.contents out.new)) (Appends (E.contents err.old) (E.contents err.new)))) }
-    ensures untold { (question : Question) → question_of (map string_bytes words.now) ≡ Some question
-        → IfErr result (Ends question (Appends (W.contents out.old) (W.contents out.new)) (λ told. ⊤)) }
+        ⊎ ((status ≡ 2) × EndsReported question (Appends (W.contents out.old) (W.contents out.new)) (Appends (E.contents err.old) (E.contents err.new)))) }
+    ensures unreported { (question : Question) → question_of (map string_bytes words.now) ≡ Some question
+        → IfErr result (Ends question (Appends (W.contents out.old) (W.contents out.new)) (λ problem_of. ⊤)) }
     ensures status { IfOk result (λ status. status ≤ 2) }
 {
     let Some(request) = read_words(words) else {
-        return tell_stop(err, Stop::Usage);
+        return report_stop(err, Stop::Usage);
     };
     match answer(alloc, request, out, err) {
         Ok(false) => Ok(0),
         Ok(true) => Ok(1),
-        Err(stop) => tell_stop(err, stop),
+        Err(stop) => report_stop(err, stop),
     }
 }

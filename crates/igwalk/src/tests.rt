@@ -67,14 +67,14 @@ const RUNS: [(&[&str], &str, &str, u8); 12] = [
 #[test]
 fn runs_over_memory(rt: HostRuntime) -> Result<(), Fail> {
     let alloc = rt.alloc();
-    for (texts, written, told, status) in RUNS {
+    for (texts, written, reported, status) in RUNS {
         let words = words_of(alloc, texts)?;
         let mut out: Vec<u8> = Vec::new(alloc);
         let mut err: Vec<u8> = Vec::new(alloc);
         let got = run(alloc, words.as_slice(), &mut out, &mut err);
         assert_eq!(rt; got, status, "{told}");
         assert_eq!(rt; out.as_slice(), written.as_bytes());
-        assert_eq!(rt; err.as_slice(), told.as_bytes());
+        assert_eq!(rt; err.as_slice(), reported.as_bytes());
     }
     Ok(())
 }
@@ -128,22 +128,22 @@ fn with_refusing_errors(alloc: Global, calls: usize) -> Result<(u8, Vec<u8>, Vec
 
 const WRITTEN: &[u8] = b"ignore *.rs\n";
 
-const TOLD: &[u8] = b"igwalk: line 1: error parsing glob '{': unclosed alternates\n";
+const REPORTED: &[u8] = b"igwalk: line 1: error parsing glob '{': unclosed alternates\n";
 
-const TOLD_AND_ENDED: &[u8] =
+const REPORTED_AND_ENDED: &[u8] =
     b"igwalk: line 1: error parsing glob '{': unclosed alternates\nigwalk: cannot write\n";
 
 #[test]
-fn an_answer_that_cannot_be_written_is_told(rt: HostRuntime) -> Result<(), Fail> {
+fn an_answer_that_cannot_be_written_is_reported(rt: HostRuntime) -> Result<(), Fail> {
     for calls in 0usize..10 {
-        let (status, written, told) = with_refusing_output(rt.alloc(), calls)?;
+        let (status, written, reported) = with_refusing_output(rt.alloc(), calls)?;
         assert!(rt; WRITTEN.starts_with(&written));
         if written.as_slice() == WRITTEN {
             assert_eq!(rt; status, 1);
-            assert_eq!(rt; told.as_slice(), TOLD);
+            assert_eq!(rt; reported.as_slice(), REPORTED);
         } else {
             assert_eq!(rt; status, 2);
-            assert_eq!(rt; told.as_slice(), TOLD_AND_ENDED);
+            assert_eq!(rt; reported.as_slice(), REPORTED_AND_ENDED);
         }
     }
     Ok(())
@@ -152,9 +152,9 @@ fn an_answer_that_cannot_be_written_is_told(rt: HostRuntime) -> Result<(), Fail>
 #[test]
 fn errors_that_cannot_be_written_end_the_run(rt: HostRuntime) -> Result<(), Fail> {
     for calls in 0usize..20 {
-        let (status, written, told) = with_refusing_errors(rt.alloc(), calls)?;
-        assert!(rt; TOLD.starts_with(&told));
-        if told.as_slice() == TOLD {
+        let (status, written, reported) = with_refusing_errors(rt.alloc(), calls)?;
+        assert!(rt; REPORTED.starts_with(&reported));
+        if reported.as_slice() == REPORTED {
             assert_eq!(rt; status, 1);
             assert_eq!(rt; written.as_slice(), WRITTEN);
         } else {
@@ -170,8 +170,8 @@ fn errors_that_cannot_be_written_end_the_run(rt: HostRuntime) -> Result<(), Fail
 fn writes_are_refused_from_the_first_to_none(rt: HostRuntime) -> Result<(), Fail> {
     let (status, written, _) = with_refusing_output(rt.alloc(), 0)?;
     assert_eq!(rt; (status, written.len()), (2, 0));
-    let (status, _, told) = with_refusing_errors(rt.alloc(), 0)?;
-    assert_eq!(rt; (status, told.len()), (2, 0));
+    let (status, _, reported) = with_refusing_errors(rt.alloc(), 0)?;
+    assert_eq!(rt; (status, reported.len()), (2, 0));
     let (status, _, _) = with_refusing_errors(rt.alloc(), 19)?;
     assert_eq!(rt; status, 1);
     let (status, _, _) = with_refusing_output(rt.alloc(), 9)?;

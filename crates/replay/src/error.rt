@@ -7,7 +7,7 @@ use std::alloc::{AllocError, Global};
 use vectors::Trouble;
 
 /// An error's text and its shape.
-pub fn told(alloc: Global, error: &Error) -> Result<Value, AllocError> {
+pub fn reported(alloc: Global, error: &Error) -> Result<Value, AllocError> {
     let mut answer = Answer::new(alloc);
     answer.put("text", printed(alloc, error));
     answer.put("shape", shape(alloc, error));
@@ -15,9 +15,9 @@ pub fn told(alloc: Global, error: &Error) -> Result<Value, AllocError> {
 }
 
 /// An error's text and its shape, or `null` where there is none.
-pub fn told_or_null(alloc: Global, error: Option<&Error>) -> Result<Value, AllocError> {
+pub fn reported_or_null(alloc: Global, error: Option<&Error>) -> Result<Value, AllocError> {
     match error {
-        Some(error) => told(alloc, error),
+        Some(error) => reported(alloc, error),
         None => Ok(Value::Null),
     }
 }

@@ -26,7 +26,7 @@ enum Stop<'n> {
 pub fn replay_all(rt: &HostRuntime) -> u8 {
     match words(rt) {
         Ok(words) => replay_words(rt, words.as_slice()),
-        Err(stop) => tell_stop(rt, stop),
+        Err(stop) => report_stop(rt, stop),
     }
 }
 
@@ -34,7 +34,7 @@ fn replay_words(rt: &HostRuntime, words: &[String]) -> u8 {
     let mut tally = Tally::new();
     match replay_files(rt, words, &mut tally) {
         Ok(()) => tally.status(),
-        Err(stop) => tell_stop(rt, stop),
+        Err(stop) => report_stop(rt, stop),
     }
 }
 
@@ -49,7 +49,7 @@ fn replay_files<'w>(
     }
     let bytes = standard_input(rt)?;
     replay_bytes(rt, STDIN, &bytes, tally)?;
-    tell_tally(rt, tally)
+    report_tally(rt, tally)
 }
 
 fn replay_bytes<'w>(
@@ -129,7 +129,7 @@ fn stop_of(error: io::Error, name: &str) -> Stop<'_> {
     }
 }
 
-fn tell_tally<'w>(rt: &HostRuntime, tally: &Tally) -> Result<(), Stop<'w>> {
+fn report_tally<'w>(rt: &HostRuntime, tally: &Tally) -> Result<(), Stop<'w>> {
     match println!(rt; "{tally}") {
         Ok(()) => Ok(()),
         Err(_) => Err(Stop::Write),
@@ -137,7 +137,7 @@ fn tell_tally<'w>(rt: &HostRuntime, tally: &Tally) -> Result<(), Stop<'w>> {
 }
 
 /// Tells why a run ended, and answers its status. What can't be told is let go.
-fn tell_stop(rt: &HostRuntime, stop: Stop<'_>) -> u8 {
+fn report_stop(rt: &HostRuntime, stop: Stop<'_>) -> u8 {
     let _ = match stop {
         Stop::Memory => eprintln!(rt; "replay: out of memory"),
         Stop::Read(name) => eprintln!(rt; "replay: {name}: cannot read"),

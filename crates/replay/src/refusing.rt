@@ -1,6 +1,6 @@
 //! Trees in memory, of which one call is refused.
 
-use crate::error::{fault_of, told};
+use crate::error::{fault_of, reported};
 use ignore_files::{
     Contents, Fault, Files, Identity, Listing, MemoryTree, Metadata, Name, Refusal,
 };
@@ -46,10 +46,10 @@ impl<'t> Refusing<'t> {
         if turn == 1 { Err(self.refusal) } else { Ok(()) }
     }
 
-    /// What is told of a call that ran out of memory: its error, where the tree refused it memory.
-    pub fn told(&self, alloc: Global, error: &Error) -> Result<Value, Trouble> {
+    /// What is reported of a call that ran out of memory: its error, where the tree refused it memory.
+    pub fn reported(&self, alloc: Global, error: &Error) -> Result<Value, Trouble> {
         if self.refused_memory() {
-            Ok(told(alloc, error)?)
+            Ok(reported(alloc, error)?)
         } else {
             Err(Trouble::Memory)
         }

@@ -3,7 +3,7 @@
 use crate::again::{add_line, build, builder};
 use crate::answer::{Answer, Items};
 use crate::clones::asked;
-use crate::error::{printed, told_or_null};
+use crate::error::{printed, reported_or_null};
 use crate::splits::needs_too_many;
 use ignore_glob::{Error, Match};
 use ignore_rules::gitignore::{Gitignore, GitignoreBuilder, Glob};
@@ -18,7 +18,7 @@ const OPS: &str = "ops";
 pub const LINES: &str = "lines";
 
 /// The builder at `/r` with the lines of a vector, if it has any. What is wrong with them isn't
-/// told.
+/// reported.
 pub fn builder_of_lines(alloc: Global, input: &Value) -> Result<GitignoreBuilder, Trouble> {
     let mut builder = builder(alloc, "/r")?;
     if input.get(LINES).is_some() {
@@ -125,11 +125,11 @@ pub fn refusal(alloc: Global, number: u64, error: Error) -> Result<Value, AllocE
     parts.value()
 }
 
-/// Puts the root and the rules of a matcher, and what is told of its file.
+/// Puts the root and the rules of a matcher, and what is reported of its file.
 pub fn put_read(answer: &mut Answer, alloc: Global, matcher: &Gitignore, error: &Option<Error>) {
     answer.put_text("root", matcher.path());
     answer.put("rules", rules_value(alloc, matcher));
-    answer.put("error", told_or_null(alloc, error.as_ref()));
+    answer.put("error", reported_or_null(alloc, error.as_ref()));
 }
 
 /// The rules of a matcher, each with all that can be read of it.

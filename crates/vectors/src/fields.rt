@@ -11,7 +11,7 @@ use serde_json::{Map, Value};
 /// The member of this name.
 pub fn field<'v>(value: &'v Value, name: &'static str) -> Result<&'v Value, Trouble>
     ensures value { option_map (λ v. view v.now) (result_ok result) ≡ get name.now (view value.now) }
-    ensures told { IfErr result (λ t. named_field t ≡ Some name.now) }
+    ensures reported { IfErr result (λ t. named_field t ≡ Some name.now) }
 {
     value.get(name).ok_or(Trouble::Field(name))
 }
@@ -20,7 +20,7 @@ pub fn field<'v>(value: &'v Value, name: &'static str) -> Result<&'v Value, Trou
 pub fn text<'v>(value: &'v Value, name: &'static str) -> Result<&'v str, Trouble>
     ensures value { option_map (λ s. s.now) (result_ok result)
         ≡ text_in name.now (view value.now) }
-    ensures told { IfErr result (λ t. named_field t ≡ Some name.now) }
+    ensures reported { IfErr result (λ t. named_field t ≡ Some name.now) }
 {
     let found = value.get(name).and_then(Value::as_str);
     found.ok_or(Trouble::Field(name))
@@ -29,7 +29,7 @@ pub fn text<'v>(value: &'v Value, name: &'static str) -> Result<&'v str, Trouble
 /// The truth value that the member of this name is.
 pub fn flag(value: &Value, name: &'static str) -> Result<bool, Trouble>
     ensures value { result_ok result ≡ option_and_then as_bool (get name.now (view value.now)) }
-    ensures told { IfErr result (λ t. named_field t ≡ Some name.now) }
+    ensures reported { IfErr result (λ t. named_field t ≡ Some name.now) }
 {
     let found = value.get(name).and_then(Value::as_bool);
     found.ok_or(Trouble::Field(name))
@@ -39,7 +39,7 @@ pub fn flag(value: &Value, name: &'static str) -> Result<bool, Trouble>
 pub fn list<'v>(value: &'v Value, name: &'static str) -> Result<&'v [Value], Trouble>
     ensures value { option_map (λ l. items_view l.now) (result_ok result)
         ≡ option_and_then as_array (get name.now (view value.now)) }
-    ensures told { IfErr result (λ t. named_field t ≡ Some name.now) }
+    ensures reported { IfErr result (λ t. named_field t ≡ Some name.now) }
 {
     match value.get(name).and_then(Value::as_array) {
         Some(items) => Ok(items.as_slice()),
@@ -51,7 +51,7 @@ pub fn list<'v>(value: &'v Value, name: &'static str) -> Result<&'v [Value], Tro
 pub fn members<'v>(value: &'v Value, name: &'static str) -> Result<&'v Map<String, Value>, Trouble>
     ensures value { option_map (λ m. members_view m.now.entries) (result_ok result)
         ≡ object_in name.now (view value.now) }
-    ensures told { IfErr result (λ t. named_field t ≡ Some name.now) }
+    ensures reported { IfErr result (λ t. named_field t ≡ Some name.now) }
 {
     let found = value.get(name).and_then(Value::as_object);
     found.ok_or(Trouble::Field(name))
@@ -62,7 +62,7 @@ pub fn object<'v>(value: &'v Value, name: &'static str) -> Result<&'v Value, Tro
     ensures value { IfOk result (λ v. get name.now (view value.now) ≡ Some (view v.now)) }
     ensures about { IfOk result (λ v. IsSome (as_object (view v.now))) }
     ensures none { OnErr result (object_in name.now (view value.now) ≡ None) }
-    ensures told { IfErr result (λ t. named_field t ≡ Some name.now) }
+    ensures reported { IfErr result (λ t. named_field t ≡ Some name.now) }
 {
     match value.get(name) {
         Some(member) if member.is_object() => Ok(member),
@@ -73,7 +73,7 @@ pub fn object<'v>(value: &'v Value, name: &'static str) -> Result<&'v Value, Tro
 /// The item at a place of a list, which stands in the field of this name.
 pub fn item<'v>(list: &'v Value, place: usize, name: &'static str) -> Result<&'v Value, Trouble>
     ensures value { option_map (λ v. view v.now) (result_ok result) ≡ at place (view list.now) }
-    ensures told { IfErr result (λ t. named_field t ≡ Some name.now) }
+    ensures reported { IfErr result (λ t. named_field t ≡ Some name.now) }
 {
     list.get(place).ok_or(Trouble::Field(name))
 }
@@ -82,7 +82,7 @@ pub fn item<'v>(list: &'v Value, place: usize, name: &'static str) -> Result<&'v
 pub fn text_at<'v>(list: &'v Value, place: usize, name: &'static str) -> Result<&'v str, Trouble>
     ensures value { option_map (λ s. s.now) (result_ok result)
         ≡ option_and_then as_str (at place (view list.now)) }
-    ensures told { IfErr result (λ t. named_field t ≡ Some name.now) }
+    ensures reported { IfErr result (λ t. named_field t ≡ Some name.now) }
 {
     let found = list.get(place).and_then(Value::as_str);
     found.ok_or(Trouble::Field(name))
@@ -91,7 +91,7 @@ pub fn text_at<'v>(list: &'v Value, place: usize, name: &'static str) -> Result<
 /// The truth value at a place of a list, which stands in the field of this name.
 pub fn flag_at(list: &Value, place: usize, name: &'static str) -> Result<bool, Trouble>
     ensures value { result_ok result ≡ option_and_then as_bool (at place (view list.now)) }
-    ensures told { IfErr result (λ t. named_field t ≡ Some name.now) }
+    ensures reported { IfErr result (λ t. named_field t ≡ Some name.now) }
 {
     let found = list.get(place).and_then(Value::as_bool);
     found.ok_or(Trouble::Field(name))

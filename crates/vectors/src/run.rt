@@ -44,7 +44,7 @@ pub fn replay<K: Kinds, W: Write, E: Write>(
     while let Some(left) = rest {
         let (line, later) = first_line(left);
         number = number.saturating_add(1);
-        take(alloc, kinds, Place { name, number }, line, tally, out, err)?;
+        count_line(alloc, kinds, Place { name, number }, line, tally, out, err)?;
         rest = later;
     }
     Ok(())
@@ -68,7 +68,7 @@ fn newline(bytes: &[u8]) -> Option<usize>
     bytes.iter().position(|byte| *byte == b'\n')
 }
 
-fn take<K: Kinds, W: Write, E: Write>(
+fn count_line<K: Kinds, W: Write, E: Write>(
     alloc: Global,
     kinds: &K,
     place: Place<'_>,
@@ -83,7 +83,7 @@ fn take<K: Kinds, W: Write, E: Write>(
         return Ok(());
     }
     match judged(alloc, kinds, line) {
-        Ok(verdict) => written(tally.count(verdict, out)),
+        Ok(verdict) => write_result(tally.count(verdict, out)),
         Err(flaw) => refuse(flaw, place, tally, err),
     }
 }
@@ -98,28 +98,28 @@ fn refuse<E: Write>(
 {
     tally.refuse();
     match flaw {
-        Flaw::NoJson => written(tell(err, place, "no JSON")),
-        Flaw::NoObject => written(tell(err, place, "no object")),
-        Flaw::UnknownKind => written(tell(err, place, "unknown kind")),
-        Flaw::Field(field) => written(tell_field(err, place, field)),
+        Flaw::NoJson => write_result(report(err, place, "no JSON")),
+        Flaw::NoObject => write_result(report(err, place, "no object")),
+        Flaw::UnknownKind => write_result(report(err, place, "unknown kind")),
+        Flaw::Field(field) => write_result(report_field(err, place, field)),
         Flaw::Memory => Err(Stop::Memory),
     }
 }
 
 /// Tells what is wrong with a line.
-fn tell<E: Write>(err: &mut E, place: Place<'_>, flaw: &str) -> io::Result<()> {
+fn report<E: Write>(err: &mut E, place: Place<'_>, flaw: &str) -> io::Result<()> {
     let Place { name, number } = place;
     writeln!(err, "replay: {name}: line {number}: {flaw}")
 }
 
 /// Tells which field of a line is missing, or has another form.
-fn tell_field<E: Write>(err: &mut E, place: Place<'_>, field: &str) -> io::Result<()> {
+fn report_field<E: Write>(err: &mut E, place: Place<'_>, field: &str) -> io::Result<()> {
     let Place { name, number } = place;
     writeln!(err, "replay: {name}: line {number}: bad field {field}")
 }
 
-fn written(written: io::Result<()>) -> Result<(), Stop> {
-    match written {
+fn write_result(write_result: io::Result<()>) -> Result<(), Stop> {
+    match write_result {
         Ok(()) => Ok(()),
         Err(_) => Err(Stop::Write),
     }

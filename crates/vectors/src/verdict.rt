@@ -27,7 +27,7 @@ impl Verdict {
     /// What came of a vector for which this was answered, where these fields wait for their calls.
     pub fn of(value: Value, outcome: Outcome, waiting: &[&str]) -> Result<Verdict, Trouble>
         ensures judges { IfOk result (Judges (view value) outcome (map (λ w. w.now) waiting.now)) }
-        ensures told { IfErr result (λ t. named_field t ≡ wrong_field (view value)) }
+        ensures reported { IfErr result (λ t. named_field t ≡ wrong_field (view value)) }
     {
         match outcome {
             Outcome::Skipped(reason) => Ok(Verdict::Skipped(reason)),
@@ -38,7 +38,7 @@ impl Verdict {
 
 fn compared(value: Value, answer: Value, waiting: &[&str]) -> Result<Verdict, Trouble>
     ensures judges { IfOk result (Judges (view value) (Outcome.Answer answer) (map (λ w. w.now) waiting.now)) }
-    ensures told { IfErr result (λ t. named_field t ≡ wrong_field (view value)) }
+    ensures reported { IfErr result (λ t. named_field t ≡ wrong_field (view value)) }
 {
     let vector = Vector::of(&value)?;
     if agrees(vector.wanted, &answer, waiting) {
@@ -58,7 +58,7 @@ impl Tally {
             Verdict::Skipped(reason) => self.skip(reason),
             Verdict::Failed(value, answer) => {
                 self.fail();
-                tell_parting(&value, &answer, out)?;
+                report_difference(&value, &answer, out)?;
             }
         }
         Ok(())
@@ -66,7 +66,7 @@ impl Tally {
 }
 
 /// Tells of an answer that is another one than wanted.
-fn tell_parting<W: Write>(value: &Value, answer: &Value, out: &mut W) -> io::Result<()> {
+fn report_difference<W: Write>(value: &Value, answer: &Value, out: &mut W) -> io::Result<()> {
     let (Some(id), Some(wanted)) = (value.get("id"), value.get("out")) else {
         return Ok(());
     };

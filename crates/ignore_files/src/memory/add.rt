@@ -6,7 +6,7 @@ ghost use Rattle.ignore_files.specs.Changes.{with_node};
 use crate::memory::node::{Kind, Node};
 use crate::tree_error::TreeError;
 use crate::types::Name;
-use ignore_glob::text::last_piece;
+use ignore_glob::text::last_component;
 
 /// Adds a node to the directory at the place `parent`, which is the one for its path. After an
 /// `Err` nothing has changed.
@@ -18,14 +18,14 @@ pub fn add_node(
     len: u64,
 ) -> Result<(), TreeError>
     requires { parent_for nodes.old.items path.now ≡ Ok parent }
-    ensures ok { OnOk result (nodes.new.items ≡ with_node nodes.old.items path.now kind len parent) }
-    ensures memory { IfErr result (λ e. e ≡ TreeError.Memory) }
-    ensures err { OnErr result (nodes.new.items ≡ nodes.old.items) }
+    ensures added { OnOk result (nodes.new.items ≡ with_node nodes.old.items path.now kind len parent) }
+    ensures out_of_memory { IfErr result (λ e. e ≡ TreeError.Memory) }
+    ensures unchanged { OnErr result (nodes.new.items ≡ nodes.old.items) }
 {
     let alloc = *nodes.allocator();
     let place = nodes.len();
     let file_type = kind.file_type();
-    let name = Name::new(String::from_str(alloc, last_piece(path))?);
+    let name = Name::new(String::from_str(alloc, last_component(path))?);
     let path = Name::new(String::from_str(alloc, path)?);
     nodes.push(Node::new(place, parent, path, kind, len))?;
     match nodes[parent].list_named(name, file_type, place) {

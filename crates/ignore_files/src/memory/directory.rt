@@ -58,8 +58,8 @@ impl Directory {
     /// Adds a node under a name that isn't there. After an `Err` nothing has changed.
     pub fn push(&mut self, name: Name, file_type: FileType, node: usize) -> Result<(), AllocError>
         requires { named name self.old ≡ None }
-        ensures ok { OnOk result (self.new ≡ self.old ++ Named name file_type node ∷ []) }
-        ensures err { OnErr result (self.new ≡ self.old) }
+        ensures added { OnOk result (self.new ≡ self.old ++ Named name file_type node ∷ []) }
+        ensures unchanged { OnErr result (self.new ≡ self.old) }
     {
         let key = String::from_str(*self.entries.allocator(), name.as_str())?;
         self.entries.push(Entry::Named {
@@ -78,8 +78,8 @@ impl Directory {
 
     /// Adds something that has no name. After an `Err` nothing has changed.
     pub fn push_nameless(&mut self) -> Result<(), AllocError>
-        ensures ok { OnOk result (self.new ≡ self.old ++ Nameless ∷ []) }
-        ensures err { OnErr result (self.new ≡ self.old) }
+        ensures added { OnOk result (self.new ≡ self.old ++ Nameless ∷ []) }
+        ensures unchanged { OnErr result (self.new ≡ self.old) }
     {
         self.entries.push(Entry::Nameless)?;
         Ok(())

@@ -106,8 +106,8 @@ impl Node {
         node: usize,
     ) -> Result<(), AllocError>
         requires { entry_under name self.old.kind ≡ None }
-        ensures ok { OnOk result (self.new ≡ listing_too (Named name file_type node) self.old) }
-        ensures err { OnErr result (self.new ≡ self.old) }
+        ensures added { OnOk result (self.new ≡ listing_too (Named name file_type node) self.old) }
+        ensures unchanged { OnErr result (self.new ≡ self.old) }
     {
         match &mut self.kind {
             Kind::Dir(entries) => entries.push(name, file_type, node),
@@ -119,8 +119,8 @@ impl Node {
     /// Lists something without a name too, if this is a directory. After an `Err` nothing has
     /// changed.
     pub fn list_nameless(&mut self) -> Result<(), AllocError>
-        ensures ok { OnOk result (self.new ≡ listing_too Nameless self.old) }
-        ensures err { OnErr result (self.new ≡ self.old) }
+        ensures added { OnOk result (self.new ≡ listing_too Nameless self.old) }
+        ensures unchanged { OnErr result (self.new ≡ self.old) }
     {
         match &mut self.kind {
             Kind::Dir(entries) => entries.push_nameless(),

@@ -1,7 +1,7 @@
 //! Where the text of a path leads in a tree in memory.
 
 ghost use Rattle.std.specs.Prelude.{◌≡◌, ◌≤◌, [], ◌∷◌, IfOk, MatchResult, Ok, Err, option_map};
-ghost use Rattle.ignore_glob.specs.Paths.{pieces};
+ghost use Rattle.ignore_glob.specs.Paths.{components};
 ghost use Rattle.ignore_files.specs.Memory.{is_dir_at};
 ghost use Rattle.ignore_files.specs.Resolve.{enter, link_at, walk, resolved, node_found};
 
@@ -28,10 +28,10 @@ pub fn is_dir(nodes: &[Node], place: usize) -> bool
     }
 }
 
-fn enter(nodes: &[Node], here: usize, piece: &str) -> Result<usize, Fault>
-    ensures { result ≡ enter nodes.now here piece.now }
+fn enter(nodes: &[Node], here: usize, component: &str) -> Result<usize, Fault>
+    ensures { result ≡ enter nodes.now here component.now }
 {
-    if piece.is_empty() || piece == "." {
+    if component.is_empty() || component == "." {
         return Ok(here);
     }
     match nodes.get(here) {
@@ -40,10 +40,10 @@ fn enter(nodes: &[Node], here: usize, piece: &str) -> Result<usize, Fault>
             Kind::File(_) => Err(Fault::NotADirectory),
             Kind::Link(_) => Err(Fault::NotADirectory),
             Kind::Dir(entries) => {
-                if piece == ".." {
+                if component == ".." {
                     Ok(n.parent)
                 } else {
-                    entries.get(piece).ok_or(Fault::NotFound)
+                    entries.get(component).ok_or(Fault::NotFound)
                 }
             }
         },
@@ -76,12 +76,12 @@ fn step(
     links: usize,
     follow: bool,
     here: usize,
-    piece: &str,
+    component: &str,
 ) -> Result<Reached, Fault>
-    ensures value { result ≡ walk nodes.now follow links (piece.now ∷ []) here }
+    ensures value { result ≡ walk nodes.now follow links (component.now ∷ []) here }
     ensures fewer { IfOk result (λ reached. reached.links ≤ links) }
 {
-    let node = enter(nodes, here, piece)?;
+    let node = enter(nodes, here, component)?;
     if !follow {
         return Ok(Reached { node, links });
     }
@@ -107,13 +107,13 @@ pub fn walk(
     start: usize,
     text: &str,
 ) -> Result<Reached, Fault>
-    ensures value { result ≡ walk nodes.now follow links (pieces text.now) start }
+    ensures value { result ≡ walk nodes.now follow links (components text.now) start }
     ensures fewer { IfOk result (λ reached. reached.links ≤ links) }
 {
     let mut reached = Reached { node: start, links };
     let mut rest = text;
-    while let Some((piece, after)) = rest.split_once('/') {
-        reached = step(nodes, reached.links, true, reached.node, piece)?;
+    while let Some((component, after)) = rest.split_once('/') {
+        reached = step(nodes, reached.links, true, reached.node, component)?;
         if !is_dir(nodes, reached.node) {
             return Err(Fault::NotADirectory);
         }

@@ -1,13 +1,13 @@
 //! `clone` of an error, written out since a derived one says nothing of a type that holds itself.
 ghost use Rattle.std.specs.Prelude.{◌≡◌};
-ghost use Rattle.ignore_glob.specs.Problem.{told};
+ghost use Rattle.ignore_glob.specs.Problem.{problem_of};
 
 use crate::error::Error;
 use std::alloc::AllocError;
 
 /// The clone tells the same; refused memory is `AllocError`.
 impl Clone for Error {
-    ghost is_clone = { λ e f. told f ≡ told e };
+    ghost is_clone = { λ e f. problem_of f ≡ problem_of e };
 
     fn clone(&self) -> Result<Error, AllocError> {
         match self {

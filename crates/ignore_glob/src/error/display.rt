@@ -1,13 +1,13 @@
 //! The text of an error.
 ghost use Rattle.std.specs.Prelude.{Some};
 ghost use Rattle.ignore_glob.specs.Errors.{problem_text};
-ghost use Rattle.ignore_glob.specs.Problem.{told};
+ghost use Rattle.ignore_glob.specs.Problem.{problem_of};
 
 use crate::error::Error;
 use std::{error, fmt};
 
 impl fmt::Display for Error {
-    ghost output = { λ e. Some (problem_text (told e)) };
+    ghost output = { λ e. Some (problem_text (problem_of e)) };
 
     fn fmt<W: fmt::Write>(&self, f: &mut fmt::Formatter<W>) -> fmt::Result {
         match self {

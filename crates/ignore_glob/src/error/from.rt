@@ -2,7 +2,7 @@
 ghost use Rattle.std.specs.Prelude.{◌≡◌};
 ghost use Rattle.std.specs.IoError.{error_kind};
 ghost use Rattle.ignore_glob.specs.Kinds.{problem_of_kind};
-ghost use Rattle.ignore_glob.specs.Problem.{told, io, memory};
+ghost use Rattle.ignore_glob.specs.Problem.{problem_of, io, memory};
 
 use crate::error::Error;
 use crate::fault::Fault;
@@ -11,7 +11,7 @@ use std::io;
 
 /// A fault is told as `Io`.
 impl From<Fault> for Error {
-    ghost from_gives = { λ fault e. told e ≡ io fault };
+    ghost from_gives = { λ fault e. problem_of e ≡ io fault };
 
     fn from(fault: Fault) -> Error {
         Error::Io(fault)
@@ -23,7 +23,7 @@ impl From<Fault> for Error {
 /// `Error::Memory`, and every other kind `Fault::Other`. The original keeps the
 /// system's error whole.
 impl From<io::Error> for Error {
-    ghost from_gives = { λ error e. told e ≡ problem_of_kind (error_kind error) };
+    ghost from_gives = { λ error e. problem_of e ≡ problem_of_kind (error_kind error) };
 
     fn from(error: io::Error) -> Error {
         match error.kind() {
@@ -40,7 +40,7 @@ impl From<io::Error> for Error {
 
 /// A refused allocation is told as `Memory`.
 impl From<AllocError> for Error {
-    ghost from_gives = { λ _ e. told e ≡ memory };
+    ghost from_gives = { λ _ e. problem_of e ≡ memory };
 
     fn from(_error: AllocError) -> Error {
         Error::Memory
@@ -50,7 +50,7 @@ impl From<AllocError> for Error {
 /// A refused allocation is told as `Memory`; the value that found no room is
 /// dropped.
 impl<T: Drop> From<AllocFailed<T>> for Error {
-    ghost from_gives = { λ _ e. told e ≡ memory };
+    ghost from_gives = { λ _ e. problem_of e ≡ memory };
 
     fn from(_error: AllocFailed<T>) -> Error {
         Error::Memory

@@ -1,8 +1,8 @@
 //! Classes of characters.
 ghost use Rattle.std.specs.Prelude.{◌≡◌, ◌≢◌, ◌+◌, ◌<◌, ◌≤◌, ◌++◌, ◌∷◌, [], ℕ, List, Bool, true, false, take, drop, length, nat_le, IfOk, IfSome, IfNone, Ok, Err};
 ghost use Rattle.std.specs.List.{AllByRecursion, list_all};
-ghost use Rattle.ignore_glob.specs.Pieces.{Closes, turns, NoTurn, Items, last_end, ranges, are_in_order, is_negated, after_sign};
-ghost use Rattle.ignore_glob.specs.Lexemes.{ClosesBefore};
+ghost use Rattle.ignore_glob.specs.Lexing.{Closes, turns, NoTurn, Items, last_end, ranges, are_in_order, is_negated, after_sign};
+ghost use Rattle.ignore_glob.specs.LexemeViews.{ClosesBefore};
 
 use std::alloc::{AllocError, Global};
 

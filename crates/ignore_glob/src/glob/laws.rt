@@ -1,6 +1,6 @@
 //! Laws of reading globs, each as the contract of a function that does nothing.
 ghost use Rattle.std.specs.Prelude.{◌≡◌, ◌⊎◌, ℕ, List, Result, [], Ok, Err};
-ghost use Rattle.ignore_glob.specs.Pieces.{Lexeme, Written};
+ghost use Rattle.ignore_glob.specs.Lexing.{Lexeme, Lexed};
 ghost use Rattle.ignore_glob.specs.Glob.{Tokens};
 ghost use Rattle.ignore_glob.specs.Row.{Reads, IsFaulty};
 ghost use Rattle.ignore_glob.specs.declared.glob.options.Options.{Options};
@@ -8,8 +8,8 @@ ghost use Rattle.ignore_glob.specs.declared.glob.fault.GlobFault.{GlobFault};
 
 /// A text is exactly one row of written pieces, or has exactly one fault, never both.
 pub fn one_outcome()
-    ensures one { (o : Options) (text : List ℕ) → (out : Result (List Lexeme) GlobFault) × Written o 0 text out }
-    ensures same { (o : Options) (text : List ℕ) (a b : Result (List Lexeme) GlobFault) → Written o 0 text a → Written o 0 text b → a ≡ b }
+    ensures one { (o : Options) (text : List ℕ) → (out : Result (List Lexeme) GlobFault) × Lexed o 0 text out }
+    ensures same { (o : Options) (text : List ℕ) (a b : Result (List Lexeme) GlobFault) → Lexed o 0 text a → Lexed o 0 text b → a ≡ b }
 {}
 
 /// A text has exactly one reading or exactly one fault, never both, whatever the options.

@@ -1,9 +1,9 @@
 //! The written pieces of a glob, from the left.
 ghost use Rattle.std.specs.Prelude.{◌≡◌, ◌≢◌, ◌+◌, ◌<◌, ◌≤◌, ◌++◌, ◌∷◌, [], ℕ, List, take, drop, length, replicate, IfOk, IfErr, Ok, Err};
-ghost use Rattle.ignore_glob.specs.Pieces.{Step, piece, fault, Begins, Written, NoStarFirst};
+ghost use Rattle.ignore_glob.specs.Lexing.{Step, lexeme, fault, Begins, Lexed, NoStarFirst};
 ghost use Rattle.ignore_glob.specs.declared.glob.options.Options.{Options};
 ghost use Rattle.ignore_glob.specs.GlobFaults.{IfFault};
-ghost use Rattle.ignore_glob.specs.Lexemes.{lexeme_view, row_view, ClosesBefore};
+ghost use Rattle.ignore_glob.specs.LexemeViews.{lexeme_view, row_view, ClosesBefore};
 
 use crate::glob::class::{after_last_closing, body, ranges_of, sign};
 use crate::glob::fault::{GlobFault, PatternError};
@@ -58,7 +58,7 @@ fn bracket(
     after_last: usize,
 ) -> Result<(Lexeme, &[char], usize), PatternError>
     requires { ClosesBefore after_last text.now }
-    ensures piece { IfOk result (λ found. Begins options depth (91 ∷ text.now) (piece (lexeme_view found.0) found.1.now found.2)) }
+    ensures lexeme { IfOk result (λ found. Begins options depth (91 ∷ text.now) (lexeme (lexeme_view found.0) found.1.now found.2)) }
     ensures fault { IfErr result (λ e. IfFault e (λ f. Begins options depth (91 ∷ text.now) (fault f))) }
 {
     let (negated, inside) = sign(text);
@@ -76,7 +76,7 @@ fn bracket(
 
 /// What a backslash begins, before this text.
 fn escape(depth: usize, text: &[char]) -> Result<(Lexeme, &[char], usize), PatternError>
-    ensures piece { (o : Options) → IfOk result (λ found. Begins o depth (92 ∷ text.now) (piece (lexeme_view found.0) found.1.now found.2)) }
+    ensures lexeme { (o : Options) → IfOk result (λ found. Begins o depth (92 ∷ text.now) (lexeme (lexeme_view found.0) found.1.now found.2)) }
     ensures fault { (o : Options) → IfErr result (λ e. IfFault e (λ f. Begins o depth (92 ∷ text.now) (fault f))) }
 {
     match text.split_first() {
@@ -86,7 +86,7 @@ fn escape(depth: usize, text: &[char]) -> Result<(Lexeme, &[char], usize), Patte
 }
 
 /// The piece that begins with this character, before this text: what follows it, and how deep that stands.
-fn piece_from(
+fn lexeme_from(
     alloc: Global,
     options: Options,
     depth: usize,
@@ -95,7 +95,7 @@ fn piece_from(
     after_last: usize,
 ) -> Result<(Lexeme, &[char], usize), PatternError>
     requires { ClosesBefore after_last text.now }
-    ensures piece { IfOk result (λ found. Begins options depth (first ∷ text.now) (piece (lexeme_view found.0) found.1.now found.2)) }
+    ensures lexeme { IfOk result (λ found. Begins options depth (first ∷ text.now) (lexeme (lexeme_view found.0) found.1.now found.2)) }
     ensures fault { IfErr result (λ e. IfFault e (λ f. Begins options depth (first ∷ text.now) (fault f))) }
 {
     match first {
@@ -135,17 +135,17 @@ fn piece_from(
 ///
 /// # Errors
 /// The fault that begins leftmost, or `Memory`.
-pub fn pieces(alloc: Global, options: Options, text: &[char]) -> Result<Vec<Lexeme>, PatternError>
-    ensures row { IfOk result (λ row. Written options 0 text.now (Ok (row_view row.items))) }
-    ensures fault { IfErr result (λ e. IfFault e (λ f. Written options 0 text.now (Err f))) }
+pub fn lexemes(alloc: Global, options: Options, text: &[char]) -> Result<Vec<Lexeme>, PatternError>
+    ensures row { IfOk result (λ row. Lexed options 0 text.now (Ok (row_view row.items))) }
+    ensures fault { IfErr result (λ e. IfFault e (λ f. Lexed options 0 text.now (Err f))) }
 {
     let after_last = after_last_closing(text);
     let mut row = Vec::new(alloc);
     let mut rest = text;
     let mut depth = 0;
     while let Some((first, after)) = rest.split_first() {
-        let (piece, more, next) = piece_from(alloc, options, depth, *first, after, after_last)?;
-        row.push(piece)?;
+        let (lexeme, more, next) = lexeme_from(alloc, options, depth, *first, after, after_last)?;
+        row.push(lexeme)?;
         rest = more;
         depth = next;
     }

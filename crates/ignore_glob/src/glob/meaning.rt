@@ -1,9 +1,9 @@
 //! The tokens that a row of pieces begins with: runs of two stars are judged by their neighbours.
 ghost use Rattle.std.specs.Prelude.{◌≡◌, ◌⊎◌, ◌+◌, ◌<◌, ◌≤◌, ◌↔◌, ◌∷◌, [], List, length, IsTrue, IfSome, IfNone};
-ghost use Rattle.ignore_glob.specs.Pieces as P;
+ghost use Rattle.ignore_glob.specs.Lexing as P;
 ghost use Rattle.ignore_glob.specs.Row as R;
 ghost use Rattle.ignore_glob.specs.Row.{IsSlash, IsStart, Ends, AtEnd, BeforeSlash, chain, Means};
-ghost use Rattle.ignore_glob.specs.Lexemes.{lexeme_view, row_view, left_view, meaning_view};
+ghost use Rattle.ignore_glob.specs.LexemeViews.{lexeme_view, row_view, left_view, meaning_view};
 
 use crate::glob::lexeme::Lexeme;
 use crate::glob::token::Class;
@@ -13,12 +13,12 @@ use crate::glob::token::Class;
 pub enum Left {
     GlobStart,
     BranchStart,
-    Piece,
+    Lexeme,
 }
 
 /// A token without branches.
 #[derive(Clone, Copy)]
-pub enum Given<'a> {
+pub enum SimpleToken<'a> {
     Literal(char),
     Any,
     Star,
@@ -31,33 +31,33 @@ pub enum Given<'a> {
 /// What a row begins with.
 #[derive(Clone, Copy)]
 pub enum Meaning<'a> {
-    Gives(usize, Given<'a>, &'a [Lexeme]),
+    Gives(usize, SimpleToken<'a>, &'a [Lexeme]),
     Braces(&'a [Lexeme]),
-    Over,
+    Ended,
 }
 
-fn is_pair(piece: &Lexeme) -> bool
-    ensures { IsTrue result ↔ (lexeme_view piece.now ≡ P.run 2) }
+fn is_pair(lexeme: &Lexeme) -> bool
+    ensures { IsTrue result ↔ (lexeme_view lexeme.now ≡ P.run 2) }
 {
-    match piece {
+    match lexeme {
         Lexeme::Run(n) => *n == 2,
         _ => false,
     }
 }
 
-fn is_plain_slash(piece: &Lexeme) -> bool
-    ensures { IsTrue result ↔ (lexeme_view piece.now ≡ P.char 47) }
+fn is_plain_slash(lexeme: &Lexeme) -> bool
+    ensures { IsTrue result ↔ (lexeme_view lexeme.now ≡ P.char 47) }
 {
-    match piece {
+    match lexeme {
         Lexeme::Char(c) => *c == '/',
         _ => false,
     }
 }
 
-fn is_branch_end(piece: &Lexeme) -> bool
-    ensures { IsTrue result ↔ ((lexeme_view piece.now ≡ P.comma) ⊎ (lexeme_view piece.now ≡ P.closing)) }
+fn is_branch_end(lexeme: &Lexeme) -> bool
+    ensures { IsTrue result ↔ ((lexeme_view lexeme.now ≡ P.comma) ⊎ (lexeme_view lexeme.now ≡ P.closing)) }
 {
-    match piece {
+    match lexeme {
         Lexeme::Comma | Lexeme::Closing => true,
         _ => false,
     }
@@ -124,11 +124,11 @@ fn after_slash(row: &[Lexeme]) -> Meaning<'_>
 {
     let (n, rest) = past_chain(row);
     if let Some(more) = past_end(rest) {
-        Meaning::Gives(1, Given::End, more)
+        Meaning::Gives(1, SimpleToken::End, more)
     } else if n > 0 {
-        Meaning::Gives(1, Given::Middle, rest)
+        Meaning::Gives(1, SimpleToken::Middle, rest)
     } else {
-        Meaning::Gives(1, Given::Literal('/'), rest)
+        Meaning::Gives(1, SimpleToken::Literal('/'), rest)
     }
 }
 
@@ -137,7 +137,7 @@ fn is_start(left: Left) -> bool
 {
     match left {
         Left::GlobStart | Left::BranchStart => true,
-        Left::Piece => false,
+        Left::Lexeme => false,
     }
 }
 
@@ -147,7 +147,7 @@ fn is_alone(left: Left, n: usize, after: &[Lexeme]) -> bool
 {
     match left {
         Left::GlobStart => n == 2 && after.is_empty(),
-        Left::BranchStart | Left::Piece => false,
+        Left::BranchStart | Left::Lexeme => false,
     }
 }
 
@@ -157,18 +157,18 @@ fn at_run<'a>(left: Left, row: &'a [Lexeme], n: usize, after: &'a [Lexeme]) -> M
     ensures { Means (left_view left) (row_view row.now) (meaning_view result) }
 {
     if !is_start(left) {
-        return Meaning::Gives(n, Given::Star, after);
+        return Meaning::Gives(n, SimpleToken::Star, after);
     }
     let (k, rest) = past_chain(row);
     if k > 0 {
         match past_end(rest) {
-            Some(more) => Meaning::Gives(1, Given::Start, more),
-            None => Meaning::Gives(1, Given::Start, rest),
+            Some(more) => Meaning::Gives(1, SimpleToken::Start, more),
+            None => Meaning::Gives(1, SimpleToken::Start, rest),
         }
     } else if is_alone(left, n, after) {
-        Meaning::Gives(1, Given::Start, after)
+        Meaning::Gives(1, SimpleToken::Start, after)
     } else {
-        Meaning::Gives(n, Given::Star, after)
+        Meaning::Gives(n, SimpleToken::Star, after)
     }
 }
 
@@ -180,25 +180,25 @@ fn at_character(c: char, rest: &[Lexeme]) -> Meaning<'_>
     if c == '/' {
         after_slash(rest)
     } else {
-        Meaning::Gives(1, Given::Literal(c), rest)
+        Meaning::Gives(1, SimpleToken::Literal(c), rest)
     }
 }
 
 /// What a row begins with, with this left of it.
-pub fn begins(left: Left, row: &[Lexeme]) -> Meaning<'_>
+pub fn meaning_of(left: Left, row: &[Lexeme]) -> Meaning<'_>
     ensures { Means (left_view left) (row_view row.now) (meaning_view result) }
 {
     let Some((first, rest)) = row.split_first() else {
-        return Meaning::Over;
+        return Meaning::Ended;
     };
     match first {
         Lexeme::Char(c) => at_character(*c, rest),
         Lexeme::Escaped(c) => at_character(*c, rest),
-        Lexeme::Any => Meaning::Gives(1, Given::Any, rest),
+        Lexeme::Any => Meaning::Gives(1, SimpleToken::Any, rest),
         Lexeme::Run(n) => at_run(left, row, *n, rest),
-        Lexeme::Class(class) => Meaning::Gives(1, Given::Class(class), rest),
+        Lexeme::Class(class) => Meaning::Gives(1, SimpleToken::Class(class), rest),
         Lexeme::Opening => Meaning::Braces(rest),
-        Lexeme::Comma => Meaning::Over,
-        Lexeme::Closing => Meaning::Over,
+        Lexeme::Comma => Meaning::Ended,
+        Lexeme::Closing => Meaning::Ended,
     }
 }

@@ -3,8 +3,8 @@ ghost use Rattle.std.specs.Prelude.{◌≡◌, ◌↔◌, IsTrue, IfOk, IfErr};
 ghost use Rattle.std.specs.Str.{chars};
 ghost use Rattle.ignore_glob.specs.Glob.{start, then, done};
 ghost use Rattle.ignore_glob.specs.GlobFaults.{IfFault};
-ghost use Rattle.ignore_glob.specs.Problem.{told, memory};
-ghost use Rattle.ignore_glob.specs.Reading.{Takes};
+ghost use Rattle.ignore_glob.specs.Problem.{problem_of, memory};
+ghost use Rattle.ignore_glob.specs.Reading.{Matches};
 ghost use Rattle.ignore_glob.specs.Row.{Reads, IsFaulty};
 ghost use Rattle.ignore_glob.specs.View.{view, tokens_view};
 
@@ -12,7 +12,7 @@ use crate::error::Error;
 use crate::glob::copies::copied;
 use crate::glob::fault::PatternError;
 use crate::glob::options::Options;
-use crate::glob::plain::all_take;
+use crate::glob::plain::all_match;
 use crate::glob::read::read;
 use crate::glob::token::Token;
 use std::alloc::{AllocError, Global};
@@ -70,8 +70,8 @@ impl Pattern {
     /// # Errors
     /// `Error::Memory` alone, since the characters of the text are kept for the time of the call.
     pub fn matches(&self, text: &str) -> Result<bool, Error>
-        ensures err { IfErr result (λ e. told e ≡ memory) }
-        ensures ok { IfOk result (λ yes. IsTrue yes ↔ Takes self.now (chars text.now)) }
+        ensures out_of_memory { IfErr result (λ e. problem_of e ≡ memory) }
+        ensures value { IfOk result (λ yes. IsTrue yes ↔ Matches self.now (chars text.now)) }
     {
         match characters(*self.tokens.allocator(), text) {
             Ok(all) => Ok(self.matches_chars(&all)),
@@ -81,12 +81,12 @@ impl Pattern {
 
     /// For the crates above, which ask many patterns about one text: as `matches`, of the text's `characters`.
     pub fn matches_chars(&self, text: &[char]) -> bool
-        ensures { IsTrue result ↔ Takes self.now text.now }
+        ensures { IsTrue result ↔ Matches self.now text.now }
     {
         if is_lone_start(&self.tokens) {
             return true;
         }
-        all_take(self.case_insensitive, &self.tokens, text)
+        all_match(self.case_insensitive, &self.tokens, text)
     }
 }
 
@@ -109,8 +109,8 @@ impl Clone for Pattern {
 /// # Errors
 /// `Error::Memory` alone.
 pub fn characters(alloc: Global, text: &str) -> Result<Vec<char>, Error>
-    ensures err { IfErr result (λ e. told e ≡ memory) }
-    ensures ok { IfOk result (λ all. all.items ≡ chars text.now) }
+    ensures out_of_memory { IfErr result (λ e. problem_of e ≡ memory) }
+    ensures value { IfOk result (λ all. all.items ≡ chars text.now) }
 {
     match text.chars().collect(alloc) {
         Ok(all) => Ok(all),

@@ -1,7 +1,7 @@
 //! The plain matcher: token by token, it tries each split of the text.
 //! It recurses once for each token and each level of braces, never for a character.
 ghost use Rattle.std.specs.Prelude.{IsTrue, ◌↔◌, ◌≡◌, ◌≢◌, ◌≤◌, ◌++◌, ℕ, Bool, false, List, All, length, take};
-ghost use Rattle.ignore_glob.specs.Takes.{slash, BeginsWithSlash, EndsWithSlash, IsCaseOf, IsMember, other_case, in_ranges, is_listed, token_takes, takes, branch_takes};
+ghost use Rattle.ignore_glob.specs.Matches.{slash, BeginsWithSlash, EndsWithSlash, IsCaseOf, IsMember, other_case, in_ranges, is_listed, token_matches, tokens_match, branch_matches};
 ghost use Rattle.ignore_glob.specs.Glob.{any, star, start, class, literal, then};
 ghost use Rattle.ignore_glob.specs.View.{view, tokens_view, branches_view};
 
@@ -53,8 +53,8 @@ fn is_member(fold: bool, of: &Class, c: char) -> bool
     }
 }
 
-fn literal_takes(fold: bool, c: char, text: &[char]) -> bool
-    ensures { IsTrue result ↔ token_takes fold (literal c) text.now }
+fn literal_matches(fold: bool, c: char, text: &[char]) -> bool
+    ensures { IsTrue result ↔ token_matches fold (literal c) text.now }
 {
     match text {
         [only] => is_case_of(fold, c, *only),
@@ -62,8 +62,8 @@ fn literal_takes(fold: bool, c: char, text: &[char]) -> bool
     }
 }
 
-fn any_takes(text: &[char]) -> bool
-    ensures { IsTrue result ↔ token_takes false any text.now }
+fn any_matches(text: &[char]) -> bool
+    ensures { IsTrue result ↔ token_matches false any text.now }
 {
     match text {
         [only] => *only != '/',
@@ -71,8 +71,8 @@ fn any_takes(text: &[char]) -> bool
     }
 }
 
-fn class_takes(fold: bool, of: &Class, text: &[char]) -> bool
-    ensures { IsTrue result ↔ token_takes fold (class of.now.negated of.now.ranges.items) text.now }
+fn class_matches(fold: bool, of: &Class, text: &[char]) -> bool
+    ensures { IsTrue result ↔ token_matches fold (class of.now.negated of.now.ranges.items) text.now }
 {
     match text {
         [only] => is_member(fold, of, *only),
@@ -80,8 +80,8 @@ fn class_takes(fold: bool, of: &Class, text: &[char]) -> bool
     }
 }
 
-fn start_takes(text: &[char]) -> bool
-    ensures { IsTrue result ↔ token_takes false start text.now }
+fn start_matches(text: &[char]) -> bool
+    ensures { IsTrue result ↔ token_matches false start text.now }
 {
     if text.is_empty() {
         true
@@ -125,7 +125,7 @@ fn name_length(text: &[char]) -> usize
 /// How long a front of the text is that the token may take.
 fn reach(token: &Token, text: &[char]) -> usize
     ensures within { result ≤ length text.now }
-    ensures longest { (fold : Bool) (a b : List ℕ) → text.now ≡ a ++ b → token_takes fold (view token.now) a → length a ≤ result }
+    ensures longest { (fold : Bool) (a b : List ℕ) → text.now ≡ a ++ b → token_matches fold (view token.now) a → length a ≤ result }
 {
     match token {
         Token::Literal(_) => text.len().min(1),
@@ -156,8 +156,8 @@ fn is_star(token: &Token) -> bool
 
 /// Whether the tokens take the text, with ASCII case folded or not.
 #[cycle(plain)]
-pub fn all_take(fold: bool, tokens: &[Token], text: &[char]) -> bool
-    ensures { IsTrue result ↔ takes fold (tokens_view tokens.now) text.now }
+pub fn all_match(fold: bool, tokens: &[Token], text: &[char]) -> bool
+    ensures { IsTrue result ↔ tokens_match fold (tokens_view tokens.now) text.now }
 {
     match tokens {
         [] => text.is_empty(),
@@ -165,7 +165,7 @@ pub fn all_take(fold: bool, tokens: &[Token], text: &[char]) -> bool
             if is_star(first) {
                 star_first(fold, rest, text)
             } else {
-                split(fold, first, rest, text)
+                token_first(fold, first, rest, text)
             }
         }
     }
@@ -174,10 +174,10 @@ pub fn all_take(fold: bool, tokens: &[Token], text: &[char]) -> bool
 /// Whether a star takes a front of the text and these tokens the rest.
 #[cycle(plain)]
 fn star_first(fold: bool, rest: &[Token], text: &[char]) -> bool
-    ensures { IsTrue result ↔ takes fold (then star (tokens_view rest.now)) text.now }
+    ensures { IsTrue result ↔ tokens_match fold (then star (tokens_view rest.now)) text.now }
 {
     for k in 0..=name_length(text) {
-        if all_take(fold, rest, &text[k..]) {
+        if all_match(fold, rest, &text[k..]) {
             return true;
         }
     }
@@ -186,11 +186,11 @@ fn star_first(fold: bool, rest: &[Token], text: &[char]) -> bool
 
 /// Whether the first token takes a front of the text and the others the rest.
 #[cycle(plain)]
-fn split(fold: bool, first: &Token, rest: &[Token], text: &[char]) -> bool
-    ensures { IsTrue result ↔ takes fold (then (view first.now) (tokens_view rest.now)) text.now }
+fn token_first(fold: bool, first: &Token, rest: &[Token], text: &[char]) -> bool
+    ensures { IsTrue result ↔ tokens_match fold (then (view first.now) (tokens_view rest.now)) text.now }
 {
     for k in 0..=reach(first, text) {
-        if one_takes(fold, first, &text[..k]) && all_take(fold, rest, &text[k..]) {
+        if one_matches(fold, first, &text[..k]) && all_match(fold, rest, &text[k..]) {
             return true;
         }
     }
@@ -199,33 +199,33 @@ fn split(fold: bool, first: &Token, rest: &[Token], text: &[char]) -> bool
 
 #[cycle(plain)]
 #[tactic(auto, using(crate::proofs::Views::view_equations))]
-fn one_takes(fold: bool, token: &Token, text: &[char]) -> bool
-    ensures { IsTrue result ↔ token_takes fold (view token.now) text.now }
+fn one_matches(fold: bool, token: &Token, text: &[char]) -> bool
+    ensures { IsTrue result ↔ token_matches fold (view token.now) text.now }
 {
     match token {
-        Token::Literal(c) => literal_takes(fold, *c, text),
-        Token::Any => any_takes(text),
+        Token::Literal(c) => literal_matches(fold, *c, text),
+        Token::Any => any_matches(text),
         Token::Star => text.iter().all(|c| *c != '/'),
-        Token::RecursiveStart => start_takes(text),
+        Token::RecursiveStart => start_matches(text),
         Token::RecursiveMiddle => begins_with_slash(text) && ends_with_slash(text),
         Token::RecursiveEnd => begins_with_slash(text),
-        Token::Class(class) => class_takes(fold, class, text),
+        Token::Class(class) => class_matches(fold, class, text),
         Token::Alternates(branches) => {
             if branches.is_empty() {
                 text.is_empty()
             } else {
-                some_takes(fold, branches, text)
+                some_matches(fold, branches, text)
             }
         }
     }
 }
 
 #[cycle(plain)]
-fn some_takes(fold: bool, branches: &[Vec<Token>], text: &[char]) -> bool
-    ensures { IsTrue result ↔ branch_takes fold (branches_view branches.now) text.now }
+fn some_matches(fold: bool, branches: &[Vec<Token>], text: &[char]) -> bool
+    ensures { IsTrue result ↔ branch_matches fold (branches_view branches.now) text.now }
 {
     match branches {
         [] => false,
-        [first, rest @ ..] => all_take(fold, first, text) || some_takes(fold, rest, text),
+        [first, rest @ ..] => all_match(fold, first, text) || some_matches(fold, rest, text),
     }
 }

@@ -2,31 +2,31 @@
 ghost use Rattle.std.specs.Prelude.{◌≡◌, ◌+◌, ◌<◌, ◌≤◌, ◌∷◌, ℕ, suc, length, IsTrue, IfOk, IfErr};
 ghost use Rattle.std.specs.Str.{chars};
 ghost use Rattle.ignore_glob.specs.Glob.{Tokens, Branches};
-ghost use Rattle.ignore_glob.specs.Pieces.{comma, closing};
+ghost use Rattle.ignore_glob.specs.Lexing.{comma, closing};
 ghost use Rattle.ignore_glob.specs.GlobFaults.{IfFault};
 ghost use Rattle.ignore_glob.specs.Row.{Row, Inner, Ends, Reads, IsFaulty, times, add_branch};
 ghost use Rattle.ignore_glob.specs.View.{view, tokens_view, branches_view};
-ghost use Rattle.ignore_glob.specs.Lexemes.{row_view, left_view, given_view, Balanced, put_tokens, put_branches};
+ghost use Rattle.ignore_glob.specs.LexemeViews.{row_view, left_view, simple_token_view, Balanced, put_tokens, put_branches};
 
 use crate::glob::fault::PatternError;
-use crate::glob::lexeme::{Lexeme, pieces};
-use crate::glob::meaning::{Given, Left, Meaning, begins};
+use crate::glob::lexeme::{Lexeme, lexemes};
+use crate::glob::meaning::{Left, Meaning, SimpleToken, meaning_of};
 use crate::glob::options::Options;
 use crate::glob::token::{Class, Token};
 use std::alloc::{AllocError, Global};
 
 /// The token that is meant.
-fn token_of(alloc: Global, given: Given) -> Result<Token, AllocError>
-    ensures { IfOk result (λ token. view token ≡ given_view given.entry) }
+fn token_of(alloc: Global, given: SimpleToken) -> Result<Token, AllocError>
+    ensures { IfOk result (λ token. view token ≡ simple_token_view given.entry) }
 {
     match given {
-        Given::Literal(c) => Ok(Token::Literal(c)),
-        Given::Any => Ok(Token::Any),
-        Given::Star => Ok(Token::Star),
-        Given::Start => Ok(Token::RecursiveStart),
-        Given::Middle => Ok(Token::RecursiveMiddle),
-        Given::End => Ok(Token::RecursiveEnd),
-        Given::Class(class) => {
+        SimpleToken::Literal(c) => Ok(Token::Literal(c)),
+        SimpleToken::Any => Ok(Token::Any),
+        SimpleToken::Star => Ok(Token::Star),
+        SimpleToken::Start => Ok(Token::RecursiveStart),
+        SimpleToken::Middle => Ok(Token::RecursiveMiddle),
+        SimpleToken::End => Ok(Token::RecursiveEnd),
+        SimpleToken::Class(class) => {
             let negated = class.negated;
             let ranges = Vec::from_slice(alloc, class.ranges.as_slice())?;
             Ok(Token::Class(Class { negated, ranges }))
@@ -39,9 +39,9 @@ fn push_times(
     alloc: Global,
     tokens: &mut Vec<Token>,
     n: usize,
-    given: Given,
+    given: SimpleToken,
 ) -> Result<(), AllocError>
-    ensures { IfOk result (λ _. (ts : Tokens) → put_tokens tokens.new.items ts ≡ put_tokens tokens.old.items (times n (given_view given.entry) ts)) }
+    ensures { IfOk result (λ _. (ts : Tokens) → put_tokens tokens.new.items ts ≡ put_tokens tokens.old.items (times n (simple_token_view given.entry) ts)) }
 {
     for _i in 0..n {
         let token = token_of(alloc, given)?;
@@ -99,7 +99,7 @@ fn read_level(
     let mut here = left;
     let mut rest = row;
     loop {
-        match begins(here, rest) {
+        match meaning_of(here, rest) {
             Meaning::Gives(n, given, more) => {
                 push_times(alloc, &mut tokens, n, given)?;
                 rest = more;
@@ -109,9 +109,9 @@ fn read_level(
                 tokens.push(Token::Alternates(branches))?;
                 rest = after;
             }
-            Meaning::Over => return Ok((tokens, rest)),
+            Meaning::Ended => return Ok((tokens, rest)),
         }
-        here = Left::Piece;
+        here = Left::Lexeme;
     }
 }
 
@@ -141,11 +141,11 @@ fn read_branches(alloc: Global, row: &[Lexeme]) -> Result<(Vec<Vec<Token>>, &[Le
 /// # Errors
 /// The fault that begins leftmost, or `Memory`.
 pub(crate) fn read(alloc: Global, text: &str, options: Options) -> Result<Vec<Token>, PatternError>
-    ensures ok { IfOk result (λ tokens. Reads options (chars text.now) (tokens_view tokens.items)) }
+    ensures value { IfOk result (λ tokens. Reads options (chars text.now) (tokens_view tokens.items)) }
     ensures fault { IfErr result (λ e. IfFault e (λ f. IsFaulty options (chars text.now) f)) }
 {
     let characters: Vec<char> = text.chars().collect(alloc)?;
-    let row = pieces(alloc, options, characters.as_slice())?;
+    let row = lexemes(alloc, options, characters.as_slice())?;
     let (tokens, _) = read_level(alloc, Left::GlobStart, row.as_slice())?;
     Ok(tokens)
 }

@@ -1,7 +1,7 @@
 //! Names, clean paths and clean roots.
 ghost use Rattle.std.specs.Prelude.{◌≡◌, ◌↔◌, IsTrue};
 ghost use Rattle.std.specs.List.{list_all};
-ghost use Rattle.ignore_glob.specs.Paths.{pieces, is_proper, IsName, IsCleanPath, IsCleanRoot};
+ghost use Rattle.ignore_glob.specs.Paths.{components, is_proper, IsName, IsCleanPath, IsCleanRoot};
 ghost use Rattle.ignore_glob.specs.Roots.{IsWithoutEnd, rises, is_rooted};
 
 use crate::text::prefix::{has_slash, trim_root, without_slash};
@@ -55,24 +55,24 @@ fn is_rooted(body: &str) -> bool
 
 // Whether the pieces of a text are `..` and then names.
 fn rises(text: &str) -> bool
-    ensures { result ≡ rises (pieces text.now) }
+    ensures { result ≡ rises (components text.now) }
 {
     text.split('/')
-        .skip_while(|piece| *piece == "..")
-        .all(|piece| is_proper(piece))
+        .skip_while(|component| *component == "..")
+        .all(|component| is_proper(component))
 }
 
 // Whether each piece of a text is a name.
 fn are_names(text: &str) -> bool
-    ensures { result ≡ list_all is_proper (pieces text.now) }
+    ensures { result ≡ list_all is_proper (components text.now) }
 {
-    text.split('/').all(|piece| is_proper(piece))
+    text.split('/').all(|component| is_proper(component))
 }
 
 /// Whether a piece between the slashes of a path is a name: not empty, and neither `.` nor `..`.
 /// For the crates above.
-pub fn is_proper(piece: &str) -> bool
-    ensures { result ≡ is_proper piece.now }
+pub fn is_proper(component: &str) -> bool
+    ensures { result ≡ is_proper component.now }
 {
-    !piece.is_empty() && piece != "." && piece != ".."
+    !component.is_empty() && component != "." && component != ".."
 }

@@ -51,7 +51,7 @@ fn is_dot(root: &str) -> bool
     root.starts_with('.')
         && root
             .split('/')
-            .all(|piece| piece == "." || piece.is_empty())
+            .all(|component| component == "." || component.is_empty())
 }
 
 // Whether the bound of a component lies between a prefix and what follows it.

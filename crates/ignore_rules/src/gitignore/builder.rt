@@ -1,10 +1,10 @@
 //! Lines added to rules.
 ghost use Rattle.std.specs.Prelude.{◌≡◌, ◌⊎◌, ◌++◌, ◌∷◌, [], None, Some, IfOk, IfErr, OnOk, OnErr, IsOk, option_map, string_bytes, length, take};
-ghost use Rattle.ignore_glob.specs.Problem.{told, memory};
-ghost use Rattle.ignore_rules.specs.Rules.{begun, AddsLine, Refuses, AddsWritten, SaysFault, built, with_rule, with_case_insensitive, with_unclosed_class};
+ghost use Rattle.ignore_glob.specs.Problem.{problem_of, memory};
+ghost use Rattle.ignore_rules.specs.Rules.{begun, AddsLine, Refuses, AddsParsed, GivesProblem, built, with_rule, with_case_insensitive, with_unclosed_class};
 
 use crate::gitignore::glob::Glob;
-use crate::gitignore::line::Written;
+use crate::gitignore::line::ParsedLine;
 use crate::gitignore::matcher::Gitignore;
 use ignore_glob::Error;
 use ignore_glob::glob::{Options, Pattern, PatternError};
@@ -37,8 +37,8 @@ impl GitignoreBuilder {
     /// # Errors
     /// `Error::Memory` alone.
     pub fn new(alloc: Global, root: &str) -> Result<GitignoreBuilder, Error>
-        ensures ok { IfOk result (λ b. b ≡ begun root.now) }
-        ensures refused { IfErr result (λ e. told e ≡ memory) }
+        ensures value { IfOk result (λ b. b ≡ begun root.now) }
+        ensures out_of_memory { IfErr result (λ e. problem_of e ≡ memory) }
     {
         match String::from_str(alloc, trim_root(root)) {
             Ok(root) => Ok(GitignoreBuilder {
@@ -60,7 +60,7 @@ impl GitignoreBuilder {
     pub fn add_line(&mut self, from: Option<String>, line: &str) -> Result<&mut Self, Error>
         ensures same_reference { IfOk result (λ b. b.ghost_name ≡ self.entry.ghost_name) }
         ensures added { IfOk result (λ b. AddsLine self.old (option_map string_bytes from) line.now b.now) }
-        ensures refused { IfErr result (λ e. (told e ≡ memory) ⊎ Refuses self.old.options line.now (told e)) }
+        ensures refused { IfErr result (λ e. (problem_of e ≡ memory) ⊎ Refuses self.old.options line.now (problem_of e)) }
     {
         match self.push_line(from, line) {
             Ok(()) => Ok(self),
@@ -71,36 +71,36 @@ impl GitignoreBuilder {
     /// For the crates above: as `add_line`, without the builder in the answer.
     pub fn push_line(&mut self, from: Option<String>, line: &str) -> Result<(), Error>
         ensures added { OnOk result (AddsLine self.old (option_map string_bytes from) line.now self.new) }
-        ensures refused { IfErr result (λ e. (told e ≡ memory) ⊎ Refuses self.old.options line.now (told e)) }
+        ensures refused { IfErr result (λ e. (problem_of e ≡ memory) ⊎ Refuses self.old.options line.now (problem_of e)) }
         ensures unchanged { OnErr result (self.new ≡ self.old) }
     {
-        match Written::of(*self.root.allocator(), line) {
-            Ok(Some(written)) => self.push_written(from, written),
+        match ParsedLine::of(*self.root.allocator(), line) {
+            Ok(Some(parsed_line)) => self.push_parsed(from, parsed_line),
             Ok(None) => Ok(()),
             Err(_) => Err(Error::Memory),
         }
     }
 
-    pub(crate) fn push_written(
+    pub(crate) fn push_parsed(
         &mut self,
         from: Option<String>,
-        written: Written,
+        parsed_line: ParsedLine,
     ) -> Result<(), Error>
-        ensures added { OnOk result (AddsWritten self.old (option_map string_bytes from) (Some written) self.new) }
-        ensures refused { IfErr result (λ e. (told e ≡ memory) ⊎ SaysFault self.old.options (Some written) (told e)) }
+        ensures added { OnOk result (AddsParsed self.old (option_map string_bytes from) (Some parsed_line) self.new) }
+        ensures refused { IfErr result (λ e. (problem_of e ≡ memory) ⊎ GivesProblem self.old.options (Some parsed_line) (problem_of e)) }
         ensures unchanged { OnErr result (self.new ≡ self.old) }
     {
         let alloc = *self.root.allocator();
-        match Pattern::parse(alloc, written.actual(), self.options) {
-            Ok(pattern) => self.push_glob(Glob::new(from, written, pattern)),
-            Err(PatternError::Fault(fault)) => Err(written.refused(alloc, fault)),
+        match Pattern::parse(alloc, parsed_line.actual(), self.options) {
+            Ok(pattern) => self.push_glob(Glob::new(from, parsed_line, pattern)),
+            Err(PatternError::Fault(fault)) => Err(parsed_line.refused(alloc, fault)),
             Err(PatternError::Memory) => Err(Error::Memory),
         }
     }
 
     fn push_glob(&mut self, glob: Glob) -> Result<(), Error>
         ensures added { OnOk result (self.new ≡ with_rule self.old (Some glob)) }
-        ensures refused { IfErr result (λ e. told e ≡ memory) }
+        ensures out_of_memory { IfErr result (λ e. problem_of e ≡ memory) }
         ensures unchanged { OnErr result (self.new ≡ self.old) }
     {
         match self.globs.push(glob) {
@@ -114,8 +114,8 @@ impl GitignoreBuilder {
     /// # Errors
     /// `Error::Memory` alone, as the rules are copied.
     pub fn build(&self) -> Result<Gitignore, Error>
-        ensures ok { IfOk result (λ g. g ≡ built self.now) }
-        ensures refused { IfErr result (λ e. told e ≡ memory) }
+        ensures value { IfOk result (λ g. g ≡ built self.now) }
+        ensures out_of_memory { IfErr result (λ e. problem_of e ≡ memory) }
     {
         match self.clone() {
             Ok(copy) => Ok(copy.into_gitignore()),
@@ -136,7 +136,7 @@ impl GitignoreBuilder {
 
     /// Whether the globs of later lines take both ASCII cases of a letter. It is off at first, and always `Ok`.
     pub fn case_insensitive(&mut self, yes: bool) -> Result<&mut Self, Error>
-        ensures ok { IsOk result }
+        ensures succeeds { IsOk result }
         ensures same_reference { IfOk result (λ b. b.ghost_name ≡ self.entry.ghost_name) }
         ensures value { IfOk result (λ b. b.now ≡ with_case_insensitive self.old yes) }
     {

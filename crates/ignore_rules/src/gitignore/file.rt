@@ -5,13 +5,13 @@ ghost use Rattle.ignore_files.specs.declared.types.Contents.{Contents};
 ghost use Rattle.ignore_files.specs.declared.types.Refusal.{Refusal};
 ghost use Rattle.ignore_files.specs.Gives.{IsHonest};
 ghost use Rattle.ignore_files.specs.Tree.{Tree};
-ghost use Rattle.ignore_glob.specs.Problem.{told, memory, at_path, io, Problem};
+ghost use Rattle.ignore_glob.specs.Problem.{problem_of, memory, at_path, io, Problem};
 ghost use Rattle.ignore_rules.specs.Rules.{AddsLine, Refuses};
-ghost use Rattle.ignore_rules.specs.RuleFile.{AddsFile, AddsAnswer, AddsContents, AddsLines, lines_met, at_line_of, in_file, is_memory, said_at, unmarked};
-ghost use Rattle.ignore_rules.specs.RuleSteps.{IsOnePiece, IsMetAs, IsLastMet, IsLineAt, TakesLine, Keeps};
+ghost use Rattle.ignore_rules.specs.RuleFile.{AddsFile, AddsAnswer, AddsContents, AddsLines, lines_read, at_line_of, in_file, is_memory, line_content, unmarked};
+ghost use Rattle.ignore_rules.specs.RuleSteps.{IsOneSegment, IsLineRead, IsLastLineRead, IsLineAt, AddsOrReports, Keeps};
 
 use crate::gitignore::builder::GitignoreBuilder;
-use crate::gitignore::line::Written;
+use crate::gitignore::line::ParsedLine;
 use ignore_files::{Contents, Fault, Files, Refusal};
 use ignore_glob::Error;
 use memchr::memchr;
@@ -40,9 +40,9 @@ impl GitignoreBuilder {
     /// # Errors
     /// `Error::Memory` alone, and then the builder is as before.
     pub fn add<F: Files>(&mut self, files: &F, path: &str) -> Result<Option<Error>, Error>
-        ensures added { (tree : Tree) → IsHonest F.Files files.now tree → IfOk result (λ problem. AddsFile tree path.now self.old self.new (option_map told problem)) }
-        ensures answered { IfOk result (λ problem. (answer : Result Contents Refusal) × F.contents_gives files.now path.now answer × AddsAnswer path.now answer self.old self.new (option_map told problem)) }
-        ensures refused { IfErr result (λ e. told e ≡ memory) }
+        ensures added { (tree : Tree) → IsHonest F.Files files.now tree → IfOk result (λ problem. AddsFile tree path.now self.old self.new (option_map problem_of problem)) }
+        ensures answered { IfOk result (λ problem. (answer : Result Contents Refusal) × F.contents_gives files.now path.now answer × AddsAnswer path.now answer self.old self.new (option_map problem_of problem)) }
+        ensures out_of_memory { IfErr result (λ e. problem_of e ≡ memory) }
         ensures unchanged { OnErr result (self.new ≡ self.old) }
     {
         match files.contents(self.allocator(), path) {
@@ -60,8 +60,8 @@ impl GitignoreBuilder {
     }
 
     fn add_contents(&mut self, path: &str, contents: &Contents) -> Result<Option<Error>, Error>
-        ensures added { IfOk result (λ problem. AddsContents path.now (Ok contents.now) self.old self.new (option_map told problem)) }
-        ensures refused { IfErr result (λ e. told e ≡ memory) }
+        ensures added { IfOk result (λ problem. AddsContents path.now (Ok contents.now) self.old self.new (option_map problem_of problem)) }
+        ensures out_of_memory { IfErr result (λ e. problem_of e ≡ memory) }
         ensures unchanged { OnErr result (self.new ≡ self.old) }
     {
         let count = self.rule_count();
@@ -80,7 +80,7 @@ impl GitignoreBuilder {
         bytes: &[u8],
         fault: Option<Fault>,
     ) -> Result<Vec<Error>, AllocError>
-        ensures added { IfOk result (λ problems. AddsLines path.now 1 (lines_met bytes.now fault) self.old self.new (map told problems.items)) }
+        ensures added { IfOk result (λ problems. AddsLines path.now 1 (lines_read bytes.now fault) self.old self.new (map problem_of problems.items)) }
         ensures kept { Keeps self.old self.new }
     {
         let mut problems = Vec::new(self.allocator());
@@ -91,7 +91,7 @@ impl GitignoreBuilder {
                 Line::Text(text, next) => {
                     at = next;
                     number += 1;
-                    self.take_line(path, number, text, &mut problems)?;
+                    self.add_or_report(path, number, text, &mut problems)?;
                 }
                 Line::Fault(fault) => {
                     let error = at_line(self.allocator(), path, number + 1, Error::from(fault))?;
@@ -104,17 +104,17 @@ impl GitignoreBuilder {
     }
 
     /// Adds the line with a number; what is wrong with it goes to the problems.
-    fn take_line(
+    fn add_or_report(
         &mut self,
         path: &str,
         number: u64,
         line: &str,
         problems: &mut Vec<Error>,
     ) -> Result<(), AllocError>
-        ensures taken { OnOk result (TakesLine path.now number line.now self.old self.new (map told problems.old.items) (map told problems.new.items)) }
+        ensures added_or_reported { OnOk result (AddsOrReports path.now number line.now self.old self.new (map problem_of problems.old.items) (map problem_of problems.new.items)) }
         ensures kept { Keeps self.old self.new }
     {
-        match self.push_line_of(path, said_at(number, line)) {
+        match self.push_line_of(path, line_content(number, line)) {
             Ok(()) => Ok(()),
             Err(error) => {
                 if is_memory(&error) {
@@ -130,12 +130,12 @@ impl GitignoreBuilder {
     /// As `push_line`, with a path as `from`, which is copied for a rule alone.
     fn push_line_of(&mut self, path: &str, line: &str) -> Result<(), Error>
         ensures added { OnOk result (AddsLine self.old (Some path.now) line.now self.new) }
-        ensures refused { IfErr result (λ e. (told e ≡ memory) ⊎ Refuses self.old.options line.now (told e)) }
+        ensures refused { IfErr result (λ e. (problem_of e ≡ memory) ⊎ Refuses self.old.options line.now (problem_of e)) }
         ensures unchanged { OnErr result (self.new ≡ self.old) }
     {
-        match Written::of(self.allocator(), line) {
-            Ok(Some(written)) => match String::from_str(self.allocator(), path) {
-                Ok(from) => self.push_written(Some(from), written),
+        match ParsedLine::of(self.allocator(), line) {
+            Ok(Some(parsed_line)) => match String::from_str(self.allocator(), path) {
+                Ok(from) => self.push_parsed(Some(from), parsed_line),
                 Err(_) => Err(Error::Memory),
             },
             Ok(None) => Ok(()),
@@ -157,8 +157,8 @@ fn line_at(bytes: &[u8], at: usize, fault: Option<Fault>) -> Line<'_>
 
 /// The line without a line end, if it isn't empty; a fault falls in it.
 fn last_line(rest: &[u8], fault: Option<Fault>, end: usize) -> Line<'_>
-    requires { IsOnePiece rest.now }
-    ensures { IsLastMet rest.now fault end result }
+    requires { IsOneSegment rest.now }
+    ensures { IsLastLineRead rest.now fault end result }
 {
     match fault {
         Some(fault) => Line::Fault(fault),
@@ -168,7 +168,7 @@ fn last_line(rest: &[u8], fault: Option<Fault>, end: usize) -> Line<'_>
 }
 
 fn line_of(line: &[u8], next: usize) -> Line<'_>
-    ensures { IsMetAs line.now next result }
+    ensures { IsLineRead line.now next result }
 {
     match str::from_utf8(line) {
         Ok(text) => Line::Text(text, next),
@@ -187,8 +187,8 @@ fn without_return(line: &[u8]) -> &[u8]
 }
 
 /// The line with a number, of the first without each U+FEFF that it begins with.
-fn said_at(number: u64, line: &str) -> &str
-    ensures { result.now ≡ said_at number line.now }
+fn line_content(number: u64, line: &str) -> &str
+    ensures { result.now ≡ line_content number line.now }
 {
     if number == 1 { unmarked(line) } else { line }
 }
@@ -200,14 +200,14 @@ fn unmarked(text: &str) -> &str
 }
 
 fn is_memory(error: &Error) -> bool
-    ensures { result ≡ is_memory (told error.now) }
+    ensures { result ≡ is_memory (problem_of error.now) }
 {
     matches!(error, Error::Memory)
 }
 
 /// The error with the line of a file that it stands at.
 fn at_line(alloc: Global, path: &str, line: u64, err: Error) -> Result<Error, AllocError>
-    ensures { IfOk result (λ e. told e ≡ at_line_of path.now line (told err)) }
+    ensures { IfOk result (λ e. problem_of e ≡ at_line_of path.now line (problem_of err)) }
 {
     let err = Box::new(alloc, err)?;
     let error = Error::WithLineNumber { line, err };
@@ -219,7 +219,7 @@ fn at_line(alloc: Global, path: &str, line: u64, err: Error) -> Result<Error, Al
 }
 
 fn at_path(alloc: Global, path: &str, err: Error) -> Result<Error, AllocError>
-    ensures { IfOk result (λ e. told e ≡ at_path path.now (told err)) }
+    ensures { IfOk result (λ e. problem_of e ≡ at_path path.now (problem_of err)) }
 {
     let path = String::from_str(alloc, path)?;
     let err = Box::new(alloc, err)?;

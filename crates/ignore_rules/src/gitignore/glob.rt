@@ -2,11 +2,11 @@
 ghost use Rattle.std.specs.Prelude.{◌≡◌, option_map, string_bytes};
 ghost use Rattle.std.specs.Option.{option_copied};
 ghost use Rattle.ignore_glob.specs.Match.{match_map};
-ghost use Rattle.ignore_rules.specs.Answer.{does_apply, told_by};
+ghost use Rattle.ignore_rules.specs.Answer.{does_apply, decision_of};
 ghost use Rattle.ignore_rules.specs.Rules.{read_rule};
-ghost use Rattle.ignore_rules.specs.Taking.{does_take};
+ghost use Rattle.ignore_rules.specs.DoesMatch.{does_match};
 
-use crate::gitignore::line::Written;
+use crate::gitignore::line::ParsedLine;
 use ignore_glob::Match;
 use ignore_glob::glob::Pattern;
 use std::alloc::AllocError;
@@ -38,15 +38,15 @@ impl Model for Glob {
 
 impl Glob {
     /// The rule of a line, with the pattern that its glob was read to.
-    pub(crate) fn new(from: Option<String>, written: Written, pattern: Pattern) -> Glob
-        ensures { result ≡ read_rule (option_map string_bytes from) written pattern }
+    pub(crate) fn new(from: Option<String>, parsed_line: ParsedLine, pattern: Pattern) -> Glob
+        ensures { result ≡ read_rule (option_map string_bytes from) parsed_line pattern }
     {
-        let Written {
+        let ParsedLine {
             original,
             actual,
             is_whitelist,
             is_only_dir,
-        } = written;
+        } = parsed_line;
         Glob {
             from,
             original,
@@ -95,17 +95,17 @@ impl Glob {
     pub(crate) fn applies(&self, text: &[char], is_dir: bool) -> bool
         ensures { result ≡ does_apply text.now is_dir self.now }
     {
-        (!self.is_only_dir || is_dir) && self.takes(text)
+        (!self.is_only_dir || is_dir) && self.matches(text)
     }
 
-    fn takes(&self, text: &[char]) -> bool
-        ensures { result ≡ does_take self.now.reading text.now }
+    fn matches(&self, text: &[char]) -> bool
+        ensures { result ≡ does_match self.now.reading text.now }
     {
         self.pattern.matches_chars(text)
     }
 
-    pub(crate) fn tells(&self) -> Match<&Glob>
-        ensures { match_map (λ g. g.now) result ≡ told_by self.now }
+    pub(crate) fn decision(&self) -> Match<&Glob>
+        ensures { match_map (λ g. g.now) result ≡ decision_of self.now }
     {
         if self.is_whitelist {
             Match::Whitelist(self)

@@ -3,9 +3,9 @@ ghost use Rattle.std.specs.Prelude.{◌≡◌, ℕ, List, Option, None, Some, tr
 ghost use Rattle.ignore_files.specs.Gives.{IsHonest};
 ghost use Rattle.ignore_files.specs.Tree.{Tree};
 ghost use Rattle.ignore_glob.specs.declared.fault.Fault.TheVariants.{NoCurrentDir};
-ghost use Rattle.ignore_glob.specs.Problem.{told, memory, io};
+ghost use Rattle.ignore_glob.specs.Problem.{problem_of, memory, io};
 ghost use Rattle.ignore_excludes.specs.ExcludesSearch.{IsExcludesPath};
-ghost use Rattle.ignore_rules.specs.Matchers.{BuildsGlobal, BuildsAnyAnswer, IsGlobalMatcher, global_file, says_file};
+ghost use Rattle.ignore_rules.specs.Matchers.{BuildsGlobal, BuildsAnyAnswer, IsGlobalMatcher, global_file, is_file_there};
 ghost use Rattle.ignore_rules.specs.Rules.{begun, empty};
 
 use crate::gitignore::builder::GitignoreBuilder;
@@ -27,9 +27,9 @@ impl GitignoreBuilder {
         files: &F,
         env: &Env,
     ) -> Result<(Gitignore, Option<Error>), Error>
-        ensures read { (tree : Tree) → IsHonest F.Files files.now tree → IfOk result (λ r. BuildsGlobal tree env.now self r.0 (option_map told r.1)) }
-        ensures answered { IfOk result (λ r. BuildsAnyAnswer (F.contents_gives files.now) self r.0 (option_map told r.1)) }
-        ensures refused { IfErr result (λ e. told e ≡ memory) }
+        ensures read { (tree : Tree) → IsHonest F.Files files.now tree → IfOk result (λ r. BuildsGlobal tree env.now self r.0 (option_map problem_of r.1)) }
+        ensures answered { IfOk result (λ r. BuildsAnyAnswer (F.contents_gives files.now) self r.0 (option_map problem_of r.1)) }
+        ensures out_of_memory { IfErr result (λ e. problem_of e ≡ memory) }
     {
         let alloc = self.allocator();
         match global_file(alloc, files, env)? {
@@ -49,10 +49,10 @@ impl Gitignore {
         files: &F,
         env: &Env,
     ) -> Result<(Gitignore, Option<Error>), Error>
-        ensures read { (tree : Tree) → IsHonest F.Files files.now tree → IfOk result (λ r. IsGlobalMatcher tree env.now r.0 (option_map told r.1)) }
-        ensures answered { (dir : List ℕ) → env.now.current_dir ≡ Some dir → IfOk result (λ r. BuildsAnyAnswer (F.contents_gives files.now) (begun dir) r.0 (option_map told r.1)) }
-        ensures unknown { env.now.current_dir ≡ None → IsOkAnd result (λ r. (r.0 ≡ empty) × (option_map told r.1 ≡ Some (io NoCurrentDir))) }
-        ensures refused { IfErr result (λ e. told e ≡ memory) }
+        ensures read { (tree : Tree) → IsHonest F.Files files.now tree → IfOk result (λ r. IsGlobalMatcher tree env.now r.0 (option_map problem_of r.1)) }
+        ensures answered { (dir : List ℕ) → env.now.current_dir ≡ Some dir → IfOk result (λ r. BuildsAnyAnswer (F.contents_gives files.now) (begun dir) r.0 (option_map problem_of r.1)) }
+        ensures unknown { env.now.current_dir ≡ None → IsOkAnd result (λ r. (r.0 ≡ empty) × (option_map problem_of r.1 ≡ Some (io NoCurrentDir))) }
+        ensures out_of_memory { IfErr result (λ e. problem_of e ≡ memory) }
     {
         match &env.current_dir {
             None => {
@@ -70,7 +70,7 @@ impl Gitignore {
 /// The path of the global file, if a file is there.
 fn global_file<F: Files>(alloc: Global, files: &F, env: &Env) -> Result<Option<String>, Error>
     ensures found { (tree : Tree) → IsHonest F.Files files.now tree → IfOk result (λ path. (found : Option (List ℕ)) × IsExcludesPath tree env.now found × (option_map string_bytes path ≡ global_file tree found)) }
-    ensures refused { IfErr result (λ e. told e ≡ memory) }
+    ensures out_of_memory { IfErr result (λ e. problem_of e ≡ memory) }
 {
     match gitconfig_excludes_path(alloc, files, env)? {
         None => Ok(None),
@@ -85,8 +85,8 @@ fn global_file<F: Files>(alloc: Global, files: &F, env: &Env) -> Result<Option<S
 }
 
 fn is_file<F: Files>(alloc: Global, files: &F, path: &str) -> Result<bool, Error>
-    ensures kind { (tree : Tree) → IsHonest F.Files files.now tree → IfOk result (λ yes. yes ≡ says_file (tree.stat path.now true)) }
-    ensures refused { IfErr result (λ e. told e ≡ memory) }
+    ensures kind { (tree : Tree) → IsHonest F.Files files.now tree → IfOk result (λ yes. yes ≡ is_file_there (tree.stat path.now true)) }
+    ensures out_of_memory { IfErr result (λ e. problem_of e ≡ memory) }
 {
     match files.stat(alloc, path, true) {
         Ok(metadata) => Ok(metadata.is_file()),

@@ -1,8 +1,8 @@
 //! What one line says, before its pattern is read.
 ghost use Rattle.std.specs.Prelude.{◌≡◌, ◌⊎◌, IfOk, Some, string_bytes};
 ghost use Rattle.ignore_glob.specs.GlobFaults.{glob_fault_text};
-ghost use Rattle.ignore_glob.specs.Problem.{told, memory, glob};
-ghost use Rattle.ignore_rules.specs.Line.{begins, ends, without_start, without_end, trimmed, is_escaped, is_anchored, body, pattern, is_floating, placed, actual, written};
+ghost use Rattle.ignore_glob.specs.Problem.{problem_of, memory, glob};
+ghost use Rattle.ignore_rules.specs.Line.{has_prefix, has_suffix, without_prefix, without_suffix, trimmed, is_escaped, is_anchored, body, pattern, is_floating, placed, actual, parsed_line};
 
 use ignore_glob::Error;
 use ignore_glob::glob::GlobFault;
@@ -12,38 +12,38 @@ use std::marker::Model;
 
 /// A line that says something: neither blank nor a comment.
 #[derive(Drop)]
-pub struct Written {
+pub struct ParsedLine {
     pub original: String,
     pub actual: String,
     pub is_whitelist: bool,
     pub is_only_dir: bool,
 }
 
-impl Model for Written {
+impl Model for ParsedLine {
     ghost use Rattle.std.specs.Prelude.{string_bytes};
-    ghost use Rattle.ignore_rules.specs.Line.{Written as Says};
+    ghost use Rattle.ignore_rules.specs.Line.{ParsedLine as Says};
 
     ghost Value = { Says };
 
     ghost view = { λ w. record { original = string_bytes w.original; actual = string_bytes w.actual; is_whitelist = w.is_whitelist; is_only_dir = w.is_only_dir } };
 }
 
-impl Written {
+impl ParsedLine {
     /// What the line says, if anything.
-    pub fn of(alloc: Global, line: &str) -> Result<Option<Written>, AllocError>
-        ensures { IfOk result (λ says. says ≡ written line.now) }
+    pub fn of(alloc: Global, line: &str) -> Result<Option<ParsedLine>, AllocError>
+        ensures { IfOk result (λ parsed. parsed ≡ parsed_line line.now) }
     {
         let text = trimmed(line);
-        if begins(line, "#") || text.is_empty() {
+        if has_prefix(line, "#") || text.is_empty() {
             return Ok(None);
         }
         let original = String::from_str(alloc, text)?;
         let actual = actual(alloc, text)?;
-        Ok(Some(Written {
+        Ok(Some(ParsedLine {
             original,
             actual,
-            is_whitelist: begins(text, "!"),
-            is_only_dir: ends(body(text), "/"),
+            is_whitelist: has_prefix(text, "!"),
+            is_only_dir: has_suffix(body(text), "/"),
         }))
     }
 
@@ -55,7 +55,7 @@ impl Written {
 
     /// The error of a line whose glob has this fault, or `Error::Memory`.
     pub fn refused(self, alloc: Global, fault: GlobFault) -> Error
-        ensures { (told result ≡ memory) ⊎ (told result ≡ glob (Some self.original) (glob_fault_text fault)) }
+        ensures { (problem_of result ≡ memory) ⊎ (problem_of result ≡ glob (Some self.original) (glob_fault_text fault)) }
     {
         match format!(in alloc; "{fault}") {
             Ok(err) => Error::Glob {
@@ -71,7 +71,7 @@ fn actual(alloc: Global, line: &str) -> Result<String, AllocError>
     ensures { IfOk result (λ text. string_bytes text ≡ actual line.now) }
 {
     let mut text = placed(alloc, line)?;
-    if ends(text.as_str(), "/**") {
+    if has_suffix(text.as_str(), "/**") {
         text.push_str("/*")?;
     }
     Ok(text)
@@ -100,8 +100,8 @@ fn pattern(line: &str) -> &str
     ensures { result.now ≡ pattern line.now }
 {
     let body = body(line);
-    if ends(body, "/") {
-        without_end(without_end(body, "/"), "\\")
+    if has_suffix(body, "/") {
+        without_suffix(without_suffix(body, "/"), "\\")
     } else {
         body
     }
@@ -111,54 +111,54 @@ fn body(line: &str) -> &str
     ensures { result.now ≡ body line.now }
 {
     if is_escaped(line) {
-        without_start(line, "\\")
+        without_prefix(line, "\\")
     } else {
-        without_start(without_start(line, "!"), "/")
+        without_prefix(without_prefix(line, "!"), "/")
     }
 }
 
 fn is_escaped(line: &str) -> bool
     ensures { result ≡ is_escaped line.now }
 {
-    begins(line, "\\!") || begins(line, "\\#")
+    has_prefix(line, "\\!") || has_prefix(line, "\\#")
 }
 
 fn is_anchored(line: &str) -> bool
     ensures { result ≡ is_anchored line.now }
 {
-    begins(without_start(line, "!"), "/")
+    has_prefix(without_prefix(line, "!"), "/")
 }
 
 fn trimmed(line: &str) -> &str
     ensures { result.now ≡ trimmed line.now }
 {
-    if ends(line, "\\ ") {
+    if has_suffix(line, "\\ ") {
         line
     } else {
         line.trim_end()
     }
 }
 
-fn begins(text: &str, start: &str) -> bool
-    ensures { result ≡ begins start.now text.now }
+fn has_prefix(text: &str, start: &str) -> bool
+    ensures { result ≡ has_prefix start.now text.now }
 {
     text.starts_with(start)
 }
 
-fn ends(text: &str, end: &str) -> bool
-    ensures { result ≡ ends end.now text.now }
+fn has_suffix(text: &str, end: &str) -> bool
+    ensures { result ≡ has_suffix end.now text.now }
 {
     text.ends_with(end)
 }
 
-fn without_start<'a>(text: &'a str, start: &str) -> &'a str
-    ensures { result.now ≡ without_start start.now text.now }
+fn without_prefix<'a>(text: &'a str, start: &str) -> &'a str
+    ensures { result.now ≡ without_prefix start.now text.now }
 {
     text.strip_prefix(start).unwrap_or(text)
 }
 
-fn without_end<'a>(text: &'a str, end: &str) -> &'a str
-    ensures { result.now ≡ without_end end.now text.now }
+fn without_suffix<'a>(text: &'a str, end: &str) -> &'a str
+    ensures { result.now ≡ without_suffix end.now text.now }
 {
     text.strip_suffix(end).unwrap_or(text)
 }

@@ -1,7 +1,7 @@
 //! A matcher of rules.
 ghost use Rattle.std.specs.Prelude.{◌≡◌, ◌+◌, ◌==◌, IfOk, IfErr, length, string_bytes};
 ghost use Rattle.ignore_glob.specs.Match.{match_map};
-ghost use Rattle.ignore_glob.specs.Problem.{told, memory};
+ghost use Rattle.ignore_glob.specs.Problem.{problem_of, memory};
 ghost use Rattle.ignore_rules.specs.Answer.{answer, list_answer};
 ghost use Rattle.ignore_rules.specs.Rules.{empty, ignore_count, whitelist_count};
 
@@ -101,7 +101,7 @@ impl Gitignore {
     /// `Error::Memory` alone.
     pub fn matched(&self, path: &str, is_dir: bool) -> Result<Match<&Glob>, Error>
         ensures answered { IfOk result (λ m. match_map (λ g. g.now) m ≡ answer self.now.root self.now.rules path.now is_dir) }
-        ensures refused { IfErr result (λ e. told e ≡ memory) }
+        ensures out_of_memory { IfErr result (λ e. problem_of e ≡ memory) }
     {
         if self.is_empty() {
             return Ok(Match::None);
@@ -120,7 +120,7 @@ pub(crate) fn last_answer<'g>(globs: &'g [Glob], text: &[char], is_dir: bool) ->
     for i in (0..globs.len()).rev() {
         let glob = &globs[i];
         if glob.applies(text, is_dir) {
-            return glob.tells();
+            return glob.decision();
         }
     }
     Match::None

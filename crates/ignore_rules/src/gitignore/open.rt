@@ -4,7 +4,7 @@ ghost use Rattle.ignore_files.specs.declared.types.Contents.{Contents};
 ghost use Rattle.ignore_files.specs.declared.types.Refusal.{Refusal};
 ghost use Rattle.ignore_files.specs.Gives.{IsHonest};
 ghost use Rattle.ignore_files.specs.Tree.{Tree};
-ghost use Rattle.ignore_glob.specs.Problem.{told, memory};
+ghost use Rattle.ignore_glob.specs.Problem.{problem_of, memory};
 ghost use Rattle.ignore_rules.specs.Matchers.{IsMatcherOf, BuildsFile, BuildsAnswer, folder_of, without_fault};
 ghost use Rattle.ignore_rules.specs.Rules.{begun};
 
@@ -27,9 +27,9 @@ impl Gitignore {
         files: &F,
         path: &str,
     ) -> Result<(Gitignore, Option<Error>), Error>
-        ensures read { (tree : Tree) → IsHonest F.Files files.now tree → IfOk result (λ r. IsMatcherOf tree path.now r.0 (option_map told r.1)) }
-        ensures answered { IfOk result (λ r. (answer : Result Contents Refusal) × F.contents_gives files.now path.now answer × BuildsAnswer path.now answer (begun (folder_of path.now)) r.0 (option_map told r.1)) }
-        ensures refused { IfErr result (λ e. told e ≡ memory) }
+        ensures read { (tree : Tree) → IsHonest F.Files files.now tree → IfOk result (λ r. IsMatcherOf tree path.now r.0 (option_map problem_of r.1)) }
+        ensures answered { IfOk result (λ r. (answer : Result Contents Refusal) × F.contents_gives files.now path.now answer × BuildsAnswer path.now answer (begun (folder_of path.now)) r.0 (option_map problem_of r.1)) }
+        ensures out_of_memory { IfErr result (λ e. problem_of e ≡ memory) }
     {
         let builder = GitignoreBuilder::new(alloc, folder_of(path))?;
         builder.build_file(files, path)
@@ -43,9 +43,9 @@ impl GitignoreBuilder {
         files: &F,
         path: &str,
     ) -> Result<(Gitignore, Option<Error>), Error>
-        ensures read { (tree : Tree) → IsHonest F.Files files.now tree → IfOk result (λ r. BuildsFile tree path.now self r.0 (option_map told r.1)) }
-        ensures answered { IfOk result (λ r. (answer : Result Contents Refusal) × F.contents_gives files.now path.now answer × BuildsAnswer path.now answer self r.0 (option_map told r.1)) }
-        ensures refused { IfErr result (λ e. told e ≡ memory) }
+        ensures read { (tree : Tree) → IsHonest F.Files files.now tree → IfOk result (λ r. BuildsFile tree path.now self r.0 (option_map problem_of r.1)) }
+        ensures answered { IfOk result (λ r. (answer : Result Contents Refusal) × F.contents_gives files.now path.now answer × BuildsAnswer path.now answer self r.0 (option_map problem_of r.1)) }
+        ensures out_of_memory { IfErr result (λ e. problem_of e ≡ memory) }
     {
         let error = self.add(files, path)?;
         Ok((self.into_gitignore(), without_fault(error)))
@@ -65,7 +65,7 @@ fn folder_of(path: &str) -> &str
 
 /// The error, unless it comes down to a fault.
 pub(crate) fn without_fault(error: Option<Error>) -> Option<Error>
-    ensures { option_map told result ≡ without_fault (option_map told error) }
+    ensures { option_map problem_of result ≡ without_fault (option_map problem_of error) }
 {
     match error {
         None => None,

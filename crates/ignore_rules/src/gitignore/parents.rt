@@ -1,7 +1,7 @@
 //! Paths asked about together with their parents.
 ghost use Rattle.std.specs.Prelude.{◌≡◌, ◌≢◌, ◌==◌, ◌<◌, ◌≤◌, ◌+◌, ℕ, IsTrue, false, IfOk, IfErr, length, slice_index};
 ghost use Rattle.ignore_glob.specs.Match.{match_map};
-ghost use Rattle.ignore_glob.specs.Problem.{told, memory};
+ghost use Rattle.ignore_glob.specs.Problem.{problem_of, memory};
 ghost use Rattle.ignore_rules.specs.Parents.{answer_with_parents, directories_answer, is_under_root, nearest_answer, parents};
 
 use crate::gitignore::glob::Glob;
@@ -31,7 +31,7 @@ impl Gitignore {
     ) -> Result<Match<&Glob>, Error>
         requires { IsTrue (is_under_root self.now path.now) }
         ensures answered { IfOk result (λ m. match_map (λ g. g.now) m ≡ answer_with_parents self.now.root self.now.rules path.now is_dir) }
-        ensures refused { IfErr result (λ e. told e ≡ memory) }
+        ensures out_of_memory { IfErr result (λ e. problem_of e ≡ memory) }
     {
         if self.is_empty() {
             return Ok(Match::None);

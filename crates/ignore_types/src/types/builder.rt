@@ -1,8 +1,8 @@
 //! Collecting file types, and choices among them.
 ghost use Rattle.std.specs.Prelude.{◌≡◌, ◌⊎◌, ◌==◌, [], true, false, map, OnOk, OnErr, IfOk, IfErr};
 ghost use Rattle.std.specs.List.{AllZip, slice_split};
-ghost use Rattle.ignore_glob.specs.Problem.{told, memory, unrecognized};
-ghost use Rattle.ignore_types.specs.Types.{Draft, IsSortedCopy, IsAscending, one_glob, included, request_of, request_of_parts, after_request, Becomes, with_chosen, without};
+ghost use Rattle.ignore_glob.specs.Problem.{problem_of, memory, unrecognized};
+ghost use Rattle.ignore_types.specs.Types.{Draft, IsSortedCopy, IsAscending, one_glob, included, request_of, request_of_fields, after_request, Becomes, with_chosen, without};
 ghost use Rattle.ignore_types.specs.Building.{IsBuilt, IsChosen, IsChoiceProblem, IsRefusedWith, FirstBad};
 ghost use Rattle.ignore_types.specs.Refusals.{IsRefusal};
 ghost use Rattle.ignore_types.specs.Defaults.{with_rows};
@@ -11,9 +11,9 @@ use crate::default_types::DEFAULT_TYPES;
 use crate::types::chosen::{ChosenType, read_globs};
 use crate::types::definition::FileTypeDef;
 use crate::types::definitions::Definitions;
+use crate::types::fields::fields;
 use crate::types::matcher::Types;
 use crate::types::name::is_allowed;
-use crate::types::parts::parts;
 use crate::types::selection::{Selection, selection_of, selections_of};
 use ignore_glob::Error;
 use std::alloc::{AllocError, Global};
@@ -85,18 +85,18 @@ impl TypesBuilder {
         ensures refused { IfErr result (IsRefusal (after_request (request_of definition.now) self.old.definitions)) }
         ensures unchanged { OnErr result (self.new ≡ self.old) }
     {
-        match parts(*self.selections.allocator(), definition, ':') {
-            Ok(parts) => self.add_parts(&parts),
+        match fields(*self.selections.allocator(), definition, ':') {
+            Ok(fields) => self.add_fields(&fields),
             Err(_) => Err(Error::Memory),
         }
     }
 
-    fn add_parts(&mut self, parts: &[&str]) -> Result<(), Error>
-        ensures added { OnOk result (Becomes self.old (after_request (request_of_parts (map (λ p. p.now) parts.now)) self.old.definitions) self.new) }
-        ensures refused { IfErr result (IsRefusal (after_request (request_of_parts (map (λ p. p.now) parts.now)) self.old.definitions)) }
+    fn add_fields(&mut self, fields: &[&str]) -> Result<(), Error>
+        ensures added { OnOk result (Becomes self.old (after_request (request_of_fields (map (λ p. p.now) fields.now)) self.old.definitions) self.new) }
+        ensures refused { IfErr result (IsRefusal (after_request (request_of_fields (map (λ p. p.now) fields.now)) self.old.definitions)) }
         ensures unchanged { OnErr result (self.new ≡ self.old) }
     {
-        match parts {
+        match fields {
             [name, glob] => {
                 if name.is_empty() || glob.is_empty() {
                     return Err(Error::InvalidDefinition);
@@ -129,7 +129,7 @@ impl TypesBuilder {
         if !is_allowed(name) {
             return Err(Error::InvalidDefinition);
         }
-        let Ok(sources) = parts(*self.selections.allocator(), sources, ',') else {
+        let Ok(sources) = fields(*self.selections.allocator(), sources, ',') else {
             return Err(Error::Memory);
         };
         if !self.types.has_all(&sources) {
@@ -153,7 +153,7 @@ impl TypesBuilder {
     /// the first of the type's globs that has a fault; `Memory`.
     pub fn build(&self) -> Result<Types, Error>
         ensures built { IfOk result (IsBuilt self.now) }
-        ensures refused { IfErr result (λ e. (told e ≡ memory) ⊎ IsRefusedWith self.now (told e)) }
+        ensures refused { IfErr result (λ e. (problem_of e ≡ memory) ⊎ IsRefusedWith self.now (problem_of e)) }
     {
         match self.chosen_types() {
             Ok(choices) => match self.types.sorted_copies() {
@@ -166,7 +166,7 @@ impl TypesBuilder {
 
     fn chosen_types(&self) -> Result<Vec<ChosenType>, Error>
         ensures built { IfOk result (λ all. AllZip (IsChosen self.now.definitions) self.now.choices all.items) }
-        ensures refused { IfErr result (λ e. (told e ≡ memory) ⊎ IsRefusedWith self.now (told e)) }
+        ensures refused { IfErr result (λ e. (problem_of e ≡ memory) ⊎ IsRefusedWith self.now (problem_of e)) }
     {
         chosen_types(*self.selections.allocator(), &self.types, &self.selections)
     }
@@ -178,7 +178,7 @@ impl TypesBuilder {
     pub fn definitions(&self) -> Result<Vec<FileTypeDef>, Error>
         ensures copies { IfOk result (λ ds. AllZip IsSortedCopy self.now.definitions ds.items) }
         ensures by_name { IfOk result (λ ds. IsAscending ds.items) }
-        ensures refused { IfErr result (λ e. told e ≡ memory) }
+        ensures out_of_memory { IfErr result (λ e. problem_of e ≡ memory) }
     {
         match self.types.sorted_copies() {
             Ok(definitions) => Ok(definitions),
@@ -205,7 +205,7 @@ impl TypesBuilder {
     pub fn select(&mut self, name: &str) -> Result<&mut Self, Error>
         ensures same_reference { IfOk result (λ b. b.ghost_name ≡ self.entry.ghost_name) }
         ensures selected { IfOk result (λ b. b.now ≡ with_chosen false name.now self.old) }
-        ensures refused { IfErr result (λ e. told e ≡ memory) }
+        ensures out_of_memory { IfErr result (λ e. problem_of e ≡ memory) }
     {
         match self.push_selection(name, false) {
             Ok(()) => Ok(self),
@@ -222,7 +222,7 @@ impl TypesBuilder {
     pub fn negate(&mut self, name: &str) -> Result<&mut Self, Error>
         ensures same_reference { IfOk result (λ b. b.ghost_name ≡ self.entry.ghost_name) }
         ensures negated { IfOk result (λ b. b.now ≡ with_chosen true name.now self.old) }
-        ensures refused { IfErr result (λ e. told e ≡ memory) }
+        ensures out_of_memory { IfErr result (λ e. problem_of e ≡ memory) }
     {
         match self.push_selection(name, true) {
             Ok(()) => Ok(self),
@@ -234,7 +234,7 @@ impl TypesBuilder {
     /// in the answer.
     pub fn push_selection(&mut self, name: &str, negated: bool) -> Result<(), Error>
         ensures chosen { OnOk result (self.new ≡ with_chosen negated name.now self.old) }
-        ensures refused { IfErr result (λ e. told e ≡ memory) }
+        ensures out_of_memory { IfErr result (λ e. problem_of e ≡ memory) }
         ensures unchanged { OnErr result (self.new ≡ self.old) }
     {
         match self.choose(name, negated) {
@@ -264,7 +264,7 @@ impl TypesBuilder {
     pub fn add_defaults(&mut self) -> Result<&mut Self, Error>
         ensures same_reference { IfOk result (λ b. b.ghost_name ≡ self.entry.ghost_name) }
         ensures added { IfOk result (λ b. b.now ≡ record { definitions = with_rows (map (λ r. (map (λ n. n.now) r.0.now, map (λ g. g.now) r.1.now)) DEFAULT_TYPES) self.old.definitions; choices = self.old.choices }) }
-        ensures refused { IfErr result (λ e. told e ≡ memory) }
+        ensures out_of_memory { IfErr result (λ e. problem_of e ≡ memory) }
     {
         match self.push_defaults() {
             Ok(()) => Ok(self),
@@ -276,7 +276,7 @@ impl TypesBuilder {
     /// answer.
     pub fn push_defaults(&mut self) -> Result<(), Error>
         ensures added { OnOk result (self.new ≡ record { definitions = with_rows (map (λ r. (map (λ n. n.now) r.0.now, map (λ g. g.now) r.1.now)) DEFAULT_TYPES) self.old.definitions; choices = self.old.choices }) }
-        ensures refused { IfErr result (λ e. told e ≡ memory) }
+        ensures out_of_memory { IfErr result (λ e. problem_of e ≡ memory) }
         ensures unchanged { OnErr result (self.new ≡ self.old) }
     {
         match self.types.with_rows(&DEFAULT_TYPES) {
@@ -295,7 +295,7 @@ fn chosen_types(
     selections: &[Selection],
 ) -> Result<Vec<ChosenType>, Error>
     ensures built { IfOk result (λ all. AllZip (IsChosen types.now) selections.now all.items) }
-    ensures refused { IfErr result (λ e. (told e ≡ memory) ⊎ FirstBad (IsChosen types.now) (IsChoiceProblem types.now (told e)) selections.now) }
+    ensures refused { IfErr result (λ e. (problem_of e ≡ memory) ⊎ FirstBad (IsChosen types.now) (IsChoiceProblem types.now (problem_of e)) selections.now) }
 {
     let mut all = Vec::new(alloc);
     for selection in selections {
@@ -317,7 +317,7 @@ fn chosen_type(
     selection: &Selection,
 ) -> Result<ChosenType, Error>
     ensures built { IfOk result (IsChosen types.now selection.now) }
-    ensures refused { IfErr result (λ e. (told e ≡ memory) ⊎ IsChoiceProblem types.now (told e) selection.now) }
+    ensures refused { IfErr result (λ e. (problem_of e ≡ memory) ⊎ IsChoiceProblem types.now (problem_of e) selection.now) }
 {
     match types.get(selection.name()) {
         None => Err(unrecognized(alloc, selection.name())),
@@ -333,7 +333,7 @@ fn chosen_type(
 
 /// The error of a choice whose name no type has, or `Error::Memory`.
 fn unrecognized(alloc: Global, name: &str) -> Error
-    ensures { (told result ≡ memory) ⊎ (told result ≡ unrecognized name.now) }
+    ensures { (problem_of result ≡ memory) ⊎ (problem_of result ≡ unrecognized name.now) }
 {
     match String::from_str(alloc, name) {
         Ok(name) => Error::UnrecognizedFileType(name),

@@ -1,9 +1,9 @@
 //! A chosen type of a matcher.
 ghost use Rattle.std.specs.Prelude.{◌≡◌, ◌⊎◌, ◌↔◌, ℕ, IsTrue, IfOk, IfErr, MatchOption, map, not, string_bytes, Some};
 ghost use Rattle.std.specs.List.{AllZip, list_any};
-ghost use Rattle.ignore_glob.specs.Problem.{told, memory, glob as glob_problem};
+ghost use Rattle.ignore_glob.specs.Problem.{problem_of, memory, glob as glob_problem};
 ghost use Rattle.ignore_glob.specs.GlobFaults.{glob_fault_text};
-ghost use Rattle.ignore_types.specs.TypeMatch.{SomeTakes, NoneTakes, IsDeciding};
+ghost use Rattle.ignore_types.specs.TypeMatch.{SomeMatches, NoneMatches, IsDeciding};
 ghost use Rattle.ignore_types.specs.Building.{plain, IsReadAs, FirstBad, IsGlobProblem};
 
 use crate::types::definition::FileTypeDef;
@@ -55,10 +55,10 @@ impl ChosenType {
     }
 
     /// Whether some glob of the type takes the name.
-    pub(super) fn takes(&self, name: &[char]) -> bool
-        ensures { IsTrue result ↔ SomeTakes name.now self.now.readings }
+    pub(super) fn matches(&self, name: &[char]) -> bool
+        ensures { IsTrue result ↔ SomeMatches name.now self.now.readings }
     {
-        some_takes(&self.patterns, name)
+        some_matches(&self.patterns, name)
     }
 }
 
@@ -78,8 +78,8 @@ impl Clone for ChosenType {
     }
 }
 
-fn some_takes(patterns: &[Pattern], name: &[char]) -> bool
-    ensures { IsTrue result ↔ SomeTakes name.now patterns.now }
+fn some_matches(patterns: &[Pattern], name: &[char]) -> bool
+    ensures { IsTrue result ↔ SomeMatches name.now patterns.now }
 {
     for pattern in patterns {
         if pattern.matches_chars(name) {
@@ -91,12 +91,12 @@ fn some_takes(patterns: &[Pattern], name: &[char]) -> bool
 
 /// The choice of the last glob that takes the name.
 pub(super) fn deciding<'a>(choices: &'a [ChosenType], name: &[char]) -> Option<&'a ChosenType>
-    ensures { MatchOption result (NoneTakes name.now choices.now) (λ c. IsDeciding name.now choices.now c.now) }
+    ensures { MatchOption result (NoneMatches name.now choices.now) (λ c. IsDeciding name.now choices.now c.now) }
 {
     let mut i = choices.len();
     while i > 0 {
         i -= 1;
-        if choices[i].takes(name) {
+        if choices[i].matches(name) {
             return Some(&choices[i]);
         }
     }
@@ -114,7 +114,7 @@ pub(super) fn some_selected(choices: &[ChosenType]) -> bool
 /// one.
 pub(super) fn read_globs(alloc: Global, globs: &[String]) -> Result<Vec<Pattern>, Error>
     ensures read { IfOk result (λ all. AllZip IsReadAs (map string_bytes globs.now) all.items) }
-    ensures refused { IfErr result (λ e. (told e ≡ memory) ⊎ FirstBad IsReadAs (IsGlobProblem (told e)) (map string_bytes globs.now)) }
+    ensures refused { IfErr result (λ e. (problem_of e ≡ memory) ⊎ FirstBad IsReadAs (IsGlobProblem (problem_of e)) (map string_bytes globs.now)) }
 {
     let mut all = Vec::new(alloc);
     for glob in globs {
@@ -132,7 +132,7 @@ pub(super) fn read_globs(alloc: Global, globs: &[String]) -> Result<Vec<Pattern>
 
 fn read_glob(alloc: Global, glob: &str) -> Result<Pattern, Error>
     ensures read { IfOk result (IsReadAs glob.now) }
-    ensures refused { IfErr result (λ e. (told e ≡ memory) ⊎ IsGlobProblem (told e) glob.now) }
+    ensures refused { IfErr result (λ e. (problem_of e ≡ memory) ⊎ IsGlobProblem (problem_of e) glob.now) }
 {
     let options = Options {
         case_insensitive: false,
@@ -147,7 +147,7 @@ fn read_glob(alloc: Global, glob: &str) -> Result<Pattern, Error>
 
 /// The error of a glob with this fault, or `Error::Memory`.
 fn glob_error(alloc: Global, glob: &str, fault: GlobFault) -> Error
-    ensures { (told result ≡ memory) ⊎ (told result ≡ glob_problem (Some glob.now) (glob_fault_text fault)) }
+    ensures { (problem_of result ≡ memory) ⊎ (problem_of result ≡ glob_problem (Some glob.now) (glob_fault_text fault)) }
 {
     let Ok(text) = format!(in alloc; "{fault}") else {
         return Error::Memory;

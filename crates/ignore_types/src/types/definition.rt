@@ -51,8 +51,8 @@ impl FileTypeDef {
     }
 
     pub(super) fn push_glob(&mut self, glob: String) -> Result<(), AllocError>
-        ensures ok { OnOk result (self.new ≡ record { name = self.old.name; globs = self.old.globs ++ string_bytes glob ∷ [] }) }
-        ensures err { OnErr result (self.new ≡ self.old) }
+        ensures added { OnOk result (self.new ≡ record { name = self.old.name; globs = self.old.globs ++ string_bytes glob ∷ [] }) }
+        ensures unchanged { OnErr result (self.new ≡ self.old) }
     {
         self.globs.push(glob)?;
         Ok(())

@@ -54,8 +54,8 @@ impl Definitions {
     }
 
     pub(super) fn add(&mut self, name: &str, glob: &str) -> Result<(), AllocError>
-        ensures ok { OnOk result (self.new ≡ with_glob name.now glob.now self.old) }
-        ensures err { OnErr result (self.new ≡ self.old) }
+        ensures added { OnOk result (self.new ≡ with_glob name.now glob.now self.old) }
+        ensures unchanged { OnErr result (self.new ≡ self.old) }
     {
         let alloc = *self.sorted.allocator();
         match place(self.sorted.as_slice(), name) {

@@ -1,7 +1,7 @@
 //! Matching the names of files against chosen types.
 ghost use Rattle.std.specs.Prelude.{◌≡◌, ◌==◌, [], length, IfOk, IfErr};
 ghost use Rattle.std.specs.Option.{option_copied};
-ghost use Rattle.ignore_glob.specs.Problem.{told, memory};
+ghost use Rattle.ignore_glob.specs.Problem.{problem_of, memory};
 ghost use Rattle.ignore_glob.specs.Paths.{file_name_of};
 ghost use Rattle.ignore_types.specs.TypeMatch.{verdict_of, unmatched, IsNameAnswer, IsTypeAnswer};
 
@@ -124,7 +124,7 @@ impl Types {
     /// time of the call.
     pub fn matched(&self, path: &str, is_dir: bool) -> Result<Match<Glob<'_>>, Error>
         ensures decided { IfOk result (IsTypeAnswer self.now.choices is_dir (file_name_of path.now)) }
-        ensures refused { IfErr result (λ e. told e ≡ memory) }
+        ensures out_of_memory { IfErr result (λ e. problem_of e ≡ memory) }
     {
         if is_dir {
             return Ok(Match::None);

@@ -27,7 +27,7 @@ fn read(alloc: Global, input: &Value, tree: &MemoryTree, path: &str) -> Result<O
             answer.put_flag("is_empty", matcher.is_empty());
             answer.put_number("len", matcher.len() as u64);
         }
-        Err(error) => answer.put_value("error", files.told(alloc, &error)?),
+        Err(error) => answer.put_value("error", files.reported(alloc, &error)?),
     }
     answer.outcome()
 }

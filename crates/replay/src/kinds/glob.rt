@@ -15,10 +15,10 @@ pub fn answer(alloc: Global, input: &Value) -> Result<Outcome, Trouble> {
     let asked = text(input, "text")?;
     let options = options(input)?;
     match parse(alloc, glob, options) {
-        Err(PatternError::Fault(fault)) => told_fault(alloc, fault),
+        Err(PatternError::Fault(fault)) => reported_fault(alloc, fault),
         Err(PatternError::Memory) => Err(Trouble::Memory),
         Ok(_) if needs_too_many(glob, asked) => Ok(Outcome::Skipped(Reason::TooManySplits)),
-        Ok(pattern) => told_taken(alloc, &clones::asked(input, pattern)?, asked),
+        Ok(pattern) => reported_taken(alloc, &clones::asked(input, pattern)?, asked),
     }
 }
 
@@ -38,13 +38,13 @@ fn parse(alloc: Global, glob: &str, options: Options) -> Result<Pattern, Pattern
     }
 }
 
-fn told_fault(alloc: Global, fault: GlobFault) -> Result<Outcome, Trouble> {
+fn reported_fault(alloc: Global, fault: GlobFault) -> Result<Outcome, Trouble> {
     let mut answer = Answer::new(alloc);
     answer.put_number("fault", u64::from(fault.number()));
     answer.outcome()
 }
 
-fn told_taken(alloc: Global, pattern: &Pattern, asked: &str) -> Result<Outcome, Trouble> {
+fn reported_taken(alloc: Global, pattern: &Pattern, asked: &str) -> Result<Outcome, Trouble> {
     let taken = takes(pattern, asked)?;
     let mut answer = Answer::new(alloc);
     answer.put_flag("taken", taken);

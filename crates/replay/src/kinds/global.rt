@@ -19,10 +19,15 @@ use vectors::{Outcome, Trouble, field, list, text};
 pub fn answer(alloc: Global, input: &Value) -> Result<Outcome, Trouble> {
     let tree = tree_of_calls(alloc, text(input, "cwd")?, list(input, CALLS)?)?;
     let env = environment(alloc, field(input, "env")?)?;
-    told(alloc, input, &tree, &env)
+    reported(alloc, input, &tree, &env)
 }
 
-fn told(alloc: Global, input: &Value, tree: &MemoryTree, env: &Env) -> Result<Outcome, Trouble> {
+fn reported(
+    alloc: Global,
+    input: &Value,
+    tree: &MemoryTree,
+    env: &Env,
+) -> Result<Outcome, Trouble> {
     let mut answer = Answer::new(alloc);
     put_path(&mut answer, alloc, &Refusing::of(tree, input)?, env)?;
     put_matcher(&mut answer, alloc, input, &Refusing::of(tree, input)?, env)?;
@@ -37,7 +42,7 @@ fn put_path(
 ) -> Result<(), Trouble> {
     match gitconfig_excludes_path(alloc, files, env) {
         Ok(path) => answer.put_text_or_null("path", path.as_deref()),
-        Err(error) => answer.put_value("path", files.told(alloc, &error)?),
+        Err(error) => answer.put_value("path", files.reported(alloc, &error)?),
     }
     Ok(())
 }
@@ -51,12 +56,12 @@ fn put_matcher(
 ) -> Result<(), Trouble> {
     match matcher(alloc, input, files, env)? {
         Ok((matcher, error)) => put_read(answer, alloc, &matcher, &error),
-        Err(error) => answer.put_value("error", files.told(alloc, &error)?),
+        Err(error) => answer.put_value("error", files.reported(alloc, &error)?),
     }
     Ok(())
 }
 
-/// A matcher, and what is told of its file; or an error of the call.
+/// A matcher, and what is reported of its file; or an error of the call.
 type Read = Result<(Gitignore, Option<Error>), Error>;
 
 fn matcher(alloc: Global, input: &Value, files: &Refusing<'_>, env: &Env) -> Result<Read, Trouble> {

@@ -2,7 +2,7 @@
 
 use crate::again::{build, but_for_memory};
 use crate::answer::Answer;
-use crate::error::{fault_of, told_or_null};
+use crate::error::{fault_of, reported_or_null};
 use crate::hex_digits::bytes_of;
 use crate::refusing::Refusing;
 use crate::rules::{builder_of_lines, rules_value};
@@ -43,10 +43,10 @@ fn asked(
     let mut builder = builder_of_lines(alloc, input)?;
     set_case(&mut builder, flag(input, "ci")?)?;
     let error = added(&mut builder, files, path)?;
-    told(alloc, &builder, &error)
+    reported(alloc, &builder, &error)
 }
 
-fn told(
+fn reported(
     alloc: Global,
     builder: &GitignoreBuilder,
     error: &Option<Error>,
@@ -54,7 +54,7 @@ fn told(
     let matcher = build(builder)?;
     let mut answer = Answer::new(alloc);
     answer.put("rules", rules_value(alloc, &matcher));
-    answer.put("error", told_or_null(alloc, error.as_ref()));
+    answer.put("error", reported_or_null(alloc, error.as_ref()));
     answer.put_flag("is_io", is_io(error));
     answer.put_flag("is_partial", is_partial(error));
     answer.outcome()

@@ -21,7 +21,7 @@ pub fn answer(alloc: Global, input: &Value) -> Result<Outcome, Trouble> {
     match empty_tree(alloc, text(input, "cwd")?) {
         Err(TreeError::Memory) => Err(Trouble::Memory),
         Err(error) => refused_tree(alloc, error),
-        Ok(tree) => told_tree(alloc, tree, list(input, CALLS)?, list(input, ASKS)?),
+        Ok(tree) => reported_tree(alloc, tree, list(input, CALLS)?, list(input, ASKS)?),
     }
 }
 
@@ -29,11 +29,11 @@ pub fn answer(alloc: Global, input: &Value) -> Result<Outcome, Trouble> {
 fn refused_tree(alloc: Global, error: TreeError) -> Result<Outcome, Trouble> {
     let mut results = Items::new(alloc);
     results.put_value(refusal_value(Some(error)));
-    told(alloc, results, Items::new(alloc))
+    reported(alloc, results, Items::new(alloc))
 }
 
 /// The answer where a tree is there, which the calls change before it is asked.
-fn told_tree(
+fn reported_tree(
     alloc: Global,
     mut tree: MemoryTree,
     calls: &[Value],
@@ -43,10 +43,10 @@ fn told_tree(
     results.put_value(Value::Null);
     make_calls(alloc, &mut tree, calls, &mut results)?;
     let answers = ask_all(alloc, &tree, asks)?;
-    told(alloc, results, answers)
+    reported(alloc, results, answers)
 }
 
-fn told(alloc: Global, results: Items, answers: Items) -> Result<Outcome, Trouble> {
+fn reported(alloc: Global, results: Items, answers: Items) -> Result<Outcome, Trouble> {
     let mut answer = Answer::new(alloc);
     answer.put("results", results.value());
     answer.put("answers", answers.value());

@@ -3,7 +3,7 @@
 use crate::again::{but_for_memory, problem};
 use crate::answer::{Answer, Items};
 use crate::clones::asked;
-use crate::error::told;
+use crate::error::reported;
 use crate::rules::refusal;
 use ignore_glob::{Error, Match};
 use ignore_rules::types::{FileTypeDef, Glob, Types, TypesBuilder};
@@ -23,10 +23,10 @@ pub fn answer(alloc: Global, input: &Value) -> Result<Outcome, Trouble> {
     let refused = refusals(alloc, &mut builder, input)?;
     let definitions = asked(input, definitions(&builder)?)?;
     let built = build(&builder)?;
-    told_built(alloc, input, refused, &definitions, built)
+    reported_built(alloc, input, refused, &definitions, built)
 }
 
-fn told_built(
+fn reported_built(
     alloc: Global,
     input: &Value,
     refused: Items,
@@ -38,9 +38,9 @@ fn told_built(
     answer.put("definitions", definitions_value(alloc, definitions));
     match built {
         Built::Types(types) => {
-            told_types(alloc, input, answer, definitions, &asked(input, types)?)
+            reported_types(alloc, input, answer, definitions, &asked(input, types)?)
         }
-        Built::Refused(error) => told_refused(alloc, answer, error),
+        Built::Refused(error) => reported_refused(alloc, answer, error),
     }
 }
 
@@ -51,7 +51,7 @@ enum Built {
     Refused(Error),
 }
 
-fn told_types(
+fn reported_types(
     alloc: Global,
     input: &Value,
     mut answer: Answer,
@@ -79,8 +79,8 @@ fn put_other_definitions(
     }
 }
 
-fn told_refused(alloc: Global, mut answer: Answer, error: Error) -> Result<Outcome, Trouble> {
-    answer.put("build", told(alloc, &error));
+fn reported_refused(alloc: Global, mut answer: Answer, error: Error) -> Result<Outcome, Trouble> {
+    answer.put("build", reported(alloc, &error));
     answer.put_value("answers", Value::Null);
     answer.outcome()
 }

@@ -1,5 +1,5 @@
-use Rattle.ignore_files.specs.Disk.{AreTold}
+use Rattle.ignore_files.specs.Disk.{AreReported}
 use Rattle.ignore_files.proofs.disk.listing_of.Given as goal
 
 abbrev pub invariant-loop-entry : goal.invariant-loop-entry
-invariant-loop-entry g l = AreTold l.yielded l.listed.items
+invariant-loop-entry g l = AreReported l.yielded l.listed.items

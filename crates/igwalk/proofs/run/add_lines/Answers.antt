@@ -39,5 +39,5 @@ returns-in_err-refused-clause-ended g c = λ root is.
     let so_far = YieldsList-so_far (YieldsList-from_lines c.args.rules.now cc) l.yielded _ l.yielded_by in
     let p = err_from_is_err_and c.from_residual.result c.from_residual.ensures.1 in
     rw (p.1, p.2) (ends_lines root (lines c.args.rules.now) (map (λ (x : Bor (List ℕ)). x.now) l.yielded) (length l.yielded) c.in-Some.line.now l.builder
-    (g.E.Write.contents c.args.err.now) (g.E.Write.contents l.err) (g.E.Write.contents c.add_or_tell.new.err) l.refused c.in_err-refused.field-0.0
+    (g.E.Write.contents c.args.err.now) (g.E.Write.contents l.err) (g.E.Write.contents c.add_or_report.new.err) l.refused c.in_err-refused.field-0.0
     so_far t.0 t.1 (l.invariant.added root is) c.in_err-refused.ensures.ended)

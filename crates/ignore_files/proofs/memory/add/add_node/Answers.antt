@@ -21,20 +21,20 @@ list_named-requires c =
     let read = c.index_mut.result.now in
     let at = c.index_mut.ensures.value ∙ ap (λ ns. get_or ns c.args.parent read) c.in_ok-push.ensures.items in
     let same = read_before nodes c.new.result c.args.parent there.0 read there.1 at in
-    let name = c.new-name.ensures ∙ c.in_ok-from_str.ensures.ok ∙ c.last_piece.ensures in
+    let name = c.new-name.ensures ∙ c.in_ok-from_str.ensures.ok ∙ c.last_component.ensures in
     ap (λ (n : Node). entry_under c.new-name.result n.kind) same ∙ ap (λ n. entry_under n there.0.kind) name ∙ there.2
 
-pub returns-in-Ok-clause-ok : goal.returns-in-Ok-clause-ok
-returns-in-Ok-clause-ok c =
+pub returns-in-Ok-clause-added : goal.returns-in-Ok-clause-added
+returns-in-Ok-clause-added c =
     let nodes = c.args.nodes.now.items in
     let parent = c.args.parent in
     let there = parent_ok nodes c.args.path.now parent c.requires in
     let read = c.index_mut.result.now in
     let at = c.index_mut.ensures.value ∙ ap (λ ns. get_or ns parent read) c.in_ok-push.ensures.items in
     let entry = Named c.new-name.result c.file_type-file_type.result c.len-place.result in
-    let name = c.new-name.ensures ∙ c.in_ok-from_str.ensures.ok ∙ c.last_piece.ensures in
+    let name = c.new-name.ensures ∙ c.in_ok-from_str.ensures.ok ∙ c.last_component.ensures in
     let copy = c.new-path.ensures ∙ c.in_ok-from_str-2.ensures.ok in
     ap (λ ns. set ns parent c.list_named.new.self) c.in_ok-push.ensures.items
-    ∙ ap (set (nodes ++ c.new.result ∷ []) parent) c.in-Ok.ensures.ok
+    ∙ ap (set (nodes ++ c.new.result ∷ []) parent) c.in-Ok.ensures.added
     ∙ write_before (listing_too entry) nodes c.new.result parent there.0 read there.1 at
     ∙ with_node_is nodes c.args.path.now c.args.kind c.args.len parent c.new-name.result c.file_type-file_type.result c.len-place.result c.new-path.result c.new.result name c.file_type-file_type.ensures (c.len-place.ensures ∙ c.args.nodes.now.ok.0) copy c.new.ensures

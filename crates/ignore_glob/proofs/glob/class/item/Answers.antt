@@ -1,7 +1,7 @@
 use Rattle.std.proofs.Common.{◌≡◌, ◌++◌, ◌∷◌, [], ℕ, List, Bool, ◌&&◌, ap, ◌∙◌, sym}
 use Rattle.std.specs.List.{list_all}
 use Rattle.std.specs.Prelude.{nat_le}
-use Rattle.ignore_glob.specs.Pieces.{turns, last_end}
+use Rattle.ignore_glob.specs.Lexing.{turns, last_end}
 use Rattle.ignore_glob.proofs.LexemeLemmas.{turns-more, last_end-more, list_all-more}
 use Rattle.ignore_glob.proofs.glob.class.item.Goals as goal
 

@@ -1,7 +1,7 @@
 use Rattle.std.proofs.Common.{◌≡◌, ℕ, List, ◌∷◌, ◌++◌, length}
 use Rattle.std.specs.List.{list_all}
 use Rattle.std.specs.Prelude.{nat_le}
-use Rattle.ignore_glob.specs.Pieces.{turns, last_end}
+use Rattle.ignore_glob.specs.Lexing.{turns, last_end}
 use Rattle.ignore_glob.proofs.glob.class.item.Given as goal
 
 abbrev pub invariant-loop-end : goal.invariant-loop-end

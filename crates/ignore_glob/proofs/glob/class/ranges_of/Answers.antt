@@ -1,7 +1,7 @@
 use Rattle.std.proofs.Common.{◌≡◌, ◌++◌, ◌∷◌, [], length, ap, ◌∙◌, sym, append_assoc, arith}
 use Rattle.std.proofs.lemmas.List.{append-nil}
 use Rattle.std.proofs.lemmas.Grind.{common_steps}
-use Rattle.ignore_glob.specs.Pieces.{ranges, are_in_order}
+use Rattle.ignore_glob.specs.Lexing.{ranges, are_in_order}
 use Rattle.ignore_glob.proofs.BracketLemmas.{find_items}
 use Rattle.ignore_glob.proofs.BeginsLemmas.{and_left, and_fails}
 use Rattle.ignore_glob.proofs.glob.class.ranges_of.Goals as goal
@@ -20,8 +20,8 @@ loop-rest-preserved c items h =
     let range = c.item-ordered.result.0 in
     let new = c.loop-rest.invariant ((range.0, it.0) ∷ items) (c.item-ordered.result.2.now, it.1, it.2, h) in
     let pushed : c.push.new.self.items ≡ c.loop-rest.all.items ++ range ∷ [] = grind (arith, common_steps) in
-    let told : ranges new.0 ≡ c.loop-rest.all.items ++ range ∷ ranges items = new.3 ∙ ap (λ high. c.loop-rest.all.items ++ (range.0, high) ∷ ranges items) (sym it.3) in
-    (new.0, new.1, new.2 ∙ and_left _ _ (are_in_order items) it.4 c.if-not-ordered.false, rw (pushed, append_assoc) told)
+    let reported : ranges new.0 ≡ c.loop-rest.all.items ++ range ∷ ranges items = new.3 ∙ ap (λ high. c.loop-rest.all.items ++ (range.0, high) ∷ ranges items) (sym it.3) in
+    (new.0, new.1, new.2 ∙ and_left _ _ (are_in_order items) it.4 c.if-not-ordered.false, rw (pushed, append_assoc) reported)
 
 pub returns-clause-some : goal.returns-clause-some
 returns-clause-some c =

@@ -1,5 +1,5 @@
 use Rattle.std.proofs.Common.{◌≡◌, ℕ, List, ◌++◌, length}
-use Rattle.ignore_glob.specs.Pieces.{Items, are_in_order, ranges}
+use Rattle.ignore_glob.specs.Lexing.{Items, are_in_order, ranges}
 use Rattle.ignore_glob.proofs.glob.class.ranges_of.Given as goal
 
 -- items of the rest make items of the whole

@@ -5,8 +5,8 @@ use Rattle.ignore_glob.proofs.glob.lexeme.bracket.Goals as goal
 pub body-requires : goal.body-requires
 body-requires c = ClosesBefore-sign c.args.after_last c.args.text.now c.sign-negated.result.1.now c.sign-negated.ensures.rest c.requires
 
-pub returns-in-Some-2-clause-piece : goal.returns-in-Some-2-clause-piece
-returns-in-Some-2-clause-piece c =
+pub returns-in-Some-2-clause-lexeme : goal.returns-in-Some-2-clause-lexeme
+returns-in-Some-2-clause-lexeme c =
     let k = rw c.in-Some-2.is at c.in_ok-ranges.ensures.some in
     class_at c.args.options c.args.depth c.args.text.now c.sign-negated.result.1.now c.sign-negated.ensures.rest c.sign-negated.result.0 c.in-Some.body.now c.in-Some.rest.now c.in-Some-2.ranges.items k.0 c.sign-negated.ensures.negated c.in-Some.ensures.some k.1 k.2 k.3
 
@@ -15,8 +15,8 @@ returns-in-None-clause-fault c =
     let k = rw c.in-None.is at c.in_ok-ranges.ensures.none in
     disordered_at c.args.options c.args.depth c.args.text.now c.sign-negated.result.1.now c.sign-negated.ensures.rest c.in-Some.body.now c.in-Some.rest.now k.0 c.in-Some.ensures.some k.1 k.2
 
-pub returns-then-options-clause-piece : goal.returns-then-options-clause-piece
-returns-then-options-clause-piece c =
+pub returns-then-options-clause-lexeme : goal.returns-then-options-clause-lexeme
+returns-then-options-clause-lexeme c =
     literal_at c.args.options c.args.depth c.args.text.now c.sign-negated.result.1.now c.sign-negated.ensures.rest c.in_default.ensures.none c.if-options.true
 
 pub returns-in_default-clause-fault : goal.returns-in_default-clause-fault

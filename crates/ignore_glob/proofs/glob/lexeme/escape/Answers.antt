@@ -1,10 +1,10 @@
 use Rattle.std.proofs.Common.{◌≡◌, ◌∷◌, [], arith}
 use Rattle.std.proofs.lemmas.Grind.{common_steps}
-use Rattle.ignore_glob.specs.Pieces.{escape, dangling}
+use Rattle.ignore_glob.specs.Lexing.{escape, dangling}
 use Rattle.ignore_glob.proofs.glob.lexeme.escape.Goals as goal
 
-pub returns-in-Some-clause-piece : goal.returns-in-Some-clause-piece
-returns-in-Some-clause-piece c o =
+pub returns-in-Some-clause-lexeme : goal.returns-in-Some-clause-lexeme
+returns-in-Some-clause-lexeme c o =
     let e : c.args.text.now ≡ c.in-Some.c.now ∷ c.in-Some.rest.now = grind (arith, common_steps) in
     rw e (escape c.args.depth c.in-Some.c.now c.in-Some.rest.now)
 

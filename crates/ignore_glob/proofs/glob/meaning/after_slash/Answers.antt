@@ -1,5 +1,5 @@
 use Rattle.std.proofs.Common.{arith}
-use Rattle.ignore_glob.specs.Lexemes.{row_view}
+use Rattle.ignore_glob.specs.LexemeViews.{row_view}
 use Rattle.ignore_glob.proofs.MeaningLemmas.{end_at, middle_at, slash_at}
 use Rattle.ignore_glob.proofs.glob.meaning.after_slash.Goals as goal
 

@@ -1,7 +1,7 @@
 use Rattle.std.proofs.Common.{inl, inr, ap}
-use Rattle.ignore_glob.specs.Pieces.{char, escaped}
+use Rattle.ignore_glob.specs.Lexing.{char, escaped}
 use Rattle.ignore_glob.specs.Row.{character, escape}
-use Rattle.ignore_glob.specs.Lexemes.{row_view}
+use Rattle.ignore_glob.specs.LexemeViews.{row_view}
 use Rattle.ignore_glob.proofs.glob.meaning.at_character.Goals as goal
 
 pub returns-then-c-eq47-clause-plain : goal.returns-then-c-eq47-clause-plain

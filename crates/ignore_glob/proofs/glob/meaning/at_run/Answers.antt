@@ -1,5 +1,5 @@
 use Rattle.std.proofs.Common.{arith}
-use Rattle.ignore_glob.specs.Lexemes.{row_view, left_view}
+use Rattle.ignore_glob.specs.LexemeViews.{row_view, left_view}
 use Rattle.ignore_glob.proofs.MeaningLemmas.{start_to_end_at, start_at, alone_at, stars_at, inside_at}
 use Rattle.ignore_glob.proofs.glob.meaning.at_run.Goals as goal
 

@@ -1,6 +1,6 @@
 use Rattle.std.proofs.Common.{◌≡◌, ◌∷◌, [], ap, refl, arith}
 use Rattle.std.proofs.lemmas.Grind.{common_steps}
-use Rattle.ignore_glob.specs.Lexemes.{lexeme_view, row_view}
+use Rattle.ignore_glob.specs.LexemeViews.{lexeme_view, row_view}
 use Rattle.ignore_glob.proofs.MeaningLemmas.{ends_at, ends_nil}
 use Rattle.ignore_glob.proofs.glob.meaning.is_end.Goals as goal
 

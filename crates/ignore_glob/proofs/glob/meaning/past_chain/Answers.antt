@@ -1,5 +1,5 @@
 use Rattle.std.proofs.Common.{arith}
-use Rattle.ignore_glob.specs.Lexemes.{row_view}
+use Rattle.ignore_glob.specs.LexemeViews.{row_view}
 use Rattle.ignore_glob.proofs.MeaningLemmas.{chain-more}
 use Rattle.ignore_glob.proofs.glob.meaning.past_chain.Goals as goal
 

@@ -1,6 +1,6 @@
 use Rattle.std.proofs.Common.{◌≡◌, ◌+◌, ◌≤◌, length}
 use Rattle.ignore_glob.specs.Row.{chain}
-use Rattle.ignore_glob.specs.Lexemes.{row_view}
+use Rattle.ignore_glob.specs.LexemeViews.{row_view}
 use Rattle.ignore_glob.proofs.glob.meaning.past_chain.Given as goal
 
 abbrev pub invariant-loop-more : goal.invariant-loop-more

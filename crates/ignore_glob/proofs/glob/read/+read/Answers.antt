@@ -2,30 +2,30 @@ use Rattle.std.proofs.Common.{◌≡◌, ◌++◌, ◌∷◌, [], suc, List, len
 use Rattle.std.proofs.lemmas.Grind.{common_steps}
 use Rattle.ignore_glob.specs.declared.glob.token.Token.TheVariants as Code
 use Rattle.ignore_glob.specs.Glob.{then, alternates, no_branch, done}
-use Rattle.ignore_glob.specs.Pieces.{Lexeme, comma, closing}
+use Rattle.ignore_glob.specs.Lexing.{Lexeme, comma, closing}
 use Rattle.ignore_glob.specs.Row.{gives, braces, times, add_branch, nothing, further, nested}
 use Rattle.ignore_glob.specs.View.{tokens_view, branches_view}
-use Rattle.ignore_glob.specs.Lexemes.{row_view, left_view, given_view, Balanced, put_tokens}
+use Rattle.ignore_glob.specs.LexemeViews.{row_view, left_view, simple_token_view, Balanced, put_tokens}
 use Rattle.ignore_glob.proofs.Views.{view-Alternates}
 use Rattle.ignore_glob.proofs.RowExists.{Means-leaves}
 use Rattle.ignore_glob.proofs.ReadLemmas.{put_tokens-push, put_tokens-done, put_branches-none, Row-at, Inner-at, last_at, further_at}
 use Rattle.ignore_glob.proofs.glob.read.+read.Goals as goal
 
-pub read_level-returns-in-Over-clause-level : goal.read_level-returns-in-Over-clause-level
-read_level-returns-in-Over-clause-level t c =
+pub read_level-returns-in-Ended-clause-level : goal.read_level-returns-in-Ended-clause-level
+read_level-returns-in-Ended-clause-level t c =
     let rest = row_view c.loop-n.rest.now in
-    rw (← put_tokens-done) (c.loop-n.invariant.level done rest (nothing (left_view c.loop-n.here) rest c.in-Over.ensures))
+    rw (← put_tokens-done) (c.loop-n.invariant.level done rest (nothing (left_view c.loop-n.here) rest c.in-Ended.ensures))
 
 pub read_level-loop-n-smaller-in_ok-push_times-in-Gives : goal.read_level-loop-n-smaller-in_ok-push_times-in-Gives
 read_level-loop-n-smaller-in_ok-push_times-in-Gives t c =
-    (Means-leaves (left_view c.loop-n.here) (row_view c.loop-n.rest.now) (gives c.in-Gives.n (given_view c.in-Gives.given) (row_view c.in-Gives.more.now)) c.in-Gives.ensures).0
+    (Means-leaves (left_view c.loop-n.here) (row_view c.loop-n.rest.now) (gives c.in-Gives.n (simple_token_view c.in-Gives.given) (row_view c.in-Gives.more.now)) c.in-Gives.ensures).0
 
 pub read_level-loop-n-preserved-in_ok-push_times-in-Gives : goal.read_level-loop-n-preserved-in_ok-push_times-in-Gives
 read_level-loop-n-preserved-in_ok-push_times-in-Gives t c =
     let here = left_view c.loop-n.here in
     let rest = row_view c.loop-n.rest.now in
     let more = row_view c.in-Gives.more.now in
-    let given = given_view c.in-Gives.given in
+    let given = simple_token_view c.in-Gives.given in
     let leaves = Means-leaves here rest (gives c.in-Gives.n given more) c.in-Gives.ensures in
     record {
       level = λ ts out r. Row-at _ _ out _ _ (sym (c.in_ok-push_times-in-Gives.ensures ts)) (c.loop-n.invariant.level (times c.in-Gives.n given ts) out (further here rest more out c.in-Gives.n given ts c.in-Gives.ensures r));

@@ -1,8 +1,8 @@
 use Rattle.std.proofs.Common.{◌≤◌, ◌+◌, ◌*◌, ℕ, suc, List, length}
 use Rattle.ignore_glob.specs.Glob.{Tokens, Branches}
-use Rattle.ignore_glob.specs.Pieces.{Lexeme}
+use Rattle.ignore_glob.specs.Lexing.{Lexeme}
 use Rattle.ignore_glob.specs.Row.{Row, Inner}
-use Rattle.ignore_glob.specs.Lexemes.{row_view, left_view, Balanced, put_tokens, put_branches}
+use Rattle.ignore_glob.specs.LexemeViews.{row_view, left_view, Balanced, put_tokens, put_branches}
 use Rattle.ignore_glob.proofs.glob.read.+read.Given as goal
 
 abbrev pub decreases-read_level : goal.decreases-read_level

@@ -1,6 +1,6 @@
 use Rattle.std.proofs.Common.{◌<◌, length, ap, ◌∙◌, arith}
 use Rattle.std.proofs.lemmas.Grind.{common_steps}
-use Rattle.ignore_glob.specs.Lexemes.{put_branches}
+use Rattle.ignore_glob.specs.LexemeViews.{put_branches}
 use Rattle.ignore_glob.proofs.ReadLemmas.{put_branches-push, add_some}
 use Rattle.ignore_glob.proofs.glob.read.push_branch.Goals as goal
 

@@ -3,12 +3,12 @@ use Rattle.std.specs.Option.{option_map}
 use Rattle.std.specs.String.{string_bytes}
 use Rattle.ignore_files.specs.Tree.{Tree}
 use Rattle.ignore_excludes.specs.ExcludesSearch.{IsExcludesPath}
-use Rattle.ignore_rules.specs.Matchers.{global_file, says_file}
+use Rattle.ignore_rules.specs.Matchers.{global_file, is_file_there}
 use Rattle.ignore_rules.proofs.gitignore.global.global_file.Goals as goal
 
 -- the answer about the kind chooses
-chosen : (tree : Tree) (path text : List ℕ) (is_file : Bool) → text ≡ path → is_file ≡ says_file (tree.stat text true) → global_file tree (Some path) ≡ cond is_file (Some path) None
-chosen tree path text is_file same kind = ap (λ b. cond b (Some path) None) (sym (kind ∙ ap (λ p. says_file (tree.stat p true)) same))
+chosen : (tree : Tree) (path text : List ℕ) (is_file : Bool) → text ≡ path → is_file ≡ is_file_there (tree.stat text true) → global_file tree (Some path) ≡ cond is_file (Some path) None
+chosen tree path text is_file same kind = ap (λ b. cond b (Some path) None) (sym (kind ∙ ap (λ p. is_file_there (tree.stat p true)) same))
 
 pub returns-then-branch-clause-found : goal.returns-then-branch-clause-found
 returns-then-branch-clause-found g c = λ tree honest.

@@ -1,7 +1,7 @@
 -- Each glob is read in its turn, up to the first that has a fault.
 use Rattle.std.proofs.Common.{◌≡◌, ◌+◌, ◌++◌, ◌∷◌, [], suc, map, take, drop, string_bytes, sym, subst, inl, inr}
 use Rattle.std.specs.List.{AllZip}
-use Rattle.ignore_glob.specs.Problem.{told}
+use Rattle.ignore_glob.specs.Problem.{problem_of}
 use Rattle.ignore_types.specs.Building.{IsReadAs, IsGlobProblem}
 use Rattle.ignore_types.proofs.ChoiceLemmas.{split-map, map-take-push, AllZip-push}
 use Rattle.ignore_types.proofs.types.chosen.read_globs.Goals as goal
@@ -17,7 +17,7 @@ returns-in-Err-clause-refused c =
         after = map string_bytes (drop (suc c.loop-glob.glob-index) c.args.globs.now);
         split = split-map string_bytes c.args.globs.now c.loop-glob.glob-index c.glob-item.result c.loop-glob-test.true c.glob-item.is;
         good = c.loop-glob.invariant;
-        fails = subst (IsGlobProblem (told c.in-Err.e)) c.as_str.ensures.value fault;
+        fails = subst (IsGlobProblem (problem_of c.in-Err.e)) c.as_str.ensures.value fault;
       })
     ]
 

@@ -1,7 +1,7 @@
 use Rattle.std.proofs.Common.{◌+◌, List, [], ◌∷◌, ◌++◌, map, sym, ap, subst, ◌∙◌, arith, rules}
 use Rattle.std.proofs.lemmas.List.{map-append}
-use Rattle.ignore_glob.specs.Problem.{Problem, told}
-use Rattle.ignore_rules.specs.RuleFile.{AddsLines, lines_met}
+use Rattle.ignore_glob.specs.Problem.{Problem, problem_of}
+use Rattle.ignore_rules.specs.RuleFile.{AddsLines, lines_read}
 use Rattle.ignore_rules.proofs.FileLemmas.{one_more, stopped_here, done_here, keeps_then}
 use Rattle.ignore_rules.proofs.gitignore.builder.GitignoreBuilder.add_lines.Goals as goal
 
@@ -11,20 +11,20 @@ loop-text-preserved c =
     record {
       within = line.2;
       counted = omega (arith, line.1);
-      leads = one_more c.args.path.now _ c.args.self.now (c.loop-text.number + 1) c.in-Text.text.now _ _ c.loop-text.self _ _ _ c.loop-text.invariant.leads line.0 c.in_ok-take_line-in-Text.ensures.taken;
-      kept = keeps_then c.args.self.now c.loop-text.self c.take_line.new.self c.loop-text.invariant.kept c.take_line.ensures.kept;
+      leads = one_more c.args.path.now _ c.args.self.now (c.loop-text.number + 1) c.in-Text.text.now _ _ c.loop-text.self _ _ _ c.loop-text.invariant.leads line.0 c.in_ok-add_or_report-in-Text.ensures.added_or_reported;
+      kept = keeps_then c.args.self.now c.loop-text.self c.add_or_report.new.self c.loop-text.invariant.kept c.add_or_report.ensures.kept;
     }
 
 pub returns-in-Fault-clause-added : goal.returns-in-Fault-clause-added
 returns-in-Fault-clause-added c =
-    let before = map told c.loop-text.problems.items in
+    let before = map problem_of c.loop-text.problems.items in
     let stop = c.in-Fault.ensures in
     let error = c.in_ok-error-in-Fault.ensures in
-    let problems = ap (map told) c.in_ok-push-in-Fault.ensures.items ∙ map-append told c.loop-text.problems.items (c.in_ok-error-in-Fault.error ∷ []) in
+    let problems = ap (map problem_of) c.in_ok-push-in-Fault.ensures.items ∙ map-append problem_of c.loop-text.problems.items (c.in_ok-error-in-Fault.error ∷ []) in
     let adds = stopped_here c.args.path.now _ c.args.self.now (c.loop-text.number + 1) c.in-Fault.fault _ stop.0 c.loop-text.self before c.loop-text.invariant.leads stop.1 in
-    subst (λ (l : List Problem). AddsLines c.args.path.now 1 (lines_met c.args.bytes.now c.args.fault) c.args.self.now c.loop-text.self l)
+    subst (λ (l : List Problem). AddsLines c.args.path.now 1 (lines_read c.args.bytes.now c.args.fault) c.args.self.now c.loop-text.self l)
     (sym (problems ∙ ap (λ p. before ++ p ∷ []) (search (rules, error)))) adds
 
 pub returns-in-End-clause-added : goal.returns-in-End-clause-added
 returns-in-End-clause-added c =
-    done_here c.args.path.now _ c.args.self.now (c.loop-text.number + 1) _ c.loop-text.self (map told c.loop-text.problems.items) c.loop-text.invariant.leads c.in-End.ensures
+    done_here c.args.path.now _ c.args.self.now (c.loop-text.number + 1) _ c.loop-text.self (map problem_of c.loop-text.problems.items) c.loop-text.invariant.leads c.in-End.ensures

@@ -13,4 +13,4 @@ pub nearest_answer-requires : goal.nearest_answer-requires
 nearest_answer-requires c = λ e.
     let stripped = c.strip-path.ensures ∙ ap (λ root. strip_of root c.args.path.now) c.path.ensures in
     no_first_slash c.args.self.now c.args.path.now c.strip-path.result.now stripped c.strip-path.utf8 c.requires (sym c.is_empty.ensures ∙ c.if-is_empty.false)
-    (ap (λ text. get_or text 0 0) (sym (c.deref.ensures.value ∙ c.in-Ok.ensures.ok)) ∙ e)
+    (ap (λ text. get_or text 0 0) (sym (c.deref.ensures.value ∙ c.in-Ok.ensures.value)) ∙ e)

@@ -12,7 +12,7 @@ pushed c =
     let at : IsAt c.args.name.now c.self.inside.sorted.items c.in-Ok.i = subst (λ l. IsAt c.args.name.now l c.in-Ok.i) c.as_slice.ensures.value (c.in-Ok.ensures {u = tt}) in
     let element : c.index_mut.result.now ≡ at.definition = c.index_mut.ensures.value ∙ at.here c.index_mut.result.now in
     let bytes : string_bytes c.in_ok-glob-in-Ok.glob ≡ c.args.glob.now = c.in_ok-glob-in-Ok.ensures.ok in
-    let changed : c.push_glob.new.self ≡ longer at.definition c.args.glob.now = c.in_ok-push_glob-in-Ok.ensures.ok ∙ (λ i. longer (element i) (bytes i)) in
+    let changed : c.push_glob.new.self ≡ longer at.definition c.args.glob.now = c.in_ok-push_glob-in-Ok.ensures.added ∙ (λ i. longer (element i) (bytes i)) in
     ap (λ d. set c.self.inside.sorted.items c.in-Ok.i d) changed ∙ sym (with_glob-found c.args.name.now c.args.glob.now c.self.inside.sorted.items c.in-Ok.i at)
 
 inserted : (c : In_ok-insert-in-Err) → c.insert.new.self.items ≡ with_glob c.args.name.now c.args.glob.now c.self.inside.sorted.items
@@ -28,8 +28,8 @@ invariant_of-self c = subst IsAscending (sym (pushed c)) (IsAscending-with_glob 
 pub invariant_of-self-in-Continue-branch-4 : goal.invariant_of-self-in-Continue-branch-4
 invariant_of-self-in-Continue-branch-4 c = subst IsAscending (sym (inserted c)) (IsAscending-with_glob c.args.name.now c.args.glob.now c.self.inside.sorted.items c.self.invariant)
 
-pub returns-in_ok-push_glob-in-Ok-clause-ok : goal.returns-in_ok-push_glob-in-Ok-clause-ok
-returns-in_ok-push_glob-in-Ok-clause-ok c = pushed c ∙ ap (with_glob c.args.name.now c.args.glob.now) c.self.view_is
+pub returns-in_ok-push_glob-in-Ok-clause-added : goal.returns-in_ok-push_glob-in-Ok-clause-added
+returns-in_ok-push_glob-in-Ok-clause-added c = pushed c ∙ ap (with_glob c.args.name.now c.args.glob.now) c.self.view_is
 
-pub returns-in_ok-insert-in-Err-clause-ok : goal.returns-in_ok-insert-in-Err-clause-ok
-returns-in_ok-insert-in-Err-clause-ok c = inserted c ∙ ap (with_glob c.args.name.now c.args.glob.now) c.self.view_is
+pub returns-in_ok-insert-in-Err-clause-added : goal.returns-in_ok-insert-in-Err-clause-added
+returns-in_ok-insert-in-Err-clause-added c = inserted c ∙ ap (with_glob c.args.name.now c.args.glob.now) c.self.view_is

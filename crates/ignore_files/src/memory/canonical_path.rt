@@ -1,0 +1,138 @@
+//! The own paths of nodes: from `/`, by names alone.
+ghost use Rattle.std.specs.Prelude.{◌≡◌, ◌∷◌, [], List, count_by};
+ghost use Rattle.ignore_glob.specs.Paths.{components};
+ghost use Rattle.ignore_files.specs.Memory.{is_canonical_path, child, place_of, any_kind, is_file, is_directory, sought, folder_sought, parent_for, below, but_last};
+ghost use Rattle.ignore_files.specs.declared.memory.node.Node.{Node};
+
+use crate::memory::node::{Kind, Node};
+use crate::memory::resolve::is_dir;
+use crate::tree_error::TreeError;
+use ignore_glob::text::is_proper;
+
+/// Whether the path is `/`, or `/` and names joined by single slashes.
+pub fn is_canonical_path(path: &str) -> bool
+    ensures { result ≡ is_canonical_path path.now }
+{
+    match path.strip_prefix('/') {
+        None => false,
+        Some(rest) => rest.is_empty() || rest.split('/').all(|component| is_proper(component)),
+    }
+}
+
+fn child(nodes: &[Node], here: usize, name: &str) -> Option<usize>
+    ensures { result ≡ child nodes.now here name.now }
+{
+    match nodes.get(here) {
+        None => None,
+        Some(n) => match &n.kind {
+            Kind::Dir(entries) => entries.get(name),
+            Kind::File(_) => None,
+            Kind::Link(_) => None,
+        },
+    }
+}
+
+/// Where one piece leads: an empty one is passed over.
+fn component_below(nodes: &[Node], here: usize, component: &str) -> Option<usize>
+    ensures { result ≡ below nodes.now here (component.now ∷ []) }
+{
+    if component.is_empty() {
+        Some(here)
+    } else {
+        child(nodes, here, component)
+    }
+}
+
+/// The node at this path of names, if there is one.
+pub fn place_of(nodes: &[Node], path: &str) -> Option<usize>
+    ensures { result ≡ place_of nodes.now path.now }
+{
+    let mut here = 0;
+    let mut rest = path;
+    while let Some((component, after)) = rest.split_once('/') {
+        here = component_below(nodes, here, component)?;
+        rest = after;
+    }
+    component_below(nodes, here, rest)
+}
+
+/// What stands before the last slash of a path.
+fn folder_of(path: &str) -> &str
+    ensures { (nodes : List Node) → place_of nodes result.now ≡ below nodes 0 (but_last (components path.now)) }
+{
+    match path.rsplit_once('/') {
+        Some((folder, _)) => folder,
+        None => "",
+    }
+}
+
+/// The place of the directory that a path is in.
+pub fn folder_place(nodes: &[Node], path: &str) -> Result<usize, TreeError>
+    ensures { result ≡ folder_sought nodes.now path.now }
+{
+    if !is_canonical_path(path) {
+        return Err(TreeError::NotClean);
+    }
+    match place_of(nodes, folder_of(path)) {
+        Some(place) if is_dir(nodes, place) => Ok(place),
+        _ => Err(TreeError::NoParent),
+    }
+}
+
+/// The place of the directory in which a node may be added at a path.
+pub fn parent_for(nodes: &[Node], path: &str) -> Result<usize, TreeError>
+    ensures { result ≡ parent_for nodes.now path.now }
+{
+    let parent = folder_place(nodes, path)?;
+    match place_of(nodes, path) {
+        Some(_) => Err(TreeError::Exists),
+        None => Ok(parent),
+    }
+}
+
+/// The place of a path, whatever the node there is.
+pub fn any_place(nodes: &[Node], path: &str) -> Result<usize, TreeError>
+    ensures { result ≡ sought any_kind nodes.now path.now }
+{
+    if !is_canonical_path(path) {
+        return Err(TreeError::NotClean);
+    }
+    match place_of(nodes, path) {
+        None => Err(TreeError::Missing),
+        Some(place) => match nodes.get(place) {
+            None => Err(TreeError::Missing),
+            Some(_) => Ok(place),
+        },
+    }
+}
+
+/// The place of a path, where a directory is there.
+pub fn dir_place(nodes: &[Node], path: &str) -> Result<usize, TreeError>
+    ensures { result ≡ sought is_directory nodes.now path.now }
+{
+    let place = any_place(nodes, path)?;
+    if nodes[place].kind.is_dir() {
+        Ok(place)
+    } else {
+        Err(TreeError::Missing)
+    }
+}
+
+/// The place of a path, where a file is there.
+pub fn file_place(nodes: &[Node], path: &str) -> Result<usize, TreeError>
+    ensures { result ≡ sought is_file nodes.now path.now }
+{
+    let place = any_place(nodes, path)?;
+    if nodes[place].kind.is_file() {
+        Ok(place)
+    } else {
+        Err(TreeError::Missing)
+    }
+}
+
+/// How many of the nodes are directories.
+pub fn count_dirs(nodes: &[Node]) -> usize
+    ensures { result ≡ count_by (λ n. is_directory n.kind) nodes.now }
+{
+    nodes.iter().filter(|n| n.kind.is_dir()).count()
+}

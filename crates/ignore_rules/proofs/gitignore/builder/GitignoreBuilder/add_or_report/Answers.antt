@@ -1,0 +1,23 @@
+use Rattle.std.proofs.Common.{Some, List, ℕ, [], ◌∷◌, ◌++◌, map, refl, sym, ap, subst, ◌∙◌, inl, inr}
+use Rattle.std.proofs.lemmas.List.{map-append}
+use Rattle.ignore_glob.specs.Problem.{problem_of}
+use Rattle.ignore_rules.specs.Rules.{AddsLine, Refuses}
+use Rattle.ignore_rules.proofs.FileLemmas.{not_memory}
+use Rattle.ignore_rules.proofs.gitignore.builder.GitignoreBuilder.add_or_report.Goals as goal
+
+pub returns-in-Ok-clause-added_or_reported : goal.returns-in-Ok-clause-added_or_reported
+returns-in-Ok-clause-added_or_reported c =
+    inl (subst (λ (l : List ℕ). AddsLine c.args.self.now (Some c.args.path.now) l c.push_line_of.new.self) c.line_content.ensures c.in-Ok.ensures.added, refl)
+
+pub returns-in_ok-push-in-Err-clause-added_or_reported : goal.returns-in_ok-push-in-Err-clause-added_or_reported
+returns-in_ok-push-in-Err-clause-added_or_reported c =
+    let p = problem_of c.in-Err.error in
+    let refuses = not_memory p (sym c.is_memory.ensures ∙ c.if-is_memory.false) c.in-Err.ensures.refused in
+    inr (
+      p,
+      subst (λ (l : List ℕ). Refuses c.args.self.now.options l p) c.line_content.ensures refuses,
+      c.in-Err.ensures.unchanged,
+      ap (map problem_of) c.in_ok-push-in-Err.ensures.items
+          ∙ (map-append problem_of c.args.problems.now.items (c.in_ok-error-in-Err.error ∷ [])
+          ∙ ap (λ q. map problem_of c.args.problems.now.items ++ q ∷ []) c.in_ok-error-in-Err.ensures),
+    )
