@@ -1,4 +1,4 @@
-//! The glob dialect: how a glob is written, and what it takes.
+//! The glob dialect: how a glob is written, and what it matches.
 
 mod class;
 mod copies;

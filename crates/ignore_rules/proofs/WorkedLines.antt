@@ -1,4 +1,4 @@
--- Worked lines: what each says, computed from the definition.
+-- Worked lines: what each parses to, computed from the definition.
 use Rattle.std.proofs.Common.{◌≡◌, Bool, true, false, List, [], ◌∷◌, ℕ, Option, Some, None, refl, codes}
 use Rattle.std.specs.Char.{encode_utf8}
 use Rattle.std.specs.Str.{trim_end, chars}

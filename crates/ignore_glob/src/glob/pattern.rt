@@ -1,4 +1,4 @@
-//! A glob that was read, and the texts that it takes.
+//! A parsed glob, and the texts that it matches.
 ghost use Rattle.std.specs.Prelude.{◌≡◌, ◌↔◌, IsTrue, IfOk, IfErr};
 ghost use Rattle.std.specs.Str.{chars};
 ghost use Rattle.ignore_glob.specs.Glob.{start, then, done};
@@ -18,8 +18,10 @@ use crate::glob::token::Token;
 use std::alloc::{AllocError, Global};
 use std::marker::Model;
 
-/// A glob that was read: it takes some texts and refuses the others.
-/// `*` and `?` take no slash, a class may take one, and a glob that is `**` or `**/` alone takes everything.
+/// A parsed glob, which matches some texts.
+///
+/// `*` and `?` match no slash, a class may match one, and a glob that is `**` or `**/` alone
+/// matches everything.
 #[derive(Debug, Drop)]
 pub struct Pattern {
     tokens: Vec<Token>,
@@ -39,7 +41,7 @@ impl Model for Pattern {
 }
 
 impl Pattern {
-    /// The pattern of these tokens; `case_insensitive` folds ASCII case where it is asked of a text.
+    /// The pattern of these tokens; `case_insensitive` makes it match both ASCII cases.
     pub(crate) fn from_tokens(tokens: Vec<Token>, case_insensitive: bool) -> Pattern
         ensures { result ≡ record { tokens = tokens_view tokens.items; case_insensitive = case_insensitive } }
     {
@@ -49,11 +51,11 @@ impl Pattern {
         }
     }
 
-    /// Reads a glob of the dialect.
+    /// Parses a glob.
     ///
     /// # Errors
-    /// `PatternError::Fault` with the fault that begins leftmost, exactly where the glob has one,
-    /// or `PatternError::Memory`.
+    /// `PatternError::Fault` with the leftmost parse error, exactly where the glob is invalid, or
+    /// `PatternError::Memory`.
     pub fn parse(alloc: Global, glob: &str, options: Options) -> Result<Pattern, PatternError>
         ensures reading { IfOk result (λ p. Reads options (chars glob.now) p.tokens) }
         ensures case { IfOk result (λ p. p.case_insensitive ≡ options.case_insensitive) }
@@ -65,7 +67,7 @@ impl Pattern {
         }
     }
 
-    /// Whether the glob takes the whole text.
+    /// Whether the glob matches the whole text.
     ///
     /// # Errors
     /// `Error::Memory` alone, since the characters of the text are kept for the time of the call.
@@ -79,7 +81,8 @@ impl Pattern {
         }
     }
 
-    /// For the crates above, which ask many patterns about one text: as `matches`, of the text's `characters`.
+    /// For dependents, which match many patterns against one text: as `matches`, with the text's
+    /// `characters`.
     pub fn matches_chars(&self, text: &[char]) -> bool
         ensures { IsTrue result ↔ Matches self.now text.now }
     {
@@ -104,7 +107,7 @@ impl Clone for Pattern {
     }
 }
 
-/// For the crates above: the characters of a text, to be asked about by `Pattern::matches_chars`.
+/// For dependents: the characters of a text, for `Pattern::matches_chars`.
 ///
 /// # Errors
 /// `Error::Memory` alone.

@@ -32,7 +32,8 @@ impl Model for GitignoreBuilder {
 }
 
 impl GitignoreBuilder {
-    /// A builder of no rules, relative to the directory `root`, of which one leading `./` goes.
+    /// A builder of no rules, relative to the directory `root`, of which one leading `./` is
+    /// stripped.
     ///
     /// # Errors
     /// `Error::Memory` alone.
@@ -53,10 +54,12 @@ impl GitignoreBuilder {
         }
     }
 
-    /// Adds one line, as gitignore(5) reads it: a comment or a blank line adds nothing, any other line adds a rule. `from` is kept with the rule.
+    /// Adds one line, as in gitignore(5): a comment or a blank line adds nothing, any other line
+    /// adds a rule. `from` is kept with the rule.
     ///
     /// # Errors
-    /// `Error::Glob` with the line and its fault where the glob of the line has a fault, or `Error::Memory`. After an error the builder is as before, which `push_line` states.
+    /// `Error::Glob` with the line and its parse error where the glob of the line is invalid, or
+    /// `Error::Memory`. After an error the builder is as before, which `push_line` states.
     pub fn add_line(&mut self, from: Option<String>, line: &str) -> Result<&mut Self, Error>
         ensures same_reference { IfOk result (λ b. b.ghost_name ≡ self.entry.ghost_name) }
         ensures added { IfOk result (λ b. AddsLine self.old (option_map string_bytes from) line.now b.now) }
@@ -68,7 +71,7 @@ impl GitignoreBuilder {
         }
     }
 
-    /// For the crates above: as `add_line`, without the builder in the answer.
+    /// For dependents: as `add_line`, without the builder in the result.
     pub fn push_line(&mut self, from: Option<String>, line: &str) -> Result<(), Error>
         ensures added { OnOk result (AddsLine self.old (option_map string_bytes from) line.now self.new) }
         ensures refused { IfErr result (λ e. (problem_of e ≡ memory) ⊎ Refuses self.old.options line.now (problem_of e)) }
@@ -109,7 +112,8 @@ impl GitignoreBuilder {
         }
     }
 
-    /// The matcher of the rules added so far, in their order. Without rules it is the empty matcher, whose path is empty. The builder can be used further.
+    /// The matcher of the rules added so far, in their order. Without rules it is the empty
+    /// matcher, whose root is empty. The builder can be used further.
     ///
     /// # Errors
     /// `Error::Memory` alone, as the rules are copied.
@@ -123,7 +127,8 @@ impl GitignoreBuilder {
         }
     }
 
-    /// For the crates above: as `build`, of a builder that isn't used further. It copies nothing and takes no memory.
+    /// For dependents: as `build`, for a builder that isn't used further. It copies nothing and
+    /// allocates nothing.
     pub fn into_gitignore(self) -> Gitignore
         ensures { result ≡ built self }
     {
@@ -134,7 +139,8 @@ impl GitignoreBuilder {
         Gitignore::from_parts(root, globs)
     }
 
-    /// Whether the globs of later lines take both ASCII cases of a letter. It is off at first, and always `Ok`.
+    /// Whether the globs of later lines match both ASCII cases of a letter. It is off at first, and
+    /// always `Ok`.
     pub fn case_insensitive(&mut self, yes: bool) -> Result<&mut Self, Error>
         ensures succeeds { IsOk result }
         ensures same_reference { IfOk result (λ b. b.ghost_name ≡ self.entry.ghost_name) }
@@ -144,7 +150,8 @@ impl GitignoreBuilder {
         Ok(self)
     }
 
-    /// Whether in the globs of later lines a `[` that nothing closes stands for itself, and is no fault. It is on at first.
+    /// Whether in the globs of later lines a `[` that nothing closes stands for itself, and is no
+    /// error. It is on at first.
     pub fn allow_unclosed_class(&mut self, yes: bool) -> &mut Self
         ensures same_reference { result.ghost_name ≡ self.entry.ghost_name }
         ensures value { result.now ≡ with_unclosed_class self.old yes }
@@ -166,7 +173,7 @@ impl GitignoreBuilder {
         self.globs.len()
     }
 
-    /// Drops the rules behind the first `count`.
+    /// Drops the rules after the first `count`.
     pub(crate) fn truncate_rules(&mut self, count: usize)
         ensures { self.new ≡ record { root = self.old.root; rules = take count self.old.rules; options = self.old.options } }
     {

@@ -1,4 +1,4 @@
-//! What one line says, before its pattern is read.
+//! Parsing one line to its parts, before its glob is parsed.
 ghost use Rattle.std.specs.Prelude.{◌≡◌, ◌⊎◌, IfOk, Some, string_bytes};
 ghost use Rattle.ignore_glob.specs.GlobFaults.{glob_fault_text};
 ghost use Rattle.ignore_glob.specs.Problem.{problem_of, memory, glob};
@@ -10,7 +10,7 @@ use ignore_glob::text::has_slash;
 use std::alloc::{AllocError, Global};
 use std::marker::Model;
 
-/// A line that says something: neither blank nor a comment.
+/// A parsed line: one that is neither blank nor a comment.
 #[derive(Drop)]
 pub struct ParsedLine {
     pub original: String,
@@ -29,7 +29,7 @@ impl Model for ParsedLine {
 }
 
 impl ParsedLine {
-    /// What the line says, if anything.
+    /// What the line parses to: nothing for a comment or a blank line.
     pub fn of(alloc: Global, line: &str) -> Result<Option<ParsedLine>, AllocError>
         ensures { IfOk result (λ parsed. parsed ≡ parsed_line line.now) }
     {
@@ -53,7 +53,7 @@ impl ParsedLine {
         self.actual.as_str()
     }
 
-    /// The error of a line whose glob has this fault, or `Error::Memory`.
+    /// The error of a line whose glob is invalid, or `Error::Memory`.
     pub fn refused(self, alloc: Global, fault: GlobFault) -> Error
         ensures { (problem_of result ≡ memory) ⊎ (problem_of result ≡ glob (Some self.original) (glob_fault_text fault)) }
     {
