@@ -79,7 +79,12 @@ pub fn after_operations(alloc: Global, input: &Value) -> Result<Built, Trouble> 
 /// The matcher of a builder.
 pub fn matcher_of(input: &Value, builder: GitignoreBuilder) -> Result<Gitignore, Trouble> {
     let builder = asked(input, builder)?;
-    asked(input, build(&builder)?)
+    built(input, &builder)
+}
+
+fn built(input: &Value, builder: &GitignoreBuilder) -> Result<Gitignore, Trouble> {
+    let matcher = build(builder)?;
+    asked(input, matcher)
 }
 
 fn apply_all(alloc: Global, built: &mut Built, ops: &[Value]) -> Result<(), Trouble> {

@@ -20,8 +20,12 @@ const BYTES: &str = "hex";
 /// Answers `value`: the path that the configuration names, with `home` in it, or `null`.
 pub fn answer(alloc: Global, input: &Value) -> Result<Outcome, Trouble> {
     let tree = tree_of(alloc, input)?;
+    asked(alloc, input, &tree)
+}
+
+fn asked(alloc: Global, input: &Value, tree: &MemoryTree) -> Result<Outcome, Trouble> {
     let home = variable(alloc, input, "home")?;
-    let value = value_of(alloc, &tree, home)?;
+    let value = value_of(alloc, tree, home)?;
     let mut answer = Answer::new(alloc);
     answer.put_text_or_null("value", value.as_deref());
     answer.outcome()

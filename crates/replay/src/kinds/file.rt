@@ -4,7 +4,6 @@ use crate::answer::Answer;
 use crate::refusing::Refusing;
 use crate::rules::put_read;
 use crate::tree_calls::{CALLS, tree_of_calls};
-use ignore_files::MemoryTree;
 use ignore_rules::gitignore::Gitignore;
 use serde_json::Value;
 use std::alloc::Global;
@@ -15,13 +14,12 @@ use vectors::{Outcome, Trouble, list, text};
 pub fn answer(alloc: Global, input: &Value) -> Result<Outcome, Trouble> {
     let path = text(input, "path")?;
     let tree = tree_of_calls(alloc, text(input, "cwd")?, list(input, CALLS)?)?;
-    read(alloc, input, &tree, path)
+    read(alloc, &Refusing::of(&tree, input)?, path)
 }
 
-fn read(alloc: Global, input: &Value, tree: &MemoryTree, path: &str) -> Result<Outcome, Trouble> {
-    let files = Refusing::of(tree, input)?;
+fn read(alloc: Global, files: &Refusing<'_>, path: &str) -> Result<Outcome, Trouble> {
     let mut answer = Answer::new(alloc);
-    match Gitignore::new(alloc, &files, path) {
+    match Gitignore::new(alloc, files, path) {
         Ok((matcher, error)) => {
             put_read(&mut answer, alloc, &matcher, &error);
             answer.put_flag("is_empty", matcher.is_empty());

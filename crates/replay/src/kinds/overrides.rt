@@ -150,7 +150,12 @@ fn build(builder: &OverrideBuilder) -> Result<Override, Trouble> {
 /// The globs that are asked.
 fn globs_of(input: &Value, builder: OverrideBuilder) -> Result<Override, Trouble> {
     let builder = clones::asked(input, builder)?;
-    clones::asked(input, build(&builder)?)
+    built(input, &builder)
+}
+
+fn built(input: &Value, builder: &OverrideBuilder) -> Result<Override, Trouble> {
+    let globs = build(builder)?;
+    clones::asked(input, globs)
 }
 
 /// What globs say of a path.

@@ -90,8 +90,16 @@ fn added(
     match builder.add(files, path) {
         Ok(error) => Ok(error),
         Err(error) if files.refused_memory() => Ok(Some(error)),
-        Err(_) => but_for_memory(builder.add(files, path)),
+        Err(_) => added_again(builder, files, path),
     }
+}
+
+fn added_again(
+    builder: &mut GitignoreBuilder,
+    files: &Refusing<'_>,
+    path: &str,
+) -> Result<Option<Error>, Trouble> {
+    but_for_memory(builder.add(files, path))
 }
 
 /// The tree with the directory and the file, if there is one.

@@ -213,18 +213,17 @@ fn globs_value(alloc: Global, globs: &[String]) -> Result<Value, AllocError> {
 fn answers(alloc: Global, input: &Value, types: &Types) -> Result<Items, Trouble> {
     let mut answers = Items::new(alloc);
     for ask in list(input, ASKS)? {
-        let said = matched(types, text_at(ask, 0, ASKS)?, flag_at(ask, 1, ASKS)?)?;
-        answers.put(match_value(alloc, asked(input, said)?));
+        let answer = answered(alloc, input, types, ask)?;
+        answers.put_value(answer);
     }
     Ok(answers)
 }
 
-/// What types say of a path, asked twice where memory is refused.
-fn matched<'t>(types: &'t Types, path: &str, is_dir: bool) -> Result<Match<Glob<'t>>, Trouble> {
-    match types.matched(path, is_dir) {
-        Ok(said) => Ok(said),
-        Err(_error) => but_for_memory(types.matched(path, is_dir)),
-    }
+/// What the types say of a path.
+fn answered(alloc: Global, input: &Value, types: &Types, ask: &Value) -> Result<Value, Trouble> {
+    let said = but_for_memory(types.matched(text_at(ask, 0, ASKS)?, flag_at(ask, 1, ASKS)?))?;
+    let said = asked(input, said)?;
+    Ok(match_value(alloc, said)?)
 }
 
 /// The kind of a match, and the type that decided or `null`.
