@@ -64,21 +64,6 @@ const RUNS: [(&[&str], &str, &str, u8); 12] = [
     (&[], "", USAGE, 2),
 ];
 
-#[test]
-fn runs_over_memory(rt: HostRuntime) -> Result<(), Fail> {
-    let alloc = rt.alloc();
-    for (texts, written, reported, status) in RUNS {
-        let words = words_of(alloc, texts)?;
-        let mut out: Vec<u8> = Vec::new(alloc);
-        let mut err: Vec<u8> = Vec::new(alloc);
-        let got = run(alloc, words.as_slice(), &mut out, &mut err);
-        assert_eq!(rt; got, status, "{told}");
-        assert_eq!(rt; out.as_slice(), written.as_bytes());
-        assert_eq!(rt; err.as_slice(), reported.as_bytes());
-    }
-    Ok(())
-}
-
 /// A writer that keeps what so many calls write, and fails at all later ones.
 #[derive(Drop)]
 struct Refusing {
@@ -108,23 +93,37 @@ fn writer_of(alloc: Global, calls: usize) -> Refusing {
     }
 }
 
-/// The status, the output and the errors, where so many calls on the output succeed.
-fn with_refusing_output(alloc: Global, calls: usize) -> Result<(u8, Vec<u8>, Vec<u8>), AllocError> {
-    let words = words_of(alloc, &["match", "/r", "{\n*.rs", "a.rs", "f"])?;
-    let mut out = writer_of(alloc, calls);
-    let mut err: Vec<u8> = Vec::new(alloc);
+/// More calls than any run makes.
+const ALL: usize = usize::MAX;
+
+/// The status, the output and the errors of a run, where so many calls on the output succeed, and
+/// so many on the errors.
+fn ran(
+    alloc: Global,
+    texts: &[&str],
+    writes: usize,
+    reports: usize,
+) -> Result<(u8, Vec<u8>, Vec<u8>), AllocError> {
+    let words = words_of(alloc, texts)?;
+    let mut out = writer_of(alloc, writes);
+    let mut err = writer_of(alloc, reports);
     let status = run(alloc, words.as_slice(), &mut out, &mut err);
-    Ok((status, out.kept, err))
+    Ok((status, out.kept, err.kept))
 }
 
-/// The same where so many calls on the errors succeed.
-fn with_refusing_errors(alloc: Global, calls: usize) -> Result<(u8, Vec<u8>, Vec<u8>), AllocError> {
-    let words = words_of(alloc, &["match", "/r", "{\n*.rs", "a.rs", "f"])?;
-    let mut out: Vec<u8> = Vec::new(alloc);
-    let mut err = writer_of(alloc, calls);
-    let status = run(alloc, words.as_slice(), &mut out, &mut err);
-    Ok((status, out, err.kept))
+#[test]
+fn runs_over_memory(rt: HostRuntime) -> Result<(), Fail> {
+    for (texts, written, reported, status) in RUNS {
+        let (got, out, err) = ran(rt.alloc(), texts, ALL, ALL)?;
+        assert_eq!(rt; got, status, "{reported}");
+        assert_eq!(rt; out.as_slice(), written.as_bytes());
+        assert_eq!(rt; err.as_slice(), reported.as_bytes());
+    }
+    Ok(())
 }
+
+/// The words of a run that reports a line and writes an answer.
+const REFUSED: &[&str] = &["match", "/r", "{\n*.rs", "a.rs", "f"];
 
 const WRITTEN: &[u8] = b"ignore *.rs\n";
 
@@ -136,7 +135,7 @@ const REPORTED_AND_ENDED: &[u8] =
 #[test]
 fn an_answer_that_cannot_be_written_is_reported(rt: HostRuntime) -> Result<(), Fail> {
     for calls in 0usize..10 {
-        let (status, written, reported) = with_refusing_output(rt.alloc(), calls)?;
+        let (status, written, reported) = ran(rt.alloc(), REFUSED, calls, ALL)?;
         assert!(rt; WRITTEN.starts_with(&written));
         if written.as_slice() == WRITTEN {
             assert_eq!(rt; status, 1);
@@ -152,7 +151,7 @@ fn an_answer_that_cannot_be_written_is_reported(rt: HostRuntime) -> Result<(), F
 #[test]
 fn errors_that_cannot_be_written_end_the_run(rt: HostRuntime) -> Result<(), Fail> {
     for calls in 0usize..20 {
-        let (status, written, reported) = with_refusing_errors(rt.alloc(), calls)?;
+        let (status, written, reported) = ran(rt.alloc(), REFUSED, ALL, calls)?;
         assert!(rt; REPORTED.starts_with(&reported));
         if reported.as_slice() == REPORTED {
             assert_eq!(rt; status, 1);
@@ -165,16 +164,26 @@ fn errors_that_cannot_be_written_end_the_run(rt: HostRuntime) -> Result<(), Fail
     Ok(())
 }
 
-/// The two tests above fail each write in turn: they begin with the first, and finally fail none.
+/// The status of that run, and how much was written and reported.
+fn sizes(alloc: Global, writes: usize, reports: usize) -> Result<(u8, usize, usize), AllocError> {
+    let (status, written, reported) = ran(alloc, REFUSED, writes, reports)?;
+    Ok((status, written.len(), reported.len()))
+}
+
+/// The two tests above refuse each write in turn, from the first to none. This is the first.
 #[test]
-fn writes_are_refused_from_the_first_to_none(rt: HostRuntime) -> Result<(), Fail> {
-    let (status, written, _) = with_refusing_output(rt.alloc(), 0)?;
-    assert_eq!(rt; (status, written.len()), (2, 0));
-    let (status, _, reported) = with_refusing_errors(rt.alloc(), 0)?;
-    assert_eq!(rt; (status, reported.len()), (2, 0));
-    let (status, _, _) = with_refusing_errors(rt.alloc(), 19)?;
-    assert_eq!(rt; status, 1);
-    let (status, _, _) = with_refusing_output(rt.alloc(), 9)?;
-    assert_eq!(rt; status, 1);
+fn the_first_write_is_refused(rt: HostRuntime) -> Result<(), Fail> {
+    let reported = REPORTED_AND_ENDED.len();
+    assert_eq!(rt; sizes(rt.alloc(), 0, ALL)?, (2, 0, reported));
+    assert_eq!(rt; sizes(rt.alloc(), ALL, 0)?, (2, 0, 0));
+    Ok(())
+}
+
+/// And this is none: the last turn of each refuses no write.
+#[test]
+fn no_write_is_refused(rt: HostRuntime) -> Result<(), Fail> {
+    let all = (1, WRITTEN.len(), REPORTED.len());
+    assert_eq!(rt; sizes(rt.alloc(), 9, ALL)?, all);
+    assert_eq!(rt; sizes(rt.alloc(), ALL, 19)?, all);
     Ok(())
 }

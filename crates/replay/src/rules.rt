@@ -79,10 +79,10 @@ pub fn after_operations(alloc: Global, input: &Value) -> Result<Built, Trouble> 
 /// The matcher of a builder.
 pub fn matcher_of(input: &Value, builder: GitignoreBuilder) -> Result<Gitignore, Trouble> {
     let builder = asked(input, builder)?;
-    built(input, &builder)
+    asked_matcher(input, &builder)
 }
 
-fn built(input: &Value, builder: &GitignoreBuilder) -> Result<Gitignore, Trouble> {
+fn asked_matcher(input: &Value, builder: &GitignoreBuilder) -> Result<Gitignore, Trouble> {
     let matcher = build(builder)?;
     asked(input, matcher)
 }
