@@ -1,6 +1,6 @@
 -- Parsing a line of a gitignore file to its parts, before its glob is parsed. A text is a list of
 -- bytes.
-use Rattle.std.specs.Prelude.{◌==◌, ◌-◌, ℕ, Bool, not, ◌&&◌, ◌||◌, if◌then◌else◌, List, ◌++◌, length, take, drop, codes, nat_eq, Option, None, Some}
+use Rattle.std.specs.Prelude.{◌==◌, ◌-◌, ℕ, Bool, false, not, ◌&&◌, ◌||◌, if◌then◌else◌, List, [], ◌∷◌, ◌++◌, length, take, drop, reverse, codes, nat_eq, Option, None, Some}
 use Rattle.std.specs.List.{starts_with, ends_with}
 use Rattle.std.specs.Str.{trim_end, bytes_eq}
 use Rattle.ignore_glob.specs.Paths.{has_slash}
@@ -20,12 +20,31 @@ abbrev pub without_suffix : List ℕ → List ℕ → List ℕ
 without_suffix end text = if has_suffix end text then take (length text - length end) text else text
 
 -- the line without trailing white space, unless it ends with a backslash and one space
-abbrev pub trimmed : List ℕ → List ℕ
-trimmed line = if has_suffix (codes "\\ ") line then line else trim_end line
+abbrev pub default_trimmed : List ℕ → List ℕ
+default_trimmed line = if has_suffix (codes "\\ ") line then line else trim_end line
+
+-- a text that is read from its end begins with an odd number of backslashes
+abbrev pub is_odd : List ℕ → Bool
+is_odd [] = false
+is_odd (c ∷ before) = c == 92 && not (is_odd before)
+
+-- as long as a text that is read from its end begins with a space, and an even number of
+-- backslashes stands before that, the space is removed
+abbrev pub without_spaces : List ℕ → List ℕ
+without_spaces [] = []
+without_spaces (c ∷ before) = if c == 32 && not (is_odd before) then without_spaces before else c ∷ before
+
+-- the same of a line: git's own rule for white space at the end
+abbrev pub git_trimmed : List ℕ → List ℕ
+git_trimmed line = reverse (without_spaces (reverse line))
+
+-- the line without the white space at its end, by git's own rule or by that of the original
+abbrev pub trimmed : Bool → List ℕ → List ℕ
+trimmed as_git line = if as_git then git_trimmed line else default_trimmed line
 
 -- the line is a comment, or only white space
-abbrev pub is_silent : List ℕ → Bool
-is_silent line = has_prefix (codes "#") line || length (trimmed line) == 0
+abbrev pub is_silent : Bool → List ℕ → Bool
+is_silent as_git line = has_prefix (codes "#") line || length (trimmed as_git line) == 0
 
 -- What follows is about a trimmed line.
 
@@ -77,5 +96,5 @@ abbrev pub parsed_as : List ℕ → ParsedLine
 parsed_as line = record { original = line; actual = actual line; is_whitelist = is_whitelist line; is_only_dir = is_only_dir line }
 
 -- what a line parses to; comments and blank lines parse to nothing
-abbrev pub parsed_line : List ℕ → Option ParsedLine
-parsed_line line = if is_silent line then None else Some (parsed_as (trimmed line))
+abbrev pub parsed_line : Bool → List ℕ → Option ParsedLine
+parsed_line as_git line = if is_silent as_git line then None else Some (parsed_as (trimmed as_git line))

@@ -24,6 +24,7 @@ pub record Rule : Type 0 where
 -- how lines are parsed
 pub record LineOptions : Type 0 where
   pub glob : Options
+  pub git_trailing_spaces : Bool
 
 -- a matcher: rules, and the directory that they are relative to
 pub record Ruleset : Type 0 where
@@ -55,7 +56,7 @@ GivesProblem options (Some w) problem = (f : GlobFault) × IsFaulty options.glob
 
 -- the line is rejected with this problem
 abbrev pub Refuses : LineOptions → List ℕ → Problem → Type 0
-Refuses options line problem = GivesProblem options (parsed_line line) problem
+Refuses options line problem = GivesProblem options (parsed_line options.git_trailing_spaces line) problem
 
 -- the builder with one more rule, if any
 abbrev pub with_rule : Building → Option Rule → Building
@@ -68,21 +69,29 @@ AddsParsed old from parsed new = (given : Option Rule) × GivesRule old.options 
 
 -- adding a line leads from the old builder to the new one
 abbrev pub AddsLine : Building → Option (List ℕ) → List ℕ → Building → Type 0
-AddsLine old from line new = AddsParsed old from (parsed_line line) new
+AddsLine old from line new = AddsParsed old from (parsed_line old.options.git_trailing_spaces line) new
 
--- a new builder: no rules, case sensitive, an unclosed class allowed
+-- the builder with other options of later lines
+abbrev pub with_options : Building → LineOptions → Building
+with_options b options = record { root = b.root; rules = b.rules; options = options }
+
+-- a new builder: no rules, case sensitive, an unclosed class allowed, trailing white space as the
+-- original has it
 abbrev pub begun : List ℕ → Building
 begun root =
-    record { root = trim_of root; rules = []; options = record { glob = record { case_insensitive = false; allow_unclosed_class = true } } }
+    record { root = trim_of root; rules = []; options = record { glob = record { case_insensitive = false; allow_unclosed_class = true }; git_trailing_spaces = false } }
 
 -- the builder with one option of later lines set
 abbrev pub with_case_insensitive : Building → Bool → Building
 with_case_insensitive b on =
-    record { root = b.root; rules = b.rules; options = record { glob = record { case_insensitive = on; allow_unclosed_class = b.options.glob.allow_unclosed_class } } }
+    with_options b (record { glob = record { case_insensitive = on; allow_unclosed_class = b.options.glob.allow_unclosed_class }; git_trailing_spaces = b.options.git_trailing_spaces })
 
 abbrev pub with_unclosed_class : Building → Bool → Building
 with_unclosed_class b on =
-    record { root = b.root; rules = b.rules; options = record { glob = record { case_insensitive = b.options.glob.case_insensitive; allow_unclosed_class = on } } }
+    with_options b (record { glob = record { case_insensitive = b.options.glob.case_insensitive; allow_unclosed_class = on }; git_trailing_spaces = b.options.git_trailing_spaces })
+
+abbrev pub with_git_trailing_spaces : Building → Bool → Building
+with_git_trailing_spaces b on = with_options b (record { glob = b.options.glob; git_trailing_spaces = on })
 
 -- the matcher of no rules
 abbrev pub empty : Ruleset
@@ -113,8 +122,8 @@ ruleset_code =
 
 abbrev pub building_code : Coded Building
 building_code =
-    code_by (List ℕ × (List Rule × (Bool × Bool)))
-    (coded× (coded_list coded_ℕ) (coded× (coded_list rule_code) (coded× coded_bool coded_bool)))
-    (λ b. (b.root, (b.rules, (b.options.glob.case_insensitive, b.options.glob.allow_unclosed_class))))
-    (λ p. record { root = p.0; rules = p.1.0; options = record { glob = record { case_insensitive = p.1.1.0; allow_unclosed_class = p.1.1.1 } } })
+    code_by (List ℕ × (List Rule × (Bool × (Bool × Bool))))
+    (coded× (coded_list coded_ℕ) (coded× (coded_list rule_code) (coded× coded_bool (coded× coded_bool coded_bool))))
+    (λ b. (b.root, (b.rules, (b.options.glob.case_insensitive, (b.options.glob.allow_unclosed_class, b.options.git_trailing_spaces)))))
+    (λ p. record { root = p.0; rules = p.1.0; options = record { glob = record { case_insensitive = p.1.1.0; allow_unclosed_class = p.1.1.1.0 }; git_trailing_spaces = p.1.1.1.1 } })
     (λ _. refl)

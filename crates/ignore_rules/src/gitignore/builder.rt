@@ -1,7 +1,8 @@
 //! Lines added to rules.
 ghost use Rattle.std.specs.Prelude.{◌≡◌, ◌⊎◌, ◌++◌, ◌∷◌, [], None, Some, IfOk, IfErr, OnOk, OnErr, IsOk, option_map, string_bytes, length, take};
 ghost use Rattle.ignore_glob.specs.Problem.{problem_of, memory};
-ghost use Rattle.ignore_rules.specs.Rules.{begun, AddsLine, Refuses, AddsParsed, GivesProblem, built, with_rule, with_case_insensitive, with_unclosed_class};
+ghost use Rattle.ignore_rules.specs.Line.{parsed_line};
+ghost use Rattle.ignore_rules.specs.Rules.{begun, AddsLine, Refuses, AddsParsed, GivesProblem, built, with_rule, with_case_insensitive, with_git_trailing_spaces, with_unclosed_class};
 
 use crate::gitignore::glob::Glob;
 use crate::gitignore::line::ParsedLine;
@@ -18,6 +19,7 @@ pub struct GitignoreBuilder {
     root: String,
     globs: Vec<Glob>,
     options: Options,
+    git_trailing_spaces: bool,
 }
 
 impl Model for GitignoreBuilder {
@@ -28,7 +30,7 @@ impl Model for GitignoreBuilder {
 
     ghost coded = { building_code };
 
-    ghost view = { λ b. record { root = string_bytes b.root; rules = b.globs.items; options = record { glob = b.options } } };
+    ghost view = { λ b. record { root = string_bytes b.root; rules = b.globs.items; options = record { glob = b.options; git_trailing_spaces = b.git_trailing_spaces } } };
 }
 
 impl GitignoreBuilder {
@@ -49,6 +51,7 @@ impl GitignoreBuilder {
                     case_insensitive: false,
                     allow_unclosed_class: true,
                 },
+                git_trailing_spaces: false,
             }),
             Err(_) => Err(Error::Memory),
         }
@@ -77,7 +80,7 @@ impl GitignoreBuilder {
         ensures refused { IfErr result (λ e. (problem_of e ≡ memory) ⊎ Refuses self.old.options line.now (problem_of e)) }
         ensures unchanged { OnErr result (self.new ≡ self.old) }
     {
-        match ParsedLine::of(*self.root.allocator(), line) {
+        match self.parsed_line(line) {
             Ok(Some(parsed_line)) => self.push_parsed(from, parsed_line),
             Ok(None) => Ok(()),
             Err(_) => Err(Error::Memory),
@@ -159,12 +162,31 @@ impl GitignoreBuilder {
         self.options.allow_unclosed_class = yes;
         self
     }
+
+    /// Whether white space at the end of later lines is read by git's own rule: as long as a line
+    /// ends with a space, and the number of backslashes directly before that is even, the space is
+    /// removed, and other white space stays. Else all white space at the end is removed, unless the
+    /// line ends with a backslash and one space, as the original has it. It is off at first.
+    pub fn git_trailing_spaces(&mut self, yes: bool) -> &mut Self
+        ensures same_reference { result.ghost_name ≡ self.entry.ghost_name }
+        ensures value { result.now ≡ with_git_trailing_spaces self.old yes }
+    {
+        self.git_trailing_spaces = yes;
+        self
+    }
 }
 
 /// For the rest of the crate.
 impl GitignoreBuilder {
     pub(crate) fn allocator(&self) -> Global {
         *self.root.allocator()
+    }
+
+    /// What a line parses to, by the options as they stand.
+    pub(crate) fn parsed_line(&self, line: &str) -> Result<Option<ParsedLine>, AllocError>
+        ensures { IfOk result (λ parsed. parsed ≡ parsed_line self.now.options.git_trailing_spaces line.now) }
+    {
+        ParsedLine::of(*self.root.allocator(), line, self.git_trailing_spaces)
     }
 
     pub(crate) fn rule_count(&self) -> usize
@@ -191,6 +213,7 @@ impl Clone for GitignoreBuilder {
             root: self.root.clone()?,
             globs: self.globs.clone()?,
             options: self.options,
+            git_trailing_spaces: self.git_trailing_spaces,
         })
     }
 }

@@ -11,7 +11,6 @@ ghost use Rattle.ignore_rules.specs.RuleFile.{AddsFile, AddsAnswer, AddsContents
 ghost use Rattle.ignore_rules.specs.RuleSteps.{IsOneSegment, IsLineRead, IsLastLineRead, IsLineAt, AddsOrReports, Keeps};
 
 use crate::gitignore::builder::GitignoreBuilder;
-use crate::gitignore::line::ParsedLine;
 use ignore_files::{Contents, Fault, Files, Refusal};
 use ignore_glob::Error;
 use memchr::memchr;
@@ -137,7 +136,7 @@ impl GitignoreBuilder {
         ensures refused { IfErr result (λ e. (problem_of e ≡ memory) ⊎ Refuses self.old.options line.now (problem_of e)) }
         ensures unchanged { OnErr result (self.new ≡ self.old) }
     {
-        match ParsedLine::of(self.allocator(), line) {
+        match self.parsed_line(line) {
             Ok(Some(parsed_line)) => match String::from_str(self.allocator(), path) {
                 Ok(from) => self.push_parsed(Some(from), parsed_line),
                 Err(_) => Err(Error::Memory),

@@ -12,7 +12,7 @@ use ignore_glob::Error;
 use ignore_rules::gitignore::GitignoreBuilder;
 use serde_json::Value;
 use std::alloc::Global;
-use vectors::{Outcome, Reason, Trouble, field, flag, item, text, text_at};
+use vectors::{Outcome, Trouble, field, flag, item, text, text_at};
 
 /// The directory of the file, and the root of the rules.
 const ROOT: &str = "/r";
@@ -26,24 +26,28 @@ const CUT: &str = "cut";
 /// Answers `rules`, and the `error` of `add` with what it says of itself. Where there are lines,
 /// they stand before the rules of the file.
 pub fn answer(alloc: Global, input: &Value) -> Result<Outcome, Trouble> {
-    if flag(input, "gts")? {
-        return Ok(Outcome::Skipped(Reason::GitTrailingSpaces));
-    }
     let path = text(input, "path")?;
     let tree = tree_of(alloc, path, input)?;
-    asked(alloc, input, &Refusing::of(&tree, input)?, path)
+    let mut builder = builder_of_options(alloc, input)?;
+    asked(alloc, &Refusing::of(&tree, input)?, path, &mut builder)
 }
 
 fn asked(
     alloc: Global,
-    input: &Value,
     files: &Refusing<'_>,
     path: &str,
+    builder: &mut GitignoreBuilder,
 ) -> Result<Outcome, Trouble> {
+    let error = added(builder, files, path)?;
+    reported(alloc, builder, &error)
+}
+
+/// A builder with the lines and then the options of a vector.
+fn builder_of_options(alloc: Global, input: &Value) -> Result<GitignoreBuilder, Trouble> {
     let mut builder = builder_of_lines(alloc, input)?;
     set_case(&mut builder, flag(input, "ci")?)?;
-    let error = added(&mut builder, files, path)?;
-    reported(alloc, &builder, &error)
+    builder.git_trailing_spaces(flag(input, "gts")?);
+    Ok(builder)
 }
 
 fn reported(
