@@ -3,6 +3,7 @@
 mod class;
 mod copies;
 mod fault;
+mod key;
 pub mod laws;
 mod lexeme;
 mod meaning;
@@ -13,5 +14,6 @@ mod read;
 mod token;
 
 pub use fault::{GlobFault, PatternError};
+pub use key::Key;
 pub use options::Options;
 pub use pattern::{Pattern, characters};

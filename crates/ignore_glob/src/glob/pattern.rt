@@ -2,6 +2,7 @@
 ghost use Rattle.std.specs.Prelude.{◌≡◌, ◌↔◌, IsTrue, IfOk, IfErr};
 ghost use Rattle.std.specs.Str.{chars};
 ghost use Rattle.ignore_glob.specs.Glob.{start, then, done};
+ghost use Rattle.ignore_glob.specs.Forms.{key_form, form_of};
 ghost use Rattle.ignore_glob.specs.GlobFaults.{IfFault};
 ghost use Rattle.ignore_glob.specs.Problem.{problem_of, memory};
 ghost use Rattle.ignore_glob.specs.Reading.{Matches};
@@ -11,6 +12,7 @@ ghost use Rattle.ignore_glob.specs.View.{view, tokens_view};
 use crate::error::Error;
 use crate::glob::copies::copied;
 use crate::glob::fault::PatternError;
+use crate::glob::key::{Key, key_of};
 use crate::glob::options::Options;
 use crate::glob::plain::all_match;
 use crate::glob::read::read;
@@ -87,6 +89,17 @@ impl Pattern {
             return true;
         }
         all_match(self.case_insensitive, &self.tokens, text)
+    }
+
+    /// For dependents: the text by which the pattern can be looked up, if it has a form for that.
+    pub fn key(&self) -> Result<Key, AllocError>
+        ensures { IfOk result (λ key. key_form key ≡ form_of self.now) }
+    {
+        if self.case_insensitive {
+            Ok(Key::Other)
+        } else {
+            key_of(*self.tokens.allocator(), &self.tokens)
+        }
     }
 }
 
