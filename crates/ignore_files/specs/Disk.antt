@@ -1,4 +1,4 @@
--- What of the machine's answers is told, and as what.
+-- The files of the machine: how answers of std are reported.
 use Rattle.std.specs.Prelude.{◌≡◌, ℕ, ℤ, List, [], ◌∷◌, Option, Some, None, Result, Ok, Err}
 use Rattle.std.specs.Iterator.{Drains}
 use Rattle.std.specs.declared.io.Error.{Error}
@@ -19,16 +19,18 @@ use Rattle.ignore_files.specs.declared.disk.DiskFiles.{DiskFiles}
 use Rattle.ignore_files.specs.declared.types.Listed.{Listed}
 use Rattle.ignore_files.specs.declared.types.Listed.TheVariants as listed
 
--- the runtime whose files they are
+-- the runtime whose files these are
 abbrev pub runtime_of : {R : Type 0} → DiskFiles R → R
 runtime_of files = files.rt.now
 
--- a name that can't be read: one that isn't UTF-8 has no number of the system's, and one that the system finds too long has one
+-- the fault of an invalid name: a name that isn't UTF-8 has no error number of the system, and a
+-- name that is too long for the system has one
 abbrev pub name_fault : Option ℤ → Fault
 name_fault None = fault.BadName
 name_fault (Some code) = fault.Other
 
--- five kinds keep their name, a loop of links is too many of them, want of memory is told as itself, and every other kind is `Other`
+-- five kinds keep their name, a loop of links is `LinkLimit`, out of memory stays so, and every
+-- other kind is `Other`
 abbrev pub refusal_of : Option ℤ → ErrorKind → Refusal
 refusal_of code NotFound = Refused fault.NotFound
 refusal_of code PermissionDenied = Refused fault.PermissionDenied
@@ -40,41 +42,41 @@ refusal_of code FilesystemLoop = Refused fault.LinkLimit
 refusal_of code OutOfMemory = Memory
 refusal_of code _ = Refused fault.Other
 
--- the fault of a refusal, which may stand in an answer; want of memory can't
+-- the fault of an error, as an item of an answer; out of memory is no item
 abbrev pub reported_fault : Refusal → Result Fault Refusal
 reported_fault (Refused fault) = Ok fault
 reported_fault Memory = Err Memory
 
--- the machine's type of a file is told as this
+-- the machine's type of a file is reported as this
 abbrev pub IsReportedAs : MachineType → FileType → Type 0
 IsReportedAs t Dir = IsDir t
 IsReportedAs t File = IsFile t
 IsReportedAs t Symlink = IsSymlink t
 IsReportedAs t Other = (IsDir t → ⊥) × (IsFile t → ⊥) × (IsSymlink t → ⊥)
 
--- an error is told by its fault
+-- an error is reported by its fault
 abbrev pub IsFaultOf : Error → Listed → Type 0
 IsFaultOf error (listed.Entry n kind) = ⊥
 IsFaultOf error (listed.Fault f) = refusal_of (raw_os_error error) (error_kind error) ≡ Refused f
 
--- an entry is told under its name with its kind, or by a fault where its kind can't be told
+-- an entry is reported with its name and kind, or as a fault where its kind is unknown
 abbrev pub IsEntryOf : List ℕ → Result MachineType Error → Listed → Type 0
 IsEntryOf name (Ok t) (listed.Entry n kind) = (n ≡ name) × IsReportedAs t kind
 IsEntryOf name (Ok t) (listed.Fault f) = ⊥
 IsEntryOf name (Err error) item = IsFaultOf error item
 
--- one thing that the machine lists is told
+-- one item of the machine's listing is reported as this
 abbrev pub IsReported : {R A F D : Type 0} → Result (DirEntry R A F D) Error → Listed → Type 0
 IsReported (Ok entry) item = (kind : Result MachineType Error) × IsEntryOf (dir_entry_name entry) kind item
 IsReported (Err error) item = IsFaultOf error item
 
--- all of them are told, in their order
+-- all items of the machine's listing are reported as these, in order
 abbrev pub AreReported : {R A F D : Type 0} → List (Result (DirEntry R A F D) Error) → List Listed → Type 0
 AreReported [] [] = Unit {0}
 AreReported [] (item ∷ items) = ⊥
 AreReported (one ∷ more) [] = ⊥
 AreReported (one ∷ more) (item ∷ items) = IsReported one item × AreReported more items
 
--- the listing tells all that the machine lists, from its first to its end
+-- the listing reports all items of the machine's listing, from the first to the last
 abbrev pub IsListingOf : {S R A F D : Type 0} → (S → Option (Result (DirEntry R A F D) Error) → S → Type 0) → S → List Listed → Type 0
 IsListingOf {S} {R} {A} {F} {D} steps s listing = (all : List (Result (DirEntry R A F D) Error)) × Drains steps s all × AreReported all listing

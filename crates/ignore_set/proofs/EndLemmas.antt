@@ -1,5 +1,5 @@
 -- What the calls that look at the end of a text say.
-use Rattle.std.proofs.Common.{◌≡◌, ◌≢◌, ◌⊎◌, ℕ, ◌+◌, ◌-◌, ◌<◌, ◌≤◌, Bool, true, false, List, [], ◌∷◌, ◌++◌, length, take, drop, get_or, Option, Some, None, MatchOption, MatchBool, Bor, refl, sym, ap, subst, ◌∙◌, inl, inr, arith, append_assoc, length-append}
+use Rattle.std.proofs.Common.{◌≡◌, ℕ, ◌-◌, ◌≤◌, Bool, true, false, List, [], ◌∷◌, ◌++◌, length, take, get_or, Some, None, MatchBool, refl, sym, ap, subst, ◌∙◌, inr, arith, append_assoc}
 use Rattle.std.specs.Str.{IsUtf8, IsCharBoundary}
 use Rattle.std.specs.Str.Pattern.{HasSuffixMatch, FindsTextSuffix, FindsCharSuffix, StripsSuffix}
 use Rattle.std.proofs.lemmas.Bool.{false≢true}

@@ -4,13 +4,12 @@ use Rattle.std.specs.Option.{option_map}
 use Rattle.std.specs.Char.{encode_utf8}
 use Rattle.std.specs.Str.{chars, IsUtf8}
 use Rattle.std.proofs.lemmas.Bool.{eqb-true, eqb-false}
-use Rattle.std.proofs.lemmas.List.{append-nil}
 use Rattle.std.proofs.lemmas.List.Elements.{All-cons, All-nil}
-use Rattle.std.proofs.lemmas.Str.{chars-append, encodes-append, encodes-chars, cons_from_encodes, encodes_same, encodes-IsAscii}
-use Rattle.ignore_glob.specs.Glob.{Token, literal, any, star, start, middle, end, class, alternates, Tokens, done, then}
-use Rattle.ignore_glob.specs.Matches.{slash, EndsWithSlash, tokens_match, token_matches}
+use Rattle.std.proofs.lemmas.Str.{chars-append, encodes-append, encodes-chars, cons_from_encodes, encodes_same}
+use Rattle.ignore_glob.specs.Glob.{literal, any, star, start, middle, end, class, alternates, Tokens, done, then}
+use Rattle.ignore_glob.specs.Matches.{slash, EndsWithSlash, tokens_match}
 use Rattle.ignore_glob.specs.Reading.{Reading, Matches}
-use Rattle.ignore_glob.specs.Forms.{Form, whole, name, ending, other, literals, before, literal_of, keyed, below_form, tokens_form, form_of}
+use Rattle.ignore_glob.specs.Forms.{Form, whole, name, ending, other, literals, keyed, below_form, tokens_form, form_of}
 use Rattle.ignore_set.specs.Ends.{HasEnd, HasName}
 use lib.Utf8.{encodes}
 
