@@ -165,8 +165,9 @@ impl OverrideBuilder {
     /// matches.
     ///
     /// # Errors
-    /// `Error::Glob` with the glob and its parse error, or `Error::Memory`. After an error the
-    /// builder is as before, which `push` states.
+    /// `Error::Glob` with the glob and its parse error, or `Error::Memory`. What holds of the
+    /// builder after an error is proved of `push`, which does the work, and not of this call: a
+    /// caller that needs it as it was uses that one.
     pub fn add(&mut self, glob: &str) -> Result<&mut Self, Error>
         ensures same_reference { IfOk result (λ b. b.ghost_name ≡ self.entry.ghost_name) }
         ensures added { IfOk result (λ b. AddsLine self.old None glob.now b.now) }
@@ -178,7 +179,7 @@ impl OverrideBuilder {
         }
     }
 
-    /// For dependents: as `add`, without the builder in the result.
+    /// As `add`, without the builder in what is returned. After an error the builder is as before.
     pub fn push(&mut self, glob: &str) -> Result<(), Error>
         ensures added { OnOk result (AddsLine self.old None glob.now self.new) }
         ensures refused { IfErr result (λ e. (problem_of e ≡ memory) ⊎ Refuses self.old.options glob.now (problem_of e)) }

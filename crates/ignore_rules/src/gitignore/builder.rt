@@ -62,7 +62,8 @@ impl GitignoreBuilder {
     ///
     /// # Errors
     /// `Error::Glob` with the line and its parse error where the glob of the line is invalid, or
-    /// `Error::Memory`. After an error the builder is as before, which `push_line` states.
+    /// `Error::Memory`. What holds of the builder after an error is proved of `push_line`, which
+    /// does the work, and not of this call: a caller that needs it as it was uses that one.
     pub fn add_line(&mut self, from: Option<String>, line: &str) -> Result<&mut Self, Error>
         ensures same_reference { IfOk result (λ b. b.ghost_name ≡ self.entry.ghost_name) }
         ensures added { IfOk result (λ b. AddsLine self.old (option_map string_bytes from) line.now b.now) }
@@ -74,7 +75,8 @@ impl GitignoreBuilder {
         }
     }
 
-    /// For dependents: as `add_line`, without the builder in the result.
+    /// As `add_line`, without the builder in what is returned. After an error the builder is as
+    /// before.
     pub fn push_line(&mut self, from: Option<String>, line: &str) -> Result<(), Error>
         ensures added { OnOk result (AddsLine self.old (option_map string_bytes from) line.now self.new) }
         ensures refused { IfErr result (λ e. (problem_of e ≡ memory) ⊎ Refuses self.old.options line.now (problem_of e)) }

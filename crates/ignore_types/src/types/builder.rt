@@ -199,8 +199,8 @@ impl TypesBuilder {
     /// stands for each type that exists at this call, in text order.
     ///
     /// # Errors
-    /// `Memory` alone. After it the builder is as before, which
-    /// `push_selection` states.
+    /// `Memory` alone. What holds of the builder after it is proved of
+    /// `push_selection`, which does the work, and not of this call.
     pub fn select(&mut self, name: &str) -> Result<&mut Self, Error>
         ensures same_reference { IfOk result (λ b. b.ghost_name ≡ self.entry.ghost_name) }
         ensures selected { IfOk result (λ b. b.now ≡ with_chosen false name.now self.old) }
@@ -216,8 +216,8 @@ impl TypesBuilder {
     /// stands for each type that exists at this call, in text order.
     ///
     /// # Errors
-    /// `Memory` alone. After it the builder is as before, which
-    /// `push_selection` states.
+    /// `Memory` alone. What holds of the builder after it is proved of
+    /// `push_selection`, which does the work, and not of this call.
     pub fn negate(&mut self, name: &str) -> Result<&mut Self, Error>
         ensures same_reference { IfOk result (λ b. b.ghost_name ≡ self.entry.ghost_name) }
         ensures negated { IfOk result (λ b. b.now ≡ with_chosen true name.now self.old) }
@@ -229,8 +229,8 @@ impl TypesBuilder {
         }
     }
 
-    /// For dependents: as `select`, or as `negate`, without the builder in the
-    /// result.
+    /// As `select`, or as `negate`, without the builder in what is returned.
+    /// After an error the builder is as before.
     pub fn push_selection(&mut self, name: &str, negated: bool) -> Result<(), Error>
         ensures chosen { OnOk result (self.new ≡ with_chosen negated name.now self.old) }
         ensures out_of_memory { IfErr result (λ e. problem_of e ≡ memory) }
@@ -258,8 +258,8 @@ impl TypesBuilder {
     /// Adds the rows of the table of default types, in its order.
     ///
     /// # Errors
-    /// `Memory` alone. After it the builder is as before, which `push_defaults`
-    /// states.
+    /// `Memory` alone. What holds of the builder after it is proved of
+    /// `push_defaults`, which does the work, and not of this call.
     pub fn add_defaults(&mut self) -> Result<&mut Self, Error>
         ensures same_reference { IfOk result (λ b. b.ghost_name ≡ self.entry.ghost_name) }
         ensures added { IfOk result (λ b. b.now ≡ record { definitions = with_rows (map (λ r. (map (λ n. n.now) r.0.now, map (λ g. g.now) r.1.now)) DEFAULT_TYPES) self.old.definitions; choices = self.old.choices }) }
