@@ -1,4 +1,5 @@
--- The forms of patterns for which a text can be looked up: literals, alone or after `**/` or `**/*`.
+-- The forms of patterns for which a text can be looked up: literals, alone or after `**/` or
+-- `**/*`.
 use Rattle.std.specs.Prelude.{◌≡◌, ℕ, Bool, true, false, List, [], ◌∷◌, ◌++◌, Option, None, Some, string_bytes, encode_utf8, cond}
 use Rattle.std.specs.Option.{option_map}
 use Rattle.ignore_glob.specs.declared.glob.key.Key.{Key}
@@ -47,7 +48,8 @@ abbrev pub literals : Tokens → Option (List ℕ)
 literals done = Some []
 literals (then t ts) = before (literal_of t) (literals ts)
 
--- a pattern that matches one text; that matches what has this text as its last components; that matches what ends so; any other
+-- a pattern that matches one text; that matches what has this text as its last components; that
+-- matches what ends so; any other
 pub data Form : Type 0 where
   whole : List ℕ → Form
   name : List ℕ → Form

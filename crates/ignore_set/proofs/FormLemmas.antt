@@ -133,7 +133,7 @@ matches_whole r key text is utf8 (inr h) =
 
 -- The last components, and the end.
 
--- a recursive start and these tokens, which take something, match what the tokens match after a recursive start
+-- a pattern of a recursive start and these tokens matches what they match
 below : (r : Reading) (rest : Tokens) (w : List ℕ) → r.case_insensitive ≡ false → r.tokens ≡ then start rest → tokens_match false (then start rest) w → Matches r w
 below r rest w case is h = inr (subst (λ fold. tokens_match fold r.tokens w) (sym case) (subst (λ ts. tokens_match false ts w) (sym is) h))
 

@@ -13,8 +13,8 @@ use std::marker::Model;
 /// Patterns in order, each for all texts or for directories only. It is asked for the last that
 /// matches, as a later rule overrides an earlier one.
 ///
-/// A pattern of literals, alone or after `**/` or `**/*`, is compared with the text; only the others
-/// are tried by a pass over their positions.
+/// A pattern of literals, alone or after `**/` or `**/*`, is compared with the text; only the
+/// others are tried by a pass over their positions.
 #[derive(Drop)]
 pub struct PatternSet {
     entries: Vec<Entry>,

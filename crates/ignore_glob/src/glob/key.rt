@@ -1,4 +1,5 @@
-//! The text by which a pattern can be looked up: where it is literals, alone or after `**/` or `**/*`.
+//! The text by which a pattern can be looked up: where it is literals, alone or after `**/` or
+//! `**/*`.
 ghost use Rattle.std.specs.Prelude.{◌≡◌, IfOk, string_bytes};
 ghost use Rattle.std.specs.Option.{option_map};
 ghost use Rattle.ignore_glob.specs.Forms.{literal_of, is_start, is_star, literals, keyed, whole, name, ending, below_form, tokens_form, key_form};
