@@ -11,6 +11,7 @@ mod overrides;
 mod path_or_parents;
 mod rulefile;
 mod rules;
+mod set;
 mod strip;
 mod tree;
 mod types;
@@ -37,6 +38,7 @@ impl Kinds for Library {
             "path_or_parents" => Some(path_or_parents::answer(alloc, input)),
             "rulefile" => Some(rulefile::answer(alloc, input)),
             "rules" => Some(rules::answer(alloc, input)),
+            "set" => Some(set::answer(alloc, input)),
             "strip" => Some(strip::answer(alloc, input)),
             "tree" => Some(tree::answer(alloc, input)),
             "types" => Some(types::answer(alloc, input)),
@@ -44,10 +46,11 @@ impl Kinds for Library {
         }
     }
 
-    /// The fields of a kind whose calls aren't there yet.
+    /// The fields of a kind that aren't compared: of calls that aren't there yet, and a bound.
     fn waiting(&self, kind: &str) -> &'static [&'static str] {
         match kind {
             "glob" => &["marks", "positions"],
+            "set" => &["pass_bound"],
             _ => &[],
         }
     }
