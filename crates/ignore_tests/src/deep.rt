@@ -8,17 +8,9 @@ const DEFAULT: Options = Options {
     allow_unclosed_class: false,
 };
 
-fn copies(alloc: Global, text: &str, count: usize) -> Result<String, AllocError> {
-    let mut all = String::new(alloc);
-    for _ in 0..count {
-        all.push_str(text)?;
-    }
-    Ok(all)
-}
-
 /// The glob that is so many copies of a text.
 fn repeated(alloc: Global, text: &str, count: usize) -> Result<Pattern, PatternError> {
-    match copies(alloc, text, count) {
+    match text.repeat(alloc, count) {
         Ok(glob) => Pattern::parse(alloc, &glob, DEFAULT),
         Err(_) => Err(PatternError::Memory),
     }
