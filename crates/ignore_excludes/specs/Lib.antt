@@ -1,2 +1,3 @@
 pub mod Excludes
 pub mod ExcludesSearch
+pub mod ExcludesSteps

@@ -29,7 +29,8 @@ pub struct Pattern {
 }
 
 impl Model for Pattern {
-    ghost use Rattle.ignore_glob.specs.Reading.{Reading, reading_code};
+    ghost use Rattle.ignore_glob.specs.Reading.{Reading};
+    ghost use Rattle.ignore_glob.specs.Codes.{reading_code};
 
     ghost Value = { Reading };
 

@@ -7,4 +7,6 @@ use Rattle.ignore_excludes.proofs.config.first_path.Given as goal
 
 -- the places that are left decide for all
 abbrev pub invariant-loop-place : goal.invariant-loop-place
-invariant-loop-place g l = (tree : Tree) → IsHonest g.F.Files l.files tree → (found : Option (List ℕ)) → IsFirstValue tree (map option_copied (drop l.place-index l.places)) found → IsFirstValue tree (map option_copied l.places) found
+invariant-loop-place g l =
+    (tree : Tree) → IsHonest g.F.Files l.files tree → (found : Option (List ℕ))
+    → IsFirstValue tree (map option_copied (drop l.place-index l.places)) found → IsFirstValue tree (map option_copied l.places) found
