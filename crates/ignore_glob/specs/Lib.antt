@@ -14,6 +14,7 @@ pub mod ParserSteps
 pub mod Matches
 pub mod Nodes
 pub mod Flags
+pub mod NodeLists
 pub mod Positions
 pub mod Codes
 pub mod Reading

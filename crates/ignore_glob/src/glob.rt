@@ -3,9 +3,13 @@
 mod class;
 mod copies;
 mod fault;
+mod flags;
 pub mod laws;
 mod lexeme;
+mod marks;
 mod meaning;
+mod node;
+mod nodes;
 mod options;
 mod pattern;
 mod plain;

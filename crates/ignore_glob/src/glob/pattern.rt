@@ -1,7 +1,11 @@
 //! A parsed glob, and the texts that it matches.
-ghost use Rattle.std.specs.Prelude.{◌≡◌, ◌↔◌, IsTrue, IfOk, IfErr};
+ghost use Rattle.std.specs.Prelude.{◌≡◌, ◌-◌, ◌^◌, ◌↔◌, ℕ, IsTrue, IfOk, IfErr, length, min};
+ghost use Rattle.std.specs.Coded.{Coded-set, coded_list};
 ghost use Rattle.std.specs.Str.{chars};
 ghost use Rattle.ignore_glob.specs.Glob.{start, then, done};
+ghost use Rattle.ignore_glob.specs.Flags.{Count};
+ghost use Rattle.ignore_glob.specs.Nodes.{width};
+ghost use Rattle.ignore_glob.specs.NodeLists.{glob_nodes, node_code, nodes_view};
 ghost use Rattle.ignore_glob.specs.GlobFaults.{IfFault};
 ghost use Rattle.ignore_glob.specs.Problem.{problem_of, memory};
 ghost use Rattle.ignore_glob.specs.Reading.{Matches};
@@ -11,6 +15,9 @@ ghost use Rattle.ignore_glob.specs.View.{view, tokens_view};
 use crate::error::Error;
 use crate::glob::copies::copied;
 use crate::glob::fault::PatternError;
+use crate::glob::marks;
+use crate::glob::node::Node;
+use crate::glob::nodes::nodes_of;
 use crate::glob::options::Options;
 use crate::glob::plain::all_match;
 use crate::glob::read::read;
@@ -25,7 +32,9 @@ use std::marker::Model;
 #[derive(Debug, Drop)]
 pub struct Pattern {
     tokens: Vec<Token>,
+    nodes: Vec<Node>,
     case_insensitive: bool,
+    ghost compiled: { nodes_view nodes.items ≡ glob_nodes (tokens_view tokens.items) } by { Coded-set (coded_list node_code) _ _ },
 }
 
 impl Model for Pattern {
@@ -43,13 +52,18 @@ impl Model for Pattern {
 
 impl Pattern {
     /// The pattern of these tokens; `case_insensitive` makes it match both ASCII cases.
-    pub(crate) fn from_tokens(tokens: Vec<Token>, case_insensitive: bool) -> Pattern
-        ensures { result ≡ record { tokens = tokens_view tokens.items; case_insensitive = case_insensitive } }
+    pub(crate) fn from_tokens(
+        tokens: Vec<Token>,
+        case_insensitive: bool,
+    ) -> Result<Pattern, AllocError>
+        ensures { IfOk result (λ p. p ≡ record { tokens = tokens_view tokens.items; case_insensitive = case_insensitive }) }
     {
-        Pattern {
+        let nodes = nodes_of(*tokens.allocator(), &tokens)?;
+        Ok(Pattern {
             tokens,
+            nodes,
             case_insensitive,
-        }
+        })
     }
 
     /// Parses a glob.
@@ -63,7 +77,10 @@ impl Pattern {
         ensures fault { IfErr result (λ e. IfFault e (λ f. IsFaulty options (chars glob.now) f)) }
     {
         match read(alloc, glob, options) {
-            Ok(tokens) => Ok(Pattern::from_tokens(tokens, options.case_insensitive)),
+            Ok(tokens) => match Pattern::from_tokens(tokens, options.case_insensitive) {
+                Ok(pattern) => Ok(pattern),
+                Err(_) => Err(PatternError::Memory),
+            },
             Err(error) => Err(error),
         }
     }
@@ -71,15 +88,41 @@ impl Pattern {
     /// Whether the glob matches the whole text.
     ///
     /// # Errors
-    /// `Error::Memory` alone, since the characters of the text are kept for the time of the call.
+    /// `Error::Memory` alone, since the positions that are reached are kept for the time of the
+    /// call.
     pub fn matches(&self, text: &str) -> Result<bool, Error>
         ensures out_of_memory { IfErr result (λ e. problem_of e ≡ memory) }
         ensures value { IfOk result (λ yes. IsTrue yes ↔ Matches self.now (chars text.now)) }
     {
-        match characters(*self.tokens.allocator(), text) {
-            Ok(all) => Ok(self.matches_chars(&all)),
+        match self.matches_counted(text) {
+            Ok((yes, _)) => Ok(yes),
             Err(e) => Err(e),
         }
+    }
+
+    /// As `matches`, with the number of marks: the pairs of a position of the glob and an offset in
+    /// the text which a run from the first position at the start of the text reaches.
+    ///
+    /// # Errors
+    /// `Error::Memory` alone.
+    pub fn matches_counted(&self, text: &str) -> Result<(bool, u64), Error>
+        ensures out_of_memory { IfErr result (λ e. problem_of e ≡ memory) }
+        ensures value { IfOk result (λ found. IsTrue found.0 ↔ Matches self.now (chars text.now)) }
+        ensures counted { IfOk result (λ found. (n : ℕ) × Count self.now.case_insensitive (glob_nodes self.now.tokens) (chars text.now) (length (chars text.now)) n × (found.1 ≡ min n (2 ^ 64 - 1))) }
+    {
+        let alloc = *self.nodes.allocator();
+        match marks::matches_counted(alloc, self.case_insensitive, &self.nodes, text) {
+            Ok(found) => Ok(found),
+            Err(_) => Err(Error::Memory),
+        }
+    }
+
+    /// How many positions the glob has: one for each token, inside branches too, and a second one
+    /// for each recursive token.
+    pub fn positions(&self) -> usize
+        ensures { result ≡ width self.now.tokens }
+    {
+        self.nodes.len()
     }
 
     /// For dependents, which match many patterns against one text: as `matches`, with the text's
@@ -101,10 +144,7 @@ impl Clone for Pattern {
 
     fn clone(&self) -> Result<Pattern, AllocError> {
         let tokens = copied(&self.tokens)?;
-        Ok(Pattern {
-            tokens,
-            case_insensitive: self.case_insensitive,
-        })
+        Pattern::from_tokens(tokens, self.case_insensitive)
     }
 }
 

@@ -17,7 +17,7 @@ fn other_case(c: char) -> char
     }
 }
 
-fn is_case_of(fold: bool, c: char, d: char) -> bool
+pub(crate) fn is_case_of(fold: bool, c: char, d: char) -> bool
     ensures { IsTrue result ↔ IsCaseOf fold c d }
 {
     if fold {
@@ -43,7 +43,7 @@ fn is_listed(fold: bool, ranges: &[(char, char)], c: char) -> bool
     }
 }
 
-fn is_member(fold: bool, of: &Class, c: char) -> bool
+pub(crate) fn is_member(fold: bool, of: &Class, c: char) -> bool
     ensures { IsTrue result ↔ IsMember fold of.now.negated of.now.ranges.items c }
 {
     if of.negated {
