@@ -66,7 +66,8 @@ module _ (p : Left) (row rest : List Lexeme) (k : ℕ) (row_is : row ≡ chain k
       let M : List Lexeme → Type 0 = λ x. Means p x (gives n G.star after) in subst M (sym e) (stars p n after (plain p no_alone)) where
         none_before : BeforeSlash (run n ∷ after) → ⊥
         none_before x =
-            let zero_times : k ≡ 0 = omega arith in let same : run n ∷ after ≡ rest = sym e ∙ (row_is ∙ ap (λ i. chain i rest) zero_times) in
+            let zero_times : k ≡ 0 = omega arith in
+            let same : run n ∷ after ≡ rest = sym e ∙ (row_is ∙ ap (λ i. chain i rest) zero_times) in
             let B : List Lexeme → Type 0 = λ t. BeforeSlash t in b (subst B same x)
 
         plain : (q : Left) → ((q ≡ glob_start) × (n ≡ 2) × (after ≡ []) → ⊥) → IsRecursive q (run n ∷ after) → ⊥

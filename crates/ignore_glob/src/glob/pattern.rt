@@ -108,7 +108,9 @@ impl Pattern {
     pub fn matches_counted(&self, text: &str) -> Result<(bool, u64), Error>
         ensures out_of_memory { IfErr result (λ e. problem_of e ≡ memory) }
         ensures value { IfOk result (λ found. IsTrue found.0 ↔ Matches self.now (chars text.now)) }
-        ensures counted { IfOk result (λ found. (n : ℕ) × Count self.now.case_insensitive (glob_nodes self.now.tokens) (chars text.now) (length (chars text.now)) n × (found.1 ≡ min n (2 ^ 64 - 1))) }
+        ensures counted { IfOk result (λ found. (n : ℕ)
+            × Count self.now.case_insensitive (glob_nodes self.now.tokens) (chars text.now) (length (chars text.now)) n
+            × (found.1 ≡ min n (2 ^ 64 - 1))) }
     {
         let alloc = *self.nodes.allocator();
         match marks::matches_counted(alloc, self.case_insensitive, &self.nodes, text) {
