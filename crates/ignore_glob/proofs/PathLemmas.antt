@@ -87,7 +87,7 @@ below-flat root path e =
     cond-true (is_dot root || not (has_slash path)) path (unwrap_or (option_map without_slash (strip_prefix_of root path)) path)
     (or_right (is_dot root) (not (has_slash path)) (not_from_false (has_slash path) e))
 
--- where the root may come off
+-- where the root may be stripped
 pub below-deep : (root path : List ℕ) → is_dot root ≡ false → has_slash path ≡ true
     → below root path ≡ unwrap_or (option_map without_slash (strip_prefix_of root path)) path
 unfolding below

@@ -50,7 +50,7 @@ is_odd-count (c ∷ before) = by_first (eqb c 92) (is_odd-count before)
     by_first false e = refl
     by_first true e = ap not e ∙ sym (odd-suc (slashes before))
 
--- behind an odd number of backslashes stands no space
+-- no space follows an odd number of backslashes
 no_space : (text : List ℕ) → is_odd text ≡ true → spaces text ≡ 0
 no_space [] h = refl
 no_space (c ∷ before) h = by_first (eqb c 92) (eqb c 32) refl refl h
@@ -89,7 +89,7 @@ without_spaces-drop (c ∷ before) = by_first (eqb c 32) (is_odd before) refl (w
         one_more (spaces before) (is_odd (drop (spaces before) before)) (without_spaces before) (at_end (spaces before) e) h
         ∙ ap (λ l. drop (1 + spaces before - cond (is_odd l) 1 0) (c ∷ before)) (sym (past_first (spaces before)))
 
--- a front of a line, read from its end
+-- a prefix of a line, read from its end
 reverse-take : (text : List ℕ) (n : ℕ) → n ≤ length text → reverse (take (length text - n) text) ≡ drop n (reverse text)
 reverse-take text n within =
     let k = length text - n in

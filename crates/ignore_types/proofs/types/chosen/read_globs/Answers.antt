@@ -1,4 +1,4 @@
--- Each glob is read in its turn, up to the first that has a fault.
+-- Each glob is read in its turn, up to the first invalid one.
 use Rattle.std.proofs.Common.{◌≡◌, ◌+◌, ◌++◌, ◌∷◌, [], suc, map, take, drop, string_bytes, sym, subst, inl, inr}
 use Rattle.std.specs.List.{AllZip}
 use Rattle.ignore_glob.specs.Problem.{problem_of}
