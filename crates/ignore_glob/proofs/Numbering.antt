@@ -169,7 +169,8 @@ module _ (whole : Tokens) (nodes : List Node) where
       let len = table_length ts (in_branch i p) n in (
         entrance_number ts (in_branch i p) n b m is both.0,
         entrances_numbers bs (suc i) p n (b + width ts) m is
-            (moved_stand (branch_table bs (suc i) p n) (b + length (table ts (in_branch i p) n)) (b + width ts) (omega (arith, len)) both.1),
+            (moved_stand (branch_table bs (suc i) p n) (b + length (table ts (in_branch i p) n)) (b + width ts)
+            (omega (arith, len)) both.1),
       )
 
   forks_numbers : (bs : Branches) (p : Place) (n : Position) (b m : ℕ) → slice_get (all whole) m ≡ Some n

@@ -3,8 +3,7 @@ ghost use Rattle.std.specs.Prelude.{◌≡◌, ◌-◌, ◌^◌, ◌↔◌, ℕ,
 ghost use Rattle.std.specs.Coded.{Coded-set, coded_list};
 ghost use Rattle.std.specs.Str.{chars};
 ghost use Rattle.ignore_glob.specs.Glob.{start, then, done};
-ghost use Rattle.ignore_glob.specs.Flags.{Count};
-ghost use Rattle.ignore_glob.specs.Nodes.{width};
+ghost use Rattle.ignore_glob.specs.Positions.{CountsMarks, positions};
 ghost use Rattle.ignore_glob.specs.NodeLists.{glob_nodes, node_code, nodes_view};
 ghost use Rattle.ignore_glob.specs.GlobFaults.{IfFault};
 ghost use Rattle.ignore_glob.specs.Problem.{problem_of, memory};
@@ -101,15 +100,15 @@ impl Pattern {
     }
 
     /// As `matches`, with the number of marks: the pairs of a position of the glob and an offset in
-    /// the text which a run from the first position at the start of the text reaches.
+    /// the text that are reached from its first position at the start of the text, by the steps of
+    /// the glob and the characters of the text. No pair is reached twice, so this bounds the work.
     ///
     /// # Errors
     /// `Error::Memory` alone.
     pub fn matches_counted(&self, text: &str) -> Result<(bool, u64), Error>
         ensures out_of_memory { IfErr result (λ e. problem_of e ≡ memory) }
         ensures value { IfOk result (λ found. IsTrue found.0 ↔ Matches self.now (chars text.now)) }
-        ensures counted { IfOk result (λ found. (n : ℕ)
-            × Count self.now.case_insensitive (glob_nodes self.now.tokens) (chars text.now) (length (chars text.now)) n
+        ensures counted { IfOk result (λ found. (n : ℕ) × CountsMarks self.now.case_insensitive self.now.tokens (chars text.now) n
             × (found.1 ≡ min n (2 ^ 64 - 1))) }
     {
         let alloc = *self.nodes.allocator();
@@ -122,7 +121,7 @@ impl Pattern {
     /// How many positions the glob has: one for each token, inside branches too, and a second one
     /// for each recursive token.
     pub fn positions(&self) -> usize
-        ensures { result ≡ width self.now.tokens }
+        ensures { result ≡ positions self.now.tokens }
     {
         self.nodes.len()
     }
