@@ -5,8 +5,7 @@ use Rattle.std.specs.Result.{result_ok}
 use Rattle.std.specs.Str.{IsUtf8}
 use Rattle.std.proofs.lemmas.List.{take_at, drop_at}
 use Rattle.std.proofs.lemmas.Bool.{cases_order}
-use Rattle.ignore_excludes.specs.Excludes.{HasValue, Assigns, SetsKey, Reads, IsShortest, IsPreferred, IsChosen, IsValue}
-use Rattle.ignore_excludes.specs.ExcludesSteps.{trimmed_start}
+use Rattle.ignore_excludes.specs.Excludes.{HasValue, Assigns, SetsKey, Reads, IsShortest, IsPreferred, IsChosen, IsValue, trimmed_start}
 use Rattle.ignore_excludes.proofs.ExcludesKeys.{Assigns-quoted, Assigns-plain, SetsKey-parts}
 
 -- P holds for one value of each length at most
@@ -42,8 +41,7 @@ IsShortest-one P v w one h k =
     let high = k.1 v h.0 in
     one v w (omega arith) h.0 k.0
 
-IsPreferred-one : (R : Bool → List ℕ → Type 0) (v w : List ℕ) → ((q : Bool) → IsOnePerLength (R q)) → IsPreferred R (Some v)
-    → IsPreferred R (Some w) → v ≡ w
+IsPreferred-one : (R : Bool → List ℕ → Type 0) (v w : List ℕ) → ((q : Bool) → IsOnePerLength (R q)) → IsPreferred R (Some v) → IsPreferred R (Some w) → v ≡ w
 IsPreferred-one R v w one (inl h) (inl k) = IsShortest-one (R true) v w (one true) h k
 IsPreferred-one R v w one (inl h) (inr k) = absurd (k.0 v h.0)
 IsPreferred-one R v w one (inr h) (inl k) = absurd (h.0 w k.0)
@@ -73,20 +71,14 @@ some_one a b e = cc
 pub IsValue-one : (text : List ℕ) (a b : Option (List ℕ)) → IsValue text a → IsValue text b → a ≡ b
 IsValue-one text None None h k = refl
 IsValue-one text None (Some w) (inl h) k = IsChosen-one text None (Some w) h k.0
-IsValue-one text None (Some w) (inr (v, h, bad)) k =
-    absurd (bad (subst IsUtf8 (some_one w v (IsChosen-one text (Some w) (Some v) k.0 h)) k.1))
+IsValue-one text None (Some w) (inr (v, h, bad)) k = absurd (bad (subst IsUtf8 (some_one w v (IsChosen-one text (Some w) (Some v) k.0 h)) k.1))
 IsValue-one text (Some v) None h (inl k) = IsChosen-one text (Some v) None h.0 k
-IsValue-one text (Some v) None h (inr (w, k, bad)) =
-    absurd (bad (subst IsUtf8 (some_one v w (IsChosen-one text (Some v) (Some w) h.0 k)) h.1))
+IsValue-one text (Some v) None h (inr (w, k, bad)) = absurd (bad (subst IsUtf8 (some_one v w (IsChosen-one text (Some v) (Some w) h.0 k)) h.1))
 IsValue-one text (Some v) (Some w) h k = IsChosen-one text (Some v) (Some w) h.0 k.0
 
 -- the chosen bytes as a text, where they are one
-pub IsValue-from_chosen : {E : Type 0} (text value : List ℕ) (Q : E → Type 0) (r : Result (Bor (List ℕ)) E) (found : Option (Bor (List ℕ)))
-    → IsChosen text (Some value) → MatchResult r (λ s. (s.now ≡ value) × IsUtf8 value) (λ e. ¬ (IsUtf8 value) × Q e) → found ≡ result_ok r
-    → IsValue text (option_copied found)
+pub IsValue-from_chosen : {E : Type 0} (text value : List ℕ) (Q : E → Type 0) (r : Result (Bor (List ℕ)) E) (found : Option (Bor (List ℕ))) → IsChosen text (Some value) → MatchResult r (λ s. (s.now ≡ value) × IsUtf8 value) (λ e. ¬ (IsUtf8 value) × Q e) → found ≡ result_ok r → IsValue text (option_copied found)
 IsValue-from_chosen text value Q (Ok s) found h k e =
-    let there : IsChosen text (Some s.now) × IsUtf8 s.now =
-    (subst (λ (v : List ℕ). IsChosen text (Some v)) (sym k.0) h, subst IsUtf8 (sym k.0) k.1) in
+    let there : IsChosen text (Some s.now) × IsUtf8 s.now = (subst (λ (v : List ℕ). IsChosen text (Some v)) (sym k.0) h, subst IsUtf8 (sym k.0) k.1) in
     subst (λ (o : Option (Bor (List ℕ))). IsValue text (option_copied o)) (sym e) there
-IsValue-from_chosen text value Q (Err x) found h k e =
-    subst (λ (o : Option (Bor (List ℕ))). IsValue text (option_copied o)) (sym e) (inr (value, h, k.0))
+IsValue-from_chosen text value Q (Err x) found h k e = subst (λ (o : Option (Bor (List ℕ))). IsValue text (option_copied o)) (sym e) (inr (value, h, k.0))

@@ -1,3 +1,2 @@
 pub mod Excludes
 pub mod ExcludesSearch
-pub mod ExcludesSteps

@@ -1,8 +1,7 @@
 //! The value of `core.excludesFile` in the bytes of one configuration of git.
 ghost use Rattle.std.specs.Prelude.{◌≡◌, ◌↔◌, ◌≤◌, ◌++◌, ℕ, List, Option, length, drop, IsTrue};
 ghost use Rattle.std.specs.Option.{option_copied};
-ghost use Rattle.ignore_excludes.specs.Excludes.{is_space, IsSolid, EndsLine, HasValue, Assigns, SetsKey, IsShortest, IsPreferred, IsChosen, IsValue, Closes};
-ghost use Rattle.ignore_excludes.specs.ExcludesSteps.{trimmed_start, StartsBlank, IsUnquoted};
+ghost use Rattle.ignore_excludes.specs.Excludes.{is_space, trimmed_start, IsSolid, EndsLine, HasValue, Assigns, SetsKey, IsShortest, IsPreferred, IsChosen, IsValue, StartsBlank, Closes, IsUnquoted};
 
 use memchr::memchr;
 use std::str;

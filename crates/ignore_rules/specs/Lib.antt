@@ -18,4 +18,3 @@ pub use Rattle.ignore_types.specs.TypeCodes
 pub use Rattle.ignore_types.specs.Building
 pub use Rattle.ignore_excludes.specs.Excludes
 pub use Rattle.ignore_excludes.specs.ExcludesSearch
-pub use Rattle.ignore_excludes.specs.ExcludesSteps

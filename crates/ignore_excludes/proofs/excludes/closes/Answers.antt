@@ -1,8 +1,7 @@
 -- White space alone ends the line, or white space around one `"`.
 use Rattle.std.proofs.Common.{◌≡◌, ◌∷◌, length, subst, ◌∙◌, ap, arith, inl, inr}
 use Rattle.std.proofs.lemmas.Bool.{iff_false, eqb-true}
-use Rattle.ignore_excludes.specs.Excludes.{EndsLine}
-use Rattle.ignore_excludes.specs.ExcludesSteps.{trimmed_start}
+use Rattle.ignore_excludes.specs.Excludes.{trimmed_start, EndsLine}
 use Rattle.ignore_excludes.proofs.ExcludesValues.{Closes-cases, Closes-quote}
 use Rattle.ignore_excludes.proofs.excludes.closes.Goals as goal
 

@@ -2,8 +2,7 @@
 use Rattle.std.proofs.Common.{◌≡◌, ◌∷◌, take, drop, length, subst, sym, ◌∙◌, ap, arith}
 use Rattle.std.specs.Option.{option_copied}
 use Rattle.std.proofs.lemmas.Bool.{iff_false}
-use Rattle.ignore_excludes.specs.Excludes.{IsKey}
-use Rattle.ignore_excludes.specs.ExcludesSteps.{trimmed_start}
+use Rattle.ignore_excludes.specs.Excludes.{trimmed_start, IsKey}
 use Rattle.ignore_excludes.proofs.ExcludesKeys.{key_nothing, key_value}
 use Rattle.ignore_excludes.proofs.excludes.value_of_key.Goals as goal
 
@@ -25,8 +24,7 @@ pub returns-then-equals-ne61 : goal.returns-then-equals-ne61
 returns-then-equals-ne61 c =
     let back = ap trimmed_start c.in_ok-key.ensures.cases.2 in
     key_nothing c.args.text.now (λ key rest e. c.if-equals-ne61.true (
-    let whole : c.in_ok-equals.equals.now ∷ c.in_ok-equals.rest.now ≡ 61 ∷ rest = sym c.in_ok-equals.ensures.cases.0
-    ∙ (c.trim.ensures ∙ (back ∙ e)) in
+    let whole : c.in_ok-equals.equals.now ∷ c.in_ok-equals.rest.now ≡ 61 ∷ rest = sym c.in_ok-equals.ensures.cases.0 ∙ (c.trim.ensures ∙ (back ∙ e)) in
     cc
     ))
 
@@ -34,8 +32,6 @@ pub returns : goal.returns
 returns c =
     let back = ap trimmed_start c.in_ok-key.ensures.cases.2 in
     let rest = c.in_ok-equals.rest.now in
-    let key : IsKey (take 12 c.args.text.now) = subst IsKey c.in_ok-key.ensures.cases.1
-    (c.eq_ignore_ascii_case.ensures.test.0 c.if-not-eq_ignore_ascii_case.false) in
-    let first : trimmed_start (drop 12 c.args.text.now) ≡ 61 ∷ rest = sym back
-    ∙ (sym c.trim.ensures ∙ (c.in_ok-equals.ensures.cases.0 ∙ ap (λ b. b ∷ rest) c.if-equals-ne61.false)) in
+    let key : IsKey (take 12 c.args.text.now) = subst IsKey c.in_ok-key.ensures.cases.1 (c.eq_ignore_ascii_case.ensures.test.0 c.if-not-eq_ignore_ascii_case.false) in
+    let first : trimmed_start (drop 12 c.args.text.now) ≡ 61 ∷ rest = sym back ∙ (sym c.trim.ensures ∙ (c.in_ok-equals.ensures.cases.0 ∙ ap (λ b. b ∷ rest) c.if-equals-ne61.false)) in
     key_value c.args.text.now rest (option_copied c.assigned_value.result) key first c.assigned_value.ensures
