@@ -20,3 +20,4 @@ pub mod Codes
 pub mod Reading
 pub mod Paths
 pub mod RootSteps
+pub mod Forms
