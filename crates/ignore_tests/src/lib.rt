@@ -1,5 +1,5 @@
-//! Tests that need code: the example of the README, the machine's files beside a tree in memory, and
-//! very long globs and files.
+//! Tests that need code: the example of the README, the machine's files beside a tree in memory,
+//! and very long globs and files.
 #![tactic(auto)]
 
 #[cfg(test)]
