@@ -1,6 +1,6 @@
 //! Globs of a million characters: they are read, or refused, with an ordinary stack.
 use ignore_glob::glob::{GlobFault, Options, Pattern, PatternError};
-use std::alloc::{AllocError, Global};
+use std::alloc::Global;
 use std::test::Fail;
 
 const DEFAULT: Options = Options {
