@@ -1,6 +1,6 @@
 -- Adding a file of rules to a builder: its bytes are split into lines, and each line is added in
 -- turn.
-use Rattle.std.specs.Prelude.{◌≡◌, ℕ, ◌+◌, ◌==◌, Bool, true, false, nat_eq, List, [], ◌∷◌, ◌++◌, map, Option, None, Some, Result, Ok, Err, if◌then◌else◌}
+use Rattle.std.specs.Prelude.{◌≡◌, ◌↔◌, ℕ, ◌+◌, ◌==◌, Bool, true, false, nat_eq, List, [], ◌∷◌, ◌++◌, map, Option, None, Some, Result, Ok, Err, if◌then◌else◌}
 use Rattle.std.specs.List.{slice_split, starts_with}
 use Rattle.std.specs.Str.{is_utf8}
 use Rattle.std.specs.Str.Lines.{lines, strip_carriage_return}
@@ -12,7 +12,7 @@ use Rattle.ignore_files.specs.declared.types.Refusal.{Refusal}
 use Rattle.ignore_files.specs.declared.types.Refusal.TheVariants.{Memory}
 use Rattle.ignore_files.specs.declared.types.Refusal.TheVariants.{Fault as Refused}
 use Rattle.ignore_files.specs.Tree.{Tree}
-use Rattle.ignore_rules.specs.Rules.{Building, AddsLine, Refuses}
+use Rattle.ignore_rules.specs.Rules.{Building, LineOptions, Rule, AddsLine, Refuses}
 
 -- U+FEFF in UTF-8
 abbrev pub mark : List ℕ
@@ -39,6 +39,7 @@ ended_of_segments [] = []
 ended_of_segments (last ∷ []) = []
 ended_of_segments (line ∷ (next ∷ more)) = strip_carriage_return line ∷ ended_of_segments (next ∷ more)
 
+-- the lines of these bytes that end with a newline
 abbrev pub ended_lines : List ℕ → List (List ℕ)
 ended_lines bytes = ended_of_segments (slice_split (λ b. b == 10) bytes)
 
@@ -53,6 +54,7 @@ abbrev pub in_file : List ℕ → Problem → Problem
 in_file [] problem = problem
 in_file (c ∷ path) problem = at_path (c ∷ path) problem
 
+-- a problem at a line of a file
 abbrev pub at_line_of : List ℕ → ℕ → Problem → Problem
 at_line_of path number problem = in_file path (at_line number problem)
 
@@ -61,11 +63,15 @@ at_line_of path number problem = in_file path (at_line number problem)
 -- fault
 pub data AddsLines (path : List ℕ) : ℕ → List (Result (List ℕ) Fault) → Building → Building → List Problem → Type 0 where
   done : (number : ℕ) (old : Building) → AddsLines path number [] old old []
-  stopped : (number : ℕ) (fault : Fault) (more : List (Result (List ℕ) Fault)) (old : Building) → AddsLines path number (Err fault ∷ more) old old (at_line_of path number (io fault) ∷ [])
+  stopped : (number : ℕ) (fault : Fault) (more : List (Result (List ℕ) Fault)) (old : Building)
+      → AddsLines path number (Err fault ∷ more) old old (at_line_of path number (io fault) ∷ [])
   added : (number : ℕ) (line : List ℕ) (more : List (Result (List ℕ) Fault)) (old between new : Building) (problems : List Problem)
-      → AddsLine old (Some path) (line_content number line) between → AddsLines path (number + 1) more between new problems → AddsLines path number (Ok line ∷ more) old new problems
-  refused : (number : ℕ) (line : List ℕ) (more : List (Result (List ℕ) Fault)) (old new : Building) (problem : Problem) (problems : List Problem)
-      → Refuses old.options (line_content number line) problem → AddsLines path (number + 1) more old new problems → AddsLines path number (Ok line ∷ more) old new (at_line_of path number problem ∷ problems)
+      → AddsLine old (Some path) (line_content number line) between → AddsLines path (number + 1) more between new problems
+      → AddsLines path number (Ok line ∷ more) old new problems
+  refused : (number : ℕ) (line : List ℕ) (more : List (Result (List ℕ) Fault)) (old new : Building) (problem : Problem)
+      (problems : List Problem)
+      → Refuses old.options (line_content number line) problem → AddsLines path (number + 1) more old new problems
+      → AddsLines path number (Ok line ∷ more) old new (at_line_of path number problem ∷ problems)
 
 -- adding the contents of a file leads from the old builder to the new one, with this problem, if
 -- any: the problems of all lines as one, or that the file can't be opened
@@ -83,6 +89,22 @@ abbrev pub AddsAnswer : List ℕ → Result Contents Refusal → Building → Bu
 AddsAnswer path (Ok contents) old new problem = AddsContents path (Ok contents) old new problem
 AddsAnswer path (Err (Refused fault)) old new problem = AddsContents path (Err fault) old new problem
 AddsAnswer path (Err Memory) old new problem = ⊥
+
+-- the builder with these rules after its own
+abbrev pub with_rules : Building → List Rule → Building
+with_rules b rules = record { root = b.root; rules = b.rules ++ rules; options = b.options }
+
+-- what was read at a path gives these rules and this problem: to add it to any builder with these
+-- options appends them and reports it, and does nothing else
+abbrev pub Gives : List ℕ → Result Contents Fault → LineOptions → List Rule → Option Problem → Type 0
+Gives path read options rules problem =
+    (old new : Building) (reported : Option Problem) → old.options ≡ options
+    → AddsContents path read old new reported ↔ ((new ≡ with_rules old rules) × (reported ≡ problem))
+
+-- whatever was read, and by whatever options, it gives one list of rules and one problem, if any
+abbrev pub GivesOneResult : Type 0
+GivesOneResult =
+    (path : List ℕ) (read : Result Contents Fault) (options : LineOptions) → (rules : List Rule) × (problem : Option Problem) × Gives path read options rules problem
 
 -- the problem is out of memory
 abbrev pub is_memory : Problem → Bool
