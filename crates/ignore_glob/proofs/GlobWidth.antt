@@ -1,5 +1,5 @@
 -- A glob has at most as many positions as characters.
-use Rattle.std.proofs.Common.{◌≡◌, ◌⊎◌, inl, inr, ◌+◌, ◌*◌, ◌≤◌, ◌<◌, ℕ, zero, suc, List, [], ◌∷◌, ◌++◌, length, replicate, Ok, Err, Result, refl, sym, ap, subst, arith, length-append}
+use Rattle.std.proofs.Common.{◌≡◌, inl, inr, ◌+◌, ◌*◌, ◌≤◌, ℕ, zero, suc, List, [], ◌∷◌, length, replicate, Ok, Err, Result, refl, ap, arith, length-append}
 use Rattle.std.proofs.lemmas.List.{length-replicate}
 use Rattle.ignore_glob.specs.declared.glob.options.Options.{Options}
 use Rattle.ignore_glob.specs.declared.glob.fault.GlobFault.{GlobFault}
@@ -7,8 +7,8 @@ use Rattle.ignore_glob.specs.Glob as G
 use Rattle.ignore_glob.specs.Glob.{Token, Tokens, done, then, Branches, no_branch, branch}
 use Rattle.ignore_glob.specs.Lexing as P
 use Rattle.ignore_glob.specs.Lexing.{Lexeme, char, escaped, any, run, class, opening, comma, closing, Step, Begins, put_first, Bracket, Lexed}
-use Rattle.ignore_glob.specs.Row.{IsSlash, Ends, of_glob, at_comma, at_closing, chain, Left, Meaning, gives, braces, ended, Means, character, escape, question, bracket, stars, slash, middle, end, start, start_to_end, alone, opens, ends, times, add_branch, Row, nothing, further, nested, Inner, last_branch, further_branch, Reads}
-use Rattle.ignore_glob.specs.Nodes.{token_width, width, branches_width}
+use Rattle.ignore_glob.specs.Row.{IsSlash, chain, Left, Meaning, gives, braces, ended, Means, character, escape, question, bracket, stars, slash, middle, end, start, start_to_end, alone, opens, ends, times, add_branch, Row, nothing, further, nested, Inner, last_branch, further_branch, Reads}
+use Rattle.ignore_glob.specs.Nodes.{width, branches_width}
 use Rattle.ignore_glob.specs.Positions.{positions}
 use Rattle.ignore_glob.proofs.BracketLemmas.{IsRest-shorter, Bracket-rest}
 use Rattle.ignore_glob.proofs.Numbering.{positions_width}

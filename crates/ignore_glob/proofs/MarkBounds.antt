@@ -1,5 +1,5 @@
 -- Matching is a mark at the end, and how many marks there are at least and at most.
-use Rattle.std.proofs.Common.{◌≡◌, ◌≢◌, ◌<◌, ◌≤◌, ◌+◌, ◌*◌, ◌⊎◌, ◌↔◌, inl, inr, ℕ, zero, suc, Bool, List, [], ◌∷◌, ◌++◌, length, map, arith, slice_get, Some, refl, sym, ◌∙◌, ap, subst, length-append}
+use Rattle.std.proofs.Common.{◌≡◌, ◌≤◌, ◌+◌, ◌*◌, ◌↔◌, inl, inr, ℕ, zero, suc, Bool, List, [], ◌∷◌, ◌++◌, length, map, arith, refl, sym, ap, subst, length-append}
 use Rattle.std.specs.Prelude.{Contains}
 use Rattle.std.proofs.lemmas.List.{length-map}
 use Rattle.std.proofs.lemmas.List.Elements.{Contains-append_left, Contains-append_right}
@@ -59,8 +59,8 @@ module _ (fold : Bool) (ts : Tokens) (text : List ℕ) where
   pub counts_within : (n : ℕ) → CountsMarks fold ts text n → n ≤ (positions ts + 1) * (length text + 1)
   counts_within n c =
       let l = no_longer c.marks (grid (all ts) (length text)) c.once (λ x has.
-        let m = (c.each x.0 x.1).0 has in
-        grid_has (all ts) (length text) x.1 x.0 (marked_known x.0 x.1 m) (marked_within fold ts text x.0 x.1 m)) in
+      let m = (c.each x.0 x.1).0 has in
+      grid_has (all ts) (length text) x.1 x.0 (marked_known x.0 x.1 m) (marked_within fold ts text x.0 x.1 m)) in
       let g = grid_length (all ts) (length text) in
       let a = all_length ts in
       let same : length (all ts) * (length text + 1) ≡ (positions ts + 1) * (length text + 1) = ap (λ (k : ℕ). k * (length text + 1)) a in
