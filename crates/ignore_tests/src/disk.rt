@@ -46,16 +46,24 @@ fn make(rt: &HostRuntime, thing: &str) -> io::Result<()> {
     }
 }
 
-/// Makes a folder of this process alone, and works in it from now on. The folder's path. (Each test
-/// is a process.)
+/// The path of a folder of this process alone. (Each test is a process.)
+fn own_folder(rt: &HostRuntime) -> io::Result<String> {
+    let temp = env::temp_dir(rt)?;
+    let id = process::id(rt.process());
+    let folder = format!(in rt.alloc(); "{}/ignore_tests-{id}", temp.as_str())?;
+    Ok(folder)
+}
+
+/// Makes a folder, and works in it from now on.
+fn work_in(rt: &HostRuntime, folder: &str) -> io::Result<()> {
+    fs::create_dir(rt, folder)?;
+    env::set_current_dir(rt, folder)
+}
+
+/// Makes a folder of this process alone, and works in it from now on. The folder's path.
 fn enter(rt: &HostRuntime) -> io::Result<String> {
-    let folder = format!(in rt.alloc();
-        "{}/ignore_tests-{}",
-        env::temp_dir(rt)?.as_str(),
-        process::id(rt.process())
-    )?;
-    fs::create_dir(rt, folder.as_str())?;
-    env::set_current_dir(rt, folder.as_str())?;
+    let folder = own_folder(rt)?;
+    work_in(rt, folder.as_str())?;
     Ok(folder)
 }
 

@@ -3,11 +3,15 @@
 #![tactic(auto)]
 
 #[cfg(test)]
+mod brackets;
+#[cfg(test)]
 mod deep;
 #[cfg(test)]
 mod disk;
 #[cfg(test)]
 mod example;
+#[cfg(test)]
+mod faults;
 #[cfg(test)]
 mod large;
 #[cfg(test)]
