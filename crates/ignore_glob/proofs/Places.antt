@@ -194,7 +194,7 @@ mutual
     branches_once bs 0 p n,
   )
 
-  tokens_once : (ts : Tokens) (p : Place) (n : Position) → HasNoDuplicates (own (table ts p n))
+  pub tokens_once : (ts : Tokens) (p : Place) (n : Position) → HasNoDuplicates (own (table ts p n))
   tokens_once done p n = tt
   tokens_once (then t ts) p n =
       rw map-append (append_once (own (token_table t p _)) (own (table ts (after p) n)) (token_once t p _) (tokens_once ts (after p) n)
