@@ -8,3 +8,4 @@ pub mod Resolve
 pub mod Answers
 pub mod Changes
 pub mod Disk
+pub mod Variables

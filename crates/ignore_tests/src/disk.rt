@@ -1,5 +1,4 @@
 //! The machine's files beside a tree in memory with the same things.
-use crate::things::add;
 use ignore_files::{
     DiskFiles, Fault, FileType, Files, Identity, Listing, MemoryTree, Metadata, Refusal, TreeError,
 };
@@ -19,6 +18,19 @@ fn tree_at(alloc: Global, cwd: &str) -> Result<MemoryTree, TreeError> {
         tree.add_dir(&path)?;
     }
     Ok(tree)
+}
+
+/// Adds a thing: `PATH/` is a directory, `PATH>TARGET` a link and `PATH=TEXT` a file.
+fn add(tree: &mut MemoryTree, thing: &str) -> Result<(), TreeError> {
+    if let Some(path) = thing.strip_suffix('/') {
+        tree.add_dir(path)
+    } else if let Some((path, target)) = thing.split_once('>') {
+        tree.add_link(path, target)
+    } else if let Some((path, text)) = thing.split_once('=') {
+        tree.add_file(path, text.as_bytes())
+    } else {
+        Ok(())
+    }
 }
 
 /// Makes on the machine what `add` adds to a tree in memory.

@@ -1,19 +1,7 @@
-//! Tests of the crates below: worked examples, public calls with ample memory, and calls over files that fail or refuse memory.
+//! Tests that need code: the example of the README, the machine's files beside a tree in memory, and
+//! very long globs and files.
 #![tactic(auto)]
 
-/// The answer of a call. A call that is refused memory is made again, once.
-#[cfg(test)]
-macro_rules! again {
-    ($call:expr) => {
-        match $call {
-            Ok(answer) => answer,
-            Err(_) => $call?,
-        }
-    };
-}
-
-#[cfg(test)]
-mod copies;
 #[cfg(test)]
 mod deep;
 #[cfg(test)]
@@ -26,7 +14,3 @@ mod large;
 mod long_globs;
 #[cfg(test)]
 mod queries;
-#[cfg(test)]
-mod refusing;
-#[cfg(test)]
-mod things;

@@ -2,6 +2,7 @@
 
 use crate::again::but_for_memory;
 use crate::answer::Answer;
+use crate::clones;
 use crate::splits::needs_too_many;
 use ignore_glob::glob::{GlobFault, Options, Pattern, PatternError};
 use serde_json::Value;
@@ -17,7 +18,7 @@ pub fn answer(alloc: Global, input: &Value) -> Result<Outcome, Trouble> {
         Err(PatternError::Fault(fault)) => reported_fault(alloc, fault),
         Err(PatternError::Memory) => Err(Trouble::Memory),
         Ok(_) if needs_too_many(glob, asked) => Ok(Outcome::Skipped(Reason::TooManySplits)),
-        Ok(pattern) => reported_taken(alloc, &pattern, asked),
+        Ok(pattern) => reported_taken(alloc, &clones::asked(input, pattern)?, asked),
     }
 }
 

@@ -2,6 +2,7 @@
 
 use crate::again::{but_for_memory, problem};
 use crate::answer::{Answer, Items};
+use crate::clones;
 use crate::rules::refusal;
 use crate::splits::needs_too_many;
 use ignore_glob::{Error, Match};
@@ -21,17 +22,18 @@ pub fn answer(alloc: Global, input: &Value) -> Result<Outcome, Trouble> {
     if collected.needs_too_many {
         return Ok(Outcome::Skipped(Reason::TooManySplits));
     }
-    asked(alloc, path, is_dir, collected)
+    asked(alloc, input, path, is_dir, collected)
 }
 
 fn asked(
     alloc: Global,
+    input: &Value,
     path: &str,
     is_dir: bool,
     collected: Collected,
 ) -> Result<Outcome, Trouble> {
-    let globs = build(&collected.builder)?;
-    let kind = kind(&globs, path, is_dir)?;
+    let globs = globs_of(input, collected.builder)?;
+    let kind = kind(input, &globs, path, is_dir)?;
     let mut answer = Answer::new(alloc);
     answer.put_text("kind", kind);
     answer.put("refused", collected.refused.value());
@@ -145,19 +147,28 @@ fn build(builder: &OverrideBuilder) -> Result<Override, Trouble> {
     }
 }
 
-/// What globs say of a path, asked twice where memory is refused.
-fn kind(globs: &Override, path: &str, is_dir: bool) -> Result<&'static str, Trouble> {
-    match kind_once(globs, path, is_dir) {
-        Err(_) => kind_once(globs, path, is_dir),
-        kind => kind,
-    }
+/// The globs that are asked.
+fn globs_of(input: &Value, builder: OverrideBuilder) -> Result<Override, Trouble> {
+    let builder = clones::asked(input, builder)?;
+    built(input, &builder)
 }
 
-fn kind_once(globs: &Override, path: &str, is_dir: bool) -> Result<&'static str, Trouble> {
-    match globs.matched(path, is_dir) {
-        Ok(Match::None) => Ok("none"),
-        Ok(Match::Ignore(_)) => Ok("ignore"),
-        Ok(Match::Whitelist(_)) => Ok("whitelist"),
-        Err(_) => Err(Trouble::Memory),
+fn built(input: &Value, builder: &OverrideBuilder) -> Result<Override, Trouble> {
+    let globs = build(builder)?;
+    clones::asked(input, globs)
+}
+
+/// What globs say of a path.
+fn kind(
+    input: &Value,
+    globs: &Override,
+    path: &str,
+    is_dir: bool,
+) -> Result<&'static str, Trouble> {
+    let said = but_for_memory(globs.matched(path, is_dir))?;
+    match clones::asked(input, said)? {
+        Match::None => Ok("none"),
+        Match::Ignore(_) => Ok("ignore"),
+        Match::Whitelist(_) => Ok("whitelist"),
     }
 }

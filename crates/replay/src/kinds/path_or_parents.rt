@@ -1,8 +1,7 @@
 //! What the lines of gitignore files say of a path or of the nearest of its parents.
 
-use crate::again::build;
 use crate::answer::Answer;
-use crate::rules::{after_operations, match_value, reason_against};
+use crate::rules::{after_operations, match_value, matcher_of, reason_against};
 use ignore_glob::Match;
 use ignore_rules::gitignore::{Gitignore, Glob};
 use serde_json::Value;
@@ -14,7 +13,7 @@ pub fn answer(alloc: Global, input: &Value) -> Result<Outcome, Trouble> {
     let path = text(input, "path")?;
     let is_dir = flag(input, "is_dir")?;
     let built = after_operations(alloc, input)?;
-    let matcher = build(&built.builder)?;
+    let matcher = matcher_of(input, built.builder)?;
     match reason_against(&matcher, path) {
         Some(reason) => Ok(Outcome::Skipped(reason)),
         None => asked(alloc, path, is_dir, &matcher),

@@ -2,6 +2,7 @@
 
 use crate::again::{but_for_memory, problem};
 use crate::answer::{Answer, Items};
+use crate::clones::asked;
 use crate::error::reported;
 use crate::rules::refusal;
 use ignore_glob::{Error, Match};
@@ -20,7 +21,7 @@ const ASKS: &str = "asks";
 pub fn answer(alloc: Global, input: &Value) -> Result<Outcome, Trouble> {
     let mut builder = TypesBuilder::new(alloc);
     let refused = refusals(alloc, &mut builder, input)?;
-    let definitions = definitions(&builder)?;
+    let definitions = asked(input, definitions(&builder)?)?;
     let built = build(&builder)?;
     reported_built(alloc, input, refused, &definitions, built)
 }
@@ -36,7 +37,9 @@ fn reported_built(
     answer.put("refused", refused.value());
     answer.put("definitions", definitions_value(alloc, definitions));
     match built {
-        Built::Types(types) => reported_types(alloc, input, answer, definitions, &types),
+        Built::Types(types) => {
+            reported_types(alloc, input, answer, definitions, &asked(input, types)?)
+        }
         Built::Refused(error) => reported_refused(alloc, answer, error),
     }
 }
@@ -210,23 +213,17 @@ fn globs_value(alloc: Global, globs: &[String]) -> Result<Value, AllocError> {
 fn answers(alloc: Global, input: &Value, types: &Types) -> Result<Items, Trouble> {
     let mut answers = Items::new(alloc);
     for ask in list(input, ASKS)? {
-        answers.put_value(answered(alloc, ask, types)?);
+        let answer = answered(alloc, input, types, ask)?;
+        answers.put_value(answer);
     }
     Ok(answers)
 }
 
 /// What the types say of a path.
-fn answered(alloc: Global, ask: &Value, types: &Types) -> Result<Value, Trouble> {
-    let said = matched(types, text_at(ask, 0, ASKS)?, flag_at(ask, 1, ASKS)?)?;
-    but_for_memory(match_value(alloc, said))
-}
-
-/// What types say of a path, asked twice where memory is refused.
-fn matched<'t>(types: &'t Types, path: &str, is_dir: bool) -> Result<Match<Glob<'t>>, Trouble> {
-    match types.matched(path, is_dir) {
-        Ok(said) => Ok(said),
-        Err(_error) => but_for_memory(types.matched(path, is_dir)),
-    }
+fn answered(alloc: Global, input: &Value, types: &Types, ask: &Value) -> Result<Value, Trouble> {
+    let said = but_for_memory(types.matched(text_at(ask, 0, ASKS)?, flag_at(ask, 1, ASKS)?))?;
+    let said = asked(input, said)?;
+    Ok(match_value(alloc, said)?)
 }
 
 /// The kind of a match, and the type that decided or `null`.
