@@ -2,7 +2,7 @@
 use Rattle.std.proofs.Common.{◌≡◌, ◌≢◌, ℕ, zero, suc, ◌+◌, ◌<◌, ◌≤◌, Bool, true, false, not, ◌||◌, eqb, List, [], ◌∷◌, ◌++◌, length, take, drop, map, reverse, get_or, refl, sym, ap, ◌∙◌, subst, cond, arith}
 use Rattle.std.specs.Prelude.{Result, Ok, Err, IfOk}
 use Rattle.std.proofs.lemmas.Bool.{false≢true, false_from_ne_true, eqb-true, eq-eqb}
-use Rattle.std.proofs.lemmas.List.{map-append, length-take, length-take-le, length-drop, get_or-drop, drop_more, get_or-append-add, length-append, reverse-append}
+use Rattle.std.proofs.lemmas.List.{map-append, length-take-le, length-drop, get_or-drop, drop_more, get_or-append-add, length-append, reverse-append}
 use Rattle.std.proofs.lemmas.Str.{encodes-chars, chars-nil, chars-append, chars_past_char, IsUtf8-take, IsUtf8-drop, IsCharBoundary-before_ascii, IsCharBoundary-after_ascii}
 use Rattle.std.specs.Str.{IsUtf8, chars}
 use lib.Utf8.{encode, encodes}
@@ -13,7 +13,6 @@ use Rattle.ignore_glob.specs.Match.{is_none, match_or, match_map}
 use Rattle.ignore_rules.specs.Rules.{Rule, Ruleset}
 use Rattle.ignore_glob.specs.Paths.{is_absolute, strip_of}
 use Rattle.ignore_rules.specs.Parents.{slash_prefixes, slash_prefixes_from, parents, directories_answer, nearest_answer, is_under_root}
-use Rattle.ignore_rules.specs.Answer.{list_answer}
 
 -- without a slash there is no such prefix
 slash_prefixes_none : (path : List ℕ) → ((k : ℕ) → k < length path → get_or path k 0 ≡ 47 → ⊥) → slash_prefixes path ≡ []

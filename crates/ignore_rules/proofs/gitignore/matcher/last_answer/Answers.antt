@@ -10,4 +10,4 @@ returns-then-applies c =
     let i = c.loop-i.i - 1 in
     let next : c.loop-i.i ≡ i + 1 = omega arith in
     let none = subst (λ n. list_answer (drop n c.args.globs.now) (chars c.args.text.now) c.args.is_dir ≡ None) next c.loop-i.invariant in
-    record { out_of_memory = tt; answered = c.decision.ensures ∙ sym (decided c.args.globs.now (chars c.args.text.now) c.args.is_dir i _ (omega arith) c.index-globs-i.is none (sym c.in-Ok.ensures.value ∙ c.if-applies.true)); }
+    record { out_of_memory = tt; answered = c.decision.ensures ∙ sym (decided c.args.globs.now (chars c.args.text.now) c.args.is_dir i _ (omega arith) c.index-globs-i.is none (sym c.in-Ok.ensures.value ∙ c.if-applies.true)) }

@@ -12,4 +12,4 @@ returns-then-is_none-clause-answered c =
 pub returns-else-is_none : goal.returns-else-is_none
 returns-else-is_none c =
     let found : is_none c.in-Ok.answer ≡ false = search rules in
-    record { out_of_memory = tt; answered = decides (λ g. g.now) c.in-Ok.answer _ _ _ c.in-Ok.ensures.answered found refl; }
+    record { out_of_memory = tt; answered = decides (λ g. g.now) c.in-Ok.answer _ _ _ c.in-Ok.ensures.answered found refl }
