@@ -18,3 +18,4 @@ pub mod Codes
 pub mod Reading
 pub mod Paths
 pub mod Roots
+pub mod Forms

@@ -2,6 +2,7 @@
 ghost use Rattle.std.specs.Prelude.{◌≡◌, ◌-◌, ◌^◌, ◌↔◌, ℕ, IsTrue, IfOk, IfErr, length, min};
 ghost use Rattle.std.specs.Coded.{Coded-set, coded_list};
 ghost use Rattle.std.specs.Str.{chars};
+ghost use Rattle.ignore_glob.specs.Forms.{key_form, form_of};
 ghost use Rattle.ignore_glob.specs.Positions.{CountsMarks, positions};
 ghost use Rattle.ignore_glob.specs.NodeLists.{glob_nodes, node_code, nodes_view};
 ghost use Rattle.ignore_glob.specs.GlobFaults.{IfFault};
@@ -13,6 +14,7 @@ ghost use Rattle.ignore_glob.specs.View.{tokens_view};
 use crate::error::Error;
 use crate::glob::copies::copied;
 use crate::glob::fault::PatternError;
+use crate::glob::key::{Key, key_of};
 use crate::glob::marks;
 use crate::glob::node::Node;
 use crate::glob::nodes::nodes_of;
@@ -120,6 +122,17 @@ impl Pattern {
         ensures { result ≡ positions self.now.tokens }
     {
         self.nodes.len()
+    }
+
+    /// For dependents: the text by which the pattern can be looked up, if it has a form for that.
+    pub fn key(&self) -> Result<Key, AllocError>
+        ensures { IfOk result (λ key. key_form key ≡ form_of self.now) }
+    {
+        if self.case_insensitive {
+            Ok(Key::Other)
+        } else {
+            key_of(*self.tokens.allocator(), &self.tokens)
+        }
     }
 }
 
