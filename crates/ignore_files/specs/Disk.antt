@@ -79,4 +79,5 @@ AreReported (one ∷ more) (item ∷ items) = IsReported one item × AreReported
 
 -- the listing reports all items of the machine's listing, from the first to the last
 abbrev pub IsListingOf : {S R A F D : Type 0} → (S → Option (Result (DirEntry R A F D) Error) → S → Type 0) → S → List Listed → Type 0
-IsListingOf {S} {R} {A} {F} {D} steps s listing = (all : List (Result (DirEntry R A F D) Error)) × Drains steps s all × AreReported all listing
+IsListingOf {S} {R} {A} {F} {D} steps s listing =
+    (all : List (Result (DirEntry R A F D) Error)) × Drains steps s all × AreReported all listing

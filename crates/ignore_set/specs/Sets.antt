@@ -1,7 +1,8 @@
 -- What a set of patterns answers: the last that matches a text and allows its kind.
 use Rattle.std.specs.Prelude.{◌≡◌, ◌⊎◌, ℕ, ◌+◌, Bool, true, false, List, drop, slice_get, map, All, sum_by, Option, None, Some, refl}
 use Rattle.std.specs.Coded.{Coded, code_by, coded×, coded_bool}
-use Rattle.ignore_glob.specs.Reading.{Reading, Matches, reading_code}
+use Rattle.ignore_glob.specs.Codes.{reading_code}
+use Rattle.ignore_glob.specs.Reading.{Reading, Matches}
 use Rattle.ignore_glob.specs.Forms.{Form, whole, name, ending, other, form_of}
 
 -- a pattern of a set, and whether it is for directories only

@@ -46,7 +46,8 @@ fn make(rt: &HostRuntime, thing: &str) -> io::Result<()> {
     }
 }
 
-/// Makes a folder of this process alone, and works in it from now on. The folder's path. (Each test is a process.)
+/// Makes a folder of this process alone, and works in it from now on. The folder's path. (Each test
+/// is a process.)
 fn enter(rt: &HostRuntime) -> io::Result<String> {
     let folder = format!(in rt.alloc();
         "{}/ignore_tests-{}",
@@ -64,7 +65,8 @@ fn leave(rt: &HostRuntime, folder: &str) -> io::Result<()> {
     fs::remove_dir_all(rt, folder)
 }
 
-/// Makes things, parted by bars, in the working directory of the machine, and gives a tree with the same.
+/// Makes things, separated by bars, in the working directory of the machine, and returns a tree
+/// with the same things.
 fn made(rt: &HostRuntime, things: &str) -> Result<MemoryTree, Fail> {
     let cwd = env::current_dir(rt)?;
     let mut tree = tree_at(rt.alloc(), cwd.as_str())?;
@@ -96,7 +98,8 @@ fn sorted(alloc: Global, answer: Result<Listing, Refusal>) -> Result<Vec<String>
     Ok(lines)
 }
 
-/// What the five calls answer for a path, but for the order of a listing and the size of a directory. Of the identity it tells whether a link has that of what it leads to.
+/// The answers of the five calls for a path, except the order of a listing and the size of a
+/// directory. For the identity it says whether a link has that of what it leads to.
 fn reported<F: Files>(alloc: Global, files: &F, path: &str) -> Result<String, AllocError> {
     let followed = files.stat(alloc, path, true).map(without_size);
     let own = files.stat(alloc, path, false).map(without_size);
@@ -107,7 +110,8 @@ fn reported<F: Files>(alloc: Global, files: &F, path: &str) -> Result<String, Al
     format!(in alloc; "{followed:?} {own:?} {listing:?} {contents:?} {canonical:?} {is_one}")
 }
 
-/// Asks the machine and a tree, with the same things in them, about the paths of a text, which bars part, and tells what they answer differently.
+/// Queries the machine and a tree, with the same things in them, for the paths of a text, separated
+/// by bars, and returns where their answers differ.
 fn differences(rt: &HostRuntime, things: &str, paths: &str) -> Result<String, Fail> {
     let folder = enter(rt)?;
     let tree = made(rt, things)?;
@@ -171,7 +175,7 @@ fn a_large_file_is_read_whole(rt: HostRuntime) -> Result<(), Fail> {
     Ok(())
 }
 
-/// What the machine tells of a thing by its numbers, links followed or not.
+/// The identity of a thing on the machine, links followed or not.
 fn identity(rt: &HostRuntime, path: &str, follow: bool) -> Result<Option<Identity>, Refusal> {
     DiskFiles::new(rt).identity(rt.alloc(), path, follow)
 }
@@ -202,7 +206,8 @@ fn is_roots(rt: &HostRuntime, path: &str) -> io::Result<bool> {
 const DENIED: &str =
     "Err(Fault(PermissionDenied)) Err(Fault(PermissionDenied)) Err(Fault(PermissionDenied)) Err(Fault(PermissionDenied)) Err(Fault(PermissionDenied)) true";
 
-/// What the machine lists of the folder `dir`, and answers for the file in it, while nobody may use the folder.
+/// What the machine lists of the folder `dir`, and answers for the file in it, while nobody may use
+/// the folder.
 fn shut(rt: &HostRuntime) -> Result<(Result<Vec<String>, Refusal>, String), Fail> {
     let disk = DiskFiles::new(rt);
     permit(rt, "dir", 0)?;

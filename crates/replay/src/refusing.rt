@@ -46,7 +46,8 @@ impl<'t> Refusing<'t> {
         if turn == 1 { Err(self.refusal) } else { Ok(()) }
     }
 
-    /// What is reported of a call that ran out of memory: its error, where the tree refused it memory.
+    /// What is reported of a call that ran out of memory: its error, where the tree refused it
+    /// memory.
     pub fn reported(&self, alloc: Global, error: &Error) -> Result<Value, Trouble> {
         if self.refused_memory() {
             Ok(reported(alloc, error)?)

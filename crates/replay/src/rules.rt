@@ -39,14 +39,15 @@ fn add_text(builder: &mut GitignoreBuilder, line: &Value) -> Result<(), Trouble>
     }
 }
 
-/// A builder after a vector's operations, and what it refused: the number of the operation and the text of the error.
+/// A builder after a vector's operations, and what it refused: the number of the operation and the
+/// text of the error.
 #[derive(Drop)]
 pub struct Built {
     pub builder: GitignoreBuilder,
     pub refused: Items,
 }
 
-/// Why a matcher isn't asked about a path, if so.
+/// Why a path isn't matched, if so.
 pub fn reason_against(matcher: &Gitignore, path: &str) -> Option<Reason> {
     for rule in matcher.rules() {
         if needs_too_many(rule.actual(), path) {
@@ -150,7 +151,8 @@ fn rule_value(alloc: Global, rule: &Glob) -> Result<Value, AllocError> {
     parts.value()
 }
 
-/// What a matcher answered: the kind of the match, and the texts and the place of the rule that decided.
+/// What a matcher answered: the kind of the match, and the texts and the place of the rule that
+/// decided.
 pub fn match_value(
     alloc: Global,
     matcher: &Gitignore,

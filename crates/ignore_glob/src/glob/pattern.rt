@@ -37,7 +37,8 @@ pub struct Pattern {
 }
 
 impl Model for Pattern {
-    ghost use Rattle.ignore_glob.specs.Reading.{Reading, reading_code};
+    ghost use Rattle.ignore_glob.specs.Reading.{Reading};
+    ghost use Rattle.ignore_glob.specs.Codes.{reading_code};
 
     ghost Value = { Reading };
 
@@ -107,7 +108,8 @@ impl Pattern {
     pub fn matches_counted(&self, text: &str) -> Result<(bool, u64), Error>
         ensures out_of_memory { IfErr result (λ e. problem_of e ≡ memory) }
         ensures value { IfOk result (λ found. IsTrue found.0 ↔ Matches self.now (chars text.now)) }
-        ensures counted { IfOk result (λ found. (n : ℕ) × CountsMarks self.now.case_insensitive self.now.tokens (chars text.now) n × (found.1 ≡ min n (2 ^ 64 - 1))) }
+        ensures counted { IfOk result (λ found. (n : ℕ) × CountsMarks self.now.case_insensitive self.now.tokens (chars text.now) n
+            × (found.1 ≡ min n (2 ^ 64 - 1))) }
     {
         let alloc = *self.nodes.allocator();
         match marks::matches_counted(alloc, self.case_insensitive, &self.nodes, text) {

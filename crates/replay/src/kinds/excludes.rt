@@ -43,7 +43,8 @@ fn tree_with(alloc: Global, bytes: &[u8]) -> Result<MemoryTree, Trouble> {
     Ok(tree)
 }
 
-/// The path that the configuration names. Without `home` there is nothing else that could be named, so this tells whether it names any.
+/// The path that the configuration names. Without `home` there is nothing else that could be named,
+/// so this shows whether it names any.
 fn value_of(
     alloc: Global,
     tree: &MemoryTree,

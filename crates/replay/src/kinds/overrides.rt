@@ -41,7 +41,8 @@ fn asked(
     answer.outcome()
 }
 
-/// A builder after a vector's operations, what it refused, and whether one of its globs may need too many splits.
+/// A builder after a vector's operations, the errors, and whether one of its globs may need too
+/// many cuts.
 #[derive(Drop)]
 struct Collected {
     builder: OverrideBuilder,
@@ -56,7 +57,7 @@ fn put_readers(answer: &mut Answer, globs: &Override) {
     answer.put_number("num_whitelists", globs.num_whitelists());
 }
 
-/// A builder, asked for twice where memory is refused.
+/// A builder, retried once where it is out of memory.
 fn builder(alloc: Global, root: &str) -> Result<OverrideBuilder, Trouble> {
     match OverrideBuilder::new(alloc, root) {
         Ok(builder) => Ok(builder),
@@ -92,7 +93,7 @@ fn apply_all(
     Ok(())
 }
 
-/// Whether an operation adds a glob that may need too many splits of a path.
+/// Whether an operation adds a glob that may need too many cuts of a path.
 fn is_too_much(op: &Value, path: &str) -> Result<bool, Trouble> {
     if text_at(op, 0, OPS)? != "line" {
         return Ok(false);
@@ -124,7 +125,7 @@ fn set_case_insensitive(
     }
 }
 
-/// Adds a glob, twice where memory is refused.
+/// Adds a glob, and again where it is out of memory.
 fn add(builder: &mut OverrideBuilder, glob: &str) -> Result<Option<Error>, Trouble> {
     match add_once(builder, glob) {
         Err(_) => add_once(builder, glob),
@@ -139,7 +140,7 @@ fn add_once(builder: &mut OverrideBuilder, glob: &str) -> Result<Option<Error>, 
     }
 }
 
-/// The globs of a builder, asked for twice where memory is refused.
+/// The globs of a builder, retried once where it is out of memory.
 fn build(builder: &OverrideBuilder) -> Result<Override, Trouble> {
     match builder.build() {
         Ok(globs) => Ok(globs),
@@ -158,7 +159,7 @@ fn built(input: &Value, builder: &OverrideBuilder) -> Result<Override, Trouble> 
     clones::asked(input, globs)
 }
 
-/// What globs say of a path.
+/// The answer of globs for a path.
 fn kind(
     input: &Value,
     globs: &Override,

@@ -28,7 +28,7 @@ fn asked(alloc: Global, path: &str, is_dir: bool, matcher: &Gitignore) -> Result
     answer.outcome()
 }
 
-/// What a matcher said, or `null` where the path can't be asked about.
+/// The answer of a matcher, or `null` where the path can't be matched so.
 fn said_value(
     alloc: Global,
     matcher: &Gitignore,
@@ -40,7 +40,8 @@ fn said_value(
     }
 }
 
-/// What a matcher says of a path or its nearest parent, asked twice where memory is refused; nothing where the path can't be asked about.
+/// The answer of a matcher for a path or its nearest parent, retried once where it is out of
+/// memory; nothing where the path can't be matched so.
 fn nearest<'g>(
     matcher: &'g Gitignore,
     path: &str,

@@ -1,4 +1,4 @@
-//! The rules of a file, and what is told of it.
+//! The rules of a file, and its errors.
 
 use crate::again::{build, but_for_memory};
 use crate::answer::Answer;
@@ -20,7 +20,7 @@ const ROOT: &str = "/r";
 /// The name of the field that holds the bytes of the file, or `null` where no file is there.
 const BYTES: &str = "hex";
 
-/// The name of the field that holds how many bytes are read, and the fault behind them.
+/// The name of the field with how many bytes are read, and the fault after them.
 const CUT: &str = "cut";
 
 /// Answers `rules`, and the `error` of `add` with what it says of itself. Where there are lines,
@@ -85,7 +85,7 @@ fn set_case(builder: &mut GitignoreBuilder, yes: bool) -> Result<(), Trouble> {
     }
 }
 
-/// Adds a file to a builder, and again where memory is refused, but not by the files.
+/// Adds a file to a builder, and again where it is out of memory, but not where the files are.
 fn added(
     builder: &mut GitignoreBuilder,
     files: &Refusing<'_>,

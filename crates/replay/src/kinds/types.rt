@@ -14,10 +14,11 @@ use vectors::{Outcome, Trouble, flag_at, list, text_at};
 /// The name of the field that holds the operations.
 const OPS: &str = "ops";
 
-/// The name of the field that holds the paths that are asked about.
+/// The name of the field with the paths that are matched.
 const ASKS: &str = "asks";
 
-/// Answers `refused`, `definitions`, `build` (its error), and then `len` and `answers`, which is `null` where nothing is built.
+/// Answers `refused`, `definitions`, `build` (its error), and then `len` and `answers`, which is
+/// `null` where nothing is built.
 pub fn answer(alloc: Global, input: &Value) -> Result<Outcome, Trouble> {
     let mut builder = TypesBuilder::new(alloc);
     let refused = refusals(alloc, &mut builder, input)?;
@@ -66,7 +67,8 @@ fn reported_types(
     answer.outcome()
 }
 
-/// The definitions of the matcher are a field of their own, which isn't wanted, where they aren't those of the builder.
+/// The definitions of the matcher are a field of their own, which isn't wanted, where they aren't
+/// those of the builder.
 fn put_other_definitions(
     answer: &mut Answer,
     alloc: Global,
@@ -98,7 +100,7 @@ fn refusals(alloc: Global, builder: &mut TypesBuilder, input: &Value) -> Result<
     Ok(refused)
 }
 
-/// Does an operation, twice where memory is refused; the answer is what is wrong with it.
+/// Does an operation, and again where it is out of memory; returns its error.
 fn apply(builder: &mut TypesBuilder, op: &Value) -> Result<Option<Error>, Trouble> {
     match apply_once(builder, op) {
         Err(Trouble::Memory) => apply_once(builder, op),
@@ -161,7 +163,7 @@ fn negate(builder: &mut TypesBuilder, name: &str) -> Result<Option<Error>, Troub
     }
 }
 
-/// The definitions of a builder, asked for twice where memory is refused.
+/// The definitions of a builder, retried once where it is out of memory.
 fn definitions(builder: &TypesBuilder) -> Result<Vec<FileTypeDef>, Trouble> {
     match builder.definitions() {
         Ok(definitions) => Ok(definitions),
@@ -169,7 +171,7 @@ fn definitions(builder: &TypesBuilder) -> Result<Vec<FileTypeDef>, Trouble> {
     }
 }
 
-/// The matcher of a builder, asked for twice where memory is refused.
+/// The matcher of a builder, retried once where it is out of memory.
 fn build(builder: &TypesBuilder) -> Result<Built, Trouble> {
     match build_once(builder) {
         Err(_) => build_once(builder),
@@ -209,7 +211,7 @@ fn globs_value(alloc: Global, globs: &[String]) -> Result<Value, AllocError> {
     values.value()
 }
 
-/// What the types say of each path that is asked about.
+/// The answer of the types for each path.
 fn answers(alloc: Global, input: &Value, types: &Types) -> Result<Items, Trouble> {
     let mut answers = Items::new(alloc);
     for ask in list(input, ASKS)? {
