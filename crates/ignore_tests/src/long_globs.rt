@@ -52,13 +52,19 @@ fn a_long_literal_matches_itself_with_a_mark_for_each_offset(rt: HostRuntime) ->
 
 #[test]
 fn stars_match_nothing_with_each_position_marked_once(rt: HostRuntime) -> Result<(), Fail> {
-    assert_eq!(rt; counted_copies(rt.alloc(), "*", 100_000, "")?, (true, 100_001));
+    assert_eq!(rt;
+        counted_copies(rt.alloc(), "*", 100_000, "")?,
+        (true, 100_001)
+    );
     Ok(())
 }
 
 #[test]
 fn empty_braces_match_nothing_with_each_position_marked_once(rt: HostRuntime) -> Result<(), Fail> {
-    assert_eq!(rt; counted_copies(rt.alloc(), "{}", 500_000, "")?, (true, 500_001));
+    assert_eq!(rt;
+        counted_copies(rt.alloc(), "{}", 500_000, "")?,
+        (true, 500_001)
+    );
     Ok(())
 }
 
