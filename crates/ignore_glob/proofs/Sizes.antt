@@ -1,4 +1,4 @@
--- How large tokens are, by which the plain matcher ends.
+-- How large tokens are, by which their compilation ends.
 use Rattle.std.proofs.Common.{ℕ, ◌+◌}
 use Rattle.ignore_glob.specs.Glob.{Token, literal, any, star, start, middle, end, class, alternates, Tokens, done, then, Branches, no_branch, branch}
 

@@ -9,15 +9,15 @@ pub mod laws;
 mod lexeme;
 mod marks;
 mod meaning;
+mod member;
 mod node;
 mod nodes;
 mod options;
 mod pattern;
-mod plain;
 mod read;
 mod token;
 
 pub use fault::{GlobFault, PatternError};
 pub use key::Key;
 pub use options::Options;
-pub use pattern::{Pattern, characters};
+pub use pattern::Pattern;

@@ -1,5 +1,5 @@
 -- What was read of a file gives one list of rules and one problem, whatever builder it is added to.
-use Rattle.std.proofs.Common.{◌≡◌, ◌⊎◌, inl, inr, ℕ, ◌+◌, List, [], ◌∷◌, ◌++◌, Option, Some, None, Result, Ok, Err, refl, sym, ap, ◌∙◌, subst, append_assoc}
+use Rattle.std.proofs.Common.{◌≡◌, ◌⊎◌, inl, inr, ℕ, ◌+◌, List, [], ◌∷◌, ◌++◌, Option, Some, None, Result, Ok, Err, refl, sym, ap, subst, append_assoc}
 use Rattle.std.proofs.lemmas.List.{append-nil}
 use Rattle.std.specs.Str.{chars}
 use Rattle.ignore_glob.specs.declared.fault.Fault.{Fault}
@@ -8,7 +8,7 @@ use Rattle.ignore_glob.specs.Problem.{Problem, at_path, glob, io, joined}
 use Rattle.ignore_glob.proofs.RowExists.{find_reading}
 use Rattle.ignore_files.specs.declared.types.Contents.{Contents}
 use Rattle.ignore_rules.specs.Line.{ParsedLine, parsed_line}
-use Rattle.ignore_rules.specs.Rules.{Building, LineOptions, Rule, Refuses, GivesProblem, GivesRule, read_rule, with_rule}
+use Rattle.ignore_rules.specs.Rules.{Building, LineOptions, Rule, GivesProblem, GivesRule, read_rule, with_rule}
 use Rattle.ignore_rules.specs.RuleFile.{AddsContents, AddsLines, Gives, GivesOneResult, added, at_line_of, done, lines_read, refused, line_content, stopped, with_rules}
 use Rattle.ignore_rules.proofs.FilesOnly.{AddsContents-one}
 

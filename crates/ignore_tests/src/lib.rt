@@ -15,4 +15,6 @@ mod faults;
 #[cfg(test)]
 mod large;
 #[cfg(test)]
+mod long_globs;
+#[cfg(test)]
 mod queries;

@@ -6,8 +6,8 @@ ghost use Rattle.ignore_glob.specs.Flags.{IsFlagged, LeadsOn, AllLeadOn, AreFlag
 ghost use Rattle.ignore_glob.specs.NodeLists.{node_view, nodes_view};
 
 use crate::glob::flags::Flags;
+use crate::glob::member::{is_case_of, is_member};
 use crate::glob::node::Node;
-use crate::glob::plain::{is_case_of, is_member};
 use std::alloc::{AllocError, Global};
 
 /// Flags what the node at `p` leads to by no character.

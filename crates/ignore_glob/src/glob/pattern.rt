@@ -2,7 +2,6 @@
 ghost use Rattle.std.specs.Prelude.{◌≡◌, ◌-◌, ◌^◌, ◌↔◌, ℕ, IsTrue, IfOk, IfErr, length, min};
 ghost use Rattle.std.specs.Coded.{Coded-set, coded_list};
 ghost use Rattle.std.specs.Str.{chars};
-ghost use Rattle.ignore_glob.specs.Glob.{start, then, done};
 ghost use Rattle.ignore_glob.specs.Forms.{key_form, form_of};
 ghost use Rattle.ignore_glob.specs.Positions.{CountsMarks, positions};
 ghost use Rattle.ignore_glob.specs.NodeLists.{glob_nodes, node_code, nodes_view};
@@ -10,7 +9,7 @@ ghost use Rattle.ignore_glob.specs.GlobFaults.{IfFault};
 ghost use Rattle.ignore_glob.specs.Problem.{problem_of, memory};
 ghost use Rattle.ignore_glob.specs.Reading.{Matches};
 ghost use Rattle.ignore_glob.specs.Row.{Reads, IsFaulty};
-ghost use Rattle.ignore_glob.specs.View.{view, tokens_view};
+ghost use Rattle.ignore_glob.specs.View.{tokens_view};
 
 use crate::error::Error;
 use crate::glob::copies::copied;
@@ -20,7 +19,6 @@ use crate::glob::marks;
 use crate::glob::node::Node;
 use crate::glob::nodes::nodes_of;
 use crate::glob::options::Options;
-use crate::glob::plain::all_match;
 use crate::glob::read::read;
 use crate::glob::token::Token;
 use std::alloc::{AllocError, Global};
@@ -128,17 +126,6 @@ impl Pattern {
         self.nodes.len()
     }
 
-    /// For dependents, which match many patterns against one text: as `matches`, with the text's
-    /// `characters`.
-    pub fn matches_chars(&self, text: &[char]) -> bool
-        ensures { IsTrue result ↔ Matches self.now text.now }
-    {
-        if is_lone_start(&self.tokens) {
-            return true;
-        }
-        all_match(self.case_insensitive, &self.tokens, text)
-    }
-
     /// For dependents: the text by which the pattern can be looked up, if it has a form for that.
     pub fn key(&self) -> Result<Key, AllocError>
         ensures { IfOk result (λ key. key_form key ≡ form_of self.now) }
@@ -159,43 +146,5 @@ impl Clone for Pattern {
     fn clone(&self) -> Result<Pattern, AllocError> {
         let tokens = copied(&self.tokens)?;
         Pattern::from_tokens(tokens, self.case_insensitive)
-    }
-}
-
-/// For dependents: the characters of a text, for `Pattern::matches_chars`.
-///
-/// # Errors
-/// `Error::Memory` alone.
-pub fn characters(alloc: Global, text: &str) -> Result<Vec<char>, Error>
-    ensures out_of_memory { IfErr result (λ e. problem_of e ≡ memory) }
-    ensures value { IfOk result (λ all. all.items ≡ chars text.now) }
-{
-    match text.chars().collect(alloc) {
-        Ok(all) => Ok(all),
-        Err(_) => Err(Error::Memory),
-    }
-}
-
-fn is_lone_start(tokens: &[Token]) -> bool
-    ensures { IsTrue result ↔ (tokens_view tokens.now ≡ then start done) }
-{
-    match tokens {
-        [first, rest @ ..] => is_start(first) && rest.is_empty(),
-        [] => false,
-    }
-}
-
-fn is_start(token: &Token) -> bool
-    ensures { IsTrue result ↔ (view token.now ≡ start) }
-{
-    match token {
-        Token::RecursiveStart => true,
-        Token::Literal(_)
-        | Token::Any
-        | Token::Star
-        | Token::RecursiveMiddle
-        | Token::RecursiveEnd
-        | Token::Class(_)
-        | Token::Alternates(_) => false,
     }
 }

@@ -1,14 +1,16 @@
 //! One rule.
-ghost use Rattle.std.specs.Prelude.{◌≡◌, option_map, string_bytes};
+ghost use Rattle.std.specs.Prelude.{◌≡◌, option_map, string_bytes, IfOk, IfErr};
 ghost use Rattle.std.specs.Option.{option_copied};
+ghost use Rattle.std.specs.Str.{chars};
 ghost use Rattle.ignore_glob.specs.Match.{match_map};
+ghost use Rattle.ignore_glob.specs.Problem.{problem_of, memory};
 ghost use Rattle.ignore_rules.specs.Answer.{does_apply, decision_of};
 ghost use Rattle.ignore_rules.specs.Rules.{read_rule};
 ghost use Rattle.ignore_rules.specs.DoesMatch.{does_match};
 
 use crate::gitignore::line::ParsedLine;
-use ignore_glob::Match;
 use ignore_glob::glob::Pattern;
+use ignore_glob::{Error, Match};
 use std::alloc::AllocError;
 use std::marker::Model;
 
@@ -101,16 +103,24 @@ impl Glob {
         self.is_only_dir
     }
 
-    pub(crate) fn applies(&self, text: &[char], is_dir: bool) -> bool
-        ensures { result ≡ does_apply text.now is_dir self.now }
+    pub(crate) fn applies(&self, text: &str, is_dir: bool) -> Result<bool, Error>
+        ensures out_of_memory { IfErr result (λ e. problem_of e ≡ memory) }
+        ensures value { IfOk result (λ yes. yes ≡ does_apply (chars text.now) is_dir self.now) }
     {
-        (!self.is_only_dir || is_dir) && self.matches(text)
+        if self.is_only_dir && !is_dir {
+            return Ok(false);
+        }
+        self.matches(text)
     }
 
-    fn matches(&self, text: &[char]) -> bool
-        ensures { result ≡ does_match self.now.reading text.now }
+    fn matches(&self, text: &str) -> Result<bool, Error>
+        ensures out_of_memory { IfErr result (λ e. problem_of e ≡ memory) }
+        ensures value { IfOk result (λ yes. yes ≡ does_match self.now.reading (chars text.now)) }
     {
-        self.pattern.matches_chars(text)
+        match self.pattern.matches(text) {
+            Ok(yes) => Ok(yes),
+            Err(e) => Err(e),
+        }
     }
 
     pub(crate) fn decision(&self) -> Match<&Glob>

@@ -1,12 +1,12 @@
 //! A matcher of rules.
 ghost use Rattle.std.specs.Prelude.{◌≡◌, ◌+◌, ◌==◌, IfOk, IfErr, length, string_bytes};
+ghost use Rattle.std.specs.Str.{chars};
 ghost use Rattle.ignore_glob.specs.Match.{match_map};
 ghost use Rattle.ignore_glob.specs.Problem.{problem_of, memory};
 ghost use Rattle.ignore_rules.specs.Answer.{answer, list_answer};
 ghost use Rattle.ignore_rules.specs.Rules.{empty, ignore_count, whitelist_count};
 
 use crate::gitignore::glob::Glob;
-use ignore_glob::glob::characters;
 use ignore_glob::text::strip;
 use ignore_glob::{Error, Match};
 use std::alloc::{AllocError, Global};
@@ -112,23 +112,29 @@ impl Gitignore {
             return Ok(Match::None);
         }
         let path = strip(self.root.as_str(), path);
-        match characters(*self.globs.allocator(), path) {
-            Ok(text) => Ok(last_answer(&self.globs, &text, is_dir)),
-            Err(e) => Err(e),
-        }
+        last_answer(&self.globs, path, is_dir)
     }
 }
 
-pub(crate) fn last_answer<'g>(globs: &'g [Glob], text: &[char], is_dir: bool) -> Match<&'g Glob>
-    ensures { match_map (λ g. g.now) result ≡ list_answer globs.now text.now is_dir }
+pub(crate) fn last_answer<'g>(
+    globs: &'g [Glob],
+    text: &str,
+    is_dir: bool,
+) -> Result<Match<&'g Glob>, Error>
+    ensures out_of_memory { IfErr result (λ e. problem_of e ≡ memory) }
+    ensures answered { IfOk result (λ m. match_map (λ g. g.now) m ≡ list_answer globs.now (chars text.now) is_dir) }
 {
     for i in (0..globs.len()).rev() {
         let glob = &globs[i];
-        if glob.applies(text, is_dir) {
-            return glob.decision();
+        let applies = match glob.applies(text, is_dir) {
+            Ok(yes) => yes,
+            Err(e) => return Err(e),
+        };
+        if applies {
+            return Ok(glob.decision());
         }
     }
-    Match::None
+    Ok(Match::None)
 }
 
 /// For the rest of the crate.

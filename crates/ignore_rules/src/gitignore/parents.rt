@@ -1,14 +1,15 @@
 //! Matching a path together with its parents.
-ghost use Rattle.std.specs.Prelude.{◌≡◌, ◌≢◌, ◌==◌, ◌<◌, ◌≤◌, ◌+◌, ℕ, IsTrue, false, IfOk, IfErr, length, slice_index};
+ghost use Rattle.std.specs.Prelude.{◌≡◌, ◌≢◌, ◌==◌, ◌<◌, ◌∷◌, IsTrue, false, IfOk, IfErr, length, slice_index};
+ghost use Rattle.std.specs.Str.{chars};
 ghost use Rattle.ignore_glob.specs.Match.{match_map};
 ghost use Rattle.ignore_glob.specs.Problem.{problem_of, memory};
 ghost use Rattle.ignore_rules.specs.Parents.{answer_with_parents, directories_answer, is_under_root, nearest_answer, parents};
 
 use crate::gitignore::glob::Glob;
 use crate::gitignore::matcher::{Gitignore, last_answer};
-use ignore_glob::glob::characters;
 use ignore_glob::text::strip;
 use ignore_glob::{Error, Match};
+use memchr::memrchr;
 
 impl Gitignore {
     /// Whether a path can be matched together with its parents: there are no rules, or the path
@@ -41,50 +42,55 @@ impl Gitignore {
             return Ok(Match::None);
         }
         let path = strip(self.path(), path);
-        match characters(self.allocator(), path) {
-            Ok(text) => Ok(nearest_answer(self.rules(), &text, is_dir)),
-            Err(e) => Err(e),
-        }
+        nearest_answer(self.rules(), path, is_dir)
     }
 }
 
-fn nearest_answer<'g>(globs: &'g [Glob], text: &[char], is_dir: bool) -> Match<&'g Glob>
+fn nearest_answer<'g>(globs: &'g [Glob], text: &str, is_dir: bool) -> Result<Match<&'g Glob>, Error>
     requires { slice_index text.now 0 ≢ 47 }
-    ensures { match_map (λ g. g.now) result ≡ nearest_answer globs.now text.now is_dir }
+    ensures out_of_memory { IfErr result (λ e. problem_of e ≡ memory) }
+    ensures answered { IfOk result (λ m. match_map (λ g. g.now) m ≡ nearest_answer globs.now (chars text.now) is_dir) }
 {
-    let answer = last_answer(globs, text, is_dir);
+    let answer = match last_answer(globs, text, is_dir) {
+        Ok(answer) => answer,
+        Err(e) => return Err(e),
+    };
     if answer.is_none() {
         nearest_parent_answer(globs, text)
     } else {
-        answer
+        Ok(answer)
     }
 }
 
-fn nearest_parent_answer<'g>(globs: &'g [Glob], text: &[char]) -> Match<&'g Glob>
+fn nearest_parent_answer<'g>(globs: &'g [Glob], text: &str) -> Result<Match<&'g Glob>, Error>
     requires { slice_index text.now 0 ≢ 47 }
-    ensures { match_map (λ g. g.now) result ≡ directories_answer globs.now (parents text.now) }
+    ensures out_of_memory { IfErr result (λ e. problem_of e ≡ memory) }
+    ensures answered { IfOk result (λ m. match_map (λ g. g.now) m ≡ directories_answer globs.now (parents (chars text.now))) }
 {
-    let mut end = text.len();
-    while end > 0 {
-        end = parent_len(&text[..end]);
-        let answer = last_answer(globs, &text[..end], true);
+    let mut rest = text;
+    while !rest.is_empty() {
+        rest = parent(rest);
+        let answer = match last_answer(globs, rest, true) {
+            Ok(answer) => answer,
+            Err(e) => return Err(e),
+        };
         if !answer.is_none() {
-            return answer;
+            return Ok(answer);
         }
     }
-    Match::None
+    Ok(Match::None)
 }
 
-/// The index of the last slash, or 0.
-fn parent_len(path: &[char]) -> usize
-    ensures shorter { 0 < length path.now → result < length path.now }
-    ensures cut { 0 < result → slice_index path.now result ≡ 47 }
-    ensures last { (k : ℕ) → result < k → k < length path.now → slice_index path.now k ≢ 47 }
+/// What precedes the last slash of a path, or else the empty path.
+fn parent(path: &str) -> &str
+    requires some { 0 < length path.now }
+    requires first { slice_index path.now 0 ≢ 47 }
+    ensures shorter { length result.now < length path.now }
+    ensures first { slice_index result.now 0 ≢ 47 }
+    ensures next { parents (chars path.now) ≡ chars result.now ∷ parents (chars result.now) }
 {
-    for i in (0..path.len()).rev() {
-        if path[i] == '/' {
-            return i;
-        }
+    match memrchr(b'/', path.as_bytes()) {
+        Some(slash) => &path[..slash],
+        None => "",
     }
-    0
 }

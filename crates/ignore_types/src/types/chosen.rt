@@ -1,6 +1,7 @@
 //! A chosen type of a matcher.
 ghost use Rattle.std.specs.Prelude.{◌≡◌, ◌⊎◌, ◌↔◌, ℕ, IsTrue, IfOk, IfErr, MatchOption, map, not, string_bytes, Some};
 ghost use Rattle.std.specs.List.{AllZip, list_any};
+ghost use Rattle.std.specs.Str.{chars};
 ghost use Rattle.ignore_glob.specs.Problem.{problem_of, memory, glob as glob_problem};
 ghost use Rattle.ignore_glob.specs.GlobFaults.{glob_fault_text};
 ghost use Rattle.ignore_types.specs.TypeMatch.{SomeMatches, NoneMatches, IsDeciding};
@@ -56,8 +57,9 @@ impl ChosenType {
     }
 
     /// Whether some glob of the type matches the name.
-    pub(super) fn matches(&self, name: &[char]) -> bool
-        ensures { IsTrue result ↔ SomeMatches name.now self.now.readings }
+    pub(super) fn matches(&self, name: &str) -> Result<bool, Error>
+        ensures out_of_memory { IfErr result (λ e. problem_of e ≡ memory) }
+        ensures value { IfOk result (λ yes. IsTrue yes ↔ SomeMatches (chars name.now) self.now.readings) }
     {
         some_matches(&self.patterns, name)
     }
@@ -79,29 +81,42 @@ impl Clone for ChosenType {
     }
 }
 
-fn some_matches(patterns: &[Pattern], name: &[char]) -> bool
-    ensures { IsTrue result ↔ SomeMatches name.now patterns.now }
+fn some_matches(patterns: &[Pattern], name: &str) -> Result<bool, Error>
+    ensures out_of_memory { IfErr result (λ e. problem_of e ≡ memory) }
+    ensures value { IfOk result (λ yes. IsTrue yes ↔ SomeMatches (chars name.now) patterns.now) }
 {
     for pattern in patterns {
-        if pattern.matches_chars(name) {
-            return true;
+        let matches = match pattern.matches(name) {
+            Ok(yes) => yes,
+            Err(e) => return Err(e),
+        };
+        if matches {
+            return Ok(true);
         }
     }
-    false
+    Ok(false)
 }
 
 /// The choice of the last glob that matches the name.
-pub(super) fn deciding<'a>(choices: &'a [ChosenType], name: &[char]) -> Option<&'a ChosenType>
-    ensures { MatchOption result (NoneMatches name.now choices.now) (λ c. IsDeciding name.now choices.now c.now) }
+pub(super) fn deciding<'a>(
+    choices: &'a [ChosenType],
+    name: &str,
+) -> Result<Option<&'a ChosenType>, Error>
+    ensures out_of_memory { IfErr result (λ e. problem_of e ≡ memory) }
+    ensures value { IfOk result (λ found. MatchOption found (NoneMatches (chars name.now) choices.now) (λ c. IsDeciding (chars name.now) choices.now c.now)) }
 {
     let mut i = choices.len();
     while i > 0 {
         i -= 1;
-        if choices[i].matches(name) {
-            return Some(&choices[i]);
+        let matches = match choices[i].matches(name) {
+            Ok(yes) => yes,
+            Err(e) => return Err(e),
+        };
+        if matches {
+            return Ok(Some(&choices[i]));
         }
     }
-    None
+    Ok(None)
 }
 
 /// Whether some choice selects.

@@ -1,13 +1,13 @@
 //! Matching the names of files against chosen types.
 ghost use Rattle.std.specs.Prelude.{◌≡◌, ◌==◌, [], length, IfOk, IfErr};
 ghost use Rattle.std.specs.Option.{option_copied};
+ghost use Rattle.std.specs.Str.{chars};
 ghost use Rattle.ignore_glob.specs.Problem.{problem_of, memory};
 ghost use Rattle.ignore_glob.specs.Paths.{file_name_of};
 ghost use Rattle.ignore_types.specs.TypeMatch.{verdict_of, unmatched, IsNameAnswer, IsTypeAnswer};
 
 use crate::types::chosen::{ChosenType, deciding, some_selected};
 use crate::types::definition::FileTypeDef;
-use ignore_glob::glob::characters;
 use ignore_glob::text::file_name;
 use ignore_glob::{Error, Match};
 use std::alloc::{AllocError, Global};
@@ -121,8 +121,7 @@ impl Types {
     /// match.
     ///
     /// # Errors
-    /// `Error::Memory` alone, since the characters of the name are kept for the
-    /// time of the call.
+    /// `Error::Memory` alone.
     pub fn matched(&self, path: &str, is_dir: bool) -> Result<Match<Glob<'_>>, Error>
         ensures decided { IfOk result (IsTypeAnswer self.now.choices is_dir (file_name_of path.now)) }
         ensures out_of_memory { IfErr result (λ e. problem_of e ≡ memory) }
@@ -132,10 +131,7 @@ impl Types {
         }
         match file_name(path) {
             None => Ok(unmatched(&self.choices)),
-            Some(name) => match characters(*self.choices.allocator(), name) {
-                Ok(name) => Ok(matched_name(&self.choices, &name)),
-                Err(e) => Err(e),
-            },
+            Some(name) => matched_name(&self.choices, name),
         }
     }
 }
@@ -155,12 +151,14 @@ impl Clone for Types {
     }
 }
 
-fn matched_name<'a>(choices: &'a [ChosenType], name: &[char]) -> Match<Glob<'a>>
-    ensures { IsNameAnswer choices.now name.now result }
+fn matched_name<'a>(choices: &'a [ChosenType], name: &str) -> Result<Match<Glob<'a>>, Error>
+    ensures out_of_memory { IfErr result (λ e. problem_of e ≡ memory) }
+    ensures decided { IfOk result (IsNameAnswer choices.now (chars name.now)) }
 {
     match deciding(choices, name) {
-        Some(choice) => verdict(choice),
-        None => unmatched(choices),
+        Ok(Some(choice)) => Ok(verdict(choice)),
+        Ok(None) => Ok(unmatched(choices)),
+        Err(e) => Err(e),
     }
 }
 

@@ -1,14 +1,15 @@
 use Rattle.std.proofs.Common.{◌≡◌, false, true, sym, refl, ◌∙◌, rules}
 use Rattle.ignore_glob.specs.Match.{is_none}
-use Rattle.ignore_rules.proofs.ParentLemmas.{decides, passes_on}
+use Rattle.ignore_rules.proofs.ParentLemmas.{decides, passes_on, on_ok}
 use Rattle.ignore_rules.proofs.gitignore.parents.nearest_answer.Goals as goal
 
-pub returns-then-is_none : goal.returns-then-is_none
-returns-then-is_none c =
-    let none : is_none c.last_answer-answer.result ≡ true = search rules in
-    c.nearest_parent_answer.ensures ∙ sym (passes_on (λ g. g.now) c.last_answer-answer.result _ _ _ c.last_answer-answer.ensures none refl)
+pub returns-then-is_none-clause-answered : goal.returns-then-is_none-clause-answered
+returns-then-is_none-clause-answered c =
+    let none : is_none c.in-Ok.answer ≡ true = search rules in
+    let left = sym (passes_on (λ g. g.now) c.in-Ok.answer _ _ _ c.in-Ok.ensures.answered none refl) in
+    on_ok _ _ c.nearest_parent_answer.result (λ m h. h ∙ left) c.nearest_parent_answer.ensures.answered
 
 pub returns-else-is_none : goal.returns-else-is_none
 returns-else-is_none c =
-    let found : is_none c.last_answer-answer.result ≡ false = search rules in
-    decides (λ g. g.now) c.last_answer-answer.result _ _ _ c.last_answer-answer.ensures found refl
+    let found : is_none c.in-Ok.answer ≡ false = search rules in
+    record { out_of_memory = tt; answered = decides (λ g. g.now) c.in-Ok.answer _ _ _ c.in-Ok.ensures.answered found refl }

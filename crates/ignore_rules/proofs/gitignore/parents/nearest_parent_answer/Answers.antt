@@ -1,22 +1,24 @@
-use Rattle.std.proofs.Common.{◌≡◌, false, true, refl, ◌∙◌, arith, rules}
+use Rattle.std.proofs.Common.{◌≡◌, false, true, length, ap, sym, ◌∙◌, rules}
 use Rattle.ignore_glob.specs.Match.{is_none}
-use Rattle.ignore_rules.proofs.ParentLemmas.{ask_next, decides, passes_on}
+use Rattle.ignore_rules.specs.Parents.{directories_answer}
+use Rattle.ignore_rules.proofs.ParentLemmas.{decides, passes_on, parents-over}
 use Rattle.ignore_rules.proofs.gitignore.parents.nearest_parent_answer.Goals as goal
 
-pub returns-then-not-is_none : goal.returns-then-not-is_none
-returns-then-not-is_none c =
-    let p = c.parent_len-end.ensures in
-    let next = ask_next c.args.globs.now c.args.text.now _ c.loop-end.end c.parent_len-end.result refl c.loop-end.invariant.within c.loop-end-test.true c.requires p.shorter p.cut p.last in
-    let found : is_none c.last_answer-answer.result ≡ false = search rules in
-    decides (λ g. g.now) c.last_answer-answer.result _ _ _ c.last_answer-answer.ensures found (c.loop-end.invariant.rest ∙ next.1)
+pub returns-then-not-is_none-clause-answered : goal.returns-then-not-is_none-clause-answered
+returns-then-not-is_none-clause-answered c =
+    let found : is_none c.in-Ok.answer ≡ false = search rules in
+    decides (λ g. g.now) c.in-Ok.answer _ _ _ c.in-Ok.ensures.answered found (c.loop-rest.invariant.left ∙ ap (directories_answer c.args.globs.now) c.parent-rest.ensures.next)
 
-pub loop-end-preserved : goal.loop-end-preserved
-loop-end-preserved c =
-    let p = c.parent_len-end.ensures in
-    let next = ask_next c.args.globs.now c.args.text.now _ c.loop-end.end c.parent_len-end.result refl c.loop-end.invariant.within c.loop-end-test.true c.requires p.shorter p.cut p.last in
-    let none : is_none c.last_answer-answer.result ≡ true = search rules in
+pub loop-rest-preserved : goal.loop-rest-preserved
+loop-rest-preserved c =
+    let none : is_none c.in-Ok.answer ≡ true = search rules in
     record {
-      within = omega (arith, next.0, c.loop-end.invariant.within);
-      rest =
-          passes_on (λ g. g.now) c.last_answer-answer.result _ _ _ c.last_answer-answer.ensures none (c.loop-end.invariant.rest ∙ next.1);
+      utf8 = search rules;
+      first = c.parent-rest.ensures.first;
+      left = passes_on (λ g. g.now) c.in-Ok.answer _ _ _ c.in-Ok.ensures.answered none (c.loop-rest.invariant.left ∙ ap (directories_answer c.args.globs.now) c.parent-rest.ensures.next);
     }
+
+pub returns-clause-answered : goal.returns-clause-answered
+returns-clause-answered c =
+    let over : length c.loop-rest.rest.now ≡ 0 = search rules in
+    sym (c.loop-rest.invariant.left ∙ parents-over c.args.globs.now c.loop-rest.rest.now over)

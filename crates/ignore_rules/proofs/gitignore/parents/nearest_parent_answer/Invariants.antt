@@ -1,12 +1,15 @@
-use Rattle.std.proofs.Common.{◌≡◌, ◌≤◌, length, take}
+use Rattle.std.proofs.Common.{◌≡◌, ◌≢◌, length, get_or}
+use Rattle.std.specs.Str.{chars, IsUtf8}
 use Rattle.ignore_rules.specs.Parents.{directories_answer, parents}
 use Rattle.ignore_rules.proofs.gitignore.parents.nearest_parent_answer.Given as goal
 
-abbrev pub invariant-loop-end : goal.invariant-loop-end
-invariant-loop-end l = record {
-  within : l.end ≤ length l.text;
-  rest : directories_answer l.globs (parents l.text) ≡ directories_answer l.globs (parents (take l.end l.text));
+-- what is left to be asked
+abbrev pub invariant-loop-rest : goal.invariant-loop-rest
+invariant-loop-rest l = record {
+  utf8 : IsUtf8 l.rest;
+  first : get_or l.rest 0 0 ≢ 47;
+  left : directories_answer l.globs (parents (chars l.text)) ≡ directories_answer l.globs (parents (chars l.rest));
 }
 
-abbrev pub decreases-loop-end : goal.decreases-loop-end
-decreases-loop-end l = l.end
+abbrev pub decreases-loop-rest : goal.decreases-loop-rest
+decreases-loop-rest l = length l.rest
