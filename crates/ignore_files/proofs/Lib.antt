@@ -4,5 +4,6 @@ pub mod Walks
 pub mod EntryLemmas
 pub mod NodeLemmas
 mod DiskLemmas
+mod Honest
 mod ChangesOnly
 mod AnswersOnly

@@ -7,4 +7,6 @@ pub mod Refusals
 pub mod Resolve
 pub mod Answers
 pub mod Changes
+pub mod Reported
+pub mod Machine
 pub mod Disk
