@@ -5,5 +5,6 @@ pub mod EntryLemmas
 pub mod NodeLemmas
 mod DiskLemmas
 mod Honest
+mod Truthful
 mod ChangesOnly
 mod AnswersOnly

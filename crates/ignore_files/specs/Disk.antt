@@ -30,11 +30,13 @@ identity_of stat = Ok (Some stat.identity)
 
 -- what `stat` answers
 abbrev pub GivesStat : {R M E D F : Type 0} → Ghosts R M E D F → R → List ℕ → Bool → Result Metadata Refusal → Type 0
-GivesStat machine r path follow answer = (heard : Result Stat Refusal) × MayStat machine r path follow heard × (answer ≡ and_then metadata_of heard)
+GivesStat machine r path follow answer =
+    (heard : Result Stat Refusal) × MayStat machine r path follow heard × (answer ≡ and_then metadata_of heard)
 
 -- what `identity` answers
 abbrev pub GivesIdentity : {R M E D F : Type 0} → Ghosts R M E D F → R → List ℕ → Bool → Result (Option Identity) Refusal → Type 0
-GivesIdentity machine r path follow answer = (heard : Result Stat Refusal) × MayStat machine r path follow heard × (answer ≡ and_then identity_of heard)
+GivesIdentity machine r path follow answer =
+    (heard : Result Stat Refusal) × MayStat machine r path follow heard × (answer ≡ and_then identity_of heard)
 
 -- a file or a directory is opened and read, and anything else is `Other` unopened
 abbrev pub GivesOf : FileType → (Result Contents Refusal → Type 0) → Result Contents Refusal → Type 0
@@ -50,7 +52,8 @@ GivesAt (Err refusal) May answer = answer ≡ Err refusal
 
 -- what `contents` answers
 abbrev pub GivesContents : {R M E D F : Type 0} → Ghosts R M E D F → R → List ℕ → Result Contents Refusal → Type 0
-GivesContents machine r path answer = (heard : Result Stat Refusal) × MayStat machine r path true heard × GivesAt heard (MayRead machine r path) answer
+GivesContents machine r path answer =
+    (heard : Result Stat Refusal) × MayStat machine r path true heard × GivesAt heard (MayRead machine r path) answer
 
 -- the contents at a path of this kind, where reading gives these
 abbrev pub contents_at : FileType → Result Contents Fault → Result Contents Fault

@@ -10,3 +10,4 @@ pub mod Changes
 pub mod Reported
 pub mod Machine
 pub mod Disk
+pub mod Table

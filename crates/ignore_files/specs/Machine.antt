@@ -51,11 +51,13 @@ Reads machine (Err heard) (Err refusal) = refusal ≡ heard
 
 -- what may be heard of a path
 abbrev pub MayStat : {R M E D F : Type 0} → Ghosts R M E D F → R → List ℕ → Bool → Result Stat Refusal → Type 0
-MayStat {R} {M} {E} {D} {F} machine r path follow stat = (heard : Result M Refusal) × IsHeard path (metadata_gives machine r follow path) heard × Reads machine heard stat
+MayStat {R} {M} {E} {D} {F} machine r path follow stat =
+    (heard : Result M Refusal) × IsHeard path (metadata_gives machine r follow path) heard × Reads machine heard stat
 
--- one thing that a directory gives is reported: an entry by its name and its kind, or by the fault in place of its kind; an error by its fault
+-- a thing that a directory gives is reported: an entry by its name and kind, or by the fault in place of its kind; an error by its fault
 abbrev pub IsReported : {R M E D F : Type 0} → Ghosts R M E D F → Result E Error → Listed → Type 0
-IsReported machine (Ok entry) item = (kind : Result MachineType Error) × machine.entry_type_gives entry kind × IsEntryOf (machine.file_name_gives entry) kind item
+IsReported machine (Ok entry) item =
+    (kind : Result MachineType Error) × machine.entry_type_gives entry kind × IsEntryOf (machine.file_name_gives entry) kind item
 IsReported machine (Err error) item = IsFaultOf error item
 
 -- all of them are reported, in their order
@@ -67,22 +69,27 @@ AreReported machine (one ∷ more) (item ∷ items) = IsReported machine one ite
 
 -- the listing has all that an opened directory gives, from its first entry to its end
 abbrev pub IsListingOf : {R M E D F : Type 0} → Ghosts R M E D F → (D → Option (Result E Error) → D → Type 0) → D → List Listed → Type 0
-IsListingOf {R} {M} {E} {D} {F} machine next dir listing = (all : List (Result E Error)) × Drains next dir all × AreReported machine all listing
+IsListingOf {R} {M} {E} {D} {F} machine next dir listing =
+    (all : List (Result E Error)) × Drains next dir all × AreReported machine all listing
 
 -- an opened directory is listed whole, unless memory runs out; one that can't be opened is refused
-abbrev pub Lists : {R M E D F : Type 0} → Ghosts R M E D F → (D → Option (Result E Error) → D → Type 0) → Result D Refusal → Result (List Listed) Refusal → Type 0
+abbrev pub Lists : {R M E D F : Type 0} → Ghosts R M E D F → (D → Option (Result E Error) → D → Type 0)
+    → Result D Refusal → Result (List Listed) Refusal → Type 0
 Lists machine next (Ok dir) (Ok listing) = IsListingOf machine next dir listing
 Lists machine next (Ok dir) (Err refusal) = refusal ≡ Memory
 Lists machine next (Err heard) (Ok listing) = ⊥
 Lists machine next (Err heard) (Err refusal) = refusal ≡ heard
 
 -- what may be heard of a directory
-abbrev pub MayList : {R M E D F : Type 0} → Ghosts R M E D F → (D → Option (Result E Error) → D → Type 0) → R → List ℕ → Result (List Listed) Refusal → Type 0
-MayList {R} {M} {E} {D} {F} machine next r path listing = (heard : Result D Refusal) × IsHeard path (machine.read_dir_gives r path) heard × Lists machine next heard listing
+abbrev pub MayList : {R M E D F : Type 0} → Ghosts R M E D F → (D → Option (Result E Error) → D → Type 0)
+    → R → List ℕ → Result (List Listed) Refusal → Type 0
+MayList {R} {M} {E} {D} {F} machine next r path listing =
+    (heard : Result D Refusal) × IsHeard path (machine.read_dir_gives r path) heard × Lists machine next heard listing
 
 -- all that an opened file gives, or what came before the fault that ended the reading; or memory runs out
 abbrev pub IsReadOf : {R M E D F : Type 0} → Ghosts R M E D F → F → Result Contents Refusal → Type 0
-IsReadOf machine file contents = (contents ≡ Err Memory) ⊎ ((bytes : List ℕ) × (end : Result ℕ Error) × machine.read_gives file bytes end × (contents ≡ read_until bytes end))
+IsReadOf machine file contents = (contents ≡ Err Memory)
+    ⊎ ((bytes : List ℕ) × (end : Result ℕ Error) × machine.read_gives file bytes end × (contents ≡ read_until bytes end))
 
 -- the same of what was heard when it was opened
 abbrev pub Holds : {R M E D F : Type 0} → Ghosts R M E D F → Result F Refusal → Result Contents Refusal → Type 0
@@ -91,7 +98,8 @@ Holds machine (Err heard) contents = contents ≡ Err heard
 
 -- what may be heard of a file's bytes
 abbrev pub MayRead : {R M E D F : Type 0} → Ghosts R M E D F → R → List ℕ → Result Contents Refusal → Type 0
-MayRead {R} {M} {E} {D} {F} machine r path contents = (heard : Result F Refusal) × IsHeard path (machine.open_gives r path) heard × Holds machine heard contents
+MayRead {R} {M} {E} {D} {F} machine r path contents =
+    (heard : Result F Refusal) × IsHeard path (machine.open_gives r path) heard × Holds machine heard contents
 
 -- what may be heard of a canonical path
 abbrev pub MayCanonicalize : {R M E D F : Type 0} → Ghosts R M E D F → R → List ℕ → Result (List ℕ) Refusal → Type 0
@@ -105,8 +113,11 @@ pub record Disk : Type 0 where
   pub canonical : List ℕ → Result (List ℕ) Fault
 
 -- the system answers truly: all that may be heard of it, but that memory ran out, is what the disk holds
-pub record IsTruthful {R M E D F : Type 0} (machine : Ghosts R M E D F) (next : D → Option (Result E Error) → D → Type 0) (r : R) (disk : Disk) : Type 0 where
-  pub stat : (path : List ℕ) (follow : Bool) (heard : Result Stat Refusal) → MayStat machine r path follow heard → Answers (disk.stat path follow) heard
+pub record IsTruthful {R M E D F : Type 0} (machine : Ghosts R M E D F)
+    (next : D → Option (Result E Error) → D → Type 0) (r : R) (disk : Disk) : Type 0 where
+  pub stat : (path : List ℕ) (follow : Bool) (heard : Result Stat Refusal)
+      → MayStat machine r path follow heard → Answers (disk.stat path follow) heard
   pub list : (path : List ℕ) (heard : Result (List Listed) Refusal) → MayList machine next r path heard → Answers (disk.list path) heard
   pub read : (path : List ℕ) (heard : Result Contents Refusal) → MayRead machine r path heard → Answers (disk.read path) heard
-  pub canonical : (path : List ℕ) (heard : Result (List ℕ) Refusal) → MayCanonicalize machine r path heard → Answers (disk.canonical path) heard
+  pub canonical : (path : List ℕ) (heard : Result (List ℕ) Refusal)
+      → MayCanonicalize machine r path heard → Answers (disk.canonical path) heard

@@ -22,7 +22,8 @@ abbrev pub name_fault : Option ℤ → Fault
 name_fault None = fault.BadName
 name_fault (Some code) = fault.Other
 
--- five kinds keep their name, a loop of links is too many of them, and every other kind is `Other`; out of memory, or interrupted as often as one can ask, is no answer at all
+-- five kinds keep their name, a loop of links is too many of them, every other kind is `Other`
+-- (out of memory, or interrupted as often as one can ask, is no answer at all)
 abbrev pub refusal_of : Option ℤ → ErrorKind → Refusal
 refusal_of code NotFound = Refused fault.NotFound
 refusal_of code PermissionDenied = Refused fault.PermissionDenied

@@ -10,9 +10,7 @@ use crate::ask::{ask, ask_at, fault_of, is_interrupted, kind_of};
 use crate::files::Files;
 use crate::machine::Machine;
 use crate::stat::Stat;
-use crate::types::{
-    Bytes, Contents, FileType, Identity, Listed, Listing, Metadata, Name, Refusal,
-};
+use crate::types::{Bytes, Contents, FileType, Identity, Listed, Listing, Metadata, Name, Refusal};
 use ignore_glob::Fault;
 use std::alloc::Global;
 use std::io;
@@ -96,12 +94,12 @@ fn stat_of<R: Machine>(metadata: &R::Metadata) -> Stat
 }
 
 /// What the machine lists of a directory, or `None` where it was interrupted on the way.
-fn list_once<R: Machine>(
-    alloc: Global,
-    machine: &R,
-    path: &str,
-) -> Result<Option<Listing>, Refusal>
-    ensures { MatchResult result (λ found. MatchOption found (MayList R.Machine R.Dir.next_gives machine.now path.now (Err Memory)) (λ listing. MayList R.Machine R.Dir.next_gives machine.now path.now (Ok listing))) (λ e. MayList R.Machine R.Dir.next_gives machine.now path.now (Err e)) }
+fn list_once<R: Machine>(alloc: Global, machine: &R, path: &str) -> Result<Option<Listing>, Refusal>
+    ensures { MatchResult result
+        (λ found. MatchOption found
+        (MayList R.Machine R.Dir.next_gives machine.now path.now (Err Memory))
+        (λ listing. MayList R.Machine R.Dir.next_gives machine.now path.now (Ok listing)))
+        (λ e. MayList R.Machine R.Dir.next_gives machine.now path.now (Err e)) }
 {
     match ask_at(path, || machine.read_dir(path)) {
         Ok(dir) => listing_of::<R>(alloc, dir),
@@ -114,7 +112,8 @@ fn listing_of<R: Machine>(alloc: Global, dir: R::Dir) -> Result<Option<Listing>,
 where
     requires callable { R.Dir.can_next dir }
     requires ends { IsFinite (R.Dir.remaining dir) }
-    ensures { MatchResult result (λ found. MatchOption found ⊤ (λ listing. IsListingOf R.Machine R.Dir.next_gives dir listing)) (λ e. e ≡ Memory) }
+    ensures { MatchResult result
+        (λ found. MatchOption found ⊤ (λ listing. IsListingOf R.Machine R.Dir.next_gives dir listing)) (λ e. e ≡ Memory) }
 {
     let mut listed = Vec::new(alloc);
     for entry in dir {
@@ -249,6 +248,7 @@ impl<'r, R: Machine> DiskFiles<'r, R> {
 
     /// Where the machine answers truly from one disk, these files are honest for the tree on it.
     pub fn is_honest(&self)
-        ensures { (disk : Disk) → IsTruthful R.Machine R.Dir.next_gives (machine_of self.now) disk → IsHonest ⟦<DiskFiles<'r, R> as Files>⟧ self.now (tree_on disk) }
+        ensures { (disk : Disk) → IsTruthful R.Machine R.Dir.next_gives (machine_of self.now) disk
+            → IsHonest ⟦<DiskFiles<'r, R> as Files>⟧ self.now (tree_on disk) }
     {}
 }

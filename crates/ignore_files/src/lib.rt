@@ -9,6 +9,7 @@ mod files;
 mod machine;
 mod memory;
 mod stat;
+mod table;
 mod tree_error;
 mod types;
 
@@ -19,5 +20,6 @@ pub use ignore_glob::Fault;
 pub use machine::Machine;
 pub use memory::MemoryTree;
 pub use stat::Stat;
+pub use table::{Row, TableMachine};
 pub use tree_error::TreeError;
 pub use types::{Bytes, Contents, FileType, Identity, Listed, Listing, Metadata, Name, Refusal};

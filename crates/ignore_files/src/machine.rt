@@ -101,7 +101,9 @@ pub trait Machine {
 
     /// The one path from `/`, without links, to what the path leads to.
     fn canonicalize(&self, path: &str) -> io::Result<PathBuf>
-        ensures { MatchResult result (λ found. canonicalize_gives self.now path.now (Ok (path_buf_bytes found))) (λ error. canonicalize_gives self.now path.now (Err error)) };
+        ensures { MatchResult result
+            (λ found. canonicalize_gives self.now path.now (Ok (path_buf_bytes found)))
+            (λ error. canonicalize_gives self.now path.now (Err error)) };
 }
 
 impl<R> Machine for R

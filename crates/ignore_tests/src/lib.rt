@@ -23,6 +23,8 @@ mod example;
 #[cfg(test)]
 mod large;
 #[cfg(test)]
+mod machines;
+#[cfg(test)]
 mod queries;
 #[cfg(test)]
 mod refusing;

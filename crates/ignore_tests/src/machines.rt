@@ -2,6 +2,7 @@
 use ignore_files::{DiskFiles, Fault, Files, Identity, Machine, Refusal};
 use std::alloc::Global;
 use std::cell::Cell;
+use std::os::fd::AsRawFd;
 use std::os::unix::fs::MetadataExt;
 use std::path::PathBuf;
 use std::test::Fail;
@@ -19,8 +20,10 @@ struct Fake {
     count: u32,
     /// The name.
     name: &'static str,
-    /// How many of the next questions are interrupted.
-    interruptions: Cell<u32>,
+    /// How many steps were made: questions, and entries that were given.
+    steps: Cell<u32>,
+    /// The number of the step that is interrupted.
+    interrupted: u32,
     /// How many questions were asked.
     asked: Cell<u32>,
     /// The number of the question that is refused.
@@ -29,11 +32,12 @@ struct Fake {
     is_opened: Cell<bool>,
 }
 
-/// An entry whose kind is known or not.
+/// An entry whose kind is known or not. The first question about it is interrupted.
 #[derive(Drop)]
 struct Entry {
     name: &'static str,
     file_type: Option<fs::FileType>,
+    is_asked: Cell<bool>,
 }
 
 impl Fake {
@@ -44,18 +48,24 @@ impl Fake {
             file_type,
             count,
             name,
-            interruptions: Cell::new(0),
+            steps: Cell::new(0),
+            interrupted: 0,
             asked: Cell::new(0),
             refused: 0,
             is_opened: Cell::new(false),
         }
     }
 
+    /// Makes a step, and whether it was interrupted.
+    fn is_interrupted(&self) -> bool {
+        let step = self.steps.get().saturating_add(1);
+        self.steps.set(step);
+        step == self.interrupted
+    }
+
     /// Counts a question, which may be interrupted or refused.
     fn count_question(&self) -> io::Result<()> {
-        let left = self.interruptions.get();
-        if left > 0 {
-            self.interruptions.set(left - 1);
+        if self.is_interrupted() {
             return Err(io::Error::from(io::ErrorKind::Interrupted));
         }
         let asked = self.asked.get().saturating_add(1);
@@ -70,9 +80,7 @@ impl Fake {
     /// An entry, or an interruption in its place; an empty name stands for one that isn't UTF-8,
     /// and `lost` for an entry that is gone when its kind is asked.
     fn entry(&self) -> io::Result<Entry> {
-        let left = self.interruptions.get();
-        if left > 0 {
-            self.interruptions.set(left - 1);
+        if self.is_interrupted() {
             return Err(io::Error::from(io::ErrorKind::Interrupted));
         }
         if self.name.is_empty() {
@@ -81,6 +89,7 @@ impl Fake {
         Ok(Entry {
             name: self.name,
             file_type: if self.name == "lost" { None } else { Some(self.file_type) },
+            is_asked: Cell::new(false),
         })
     }
 }
@@ -134,6 +143,9 @@ impl Machine for Fake {
     }
 
     fn entry_type(entry: &Entry) -> io::Result<fs::FileType> {
+        if !entry.is_asked.replace(true) {
+            return Err(io::Error::from(io::ErrorKind::Interrupted));
+        }
         match entry.file_type {
             Some(file_type) => Ok(file_type),
             None => Err(io::Error::from(io::ErrorKind::NotFound)),
@@ -168,16 +180,12 @@ fn answers(alloc: Global, machine: &Fake, path: &str) -> Result<String, Fail> {
     Ok(format!(in alloc; "{stat:?}|{identity:?}|{list:?}|{contents:?}|{canonical:?}")?)
 }
 
-/// The answers over a machine, of whose files this is the type, where this question is refused and so many are interrupted.
-fn answers_of(
-    rt: &HostRuntime,
-    file_type: fs::FileType,
-    refused: u32,
-    interruptions: u32,
-) -> Result<String, Fail> {
-    let mut machine = Fake::new(rt.alloc(), file_type, 2, "a");
+/// What a machine of directories answers, where this question is refused and this step is
+/// interrupted.
+fn answers_of(rt: &HostRuntime, refused: u32, interrupted: u32) -> Result<String, Fail> {
+    let mut machine = Fake::new(rt.alloc(), directory(), 2, "a");
     machine.refused = refused;
-    machine.interruptions = Cell::new(interruptions);
+    machine.interrupted = interrupted;
     answers(rt.alloc(), &machine, "path")
 }
 
@@ -186,13 +194,13 @@ fn directory() -> fs::FileType {
     fs::Metadata::of_dir().file_type()
 }
 
-/// What a machine of directories answers.
+/// What it answers where nothing is refused.
 const ANSWERS: &str = "Ok(Metadata { file_type: Dir, len: 3 })|Ok(Some(Identity { device: 7, inode: 8 }))|Ok(Listing { items: [Entry { name: Name { text: \"a\" }, file_type: Dir }, Entry { name: Name { text: \"a\" }, file_type: Dir }] })|Ok(Contents { bytes: Bytes { bytes: [97] }, fault: Some(PermissionDenied) })|Ok(Name { text: \"path\" })";
 
 #[test]
 fn interrupted_questions_are_asked_again(rt: HostRuntime) -> Result<(), Fail> {
-    for interruptions in 0..6 {
-        let text = answers_of(&rt, directory(), 0, interruptions)?;
+    for interrupted in 0..12 {
+        let text = answers_of(&rt, 0, interrupted)?;
         assert_eq!(rt; text.as_str(), ANSWERS);
     }
     Ok(())
@@ -209,7 +217,7 @@ fn denied(answers: &str) -> usize {
 #[test]
 fn each_refused_question_ends_its_call_alone(rt: HostRuntime) -> Result<(), Fail> {
     for refused in 1..7 {
-        let text = answers_of(&rt, directory(), refused, 0)?;
+        let text = answers_of(&rt, refused, 0)?;
         assert_eq!(rt; denied(&text), 1);
     }
     Ok(())
@@ -286,11 +294,10 @@ fn an_endless_device_of_the_machine_is_not_read(rt: HostRuntime) -> Result<(), F
 
 #[test]
 fn a_pipe_of_the_machine_is_not_read(rt: HostRuntime) -> Result<(), Fail> {
-    let (reader, writer) = io::pipe(&rt)?;
-    let contents = DiskFiles::new(&rt).contents(rt.alloc(), "/proc/self/fd/3");
+    let ends = io::pipe(&rt)?;
+    let path = format!(in rt.alloc(); "/proc/self/fd/{}", ends.0.as_raw_fd())?;
+    let contents = DiskFiles::new(&rt).contents(rt.alloc(), &path);
     assert_eq!(rt; contents.err(), Some(Refusal::Fault(Fault::Other)));
-    drop(reader);
-    drop(writer);
     Ok(())
 }
 
