@@ -1,4 +1,4 @@
--- What a key gives: the value behind its equals sign, with an opening `"` read as the quote first.
+-- What a key gives: the value after its equals sign, with an opening `"` taken for the quote first.
 use Rattle.std.proofs.Common.{◌≡◌, inl, inr, ℕ, Bool, true, false, List, [], ◌∷◌, Option, None, Some, length, take, drop, refl, sym, ap, ◌∙◌, subst, arith}
 use Rattle.std.specs.Char.{to_ascii_lowercase}
 use Rattle.std.proofs.lemmas.List.{take-append-drop, take_at, drop_at, length-map}

@@ -1,4 +1,5 @@
--- Line by line: the first key of a text is that of its first line that has one, and other readings lie behind the next newline.
+-- Line by line: the first key of a text is that of its first line that has one, and other readings
+-- lie after the next newline.
 use Rattle.std.proofs.Common.{◌≡◌, ◌≢◌, ◌⊎◌, inl, inr, ℕ, suc, ◌+◌, ◌<◌, Bool, List, [], ◌∷◌, ◌++◌, Option, None, Some, length, length-append, take, drop, get_or, refl, sym, ap, ◌∙◌, subst, arith}
 use Rattle.std.proofs.lemmas.List.{append_assoc, append_cancel_right, nil_from_length, get_or_at, take-append-drop, drop_more, length-take-le, get_or-take}
 use Rattle.std.proofs.lemmas.Bool.{eqb-true, eq-eqb}
@@ -50,7 +51,7 @@ IsBlank-back : (a b : List ℕ) → IsBlank (a ++ b) → IsBlank b
 IsBlank-back [] b h = h
 IsBlank-back (x ∷ a) b h = IsBlank-back a b h.1
 
--- a reading is that of the key behind the first white space, or lies behind a newline
+-- a parse is that of the key after the first white space, or lies after a newline
 Reads-cases : (w u : List ℕ) (place : ℕ) (q : Bool) (v : List ℕ) → IsBlank w → StartsSolid u → Reads (w ++ u) place q v → ((place ≡ length w) × SetsKey q v u) ⊎ ((line next : List ℕ) × (k : ℕ) × (u ≡ line ++ 10 ∷ next) × (place ≡ length w + length line + 1 + k) × Reads next k q v)
 Reads-cases w u place q v white solid (before, rest, e, len, (start, indent, d, starts, blank), key) =
     let whole : start ++ (indent ++ rest) ≡ w ++ u = sym (append_assoc start indent rest) ∙ (ap (λ t. t ++ rest) (sym d) ∙ sym e) in
@@ -148,7 +149,7 @@ nowhere w u white solid one never place q v r = elim (Reads-cases w u place q v 
       )
 ]
 
--- the first line has none, and the lines behind it decide
+-- the first line has none, and the lines after it decide
 further : (w u line next : List ℕ) → IsBlank w → StartsSolid u → u ≡ line ++ 10 ∷ next → IsOneLine line → IsPreferred (λ (q : Bool) (v : List ℕ). SetsKey q v u) None → (found : Option (List ℕ)) → IsChosen next found → IsChosen (w ++ u) found
 further w u line next white solid e one never None h = λ place q v r. (let k = Reads-next w u line next place q v white solid e one never r in h k.0 q v k.2)
 further w u line next white solid e one never (Some v) h =

@@ -53,7 +53,7 @@ Closes-plain after h = ([], after, refl, tt, ([], after, refl, (false, refl), h)
 pub Closes-quote : (after rest : List ℕ) → trimmed_start after ≡ 34 ∷ rest → EndsLine rest → Closes after
 Closes-quote after rest e h = let prefix = prefix_of after in (prefix.0, trimmed_start after, prefix.1, prefix.2, (34 ∷ [], rest, e, (true, refl), h))
 
--- a value stands at the front, and its line closes behind it
+-- the text begins with a value, and its line closes after it
 pub HasValue-solid : (v text : List ℕ) → HasValue v text → StartsSolid text
 HasValue-solid v text ([], rest, e, (is, ne, solid), closes) = absurd (ne (sym is))
 HasValue-solid v text (b ∷ bs, rest, e, (is, ne, solid), closes) =
@@ -82,7 +82,7 @@ no_word after s v h =
       | inr k ↦ (let both = ap length k.0 in omega (arith, length-append v (34 ∷ [])))
     ]
 
--- behind the word the line ends
+-- the line ends after the word
 pub unquoted_word : (word after value : List ℕ) → word ≢ [] → IsSolid word → StartsBlank after → EndsLine after → IsUnquoted word value → IsShortest (λ (v : List ℕ). HasValue v (word ++ after)) (Some value)
 unquoted_word word after value ne q s ends (inl (some, e)) = (
   (value, 34 ∷ after, ap (λ t. t ++ after) e ∙ append_assoc value (34 ∷ []) after, (refl, some, IsSolid-prefix value (34 ∷ []) (subst IsSolid e q)), ([], 34 ∷ after, refl, tt, (34 ∷ [], after, refl, (true, refl), ends))),
@@ -106,7 +106,7 @@ unquoted_word word after value ne q s ends (inr (is, unclosed)) = subst (λ (t :
       ),
 )
 
--- behind the word a `"` stands, before the line ends
+-- a `"` follows the word, before the line ends
 pub whole_word : (word after : List ℕ) → word ≢ [] → IsSolid word → StartsBlank after → Closes after → (EndsLine after → ⊥) → IsShortest (λ (v : List ℕ). HasValue v (word ++ after)) (Some word)
 whole_word word after ne q s c never = (
   (word, after, refl, (refl, ne, q), c),

@@ -1,5 +1,5 @@
--- The excludes file that a configuration of git names: a choice among all ways to read its bytes.
--- 9 tab  10 newline  13 carriage return  32 space  34 `"`  61 `=`
+-- The value of `excludesfile` in a configuration of git: a choice among all ways to parse its
+-- bytes. 9 tab  10 newline  13 carriage return  32 space  34 `"`  61 `=`
 use Rattle.std.specs.Prelude.{◌≡◌, ◌≢◌, ◌<◌, ◌≤◌, ◌⊎◌, ◌||◌, ◌&&◌, ◌==◌, ℕ, Bool, true, false, nat_le, List, [], ◌∷◌, ◌++◌, map, length, codes, if◌then◌else◌, Option, None, Some, ⊤}
 use Rattle.std.specs.List.{AllByRecursion}
 use Rattle.std.specs.Char.{to_ascii_lowercase}
@@ -9,27 +9,27 @@ use Rattle.std.specs.Str.{IsUtf8}
 abbrev pub is_space : ℕ → Bool
 is_space b = b == 32 || (nat_le 9 b && nat_le b 13)
 
--- white space or none; it may cross lines
+-- only white space, or nothing; it may cross lines
 abbrev pub IsBlank : List ℕ → Type 0
 IsBlank text = AllByRecursion (λ b. is_space b ≡ true) text
 
--- without white space
+-- the text has no white space
 abbrev pub IsSolid : List ℕ → Type 0
 IsSolid text = AllByRecursion (λ b. is_space b ≡ false) text
 
--- the text is, at some split, a front for which P holds and then a rest for which Q holds
+-- the text is a prefix for which P holds and then a rest for which Q holds
 abbrev pub Then : (List ℕ → Type 0) → (List ℕ → Type 0) → List ℕ → Type 0
 Then P Q text = (prefix rest : List ℕ) × (text ≡ prefix ++ rest) × P prefix × Q rest
 
--- what stands before a line: nothing, or a text that ends with a newline
+-- a line starts after this text: it is empty or ends with a newline
 abbrev pub IsLineStart : List ℕ → Type 0
 IsLineStart before = (before ≡ []) ⊎ ((lines : List ℕ) × (before ≡ lines ++ 10 ∷ []))
 
--- what stands behind a line: nothing, or a text that begins with a newline
+-- a line ends before this text: it is empty or begins with a newline
 abbrev pub IsLineEnd : List ℕ → Type 0
 IsLineEnd after = (after ≡ []) ⊎ ((lines : List ℕ) × (after ≡ 10 ∷ lines))
 
--- a `"`, or nothing where there is none
+-- a `"` where quoted, else nothing
 abbrev pub IsQuote : Bool → List ℕ → Type 0
 IsQuote true prefix = prefix ≡ 34 ∷ []
 IsQuote false prefix = prefix ≡ []
@@ -44,11 +44,11 @@ IsEquals prefix = prefix ≡ 61 ∷ []
 abbrev pub IsKey : List ℕ → Type 0
 IsKey prefix = map to_ascii_lowercase prefix ≡ codes "excludesfile"
 
--- white space or none, and then the end of the file or just before a newline
+-- white space or none, and then the end of the line
 abbrev pub EndsLine : List ℕ → Type 0
 EndsLine text = Then IsBlank IsLineEnd text
 
--- what follows the value: white space or none, an optional `"`, and the line ends
+-- what follows the value: white space or none, an optional `"`, and the end of the line
 abbrev pub Closes : List ℕ → Type 0
 Closes text = Then IsBlank (Then IsOptionalQuote EndsLine) text
 
@@ -56,7 +56,8 @@ Closes text = Then IsBlank (Then IsOptionalQuote EndsLine) text
 abbrev pub HasValue : List ℕ → List ℕ → Type 0
 HasValue value text = Then (λ prefix. (prefix ≡ value) × (value ≢ []) × IsSolid value) Closes text
 
--- what follows the equals sign: white space or none, a `"` where the value is quoted, white space or none, and the value
+-- what follows the equals sign: white space or none, a `"` where the value is quoted, white space
+-- or none, and the value
 abbrev pub Assigns : Bool → List ℕ → List ℕ → Type 0
 Assigns quoted value text = Then IsBlank (Then (IsQuote quoted) (Then IsBlank (HasValue value))) text
 
@@ -64,7 +65,8 @@ Assigns quoted value text = Then IsBlank (Then (IsQuote quoted) (Then IsBlank (H
 abbrev pub SetsKey : Bool → List ℕ → List ℕ → Type 0
 SetsKey quoted value text = Then IsKey (Then IsBlank (Then IsEquals (Assigns quoted value))) text
 
--- a reading of a configuration: this many bytes, which are lines and white space or none; then the key with this value
+-- one parse of a configuration: this many bytes, which are lines and white space or none; then the
+-- key with this value
 abbrev pub Reads : List ℕ → ℕ → Bool → List ℕ → Type 0
 Reads text place quoted value = (before rest : List ℕ) × (text ≡ before ++ rest) × (place ≡ length before) × Then IsLineStart IsBlank before × SetsKey quoted value rest
 
@@ -73,12 +75,13 @@ abbrev pub IsShortest : (List ℕ → Type 0) → Option (List ℕ) → Type 0
 IsShortest P None = (value : List ℕ) → ¬ P value
 IsShortest P (Some value) = P value × ((other : List ℕ) → P other → length value ≤ length other)
 
--- of the readings of one key: those that read a `"` as the quote come first, and then the shortest value
+-- of the parses of one key: those that take a `"` for the quote come first, and then the shortest
+-- value
 abbrev pub IsPreferred : (Bool → List ℕ → Type 0) → Option (List ℕ) → Type 0
 IsPreferred R None = (quoted : Bool) (value : List ℕ) → ¬ R quoted value
 IsPreferred R (Some value) = IsShortest (R true) (Some value) ⊎ (IsShortest (R true) None × IsShortest (R false) (Some value))
 
--- of all readings: the first key that has one, and there the preferred
+-- of all parses: the first key that has one, and the preferred one there
 abbrev pub IsChosen : List ℕ → Option (List ℕ) → Type 0
 IsChosen text None = (place : ℕ) → IsPreferred (Reads text place) None
 IsChosen text (Some value) = (place : ℕ) × IsPreferred (Reads text place) (Some value) × ((earlier : ℕ) → earlier < place → IsPreferred (Reads text earlier) None)
@@ -93,11 +96,11 @@ abbrev pub trimmed_start : List ℕ → List ℕ
 trimmed_start [] = []
 trimmed_start (b ∷ bs) = if is_space b then trimmed_start bs else b ∷ bs
 
--- no byte, or first one of white space
+-- the text is empty or begins with white space
 abbrev pub StartsBlank : List ℕ → Type 0
 StartsBlank [] = ⊤
 StartsBlank (b ∷ bs) = is_space b ≡ true
 
--- the word less a `"` at its end, if something is left, else the word
+-- the word without a final `"`, where something else is left; else the word
 abbrev pub IsUnquoted : List ℕ → List ℕ → Type 0
 IsUnquoted word value = ((value ≢ []) × (word ≡ value ++ 34 ∷ [])) ⊎ ((value ≡ word) × ((prefix : List ℕ) → prefix ≢ [] → word ≢ prefix ++ 34 ∷ []))

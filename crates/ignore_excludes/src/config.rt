@@ -100,7 +100,8 @@ fn expanded(alloc: Global, home: Option<&str>, value: &str) -> Result<String, Er
     }
 }
 
-/// The path that the configuration in the file `path` names, if it can be read whole and gives a value.
+/// The path that the configuration in the file `path` names, if it can be read whole and gives a
+/// value.
 fn path_from<F: Files>(
     alloc: Global,
     files: &F,
@@ -145,11 +146,23 @@ fn first_path<F: Files>(
     Ok(None)
 }
 
-/// The path of the excludes file that git's configuration names, or none.
+/// The path of the excludes file that git's configuration names, or none. The file needn't exist.
 ///
-/// Asked in turn are the file of `git_config_global`, `.gitconfig` in `home`, `git/config` in the folder of the user's configuration (`xdg_config_home`, else `.config` in `home`), and the file of `git_config_system`, else `/etc/gitconfig`; an empty variable counts as unset, but for `home`. A file that can't be read whole gives nothing. The first value of `core.excludesFile` decides, with `home` in place of each `~`; without one it is `git/ignore` in the folder of the user's configuration. Nothing says that the file at the path is there.
+/// These configurations are searched, in order:
+/// - the file of `git_config_global`,
+/// - `.gitconfig` in `home`,
+/// - `git/config` in the folder of the user's configuration: `xdg_config_home`, else `.config` in
+/// `home`,
+/// - the file of `git_config_system`, else `/etc/gitconfig`.
 ///
-/// The only error is `Error::Memory`. The search and the form of the value are this library's own.
+/// An empty variable counts as unset, except `home`. A file that can't be read whole gives nothing.
+/// The first value of `core.excludesFile` decides, with `home` in place of each `~`. Without a
+/// value the path is `git/ignore` in the folder of the user's configuration.
+///
+/// The search and the form of the value are this library's own.
+///
+/// # Errors
+/// `Error::Memory` alone.
 pub fn gitconfig_excludes_path<F: Files>(
     alloc: Global,
     files: &F,

@@ -27,7 +27,7 @@ fn space_len(text: &[u8]) -> usize
     text.len()
 }
 
-/// The text cut behind its first word, which is empty where white space stands first.
+/// The first word of the text, which is empty where white space comes first, and the rest.
 fn split_word(text: &[u8]) -> (&[u8], &[u8])
     ensures parts { text.now ≡ result.0.now ++ result.1.now }
     ensures word { IsSolid result.0.now }
@@ -47,7 +47,7 @@ fn trim(text: &[u8]) -> &[u8]
     &text[space_len(text)..]
 }
 
-/// Whether only white space stands before the next newline or the end.
+/// Whether only white space precedes the next newline or the end.
 fn ends_line(text: &[u8]) -> bool
     ensures { IsTrue result ↔ EndsLine text.now }
 {
@@ -62,7 +62,7 @@ fn ends_line(text: &[u8]) -> bool
     true
 }
 
-/// Whether the line ends with no more than white space and one `"` in it.
+/// Whether the rest of the line has only white space and at most one `"`.
 fn closes(text: &[u8]) -> bool
     ensures { IsTrue result ↔ Closes text.now }
 {
@@ -75,7 +75,7 @@ fn closes(text: &[u8]) -> bool
     }
 }
 
-/// The word without a `"` at its end, where something stands before that.
+/// The word without a final `"`, where something else is left.
 fn unquoted(word: &[u8]) -> &[u8]
     ensures { IsUnquoted word.now result.now }
 {
@@ -108,7 +108,7 @@ fn first_value(text: &[u8]) -> Option<&[u8]>
     None
 }
 
-/// The value behind an equals sign.
+/// The value after an equals sign.
 fn assigned_value(text: &[u8]) -> Option<&[u8]>
     ensures { IsPreferred (λ quoted value. Assigns quoted value text.now) (option_copied result) }
 {
@@ -137,7 +137,7 @@ fn value_of_key(text: &[u8]) -> Option<&[u8]>
     assigned_value(rest)
 }
 
-/// The value of the first key that has a reading.
+/// The value of the first key that has one.
 fn chosen_value(bytes: &[u8]) -> Option<&[u8]>
     ensures { IsChosen bytes.now (option_copied result) }
 {
@@ -156,9 +156,10 @@ fn chosen_value(bytes: &[u8]) -> Option<&[u8]>
     }
 }
 
-/// The value of `core.excludesFile` in the bytes of a configuration, quotes and white space around it taken off.
+/// The value of `core.excludesFile` in the bytes of a configuration, without the quotes and white
+/// space around it.
 ///
-/// None where no line reads as the key with a value, and where the value isn't UTF-8.
+/// None where no line is the key with a value, and where the value isn't UTF-8.
 pub(crate) fn excludes_value(bytes: &[u8]) -> Option<&str>
     ensures value { IsValue bytes.now (option_copied result) }
     ensures only { (other : Option (List ℕ)) → IsValue bytes.now other → option_copied result ≡ other }

@@ -1,4 +1,5 @@
-//! The excludes file that git's configuration names. `ignore_rules` hands this crate on, in its module `gitignore`.
+//! The excludes file that git's configuration names. `ignore_rules` re-exports this crate, in its
+//! module `gitignore`.
 #![tactic(auto)]
 
 mod config;

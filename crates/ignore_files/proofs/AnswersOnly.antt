@@ -1,4 +1,5 @@
--- A value that is honest for two trees gives answers on which the two agree; and an error or an entry of the machine's is told as one thing.
+-- A value that is consistent with two trees gives answers on which the two agree; and an error or
+-- an entry of the machine's is reported as one item.
 use Rattle.std.proofs.Common.{◌≡◌, ◌⊎◌, inl, inr, ℕ, suc, Bool, List, [], ◌∷◌, length, Option, Result, Ok, Err, refl, sym, ap, ◌∙◌}
 use Rattle.std.specs.declared.io.Error.{Error}
 use Rattle.std.specs.Fs.{IsDir, IsFile, IsSymlink}
@@ -41,24 +42,24 @@ consistent_canonical files f a b path x h k given = Answers-ok (a.canonical path
 consistent_identity : {F : Type 0} (files : Ghosts F) (f : F) (a b : Tree) (path : List ℕ) (follow : Bool) (x : Option Identity) → IsHonest files f a → IsHonest files f b → files.identity_gives f path follow (Ok x) → a.identity path follow ≡ b.identity path follow
 consistent_identity files f a b path follow x h k given = Answers-ok (a.identity path follow) (b.identity path follow) x (h.identity path follow (Ok x) given) (k.identity path follow (Ok x) given)
 
--- an error is told by one fault, and as no entry
+-- an error is reported by one fault, and as no entry
 IsFaultOf-one : (error : Error) (one other : Listed) → IsFaultOf error one → IsFaultOf error other → one ≡ other
 IsFaultOf-one error (listed.Entry n kind) other h k = absurd h
 IsFaultOf-one error (listed.Fault f) (listed.Entry n kind) h k = absurd k
 IsFaultOf-one error (listed.Fault f) (listed.Fault g) h k = let e : ◌≡◌ {A = Refusal} (Refused f) (Refused g) = sym h ∙ k in let same : f ≡ g = cc e in ap (λ x. listed.Fault x) same
 
--- an entry whose type is known is told under its name, with a kind of that type
+-- an entry whose type is known is reported with its name and a kind of that type
 IsEntryOf-named : (IsName : List ℕ → Type 0) (t : MachineType) (item : Listed) → IsEntryOf IsName (Ok t) item → (name : List ℕ) × (kind : FileType) × (item ≡ listed.Entry name kind) × IsName name × IsReportedAs t kind
 IsEntryOf-named IsName t (listed.Entry name kind) h = (name, kind, refl, h.0, h.1)
 IsEntryOf-named IsName t (listed.Fault f) h = absurd h
 
--- what is told as none of the three is none of them
+-- what is reported as none of the three is none of them
 IsReportedAs-other : (t : MachineType) → IsReportedAs t Other → (IsDir t ⊎ (IsFile t ⊎ IsSymlink t)) → ⊥
 IsReportedAs-other t h (inl e) = h.0 e
 IsReportedAs-other t h (inr (inl e)) = h.1 e
 IsReportedAs-other t h (inr (inr e)) = h.2 e
 
--- each thing is told, and nothing else
+-- each item is reported, and nothing else
 AreReported-length : {R M E D F : Type 0} (machine : MachineGhosts R M E D F) (all : List (Result E Error)) (items : List Listed) → AreReported machine all items → length items ≡ length all
 AreReported-length machine [] [] h = refl
 AreReported-length machine [] (item ∷ items) h = absurd h

@@ -16,7 +16,8 @@ Leaves-refuses : (A : Type 0) (reported : Result Memory TreeError) (e f : TreeEr
 Leaves-refuses A (Ok after) e f old a b h k = absurd h
 Leaves-refuses A (Err refused) e f old a b h k = h.0 ∙ sym k.0
 
--- a call that needs memory: where it isn't refused it leaves one tree, and where it is refused it has one refusal and changes nothing
+-- a call that needs memory: where it isn't refused it leaves one tree, and where it is refused it
+-- has one refusal and changes nothing
 LeavesIfRoom-one : {A : Type 0} (reported : Result Memory TreeError) (x y : A) (old a b : Memory) → LeavesIfRoom reported (Ok x) old a → LeavesIfRoom reported (Ok y) old b → a ≡ b
 LeavesIfRoom-one (Ok after) x y old a b h k = h ∙ sym k
 LeavesIfRoom-one (Err refused) x y old a b h k = absurd h

@@ -1,4 +1,4 @@
--- The pieces of a text that is cut at a slash.
+-- The components of a text that is split at a slash.
 use Rattle.std.proofs.Common.{◌≡◌, ◌≢◌, ℕ, ◌+◌, ◌<◌, Bool, true, false, cond, eqb, List, [], ◌∷◌, ◌++◌, length, get_or, Some, None, refl, ap, sym, ◌∙◌, arith, Bor, lit<, ◌≤◌, ◌&&◌, ◌||◌, take, drop}
 use Rattle.std.specs.List.{onto_first}
 use Rattle.std.proofs.lemmas.List.{get_or_default, length-append}
@@ -14,11 +14,11 @@ use Rattle.ignore_files.specs.Memory.{but_last, is_empty, is_canonical_path}
 no_slash : (b : ℕ) → b ≢ 47 → eqb b 47 ≡ false
 no_slash b h = grind (arith, nat_tests)
 
--- a text without a slash is one piece
+-- a text without a slash is one component
 pub components_one : (bs : List ℕ) → ((i : ℕ) → i < length bs → get_or bs i 0 ≢ 47) → components bs ≡ bs ∷ []
 components_one bs h = slice_split_none (λ b. eqb b 47) bs (λ k d l. no_slash (get_or bs k d) (λ e. h k l (get_or_default bs k 0 d l ∙ e)))
 
--- there is a first piece
+-- there is a first component
 pub components_some : (bs : List ℕ) → (first : List ℕ) × (rest : List (List ℕ)) × (components bs ≡ first ∷ rest)
 components_some [] = ([], [], refl)
 components_some (b ∷ bs) = some_first (eqb b 47) b (components bs)
@@ -42,7 +42,7 @@ components_cut (x ∷ xs) ys =
     put true s = refl
     put false s = rw s.2 refl
 
--- what `split_once` says at a slash
+-- what `split_once` gives at a slash
 pub components_split : (bs : List ℕ) (x : Bor (List ℕ) × Bor (List ℕ)) → IsSplitOnceResult 47 bs (Some x) → (components bs ≡ x.0.now ∷ components x.1.now) × (length x.1.now < length bs)
 components_split bs x h =
     let cut = split_parts 47 bs (Some x) h (lit< tt) in
@@ -54,7 +54,7 @@ components_split bs x h =
 pub components_whole : (bs : List ℕ) → IsSplitOnceResult 47 bs None → components bs ≡ bs ∷ []
 components_whole bs h = components_one bs (split_parts 47 bs None h (lit< tt))
 
--- what `rsplit_once` says at a slash
+-- what `rsplit_once` gives at a slash
 abbrev pub IsCutLast : List ℕ → Bor (List ℕ) × Bor (List ℕ) → Type 0
 IsCutLast bs x = (i : ℕ) × (j : ℕ) × RFindsChar 47 bs (Some (i, j)) × (x.0.now ≡ take i bs) × (x.1.now ≡ drop j bs) × (i ≤ j) × (length x.0.now ≡ i) × (length x.1.now + j ≡ length bs)
 
@@ -70,7 +70,7 @@ but_last_push [] p = refl
 but_last_push (q ∷ []) p = refl
 but_last_push (q ∷ r ∷ ps) p = ap (λ qs. q ∷ qs) (but_last_push (r ∷ ps) p)
 
--- whether a path is a node's own, by what stands behind its first slash
+-- whether a path is canonical, by what follows its first slash
 pub canonical_none : (bs : List ℕ) → ((rest : List ℕ) → bs ≢ 47 ∷ rest) → false ≡ is_canonical_path bs
 canonical_none [] h = refl
 canonical_none (b ∷ rest) h = sym (ap (λ t. t && (is_empty rest || list_all is_proper (components rest))) (no_slash b (λ e. h rest (ap (λ c. c ∷ rest) e))))

@@ -1,4 +1,4 @@
--- The machine's files are honest for the tree on the disk from which the machine answers truly.
+-- The machine's files are consistent with the tree on the disk from which the machine answers truly.
 use Rattle.std.proofs.Common.{◌≡◌, ℕ, Bool, true, List, Option, Result, Ok, Err, refl, sym, ap, subst, Some}
 use Rattle.std.specs.declared.io.Error.{Error}
 use Rattle.ignore_glob.specs.declared.fault.Fault.{Fault}

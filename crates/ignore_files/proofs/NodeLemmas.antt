@@ -22,7 +22,7 @@ set_changed f (m ∷ ns) (suc i) n h = ap (λ ks. m ∷ ks) (set_changed f ns i 
 pub write_changed : (f : Node → Node) (ns : List Node) (i : ℕ) (n read : Node) → slice_get ns i ≡ Some n → read ≡ get_or ns i read → set ns i (f read) ≡ changed f ns i
 write_changed f ns i n read h r = ap (λ k. set ns i (f k)) (r ∙ get_or_from_slice_get ns i n read h) ∙ set_changed f ns i n h
 
--- the same behind which a node was added
+-- the same where a node was appended
 pub read_before : (ns : List Node) (x : Node) (i : ℕ) (n read : Node) → slice_get ns i ≡ Some n → read ≡ get_or (ns ++ x ∷ []) i read → read ≡ n
 read_before ns x i n read h r = r ∙ get_or_append_left ns (x ∷ []) read i (slice_get_within ns i n h) ∙ get_or_from_slice_get ns i n read h
 
@@ -46,7 +46,7 @@ module _ (test : Kind → Bool) (f : Node → Node) (tree : Memory) (path : List
   pub leaves_room : (x : Node) → x ≡ f read → LeavesIfRoom {A = Unit {0}} (set_at test f tree path) (Ok tt) tree (record tree { nodes = set tree.nodes place x })
   leaves_room x e = subst (λ (made : Result Memory TreeError). LeavesIfRoom {A = Unit {0}} made (Ok tt) tree (record tree { nodes = set tree.nodes place x })) reported (ap (λ y. record tree { nodes = set tree.nodes place y }) e ∙ written)
 
--- a node added, by what its parts are
+-- an added node, by its fields
 pub with_node_is : (nodes : List Node) (path : List ℕ) (kind : Kind) (len parent : ℕ) (name : List ℕ) (reported : FileType) (place : ℕ) (copy : List ℕ) (node : Node) → name ≡ last_component (components path) → reported ≡ file_type_of kind → place ≡ length nodes → copy ≡ path → node ≡ new_node place parent copy kind len → changed (listing_too (Named name reported place)) nodes parent ++ node ∷ [] ≡ with_node nodes path kind len parent
 with_node_is nodes path kind len parent name reported place copy node name_is reported_is place_is copy_is node_is =
     ap (λ n. changed (listing_too (Named name reported place)) nodes parent ++ n ∷ []) node_is

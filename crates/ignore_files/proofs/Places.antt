@@ -72,7 +72,7 @@ parent_ok nodes path parent h =
     let n = folder.1 in
     (n.0, n.1, ap (option_and_then (λ m. entry_under name m.kind)) (sym n.1) ∙ nothing (is_empty name) parent (child nodes parent name) led)
 
--- the first piece leads on to where the rest leads
+-- the first component leads on to where the rest leads
 module _ (nodes : List Node) (here : ℕ) (text component after : List ℕ) (cut : components text ≡ component ∷ components after) where
   below_turn : below nodes here (components text) ≡ option_and_then (λ i. below nodes i (components after)) (below nodes here (component ∷ []))
   below_turn = ap (below nodes here) cut ∙ below_append nodes here (component ∷ []) (components after)

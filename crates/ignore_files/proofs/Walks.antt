@@ -1,4 +1,4 @@
--- A walk over pieces, cut in two.
+-- A walk over components, cut in two.
 use Rattle.std.proofs.Common.{◌≡◌, ℕ, zero, suc, Bool, true, false, cond, List, [], ◌∷◌, ◌++◌, Option, Some, None, Result, Ok, Err, refl, ap, sym, ◌∙◌, append_assoc}
 use Rattle.ignore_glob.specs.declared.fault.Fault.{Fault}
 use Rattle.ignore_glob.specs.declared.fault.Fault.TheVariants.{NotFound, NotADirectory, LinkLimit}
@@ -19,11 +19,11 @@ walk_components nodes follow zero ps here = refl
 walk_components nodes follow (suc links) ps here = refl
 
 module _ (nodes : List Node) (follow : Bool) (q : List ℕ) (qs : List (List ℕ)) where
-  -- the rest is read from where the front led
+  -- the rest is resolved from where the prefix led
   abbrev pub onward : Reached → Result Reached Fault
   onward r = cond (is_dir_at nodes r.node) (walk nodes follow r.links (q ∷ qs) r.node) (Err NotADirectory)
 
-  -- a link in the front is followed with all the pieces after it
+  -- a link in the prefix is followed with all components after it
   abbrev pub Splices : ℕ → Type 0
   Splices links = (start : ℕ) (target : List ℕ) (rest : List (List ℕ)) → after_link nodes follow links start target (rest ++ (q ∷ qs)) ≡ and_then onward (after_link nodes true links start target rest)
 
@@ -71,12 +71,12 @@ module _ (nodes : List Node) (follow : Bool) (q : List ℕ) (qs : List (List ℕ
       led true = refl
       led false = spliced links h start rest (components target) (components_some target)
 
-  -- the pieces behind the first lead on from where it leads
+  -- the components after the first lead on from where it leads
   pub walk_append : (links : ℕ) → Appends links
   walk_append zero = appends zero (λ start target rest. refl)
   walk_append (suc links) = appends (suc links) (splices_next links (walk_append links))
 
--- one piece with a slash behind it, and then the rest
+-- one component with a slash after it, and then the rest
 pub walk_turn : (nodes : List Node) (follow : Bool) (links here : ℕ) (text component after : List ℕ) → components text ≡ component ∷ components after → walk nodes follow links (components text) here ≡ and_then (λ r. cond (is_dir_at nodes r.node) (walk nodes follow r.links (components after) r.node) (Err NotADirectory)) (walk nodes true links (component ∷ []) here)
 walk_turn nodes follow links here text component after e =
     let s = components_some after in
@@ -88,14 +88,14 @@ module _ (nodes : List Node) (follow : Bool) (links here : ℕ) (text component 
   turned : (r : Result Reached Fault) → r ≡ walk nodes true links (component ∷ []) here → and_then (λ r. cond (is_dir_at nodes r.node) (walk nodes follow r.links (components after) r.node) (Err NotADirectory)) r ≡ w
   turned r e = ap (and_then (λ r. cond (is_dir_at nodes r.node) (walk nodes follow r.links (components after) r.node) (Err NotADirectory))) e ∙ sym (walk_turn nodes follow links here text component after cut) ∙ same
 
-  -- the piece is a fault
+  -- the component is a fault
   pub turn_fault : (fault : Fault) → Err fault ≡ walk nodes true links (component ∷ []) here → Err fault ≡ w
   turn_fault fault e = turned (Err fault) e
 
-  -- the piece leads to a directory, and the rest is left
+  -- the component leads to a directory, and the rest is left
   pub turn_in : (r : Reached) → Ok r ≡ walk nodes true links (component ∷ []) here → is_dir_at nodes r.node ≡ true → walk nodes follow r.links (components after) r.node ≡ w
   turn_in r e dir = sym (ap (λ b. cond b (walk nodes follow r.links (components after) r.node) (Err NotADirectory)) dir) ∙ turned (Ok r) e
 
-  -- the piece leads to what is no directory
+  -- the component leads to what is no directory
   pub turn_out : (r : Reached) → Ok r ≡ walk nodes true links (component ∷ []) here → is_dir_at nodes r.node ≡ false → Err NotADirectory ≡ w
   turn_out r e dir = sym (ap (λ b. cond b (walk nodes follow r.links (components after) r.node) (Err NotADirectory)) dir) ∙ turned (Ok r) e

@@ -18,22 +18,22 @@ use Rattle.ignore_files.specs.declared.memory.node.Cut.{Cut}
 use Rattle.ignore_files.specs.declared.memory.node.Kind.{Kind}
 use Rattle.ignore_files.specs.declared.memory.node.Kind.TheVariants.{Dir, File, Link}
 
--- the kind as a tree tells it
+-- the kind of a node as a tree reports it
 abbrev pub file_type_of : Kind → FileType
 file_type_of (Dir entries) = file_type.Dir
 file_type_of (File bytes) = file_type.File
 file_type_of (Link target) = file_type.Symlink
 
--- the fault that was set for the call, or else its answer
+-- the fault that was set for a call, or else the call's answer
 abbrev pub unless : {A : Type 0} → Option Fault → Result A Fault → Result A Fault
 unless None answer = answer
 unless (Some fault) answer = Err fault
 
--- what `stat` answers of a node
+-- the answer of `stat` for a node
 abbrev pub stat_of : Node → Result Metadata Fault
 stat_of n = unless n.stat_fault (Ok (record { file_type = file_type_of n.kind; len = n.len }))
 
--- what a listing has for an entry
+-- the item of a listing for an entry
 abbrev pub listed_of : Entry → Listed
 listed_of (Named name kind node) = listed.Entry name kind
 listed_of Nameless = listed.Fault BadName
@@ -44,26 +44,26 @@ listing_of (Dir entries) = Ok (map listed_of entries)
 listing_of (File bytes) = Err NotADirectory
 listing_of (Link target) = Err NotADirectory
 
--- what `list` answers of a node
+-- the answer of `list` for a node
 abbrev pub list_of : Node → Result (List Listed) Fault
 list_of n = unless n.list_fault (listing_of n.kind)
 
--- the bytes up to where the reading ends, with the fault that ends it
+-- the bytes up to where reading ends, with the fault that ends it
 abbrev pub read_of : List ℕ → Option Cut → Contents
 read_of bytes None = record { bytes = bytes; fault = None }
 read_of bytes (Some cut) = record { bytes = take cut.len bytes; fault = Some cut.fault }
 
--- what `contents` answers of a node: what isn't a file opens, and its first read fails
+-- the answer of `contents` for a node: what isn't a file opens, and its first read fails
 abbrev pub contents_of : Option Cut → Kind → Contents
 contents_of cut (Dir entries) = record { bytes = []; fault = Some IsADirectory }
 contents_of cut (File bytes) = read_of bytes cut
 contents_of cut (Link target) = record { bytes = []; fault = Some IsADirectory }
 
--- the node to which a text leads
+-- the node to which a path leads
 abbrev pub found : Memory → List ℕ → Bool → Result Node Fault
 found tree path follow = node_found tree.cwd tree.nodes path follow
 
--- the tree of a tree in memory
+-- the tree of files that a tree in memory is
 abbrev pub tree_of : Memory → Tree
 tree_of tree = record {
   stat = λ path follow. and_then stat_of (found tree path follow);

@@ -1,4 +1,4 @@
--- What each call makes of a tree in memory: the tree after it, or its refusal.
+-- The tree in memory after each call that changes it, or the error of the call.
 use Rattle.std.specs.Prelude.{◌≡◌, ℕ, zero, suc, Bool, List, [], ◌∷◌, ◌++◌, length, Option, Some, Result, Ok, Err, cond}
 use Rattle.ignore_glob.specs.declared.fault.Fault.{Fault}
 use Rattle.ignore_glob.specs.Paths.{components, last_component}
@@ -13,7 +13,7 @@ use Rattle.ignore_files.specs.declared.memory.node.Node.{Node}
 use Rattle.ignore_files.specs.declared.memory.node.Kind.{Kind}
 use Rattle.ignore_files.specs.declared.memory.node.Kind.TheVariants.{Dir, File, Link}
 
--- the node at one place is changed
+-- the nodes with f applied to the one at a place
 abbrev pub changed : (Node → Node) → List Node → ℕ → List Node
 changed f [] place = []
 changed f (n ∷ ns) zero = f n ∷ ns
@@ -23,29 +23,29 @@ changed f (n ∷ ns) (suc place) = n ∷ changed f ns place
 abbrev pub root_alone : List ℕ → Memory
 root_alone cwd = record { cwd = cwd; nodes = new_node 0 0 (47 ∷ []) (Dir []) 0 ∷ [] }
 
--- the tree that `new` makes, or its refusal
+-- the result of `new`
 abbrev pub made : List ℕ → Result Memory TreeError
 made cwd = cond (is_canonical_path cwd) (Ok (root_alone cwd)) (Err refusal.NotClean)
 
--- one entry more in a directory
+-- the kind with one more entry, where it is a directory
 abbrev pub with_entry : Entry → Kind → Kind
 with_entry entry (Dir entries) = Dir (entries ++ entry ∷ [])
 with_entry entry (File bytes) = File bytes
 with_entry entry (Link target) = Link target
 
--- the same of a node; one that is no directory stays as it is
+-- the node with one more entry, where it is a directory
 abbrev pub listing_too : Entry → Node → Node
 listing_too entry n = record n { kind = with_entry entry n.kind }
 
--- the nodes with one more, which is the last entry of the directory at a place
+-- the nodes with one more, which becomes the last entry of the directory at a place
 abbrev pub with_node : List Node → List ℕ → Kind → ℕ → ℕ → List Node
 with_node nodes path kind len parent = changed (listing_too (Named (last_component (components path)) (file_type_of kind) (length nodes))) nodes parent ++ new_node (length nodes) parent path kind len ∷ []
 
--- a node is added at a path, of this kind and size
+-- the tree with a node of this kind and size at a path
 abbrev pub added : Kind → ℕ → Memory → List ℕ → Result Memory TreeError
 added kind len tree path = and_then (λ parent. Ok (record tree { nodes = with_node tree.nodes path kind len parent })) (parent_for tree.nodes path)
 
--- a directory with nothing in it, a file, a link
+-- the same for an empty directory, a file and a link
 abbrev pub dir_added : Memory → List ℕ → Result Memory TreeError
 dir_added = added (Dir []) 0
 
@@ -55,11 +55,11 @@ file_added bytes = added (File bytes) (length bytes)
 abbrev pub link_added : List ℕ → Memory → List ℕ → Result Memory TreeError
 link_added target = added (Link target) (length target)
 
--- the node at a path is changed, if its kind passes
+-- the tree with f applied to the node at a path, where its kind passes the test
 abbrev pub set_at : (Kind → Bool) → (Node → Node) → Memory → List ℕ → Result Memory TreeError
 set_at test f tree path = and_then (λ place. Ok (record tree { nodes = changed f tree.nodes place })) (sought test tree.nodes path)
 
--- what each of the other calls makes of a tree
+-- the results of the other calls
 abbrev pub nameless_added : Memory → List ℕ → Result Memory TreeError
 nameless_added = set_at is_directory (listing_too Nameless)
 
@@ -78,21 +78,22 @@ list_faulted fault = set_at is_directory (λ n. record n { list_fault = Some fau
 abbrev pub contents_cut : ℕ → Fault → Memory → List ℕ → Result Memory TreeError
 contents_cut len fault = set_at is_file (λ n. record n { cut = Some (record { len = len; fault = fault }) })
 
--- a call left the tree that is told; or it refused as is told, and changed nothing
+-- the call succeeds exactly where it should and leaves that tree; or it fails with that error and
+-- changes nothing
 abbrev pub Leaves : {A : Type 0} → Result Memory TreeError → Result A TreeError → Memory → Memory → Type 0
 Leaves (Ok after) (Ok a) old new = new ≡ after
 Leaves (Ok after) (Err e) old new = ⊥
 Leaves (Err refused) (Ok a) old new = ⊥
 Leaves (Err refused) (Err e) old new = (e ≡ refused) × (new ≡ old)
 
--- the same of a call that needs memory: it may also have changed nothing for want of it
+-- the same for a call that allocates: out of memory, which changes nothing, is possible too
 abbrev pub LeavesIfRoom : {A : Type 0} → Result Memory TreeError → Result A TreeError → Memory → Memory → Type 0
 LeavesIfRoom (Ok after) (Ok a) old new = new ≡ after
 LeavesIfRoom (Ok after) (Err e) old new = (e ≡ refusal.Memory) × (new ≡ old)
 LeavesIfRoom (Err refused) (Ok a) old new = ⊥
 LeavesIfRoom (Err refused) (Err e) old new = (e ≡ refused) × (new ≡ old)
 
--- a call made the tree that is told, unless memory was refused; or it refused as is told
+-- the call returns that tree, or is out of memory; or it fails with that error
 abbrev pub MakesIfRoom : Result Memory TreeError → Result Memory TreeError → Type 0
 MakesIfRoom (Ok made) (Ok tree) = tree ≡ made
 MakesIfRoom (Ok made) (Err e) = e ≡ refusal.Memory

@@ -3,7 +3,7 @@ use Rattle.std.specs.Prelude.{ℕ, List, [], ◌∷◌, Option, Some, None, byte
 use Rattle.ignore_files.specs.declared.memory.entry.Entry.{Entry}
 use Rattle.ignore_files.specs.declared.memory.entry.Entry.TheVariants.{Named, Nameless}
 
--- the node that stands under a name
+-- the node of the entry with a name
 abbrev pub named : List ℕ → List Entry → Option ℕ
 named name [] = None
 named name (Named n file_type node ∷ entries) = cond (bytes_eq n name) (Some node) (named name entries)

@@ -1,4 +1,4 @@
--- Values of a type with `Files` that are honest for a tree.
+-- Values of a type with `Files` that are consistent with a tree.
 use Rattle.std.specs.Prelude.{ℕ, Bool, List, Result, Option}
 use Rattle.ignore_files.specs.Tree.{Tree, Answers}
 use Rattle.ignore_files.specs.declared.types.Refusal.{Refusal}
@@ -8,7 +8,8 @@ use Rattle.ignore_files.specs.declared.types.Contents.{Contents}
 use Rattle.ignore_files.specs.declared.types.Identity.{Identity}
 use Rattle.ignore_files.specs.declared.files.Files.{Ghosts}
 
--- the value is honest for the tree: each answer that it may give, but that memory ran out, is the tree's
+-- the value is consistent with the tree: each answer that it may give, other than out of memory, is
+-- the tree's
 pub record IsHonest {F : Type 0} (files : Ghosts F) (f : F) (tree : Tree) : Type 0 where
   pub stat : (p : List ℕ) (follow : Bool) (r : Result Metadata Refusal) → files.stat_gives f p follow r → Answers (tree.stat p follow) r
   pub list : (p : List ℕ) (r : Result (List Listed) Refusal) → files.list_gives f p r → Answers (tree.list p) r

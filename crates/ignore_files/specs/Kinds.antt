@@ -1,4 +1,4 @@
--- Questions about a kind of file.
+-- Tests of the type of a file.
 use Rattle.std.specs.Prelude.{Bool, true, false}
 use Rattle.ignore_files.specs.declared.types.FileType.{FileType}
 use Rattle.ignore_files.specs.declared.types.FileType.TheVariants.{File, Dir, Symlink, Other}

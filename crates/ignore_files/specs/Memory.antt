@@ -1,4 +1,4 @@
--- Trees in memory: their nodes, and the nodes that own paths lead to.
+-- Trees in memory: their nodes, and the nodes to which canonical paths lead.
 use Rattle.std.specs.Prelude.{ℕ, ◌+◌, Bool, true, false, List, [], ◌∷◌, Option, Some, None, option_and_then, Result, Ok, Err, slice_get, ◌==◌, ◌||◌, ◌&&◌, cond, count_by}
 use Rattle.std.specs.List.{list_all}
 use Rattle.ignore_glob.specs.Paths.{components, is_proper}
@@ -11,12 +11,13 @@ use Rattle.ignore_files.specs.declared.memory.node.Node.{Node}
 use Rattle.ignore_files.specs.declared.memory.node.Kind.{Kind}
 use Rattle.ignore_files.specs.declared.memory.node.Kind.TheVariants.{Dir, File, Link}
 
--- a tree in memory: its working directory, and its nodes in the order of adding. A node is told by its place in that order; `/` has place 0
+-- a tree in memory: its working directory, and its nodes in the order in which they were added. A
+-- node is named by its place in that order; `/` has place 0
 pub record Memory : Type 0 where
   pub cwd : List ℕ
   pub nodes : List Node
 
--- the first answer's error, or what follows from its value
+-- the error of a result, or f of its value
 abbrev pub and_then : {A B E : Type 0} → (A → Result B E) → Result A E → Result B E
 and_then f (Ok a) = f a
 and_then f (Err e) = Err e
@@ -38,15 +39,15 @@ is_file (Dir entries) = false
 is_file (File bytes) = true
 is_file (Link target) = false
 
--- whatever it is
+-- each kind passes
 abbrev pub any_kind : Kind → Bool
 any_kind kind = true
 
--- at the place stands a node whose kind passes
+-- at the place is a node whose kind passes
 abbrev pub is_at : (Kind → Bool) → List Node → ℕ → Bool
 is_at test nodes place = option_map_or (λ n. test n.kind) (slice_get nodes place) false
 
--- at the place stands a directory
+-- at the place is a directory
 abbrev pub is_dir_at : List Node → ℕ → Bool
 is_dir_at = is_at is_directory
 
@@ -54,63 +55,65 @@ is_dir_at = is_at is_directory
 abbrev pub dir_count : Memory → ℕ
 dir_count tree = count_by (λ n. is_directory n.kind) tree.nodes
 
--- the entries of a directory; nothing else has any
+-- the entries of a directory; other kinds have none
 abbrev pub entries_of : Kind → Option (List Entry)
 entries_of (Dir entries) = Some entries
 entries_of (File bytes) = None
 entries_of (Link target) = None
 
--- what a directory has under a name
+-- the node of a directory's entry with a name
 abbrev pub entry_under : List ℕ → Kind → Option ℕ
 entry_under name kind = option_and_then (named name) (entries_of kind)
 
--- what the directory at a place has under a name
+-- the node of the entry with a name in the directory at a place
 abbrev pub child : List Node → ℕ → List ℕ → Option ℕ
 child nodes place name = option_and_then (λ n. entry_under name n.kind) (slice_get nodes place)
 
--- the node to which names lead, one after another and through no links; empty pieces are passed over
+-- the node to which components lead, one after another and through no links; empty components are
+-- skipped
 abbrev pub below : List Node → ℕ → List (List ℕ) → Option ℕ
 below nodes place [] = Some place
 below nodes place (component ∷ rest) = cond (is_empty component) (below nodes place rest) (option_and_then (λ i. below nodes i rest) (child nodes place component))
 
--- the node at an own path
+-- the node at a canonical path
 abbrev pub place_of : List Node → List ℕ → Option ℕ
 place_of nodes path = below nodes 0 (components path)
 
--- an own path: `/`, or `/` and names joined by single slashes
+-- a canonical path: `/`, or `/` and names joined by single slashes
 abbrev pub is_canonical_path : List ℕ → Bool
 is_canonical_path [] = false
 is_canonical_path (b ∷ rest) = (b == 47) && (is_empty rest || list_all is_proper (components rest))
 
--- the pieces but the last
+-- the components but the last
 abbrev pub but_last : List (List ℕ) → List (List ℕ)
 but_last [] = []
 but_last (component ∷ []) = []
 but_last (component ∷ next ∷ rest) = component ∷ but_last (next ∷ rest)
 
--- the place, if there is one and a node stands there whose kind passes; else the refusal
+-- the place, if it has a node whose kind passes; else the error
 abbrev pub passing : (Kind → Bool) → TreeError → List Node → Option ℕ → Result ℕ TreeError
 passing test refused nodes None = Err refused
 passing test refused nodes (Some place) = cond (is_at test nodes place) (Ok place) (Err refused)
 
--- the place at an own path of a node whose kind passes
+-- the place of the node at a canonical path whose kind passes
 abbrev pub sought : (Kind → Bool) → List Node → List ℕ → Result ℕ TreeError
 sought test nodes path = cond (is_canonical_path path) (passing test refusal.Missing nodes (place_of nodes path)) (Err refusal.NotClean)
 
--- the place of the directory that an own path is in
+-- the place of the directory that a canonical path is in
 abbrev pub folder_sought : List Node → List ℕ → Result ℕ TreeError
 folder_sought nodes path = cond (is_canonical_path path) (passing is_directory refusal.NoParent nodes (below nodes 0 (but_last (components path)))) (Err refusal.NotClean)
 
--- the directory, unless a node is there already
+-- the directory, unless the path has a node already
 abbrev pub vacant : Option ℕ → ℕ → Result ℕ TreeError
 vacant None parent = Ok parent
 vacant (Some place) parent = Err refusal.Exists
 
--- the place of the directory in which a node may be added at a path: this is an own path, what it is in is a directory, and nothing is there
+-- the place of the directory in which a node may be added at a path: the path is canonical, what it
+-- is in is a directory, and nothing is there
 abbrev pub parent_for : List Node → List ℕ → Result ℕ TreeError
 parent_for nodes path = and_then (vacant (place_of nodes path)) (folder_sought nodes path)
 
--- a node as it is added at a place: its inode is its number in the order of adding
+-- a node as it is added at a place: its inode is its number, counted from 1
 abbrev pub new_node : ℕ → ℕ → List ℕ → Kind → ℕ → Node
 new_node place parent path kind len = record {
   parent = parent;

@@ -1,9 +1,9 @@
--- The text of a refused change.
+-- The text of each error of a change.
 use Rattle.std.specs.Prelude.{ℕ, List, codes}
 use Rattle.ignore_files.specs.declared.tree_error.TreeError.{TreeError}
 use Rattle.ignore_files.specs.declared.tree_error.TreeError.TheVariants.{NotClean, NoParent, Exists, Missing, Memory}
 
--- what a refusal prints
+-- the text of an error
 abbrev pub refusal_text : TreeError → List ℕ
 refusal_text NotClean = codes "path is not clean"
 refusal_text NoParent = codes "no directory to add to"

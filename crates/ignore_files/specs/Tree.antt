@@ -1,4 +1,4 @@
--- A tree of files: five functions of the text of a path, with faults among their answers.
+-- A tree of files: five functions of a path, with faults among their answers.
 use Rattle.std.specs.Prelude.{◌≡◌, ℕ, Bool, List, Result, Ok, Err, Option}
 use Rattle.ignore_glob.specs.declared.fault.Fault.{Fault}
 use Rattle.ignore_files.specs.declared.types.Refusal.{Refusal}
@@ -9,7 +9,8 @@ use Rattle.ignore_files.specs.declared.types.Listed.{Listed}
 use Rattle.ignore_files.specs.declared.types.Contents.{Contents}
 use Rattle.ignore_files.specs.declared.types.Identity.{Identity}
 
--- a tree: what a path leads to (the flag says whether a link in last place is followed), what a directory lists, what can be read of a file, the one path without links, and the numbers of what a path leads to
+-- a tree: the metadata at a path (the flag says whether a last link is followed), the listing of a
+-- directory, the contents of a file, the canonical path, and the identity at a path
 pub record Tree : Type 0 where
   pub stat : List ℕ → Bool → Result Metadata Fault
   pub list : List ℕ → Result (List Listed) Fault
@@ -17,7 +18,7 @@ pub record Tree : Type 0 where
   pub canonical : List ℕ → Result (List ℕ) Fault
   pub identity : List ℕ → Bool → Result (Option Identity) Fault
 
--- the answer is what the tree tells, unless it is that memory ran out
+-- the answer is the tree's, unless it is out of memory
 abbrev pub Answers : {A : Type 0} → Result A Fault → Result A Refusal → Type 0
 Answers reported (Ok a) = reported ≡ Ok a
 Answers reported (Err (Refused fault)) = reported ≡ Err fault

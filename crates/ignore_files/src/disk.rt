@@ -24,7 +24,7 @@ const FIRST_READ: usize = 32 * 1024;
 ///
 /// Each call asks the machine and returns its answer in this crate's types. Contracts state each
 /// answer from the machine's (`GivesStat`, `MayList` ..); where the machine answers truly from
-/// one disk, these files are honest for the tree on it (`is_honest`). The machine is asked again
+/// one disk, these files are consistent with the tree on it (`is_honest`). The machine is asked again
 /// where a signal interrupted it (`EINTR`), and never about a path with a NUL, which is not
 /// found. Of its errors five keep their name (not found, permission denied, not a directory, is a
 /// directory, invalid data); a name that isn't UTF-8 is `Fault::BadName` (one that the system
@@ -246,7 +246,8 @@ impl<'r, R: Machine> DiskFiles<'r, R> {
     ghost use Rattle.ignore_files.specs.Gives.{IsHonest};
     ghost use Rattle.ignore_files.specs.Disk.{machine_of, tree_on};
 
-    /// Where the machine answers truly from one disk, these files are honest for the tree on it.
+    /// Where the machine answers truly from one disk, these files are consistent with the tree on
+    /// it.
     pub fn is_honest(&self)
         ensures { (disk : Disk) → IsTruthful R.Machine R.Dir.next_gives (machine_of self.now) disk
             → IsHonest ⟦<DiskFiles<'r, R> as Files>⟧ self.now (tree_on disk) }

@@ -6,7 +6,7 @@ use crate::types::Name;
 /// directory.
 #[derive(Debug, Drop)]
 pub struct Env {
-    /// The working directory, from which relative paths are read.
+    /// The working directory, in which relative paths begin.
     pub current_dir: Option<Name>,
     /// The user's home directory (`HOME`).
     pub home: Option<Name>,

@@ -5,8 +5,8 @@ use std::alloc::Global;
 /// A view of a tree of files, by five calls with the text of a path.
 ///
 /// A contract sees, for each call, a relation between the value, the call and an answer that
-/// the call may give. A value is honest for a tree where each of these answers but
-/// `Refusal::Memory` is the tree's.
+/// the call may give. A value is consistent with a tree (`IsHonest`) where each of these answers,
+/// other than `Refusal::Memory`, is the tree's.
 pub trait Files {
     ghost use Rattle.std.specs.Prelude.{ℕ, Bool, List, Result, Option, ⊤};
     ghost use Rattle.ignore_files.specs.declared.types.Refusal.{Refusal};
@@ -25,8 +25,8 @@ pub trait Files {
 
     ghost identity_gives: { Self → List ℕ → Bool → Result (Option Identity) Refusal → Type 0 } = { λ _ _ _ _. ⊤ };
 
-    /// What the path leads to, and its size. A link in the path's last place is followed where
-    /// `follow` is set, or where a slash stands after it; links before it always are.
+    /// What the path leads to, and its size. A link as last component is followed where `follow` is
+    /// set, or where a slash follows it; links before it always are.
     fn stat(&self, alloc: Global, path: &str, follow: bool) -> Result<Metadata, Refusal>
         ensures { stat_gives self.now path.now follow result };
 
@@ -36,11 +36,11 @@ pub trait Files {
         ensures { list_gives self.now path.now result };
 
     /// What can be read of the file at the path, links followed. It is an `Err` where the file
-    /// can't be opened; a fault after that stands in the `Contents`, behind what was read.
+    /// can't be opened; a later fault is in the `Contents`, after what was read.
     fn contents(&self, alloc: Global, path: &str) -> Result<Contents, Refusal>
         ensures { contents_gives self.now path.now result };
 
-    /// The one path from `/`, without links, to what the path leads to, links followed.
+    /// The canonical path, from `/` and without links, of what the path leads to, links followed.
     fn canonical(&self, alloc: Global, path: &str) -> Result<Name, Refusal>
         ensures { canonical_gives self.now path.now result };
 

@@ -25,10 +25,10 @@ use std::marker::Model;
 
 /// A tree of files in memory, for tests and examples.
 ///
-/// It is built by calls that take the paths of nodes: `/`, or `/` and names joined by single
-/// slashes. These paths pass through no links. What is asked of it, through `Files`, goes by
-/// the usual rules: links are followed, `..` leads to the directory above, and a relative path
-/// begins at the working directory.
+/// The calls that build it go by canonical paths: `/`, or `/` and names joined by single slashes.
+/// These paths pass through no links. Queries, through `Files`, go by the usual rules: links are
+/// followed, `..` leads to the directory above, and a relative path begins at the working
+/// directory.
 #[derive(Debug, Drop)]
 pub struct MemoryTree {
     cwd: Name,
@@ -44,9 +44,10 @@ impl Model for MemoryTree {
 }
 
 impl MemoryTree {
-    /// The tree with the directory `/` alone, and this working directory, which needn't be
-    /// there. Refused with `NotClean` where `cwd` isn't `/`, or `/` and names joined by single
-    /// slashes; with `Memory` for want of memory.
+    /// The tree with the directory `/` alone, and this working directory, which needn't exist.
+    ///
+    /// # Errors
+    /// `NotClean` where `cwd` isn't a canonical path; `Memory`.
     pub fn new(alloc: Global, cwd: &str) -> Result<MemoryTree, TreeError>
         ensures { MakesIfRoom (made cwd.now) result }
     {
@@ -60,10 +61,12 @@ impl MemoryTree {
         Ok(MemoryTree { cwd, nodes })
     }
 
-    /// Adds a directory with nothing in it. Refused with `NotClean` where the path isn't `/`, or
-    /// `/` and names joined by single slashes; with `NoParent` where what it should be in isn't
-    /// a directory of the tree; with `Exists` where something is there already, as `/` always
-    /// is; and else with `Memory` for want of memory. A refused call changes nothing.
+    /// Adds an empty directory.
+    ///
+    /// # Errors
+    /// `NotClean` where the path isn't canonical; `NoParent` where what it should be in isn't a
+    /// directory of the tree; `Exists` where something is there already, as `/` always is; and else
+    /// `Memory`. After an error the tree is as before.
     pub fn add_dir(&mut self, path: &str) -> Result<(), TreeError>
         ensures { LeavesIfRoom (dir_added self.old path.now) result self.old self.new }
     {
@@ -78,8 +81,11 @@ impl MemoryTree {
         )
     }
 
-    /// Adds a file with these bytes. Refused as `add_dir`: with `NotClean`, `NoParent`, `Exists`
-    /// or `Memory`. A refused call changes nothing.
+    /// Adds a file with these bytes.
+    ///
+    /// # Errors
+    /// As `add_dir`: `NotClean`, `NoParent`, `Exists` or `Memory`. After an error the tree is as
+    /// before.
     pub fn add_file(&mut self, path: &str, bytes: &[u8]) -> Result<(), TreeError>
         ensures { LeavesIfRoom (file_added bytes.now self.old path.now) result self.old self.new }
     {
@@ -94,8 +100,11 @@ impl MemoryTree {
         )
     }
 
-    /// Adds a link, whose target needn't be there. Refused as `add_dir`: with `NotClean`,
-    /// `NoParent`, `Exists` or `Memory`. A refused call changes nothing.
+    /// Adds a link, whose target needn't exist.
+    ///
+    /// # Errors
+    /// As `add_dir`: `NotClean`, `NoParent`, `Exists` or `Memory`. After an error the tree is as
+    /// before.
     pub fn add_link(&mut self, path: &str, target: &str) -> Result<(), TreeError>
         ensures { LeavesIfRoom (link_added target.now self.old path.now) result self.old self.new }
     {
@@ -110,10 +119,12 @@ impl MemoryTree {
         )
     }
 
-    /// Adds to a directory something whose name can't be told: its listing has the fault
-    /// `BadName` there. It is no node, and takes no inode. Refused with `NotClean` as `add_dir`
-    /// is; with `Missing` where no directory is at the path; and else with `Memory` for want of
-    /// memory. A refused call changes nothing.
+    /// Adds an entry with an invalid name to a directory: its listing has the fault `BadName`
+    /// there. The entry is no node, and has no inode.
+    ///
+    /// # Errors
+    /// `NotClean` as for `add_dir`; `Missing` where no directory is at the path; and else `Memory`.
+    /// After an error the tree is as before.
     pub fn add_nameless(&mut self, dir: &str) -> Result<(), TreeError>
         ensures { LeavesIfRoom (nameless_added self.old dir.now) result self.old self.new }
     {
@@ -122,8 +133,10 @@ impl MemoryTree {
         Ok(())
     }
 
-    /// Sets the size in bytes that is told of a file. `NotClean` as for `add_dir`; `Missing`
-    /// where no file is at the path.
+    /// Sets the size in bytes that is reported for a file.
+    ///
+    /// # Errors
+    /// `NotClean` as for `add_dir`; `Missing` where no file is at the path.
     pub fn set_size(&mut self, path: &str, size: u64) -> Result<(), TreeError>
         ensures { Leaves (size_set size self.old path.now) result self.old self.new }
     {
@@ -132,8 +145,10 @@ impl MemoryTree {
         Ok(())
     }
 
-    /// Sets the identity that is told of a node, `None` for one that is unknown. `NotClean` as
-    /// for `add_dir`; `Missing` where nothing is at the path.
+    /// Sets the identity that is reported for a node, `None` for one that is unknown.
+    ///
+    /// # Errors
+    /// `NotClean` as for `add_dir`; `Missing` where nothing is at the path.
     pub fn set_identity(&mut self, path: &str, identity: Option<Identity>) -> Result<(), TreeError>
         ensures { Leaves (identity_set identity self.old path.now) result self.old self.new }
     {
@@ -142,7 +157,7 @@ impl MemoryTree {
         Ok(())
     }
 
-    /// Has `stat`, and it alone, answer a fault of a node. Refused as `set_identity`.
+    /// Has `stat`, and no other call, return a fault for a node. Errors as of `set_identity`.
     pub fn fault_stat(&mut self, path: &str, fault: Fault) -> Result<(), TreeError>
         ensures { Leaves (stat_faulted fault self.old path.now) result self.old self.new }
     {
@@ -151,7 +166,8 @@ impl MemoryTree {
         Ok(())
     }
 
-    /// Has `list`, and it alone, answer a fault of a directory. Refused as `add_nameless`.
+    /// Has `list`, and no other call, return a fault for a directory. Errors are `NotClean` and
+    /// `Missing`, as of `add_nameless`.
     pub fn fault_list(&mut self, path: &str, fault: Fault) -> Result<(), TreeError>
         ensures { Leaves (list_faulted fault self.old path.now) result self.old self.new }
     {
@@ -161,7 +177,7 @@ impl MemoryTree {
     }
 
     /// Ends the reading of a file by a fault after its first `len` bytes (after all of them
-    /// where it has fewer). Refused as `set_size`.
+    /// where it has fewer). Errors as of `set_size`.
     pub fn cut_contents(&mut self, path: &str, len: usize, fault: Fault) -> Result<(), TreeError>
         ensures { Leaves (contents_cut len fault self.old path.now) result self.old self.new }
     {

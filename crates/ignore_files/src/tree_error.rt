@@ -1,9 +1,8 @@
-//! Why a tree in memory isn't changed.
+//! The errors of changing a tree in memory.
 use std::alloc::{AllocError, AllocFailed};
 use std::{error, fmt};
 
-/// Why a tree in memory refuses a change. Of several reasons the one with the lowest number
-/// is told.
+/// Why a tree in memory isn't changed. Of several reasons the first in this order is returned.
 #[derive(Clone, Copy, Debug, PartialEq, Eq)]
 pub enum TreeError {
     /// The path isn't `/`, or `/` and names joined by single slashes.
@@ -14,7 +13,7 @@ pub enum TreeError {
     Exists = 3,
     /// Nothing of the kind that is asked for is at the path.
     Missing = 4,
-    /// There was no memory.
+    /// Out of memory.
     Memory = 5,
 }
 

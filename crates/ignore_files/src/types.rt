@@ -1,4 +1,4 @@
-//! What a tree of files answers.
+//! The answers of a tree of files.
 ghost use Rattle.std.specs.Prelude.{◌≡◌, ℕ, List, length, string_bytes};
 ghost use Rattle.ignore_files.specs.Kinds.{is_file, is_dir, is_symlink};
 
@@ -9,9 +9,9 @@ use std::marker::Model;
 /// Why a tree of files gives no answer.
 #[derive(Clone, Copy, Debug, PartialEq, Eq)]
 pub enum Refusal {
-    /// The tree's own answer is this fault.
+    /// The answer of the tree is this fault.
     Fault(Fault),
-    /// There was no memory for the answer, which says nothing of the tree.
+    /// Out of memory, whatever the answer of the tree is.
     Memory,
 }
 
@@ -99,7 +99,7 @@ impl FileType {
     }
 }
 
-/// What is told of a path without reading it.
+/// What a tree reports of a path without reading it.
 #[derive(Clone, Copy, Debug, PartialEq, Eq)]
 pub struct Metadata {
     /// What it is.
@@ -138,7 +138,7 @@ impl Metadata {
     }
 }
 
-/// The numbers by which a system tells one file from every other.
+/// The numbers by which a system distinguishes each file from every other.
 #[derive(Clone, Copy, Debug, PartialEq, Eq)]
 pub struct Identity {
     /// The device that holds it.
@@ -160,7 +160,7 @@ impl Model for Name {
 }
 
 impl Name {
-    /// The name with this text. It takes no memory.
+    /// The name with this text. It allocates nothing.
     pub fn new(text: String) -> Name
         ensures { result ≡ string_bytes text }
     {
@@ -174,8 +174,8 @@ impl Name {
         self.text.as_str()
     }
 
-    /// Its text, given back without taking memory.
-    /// For the crates above.
+    /// Its text, by value. It allocates nothing.
+    /// For dependents.
     pub fn into_string(self) -> String
         ensures { string_bytes result ≡ self }
     {
@@ -188,7 +188,7 @@ impl Name {
 pub enum Listed {
     /// An entry: its name, and its kind with links not followed.
     Entry { name: Name, file_type: FileType },
-    /// An entry of which the directory tells this fault in place of its name.
+    /// An entry for which the directory reports this fault in place of its name.
     Fault(Fault),
 }
 
@@ -208,7 +208,7 @@ impl Model for Listing {
 }
 
 impl Listing {
-    /// The listing of these things. It takes no memory.
+    /// The listing of these things. It allocates nothing.
     pub fn new(items: Vec<Listed>) -> Listing
         ensures { result ≡ items.items }
     {
@@ -229,8 +229,8 @@ impl Listing {
         self.items.len()
     }
 
-    /// The things that are listed, given back without taking memory.
-    /// For the crates above.
+    /// The things that are listed, by value. It allocates nothing.
+    /// For dependents.
     pub fn into_vec(self) -> Vec<Listed>
         ensures { result.items ≡ self }
     {
@@ -251,7 +251,7 @@ impl Model for Bytes {
 }
 
 impl Bytes {
-    /// These bytes. It takes no memory.
+    /// These bytes. It allocates nothing.
     pub fn new(bytes: Vec<u8>) -> Bytes
         ensures { result ≡ bytes.items }
     {
@@ -265,8 +265,8 @@ impl Bytes {
         self.bytes.as_slice()
     }
 
-    /// The bytes, given back without taking memory.
-    /// For the crates above.
+    /// The bytes, by value. It allocates nothing.
+    /// For dependents.
     pub fn into_vec(self) -> Vec<u8>
         ensures { result.items ≡ self }
     {

@@ -5,7 +5,7 @@ use Rattle.std.proofs.lemmas.Bool.{cases_eq}
 use Rattle.ignore_glob.specs.declared.glob.options.Options.{Options}
 use Rattle.ignore_glob.specs.Lexing.{class, lexeme, fault, ended, Step, Closes, turns, NoTurn, Items, are_in_order, after_sign, is_negated, ranges, Bracket, whole, disordered, literal, unclosed}
 
--- the first `]` parts a text in one way
+-- the first `]` cuts a text in one way
 first_closing : (m k r s : List ℕ) → AllByRecursion (λ c. c ≢ 93) m → AllByRecursion (λ c. c ≢ 93) k → m ++ 93 ∷ r ≡ k ++ 93 ∷ s → (m ≡ k) × (r ≡ s)
 first_closing [] [] r s p q e = (refl, (cc))
 first_closing [] (d ∷ k) r s p q e = absurd (q.0 (cc))
@@ -93,7 +93,7 @@ find_class (c ∷ cs) = elim (find_closing cs) [
   | inr none ↦ inr (λ body rest h. let e : cs ≡ h.1 ++ 93 ∷ rest = cc h.4 in none h.1 rest e)
 ]
 
--- all turns at the front of a text
+-- all range ends that a text begins with
 take_turns : (text : List ℕ) → (ends : List ℕ) × (rest : List ℕ) × (text ≡ turns ends ++ rest) × NoTurn rest × (length rest ≤ length text)
 take_turns [] = ([], [], refl, (λ e more h. cc h), (omega arith))
 take_turns (c ∷ []) = ([], c ∷ [], refl, (λ e more h. cc h), (omega arith))
@@ -135,14 +135,14 @@ sign-cut (c ∷ cs) = by_bool (c == 33 || c == 94) where
   by_bool true = (c ∷ [], refl)
   by_bool false = ([], refl)
 
--- the rest of a text, behind one character or more
+-- the rest of a text, after one character or more
 abbrev pub IsRest : List ℕ → List ℕ → Type 0
 IsRest text rest = (s : List ℕ) × (text ≡ s ++ rest) × (0 < length s)
 
 pub IsRest-shorter : (text rest : List ℕ) → IsRest text rest → length rest < length text
 IsRest-shorter text rest h = rw (h.1, length-append) (omega (arith, h.2))
 
--- a piece leaves a rest
+-- a lexeme leaves a rest
 abbrev pub LeavesRest : List ℕ → Step → Type 0
 LeavesRest text (lexeme l rest e) = IsRest text rest
 LeavesRest text (fault f) = Unit {0}

@@ -1,4 +1,4 @@
--- Names, and the pieces of a clean path.
+-- Names, and the components of a clean path.
 use Rattle.std.proofs.Common.{◌≡◌, ◌≢◌, ℕ, zero, suc, ◌==◌, ◌||◌, ◌&&◌, not, true, false, List, [], ◌∷◌, ◌++◌, length, codes, refl, sym, ap, subst, ◌∙◌, arith, ⊎_elim, eq-eqb, eqb-true, Contains, All, Decides}
 use Rattle.std.specs.Str.{bytes_eq}
 use Rattle.std.specs.List.{list_all, onto_first, AllByRecursion}
@@ -37,7 +37,7 @@ Decides-name text = (
   λ n. and_from (is_proper text) (not (has_slash text)) (proper-name text n) (not_from_false _ (has_slash-none text (λ k l e. n.whole (k, l, get_or_default text k 47 0 l ∙ eqb-true _ 47 e)))),
 )
 
--- no piece has a slash
+-- no component has a slash
 clear_onto : (b : ℕ) (p : List ℕ) (ps : List (List ℕ)) → is_slash b ≡ false → AllByRecursion (λ q. ¬ Contains q 47) (p ∷ ps) → AllByRecursion (λ q. ¬ Contains q 47) (onto_first b (p ∷ ps))
 clear_onto b p ps apart h = (first, h.1)
   where
@@ -77,7 +77,7 @@ proper_each (p ∷ ps) h = and_from (is_proper p) (list_all is_proper ps) (prope
 pub components-whole : (x : List ℕ) → ¬ Contains x 47 → components x ≡ x ∷ []
 components-whole x h = slice_split_none is_slash x (λ k d l. false_from_ne_true _ (λ e. h (k, l, get_or_default x k 47 d l ∙ eqb-true _ 47 e)))
 
--- names that are joined are its pieces
+-- names that are joined are its components
 pub components-joined : (x : List ℕ) (xs : List (List ℕ)) → All IsName (x ∷ xs) → components (joined (x ∷ xs)) ≡ x ∷ xs
 components-joined x [] h = components-whole x (first_name x [] h).whole
 components-joined x (y ∷ xs) h = components-slash x (joined (y ∷ xs)) ∙ ap (λ l. l ++ components (joined (y ∷ xs))) (components-whole x (first_name x (y ∷ xs) h).whole) ∙ ap (λ l. x ∷ l) (components-joined y xs (other_names x (y ∷ xs) h))

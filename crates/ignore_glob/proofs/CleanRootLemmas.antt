@@ -12,7 +12,7 @@ use Rattle.ignore_glob.proofs.FirstComponentLemmas.{first_component-joined, firs
 use Rattle.ignore_glob.proofs.CleanLemmas.{clear, names_each, names-components, first_name, other_names, proper_each, components-whole}
 use Rattle.ignore_glob.proofs.RootLemmas.{cons_nil, ups_whole}
 
--- what is left past the pieces `..` is names where the pieces rise
+-- what follows the components `..` is names where the components rise
 pub rises-skips : (ps : List (List ℕ)) → list_all is_proper (drop (prefix_len is_up ps) ps) ≡ rises ps
 rises-skips [] = refl
 rises-skips (p ∷ ps) =
@@ -24,7 +24,7 @@ rises-skips (p ∷ ps) =
 abbrev IsClear : List (List ℕ) → Type 0
 IsClear = AllByRecursion (λ q. ¬ Contains q 47)
 
--- pieces that rise are pieces `..` and then names
+-- components that rise are components `..` and then names
 split_ups : (ps : List (List ℕ)) → IsClear ps → rises ps ≡ true → (ups : List (List ℕ)) × (names : List (List ℕ)) × All (λ up. up ≡ codes "..") ups × All IsName names × (ps ≡ ups ++ names)
 split_ups [] h e = ([], [], λ k d l. absurd (omega (arith, l)), λ k d l. absurd (omega (arith, l)), refl)
 split_ups (p ∷ ps) h e =
@@ -44,7 +44,7 @@ ended : (root body : List ℕ) → IsWithoutEnd root body → (end : List ℕ) �
 ended root body (inl w) = ([], inl refl, w.0 ∙ sym (append-nil body))
 ended root body (inr e) = (codes "/", inr refl, e)
 
--- names behind a lead
+-- names after a lead
 lead_named : (root body lead rest : List ℕ) → IsWithoutEnd root body → IsLead lead → body ≡ lead ++ rest → list_all is_proper (components rest) ≡ true → root ≢ codes "-" → IsCleanRoot root
 lead_named root body lead rest without is_lead at proper other =
     let all : All IsName (first_component rest ∷ others rest) = subst (All IsName) (components-first_component rest) (names-components rest proper) in
@@ -89,7 +89,7 @@ body_is root body text end (inr w) (inl z) at open_end = absurd (open_end body (
 body_is root body text end (inl w) (inr z) at open_end = absurd (w.1 text (at ∙ ap (λ e. text ++ e) z))
 body_is root body text end (inr w) (inr z) at open_end = (same_from_push body text 47 47 (sym w ∙ at ∙ ap (λ e. text ++ e) z)).0
 
--- clear pieces that are joined are the pieces
+-- clear components that are joined are the components
 components-clear : (x : List ℕ) (xs : List (List ℕ)) → IsClear (x ∷ xs) → components (joined (x ∷ xs)) ≡ x ∷ xs
 components-clear x [] h = components-whole x h.0
 components-clear x (y ∷ xs) h = components-slash x (joined (y ∷ xs)) ∙ ap (λ l. l ++ components (joined (y ∷ xs))) (components-whole x h.0) ∙ ap (λ l. x ∷ l) (components-clear y xs h.1)
@@ -122,7 +122,7 @@ rises-names : (ps : List (List ℕ)) → All IsName ps → rises ps ≡ true
 rises-names [] h = refl
 rises-names (p ∷ ps) h = cond-false (is_up p) (rises ps) (list_all is_proper (p ∷ ps)) (not_up p (first_name p ps h)) ∙ proper_each (p ∷ ps) h
 
--- a text whose first piece is neither empty nor `.`
+-- a text whose first component is neither empty nor `.`
 plain : (text : List ℕ) → first_component text ≢ 46 ∷ [] → first_component text ≢ [] → is_rooted text ≡ rises (components text)
 plain text no_dot some =
     cond-false (starts_with nat_eq text (codes "./")) (list_all is_proper (components (trim_of text))) _ (false_from_ne_true _ (λ s. no_dot (ap first_component ((starts_is Decides-eqb text (46 ∷ (47 ∷ [])) _ refl).0 s))))
@@ -142,7 +142,7 @@ named_rooted lead x xs (inl z) h =
 named_rooted lead x xs (inr (inl z)) h = ap (λ l. is_rooted (l ++ joined (x ∷ xs))) z ∙ ap (list_all is_proper) (components-clear x xs (clear_names (x ∷ xs) h)) ∙ proper_each (x ∷ xs) h
 named_rooted lead x xs (inr (inr z)) h = ap (λ l. is_rooted (l ++ joined (x ∷ xs))) z ∙ ap (list_all is_proper) (components-clear x xs (clear_names (x ∷ xs) h)) ∙ proper_each (x ∷ xs) h
 
--- pieces `..` and names
+-- components `..` and names
 clear_ups : (ups names : List (List ℕ)) → All (λ up. up ≡ codes "..") ups → All IsName names → IsClear (ups ++ names)
 clear_ups [] names us ns = clear_names names ns
 clear_ups (u ∷ ups) names us ns = (subst (λ q. ¬ Contains q 47) (sym (us zero u (omega arith))) ups_whole, clear_ups ups names (λ k d l. us (suc k) d (omega (arith, l))) ns)

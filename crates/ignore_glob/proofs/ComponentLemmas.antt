@@ -7,7 +7,7 @@ use Rattle.std.proofs.lemmas.Bool.{false_from_ne_true, eqb-true, cases_eq, cond-
 use Rattle.std.proofs.lemmas.List.{drop_more, take-append-drop, get_or_default, get_or-drop, length-drop, same_from_push}
 use Rattle.ignore_glob.specs.Paths.{is_slash, components, joined, last_component, whole_components}
 
--- the first piece, and the others
+-- the first component, and the others
 abbrev pub first_component : List ℕ → List ℕ
 first_component [] = []
 first_component (b ∷ bs) = cond (is_slash b) [] (b ∷ first_component bs)
@@ -24,7 +24,7 @@ components-first_component (b ∷ bs) =
       | false ↦ ap (onto_first b) (components-first_component bs)
     ]
 
--- a slash between two texts parts their pieces
+-- a slash between two texts separates their components
 pub components-slash : (xs ys : List ℕ) → components (xs ++ 47 ∷ ys) ≡ components xs ++ components ys
 components-slash [] ys = refl
 components-slash (x ∷ xs) ys =
@@ -58,7 +58,7 @@ whole_components-snoc (q ∷ (r ∷ ps)) = ap (λ l. q ∷ l) (whole_components-
 pub no_slash : (xs : List ℕ) → ((k : ℕ) → k < length xs → is_slash (get_or xs k 0) ≡ true → ⊥) → All (λ x. is_slash x ≡ false) xs
 no_slash xs h = λ k d l. rw (get_or_default xs k d 0 l) (false_from_ne_true _ (h k l))
 
--- the last piece, where the last slash is known
+-- the last component, where the last slash is known
 pub last_component-none : (xs : List ℕ) → ((k : ℕ) → k < length xs → is_slash (get_or xs k 0) ≡ true → ⊥) → last_component (components xs) ≡ xs
 last_component-none xs h = ap last_component (slice_split_none is_slash xs (no_slash xs h))
 
@@ -73,7 +73,7 @@ last_component-last xs k l e after =
     ∙ ap last_component (components-slash (take k xs) rest ∙ ap (λ l. components (take k xs) ++ l) (slice_split_none is_slash rest (no_slash rest clear)))
     ∙ last_component-snoc (components (take k xs)) rest
 
--- a piece stays whole where more is put before it
+-- a component stays whole where more is prepended
 whole_components-onto : (b : ℕ) (p : List ℕ) (ps : List (List ℕ)) → whole_components (p ∷ ps) ≡ p ∷ ps → whole_components (onto_first b (p ∷ ps)) ≡ onto_first b (p ∷ ps)
 whole_components-onto b p [] h = refl
 whole_components-onto b p (q ∷ ps) h = ap (λ l. (b ∷ p) ∷ l) (cons_tail h)
@@ -81,7 +81,7 @@ whole_components-onto b p (q ∷ ps) h = ap (λ l. (b ∷ p) ∷ l) (cons_tail h
     cons_tail : whole_components (p ∷ (q ∷ ps)) ≡ p ∷ (q ∷ ps) → whole_components (q ∷ ps) ≡ q ∷ ps
     cons_tail e = cc
 
--- where no slash ends a text that is not empty, its last piece is not empty
+-- where no slash ends a text that is not empty, its last component is not empty
 pub whole_components-same : (xs : List ℕ) → xs ≢ [] → ((ys : List ℕ) → xs ≢ ys ++ 47 ∷ []) → whole_components (components xs) ≡ components xs
 whole_components-same [] some open_end = absurd (some refl)
 whole_components-same (x ∷ []) some open_end =

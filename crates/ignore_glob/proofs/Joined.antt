@@ -5,7 +5,7 @@ use Rattle.std.specs.List.{join_with_byte}
 use Rattle.ignore_glob.proofs.Texts.{text_of}
 use Rattle.ignore_glob.specs.declared.error.Error.{Error}
 
--- the texts, each behind a separator: the given one, and then newlines
+-- the texts, each after a separator: the given one, and then newlines
 abbrev pub joined_from : List ℕ → List (List ℕ) → List ℕ
 joined_from separator [] = []
 joined_from separator (text ∷ texts) = separator ++ (text ++ joined_from (10 ∷ []) texts)
@@ -28,12 +28,12 @@ joined_more first [] i x h is = absurd (omega (arith, h))
 joined_more first (y ∷ ys) zero x h is = rw (is, append-nil)
 joined_more first (y ∷ ys) (suc i) x h is = rw (joined_more (10 ∷ []) ys i x (omega (arith, h)) is, newlines i, append_assoc, append_assoc)
 
--- behind a newline
+-- after a newline
 after_newline : (text : List ℕ) (texts : List (List ℕ)) → joined_from (10 ∷ []) (text ∷ texts) ≡ 10 ∷ join_with_byte 10 (text ∷ texts)
 after_newline text [] = ap (λ l. 10 ∷ l) (append-nil text)
 after_newline text (next ∷ texts) = ap (λ l. 10 ∷ (text ++ l)) (after_newline next texts)
 
--- behind nothing
+-- after nothing
 joined_from-nil : (texts : List (List ℕ)) → joined_from [] texts ≡ join_with_byte 10 texts
 joined_from-nil [] = refl
 joined_from-nil (text ∷ []) = append-nil text

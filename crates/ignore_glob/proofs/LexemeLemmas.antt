@@ -7,7 +7,7 @@ use Rattle.ignore_glob.specs.Lexing.{Lexeme, put_first, turns, last_end, after_s
 use Rattle.ignore_glob.specs.LexemeViews.{lexeme_view, row_view, ClosesBefore}
 use Rattle.ignore_glob.proofs.BracketLemmas.{sign-cut}
 
--- an outcome, with these pieces before it
+-- an outcome, with these lexemes before it
 abbrev pub put_all : List Lexeme → Result (List Lexeme) GlobFault → Result (List Lexeme) GlobFault
 put_all [] out = out
 put_all (l ∷ ls) out = put_first l (put_all ls out)

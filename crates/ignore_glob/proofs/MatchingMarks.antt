@@ -39,7 +39,7 @@ module _ (fold : Bool) (nodes : List Node) (text : List ℕ) where
       marks_back o s.2.0 s.2.2 (subst P (sym (drop_from_slice_get o text s.0 s.1)) (character s.2.0 k s.0 (drop (suc o) text) s.2.1 s.2.3 s.2.4 t)))
       q m r
 
-  marked_on : (o p q : ℕ) (node : Node) → Marked fold nodes text o p → slice_get nodes p ≡ Some node → StepsByNothing node p q → Marked fold nodes text o q
+  pub marked_on : (o p q : ℕ) (node : Node) → Marked fold nodes text o p → slice_get nodes p ≡ Some node → StepsByNothing node p q → Marked fold nodes text o q
   marked_on zero p q node m at s = on p q node m at s
   marked_on (suc o) p q node m at s = on p q node m at s
 
@@ -64,5 +64,5 @@ module _ (fold : Bool) (nodes : List Node) (text : List ℕ) where
   matching_mark ts at = elim at [
     | inl lone ↦ ((λ h. path_marks 0 text (lone_path fold nodes text lone.1) 0 (here 0 refl) refl (omega arith)), (λ m. inl lone.0))
     | inr plain ↦ let both = tokens_mark ts plain.1 in
-        ((λ h. elim h [ inl lone ↦ absurd (plain.0 lone) | inr taken ↦ both.0 taken ]), (λ m. inr (both.1 m)))
+        ((λ h. elim h [ inl lone ↦ absurd (plain.0 lone) | inr whole ↦ both.0 whole ]), (λ m. inr (both.1 m)))
   ]

@@ -80,7 +80,8 @@ module _ (fold : Bool) (nodes : List Node) where
       | inr later ↦ let more = branches_path bs (b + width ts) e a v at.1 later p in (more.0, Contains-tail (entry ts b e) more.0 (entries bs (b + width ts) e) more.1, more.2)
     ]
 
-  -- the way back: a path from a token's first position is what it takes, and then a path from the next
+  -- the way back: a path from a token's first position is what it matches, and then a path from the
+  -- next
   abbrev Splits : (List ℕ → Type 0) → ℕ → List ℕ → Type 0
   Splits T e w = (a v : List ℕ) × (w ≡ a ++ v) × T a × Path fold nodes e v
 

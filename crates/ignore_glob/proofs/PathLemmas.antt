@@ -61,7 +61,7 @@ strip_prefix_of-at prefix path rest at =
     ap (λ b. cond (b && at_bound prefix (drop (length prefix) path)) (Some (drop (length prefix) path)) None) yes
     ∙ ap (λ r. cond (at_bound prefix r) (Some r) None) left
 
--- where nothing comes off
+-- where nothing is stripped
 pub below-dot : (root path : List ℕ) → is_dot root ≡ true → below root path ≡ path
 unfolding below
 below-dot root path e = cond-true (is_dot root || not (has_slash path)) path (unwrap_or (option_map without_slash (strip_prefix_of root path)) path) (or_left (is_dot root) (not (has_slash path)) e)
@@ -79,7 +79,7 @@ without_slash-none : (path : List ℕ) → ((rest : List ℕ) → path ≢ 47 �
 without_slash-none [] h = refl
 without_slash-none (b ∷ bs) h = sym (cond-false (is_slash b) bs (b ∷ bs) (false_from_ne_true _ (λ e. h bs (ap (λ x. x ∷ bs) (eqb-true b 47 e)))))
 
--- one leading slash that comes off, or none
+-- one leading slash that is stripped, or none
 pub without_slash-is : (path : List ℕ) (r : Option (Bor (List ℕ))) (given : Bor (List ℕ)) → given.now ≡ path → MatchOption r ((rest : List ℕ) → path ≢ 47 ∷ rest) (λ x. path ≡ 47 ∷ x.now) → (unwrap_or r given).now ≡ without_slash path
 without_slash-is path None given is h = is ∙ without_slash-none path h
 without_slash-is path (Some x) given is h = sym (ap without_slash h)

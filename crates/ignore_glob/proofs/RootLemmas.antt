@@ -13,7 +13,7 @@ use Rattle.ignore_glob.proofs.FirstComponentLemmas.{first_component-joined, firs
 use Rattle.ignore_glob.proofs.JoinLemmas.{join_of-closed, join_of-open}
 use Rattle.ignore_glob.proofs.PathLemmas.{strip_prefix_of-at, has_slash-inside, below-dot, below-flat, below-deep}
 
--- its first piece isn't `.`
+-- its first component isn't `.`
 abbrev pub Stands : List ℕ → Type 0
 Stands path = first_component path ≢ 46 ∷ []
 
@@ -69,7 +69,7 @@ below-nil q e =
     (λ f. below-flat [] q f)
     (cases_Bool (has_slash q))
 
--- with one leading `./`, or none, its first piece isn't `.`
+-- with one leading `./`, or none, its first component isn't `.`
 abbrev Trims : List ℕ → Type 0
 Trims path = Stands path ⊎ ((u : List ℕ) × (path ≡ 46 ∷ (47 ∷ u)) × Stands u)
 
@@ -95,7 +95,7 @@ cons_nil x xs e = cc
 dot_alone : (ys : List ℕ) → ◌≡◌ {A = List ℕ} (46 ∷ []) (ys ++ 47 ∷ []) → ⊥
 dot_alone ys e = absurd (omega (arith, (same_from_push [] ys 46 47 e).1))
 
--- what stands before a slash at the end, behind `./`
+-- what precedes a final slash, after `./`
 tail_ends : (u t : List ℕ) → 46 ∷ (47 ∷ u) ≡ t ++ 47 ∷ [] → (u ≡ []) ⊎ ((v : List ℕ) × (u ≡ v ++ 47 ∷ []))
 tail_ends u [] e = absurd (cut e)
   where

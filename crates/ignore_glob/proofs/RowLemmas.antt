@@ -1,4 +1,4 @@
--- A row of pieces has one list of tokens at most.
+-- A row of lexemes has one list of tokens at most.
 use Rattle.std.proofs.Common.{◌≡◌, inl, inr, ℕ, zero, suc, Bool, true, false, ◌==◌, ◌&&◌, if◌then◌else◌, List, [], ◌∷◌, Ok, Err, Result, refl, sym, ap, ◌∙◌, subst}
 use Rattle.std.proofs.lemmas.Bool.{cases_eq, ne_eqb}
 use Rattle.ignore_glob.specs.declared.glob.options.Options.{Options}

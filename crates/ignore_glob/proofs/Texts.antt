@@ -1,4 +1,4 @@
--- What is told and printed of the two variants that hold several values of one kind.
+-- The problem and the text of the two variants that hold several values of one kind.
 use Rattle.std.proofs.Common.{◌≡◌, List, [], ◌∷◌, ◌++◌, ℕ, map, codes, string_bytes, refl, ap, sym, ◌∙◌, length, ◌≤◌, None, arith}
 use Rattle.std.specs.List.{join_with_byte}
 use Rattle.std.specs.declared.vec.Vec.{Vec}

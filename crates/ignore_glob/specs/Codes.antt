@@ -1,4 +1,4 @@
--- Tokens as trees of numbers, by which proofs tell two of them apart.
+-- Codes: tokens as trees of numbers, by which proofs distinguish tokens.
 use Rattle.std.specs.Prelude.{◌≡◌, ℕ, zero, suc, Bool, true, false, List, [], ◌∷◌, refl}
 use Rattle.std.specs.Coded.{Coded, code_by}
 use base.Stored.{Gv, gnil, gnum, gcons}
@@ -32,7 +32,7 @@ abbrev mutual
   branches_tree no_branch = gnil
   branches_tree (branch ts bs) = gcons (tokens_tree ts) (branches_tree bs)
 
--- the way back; what no token has as its tree goes anywhere
+-- the way back; a tree of no token has any value
 abbrev pub number : Gv → ℕ
 number gnil = 0
 number (gnum n) = n

@@ -1,4 +1,4 @@
--- What a problem answers when it is asked, and what it prints, by cases.
+-- What each query of an error returns, and what it prints, by cases of its problem.
 use Rattle.std.specs.Prelude.{ℕ, Bool, true, false, List, [], ◌∷◌, ◌++◌, codes, Option, Some, None}
 use Rattle.std.specs.Fmt.{decimal}
 use Rattle.std.specs.List.{join_with_byte}
@@ -6,7 +6,7 @@ use Rattle.ignore_glob.specs.Faults.{fault_text}
 use Rattle.ignore_glob.specs.declared.fault.Fault.{Fault}
 use Rattle.ignore_glob.specs.Problem.{Problem, several, at_line, at_path, at_depth, loop, io, glob, unrecognized, invalid_definition, memory, Problems, no_problems, problem}
 
--- whether it is several, maybe at a line, a path or a depth
+-- the problem is several, maybe at a line, a path or a depth
 abbrev pub is_partial : Problem → Bool
 is_partial (several ps) = true
 is_partial (at_line line p) = is_partial p
@@ -20,7 +20,7 @@ is_partial invalid_definition = false
 is_partial memory = false
 
 abbrev mutual
-  -- the fault that it comes down to: its own, maybe at a line, a path or a depth, or that of its only member
+  -- the fault of a problem: its own, maybe at a line, a path or a depth, or that of its only member
   pub io_fault : Problem → Option Fault
   io_fault (several ps) = only_fault ps
   io_fault (at_line line p) = io_fault p
@@ -33,13 +33,13 @@ abbrev mutual
   io_fault invalid_definition = None
   io_fault memory = None
 
-  -- the fault of an only problem: none and two have none
+  -- the fault of the only problem of a list; no problem and two problems have none
   pub only_fault : Problems → Option Fault
   only_fault no_problems = None
   only_fault (problem p no_problems) = io_fault p
   only_fault (problem p (problem q ps)) = None
 
--- the depth that it stands at, maybe below a path
+-- the depth of a problem, maybe at a path
 abbrev pub depth_of : Problem → Option ℕ
 depth_of (several ps) = None
 depth_of (at_line line p) = None
@@ -58,7 +58,7 @@ glob_text None err = err
 glob_text (Some pattern) err = codes "error parsing glob '" ++ (pattern ++ (codes "': " ++ err))
 
 abbrev mutual
-  -- what it prints; several are printed with a newline between each two
+  -- the text of a problem; several are separated by newlines
   pub problem_text : Problem → List ℕ
   problem_text (several ps) = join_with_byte 10 (problem_texts ps)
   problem_text (at_line line p) = codes "line " ++ (decimal line ++ (codes ": " ++ problem_text p))
@@ -71,7 +71,7 @@ abbrev mutual
   problem_text invalid_definition = codes "invalid definition (format is type:glob, e.g., html:*.html)"
   problem_text memory = codes "out of memory"
 
-  -- the text of each
+  -- the text of each problem
   pub problem_texts : Problems → List (List ℕ)
   problem_texts no_problems = []
   problem_texts (problem p ps) = problem_text p ∷ problem_texts ps

@@ -1,4 +1,4 @@
--- The text and the number of a glob's fault.
+-- The text and the number of each parse error of a glob.
 use Rattle.std.specs.Prelude.{ℕ, List, codes}
 use Rattle.ignore_glob.specs.declared.glob.fault.GlobFault.{GlobFault}
 use Rattle.ignore_glob.specs.declared.glob.fault.GlobFault.TheVariants.{UnclosedClass, InvalidRange, UnopenedAlternates, UnclosedAlternates, DanglingEscape, TooDeep}
@@ -25,7 +25,7 @@ abbrev pub pattern_error_text : PatternError → List ℕ
 pattern_error_text (Why.Fault fault) = glob_fault_text fault
 pattern_error_text Why.Memory = codes "out of memory"
 
--- a fact of the fault, if it is one
+-- the error is out of memory, or P holds for the parse error
 abbrev pub IfFault : PatternError → (GlobFault → Type 0) → Type 0
 IfFault (Why.Fault f) P = P f
 IfFault Why.Memory P = Unit {0}

@@ -1,10 +1,10 @@
--- What becomes of an error of input and output.
+-- The problem of an error of input and output.
 use Rattle.std.specs.declared.io.ErrorKind.{ErrorKind}
 use Rattle.std.specs.declared.io.ErrorKind.TheVariants.{NotFound, PermissionDenied, NotADirectory, IsADirectory, InvalidData, OutOfMemory}
 use Rattle.ignore_glob.specs.declared.fault.Fault.TheVariants as fault
 use Rattle.ignore_glob.specs.Problem.{Problem, io, memory}
 
--- five kinds keep their name, want of memory is told as itself, and every other kind is `Other`
+-- five kinds keep their name, out of memory stays so, and every other kind is `Other`
 abbrev pub problem_of_kind : ErrorKind → Problem
 problem_of_kind NotFound = io fault.NotFound
 problem_of_kind PermissionDenied = io fault.PermissionDenied

@@ -1,4 +1,5 @@
--- The pieces and meanings that the program's stand for.
+-- Views: the lexemes, tokens and meanings that the program's values stand for, for contracts of the
+-- parser.
 use Rattle.std.specs.Prelude.{◌≡◌, ◌≤◌, ℕ, zero, suc, List, [], ◌∷◌, ◌++◌, length, map, Vec}
 use Rattle.std.specs.declared.alloc.Global.{Global}
 use Rattle.ignore_glob.specs.Lexing.{Lexeme, char, escaped, any, run, class, opening, comma, closing}
@@ -48,7 +49,7 @@ meaning_view (Meant.Gives n t rest) = R.gives n (simple_token_view t) (row_view 
 meaning_view (Meant.Braces rest) = R.braces (row_view rest.now)
 meaning_view Meant.Ended = R.ended
 
--- so many braces close that aren't opened; commas stand in braces
+-- the row closes so many braces more than it opens, and its commas are inside braces
 abbrev pub Balanced : List Lexeme → ℕ → Type 0
 Balanced [] zero = Unit {0}
 Balanced [] (suc d) = ⊥
@@ -59,16 +60,16 @@ Balanced (comma ∷ ls) zero = ⊥
 Balanced (comma ∷ ls) (suc d) = Balanced ls (suc d)
 Balanced (l ∷ ls) d = Balanced ls d
 
--- the program's tokens, and then these
+-- the program's tokens before these
 abbrev pub put_tokens : List CodeToken → Tokens → Tokens
 put_tokens [] us = us
 put_tokens (t ∷ ts) us = then (view t) (put_tokens ts us)
 
--- the program's branches, and then these
+-- the program's branches before these
 abbrev pub put_branches : List (Vec CodeToken Global) → Branches → Branches
 put_branches [] cs = cs
 put_branches (b ∷ bs) cs = branch (tokens_view b.items) (put_branches bs cs)
 
--- at least so many characters stand behind each `]` of the text
+-- at least n characters follow each `]` of the text
 abbrev pub ClosesBefore : ℕ → List ℕ → Type 0
 ClosesBefore n text = (m r : List ℕ) → text ≡ m ++ 93 ∷ r → n ≤ length r

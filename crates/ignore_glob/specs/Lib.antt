@@ -12,6 +12,8 @@ pub mod LexemeViews
 pub mod Matches
 pub mod Nodes
 pub mod Flags
+pub mod NodeLists
+pub mod Positions
 pub mod Codes
 pub mod Reading
 pub mod Paths

@@ -1,4 +1,4 @@
--- What a glob takes. A split of the text is guessed: no position occurs.
+-- The texts that a glob matches. Some way to cut the text fits the tokens: no position occurs.
 use Rattle.std.specs.Prelude.{◌≡◌, ◌≢◌, ◌⊎◌, ℕ, Bool, true, false, List, [], ◌∷◌, ◌++◌, All, IsTrue, nat_le, ◌&&◌, ◌||◌, cond}
 use Rattle.std.specs.List.{list_any}
 use Rattle.std.specs.Char.{is_ascii_lowercase, to_ascii_uppercase, to_ascii_lowercase}
@@ -15,7 +15,7 @@ BeginsWithSlash w = (b : List ℕ) × (w ≡ slash ∷ b)
 abbrev pub EndsWithSlash : List ℕ → Type 0
 EndsWithSlash w = (a : List ℕ) × (w ≡ a ++ slash ∷ [])
 
--- the other ASCII case of a letter, and any other character itself: of A it is a, of é it is é
+-- the other ASCII case of a letter, and any other character itself: a for A, é for é
 abbrev pub other_case : ℕ → ℕ
 other_case c = cond (is_ascii_lowercase c) (to_ascii_uppercase c) (to_ascii_lowercase c)
 
@@ -33,13 +33,14 @@ abbrev pub is_listed : Bool → List (ℕ × ℕ) → ℕ → Bool
 is_listed false ranges c = in_ranges ranges c
 is_listed true ranges c = in_ranges ranges c || in_ranges ranges (other_case c)
 
--- a class has what is listed, and a negated class what is not listed: [!a] has the slash
+-- a class has what is listed, and a negated class what is not: [!a] has the slash
 abbrev pub IsMember : Bool → Bool → List (ℕ × ℕ) → ℕ → Type 0
 IsMember fold false ranges c = IsTrue (is_listed fold ranges c)
 IsMember fold true ranges c = IsTrue (is_listed fold ranges c) → ⊥
 
--- What one token takes, what tokens take in their order, and what one of the branches takes.
--- The first argument says whether ASCII case is folded. So a/**/b takes a/b, its middle taking the slash.
+-- The texts that a token matches, that tokens match in their order, and that some branch matches.
+-- The first argument says whether ASCII case is folded. So a/**/b matches a/b: its middle matches
+-- the slash.
 abbrev mutual
   pub token_matches : Bool → Token → List ℕ → Type 0
   token_matches fold (literal c) w = (d : ℕ) × (w ≡ d ∷ []) × IsCaseOf fold c d
@@ -59,6 +60,6 @@ abbrev mutual
   branch_matches fold no_branch w = ⊥
   branch_matches fold (branch ts bs) w = tokens_match fold ts w ⊎ branch_matches fold bs w
 
--- a whole glob that is one recursive start takes everything, which a branch that is one doesn't
+-- a glob that is one recursive start matches everything; a branch that is one doesn't
 abbrev pub glob_matches : Bool → Tokens → List ℕ → Type 0
 glob_matches fold ts w = (ts ≡ then start done) ⊎ tokens_match fold ts w

@@ -1,5 +1,5 @@
--- The nodes of tokens: a list in which each position is a number, with what stands there and where it leads.
--- Marks in their plain form, on the tokens themselves, stand in Positions.
+-- The nodes of tokens: a list in which each position is a number, with what stands there and where
+-- it leads. Marks in their plain form, on the tokens themselves, stand in Positions.
 use Rattle.std.specs.Prelude.{◌≡◌, ◌≢◌, ◌+◌, ◌⊎◌, ℕ, zero, suc, Bool, List, [], ◌∷◌, length, Some, slice_get, Contains}
 use Rattle.ignore_glob.specs.Glob.{Token, literal, any, star, start, middle, end, class, alternates, Tokens, done, then, Branches, no_branch, branch}
 use Rattle.ignore_glob.specs.Matches.{slash, IsCaseOf, IsMember}
@@ -33,7 +33,8 @@ StepsByNothing (until_end next) p q = q ≡ next
 StepsByNothing (class_at negated ranges next) p q = ⊥
 StepsByNothing (fork_at firsts) p q = Contains firsts q
 
--- By the character c, from the node at p to q; the first argument says whether ASCII case is folded.
+-- By the character c, from the node at p to q; the first argument says whether ASCII case is
+-- folded.
 abbrev pub StepsBy : Bool → Node → ℕ → ℕ → ℕ → Type 0
 StepsBy fold (literal_at k next) c p q = IsCaseOf fold k c × (q ≡ next)
 StepsBy fold (any_at next) c p q = (c ≢ slash) × (q ≡ next)
@@ -105,7 +106,8 @@ abbrev mutual
 abbrev pub AreNodes : List Node → Tokens → Type 0
 AreNodes nodes ts = TokensAt nodes ts 0 (length nodes) × (length nodes ≡ width ts)
 
--- The nodes are those of the whole glob: where it is one recursive start, its inside leads to the end by nothing.
+-- The nodes are those of the whole glob: where it is one recursive start, its inside leads to the
+-- end by nothing.
 abbrev pub AreGlobNodes : List Node → Tokens → Type 0
 AreGlobNodes nodes ts = ((ts ≡ then start done) × (nodes ≡ start_at 2 ∷ until_end 2 ∷ [])) ⊎ ((ts ≢ then start done) × AreNodes nodes ts)
 

@@ -1,4 +1,4 @@
--- A path as the pieces between its slashes.
+-- Paths as lists of components: joining, stripping, file names, and clean paths and roots.
 use Rattle.std.specs.Prelude.{◌≡◌, ◌≢◌, ℕ, ◌-◌, slice_index, Bool, ◌||◌, ◌&&◌, not, ◌==◌, nat_eq, List, [], ◌∷◌, ◌++◌, length, drop, Option, Some, None, unwrap_or, Contains, All, codes, if◌then◌else◌, ◌⊎◌}
 use Rattle.std.specs.List.{slice_split, join_with_byte, starts_with, list_all, list_any}
 use Rattle.std.specs.Option.{option_map}
@@ -8,26 +8,26 @@ use Rattle.std.specs.Str.{bytes_eq}
 abbrev pub is_slash : ℕ → Bool
 is_slash b = b == 47
 
--- the pieces of a path: it is cut at each slash
+-- the components of a path: the texts between its slashes, empty ones included
 abbrev pub components : List ℕ → List (List ℕ)
 components path = slice_split is_slash path
 
--- pieces joined by single slashes
+-- components joined by single slashes
 abbrev pub joined : List (List ℕ) → List ℕ
 joined = join_with_byte 47
 
--- the last of the pieces
+-- the last of the components
 abbrev pub last_component : List (List ℕ) → List ℕ
 last_component [] = []
 last_component (component ∷ []) = component
 last_component (component ∷ (next ∷ more)) = last_component (next ∷ more)
 
--- the piece alone, or no piece where it is empty
+-- the component alone, or nothing where it is empty
 abbrev pub filled : List ℕ → List (List ℕ)
 filled [] = []
 filled (b ∷ bs) = (b ∷ bs) ∷ []
 
--- the pieces but for an empty last one
+-- the components without an empty last one
 abbrev pub whole_components : List (List ℕ) → List (List ℕ)
 whole_components [] = []
 whole_components (component ∷ []) = filled component
@@ -40,15 +40,16 @@ is_absolute path = slice_index path 0 == 47
 abbrev pub ends_with_slash : List ℕ → Bool
 ends_with_slash path = slice_index path (length path - 1) == 47
 
--- the second path, where it begins with a slash; else the pieces of the first, but for an empty last one, and then those of the second
+-- the second path where it begins with a slash; else the components of the first, without an empty
+-- last one, and then those of the second
 unfoldable pub join_of : List ℕ → List ℕ → List ℕ
 join_of base path = if is_absolute path then path else joined (whole_components (components base) ++ components path)
 
--- the name that a piece is: `.` and `..` are none
+-- a component as a name: `.` and `..` are none
 abbrev pub name_in : List ℕ → Option (List ℕ)
 name_in component = if bytes_eq component (codes ".") || bytes_eq component (codes "..") then None else Some component
 
--- the file name of a path is its last piece; `.`, `..` and the empty path have none
+-- the file name of a path is its last component; `.`, `..` and the empty path have none
 unfoldable pub file_name_of : List ℕ → Option (List ℕ)
 file_name_of [] = None
 file_name_of (b ∷ bs) = name_in (last_component (components (b ∷ bs)))
@@ -57,11 +58,12 @@ file_name_of (b ∷ bs) = name_in (last_component (components (b ∷ bs)))
 abbrev pub IsHidden : List ℕ → Type 0
 IsHidden path = (rest : List ℕ) × (file_name_of path ≡ Some (46 ∷ rest))
 
--- the bound of a component lies between a prefix and the rest: the prefix is empty or ends with a slash, or the rest is empty or begins with one
+-- a prefix ends at a component: it is empty or ends with a slash, or the rest is empty or begins
+-- with one
 abbrev pub at_bound : List ℕ → List ℕ → Bool
 at_bound prefix rest = length prefix == 0 || ends_with_slash prefix || length rest == 0 || is_absolute rest
 
--- what follows a prefix that comes off at the bound of a component
+-- the path without a prefix that ends at a component
 unfoldable pub strip_prefix_of : List ℕ → List ℕ → Option (List ℕ)
 strip_prefix_of prefix path =
     let rest = drop (length prefix) path in
@@ -75,21 +77,23 @@ trim_of path = if starts_with nat_eq path (codes "./") then drop 2 path else pat
 abbrev pub without_slash : List ℕ → List ℕ
 without_slash path = if is_absolute path then drop 1 path else path
 
--- a root that is the working directory: it begins with a dot, and each of its pieces is `.` or empty
+-- a root is the working directory: it begins with a dot, and each of its components is `.` or empty
 abbrev pub is_dot : List ℕ → Bool
 is_dot root = slice_index root 0 == 46 && list_all (λ component. bytes_eq component (codes ".") || length component == 0) (components root)
 
--- it has a slash
+-- the path has a slash
 abbrev pub has_slash : List ℕ → Bool
 has_slash path = list_any is_slash path
 
--- a path with the root, and then one slash, taken off; as it is where the root is the working directory, where the path has no slash, and where the root does not come off
+-- the path without the root and one slash after it; the path unchanged where the root is the
+-- working directory, where the path has no slash, and where the root is no prefix that ends at a
+-- component
 unfoldable pub below : List ℕ → List ℕ → List ℕ
 below root path =
     if is_dot root || not (has_slash path) then path
     else unwrap_or (option_map without_slash (strip_prefix_of root path)) path
 
--- the same of the path without one leading `./`
+-- the same for the path without one leading `./`
 abbrev pub strip_of : List ℕ → List ℕ → List ℕ
 strip_of root path = below root (trim_of path)
 
@@ -100,7 +104,7 @@ pub record IsName (text : List ℕ) : Type 0 where
   pub no_dot : text ≢ codes "."
   pub no_dots : text ≢ codes ".."
 
--- the test that a piece is a name: it is not empty, `.` or `..`
+-- the component is a name: it is not empty, `.` or `..`
 abbrev pub is_proper : List ℕ → Bool
 is_proper component = not (length component == 0) && not (bytes_eq component (codes ".")) && not (bytes_eq component (codes ".."))
 
@@ -116,7 +120,8 @@ IsLead lead = (lead ≡ []) ⊎ ((lead ≡ codes "/") ⊎ (lead ≡ codes "./"))
 abbrev pub IsEnd : List ℕ → Type 0
 IsEnd end = (end ≡ []) ⊎ (end ≡ codes "/")
 
--- a clean root: `.`, `./`, `/`; or names, one at least, behind nothing, a slash or `./`; or pieces `..`, one at least, and then names; one slash may follow. `-` is none
+-- a clean root: `.`, `./`, `/`; or at least one name, after nothing, a slash or `./`; or at least
+-- one `..` and then names. One slash may follow. `-` is no clean root
 pub data IsCleanRoot (root : List ℕ) : Type 0 where
   dot : root ≡ codes "." → IsCleanRoot root
   dot_slash : root ≡ codes "./" → IsCleanRoot root
@@ -129,7 +134,8 @@ abbrev pub directory_of : List ℕ → List (List ℕ) → List ℕ
 directory_of root [] = root
 directory_of root (name ∷ names) = join_of root (joined (name ∷ names))
 
--- whatever a clean root and a directory below it: stripping the directory, trimmed, off a path below it leaves the names past it
+-- for each clean root and each directory below it: the trimmed directory, stripped from a path
+-- below the directory, leaves the names after it
 abbrev pub StripsDirectories : Type 0
 StripsDirectories = (root : List ℕ) (names : List (List ℕ)) (name : List ℕ) (more : List (List ℕ))
     → IsCleanRoot root → All IsName names → IsName name → All IsName more

@@ -1,4 +1,5 @@
--- What an error tells, as plain data: contracts compare errors by this, since two errors that tell the same may lie in different memory.
+-- Problems: what an error reports, as plain data. Contracts compare errors by their problems, since
+-- two errors that report the same may lie in different memory.
 use Rattle.std.specs.Prelude.{ℕ, List, [], ◌∷◌, Option, Some, None, option_map, string_bytes}
 use Rattle.ignore_glob.specs.declared.fault.Fault.{Fault}
 use Rattle.ignore_glob.specs.declared.error.Error.{Error}
@@ -31,7 +32,7 @@ abbrev pub problems_of : List Problem → Problems
 problems_of [] = no_problems
 problems_of (p ∷ ps) = problem p (problems_of ps)
 
--- what one layer of an error tells, where the errors inside have been told
+-- the problem of one layer of an error, given the problems of the errors inside
 abbrev pub problem_step : Error-F Problem → Problem
 problem_step (Partial errors) = several (problems_of errors.items)
 problem_step (WithLineNumber line err) = at_line line err.value
@@ -44,11 +45,12 @@ problem_step (UnrecognizedFileType name) = unrecognized (string_bytes name)
 problem_step InvalidDefinition = invalid_definition
 problem_step Memory = memory
 
--- the problem that an error tells
+-- the problem that an error reports
 abbrev pub problem_of : Error → Problem
 problem_of = fold-Error Problem problem_step
 
--- none for no problem, the problem itself for one, else one that is several, with all of them in order: a member that is several itself stays one member
+-- none for no problem, the problem itself for one, else several, with all of them in order: a
+-- member that is several itself stays one member
 abbrev pub joined : List Problem → Option Problem
 joined [] = None
 joined (one ∷ []) = Some one

@@ -1,4 +1,4 @@
--- The tests that together find a root clean.
+-- Steps: the tests that together find a root clean, as functions of the program make them.
 use Rattle.std.specs.Prelude.{◌≡◌, ◌≢◌, ◌⊎◌, ℕ, Bool, true, nat_eq, List, [], ◌∷◌, ◌++◌, codes, if◌then◌else◌}
 use Rattle.std.specs.List.{starts_with, list_all}
 use Rattle.std.specs.Str.{bytes_eq}
@@ -8,16 +8,16 @@ use Rattle.ignore_glob.specs.Paths.{components, is_absolute, trim_of, without_sl
 abbrev pub IsWithoutEnd : List ℕ → List ℕ → Type 0
 IsWithoutEnd path body = ((path ≡ body) × ((prefix : List ℕ) → path ≢ prefix ++ codes "/")) ⊎ (path ≡ body ++ codes "/")
 
--- the test that a piece is `..`
+-- the component is `..`
 abbrev pub is_up : List ℕ → Bool
 is_up component = bytes_eq component (codes "..")
 
--- pieces `..`, if any, and then names, if any
+-- components `..`, if any, and then names, if any
 abbrev pub rises : List (List ℕ) → Bool
 rises [] = true
 rises (component ∷ more) = if is_up component then rises more else list_all is_proper (component ∷ more)
 
--- names behind `./` or a slash, or behind pieces `..`
+-- names after `./` or a slash, or after components `..`
 abbrev pub is_rooted : List ℕ → Bool
 is_rooted body =
     if starts_with nat_eq body (codes "./") then list_all is_proper (components (trim_of body))

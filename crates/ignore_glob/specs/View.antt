@@ -1,4 +1,4 @@
--- The tokens that the program's tokens stand for.
+-- Views: the tokens that the program's tokens stand for.
 use Rattle.std.specs.Prelude.{List, [], ◌∷◌, map, Vec}
 use Rattle.std.specs.declared.alloc.Global.{Global}
 use Rattle.ignore_glob.specs.Glob.{Token, literal, any, star, start, middle, end, class, alternates, Tokens, done, then, Branches, no_branch, branch}
@@ -13,7 +13,7 @@ abbrev pub branches_of : List (Vec Token Global) → Branches
 branches_of [] = no_branch
 branches_of (b ∷ bs) = branch (tokens_of b.items) (branches_of bs)
 
--- one level, with each token inside already seen
+-- the view of one token, given the views of the tokens inside
 abbrev pub view_step : Token-F Token → Token
 view_step (Token-F.Literal c) = literal c
 view_step Token-F.Any = any

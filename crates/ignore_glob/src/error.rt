@@ -1,4 +1,4 @@
-//! What goes wrong while rules are read, or while files are walked.
+//! Errors of parsing rules and of walking files.
 ghost use Rattle.std.specs.Prelude.{◌≡◌, is_some, map, option_map};
 ghost use Rattle.std.specs.Option.{option_copied};
 ghost use Rattle.ignore_glob.specs.Errors.{is_partial, io_fault, depth_of};
@@ -10,17 +10,16 @@ mod from;
 
 use crate::fault::Fault;
 
-/// An error of reading rules, of building a matcher or of walking files.
+/// An error of parsing rules, of building a matcher or of walking files.
 ///
 /// An error may be tagged: with the line or the path that it belongs to, or
-/// with the depth in a walk. It is cloned by `clone`, which can itself be
-/// refused for want of memory, and then answers `AllocError`; the clone tells
-/// the same. `Display` prints the text that is given with each variant.
+/// with the depth in a walk. `clone` itself can be out of memory, and returns
+/// `AllocError` then; the clone reports the same problem. `Display` prints the
+/// text that is given with each variant.
 #[derive(Debug, Drop)]
 pub enum Error {
-    /// Several errors at once, as when some lines of an ignore file are good
-    /// and some are not. Printed are the texts, with a newline between each
-    /// two.
+    /// Several errors at once, as when some lines of an ignore file are valid
+    /// and some are not. It is printed as their texts, separated by newlines.
     Partial(Vec<Error>),
     /// An error at a line of a file, printed as `line N: ` and the text of the
     /// error inside.
@@ -55,24 +54,24 @@ pub enum Error {
     },
     /// A fault of the file system or of the walk, printed as the fault.
     Io(Fault),
-    /// A glob that can't be read, printed as `error parsing glob 'GLOB': ERR`,
+    /// An invalid glob, printed as `error parsing glob 'GLOB': ERR`,
     /// or as `ERR` alone where the glob is not known.
     Glob {
         /// The glob as its user wrote it, where it is known. It may differ
         /// from what is matched in the end, as a line of a gitignore file
         /// does.
         glob: Option<String>,
-        /// What is wrong with it.
+        /// Its parse error.
         err: String,
     },
     /// A file type was selected that has no definition, printed as
     /// `unrecognized file type: NAME`.
     UnrecognizedFileType(String),
-    /// A definition of a file type can't be read, printed as
+    /// An invalid definition of a file type, printed as
     /// `invalid definition (format is type:glob, e.g., html:*.html)`.
     InvalidDefinition,
-    /// Memory was refused, printed as `out of memory`. The original has no
-    /// such variant, since there the process ends.
+    /// Out of memory, printed as `out of memory`. The original has no such
+    /// variant, since there the process ends.
     Memory,
 }
 
@@ -91,17 +90,16 @@ impl Error {
         }
     }
 
-    /// Whether this is a fault and nothing else: whether `io_error` answers
-    /// one.
+    /// Whether this is a fault and nothing else: whether `io_error` returns one.
     pub fn is_io(&self) -> bool
         ensures { result ≡ is_some (io_fault (problem_of self.now)) }
     {
         self.io_error().is_some()
     }
 
-    /// The fault that this error comes down to, if it is one. The line, the
-    /// path and the depth that it is tagged with are passed over, and so is a
-    /// partial error that has exactly one member. Of several no fault is told.
+    /// The fault of this error, if it is one. Tags with a line, a path or a
+    /// depth are skipped, and so is a partial error with exactly one member.
+    /// Several errors have no fault.
     pub fn io_error(&self) -> Option<&Fault>
         ensures { option_copied result ≡ io_fault (problem_of self.now) }
     {
@@ -119,17 +117,16 @@ impl Error {
         }
     }
 
-    /// The fault that `io_error` tells, by value: the error is used up. It
-    /// takes no memory.
+    /// The fault that `io_error` returns, by value: the error is consumed. It
+    /// allocates nothing.
     pub fn into_io_error(self) -> Option<Fault>
         ensures { result ≡ io_fault (problem_of self) }
     {
         self.io_error().copied()
     }
 
-    /// The depth of the walk that this error is tagged with, also where a path
-    /// stands before it. Behind a line number or inside a partial error no
-    /// depth is told.
+    /// The depth of the walk that this error is tagged with, directly or inside
+    /// a path. A depth inside a line number or a partial error is not returned.
     pub fn depth(&self) -> Option<usize>
         ensures { result ≡ depth_of (problem_of self.now) }
     {
@@ -142,9 +139,9 @@ impl Error {
 
     /// The errors as one: none for no error, the error itself for one, else one
     /// partial error with all of them as members, in order. A member that is
-    /// partial itself stays one member. It takes no memory.
+    /// partial itself stays one member. It allocates nothing.
     ///
-    /// For the crates above; no part of the surface of `ignore`.
+    /// For dependents; no part of the surface of `ignore`.
     pub fn joined(mut errors: Vec<Error>) -> Option<Error>
         ensures { option_map problem_of result ≡ joined (map problem_of errors.items) }
     {

@@ -1,4 +1,4 @@
-//! The faults that a file system, a walk or a reader of files can meet.
+//! The faults of a file system, a walk or a reader of files.
 ghost use Rattle.std.specs.Prelude.{Some};
 ghost use Rattle.ignore_glob.specs.Faults.{fault_text};
 
@@ -15,12 +15,12 @@ pub enum Fault {
     NotFound,
     /// The system refuses access: `permission denied`.
     PermissionDenied,
-    /// A directory was wanted, or the path goes on below a file:
+    /// A directory was expected, or a component of the path follows a file:
     /// `not a directory`.
     NotADirectory,
-    /// A file was wanted and there is a directory: `is a directory`.
+    /// A file was expected and there is a directory: `is a directory`.
     IsADirectory,
-    /// The bytes are not what was wanted, as a line that is not UTF-8:
+    /// The bytes are not what was expected, as a line that is not UTF-8:
     /// `invalid data`.
     InvalidData,
     /// A listed name is not UTF-8, or is not a name at all:
@@ -28,13 +28,13 @@ pub enum Fault {
     BadName,
     /// Resolving a path led through too many symbolic links: `too many links`.
     LinkLimit,
-    /// It can't be told whether two paths lead to one directory or one device:
+    /// Whether two paths lead to one directory or one device is unknown:
     /// `identity unknown`.
     NoIdentity,
     /// The working directory is needed and not known:
     /// `current directory unknown`.
     NoCurrentDir,
-    /// A walk has used up the steps that it was given: `step limit reached`.
+    /// A walk has done all steps that it was given: `step limit reached`.
     StepLimit,
     /// Standard input was asked for its metadata: `<stdin> has no metadata`.
     NoMetadata,

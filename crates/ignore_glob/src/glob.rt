@@ -1,11 +1,15 @@
-//! The glob dialect: how a glob is written, and what it takes.
+//! The glob dialect: how a glob is written, and what it matches.
 
 mod class;
 mod copies;
 mod fault;
+mod flags;
 pub mod laws;
 mod lexeme;
+mod marks;
 mod meaning;
+mod node;
+mod nodes;
 mod options;
 mod pattern;
 mod plain;

@@ -1,4 +1,4 @@
-//! Errors, paths and globs: what the gitignore rules above stand on.
+//! Errors, paths and globs, for the crates of gitignore rules.
 #![tactic(auto)]
 
 mod error;

@@ -21,7 +21,7 @@ pub fn map_by_a_function<T, U>()
     ensures { (f : T → U) (m : Match T) (n : Match U) → IsMapped (λ x y. y ≡ f x) m n → n ≡ match_map f m }
 {}
 
-/// A clone of a match is equal to it where clones of what came with it are.
+/// A clone of a match is equal to it where clones of its value are.
 pub fn clone_is_equal<T: Clone>()
     ensures { ((x y : T) → T.is_clone x y → y ≡ x) → (m n : Match T) → ⟦<Match<T> as Clone>⟧.is_clone m n → n ≡ m }
 {}

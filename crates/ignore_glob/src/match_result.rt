@@ -1,31 +1,30 @@
-//! What a matcher answers for a path.
+//! The answer of a matcher for a path.
 ghost use Rattle.std.specs.Prelude.{◌≡◌};
 ghost use Rattle.std.specs.Option.{ForSome, option_copied};
 ghost use Rattle.ignore_glob.specs.Match.{is_none, is_ignore, is_whitelist, inner, invert, match_or, IsMapped};
 
-/// What a matcher answers for a path, with the glob or rule that decided.
+/// The answer of a matcher for a path, with the glob or rule that decided.
 ///
-/// `T` says what decided: for a gitignore file, the rule with the line that it
-/// was read from.
+/// `T` is what decided: for a gitignore file, the rule of the line.
 #[derive(Clone, Debug, Drop)]
 pub enum Match<T> {
-    /// No glob took the path.
+    /// No glob matched the path.
     None,
-    /// The glob that counts says that the path is to be ignored.
+    /// The glob that decides ignores the path.
     Ignore(T),
-    /// The glob that counts says that the path is to be kept.
+    /// The glob that decides whitelists the path.
     Whitelist(T),
 }
 
 impl<T> Match<T> {
-    /// Whether no glob took the path.
+    /// Whether no glob matched the path.
     pub fn is_none(&self) -> bool
         ensures { result ≡ is_none self.now }
     {
         matches!(self, Match::None)
     }
 
-    /// Whether the path is to be ignored.
+    /// Whether the path is ignored.
     pub fn is_ignore(&self) -> bool
         ensures { result ≡ is_ignore self.now }
     {
@@ -51,7 +50,7 @@ impl<T> Match<T> {
         }
     }
 
-    /// What decided, if a glob took the path.
+    /// What decided, if a glob matched the path.
     pub fn inner(&self) -> Option<&T>
         ensures { option_copied result ≡ inner self.now }
     {
@@ -61,8 +60,8 @@ impl<T> Match<T> {
         }
     }
 
-    /// The same match with `f` of what decided. Where no glob took the path `f`
-    /// isn't called.
+    /// The same match with `f` of what decided. Where no glob matched, `f` isn't
+    /// called.
     pub fn map<U, F: FnOnce(T) -> U>(self, f: F) -> Match<U>
         requires { ForSome (inner self) (F.pre f) }
         ensures value { IsMapped (F.post f) self result }
@@ -77,7 +76,7 @@ impl<T> Match<T> {
         }
     }
 
-    /// This match, unless no glob took the path: then the other.
+    /// This match, or the other where no glob matched the path.
     pub fn or(self, other: Self) -> Self
     where
         T: Drop,

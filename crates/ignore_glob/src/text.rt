@@ -13,7 +13,12 @@ use memchr::memrchr;
 pub use prefix::{has_slash, strip, strip_law, strip_prefix, trim_root};
 use std::alloc::Global;
 
-/// `path` seen from `base`: `path` itself where it begins with `/` or `base` is empty, else the two with one `/` between them (none is added to a `base` that ends with one), as Rust's `Path::join` gives. The only error is `Error::Memory`.
+/// `path` seen from `base`, as Rust's `Path::join`: `path` itself where it begins with `/` or
+/// `base` is empty, else the two separated by one `/` (none is added to a `base` that ends with
+/// one).
+///
+/// # Errors
+/// `Error::Memory` alone.
 pub fn join(alloc: Global, base: &str, path: &str) -> Result<String, Error>
     ensures joins { IfOk result (λ text. string_bytes text ≡ join_of base.now path.now) }
     ensures out_of_memory { IfErr result (λ error. problem_of error ≡ memory) }
@@ -29,7 +34,8 @@ pub fn join(alloc: Global, base: &str, path: &str) -> Result<String, Error>
     Ok(text)
 }
 
-/// The last piece of a path, behind its last `/`: the empty text where the path ends with one, none where the piece is `.` or `..`, and none for the empty path.
+/// The last component of a path, after its last `/`: empty where the path ends with one, none where
+/// it is `.` or `..`, and none for the empty path.
 pub fn file_name(path: &str) -> Option<&str>
     ensures { option_copied result ≡ file_name_of path.now }
 {
@@ -54,7 +60,7 @@ pub fn is_hidden(path: &str) -> bool
 }
 
 /// What follows the last `/` of a path, or all of it where it has none.
-/// For the crates above.
+/// For dependents.
 pub fn last_component(path: &str) -> &str
     ensures { result.now ≡ last_component (components path.now) }
 {

@@ -20,7 +20,7 @@ use Rattle.ignore_rules.specs.RuleSteps.{IsOneSegment, IsLineRead, IsLastLineRea
 is_end : ℕ → Bool
 is_end = λ b. eqb b 10
 
--- there is a first piece
+-- there is a first segment
 first_segment : (bytes : List ℕ) → (segment : List ℕ) × (segments : List (List ℕ)) × (slice_split (λ b. eqb b 10) bytes ≡ segment ∷ segments)
 first_segment [] = ([], [], refl)
 first_segment (x ∷ xs) = cases (eqb x 10) (slice_split (λ b. eqb b 10) xs)
@@ -30,14 +30,14 @@ first_segment (x ∷ xs) = cases (eqb x 10) (slice_split (λ b. eqb b 10) xs)
     cases false [] = (x ∷ [], [], refl)
     cases false (segment ∷ segments) = (x ∷ segment, segments, refl)
 
--- the first piece ends before the first line end
+-- the first segment ends before the first newline
 pub cut_at : (bytes : List ℕ) (k : ℕ) → k < length bytes → eqb (get_or bytes k 0) 10 ≡ true → ((i : ℕ) → i < k → eqb (get_or bytes i 0) 10 ≡ false) → slice_split (λ b. eqb b 10) bytes ≡ take k bytes ∷ slice_split (λ b. eqb b 10) (drop (suc k) bytes)
 cut_at [] k l here before = absurd (omega (arith, l))
 cut_at (x ∷ xs) zero l here before = slice_split-cons_yes (λ b. eqb b 10) x xs here
 cut_at (x ∷ xs) (suc k) l here before =
     slice_split-cons_no (λ b. eqb b 10) x xs (before 0 (omega arith)) ∙ ap (onto_first x) (cut_at xs k (omega (arith, l)) here (λ i h. before (suc i) (omega (arith, h))))
 
--- the lines of pieces, as they are met
+-- the lines of segments, as they are read
 abbrev lines_read_of : Option Fault → List (List ℕ) → List (Result (List ℕ) Fault)
 lines_read_of None segments = map decoded (lines_of_parts segments)
 lines_read_of (Some fault) segments = map decoded (ended_of_segments segments) ++ Err fault ∷ []
@@ -50,7 +50,7 @@ line_before : (line segment : List ℕ) (more : List (List ℕ)) (fault : Option
 line_before line segment more None = refl
 line_before line segment more (Some fault) = refl
 
--- a line that has an end is met before those behind it
+-- a line that ends with a newline is read before those after it
 pub ended_line : (bytes line rest : List ℕ) (fault : Option Fault) → slice_split (λ b. eqb b 10) bytes ≡ line ∷ slice_split (λ b. eqb b 10) rest → lines_read bytes fault ≡ decoded (strip_carriage_return line) ∷ lines_read rest fault
 ended_line bytes line rest fault e =
     let first = first_segment rest in
@@ -65,7 +65,7 @@ first_line bytes k fault l here before =
     let cut = cut_at bytes k l here (λ i h. false_from_ne_true _ (before i (omega arith) h)) in
     ended_line bytes (take k bytes) (drop (k + 1) bytes) fault (cut ∙ ap (λ n. take k bytes ∷ slice_split (λ b. eqb b 10) (drop n bytes)) (sym (add-one k)))
 
--- bytes in which no line end was found are one piece
+-- bytes without a newline are one segment
 pub one_segment : (bytes : List ℕ) → Nowhere (Passes (is_byte 10) bytes) 0 (length bytes) → IsOneSegment bytes
 one_segment bytes none =
     slice_split_none (λ b. eqb b 10) bytes (All-from_get_or (λ b. eqb b 10 ≡ false) bytes 0 (λ i l. false_from_ne_true _ (none i (omega arith) l)))
@@ -73,7 +73,7 @@ one_segment bytes none =
 pub last_line : (bytes : List ℕ) → IsOneSegment bytes → eqb (length bytes) 0 ≡ false → lines_read bytes None ≡ decoded bytes ∷ []
 last_line bytes one some = ap (lines_read_of None) one ∙ ap (λ b. map decoded (cond b [] (bytes ∷ []))) some
 
--- a line that is UTF-8 is met as its text, any other as a fault
+-- a line that is UTF-8 is read as its text, any other as a fault
 pub read_text : (line text : List ℕ) → text ≡ line → IsUtf8 line → decoded line ≡ Ok text
 read_text line text same utf8 = ap (λ b. cond b (Ok line) (Err InvalidData)) (is_utf8-from_IsUtf8 line utf8) ∙ ap Ok (sym same)
 

@@ -8,7 +8,8 @@ use Rattle.ignore_rules.specs.Rules.{Building}
 use Rattle.ignore_rules.specs.RuleFile.{AddsLines, done, stopped, added, refused, at_line_of, is_memory}
 use Rattle.ignore_rules.specs.RuleSteps.{AddsOrReports, Keeps}
 
--- what is yet to be met from the line with a number on, added to a builder, makes up the whole with what was met before
+-- what is yet to be read, from the line with a number on, leads from a builder with the lines
+-- before to the whole
 abbrev pub LeadsTo : List ℕ → List (Result (List ℕ) Fault) → Building → ℕ → List (Result (List ℕ) Fault) → Building → List Problem → Type 0
 LeadsTo path whole start number rest old problems =
     (new : Building) (more : List Problem) → AddsLines path number rest old new more → AddsLines path 1 whole start new (problems ++ more)
@@ -51,7 +52,7 @@ cut_back old new (more, e) restored r =
     r ∙ (ap (λ (b : Building). let made : Building = record { root = b.root; rules = take (length old.rules) b.rules; options = b.options } in made) e
     ∙ ap (λ rules. let made : Building = record { root = old.root; rules = rules; options = old.options } in made) (take_at old.rules more (length old.rules) refl))
 
--- an error that isn't want of memory tells the fault of its line
+-- an error other than out of memory reports the invalid glob of its line
 pub not_memory : {Refused : Type 0} → (p : Problem) → is_memory p ≡ false → (p ≡ memory) ⊎ Refused → Refused
 not_memory p h (inl e) = absurd (false≢true (sym h ∙ ap is_memory e))
 not_memory p h (inr r) = r

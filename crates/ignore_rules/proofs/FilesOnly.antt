@@ -1,4 +1,5 @@
--- What a file adds is one thing, told with one problem; so is each matcher that is made of it. What is added of one answer of a value that is honest for a tree is what the tree's file adds.
+-- A file adds one thing, with one problem; so does each matcher that is built from it. The answer
+-- of a value that is consistent with a tree adds what the tree's file adds.
 use Rattle.std.proofs.Common.{◌≡◌, ℕ, ◌+◌, List, ◌∷◌, Option, Some, None, Result, Ok, Err, refl, sym, ap, ◌∙◌, subst}
 use Rattle.ignore_glob.specs.declared.fault.Fault.{Fault}
 use Rattle.ignore_glob.specs.Problem.{Problem, joined}

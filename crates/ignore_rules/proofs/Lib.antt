@@ -7,6 +7,7 @@ pub mod MarkLemmas
 pub mod ParentLemmas
 pub mod DoesMatchLemmas
 pub mod TextLemmas
+pub mod TrailingLemmas
 mod WorkedLines
 pub mod LinesOnly
 mod FilesOnly

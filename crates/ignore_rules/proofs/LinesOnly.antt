@@ -1,4 +1,4 @@
--- A line adds one thing, or is refused with one problem, and never both.
+-- A line adds one thing, or is rejected with one problem, and never both.
 use Rattle.std.proofs.Common.{◌≡◌, ℕ, List, Option, Some, None, sym, ap, ◌∙◌}
 use Rattle.std.specs.Str.{chars}
 use Rattle.ignore_glob.specs.Glob.{Tokens}
@@ -16,20 +16,20 @@ GivesRule-one options from (Some w) a b h k =
 
 -- what a line adds is one thing
 pub AddsLine-one : (old : Building) (from : Option (List ℕ)) (line : List ℕ) (a b : Building) → AddsLine old from line a → AddsLine old from line b → a ≡ b
-AddsLine-one old from line a b h k = h.2 ∙ (ap (λ (given : Option Rule). with_rule old given) (GivesRule-one old.options from (parsed_line line) h.0 k.0 h.1 k.1) ∙ sym k.2)
+AddsLine-one old from line a b h k = h.2 ∙ (ap (λ (given : Option Rule). with_rule old given) (GivesRule-one old.options from (parsed_line old.options.git_trailing_spaces line) h.0 k.0 h.1 k.1) ∙ sym k.2)
 
 GivesProblem-one : (options : LineOptions) (parsed : Option ParsedLine) (p q : Problem) → GivesProblem options parsed p → GivesProblem options parsed q → p ≡ q
 GivesProblem-one options None p q h k = absurd h
 GivesProblem-one options (Some w) p q h k = h.2 ∙ (ap (λ (f : GlobFault). glob (Some w.original) (glob_fault_text f)) (one_fault options.glob (chars w.actual) h.0 k.0 h.1 k.1) ∙ sym k.2)
 
--- a refused line has one problem
+-- a rejected line has one problem
 pub Refuses-one : (options : LineOptions) (line : List ℕ) (p q : Problem) → Refuses options line p → Refuses options line q → p ≡ q
-Refuses-one options line p q h k = GivesProblem-one options (parsed_line line) p q h k
+Refuses-one options line p q h k = GivesProblem-one options (parsed_line options.git_trailing_spaces line) p q h k
 
 GivesRule-never : (options : LineOptions) (from : Option (List ℕ)) (parsed : Option ParsedLine) (given : Option Rule) (p : Problem) → GivesRule options from parsed given → GivesProblem options parsed p → ⊥
 GivesRule-never options from None given p h k = k
 GivesRule-never options from (Some w) given p h k = never_both options.glob (chars w.actual) h.0 k.0 h.1 k.1
 
--- a line that is refused adds nothing
+-- a rejected line adds nothing
 pub AddsLine-never : (old : Building) (from : Option (List ℕ)) (line : List ℕ) (new : Building) (p : Problem) → AddsLine old from line new → Refuses old.options line p → ⊥
-AddsLine-never old from line new p h k = GivesRule-never old.options from (parsed_line line) h.0 p h.1 k
+AddsLine-never old from line new p h k = GivesRule-never old.options from (parsed_line old.options.git_trailing_spaces line) h.0 p h.1 k

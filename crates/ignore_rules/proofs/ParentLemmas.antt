@@ -14,7 +14,7 @@ use Rattle.ignore_glob.specs.Paths.{is_absolute, strip_of}
 use Rattle.ignore_rules.specs.Parents.{slash_prefixes, slash_prefixes_from, parents, directories_answer, nearest_answer, is_under_root}
 use Rattle.ignore_rules.specs.Answer.{list_answer}
 
--- without a slash there is no front
+-- without a slash there is no such prefix
 slash_prefixes_none : (path : List ℕ) → ((k : ℕ) → k < length path → get_or path k 0 ≡ 47 → ⊥) → slash_prefixes path ≡ []
 slash_prefixes_none [] h = refl
 slash_prefixes_none (c ∷ path) h =
@@ -22,7 +22,7 @@ slash_prefixes_none (c ∷ path) h =
     let later = slash_prefixes_none path (λ k l. h (suc k) (omega arith)) in
     ap (λ b. cond b ([] ∷ map (λ prefix. c ∷ prefix) (slash_prefixes path)) (map (λ prefix. c ∷ prefix) (slash_prefixes path))) here ∙ ap (map (λ prefix. c ∷ prefix)) later
 
--- the front before the last slash is the longest
+-- the prefix before the last slash is the longest
 slash_prefixes_last : (prefix rest : List ℕ) → slash_prefixes rest ≡ [] → slash_prefixes (prefix ++ 47 ∷ rest) ≡ slash_prefixes prefix ++ prefix ∷ []
 slash_prefixes_last [] rest none = ap (λ l. [] ∷ map (λ prefix. 47 ∷ prefix) l) none
 slash_prefixes_last (c ∷ prefix) rest none = ap (slash_prefixes_from c) (slash_prefixes_last prefix rest none) ∙ more (eqb c 47)
@@ -56,7 +56,7 @@ parents-cut path (suc n) some first l here last =
 pub ask_parent : (rules : List Rule) (path : List ℕ) (n : ℕ) → 0 < length path → get_or path 0 0 ≢ 47 → n < length path → (0 < n → get_or path n 0 ≡ 47) → ((k : ℕ) → n < k → k < length path → get_or path k 0 ≢ 47) → directories_answer rules (parents path) ≡ match_or (list_answer rules (take n path) true) (directories_answer rules (parents (take n path)))
 ask_parent rules path n some first l here last = ap (directories_answer rules) (parents-cut path n some first l here last)
 
--- the next parent of a front of a text is a shorter front
+-- the next parent of a prefix of a text is a shorter prefix
 pub ask_next : (rules : List Rule) (text path : List ℕ) (end n : ℕ) → path ≡ take end text → end ≤ length text → 0 < end → get_or text 0 0 ≢ 47 → (0 < length path → n < length path) → (0 < n → get_or path n 0 ≡ 47) → ((k : ℕ) → n < k → k < length path → get_or path k 0 ≢ 47) → (n < end) × (directories_answer rules (parents (take end text)) ≡ match_or (list_answer rules (take n text) true) (directories_answer rules (parents (take n text))))
 ask_next rules text path end n same within some first shorter here last =
     let size : length path ≡ end = ap length same ∙ length-take-le end text within in
@@ -96,7 +96,7 @@ first_slash bytes utf8 e = first (chars bytes) (encodes-chars bytes utf8) e
     first [] parsed_line h = absurd (false≢true (ap (λ (n : ℕ). eqb n 47) h))
     first (c ∷ cs) parsed_line h = let is : c ≡ 47 = h in byte_from_char bytes (encodes cs) c (sym parsed_line) (omega arith) ∙ is
 
--- a path that can be asked about together with its parents leaves no text that begins with a slash
+-- a path that can be matched with its parents leaves no text that begins with a slash
 pub no_first_slash : (g : Ruleset) (path bytes : List ℕ) → bytes ≡ strip_of g.root path → IsUtf8 bytes → is_under_root g path ≡ true → eqb (length g.rules) 0 ≡ false → get_or (chars bytes) 0 0 ≡ 47 → ⊥
 no_first_slash g path bytes same utf8 under filled e =
     let absolute = eq-eqb _ 47 (ap (λ b. get_or b 0 0) (sym same) ∙ first_slash bytes utf8 e) in

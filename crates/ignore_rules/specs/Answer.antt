@@ -1,4 +1,4 @@
--- What a list of rules answers.
+-- The answer of a list of rules.
 use Rattle.std.specs.Prelude.{◌≡◌, ◌⊎◌, ℕ, Bool, true, false, not, ◌&&◌, ◌||◌, List, [], ◌∷◌, ◌++◌, All, if◌then◌else◌}
 use Rattle.std.specs.Str.{chars}
 use Rattle.ignore_glob.specs.declared.match_result.Match.{Match}
@@ -9,30 +9,30 @@ use Rattle.ignore_glob.specs.Reading.{Matches}
 use Rattle.ignore_rules.specs.Rules.{Rule}
 use Rattle.ignore_rules.specs.DoesMatch.{does_match}
 
--- whether the rule takes the text and speaks of the kind
+-- the rule matches the text, and a rule for directories only is asked for a directory
 abbrev pub does_apply : List ℕ → Bool → Rule → Bool
 does_apply text is_dir rule = (not rule.is_only_dir || is_dir) && does_match rule.reading text
 
--- what the rule says of a path where it decides
+-- the match of a rule that decides
 abbrev pub decision_of : Rule → Match Rule
 decision_of rule = if rule.is_whitelist then Whitelist rule else Ignore rule
 
--- what a rule says where it applies
+-- the match of a rule where it applies, else none
 abbrev pub rule_answer : List ℕ → Bool → Rule → Match Rule
 rule_answer text is_dir rule = if does_apply text is_dir rule then decision_of rule else None
 
--- what the last rule that applies says: a later one overrides
+-- the match of the last rule that applies: a later rule overrides an earlier one
 abbrev pub list_answer : List Rule → List ℕ → Bool → Match Rule
 list_answer [] text is_dir = None
 list_answer (rule ∷ rules) text is_dir = match_or (list_answer rules text is_dir) (rule_answer text is_dir rule)
 
--- what rules relative to a root answer for a path
+-- the answer of rules relative to a root for a path
 abbrev pub answer : List ℕ → List Rule → List ℕ → Bool → Match Rule
 answer root rules path is_dir = list_answer rules (chars (strip_of root path)) is_dir
 
--- The same in other words, with no order in which rules are asked.
+-- The same in other words, without an order in which rules are tried.
 
--- the rule takes the text, and a rule for directories is asked about one
+-- the rule matches the text, and a rule for directories only is asked for a directory
 abbrev pub Applies : List ℕ → Bool → Rule → Type 0
 Applies text is_dir rule = ((rule.is_only_dir ≡ false) ⊎ (is_dir ≡ true)) × Matches rule.reading text
 
@@ -44,12 +44,12 @@ pub record IsLast (rules : List Rule) (text : List ℕ) (is_dir : Bool) (rule : 
   pub applies : Applies text is_dir rule
   pub last : All (λ later. Applies text is_dir later → ⊥) after
 
--- it decides by its flag; no match where no rule applies
+-- the last rule that applies decides by its flag; no match where no rule applies
 abbrev pub IsAnswer : List Rule → List ℕ → Bool → Match Rule → Type 0
 IsAnswer rules text is_dir None = All (λ rule. Applies text is_dir rule → ⊥) rules
 IsAnswer rules text is_dir (Ignore rule) = IsLast rules text is_dir rule × (rule.is_whitelist ≡ false)
 IsAnswer rules text is_dir (Whitelist rule) = IsLast rules text is_dir rule × (rule.is_whitelist ≡ true)
 
--- whatever the rules, the text and the kind
+-- for all rules, texts and kinds, the answer is that of the last rule that applies
 abbrev pub AnswersByTheLast : Type 0
 AnswersByTheLast = (rules : List Rule) (text : List ℕ) (is_dir : Bool) → IsAnswer rules text is_dir (list_answer rules text is_dir)

@@ -1,4 +1,5 @@
--- Taking as a test that computes, so that an answer can be a function: every split of the text is tried.
+-- Matching as a test that computes, so that an answer is a function: each way to cut the text is
+-- tried.
 use Rattle.std.specs.Prelude.{◌==◌, ℕ, Bool, true, false, not, ◌&&◌, ◌||◌, List, [], ◌∷◌}
 use Rattle.std.specs.List.{list_all}
 use Rattle.ignore_glob.specs.Glob.{Token, literal, any, star, start, middle, end, class, alternates, Tokens, done, then, Branches, no_branch, branch}
@@ -64,6 +65,6 @@ abbrev pub is_lone_start : Tokens → Bool
 is_lone_start (then start done) = true
 is_lone_start _ = false
 
--- whether a pattern takes the text
+-- whether a pattern matches the text
 unfoldable pub does_match : Reading → List ℕ → Bool
 does_match reading w = is_lone_start reading.tokens || do_tokens_match reading.case_insensitive reading.tokens w

@@ -1,80 +1,100 @@
--- What a line of a gitignore file says, before its pattern is read. A text is the list of its bytes.
-use Rattle.std.specs.Prelude.{◌==◌, ◌-◌, ℕ, Bool, not, ◌&&◌, ◌||◌, if◌then◌else◌, List, ◌++◌, length, take, drop, codes, nat_eq, Option, None, Some}
+-- Parsing a line of a gitignore file to its parts, before its glob is parsed. A text is a list of
+-- bytes.
+use Rattle.std.specs.Prelude.{◌==◌, ◌-◌, ℕ, Bool, false, not, ◌&&◌, ◌||◌, if◌then◌else◌, List, [], ◌∷◌, ◌++◌, length, take, drop, reverse, codes, nat_eq, Option, None, Some}
 use Rattle.std.specs.List.{starts_with, ends_with}
 use Rattle.std.specs.Str.{trim_end, bytes_eq}
 use Rattle.ignore_glob.specs.Paths.{has_slash}
 
--- the text begins, or ends, with this one
+-- the text begins with this prefix, or ends with this suffix
 abbrev pub has_prefix : List ℕ → List ℕ → Bool
 has_prefix start text = starts_with nat_eq text start
 
 abbrev pub has_suffix : List ℕ → List ℕ → Bool
 has_suffix end text = ends_with nat_eq text end
 
--- the text without this beginning, or this end, where it has it
+-- the text without this prefix, or this suffix, where it has it
 abbrev pub without_prefix : List ℕ → List ℕ → List ℕ
 without_prefix start text = if has_prefix start text then drop (length start) text else text
 
 abbrev pub without_suffix : List ℕ → List ℕ → List ℕ
 without_suffix end text = if has_suffix end text then take (length text - length end) text else text
 
--- trailing white space goes, unless the line ends with a backslash and one space
-abbrev pub trimmed : List ℕ → List ℕ
-trimmed line = if has_suffix (codes "\\ ") line then line else trim_end line
+-- the line without trailing white space, unless it ends with a backslash and one space
+abbrev pub default_trimmed : List ℕ → List ℕ
+default_trimmed line = if has_suffix (codes "\\ ") line then line else trim_end line
 
--- a comment, or nothing but white space
-abbrev pub is_silent : List ℕ → Bool
-is_silent line = has_prefix (codes "#") line || length (trimmed line) == 0
+-- a text that is read from its end begins with an odd number of backslashes
+abbrev pub is_odd : List ℕ → Bool
+is_odd [] = false
+is_odd (c ∷ before) = c == 92 && not (is_odd before)
 
--- What follows speaks of a trimmed line.
+-- as long as a text that is read from its end begins with a space, and an even number of
+-- backslashes stands before that, the space is removed
+abbrev pub without_spaces : List ℕ → List ℕ
+without_spaces [] = []
+without_spaces (c ∷ before) = if c == 32 && not (is_odd before) then without_spaces before else c ∷ before
 
--- a leading `!` turns the rule round
+-- the same of a line: git's own rule for white space at the end
+abbrev pub git_trimmed : List ℕ → List ℕ
+git_trimmed line = reverse (without_spaces (reverse line))
+
+-- the line without the white space at its end, by git's own rule or by that of the original
+abbrev pub trimmed : Bool → List ℕ → List ℕ
+trimmed as_git line = if as_git then git_trimmed line else default_trimmed line
+
+-- the line is a comment, or only white space
+abbrev pub is_silent : Bool → List ℕ → Bool
+is_silent as_git line = has_prefix (codes "#") line || length (trimmed as_git line) == 0
+
+-- What follows is about a trimmed line.
+
+-- a leading `!` makes the rule a whitelist
 abbrev pub is_whitelist : List ℕ → Bool
 is_whitelist line = has_prefix (codes "!") line
 
--- then a leading `/` binds it to its root
+-- then a leading `/` anchors it to its root
 abbrev pub is_anchored : List ℕ → Bool
 is_anchored line = has_prefix (codes "/") (without_prefix (codes "!") line)
 
--- the first character is a `!` or a `#` for itself
+-- the line begins with an escaped `!` or `#`
 abbrev pub is_escaped : List ℕ → Bool
 is_escaped line = has_prefix (codes "\\!") line || has_prefix (codes "\\#") line
 
--- the line without what stands before its pattern
+-- the line without what precedes its pattern
 abbrev pub body : List ℕ → List ℕ
 body line = if is_escaped line then drop 1 line else without_prefix (codes "/") (without_prefix (codes "!") line)
 
--- a final `/` speaks of directories only
+-- a final `/` makes the rule apply to directories only
 abbrev pub is_only_dir : List ℕ → Bool
 is_only_dir line = has_suffix (codes "/") (body line)
 
--- it goes, and a backslash directly before it goes too
+-- the pattern: the final `/` is stripped, and so is a backslash directly before it
 abbrev pub pattern : List ℕ → List ℕ
 pattern line = if is_only_dir line then without_suffix (codes "\\") (without_suffix (codes "/") (body line)) else body line
 
--- without any slash and not bound to its root, it is asked at every depth; `**` alone is so as it stands
+-- a pattern without a slash that isn't anchored matches at every depth; `**` alone does so as it is
 abbrev pub is_floating : List ℕ → Bool
 is_floating line = (not (is_anchored line) && not (has_slash (pattern line))) && not (bytes_eq (pattern line) (codes "**"))
 
--- the pattern, with `**/` before it where it floats
+-- the pattern, prefixed with `**/` where it floats
 abbrev pub placed : List ℕ → List ℕ
 placed line = if is_floating line then codes "**/" ++ pattern line else pattern line
 
--- what takes all below a directory doesn't take the directory
+-- the glob: one that matches all below a directory must not match the directory
 abbrev pub actual : List ℕ → List ℕ
 actual line = if has_suffix (codes "/**") (placed line) then placed line ++ codes "/*" else placed line
 
--- a line that says something
+-- a parsed line: the line without trailing white space, its glob, and its two flags
 pub record ParsedLine : Type 0 where
   pub original : List ℕ
   pub actual : List ℕ
   pub is_whitelist : Bool
   pub is_only_dir : Bool
 
--- what a trimmed line says
+-- what a trimmed line parses to
 abbrev pub parsed_as : List ℕ → ParsedLine
 parsed_as line = record { original = line; actual = actual line; is_whitelist = is_whitelist line; is_only_dir = is_only_dir line }
 
--- what a whole line says, if anything
-abbrev pub parsed_line : List ℕ → Option ParsedLine
-parsed_line line = if is_silent line then None else Some (parsed_as (trimmed line))
+-- what a line parses to; comments and blank lines parse to nothing
+abbrev pub parsed_line : Bool → List ℕ → Option ParsedLine
+parsed_line as_git line = if is_silent as_git line then None else Some (parsed_as (trimmed as_git line))

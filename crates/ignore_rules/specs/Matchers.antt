@@ -1,4 +1,4 @@
--- Matchers that are read from files: of one file, and of the global one.
+-- Matchers that are built from files: from one file, and from the global file.
 use Rattle.std.specs.Prelude.{◌≡◌, ◌⊎◌, ◌==◌, ◌&&◌, ℕ, Bool, true, false, List, length, codes, Option, None, Some, is_some, Result, Ok, Err, if◌then◌else◌}
 use Rattle.ignore_glob.specs.declared.fault.Fault.{Fault}
 use Rattle.ignore_glob.specs.declared.fault.Fault.TheVariants.{NoCurrentDir}
@@ -16,26 +16,27 @@ use Rattle.ignore_rules.specs.Rules.{Building, Ruleset, begun, built, empty}
 use Rattle.ignore_excludes.specs.ExcludesSearch.{IsExcludesPath}
 use Rattle.ignore_rules.specs.RuleFile.{AddsFile, AddsAnswer}
 
--- what stands before the last slash of a path; a path without a slash gives the empty text, a path directly below `/` gives `/`
+-- the directory of a path: what precedes its last slash. It is `/` for a path directly below `/`,
+-- and empty for a path without a slash
 abbrev pub folder_of : List ℕ → List ℕ
 folder_of path = let folder = joined (but_last (components path)) in if is_absolute path && length folder == 0 then codes "/" else folder
 
--- the problem, unless it comes down to a fault of the file system
+-- the problem, unless it is a fault of the file system
 abbrev pub without_fault : Option Problem → Option Problem
 without_fault None = None
 without_fault (Some problem) = if is_some (io_fault problem) then None else Some problem
 
--- the matcher of the builder to which the file was added, and what is told of that
+-- the matcher of the builder after the file was added, and the problem that is reported
 abbrev pub BuildsFile : Tree → List ℕ → Building → Ruleset → Option Problem → Type 0
 BuildsFile tree path builder matcher reported =
     (filled : Building) × (problem : Option Problem) × AddsFile tree path builder filled problem × (matcher ≡ built filled) × (reported ≡ without_fault problem)
 
--- the matcher of the builder to which what one call answered for the file was added, and what is told of that
+-- the same where the answer of one call for the file was added
 abbrev pub BuildsAnswer : List ℕ → Result Contents Refusal → Building → Ruleset → Option Problem → Type 0
 BuildsAnswer path answer builder matcher reported =
     (filled : Building) × (problem : Option Problem) × AddsAnswer path answer builder filled problem × (matcher ≡ built filled) × (reported ≡ without_fault problem)
 
--- the empty matcher, or that of the builder to which what one call answered for some file was added
+-- the empty matcher, or the same where the answer of one call for some file was added
 abbrev pub BuildsAnyAnswer : (List ℕ → Result Contents Refusal → Type 0) → Building → Ruleset → Option Problem → Type 0
 BuildsAnyAnswer Gives builder matcher reported =
     ((matcher ≡ empty) × (reported ≡ None))
@@ -45,22 +46,22 @@ BuildsAnyAnswer Gives builder matcher reported =
 abbrev pub IsMatcherOf : Tree → List ℕ → Ruleset → Option Problem → Type 0
 IsMatcherOf tree path matcher reported = BuildsFile tree path (begun (folder_of path)) matcher reported
 
--- a followed `stat` says that a file is there
+-- the answer of `stat` is a file
 abbrev pub is_file_there : Result Metadata Fault → Bool
 is_file_there (Ok metadata) = is_file metadata.file_type
 is_file_there (Err fault) = false
 
--- the global file, where the path of the excludes file leads to a file
+-- the global file: the excludes file, where its path leads to a file
 abbrev pub global_file : Tree → Option (List ℕ) → Option (List ℕ)
 global_file tree None = None
 global_file tree (Some path) = if is_file_there (tree.stat path true) then Some path else None
 
--- the matcher of the builder to which the global file was added, if there is one, else the empty matcher
+-- the matcher of the builder after the global file was added; the empty matcher where there is none
 abbrev pub BuildsWith : Tree → Option (List ℕ) → Building → Ruleset → Option Problem → Type 0
 BuildsWith tree None builder matcher reported = (matcher ≡ empty) × (reported ≡ None)
 BuildsWith tree (Some path) builder matcher reported = BuildsFile tree path builder matcher reported
 
--- the same, with the global file that git's configuration names
+-- the same for the global file that git's configuration names
 abbrev pub BuildsGlobal : Tree → Env → Building → Ruleset → Option Problem → Type 0
 BuildsGlobal tree env builder matcher reported =
     (found : Option (List ℕ)) × IsExcludesPath tree env found × BuildsWith tree (global_file tree found) builder matcher reported

@@ -1,4 +1,4 @@
--- What the globs of a command line answer.
+-- The answer of the globs of a command line.
 use Rattle.std.specs.Prelude.{ℕ, Bool, not, ◌&&◌, List, Option, if◌then◌else◌}
 use Rattle.std.specs.Prelude.{None as Nothing, Some as Only}
 use Rattle.std.specs.List.{list_any}
@@ -7,16 +7,18 @@ use Rattle.ignore_glob.specs.declared.match_result.Match.TheVariants.{None, Igno
 use Rattle.ignore_rules.specs.Answer.{answer}
 use Rattle.ignore_rules.specs.Rules.{Rule, Ruleset}
 
--- some glob says what may be seen
+-- some glob whitelists
 abbrev pub has_whitelist : List Rule → Bool
 has_whitelist rules = list_any (λ rule. not rule.is_whitelist) rules
 
--- a glob that takes a path lets it be seen, and one behind a `!` hides it; where some glob says what may be seen, a file that none takes is hidden, and a directory isn't
+-- the match of the rules, inverted: a glob that matches whitelists, and one with a leading `!`
+-- ignores. Where no glob matches, the path is ignored if the flag says so
 abbrev pub overridden : Bool → Match Rule → Match (Option Rule)
 overridden hides None = if hides then Ignore Nothing else None
 overridden hides (Ignore rule) = Whitelist (Only rule)
 overridden hides (Whitelist rule) = Ignore (Only rule)
 
--- what globs relative to a root answer for a path
+-- the answer of globs relative to a root for a path. Where some glob whitelists, a file that no
+-- glob matches is ignored; a directory isn't
 abbrev pub override_answer : Ruleset → List ℕ → Bool → Match (Option Rule)
 override_answer globs path is_dir = overridden (has_whitelist globs.rules && not is_dir) (answer globs.root globs.rules path is_dir)

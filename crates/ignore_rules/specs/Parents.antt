@@ -1,4 +1,4 @@
--- The parents of a path, and what rules answer for a path together with them.
+-- The parents of a path, and the answer of rules for a path together with its parents.
 use Rattle.std.specs.Prelude.{ℕ, ◌==◌, Bool, true, not, ◌||◌, List, [], ◌∷◌, length, map, reverse, if◌then◌else◌}
 use Rattle.std.specs.Str.{chars}
 use Rattle.ignore_glob.specs.declared.match_result.Match.{Match}
@@ -8,16 +8,17 @@ use Rattle.ignore_glob.specs.Paths.{is_absolute, strip_of}
 use Rattle.ignore_rules.specs.Rules.{Rule, Ruleset}
 use Rattle.ignore_rules.specs.Answer.{list_answer}
 
--- the front before a first slash, if it is one, and the further fronts
+-- the prefixes of a path with first character c, given those of the rest
 abbrev pub slash_prefixes_from : ℕ → List (List ℕ) → List (List ℕ)
 slash_prefixes_from c slash_prefixes = if c == 47 then [] ∷ map (λ prefix. c ∷ prefix) slash_prefixes else map (λ prefix. c ∷ prefix) slash_prefixes
 
--- the fronts of a path before each of its slashes, the shortest first
+-- the prefixes of a path before each of its slashes, the shortest first
 abbrev pub slash_prefixes : List ℕ → List (List ℕ)
 slash_prefixes [] = []
 slash_prefixes (c ∷ path) = slash_prefixes_from c (slash_prefixes path)
 
--- the parents of a path, the nearest first: it is cut before its last slash, before the one before that, and so on; the last is the empty path, which has no parent
+-- the parents of a path, the nearest first: what precedes its last slash, the slash before that,
+-- and so on; the last parent is the empty path, which has no parent
 abbrev pub parents : List ℕ → List (List ℕ)
 parents [] = []
 parents (c ∷ path) = reverse ([] ∷ slash_prefixes (c ∷ path))
@@ -27,18 +28,20 @@ abbrev pub first_match : List (Match Rule) → Match Rule
 first_match [] = None
 first_match (answer ∷ answers) = match_or answer (first_match answers)
 
--- what the rules answer for the first of these directories for which they have a match
+-- the answer of rules for the first of these directories that has a match
 abbrev pub directories_answer : List Rule → List (List ℕ) → Match Rule
 directories_answer rules texts = first_match (map (λ text. list_answer rules text true) texts)
 
--- what the rules answer for a text, or else for the nearest of its parents for which they have a match; parents are directories
+-- the answer of rules for a text, or else for the nearest of its parents that has a match; parents
+-- are directories
 abbrev pub nearest_answer : List Rule → List ℕ → Bool → Match Rule
 nearest_answer rules text is_dir = match_or (list_answer rules text is_dir) (directories_answer rules (parents text))
 
--- the same for a path, of rules relative to a root
+-- the same for a path and rules relative to a root
 abbrev pub answer_with_parents : List ℕ → List Rule → List ℕ → Bool → Match Rule
 answer_with_parents root rules path is_dir = nearest_answer rules (chars (strip_of root path)) is_dir
 
--- the path can be asked about together with its parents: there are no rules, or what is left of the path without the root doesn't begin with a slash
+-- the path can be matched with its parents: there are no rules, or the path without the root
+-- doesn't begin with a slash
 abbrev pub is_under_root : Ruleset → List ℕ → Bool
 is_under_root g path = length g.rules == 0 || not (is_absolute (strip_of g.root path))

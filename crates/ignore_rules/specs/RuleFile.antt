@@ -1,4 +1,5 @@
--- What a file of rules adds to a builder: its bytes are cut into lines, and each line is added in turn.
+-- Adding a file of rules to a builder: its bytes are split into lines, and each line is added in
+-- turn.
 use Rattle.std.specs.Prelude.{◌≡◌, ℕ, ◌+◌, ◌==◌, Bool, true, false, nat_eq, List, [], ◌∷◌, ◌++◌, map, Option, None, Some, Result, Ok, Err, if◌then◌else◌}
 use Rattle.std.specs.List.{slice_split, starts_with}
 use Rattle.std.specs.Str.{is_utf8}
@@ -24,15 +25,15 @@ unmarked (a ∷ []) = a ∷ []
 unmarked (a ∷ (b ∷ [])) = a ∷ (b ∷ [])
 unmarked (a ∷ (b ∷ (c ∷ text))) = if starts_with nat_eq (a ∷ (b ∷ (c ∷ text))) mark then unmarked text else a ∷ (b ∷ (c ∷ text))
 
--- what the line with a number says: marks go from the first
+-- the content of the line with a number: the first line without leading marks
 abbrev pub line_content : ℕ → List ℕ → List ℕ
 line_content number line = if number == 1 then unmarked line else line
 
--- a line that is met: a text, or the fault that it isn't one
+-- a line as UTF-8 text, or the fault where it isn't
 abbrev pub decoded : List ℕ → Result (List ℕ) Fault
 decoded line = if is_utf8 line then Ok line else Err InvalidData
 
--- of the pieces between line ends the lines that have an end: all but the last
+-- of the segments between newlines, the lines that end with a newline: all but the last
 abbrev pub ended_of_segments : List (List ℕ) → List (List ℕ)
 ended_of_segments [] = []
 ended_of_segments (last ∷ []) = []
@@ -41,12 +42,13 @@ ended_of_segments (line ∷ (next ∷ more)) = strip_carriage_return line ∷ en
 abbrev pub ended_lines : List ℕ → List (List ℕ)
 ended_lines bytes = ended_of_segments (slice_split (λ b. b == 10) bytes)
 
--- what is met, line by line: the lines of a file that was read to its end; before a fault the lines that have an end, and then the fault
+-- what is read, line by line: the lines of a file that was read to its end; or the lines that end
+-- before a fault, and then the fault
 abbrev pub lines_read : List ℕ → Option Fault → List (Result (List ℕ) Fault)
 lines_read bytes None = map decoded (lines bytes)
 lines_read bytes (Some fault) = map decoded (ended_lines bytes) ++ Err fault ∷ []
 
--- a problem in a file: an empty path isn't told
+-- a problem in a file: an empty path isn't reported
 abbrev pub in_file : List ℕ → Problem → Problem
 in_file [] problem = problem
 in_file (c ∷ path) problem = at_path (c ∷ path) problem
@@ -54,7 +56,9 @@ in_file (c ∷ path) problem = at_path (c ∷ path) problem
 abbrev pub at_line_of : List ℕ → ℕ → Problem → Problem
 at_line_of path number problem = in_file path (at_line number problem)
 
--- from the old builder to the new one, what was met from the line with a number on was added, with these problems: a line adds its rule, if any, or is refused, and reading stops at a fault
+-- adding what is read, from the line with this number on, leads from the old builder to the new
+-- one, with these problems: a line adds its rule, if any, or is rejected, and reading stops at a
+-- fault
 pub data AddsLines (path : List ℕ) : ℕ → List (Result (List ℕ) Fault) → Building → Building → List Problem → Type 0 where
   done : (number : ℕ) (old : Building) → AddsLines path number [] old old []
   stopped : (number : ℕ) (fault : Fault) (more : List (Result (List ℕ) Fault)) (old : Building) → AddsLines path number (Err fault ∷ more) old old (at_line_of path number (io fault) ∷ [])
@@ -63,23 +67,24 @@ pub data AddsLines (path : List ℕ) : ℕ → List (Result (List ℕ) Fault) �
   refused : (number : ℕ) (line : List ℕ) (more : List (Result (List ℕ) Fault)) (old new : Building) (problem : Problem) (problems : List Problem)
       → Refuses old.options (line_content number line) problem → AddsLines path (number + 1) more old new problems → AddsLines path number (Ok line ∷ more) old new (at_line_of path number problem ∷ problems)
 
--- what a file gave was added, with this problem, if any: all problems of its lines as one, or that it can't be opened
+-- adding the contents of a file leads from the old builder to the new one, with this problem, if
+-- any: the problems of all lines as one, or that the file can't be opened
 abbrev pub AddsContents : List ℕ → Result Contents Fault → Building → Building → Option Problem → Type 0
 AddsContents path (Ok contents) old new problem =
     (problems : List Problem) × AddsLines path 1 (lines_read contents.bytes contents.fault) old new problems × (problem ≡ joined problems)
 AddsContents path (Err fault) old new problem = (new ≡ old) × (problem ≡ Some (at_path path (io fault)))
 
--- the file at the path in the tree was added
+-- the same for the file at a path in a tree
 abbrev pub AddsFile : Tree → List ℕ → Building → Building → Option Problem → Type 0
 AddsFile tree path old new problem = AddsContents path (tree.contents path) old new problem
 
--- what one call answered for the file was added; it wasn't that memory ran out
+-- the same for the answer of one call for the file, which isn't out of memory
 abbrev pub AddsAnswer : List ℕ → Result Contents Refusal → Building → Building → Option Problem → Type 0
 AddsAnswer path (Ok contents) old new problem = AddsContents path (Ok contents) old new problem
 AddsAnswer path (Err (Refused fault)) old new problem = AddsContents path (Err fault) old new problem
 AddsAnswer path (Err Memory) old new problem = ⊥
 
--- the problem is that memory ran out
+-- the problem is out of memory
 abbrev pub is_memory : Problem → Bool
 is_memory (several ps) = false
 is_memory (at_line line p) = false

@@ -1,4 +1,4 @@
--- Rules, the list of them that a matcher asks, and what becomes of a line that a builder is given.
+-- Rules, matchers and builders, and the rule or problem of a line that is added to a builder.
 use Rattle.std.specs.Prelude.{◌≡◌, ℕ, Bool, true, false, List, [], ◌∷◌, ◌++◌, Option, None, Some, not, count_by, refl, if◌then◌else◌, length, ◌==◌}
 use Rattle.std.specs.Coded.{Coded, code_by, coded×, coded_bool, coded_list, coded_option, coded_ℕ}
 use Rattle.std.specs.Str.{chars}
@@ -12,7 +12,7 @@ use Rattle.ignore_glob.specs.Reading.{Reading, reading_code}
 use Rattle.ignore_glob.specs.Row.{Reads, IsFaulty}
 use Rattle.ignore_rules.specs.Line.{ParsedLine, parsed_line}
 
--- a rule: where it came from, its line, the glob that the line stands for, how that was read, and its two flags
+-- a rule: where it came from, its line, its glob, its two flags, and what the glob parses to
 pub record Rule : Type 0 where
   pub from : Option (List ℕ)
   pub original : List ℕ
@@ -21,74 +21,83 @@ pub record Rule : Type 0 where
   pub is_only_dir : Bool
   pub reading : Reading
 
--- how lines are read
+-- how lines are parsed
 pub record LineOptions : Type 0 where
   pub glob : Options
+  pub git_trailing_spaces : Bool
 
 -- a matcher: rules, and the directory that they are relative to
 pub record Ruleset : Type 0 where
   pub root : List ℕ
   pub rules : List Rule
 
--- a builder: the same, and how the next line is read
+-- a builder: the same, and how the next line is parsed
 pub record Building : Type 0 where
   pub root : List ℕ
   pub rules : List Rule
   pub options : LineOptions
 
--- the rule of a line that says this, whose glob has this reading
+-- the rule of a parsed line whose glob parses to this reading
 abbrev pub read_rule : Option (List ℕ) → ParsedLine → Reading → Rule
 read_rule from w reading =
     record { from = from; original = w.original; actual = w.actual; is_whitelist = w.is_whitelist; is_only_dir = w.is_only_dir; reading = reading }
 
--- what says this gives this rule, or none
+-- a parsed line gives this rule; no parsed line gives none
 abbrev pub GivesRule : LineOptions → Option (List ℕ) → Option ParsedLine → Option Rule → Type 0
 GivesRule options from None given = given ≡ None
 GivesRule options from (Some w) given =
     (tokens : Tokens) × Reads options.glob (chars w.actual) tokens
     × (given ≡ Some (read_rule from w (record { tokens = tokens; case_insensitive = options.glob.case_insensitive })))
 
--- what says this is refused, as its glob has a fault
+-- a parsed line is rejected with this problem: its glob is invalid
 abbrev pub GivesProblem : LineOptions → Option ParsedLine → Problem → Type 0
 GivesProblem options None problem = ⊥
 GivesProblem options (Some w) problem = (f : GlobFault) × IsFaulty options.glob (chars w.actual) f × (problem ≡ glob (Some w.original) (glob_fault_text f))
 
--- the line is refused, with this problem
+-- the line is rejected with this problem
 abbrev pub Refuses : LineOptions → List ℕ → Problem → Type 0
-Refuses options line problem = GivesProblem options (parsed_line line) problem
+Refuses options line problem = GivesProblem options (parsed_line options.git_trailing_spaces line) problem
 
 -- the builder with one more rule, if any
 abbrev pub with_rule : Building → Option Rule → Building
 with_rule b None = b
 with_rule b (Some rule) = record { root = b.root; rules = b.rules ++ rule ∷ []; options = b.options }
 
--- from the old builder to the new one, a line that says this was added
+-- adding a parsed line, if any, leads from the old builder to the new one
 abbrev pub AddsParsed : Building → Option (List ℕ) → Option ParsedLine → Building → Type 0
 AddsParsed old from parsed new = (given : Option Rule) × GivesRule old.options from parsed given × (new ≡ with_rule old given)
 
--- from the old builder to the new one, a line was added
+-- adding a line leads from the old builder to the new one
 abbrev pub AddsLine : Building → Option (List ℕ) → List ℕ → Building → Type 0
-AddsLine old from line new = AddsParsed old from (parsed_line line) new
+AddsLine old from line new = AddsParsed old from (parsed_line old.options.git_trailing_spaces line) new
 
--- a builder at its start: no rules, both ASCII cases told apart, an unclosed class allowed
+-- the builder with other options of later lines
+abbrev pub with_options : Building → LineOptions → Building
+with_options b options = record { root = b.root; rules = b.rules; options = options }
+
+-- a new builder: no rules, case sensitive, an unclosed class allowed, trailing white space as the
+-- original has it
 abbrev pub begun : List ℕ → Building
 begun root =
-    record { root = trim_of root; rules = []; options = record { glob = record { case_insensitive = false; allow_unclosed_class = true } } }
+    record { root = trim_of root; rules = []; options = record { glob = record { case_insensitive = false; allow_unclosed_class = true }; git_trailing_spaces = false } }
 
 -- the builder with one option of later lines set
 abbrev pub with_case_insensitive : Building → Bool → Building
 with_case_insensitive b on =
-    record { root = b.root; rules = b.rules; options = record { glob = record { case_insensitive = on; allow_unclosed_class = b.options.glob.allow_unclosed_class } } }
+    with_options b (record { glob = record { case_insensitive = on; allow_unclosed_class = b.options.glob.allow_unclosed_class }; git_trailing_spaces = b.options.git_trailing_spaces })
 
 abbrev pub with_unclosed_class : Building → Bool → Building
 with_unclosed_class b on =
-    record { root = b.root; rules = b.rules; options = record { glob = record { case_insensitive = b.options.glob.case_insensitive; allow_unclosed_class = on } } }
+    with_options b (record { glob = record { case_insensitive = b.options.glob.case_insensitive; allow_unclosed_class = on }; git_trailing_spaces = b.options.git_trailing_spaces })
+
+abbrev pub with_git_trailing_spaces : Building → Bool → Building
+with_git_trailing_spaces b on = with_options b (record { glob = b.options.glob; git_trailing_spaces = on })
 
 -- the matcher of no rules
 abbrev pub empty : Ruleset
 empty = record { root = []; rules = [] }
 
--- the matcher of a builder's rules: without any it has no root either
+-- the matcher of a builder: without rules it has no root either
 abbrev pub built : Building → Ruleset
 built b = if length b.rules == 0 then empty else record { root = b.root; rules = b.rules }
 
@@ -98,7 +107,7 @@ whitelist_count rules = count_by (λ rule. rule.is_whitelist) rules
 abbrev pub ignore_count : List Rule → ℕ
 ignore_count rules = count_by (λ rule. not rule.is_whitelist) rules
 
--- proofs tell two rules apart by their fields
+-- codes: proofs distinguish rules, matchers and builders by their fields
 abbrev pub rule_code : Coded Rule
 rule_code =
     code_by (Option (List ℕ) × (List ℕ × (List ℕ × (Bool × (Bool × Reading)))))
@@ -113,8 +122,8 @@ ruleset_code =
 
 abbrev pub building_code : Coded Building
 building_code =
-    code_by (List ℕ × (List Rule × (Bool × Bool)))
-    (coded× (coded_list coded_ℕ) (coded× (coded_list rule_code) (coded× coded_bool coded_bool)))
-    (λ b. (b.root, (b.rules, (b.options.glob.case_insensitive, b.options.glob.allow_unclosed_class))))
-    (λ p. record { root = p.0; rules = p.1.0; options = record { glob = record { case_insensitive = p.1.1.0; allow_unclosed_class = p.1.1.1 } } })
+    code_by (List ℕ × (List Rule × (Bool × (Bool × Bool))))
+    (coded× (coded_list coded_ℕ) (coded× (coded_list rule_code) (coded× coded_bool (coded× coded_bool coded_bool))))
+    (λ b. (b.root, (b.rules, (b.options.glob.case_insensitive, (b.options.glob.allow_unclosed_class, b.options.git_trailing_spaces)))))
+    (λ p. record { root = p.0; rules = p.1.0; options = record { glob = record { case_insensitive = p.1.1.0; allow_unclosed_class = p.1.1.1.0 }; git_trailing_spaces = p.1.1.1.1 } })
     (λ _. refl)

@@ -1,4 +1,5 @@
-//! The rules of gitignore files, as gitignore(5) describes them: lines are read to rules, and the last rule that takes a path decides.
+//! The rules of gitignore files, as gitignore(5) describes them: lines are parsed to rules, and the
+//! last rule that matches a path decides.
 
 mod builder;
 mod file;

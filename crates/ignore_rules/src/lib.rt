@@ -1,4 +1,5 @@
-//! Rules over paths: the lines and files of gitignore(5), the excludes file of git's configuration, overrides and file types.
+//! Rules for paths: the lines and files of gitignore(5), the excludes file of git's configuration,
+//! overrides and file types.
 #![tactic(auto)]
 
 pub mod gitignore;

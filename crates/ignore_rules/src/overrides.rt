@@ -1,7 +1,7 @@
-//! Globs of a command line, which say what may be seen and override every ignore file.
+//! Globs of a command line, which override every ignore file.
 //!
-//! They are gitignore globs with the meaning turned round: a glob lets through what it takes, and
-//! one behind a `!` hides it.
+//! They are gitignore globs with the meaning inverted: a glob whitelists what it matches, and one
+//! with a leading `!` ignores it.
 ghost use Rattle.std.specs.Prelude.{◌≡◌, ◌⊎◌, ◌==◌, None, false, IfOk, IfErr, IsOk, OnOk, OnErr, length};
 ghost use Rattle.ignore_glob.specs.Problem.{problem_of, memory};
 ghost use Rattle.ignore_rules.specs.Overrides.{has_whitelist, override_answer};
@@ -13,7 +13,7 @@ use ignore_glob::{Error, Match};
 use std::alloc::{AllocError, Global};
 use std::marker::Model;
 
-/// What decided an answer: a glob, or that no glob took the path.
+/// What decided an answer: a glob, or that no glob matched the path.
 #[derive(Debug, Drop)]
 pub struct Glob<'a> {
     rule: Option<&'a gitignore::Glob>,
@@ -82,24 +82,24 @@ impl Override {
         self.globs.is_empty()
     }
 
-    /// How many globs hide what they take: those behind a `!`.
+    /// How many globs ignore what they match: those with a leading `!`.
     pub fn num_ignores(&self) -> u64
         ensures { result ≡ whitelist_count self.now.rules }
     {
         self.globs.num_whitelists()
     }
 
-    /// How many globs let through what they take.
+    /// How many globs whitelist what they match.
     pub fn num_whitelists(&self) -> u64
         ensures { result ≡ ignore_count self.now.rules }
     {
         self.globs.num_ignores()
     }
 
-    /// What the globs say of a path: the last one that takes it and speaks of its kind decides, and
-    /// lets it through, or hides it where it stands behind a `!`. Where some glob lets through and
-    /// none takes the path, a file is hidden and a directory has no match, since what is below it
-    /// may be let through.
+    /// The answer of the globs for a path. The last glob that matches it and applies to its kind
+    /// decides: it whitelists the path, or ignores it where the glob has a leading `!`. Where some
+    /// glob whitelists and none matches the path, a file is ignored and a directory has no match,
+    /// since what is below it may be whitelisted.
     ///
     /// # Errors
     /// `Error::Memory` alone.
@@ -119,7 +119,7 @@ impl Override {
     }
 }
 
-/// Whether some glob lets through what it takes.
+/// Whether some glob whitelists what it matches.
 fn has_whitelist(globs: &Gitignore) -> bool
     ensures { result ≡ has_whitelist globs.now.rules }
 {
@@ -143,8 +143,8 @@ impl Model for OverrideBuilder {
 }
 
 impl OverrideBuilder {
-    /// A builder of no globs, relative to the directory `root`, of which one leading `./` goes.
-    /// Letters are told apart by case, and an unclosed class is a fault.
+    /// A builder of no globs, relative to the directory `root`, of which one leading `./` is
+    /// stripped. It is case sensitive, and an unclosed class is an error.
     ///
     /// # Errors
     /// `Error::Memory` alone.
@@ -161,11 +161,12 @@ impl OverrideBuilder {
         }
     }
 
-    /// Adds a glob, read as a line of a gitignore file is: one behind a `!` hides what it takes.
+    /// Adds a glob, parsed as a line of a gitignore file: with a leading `!` it ignores what it
+    /// matches.
     ///
     /// # Errors
-    /// `Error::Glob` with the glob and its fault, or `Error::Memory`. After an error the builder is
-    /// as before, which `push` states.
+    /// `Error::Glob` with the glob and its parse error, or `Error::Memory`. After an error the
+    /// builder is as before, which `push` states.
     pub fn add(&mut self, glob: &str) -> Result<&mut Self, Error>
         ensures same_reference { IfOk result (λ b. b.ghost_name ≡ self.entry.ghost_name) }
         ensures added { IfOk result (λ b. AddsLine self.old None glob.now b.now) }
@@ -177,7 +178,7 @@ impl OverrideBuilder {
         }
     }
 
-    /// For the crates above: as `add`, without the builder in the answer.
+    /// For dependents: as `add`, without the builder in the result.
     pub fn push(&mut self, glob: &str) -> Result<(), Error>
         ensures added { OnOk result (AddsLine self.old None glob.now self.new) }
         ensures refused { IfErr result (λ e. (problem_of e ≡ memory) ⊎ Refuses self.old.options glob.now (problem_of e)) }
@@ -200,7 +201,7 @@ impl OverrideBuilder {
         }
     }
 
-    /// Whether later globs take both ASCII cases of a letter. It is off at first, and always `Ok`.
+    /// Whether later globs match both ASCII cases of a letter. It is off at first, and always `Ok`.
     pub fn case_insensitive(&mut self, yes: bool) -> Result<&mut Self, Error>
         ensures succeeds { IsOk result }
         ensures same_reference { IfOk result (λ b. b.ghost_name ≡ self.entry.ghost_name) }

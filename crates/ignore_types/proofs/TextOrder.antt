@@ -1,4 +1,4 @@
--- The order of texts, and what it says of their equality.
+-- The order of texts, and what it implies for their equality.
 use Rattle.std.proofs.Common.{◌≡◌, ℕ, true, false, List, refl, sym, ap, ◌∙◌}
 use Rattle.std.specs.Str.{bytes_eq}
 use Rattle.std.specs.Ordering.{is_eq, ordering_reverse}

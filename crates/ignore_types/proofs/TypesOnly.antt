@@ -1,4 +1,5 @@
--- A path has one answer of types. A draft is built with one list of choices, or is refused with one problem; the text of a definition changes a draft in one way, or is refused.
+-- A path has one answer of types. A draft is built with one list of choices, or is rejected with
+-- one problem; the text of a definition changes a draft in one way, or is rejected.
 use Rattle.std.proofs.Common.{◌≡◌, ◌⊎◌, ℕ, Bool, true, false, List, [], ◌∷◌, ◌++◌, map, Option, Some, None, refl, sym, ap, ◌∙◌, subst, inl, inr}
 use Rattle.std.specs.List.{AllZip}
 use Rattle.std.specs.Str.{chars}
@@ -126,7 +127,7 @@ IsChoiceProblem-one definitions choice p q (inr (d, here, first)) (inr (c, there
     let same : d ≡ c = some_one d c (sym here ∙ there) in
     FirstBad-one IsReadAs IsGlobProblem d.globs p q (λ r text reading. IsGlobProblem-never r text reading) (λ text. IsGlobProblem-one p q text) first (subst (λ (x : Definition). FirstBad IsReadAs (IsGlobProblem q) x.globs) (sym same) other)
 
--- a draft is refused with one problem
+-- a draft is rejected with one problem
 IsRefusedWith-one : (draft : Draft) (p q : Problem) → IsRefusedWith draft p → IsRefusedWith draft q → p ≡ q
 IsRefusedWith-one draft p q h k =
     FirstBad-one (IsChosen draft.definitions) (IsChoiceProblem draft.definitions) draft.choices p q
@@ -171,7 +172,7 @@ Becomes-one old definitions a b h k =
     ap (λ (ds : List Definition). let d : Draft = record { definitions = ds; choices = a.choices } in d) same
     ∙ ap (λ (cs : List Choice). let d : Draft = record { definitions = b.definitions; choices = cs } in d) (h.1 ∙ sym k.1)
 
--- it is refused for want of memory, or told as invalid where it isn't allowed
+-- the error is out of memory, or the definition isn't allowed and is reported as invalid
 IsRefusal-problem_of : (allowed : Option (List Definition)) (e : Error) → IsRefusal allowed e → (problem_of e ≡ memory) ⊎ (problem_of e ≡ invalid_definition)
 IsRefusal-problem_of allowed e (inl h) = inl h
 IsRefusal-problem_of allowed e (inr h) = inr h.0

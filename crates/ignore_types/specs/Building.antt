@@ -1,4 +1,4 @@
--- What a matcher of file types is built from, and what refuses it.
+-- Building a matcher of file types, and the errors of building.
 use Rattle.std.specs.Prelude.{◌≡◌, ◌⊎◌, ℕ, false, List, ◌∷◌, ◌++◌, Some, None}
 use Rattle.std.specs.List.{AllZip}
 use Rattle.std.specs.Str.{chars}
@@ -11,28 +11,29 @@ use Rattle.ignore_glob.specs.Row.{Reads, IsFaulty}
 use Rattle.ignore_types.specs.Types.{Definition, Choice, Draft, definition_of, IsSortedCopy, IsAscending}
 use Rattle.ignore_types.specs.TypeMatch.{Chosen, Matcher}
 
--- the globs of types are read with both options off
+-- the globs of types are parsed with both options off
 abbrev pub plain : Options
 plain = record { case_insensitive = false; allow_unclosed_class = false }
 
--- what a glob is read as
+-- a glob parses to this reading
 pub record IsReadAs (text : List ℕ) (reading : Reading) : Type 0 where
   pub reads : Reads plain (chars text) reading.tokens
   pub case : reading.case_insensitive ≡ false
 
--- a choice becomes this one of a matcher: the definition with its name, and its globs as they are read
+-- a choice becomes this one of a matcher: the definition with its name, and its parsed globs
 pub record IsChosen (definitions : List Definition) (choice : Choice) (chosen : Chosen) : Type 0 where
   pub defined : definition_of choice.name definitions ≡ Some chosen.definition
   pub readings : AllZip IsReadAs chosen.definition.globs chosen.readings
   pub negated : chosen.negated ≡ choice.negated
 
--- a draft becomes this matcher: its definitions sorted by name, the globs of each sorted, and each choice in its place
+-- a draft becomes this matcher: its definitions sorted by name, the globs of each sorted, and each
+-- choice in its place
 pub record IsBuilt (draft : Draft) (matcher : Matcher) : Type 0 where
   pub definitions : AllZip IsSortedCopy draft.definitions matcher.definitions
   pub by_name : IsAscending matcher.definitions
   pub choices : AllZip (IsChosen draft.definitions) draft.choices matcher.choices
 
--- one of the list is bad, and to each before it something good belongs
+-- one of the list is bad, and each before it is good with some value
 pub record FirstBad {A B : Type 0} (Good : A → B → Type 0) (Bad : A → Type 0) (xs : List A) : Type 0 where
   pub before : List A
   pub goods : List B
@@ -42,16 +43,17 @@ pub record FirstBad {A B : Type 0} (Good : A → B → Type 0) (Bad : A → Type
   pub good : AllZip Good before goods
   pub fails : Bad bad
 
--- the problem is that of a glob with a fault
+-- the problem is that of an invalid glob
 abbrev pub IsGlobProblem : Problem → List ℕ → Type 0
 IsGlobProblem p text = (f : GlobFault) × IsFaulty plain (chars text) f × (p ≡ glob (Some text) (glob_fault_text f))
 
--- a choice is refused with this problem: no type has its name, or the first glob of its type that has a fault tells it
+-- a choice is rejected with this problem: no type has its name, or the problem is that of the first
+-- invalid glob of its type
 abbrev pub IsChoiceProblem : List Definition → Problem → Choice → Type 0
 IsChoiceProblem definitions p choice =
     ((definition_of choice.name definitions ≡ None) × (p ≡ unrecognized choice.name))
     ⊎ ((d : Definition) × (definition_of choice.name definitions ≡ Some d) × FirstBad IsReadAs (IsGlobProblem p) d.globs)
 
--- a draft is refused with the problem of the first choice that has one
+-- a draft is rejected with the problem of the first choice that has one
 abbrev pub IsRefusedWith : Draft → Problem → Type 0
 IsRefusedWith draft p = FirstBad (IsChosen draft.definitions) (IsChoiceProblem draft.definitions p) draft.choices

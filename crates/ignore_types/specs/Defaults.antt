@@ -6,7 +6,7 @@ use Rattle.ignore_types.specs.Types.{Definition, with_names}
 abbrev pub Row : Type 0
 Row = List (List ℕ) × List (List ℕ)
 
--- the definitions with each row in turn: its globs for each of its names
+-- the definitions with the globs of each row, in turn, for each of its names
 abbrev pub with_rows : List Row → List Definition → List Definition
 with_rows [] ds = ds
 with_rows (row ∷ rows) ds = with_rows rows (with_names row.0 row.1 ds)

@@ -1,4 +1,4 @@
--- Where a name stands, or would stand, in a list of types.
+-- Steps: the place of a name in a sorted list of types, or the place where it belongs.
 use Rattle.std.specs.Prelude.{◌≡◌, ℕ, suc, List, [], ◌∷◌, ◌++◌, ◌<◌, ◌≤◌, take, drop, slice_index_or, slice_set, length, Result, MatchResult}
 use Rattle.std.specs.declared.cmp.Ordering.TheVariants.{Less}
 use Rattle.ignore_types.specs.Types.{Definition, text_cmp, AllAfter}
@@ -8,7 +8,7 @@ abbrev pub AllBefore : List ℕ → List Definition → Type 0
 AllBefore name [] = Unit {0}
 AllBefore name (d ∷ ds) = (text_cmp d.name name ≡ Less) × AllBefore name ds
 
--- a definition with the name stands at i
+-- the definition at i has the name
 pub record IsAt (name : List ℕ) (ds : List Definition) (i : ℕ) : Type 0 where
   pub definition : Definition
   pub within : i < length ds
@@ -19,7 +19,7 @@ pub record IsAt (name : List ℕ) (ds : List Definition) (i : ℕ) : Type 0 wher
   pub before : AllBefore name (take i ds)
   pub after : AllAfter name (drop (suc i) ds)
 
--- the name has no definition, and its place is i
+-- no definition has the name, which belongs at i
 pub record IsGap (name : List ℕ) (ds : List Definition) (i : ℕ) : Type 0 where
   pub within : i ≤ length ds
   pub before : AllBefore name (take i ds)

@@ -1,4 +1,4 @@
--- What a matcher of file types answers for a path.
+-- The answer of a matcher of file types for a path.
 use Rattle.std.specs.Prelude.{◌≡◌, ◌⊎◌, ℕ, Bool, true, false, not, List, [], ◌∷◌, ◌++◌, Option, if◌then◌else◌, refl}
 use Rattle.std.specs.Prelude as std
 use Rattle.std.specs.List.{list_any}
@@ -9,18 +9,19 @@ use Rattle.ignore_glob.specs.declared.match_result.Match.{Match}
 use Rattle.ignore_glob.specs.declared.match_result.Match.TheVariants.{None, Ignore, Whitelist}
 use Rattle.ignore_types.specs.Types.{Definition}
 
--- a chosen type of a matcher: its definition with the globs in the order of adding, what each of them was read as, and whether it was negated
+-- a chosen type of a matcher: its definition with the globs in the order of adding, what each
+-- parses to, and whether the type was negated
 pub record Chosen : Type 0 where
   pub definition : Definition
   pub readings : List Reading
   pub negated : Bool
 
--- a matcher: the types that there are, and those chosen in the order of choosing
+-- a matcher: all types, and those chosen, in the order of choosing
 pub record Matcher : Type 0 where
   pub definitions : List Definition
   pub choices : List Chosen
 
--- proofs tell definitions, choices and matchers apart by their fields
+-- codes: proofs distinguish definitions, choices and matchers by their fields
 abbrev pub definition_code : Coded Definition
 definition_code = code_by (List ℕ × List (List ℕ)) (coded× (coded_list coded_ℕ) (coded_list (coded_list coded_ℕ))) (λ d. (d.name, d.globs)) (λ p. record { name = p.0; globs = p.1 }) (λ _. refl)
 
@@ -34,17 +35,18 @@ matcher_code =
     code_by (List Definition × List Chosen) (coded× (coded_list definition_code) (coded_list chosen_code))
     (λ m. (m.definitions, m.choices)) (λ p. record { definitions = p.0; choices = p.1 }) (λ _. refl)
 
--- some of the globs takes the name
+-- some of the globs matches the name
 abbrev pub SomeMatches : List ℕ → List Reading → Type 0
 SomeMatches name [] = ⊥
 SomeMatches name (r ∷ rs) = Matches r name ⊎ SomeMatches name rs
 
--- no glob of these choices takes the name
+-- no glob of these choices matches the name
 abbrev pub NoneMatches : List ℕ → List Chosen → Type 0
 NoneMatches name [] = Unit {0}
 NoneMatches name (c ∷ cs) = ¬ SomeMatches name c.readings × NoneMatches name cs
 
--- the choice whose glob is the last that takes the name: some of its globs does, and none of a later choice
+-- the last choice with a glob that matches the name: some of its globs does, and none of a later
+-- choice
 pub record IsDeciding (name : List ℕ) (choices : List Chosen) (choice : Chosen) : Type 0 where
   pub before : List Chosen
   pub after : List Chosen
@@ -52,11 +54,11 @@ pub record IsDeciding (name : List ℕ) (choices : List Chosen) (choice : Chosen
   pub matches : SomeMatches name choice.readings
   pub later : NoneMatches name after
 
--- a file that was chosen is whitelisted, or ignored where its type was negated
+-- the match of a chosen type: whitelist, or ignore where the type was negated
 abbrev pub verdict_of : Chosen → Match (Option Definition)
 verdict_of c = if c.negated then Ignore (std.Some c.definition) else Whitelist (std.Some c.definition)
 
--- a file that no glob takes is ignored where some type was selected
+-- the match of a file that no glob matches: ignore where some type was selected, else none
 abbrev pub unmatched : List Chosen → Match (Option Definition)
 unmatched choices = if list_any (λ c. not c.negated) choices then Ignore std.None else None
 
@@ -64,7 +66,8 @@ unmatched choices = if list_any (λ c. not c.negated) choices then Ignore std.No
 abbrev pub IsNameAnswer : List Chosen → List ℕ → Match (Option Definition) → Type 0
 IsNameAnswer choices name m = ((c : Chosen) × IsDeciding name choices c × (m ≡ verdict_of c)) ⊎ (NoneMatches name choices × (m ≡ unmatched choices))
 
--- the answer for a path that is a directory or not, by its file name alone: a directory has none, and a file without a name is one that no glob takes
+-- the answer for a path that is a directory or not, by its file name alone: a directory has no
+-- match, and no glob matches a file without a name
 abbrev pub IsTypeAnswer : List Chosen → Bool → Option (List ℕ) → Match (Option Definition) → Type 0
 IsTypeAnswer choices true name m = m ≡ None
 IsTypeAnswer choices false std.None m = m ≡ unmatched choices

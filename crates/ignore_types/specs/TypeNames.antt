@@ -18,10 +18,11 @@ is_number _ = false
 abbrev pub is_name_char : ℕ → Bool
 is_name_char c = is_alphabetic c || is_number (general_category c)
 
--- the word that stands for each type
+-- the word for all types
 abbrev pub every_type : List ℕ
 every_type = codes "all"
 
--- a name that a type may have: not the word for each type, and of characters that are alphabetic or numbers. The empty name is one
+-- a name that a type may have: not the word for all types, and only characters that are alphabetic
+-- or numbers. The empty name is one
 abbrev pub is_type_name : List ℕ → Bool
 is_type_name name = not (bytes_eq name every_type) && list_all is_name_char (chars name)

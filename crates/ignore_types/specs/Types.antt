@@ -15,21 +15,21 @@ pub record Definition : Type 0 where
   pub name : List ℕ
   pub globs : List (List ℕ)
 
--- a type that was named for choosing, and whether by negating
+-- a choice: the name of a type, and whether it is negated
 pub record Choice : Type 0 where
   pub name : List ℕ
   pub negated : Bool
 
--- what a builder has: its types in text order of their names, and its choices in the order of making
+-- a builder: its types in text order of their names, and its choices in the order of choosing
 pub record Draft : Type 0 where
   pub definitions : List Definition
   pub choices : List Choice
 
--- two definitions have one name and the same globs
+-- two definitions have the same name and the same globs
 abbrev pub same_definition : Definition → Definition → Bool
 same_definition = eq_of_both (on (λ d. d.name) bytes_eq) (on (λ d. d.globs) (pointwise bytes_eq))
 
--- it is an equivalence, as `==` has to be
+-- this test is an equivalence, as `==` has to be
 pub same_definition-equiv : IsEquivalence same_definition
 same_definition-equiv = and_equiv (on_equiv (λ d. d.name) (lists_equiv nat_eq_equiv)) (on_equiv (λ d. d.globs) (lists_equiv (lists_equiv nat_eq_equiv)))
 
@@ -51,27 +51,27 @@ IsAscending (d ∷ ds) = AllAfter d.name ds × IsAscending ds
 abbrev pub definition_of : List ℕ → List Definition → Option Definition
 definition_of name ds = find (λ d. bytes_eq d.name name) ds
 
--- the first definition stands before the name, has it, or stands after it
+-- the first definition comes before the name, has it, or comes after it
 abbrev pub placed : Ordering → List ℕ → List ℕ → Definition → List Definition → List Definition → List Definition
 placed Less name glob d ds more = d ∷ more
 placed Equal name glob d ds more = record { name = d.name; globs = d.globs ++ glob ∷ [] } ∷ ds
 placed Greater name glob d ds more = record { name = name; globs = glob ∷ [] } ∷ (d ∷ ds)
 
--- the glob behind those of the name; a new name comes in text order
+-- the glob appended to those of the name; a new name is inserted in text order
 abbrev pub with_glob : List ℕ → List ℕ → List Definition → List Definition
 with_glob name glob [] = record { name = name; globs = glob ∷ [] } ∷ []
 with_glob name glob (d ∷ ds) = placed (text_cmp d.name name) name glob d ds (with_glob name glob ds)
 
--- the globs of a type; none where it isn't there
+-- the globs of a type; none where the type is unknown
 abbrev pub globs_of : List ℕ → List Definition → List (List ℕ)
 globs_of name ds = option_map_or (λ d. d.globs) (definition_of name ds) []
 
--- each of the globs in turn behind those of the name
+-- each of the globs, in turn, appended to those of the name
 abbrev pub with_globs : List ℕ → List (List ℕ) → List Definition → List Definition
 with_globs name [] ds = ds
 with_globs name (glob ∷ globs) ds = with_globs name globs (with_glob name glob ds)
 
--- the globs of each of the sources in turn behind those of the name
+-- the globs of each of the sources, in turn, appended to those of the name
 abbrev pub with_types : List ℕ → List (List ℕ) → List Definition → List Definition
 with_types name [] ds = ds
 with_types name (source ∷ sources) ds = with_types name sources (with_globs name (globs_of source ds) ds)
@@ -80,7 +80,7 @@ with_types name (source ∷ sources) ds = with_types name sources (with_globs na
 abbrev pub has_all : List (List ℕ) → List Definition → Bool
 has_all names ds = list_all (λ name. is_some (definition_of name ds)) names
 
--- the definitions but that of a name
+-- the definitions without that of a name
 abbrev pub without : List ℕ → List Definition → List Definition
 without name ds = filter (λ d. not (bytes_eq d.name name)) ds
 
@@ -90,7 +90,8 @@ pub record IsSortedCopy (d sorted : Definition) : Type 0 where
   pub same_globs : IsPermutation d.globs sorted.globs
   pub in_order : IsSorted text_cmp sorted.globs
 
--- what the text of a definition asks for: one glob for a name, or the globs of other types; some texts ask for nothing
+-- what the text of a definition parses to: one glob for a name, or the globs of other types for a
+-- name; other texts are unreadable
 pub data Request : Type 0 where
   one_glob : (name glob : List ℕ) → Request
   included : (name : List ℕ) (sources : List (List ℕ)) → Request
@@ -99,7 +100,8 @@ pub data Request : Type 0 where
 abbrev pub is_filled : List ℕ → Bool
 is_filled text = not (length text == 0)
 
--- two filled parts are a name and a glob; three, of which the middle one is `include` and the others are filled, are a name and a list of types, cut at each comma; all else asks for nothing
+-- two nonempty fields are a name and a glob; three fields, `include` between two nonempty ones, are
+-- a name and a list of types, separated by commas; all else is unreadable
 abbrev pub request_of_fields : List (List ℕ) → Request
 request_of_fields [] = unreadable
 request_of_fields (name ∷ []) = unreadable
@@ -108,11 +110,12 @@ request_of_fields (name ∷ (word ∷ (sources ∷ []))) =
     if is_filled name && bytes_eq word (codes "include") && is_filled sources then included name (slice_split (λ b. b == 44) sources) else unreadable
 request_of_fields (name ∷ (word ∷ (sources ∷ (field ∷ fields)))) = unreadable
 
--- the text of a definition is cut at each colon
+-- the fields of a definition are separated by colons
 abbrev pub request_of : List ℕ → Request
 request_of text = request_of_fields (slice_split (λ b. b == 58) text)
 
--- the definitions after a request, where it is allowed: its name may be one, and each type that it includes is there
+-- the definitions after a request, where it is allowed: its name is valid, and each type that it
+-- includes exists
 abbrev pub after_request : Request → List Definition → Option (List Definition)
 after_request (one_glob name glob) ds = if is_type_name name then Some (with_glob name glob ds) else None
 after_request (included name sources) ds = if is_type_name name && has_all sources ds then Some (with_types name sources ds) else None
@@ -122,17 +125,18 @@ after_request unreadable ds = None
 abbrev pub Becomes : Draft → Option (List Definition) → Draft → Type 0
 Becomes old definitions new = (definitions ≡ Some new.definitions) × (new.choices ≡ old.choices)
 
--- the choices that naming a type adds: the word for each type stands for those that are there, in text order
+-- the choices that choosing a name adds: the word for all types stands for each type that exists,
+-- in text order
 abbrev pub chosen : Bool → List ℕ → List Definition → List Choice
 chosen negated name ds =
     if bytes_eq name every_type then map (λ d. record { name = d.name; negated = negated }) ds
     else record { name = name; negated = negated } ∷ []
 
--- the draft with the choices that naming a type adds
+-- the draft with the choices that choosing a name adds
 abbrev pub with_chosen : Bool → List ℕ → Draft → Draft
 with_chosen negated name draft = record { definitions = draft.definitions; choices = draft.choices ++ chosen negated name draft.definitions }
 
--- each of the globs in turn behind those of each of the names in turn
+-- each of the globs appended to those of each of the names, in turn
 abbrev pub with_names : List (List ℕ) → List (List ℕ) → List Definition → List Definition
 with_names [] globs ds = ds
 with_names (name ∷ names) globs ds = with_names names globs (with_globs name globs ds)

@@ -13,7 +13,7 @@ use Rattle.igwalk.specs.Matching.{Adds, AddsAll, AddsOne, no_line, added, refuse
 one_line : (x : ℕ) (p : List ℕ) → length (lines_of_parts ((x ∷ p) ∷ [])) ≤ 1
 one_line x p = rw (eqb-suc-zero (length p)) (omega arith)
 
--- a part more has at most a line more
+-- one more segment has at most one more line
 part_more : (b : Bool) (x n : ℕ) (ps : List (List ℕ)) → 0 < length ps → length (lines_of_parts ps) ≤ n → length (lines_of_parts (cond b ([] ∷ ps) (onto_first x ps))) ≤ n + 1
 part_more b x n [] h k = absurd (omega (arith, h))
 part_more true x n (p ∷ ps) h k = omega (arith, k)
@@ -50,7 +50,7 @@ or-false : (b : Bool) → (b || false) ≡ b
 or-false true = refl
 or-false false = refl
 
--- a line that was refused, or added
+-- a line that was rejected, or added
 pub adds_one : (root : List ℕ) (ls : List (List ℕ)) (line : List ℕ) (old new : Building) (before middle after : Option (List ℕ)) (number : ℕ) (r any : Bool) → AddsAll root ls old (Appends before middle) any → number ≡ length ls + 1 → AddsOne old number line new (Appends middle after) r → AddsAll root (ls ++ line ∷ []) new (Appends before after) (any || r)
 adds_one root ls line old new before middle after number true any so is one =
     let p = one.0 in

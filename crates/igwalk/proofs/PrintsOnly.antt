@@ -1,4 +1,5 @@
--- What a run prints is one thing: one answer, one text of refused lines and one status. And what may end its parts.
+-- A run writes one answer, one report of rejected lines and one status. And what may end each of
+-- its steps.
 use Rattle.std.proofs.Common.{◌≡◌, ℕ, ◌+◌, ◌==◌, not, Bool, cond, List, [], ◌∷◌, ◌++◌, length, refl, sym, ap, ◌∙◌, subst}
 use Rattle.std.proofs.Common.{None as Nothing}
 use Rattle.std.specs.Str.Lines.{lines}
@@ -28,7 +29,7 @@ last_same (a ∷ xs) (b ∷ ys) x y e =
 moved : (old other : Building) (line text : List ℕ) (new : Building) → old ≡ other → line ≡ text → AddsLine old Nothing line new → AddsLine other Nothing text new
 moved old other line text new e f h = subst (λ (t : List ℕ). AddsLine other Nothing t new) f (subst (λ (b : Building). AddsLine b Nothing line new) e h)
 
--- lines that are added in turn give one builder, and one text of those that were refused
+-- lines that are added in turn give one builder, and one report of those that were rejected
 Adds-one : (root : List ℕ) (ls ms : List (List ℕ)) (a b : Building) (reported other : List ℕ) → ls ≡ ms → Adds root ls a reported → Adds root ms b other → (a ≡ b) × (reported ≡ other)
 Adds-one root ls ms a b reported other e no_line no_line = (refl, refl)
 Adds-one root ls ms a b reported other e no_line (added ys y old new text v h) = absurd (no_end ys y e)
@@ -54,7 +55,7 @@ Adds-one root ls ms a b reported other e (refused xs x builder text p v h) (refu
     let one = Refuses-one maker.options y p q here k in
     (same.0, ap (λ (t : List ℕ). t ++ refusal (length xs + 1) p) same.1 ∙ (ap (λ (zs : List (List ℕ)). words ++ refusal (length zs + 1) p) at.0 ∙ ap (λ (r : Problem). words ++ refusal (length ys + 1) r) one))
 
--- a question has one status, one answer and one text of refused lines
+-- a question has one status, one answer and one report of rejected lines
 Prints-one : (question : Question) (s t : ℕ) (out err text words : List ℕ) → Prints question s (λ l. l ≡ out) (λ l. l ≡ err) → Prints question t (λ l. l ≡ text) (λ l. l ≡ words) → (s ≡ t) × (out ≡ text) × (err ≡ words)
 Prints-one question s t out err text words h k =
     let same = Adds-one question.root (lines question.rules) (lines question.rules) h.builder k.builder h.adds.0 k.adds.0 refl h.adds.1 k.adds.1 in
@@ -64,7 +65,8 @@ Prints-one question s t out err text words h k =
       sym h.adds.2 ∙ (same.1 ∙ k.adds.2),
     )
 
--- Wrong arguments end no part of a run; only the answer ends for a write, and only lines for silence.
+-- Wrong arguments end no step of a run; only the answer ends for a write, and only lines for
+-- silence.
 
 EndsLines-usage : (root : List ℕ) (ls : List (List ℕ)) (err : List ℕ → Type 0) → EndsLines root ls err Usage → ⊥
 EndsLines-usage root ls err h = h

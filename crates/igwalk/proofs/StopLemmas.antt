@@ -1,4 +1,4 @@
--- What ended a run, and what was written and told by then.
+-- What ended a run, and what was written and reported by then.
 use Rattle.std.proofs.Common.{◌≡◌, ◌≢◌, ℕ, ◌<◌, suc, zero, Bool, List, [], ◌∷◌, ◌++◌, length, take, drop, get_or, Option, refl, sym, ap, ◌∙◌, subst, arith, take-append-drop}
 use Rattle.std.proofs.lemmas.List.{append-nil}
 use Rattle.std.specs.Prelude.{⊤}
@@ -36,14 +36,14 @@ ends_at_lines question out err Memory h = (appends_nothing out, h)
 ends_at_lines question out err Write h = absurd h
 ends_at_lines question out err Silence h = (appends_nothing out, h)
 
--- one that ends at its answer told of all lines
+-- one that ends at its answer reported all lines
 pub ends_at_answer : (question : Question) (out err : List ℕ → Type 0) (builder : Building) (any : Bool) (stop : Stop) → EndsAnswer out stop → AddsAll question.root (lines question.rules) builder err any → Ends question out err stop
 ends_at_answer question out err builder any Usage h so = absurd h
 ends_at_answer question out err builder any Memory h so = (h, (lines question.rules, [], sym (append-nil (lines question.rules)), (builder, so.0, so.1, so.2)))
 ends_at_answer question out err builder any Write h so = (tt, (builder, so.0, so.1, so.2))
 ends_at_answer question out err builder any Silence h so = absurd h
 
--- the reason is told behind what was told before
+-- the reason is reported after what was reported before
 pub ends_reported : (question : Question) (out : List ℕ → Type 0) (before middle after : Option (List ℕ)) (stop : Stop) → Ends question out (Appends before middle) stop → stop ≢ Silence → Appends middle after (reason stop) → EndsReported question out (Appends before after)
 ends_reported question out before middle after Usage h reported more = absurd h.1
 ends_reported question out before middle after Memory h reported more =
@@ -52,7 +52,7 @@ ends_reported question out before middle after Write h reported more =
     let so = h.1 in (Write, reported, h.0, (so.0, so.1, so.2, appends_on before middle after so.1 (reason Write) so.3 more))
 ends_reported question out before middle after Silence h reported more = absurd (reported refl)
 
--- less said of what was told
+-- less about what was reported
 pub ends_anyhow : (question : Question) (out err : List ℕ → Type 0) (stop : Stop) → Ends question out err stop → Ends question out (λ reported. ⊤) stop
 ends_anyhow question out err Usage h = absurd h.1
 ends_anyhow question out err Memory h = let so = h.1.3 in (h.0, (h.1.0, h.1.1, h.1.2, (so.0, so.1, so.2, tt)))

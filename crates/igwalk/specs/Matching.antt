@@ -1,4 +1,4 @@
--- What the program prints for a question.
+-- What the program writes for a question.
 use Rattle.std.specs.Prelude.{◌≡◌, ℕ, ◌+◌, Bool, true, false, List, [], ◌∷◌, ◌++◌, length, codes, if◌then◌else◌, ◌==◌, not}
 use Rattle.std.specs.Prelude.{None as Nothing}
 use Rattle.std.specs.Fmt.{decimal}
@@ -11,21 +11,22 @@ use Rattle.ignore_rules.specs.Answer.{answer}
 use Rattle.ignore_rules.specs.Rules.{Rule, Ruleset, Building, begun, built, AddsLine, Refuses}
 use Rattle.igwalk.specs.Words.{Question}
 
--- the line that tells of a refused line of the rules, counted from 1
+-- the line that reports a rejected line of the rules, counted from 1
 abbrev pub refusal : ℕ → Problem → List ℕ
 refusal number problem = codes "igwalk: line " ++ (decimal number ++ (codes ": " ++ (problem_text problem ++ 10 ∷ [])))
 
--- these lines of rules were added in turn, which gave this builder; the refused ones were left out and told of
+-- adding these lines of rules in turn leads to this builder; rejected lines are left out and
+-- reported
 pub data Adds (root : List ℕ) : List (List ℕ) → Building → List ℕ → Type 0 where
   no_line : Adds root [] (begun root) []
   added : (lines : List (List ℕ)) (line : List ℕ) (old new : Building) (reported : List ℕ) → Adds root lines old reported → AddsLine old Nothing line new → Adds root (lines ++ line ∷ []) new reported
   refused : (lines : List (List ℕ)) (line : List ℕ) (builder : Building) (reported : List ℕ) (problem : Problem) → Adds root lines builder reported → Refuses builder.options line problem → Adds root (lines ++ line ∷ []) builder (reported ++ refusal (length lines + 1) problem)
 
--- these lines were added in turn, this was told of the refused ones, and whether any was
+-- the same, with the report of the rejected lines in what was written, and whether there is one
 abbrev pub AddsAll : List ℕ → List (List ℕ) → Building → (List ℕ → Type 0) → Bool → Type 0
 AddsAll root lines builder err any = (reported : List ℕ) × Adds root lines builder reported × err reported × (any ≡ not (length reported == 0))
 
--- a line was refused and told of with its number, or added with nothing told
+-- a line was rejected and reported with its number, or added with nothing reported
 abbrev pub AddsOne : Building → ℕ → List ℕ → Building → (List ℕ → Type 0) → Bool → Type 0
 AddsOne old number line new err true = (problem : Problem) × Refuses old.options line problem × (new ≡ old) × err (refusal number problem)
 AddsOne old number line new err false = AddsLine old Nothing line new × err []
@@ -36,11 +37,12 @@ answer_line None = codes "none" ++ 10 ∷ []
 answer_line (Ignore rule) = codes "ignore " ++ (rule.original ++ 10 ∷ [])
 answer_line (Whitelist rule) = codes "whitelist " ++ (rule.original ++ 10 ∷ [])
 
--- what a matcher answers for a path
+-- the answer of a matcher for a path
 abbrev pub answer_of : Ruleset → List ℕ → Bool → Match Rule
 answer_of matcher path is_dir = answer matcher.root matcher.rules path is_dir
 
--- the answer stands in what was written, what the refused lines are told by stands in the errors, and the status is 1 where there was one
+-- the answer is written to the output, the rejected lines are reported as errors, and the status is
+-- 1 where there was one
 pub record Prints (question : Question) (status : ℕ) (out err : List ℕ → Type 0) : Type 0 where
   pub builder : Building
   pub refused : Bool

@@ -1,4 +1,5 @@
--- Why a run ends early, and what was written and told by then. Errors are told line by line, so what is told begins with the refusals of some of the first lines.
+-- Why a run ends early, and what was written and told by then. Errors are told line by line, so
+-- what is told begins with the refusals of some of the first lines.
 use Rattle.std.specs.Prelude.{◌≡◌, ◌≢◌, ℕ, List, [], ◌∷◌, ◌++◌, codes, ⊤}
 use Rattle.std.specs.Str.Lines.{lines}
 use Rattle.ignore_glob.specs.Problem.{Problem, several, at_line, at_path, at_depth, loop, io, glob, unrecognized, invalid_definition, memory}
@@ -15,7 +16,8 @@ reason Memory = codes "igwalk: out of memory" ++ 10 ∷ []
 reason Write = codes "igwalk: cannot write" ++ 10 ∷ []
 reason Silence = []
 
--- what ends a run at a line that is refused with this problem: a faulty one can't be told of, and the only other problem is want of memory
+-- what ends a run at a line that is refused with this problem: a faulty one can't be told of, and
+-- the only other problem is want of memory
 abbrev pub line_stop : Problem → Stop
 line_stop (several ps) = Memory
 line_stop (at_line line p) = Memory
@@ -28,7 +30,8 @@ line_stop (unrecognized name) = Memory
 line_stop invalid_definition = Memory
 line_stop memory = Memory
 
--- one line ended the run: for want of memory, with nothing told of it, or as it is refused and can't be told of
+-- one line ended the run: for want of memory, with nothing told of it, or as it is refused and
+-- can't be told of
 abbrev pub EndsLine : LineOptions → List ℕ → (List ℕ → Type 0) → Stop → Type 0
 EndsLine options line err Usage = ⊥
 EndsLine options line err Memory = err []
@@ -70,7 +73,8 @@ Wrote out Memory = out []
 Wrote out Write = ⊤
 Wrote out Silence = out []
 
--- what was told by then of the lines of a question: of the first ones, or of all of them where the answer can't be written; there is a refused one where the errors can't be written
+-- what was told by then of the lines of a question: of the first ones, or of all of them where the
+-- answer can't be written; there is a refused one where the errors can't be written
 abbrev pub ReportedOf : Question → (List ℕ → Type 0) → Stop → Type 0
 ReportedOf question err Usage = ⊥
 ReportedOf question err Memory = ReportsFirst question.root (lines question.rules) err
@@ -81,6 +85,7 @@ ReportedOf question err Silence = HasRefused question.root (lines question.rules
 abbrev pub Ends : Question → (List ℕ → Type 0) → (List ℕ → Type 0) → Stop → Type 0
 Ends question out err stop = Wrote out stop × ReportedOf question err stop
 
--- a question's run ended early and why was told: behind what was told of the lines stands the reason
+-- a question's run ended early and why was told: behind what was told of the lines stands the
+-- reason
 abbrev pub EndsReported : Question → (List ℕ → Type 0) → (List ℕ → Type 0) → Type 0
 EndsReported question out err = (stop : Stop) × (stop ≢ Silence) × Wrote out stop × ReportedOf question (λ reported. err (reported ++ reason stop)) stop

@@ -1,16 +1,17 @@
--- What the words after the program's name ask for.
+-- Parsing the words after the program's name.
 use Rattle.std.specs.Prelude.{ℕ, Bool, true, false, List, [], ◌∷◌, codes, Option, None, Some, if◌then◌else◌}
 use Rattle.std.specs.Str.{bytes_eq}
 use Rattle.igwalk.specs.declared.words.Request.{Request}
 
--- what the rules of a text say, relative to a root, of a path that is a directory or not
+-- a question: the answer of the rules in a text, relative to a root, for a path that is a directory
+-- or not
 pub record Question : Type 0 where
   pub root : List ℕ
   pub rules : List ℕ
   pub path : List ℕ
   pub is_dir : Bool
 
--- `d` is a directory, `f` isn't, and other words are no kind
+-- `d` is a directory, `f` is none, and other words are invalid
 abbrev pub kind_of : List ℕ → Option Bool
 kind_of word = if bytes_eq word (codes "d") then Some true else (if bytes_eq word (codes "f") then Some false else None)
 

@@ -1,4 +1,4 @@
-//! The program `igwalk`: asks the rules of gitignore lines about a path.
+//! The program `igwalk`: matches a path against the rules of gitignore lines.
 #![tactic(auto)]
 
 mod run;

@@ -15,23 +15,24 @@ use ignore_rules::gitignore::{Gitignore, GitignoreBuilder};
 use std::alloc::Global;
 use std::io::Write;
 
-/// What is told of wrong arguments. It names three commands, of which `match` alone can be run: `list` and `check` are wrong arguments.
+/// The usage, which is written for wrong arguments. It names three commands, of which only `match`
+/// can be run: `list` and `check` are wrong arguments.
 pub const USAGE: &str = "usage: igwalk match ROOT RULES PATH d|f | list ROOT.. | check ROOT PATH..";
 
-/// Why a run ends before its end.
+/// Why a run ends early.
 #[derive(Clone, Copy)]
 pub enum Stop {
-    /// The words ask for nothing that there is.
+    /// The arguments are wrong.
     Usage,
-    /// Memory was refused.
+    /// Out of memory.
     Memory,
     /// The answer can't be written.
     Write,
-    /// The errors can't be written, so nothing more is told.
+    /// The errors can't be written, so nothing more is reported.
     Silence,
 }
 
-/// Tells of a refused line, counted from 1. What is refused for want of memory ends the run.
+/// Reports a rejected line, counted from 1. Out of memory ends the run.
 fn report_refusal<E: Write>(err: &mut E, number: u64, error: Error) -> Result<(), Stop>
     ensures reports { OnOk result (Appends (E.contents err.old) (E.contents err.new) (refusal number (problem_of error))) }
     ensures line { OnOk result (problem_of error ≢ memory) }
@@ -47,7 +48,8 @@ fn report_refusal<E: Write>(err: &mut E, number: u64, error: Error) -> Result<()
     }
 }
 
-/// Adds a line of rules, counted from 1, and tells of it where it is refused. Whether it was.
+/// Adds a line of rules, counted from 1, and reports it where it is rejected. Returns whether it
+/// was.
 fn add_or_report<E: Write>(
     builder: &mut GitignoreBuilder,
     number: u64,
@@ -66,7 +68,7 @@ fn add_or_report<E: Write>(
     }
 }
 
-/// Adds the lines of rules, and tells of each that is refused. Whether one was.
+/// Adds the lines of rules, and reports each that is rejected. Returns whether one was.
 fn add_lines<E: Write>(
     builder: &mut GitignoreBuilder,
     rules: &str,
@@ -86,7 +88,7 @@ fn add_lines<E: Write>(
     Ok(refused)
 }
 
-/// Writes what a matcher says of a path.
+/// Writes the answer of a matcher for a path.
 fn write_answer<W: Write>(
     out: &mut W,
     matcher: &Gitignore,
@@ -108,7 +110,7 @@ fn write_answer<W: Write>(
     }
 }
 
-/// Answers a question. Whether a line of its rules was refused.
+/// Answers a question. Returns whether a line of its rules was rejected.
 fn answer<W: Write, E: Write>(
     alloc: Global,
     request: Request<'_>,
@@ -129,7 +131,7 @@ fn answer<W: Write, E: Write>(
     Ok(refused)
 }
 
-/// Tells why a run ended, and answers its status, or why it ended where that can't be told.
+/// Reports why a run ended, and returns its status, or why it ended where that can't be written.
 pub fn report_stop<E: Write>(err: &mut E, stop: Stop) -> Result<u8, Stop>
     ensures reports { IfOk result (λ status. (status ≡ 2) × (stop ≢ Stop.Silence) × Appends (E.contents err.old) (E.contents err.new) (reason stop)) }
     ensures unreported { IfErr result (λ why. why ≡ stop) }
@@ -146,14 +148,14 @@ pub fn report_stop<E: Write>(err: &mut E, stop: Stop) -> Result<u8, Stop>
     }
 }
 
-/// Does what the words after the program's name ask for: `match ROOT RULES PATH d|f` prints what
-/// the lines of RULES say, relative to ROOT, of PATH, a directory (`d`) or not (`f`): `none`, or
-/// `ignore` or `whitelist` and the line that decided. A refused line is told on `err`, and the
-/// others are asked.
+/// Runs the command in the words after the program's name. `match ROOT RULES PATH d|f` writes the
+/// answer of the lines of RULES, relative to ROOT, for PATH, a directory (`d`) or not (`f`):
+/// `none`, or `ignore` or `whitelist` and the line that decided. A rejected line is reported on
+/// `err`, and the other lines count.
 ///
-/// The answer is the status: 0; 1 where a line was refused; 2 for wrong arguments, for want of
-/// memory, and where a writer refuses, each told on `err` unless that is the one that refuses,
-/// which `run_or_stop` states. Wrong arguments are found before anything is written to `out`.
+/// It returns the status: 0; 1 where a line was rejected; 2 for wrong arguments, out of memory and
+/// a failed write. Status 2 is reported on `err`, unless writing to `err` failed, which
+/// `run_or_stop` states. Wrong arguments are found before anything is written to `out`.
 pub fn run<W: Write, E: Write>(alloc: Global, words: &[String], out: &mut W, err: &mut E) -> u8
     ensures wrong { question_of (map string_bytes words.now) ≡ None → (result ≡ 2) × Appends (W.contents out.old) (W.contents out.new) [] }
     ensures prints { (question : Question) → question_of (map string_bytes words.now) ≡ Some question → result ≢ 2
@@ -166,10 +168,10 @@ pub fn run<W: Write, E: Write>(alloc: Global, words: &[String], out: &mut W, err
     }
 }
 
-/// As `run`, with each early end told, or else an error.
+/// As `run`, with each early end reported, or else an error.
 ///
 /// # Errors
-/// Why the run ended, where that can't be told on `err`.
+/// Why the run ended, where that can't be written to `err`.
 pub fn run_or_stop<W: Write, E: Write>(
     alloc: Global,
     words: &[String],

@@ -16,7 +16,7 @@ fn words_of(alloc: Global, texts: &[&str]) -> Result<Vec<String>, AllocError> {
 
 const USAGE: &str = "usage: igwalk match ROOT RULES PATH d|f | list ROOT.. | check ROOT PATH..\n";
 
-/// The words, what is written and what is told, and the status.
+/// The words, the output, the errors and the status.
 const RUNS: [(&[&str], &str, &str, u8); 12] = [
     (
         &[
@@ -79,7 +79,7 @@ fn runs_over_memory(rt: HostRuntime) -> Result<(), Fail> {
     Ok(())
 }
 
-/// A writer that keeps what so many calls write, and refuses all later ones.
+/// A writer that keeps what so many calls write, and fails at all later ones.
 #[derive(Drop)]
 struct Refusing {
     kept: Vec<u8>,
@@ -108,7 +108,7 @@ fn writer_of(alloc: Global, calls: usize) -> Refusing {
     }
 }
 
-/// The status, what was written and what was told, where the output takes so many calls.
+/// The status, the output and the errors, where so many calls on the output succeed.
 fn with_refusing_output(alloc: Global, calls: usize) -> Result<(u8, Vec<u8>, Vec<u8>), AllocError> {
     let words = words_of(alloc, &["match", "/r", "{\n*.rs", "a.rs", "f"])?;
     let mut out = writer_of(alloc, calls);
@@ -117,7 +117,7 @@ fn with_refusing_output(alloc: Global, calls: usize) -> Result<(u8, Vec<u8>, Vec
     Ok((status, out.kept, err))
 }
 
-/// The same where the errors take so many calls.
+/// The same where so many calls on the errors succeed.
 fn with_refusing_errors(alloc: Global, calls: usize) -> Result<(u8, Vec<u8>, Vec<u8>), AllocError> {
     let words = words_of(alloc, &["match", "/r", "{\n*.rs", "a.rs", "f"])?;
     let mut out: Vec<u8> = Vec::new(alloc);
@@ -165,7 +165,7 @@ fn errors_that_cannot_be_written_end_the_run(rt: HostRuntime) -> Result<(), Fail
     Ok(())
 }
 
-/// The two tests above refuse each write in turn: they begin at the first, and at last refuse none.
+/// The two tests above fail each write in turn: they begin with the first, and finally fail none.
 #[test]
 fn writes_are_refused_from_the_first_to_none(rt: HostRuntime) -> Result<(), Fail> {
     let (status, written, _) = with_refusing_output(rt.alloc(), 0)?;

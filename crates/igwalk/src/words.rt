@@ -1,8 +1,9 @@
-//! What the words after the program's name ask for.
+//! Parsing the words after the program's name.
 ghost use Rattle.std.specs.Prelude.{◌≡◌, map, option_map, string_bytes};
 ghost use Rattle.igwalk.specs.Words.{question_of, request_view, kind_of};
 
-/// What the rules of a text say, relative to a root, of a path that is a directory or not.
+/// A question: the answer of the rules in a text, relative to a root, for a path that is a
+/// directory or not.
 #[derive(Clone, Copy)]
 pub struct Request<'w> {
     pub root: &'w str,
@@ -11,7 +12,7 @@ pub struct Request<'w> {
     pub is_dir: bool,
 }
 
-/// What the words ask for; `None` where they are wrong arguments.
+/// The question in the words; `None` for wrong arguments.
 pub fn read_words(words: &[String]) -> Option<Request<'_>>
     ensures { option_map request_view result ≡ question_of (map string_bytes words.now) }
 {
@@ -29,7 +30,7 @@ pub fn read_words(words: &[String]) -> Option<Request<'_>>
     }
 }
 
-/// Whether the word stands for a directory; `None` where it is no kind.
+/// Whether the word means a directory; `None` for other words than `d` and `f`.
 fn kind_of(word: &str) -> Option<bool>
     ensures { result ≡ kind_of word.now }
 {

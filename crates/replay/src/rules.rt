@@ -20,16 +20,6 @@ pub struct Built {
     pub refused: Items,
 }
 
-/// Whether some operation turns on a mode that isn't there: that trailing spaces are read as git reads them.
-pub fn uses_git_spaces(input: &Value) -> Result<bool, Trouble> {
-    for op in list(input, OPS)? {
-        if text_at(op, 0, OPS)? == "gts" && flag_at(op, 1, OPS)? {
-            return Ok(true);
-        }
-    }
-    Ok(false)
-}
-
 /// Why a matcher isn't asked about a path, if so.
 pub fn reason_against(matcher: &Gitignore, path: &str) -> Option<Reason> {
     for rule in matcher.rules() {
@@ -70,7 +60,10 @@ fn apply(builder: &mut GitignoreBuilder, op: &Value) -> Result<Option<Error>, Tr
             builder.allow_unclosed_class(flag_at(op, 1, OPS)?);
             Ok(None)
         }
-        "gts" => Ok(None),
+        "gts" => {
+            builder.git_trailing_spaces(flag_at(op, 1, OPS)?);
+            Ok(None)
+        }
         _ => Err(Trouble::Field(OPS)),
     }
 }

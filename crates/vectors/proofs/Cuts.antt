@@ -12,7 +12,7 @@ module _ (p : ℕ → Bool) (xs : List ℕ) where
       subst (λ n. slice_split p xs ≡ take n xs ∷ slice_split p (drop (n + 1) xs)) at (slice_split_first p xs 0 (grind (arith, common_steps)))
   at_place i false e h = absurd (true≢false (sym (ap is_some h)))
 
-  -- the first part ends at the first place
+  -- the first segment ends at the first place
   pub cut_at : (i : ℕ) → position p xs ≡ Some i → slice_split p xs ≡ take i xs ∷ slice_split p (drop (i + 1) xs)
   cut_at i h = at_place i _ refl h
 
@@ -20,6 +20,6 @@ module _ (p : ℕ → Bool) (xs : List ℕ) where
   no_place true e h = absurd (true≢false (ap is_some h))
   no_place false e h = slice_split_none p xs (λ k d l. fails_before_first p xs k d (grind (arith, common_steps)))
 
-  -- where there is none, the list is the one part
+  -- where there is none, the list is the only segment
   pub cut_nowhere : position p xs ≡ None → slice_split p xs ≡ xs ∷ []
   cut_nowhere h = no_place _ refl h

@@ -1,4 +1,4 @@
--- Worked vectors: what the definitions say of small ones, computed from them.
+-- Worked vectors: the definitions computed for small ones.
 use Rattle.std.proofs.Common.{◌≡◌, inl, true, [], ◌∷◌, Some, None, refl, codes}
 use Rattle.std.proofs.lemmas.Bool.{false≢true}
 use Rattle.std.specs.Prelude.{IsSome}

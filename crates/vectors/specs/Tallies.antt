@@ -1,4 +1,4 @@
--- How vectors are counted, and how counts are told.
+-- How vectors are counted, and how counts are printed.
 use Rattle.std.specs.Prelude.{ℕ, ◌+◌, ◌-◌, ◌^◌, min, List, [], ◌++◌, ◌==◌, codes, decimal, if◌then◌else◌}
 use Rattle.vectors.specs.declared.outcome.Reason.{Reason}
 use Rattle.vectors.specs.declared.outcome.Reason.TheVariants.{GitTrailingSpaces, TooManySplits}
@@ -17,7 +17,7 @@ nothing = record { passed = 0; failed = 0; git_trailing_spaces = 0; too_many_spl
 abbrev pub together : ℕ → ℕ → ℕ
 together a b = min (a + b) (2 ^ 64 - 1)
 
--- one more passed, failed, was no vector or was skipped, and nothing else
+-- the counts with one more that passed, failed, was no vector or was skipped
 
 abbrev pub with_passed : Counts → Counts
 with_passed c = record c { passed = together c.passed 1 }
@@ -32,15 +32,15 @@ abbrev pub with_skipped : Reason → Counts → Counts
 with_skipped GitTrailingSpaces c = record c { git_trailing_spaces = together c.git_trailing_spaces 1 }
 with_skipped TooManySplits c = record c { too_many_splits = together c.too_many_splits 1 }
 
--- how many were skipped, for whatever reason
+-- how many were skipped, for all reasons
 abbrev pub skipped : Counts → ℕ
 skipped c = together c.git_trailing_spaces c.too_many_splits
 
--- how many were skipped for a reason, unless there is none
+-- the text of a reason with its count; nothing for the count 0
 abbrev pub reason_text : List ℕ → ℕ → List ℕ
 reason_text name count = if count == 0 then [] else codes ", " ++ (name ++ (codes " " ++ decimal count))
 
--- the counts in words
+-- the text of the counts
 abbrev pub tally_text : Counts → List ℕ
 tally_text c =
     decimal c.passed ++ (codes " passed, " ++ (decimal c.failed ++ (codes " failed, " ++ (decimal (skipped c) ++ (codes " skipped"

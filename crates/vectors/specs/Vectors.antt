@@ -1,11 +1,11 @@
--- What a value says as a vector.
+-- Vectors: values with a name, a kind, an input and wanted fields.
 use Rattle.std.specs.Prelude.{◌≡◌, ℕ, List, codes, Option, Some, None, IsSome, is_some, option_and_then, if◌then◌else◌}
 use Rattle.serde_json.specs.Data.{Data, Members}
 use Rattle.serde_json.specs.Find.{get, as_str, as_object}
 use Rattle.vectors.specs.declared.outcome.Trouble.{Trouble}
 use Rattle.vectors.specs.declared.outcome.Trouble.TheVariants.{Field, Memory}
 
--- the field that is told to be missing, or to have another form
+-- the field that is reported as missing or of another form
 abbrev pub named_field : Trouble → Option (List ℕ)
 named_field (Field name) = Some name.now
 named_field Memory = None
@@ -18,7 +18,7 @@ text_in name d = option_and_then as_str (get name d)
 abbrev pub object_in : List ℕ → Data → Option Members
 object_in name d = option_and_then as_object (get name d)
 
--- the value is a vector of this name, which asks a kind about an object, and wants these fields
+-- the value is a vector with this name, this kind, an object as input, and these wanted fields
 pub record IsVector (d : Data) (id kind : List ℕ) (input : Data) (wanted : Members) : Type 0 where
   pub named : text_in (codes "id") d ≡ Some id
   pub of_kind : text_in (codes "kind") d ≡ Some kind
@@ -26,7 +26,7 @@ pub record IsVector (d : Data) (id kind : List ℕ) (input : Data) (wanted : Mem
   pub about : IsSome (as_object input)
   pub wants : object_in (codes "out") d ≡ Some wanted
 
--- the first of the four fields that keeps the value from being a vector
+-- the first of the four fields that is missing or of another form
 abbrev pub wrong_field : Data → Option (List ℕ)
 wrong_field d =
     if is_some (text_in (codes "id") d) then (if is_some (text_in (codes "kind") d) then (if is_some (object_in (codes "in") d) then (if is_some (object_in (codes "out") d) then None else Some (codes "out")) else Some (codes "in")) else Some (codes "kind")) else Some (codes "id")

@@ -7,7 +7,8 @@ ghost use Rattle.vectors.specs.Agrees.{Agrees, EachMember, Stands};
 use crate::equal::is_equal;
 use serde_json::{Map, Value};
 
-/// Whether an answer is the one that is wanted: it is an object, each wanted field stands in it with an equal value, and it has no other. Only the fields that are waiting for their calls may be missing.
+/// Whether an answer is the one that is wanted: an object that has each wanted field with an equal
+/// value, and no other. Only the fields that are waiting for their calls may be missing.
 pub fn agrees(wanted: &Map<String, Value>, answer: &Value, waiting: &[&str]) -> bool
     ensures { IsTrue result
         ↔ Agrees (members_view wanted.now.entries) (view answer.now) (map (λ w. w.now) waiting.now) }

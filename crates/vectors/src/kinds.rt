@@ -1,10 +1,10 @@
-//! What is asked.
+//! The kinds of vectors.
 
 use crate::outcome::{Outcome, Trouble};
 use serde_json::Value;
 use std::alloc::Global;
 
-/// What answers the vectors, by their kinds.
+/// A library that answers vectors, by their kinds.
 ///
 /// A contract sees, for each call, a relation between the value, the call and an answer that
 /// the call may give.
@@ -19,7 +19,7 @@ pub trait Kinds {
 
     ghost waits: { Self → List ℕ → List (List ℕ) → Type 0 } = { λ _ _ _. ⊤ };
 
-    /// What the kind of this name answers, if there is one.
+    /// The outcome of the kind with this name, if there is one.
     fn answer(&self, alloc: Global, kind: &str, input: &Value) -> Option<Result<Outcome, Trouble>>
         ensures { gives self.now kind.now (view input.now) result };
 

@@ -1,4 +1,5 @@
-//! Vectors: what a library is asked, with the answer that is wanted; whether an answer agrees with it, and how many do.
+//! Vectors: questions for a library, each with its wanted answer; whether an answer agrees with the
+//! wanted one, and how many do.
 #![tactic(auto)]
 
 mod agree;

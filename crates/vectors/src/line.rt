@@ -1,4 +1,4 @@
-//! What comes of a line.
+//! The verdict of a line.
 ghost use Rattle.std.specs.Prelude.{◌≡◌, Some, IfOk, map};
 ghost use Rattle.serde_json.specs.Read.{read as read_text};
 ghost use Rattle.serde_json.specs.View.{view};
@@ -30,7 +30,7 @@ impl From<Trouble> for Flaw {
     }
 }
 
-/// What came of a line, judged afresh where memory is refused.
+/// The verdict of a line, judged again after a failed allocation.
 pub(crate) fn judged<K: Kinds>(alloc: Global, kinds: &K, line: &[u8]) -> Result<Verdict, Flaw>
     ensures { IfOk result (Comes (K.gives kinds.now) (K.waits kinds.now) line.now) }
 {
@@ -65,7 +65,7 @@ fn flaw_of(error: Error) -> Flaw {
     }
 }
 
-/// What a kind answers for the vector that a value is, and the fields that may be missing.
+/// The outcome of a kind for the vector that a value is, and the fields that may be missing.
 fn answer<K: Kinds>(
     alloc: Global,
     kinds: &K,

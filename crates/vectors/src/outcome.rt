@@ -1,34 +1,34 @@
-//! What a kind answers for a vector.
+//! The outcome of a kind for a vector.
 ghost use Rattle.std.specs.Prelude.{◌≡◌};
 ghost use Rattle.vectors.specs.declared.outcome.Trouble.TheVariants.{Memory};
 
 use serde_json::Value;
 use std::alloc::{AllocError, AllocFailed};
 
-/// What a kind answers.
+/// The outcome of a kind.
 #[derive(Drop)]
 pub enum Outcome {
     /// The answer, in the shape of the vector's `out`.
     Answer(Value),
-    /// The vector isn't asked.
+    /// The vector is skipped.
     Skipped(Reason),
 }
 
-/// Why a vector isn't asked.
+/// Why a vector is skipped.
 #[derive(Clone, Copy, Drop)]
 pub enum Reason {
-    /// It needs the mode in which trailing spaces are read as git reads them, which isn't there.
+    /// It needs a mode that treats trailing spaces as git does, which doesn't exist.
     GitTrailingSpaces,
-    /// The plain matcher would try too many splits of its text.
+    /// The plain matcher would try too many ways to cut its text.
     TooManySplits,
 }
 
 /// Why a kind gives no answer.
 #[derive(Clone, Copy, Drop)]
 pub enum Trouble {
-    /// The vector's field of this name is missing, or has another form.
+    /// The vector's field of this name is missing or of another form.
     Field(&'static str),
-    /// Memory was refused.
+    /// Out of memory.
     Memory,
 }
 

@@ -1,4 +1,4 @@
-//! Asking the vectors of a file, line by line.
+//! Running the vectors of a file, line by line.
 ghost use Rattle.std.specs.Prelude.{◌≡◌, ◌==◌, ◌<◌, ◌∷◌, OnOk, IfSome, length, option_map, position};
 ghost use Rattle.std.specs.List.{slice_split};
 ghost use Rattle.vectors.specs.Lines.{CountsLine, CountsLines, lines_left};
@@ -10,12 +10,12 @@ use crate::tally::Tally;
 use std::alloc::Global;
 use std::io::{self, Write};
 
-/// Why a run ends before its end.
+/// Why a run ends early.
 #[derive(Clone, Copy, Drop)]
 pub enum Stop {
-    /// Memory was refused twice.
+    /// An allocation failed twice.
     Memory,
-    /// What is told can't be written.
+    /// A report can't be written.
     Write,
 }
 
@@ -26,7 +26,8 @@ struct Place<'n> {
     number: u64,
 }
 
-/// Asks each vector of a file. A vector whose answer is another one than wanted is told on `out`, and a line that is no vector on `err`; both are counted.
+/// Runs each vector of a file. A vector with another answer than the wanted one is reported on
+/// `out`, and a line that is no vector on `err`; both are counted.
 pub fn replay<K: Kinds, W: Write, E: Write>(
     alloc: Global,
     kinds: &K,
@@ -50,7 +51,7 @@ pub fn replay<K: Kinds, W: Write, E: Write>(
     Ok(())
 }
 
-/// The first line, and what stands behind its newline, if it has one.
+/// The first line, and what follows its newline, if it has one.
 fn first_line(bytes: &[u8]) -> (&[u8], Option<&[u8]>)
     ensures line { slice_split (λ b. b == 10) bytes.now ≡ result.0.now ∷ lines_left (option_map (λ l. l.now) result.1) }
     ensures shorter { IfSome result.1 (λ l. length l.now < length bytes.now) }
@@ -106,13 +107,13 @@ fn refuse<E: Write>(
     }
 }
 
-/// Tells what is wrong with a line.
+/// Reports why a line is no vector.
 fn report<E: Write>(err: &mut E, place: Place<'_>, flaw: &str) -> io::Result<()> {
     let Place { name, number } = place;
     writeln!(err, "replay: {name}: line {number}: {flaw}")
 }
 
-/// Tells which field of a line is missing, or has another form.
+/// Reports which field of a line is missing or of another form.
 fn report_field<E: Write>(err: &mut E, place: Place<'_>, field: &str) -> io::Result<()> {
     let Place { name, number } = place;
     writeln!(err, "replay: {name}: line {number}: bad field {field}")

@@ -1,4 +1,4 @@
-//! What came of the vectors.
+//! Counting the verdicts of vectors.
 ghost use Rattle.std.specs.Prelude.{◌≡◌, ◌≤◌, ◌↔◌, Some};
 ghost use Rattle.vectors.specs.Tallies.{nothing, with_passed, with_failed, with_unread, with_skipped, skipped, tally_text};
 
@@ -25,7 +25,7 @@ impl Model for Tally {
 }
 
 impl Tally {
-    /// Nothing came yet.
+    /// No counts yet.
     pub fn new() -> Tally
         ensures { result ≡ nothing }
     {
@@ -59,7 +59,7 @@ impl Tally {
         self.unread = self.unread.saturating_add(1);
     }
 
-    /// Counts a vector that wasn't asked.
+    /// Counts a vector that was skipped.
     pub fn skip(&mut self, reason: Reason)
         ensures { self.new ≡ with_skipped reason self.old }
     {
@@ -80,7 +80,7 @@ impl Tally {
             .saturating_add(self.too_many_splits)
     }
 
-    /// The status of a run that came to its end: 0, or 1 where a vector failed or a line was no vector.
+    /// The status of a completed run: 0, or 1 where a vector failed or a line was no vector.
     pub fn status(&self) -> u8
         ensures good { (result ≡ 0) ↔ ((self.now.failed ≡ 0) × (self.now.unread ≡ 0)) }
         ensures bound { result ≤ 1 }
@@ -93,7 +93,7 @@ impl Tally {
     }
 }
 
-/// The counts, in words; reasons for which no vector was skipped aren't told.
+/// The text of the counts, without reasons for which no vector was skipped.
 impl fmt::Display for Tally {
     ghost output = { λ t. Some (tally_text t) };
 

@@ -8,21 +8,21 @@ use crate::fields::{members, object, text};
 use crate::outcome::Trouble;
 use serde_json::{Map, Value};
 
-/// What a vector asks, and the answer that is wanted.
+/// A vector: a question, and the wanted answer.
 #[derive(Drop)]
 pub struct Vector<'v> {
     /// Its name.
     pub id: &'v str,
-    /// What is asked: the name of a kind.
+    /// The name of its kind.
     pub kind: &'v str,
-    /// What the kind is asked about, an object.
+    /// The input, an object.
     pub input: &'v Value,
-    /// The fields of the answer.
+    /// The wanted fields of the answer.
     pub wanted: &'v Map<String, Value>,
 }
 
 impl<'v> Vector<'v> {
-    /// The vector that a value is, or the first of its fields that is missing or has another form.
+    /// The vector that a value is, or the first of its fields that is missing or of another form.
     pub fn of(value: &'v Value) -> Result<Vector<'v>, Trouble>
         ensures { MatchResult result
             (λ v. IsVector (view value.now) v.id.now v.kind.now (view v.input.now) (members_view v.wanted.now.entries))

@@ -1,4 +1,4 @@
-//! What came of a vector.
+//! The verdict of a vector.
 ghost use Rattle.std.specs.Prelude.{◌≡◌, [], map, IfOk, IfErr, OnErr};
 ghost use Rattle.std.specs.Io.KnownBytes.{Appends};
 ghost use Rattle.serde_json.specs.View.{view};
@@ -12,19 +12,19 @@ use crate::vector::Vector;
 use serde_json::Value;
 use std::io::{self, Write};
 
-/// What came of a vector.
+/// The verdict of a vector.
 #[derive(Drop)]
 pub enum Verdict {
     /// The answer is the wanted one.
     Passed,
-    /// The answer is another one: the vector, and what was answered.
+    /// The answer is another one: the vector and the answer.
     Failed(Value, Value),
-    /// It wasn't asked.
+    /// The vector was skipped.
     Skipped(Reason),
 }
 
 impl Verdict {
-    /// What came of a vector for which this was answered, where these fields wait for their calls.
+    /// The verdict of a vector with this outcome, where these fields wait for their calls.
     pub fn of(value: Value, outcome: Outcome, waiting: &[&str]) -> Result<Verdict, Trouble>
         ensures judges { IfOk result (Judges (view value) outcome (map (λ w. w.now) waiting.now)) }
         ensures reported { IfErr result (λ t. named_field t ≡ wrong_field (view value)) }
@@ -48,7 +48,8 @@ fn compared(value: Value, answer: Value, waiting: &[&str]) -> Result<Verdict, Tr
 }
 
 impl Tally {
-    /// Counts what came of a vector, and tells on `out` of an answer that is another one than wanted; it is counted also where it can't be told.
+    /// Counts a verdict, and reports an answer other than the wanted one on `out`. The verdict is
+    /// counted also where the report can't be written.
     pub fn count<W: Write>(&mut self, verdict: Verdict, out: &mut W) -> io::Result<()>
         ensures counts { self.new ≡ counted verdict self.old }
         ensures silent { IsBare verdict → Appends (W.contents out.old) (W.contents out.new) [] }
@@ -65,7 +66,7 @@ impl Tally {
     }
 }
 
-/// Tells of an answer that is another one than wanted.
+/// Reports an answer other than the wanted one.
 fn report_difference<W: Write>(value: &Value, answer: &Value, out: &mut W) -> io::Result<()> {
     let (Some(id), Some(wanted)) = (value.get("id"), value.get("out")) else {
         return Ok(());

@@ -1,4 +1,4 @@
-//! A node more in a tree in memory.
+//! Adding a node to a tree in memory.
 ghost use Rattle.std.specs.Prelude.{◌≡◌, OnOk, OnErr, IfErr, Ok};
 ghost use Rattle.ignore_files.specs.Memory.{parent_for};
 ghost use Rattle.ignore_files.specs.Changes.{with_node};

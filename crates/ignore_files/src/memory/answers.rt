@@ -106,7 +106,7 @@ impl MemoryTree {
     ghost use Rattle.ignore_files.specs.Gives.{IsHonest};
     ghost use Rattle.ignore_files.specs.Answers.{tree_of, found};
 
-    /// It is honest for the tree of its nodes.
+    /// It is consistent with the tree of its nodes.
     pub fn is_honest(&self)
         ensures { IsHonest ⟦<MemoryTree as Files>⟧ self.now (tree_of self.now) }
     {}

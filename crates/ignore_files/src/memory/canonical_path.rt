@@ -1,4 +1,4 @@
-//! The own paths of nodes: from `/`, by names alone.
+//! The canonical paths of nodes: from `/`, by names alone.
 ghost use Rattle.std.specs.Prelude.{◌≡◌, ◌∷◌, [], List, count_by};
 ghost use Rattle.ignore_glob.specs.Paths.{components};
 ghost use Rattle.ignore_files.specs.Memory.{is_canonical_path, child, place_of, any_kind, is_file, is_directory, sought, folder_sought, parent_for, below, but_last};
@@ -32,7 +32,7 @@ fn child(nodes: &[Node], here: usize, name: &str) -> Option<usize>
     }
 }
 
-/// Where one piece leads: an empty one is passed over.
+/// Where one component leads: an empty one is skipped.
 fn component_below(nodes: &[Node], here: usize, component: &str) -> Option<usize>
     ensures { result ≡ below nodes.now here (component.now ∷ []) }
 {
@@ -56,7 +56,7 @@ pub fn place_of(nodes: &[Node], path: &str) -> Option<usize>
     component_below(nodes, here, rest)
 }
 
-/// What stands before the last slash of a path.
+/// What precedes the last slash of a path.
 fn folder_of(path: &str) -> &str
     ensures { (nodes : List Node) → place_of nodes result.now ≡ below nodes 0 (but_last (components path.now)) }
 {
@@ -90,7 +90,7 @@ pub fn parent_for(nodes: &[Node], path: &str) -> Result<usize, TreeError>
     }
 }
 
-/// The place of a path, whatever the node there is.
+/// The place of a path, for a node of any kind.
 pub fn any_place(nodes: &[Node], path: &str) -> Result<usize, TreeError>
     ensures { result ≡ sought any_kind nodes.now path.now }
 {

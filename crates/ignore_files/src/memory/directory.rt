@@ -31,7 +31,7 @@ impl Directory {
     ghost use Rattle.ignore_files.specs.declared.memory.entry.Entry.TheVariants.{Named, Nameless};
     ghost use Rattle.ignore_files.specs.Entries.{named};
 
-    /// A directory with nothing in it. It takes no memory.
+    /// An empty directory. It allocates nothing.
     pub fn new(alloc: Global) -> Directory
         ensures { result ≡ [] }
     {

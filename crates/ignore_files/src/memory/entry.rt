@@ -11,6 +11,6 @@ pub enum Entry {
         file_type: FileType,
         node: usize,
     },
-    /// Something whose name can't be told.
+    /// Something whose name is invalid.
     Nameless,
 }

@@ -20,7 +20,7 @@ pub struct Cut {
     pub fault: Fault,
 }
 
-/// A node: the directory that it is in, its own path, and what the calls answer of it.
+/// A node: the directory that it is in, its canonical path, and the answers of calls for it.
 #[derive(Debug, Drop)]
 pub struct Node {
     pub parent: usize,
@@ -60,7 +60,7 @@ impl Kind {
         }
     }
 
-    /// The kind as a tree tells it.
+    /// The kind as a tree reports it.
     pub fn file_type(&self) -> FileType
         ensures { result ≡ file_type_of self.now }
     {

@@ -1,4 +1,4 @@
-//! Where the text of a path leads in a tree in memory.
+//! Resolving a path in a tree in memory.
 
 ghost use Rattle.std.specs.Prelude.{◌≡◌, ◌≤◌, [], ◌∷◌, IfOk, MatchResult, Ok, Err, option_map};
 ghost use Rattle.ignore_glob.specs.Paths.{components};
@@ -8,10 +8,10 @@ ghost use Rattle.ignore_files.specs.Resolve.{enter, link_at, walk, resolved, nod
 use crate::memory::node::{Kind, Node};
 use ignore_glob::Fault;
 
-/// The links that one resolving may follow.
+/// How many links may be followed to resolve one path.
 pub const LINKS: usize = 40;
 
-/// The node that a text leads to, and how many more links may be followed.
+/// The node that a path leads to, and how many more links may be followed.
 #[derive(Clone, Copy, Debug)]
 pub struct Reached {
     pub node: usize,
@@ -139,7 +139,7 @@ pub fn resolve(nodes: &[Node], cwd: &str, path: &str, follow: bool) -> Result<us
     Ok(walk(nodes, start.links, follow, start.node, path)?.node)
 }
 
-/// The node that a text leads to.
+/// The node that a path leads to.
 pub fn find_node<'a>(
     nodes: &'a [Node],
     cwd: &str,

@@ -1,11 +1,11 @@
-//! `clone` of an error, written out since a derived one says nothing of a type that holds itself.
+//! `clone` of an error, written out since a derived one promises nothing for a recursive type.
 ghost use Rattle.std.specs.Prelude.{◌≡◌};
 ghost use Rattle.ignore_glob.specs.Problem.{problem_of};
 
 use crate::error::Error;
 use std::alloc::AllocError;
 
-/// The clone tells the same; refused memory is `AllocError`.
+/// The clone reports the same problem; out of memory is `AllocError`.
 impl Clone for Error {
     ghost is_clone = { λ e f. problem_of f ≡ problem_of e };
 

@@ -1,4 +1,4 @@
-//! What becomes an error of this crate by `?` and `from`.
+//! Conversions to an error of this crate, by `?` and `from`.
 ghost use Rattle.std.specs.Prelude.{◌≡◌};
 ghost use Rattle.std.specs.IoError.{error_kind};
 ghost use Rattle.ignore_glob.specs.Kinds.{problem_of_kind};
@@ -9,7 +9,7 @@ use crate::fault::Fault;
 use std::alloc::{AllocError, AllocFailed};
 use std::io;
 
-/// A fault is told as `Io`.
+/// A fault becomes `Io`.
 impl From<Fault> for Error {
     ghost from_gives = { λ fault e. problem_of e ≡ io fault };
 
@@ -38,7 +38,7 @@ impl From<io::Error> for Error {
     }
 }
 
-/// A refused allocation is told as `Memory`.
+/// A failed allocation becomes `Memory`.
 impl From<AllocError> for Error {
     ghost from_gives = { λ _ e. problem_of e ≡ memory };
 
@@ -47,8 +47,7 @@ impl From<AllocError> for Error {
     }
 }
 
-/// A refused allocation is told as `Memory`; the value that found no room is
-/// dropped.
+/// A failed allocation becomes `Memory`; the value that found no room is dropped.
 impl<T: Drop> From<AllocFailed<T>> for Error {
     ghost from_gives = { λ _ e. problem_of e ≡ memory };
 

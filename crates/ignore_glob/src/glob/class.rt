@@ -17,7 +17,7 @@ pub fn sign(inside: &[char]) -> (bool, &[char])
     }
 }
 
-/// How many characters surely follow each `]`: those behind the last one.
+/// How many characters follow each `]` at least: those after the last one.
 pub fn after_last_closing(text: &[char]) -> usize
     ensures { ClosesBefore result text.now }
 {
@@ -30,7 +30,7 @@ pub fn after_last_closing(text: &[char]) -> usize
     after
 }
 
-/// Where the first `]` stands, behind each of which so many characters stand.
+/// The index of the first `]`, given how many characters follow each `]` at least.
 fn closing(text: &[char], after_last: usize) -> Option<usize>
     requires { ClosesBefore after_last text.now }
     ensures within { IfSome result (λ n. n < length text.now) }
@@ -60,7 +60,7 @@ pub fn body(inside: &[char], after_last: usize) -> Option<(&[char], &[char])>
     Some((&inside[..n + 1], &inside[n + 2..]))
 }
 
-/// The end of the turn that the text begins with, and what follows.
+/// The end of a range that the text begins with, after a `-`, and what follows.
 fn turn(text: &[char]) -> Option<(char, &[char])>
     ensures some { IfSome result (λ found. text.now ≡ 45 ∷ found.0 ∷ found.1.now) }
     ensures none { IfNone result (NoTurn text.now) }

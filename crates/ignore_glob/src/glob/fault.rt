@@ -1,13 +1,14 @@
-//! What is wrong with a glob.
+//! Parse errors of globs.
 ghost use Rattle.std.specs.Prelude.{◌≡◌, Some};
 ghost use Rattle.ignore_glob.specs.GlobFaults.{glob_fault_text, glob_fault_number, pattern_error_text};
 
 use std::alloc::{AllocError, AllocFailed};
 use std::{error, fmt};
 
-/// What is wrong with a glob: the fault that begins leftmost.
+/// A parse error of a glob: the leftmost one.
 ///
-/// A class's fault begins at its `[`. A text whose only fault is that braces stay open has `UnclosedAlternates`.
+/// The error of a class begins at its `[`. A text whose only error is that braces stay open has
+/// `UnclosedAlternates`.
 #[derive(Clone, Copy, Debug, PartialEq, Eq)]
 pub enum GlobFault {
     /// A `[` that nothing closes, where such a class isn't allowed.
@@ -25,7 +26,7 @@ pub enum GlobFault {
 }
 
 impl GlobFault {
-    /// The fault's number, from 1 to 6 in the order of the variants.
+    /// The number of the error, from 1 to 6 in the order of the variants.
     pub fn number(&self) -> u8
         ensures { result ≡ glob_fault_number self.now }
     {
@@ -57,12 +58,12 @@ impl fmt::Display for GlobFault {
 
 impl error::Error for GlobFault {}
 
-/// Why a glob wasn't read.
+/// Why a glob wasn't parsed.
 #[derive(Clone, Copy, Debug, PartialEq, Eq)]
 pub enum PatternError {
-    /// The text is no glob.
+    /// The text is an invalid glob.
     Fault(GlobFault),
-    /// Memory ran out, which says nothing of the text.
+    /// Out of memory, whether the text is a glob or not.
     Memory,
 }
 

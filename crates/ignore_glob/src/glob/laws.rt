@@ -1,4 +1,4 @@
-//! Laws of reading globs, each as the contract of a function that does nothing.
+//! Laws of parsing globs, each as the contract of a function that does nothing.
 ghost use Rattle.std.specs.Prelude.{◌≡◌, ◌⊎◌, ℕ, List, Result, [], Ok, Err};
 ghost use Rattle.ignore_glob.specs.Lexing.{Lexeme, Lexed};
 ghost use Rattle.ignore_glob.specs.Glob.{Tokens};
@@ -6,13 +6,14 @@ ghost use Rattle.ignore_glob.specs.Row.{Reads, IsFaulty};
 ghost use Rattle.ignore_glob.specs.declared.glob.options.Options.{Options};
 ghost use Rattle.ignore_glob.specs.declared.glob.fault.GlobFault.{GlobFault};
 
-/// A text is exactly one row of written pieces, or has exactly one fault, never both.
+/// A text lexes to exactly one row of lexemes, or to exactly one error, never both.
 pub fn one_outcome()
     ensures one { (o : Options) (text : List ℕ) → (out : Result (List Lexeme) GlobFault) × Lexed o 0 text out }
     ensures same { (o : Options) (text : List ℕ) (a b : Result (List Lexeme) GlobFault) → Lexed o 0 text a → Lexed o 0 text b → a ≡ b }
 {}
 
-/// A text has exactly one reading or exactly one fault, never both, whatever the options.
+/// A text parses to exactly one list of tokens or to exactly one error, never both, for all
+/// options.
 pub fn one_reading()
     ensures some { (o : Options) (text : List ℕ) → ((ts : Tokens) × Reads o text ts) ⊎ ((f : GlobFault) × IsFaulty o text f) }
     ensures one { (o : Options) (text : List ℕ) (ts us : Tokens) → Reads o text ts → Reads o text us → ts ≡ us }

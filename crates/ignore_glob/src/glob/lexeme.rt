@@ -1,4 +1,4 @@
-//! The written pieces of a glob, from the left.
+//! Lexing a glob: its lexemes from the left.
 ghost use Rattle.std.specs.Prelude.{◌≡◌, ◌≢◌, ◌+◌, ◌<◌, ◌≤◌, ◌++◌, ◌∷◌, [], ℕ, List, take, drop, length, replicate, IfOk, IfErr, Ok, Err};
 ghost use Rattle.ignore_glob.specs.Lexing.{Step, lexeme, fault, Begins, Lexed, NoStarFirst};
 ghost use Rattle.ignore_glob.specs.declared.glob.options.Options.{Options};
@@ -11,7 +11,7 @@ use crate::glob::options::Options;
 use crate::glob::token::Class;
 use std::alloc::Global;
 
-/// One written piece of a glob.
+/// One lexeme of a glob.
 #[derive(Drop)]
 pub enum Lexeme {
     /// A character that stands for itself.
@@ -20,7 +20,7 @@ pub enum Lexeme {
     Escaped(char),
     /// `?`
     Any,
-    /// A whole run of so many stars.
+    /// A maximal run of this many stars.
     Run(usize),
     /// A class in brackets.
     Class(Class),
@@ -85,7 +85,8 @@ fn escape(depth: usize, text: &[char]) -> Result<(Lexeme, &[char], usize), Patte
     }
 }
 
-/// The piece that begins with this character, before this text: what follows it, and how deep that stands.
+/// The lexeme that begins with this character, before this text; what follows it, and the depth
+/// there.
 fn lexeme_from(
     alloc: Global,
     options: Options,
@@ -131,10 +132,10 @@ fn lexeme_from(
     }
 }
 
-/// The row of pieces of a text.
+/// The row of lexemes of a text.
 ///
 /// # Errors
-/// The fault that begins leftmost, or `Memory`.
+/// The leftmost parse error, or `Memory`.
 pub fn lexemes(alloc: Global, options: Options, text: &[char]) -> Result<Vec<Lexeme>, PatternError>
     ensures row { IfOk result (λ row. Lexed options 0 text.now (Ok (row_view row.items))) }
     ensures fault { IfErr result (λ e. IfFault e (λ f. Lexed options 0 text.now (Err f))) }

@@ -1,4 +1,5 @@
-//! The tokens that a row of pieces begins with: runs of two stars are judged by their neighbours.
+//! The token that a row of lexemes begins with: its neighbours decide what a run of two stars
+//! means.
 ghost use Rattle.std.specs.Prelude.{◌≡◌, ◌⊎◌, ◌+◌, ◌<◌, ◌≤◌, ◌↔◌, ◌∷◌, [], List, length, IsTrue, IfSome, IfNone};
 ghost use Rattle.ignore_glob.specs.Lexing as P;
 ghost use Rattle.ignore_glob.specs.Row as R;
@@ -8,7 +9,7 @@ ghost use Rattle.ignore_glob.specs.LexemeViews.{lexeme_view, row_view, left_view
 use crate::glob::lexeme::Lexeme;
 use crate::glob::token::Class;
 
-/// What stands left of a place.
+/// What is left of a place.
 #[derive(Clone, Copy)]
 pub enum Left {
     GlobStart,
@@ -72,7 +73,7 @@ fn is_end(row: &[Lexeme]) -> bool
     }
 }
 
-/// What follows a `**/` at the front.
+/// What follows a leading `**/`.
 fn past_slash(row: &[Lexeme]) -> Option<&[Lexeme]>
     ensures some { IfSome result (λ more. row_view row.now ≡ P.run 2 ∷ P.char 47 ∷ row_view more.now) }
     ensures shorter { IfSome result (λ more. length more.now < length row.now) }
@@ -104,7 +105,7 @@ fn past_chain(row: &[Lexeme]) -> (usize, &[Lexeme])
     (n, rest)
 }
 
-/// What follows a last `**` at the front.
+/// What follows a leading `**` that ends the glob or a branch.
 fn past_end(row: &[Lexeme]) -> Option<&[Lexeme]>
     ensures some { IfSome result (λ more. row_view row.now ≡ P.run 2 ∷ row_view more.now) }
     ensures ends { IfSome result (λ more. Ends (row_view more.now)) }
@@ -151,7 +152,7 @@ fn is_alone(left: Left, n: usize, after: &[Lexeme]) -> bool
     }
 }
 
-/// What a run begins at the front of a row.
+/// What a row begins with whose first lexeme is a run.
 fn at_run<'a>(left: Left, row: &'a [Lexeme], n: usize, after: &'a [Lexeme]) -> Meaning<'a>
     requires { row_view row.now ≡ P.run n ∷ row_view after.now }
     ensures { Means (left_view left) (row_view row.now) (meaning_view result) }
@@ -184,7 +185,7 @@ fn at_character(c: char, rest: &[Lexeme]) -> Meaning<'_>
     }
 }
 
-/// What a row begins with, with this left of it.
+/// What a row begins with, given what is left of it.
 pub fn meaning_of(left: Left, row: &[Lexeme]) -> Meaning<'_>
     ensures { Means (left_view left) (row_view row.now) (meaning_view result) }
 {

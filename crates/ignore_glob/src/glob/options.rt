@@ -1,10 +1,10 @@
-//! How a glob is read and what its letters take.
+//! How a glob is parsed and what its letters match.
 
-/// How a glob is read, and whether its letters take both cases.
+/// How a glob is parsed, and whether its letters match both cases.
 #[derive(Clone, Copy, Debug, PartialEq, Eq)]
 pub struct Options {
-    /// Letters and classes take both ASCII cases. Reading doesn't depend on it.
+    /// Letters and classes match both ASCII cases. Parsing doesn't depend on it.
     pub case_insensitive: bool,
-    /// A `[` that nothing closes is a literal `[` and no fault.
+    /// A `[` that nothing closes is a literal `[` and no error.
     pub allow_unclosed_class: bool,
 }

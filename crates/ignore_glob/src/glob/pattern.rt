@@ -1,7 +1,10 @@
-//! A glob that was read, and the texts that it takes.
-ghost use Rattle.std.specs.Prelude.{◌≡◌, ◌↔◌, IsTrue, IfOk, IfErr};
+//! A parsed glob, and the texts that it matches.
+ghost use Rattle.std.specs.Prelude.{◌≡◌, ◌-◌, ◌^◌, ◌↔◌, ℕ, IsTrue, IfOk, IfErr, length, min};
+ghost use Rattle.std.specs.Coded.{Coded-set, coded_list};
 ghost use Rattle.std.specs.Str.{chars};
 ghost use Rattle.ignore_glob.specs.Glob.{start, then, done};
+ghost use Rattle.ignore_glob.specs.Positions.{CountsMarks, positions};
+ghost use Rattle.ignore_glob.specs.NodeLists.{glob_nodes, node_code, nodes_view};
 ghost use Rattle.ignore_glob.specs.GlobFaults.{IfFault};
 ghost use Rattle.ignore_glob.specs.Problem.{problem_of, memory};
 ghost use Rattle.ignore_glob.specs.Reading.{Matches};
@@ -11,6 +14,9 @@ ghost use Rattle.ignore_glob.specs.View.{view, tokens_view};
 use crate::error::Error;
 use crate::glob::copies::copied;
 use crate::glob::fault::PatternError;
+use crate::glob::marks;
+use crate::glob::node::Node;
+use crate::glob::nodes::nodes_of;
 use crate::glob::options::Options;
 use crate::glob::plain::all_match;
 use crate::glob::read::read;
@@ -18,12 +24,16 @@ use crate::glob::token::Token;
 use std::alloc::{AllocError, Global};
 use std::marker::Model;
 
-/// A glob that was read: it takes some texts and refuses the others.
-/// `*` and `?` take no slash, a class may take one, and a glob that is `**` or `**/` alone takes everything.
+/// A parsed glob, which matches some texts.
+///
+/// `*` and `?` match no slash, a class may match one, and a glob that is `**` or `**/` alone
+/// matches everything.
 #[derive(Debug, Drop)]
 pub struct Pattern {
     tokens: Vec<Token>,
+    nodes: Vec<Node>,
     case_insensitive: bool,
+    ghost compiled: { nodes_view nodes.items ≡ glob_nodes (tokens_view tokens.items) } by { Coded-set (coded_list node_code) _ _ },
 }
 
 impl Model for Pattern {
@@ -39,47 +49,83 @@ impl Model for Pattern {
 }
 
 impl Pattern {
-    /// The pattern of these tokens; `case_insensitive` folds ASCII case where it is asked of a text.
-    pub(crate) fn from_tokens(tokens: Vec<Token>, case_insensitive: bool) -> Pattern
-        ensures { result ≡ record { tokens = tokens_view tokens.items; case_insensitive = case_insensitive } }
+    /// The pattern of these tokens; `case_insensitive` makes it match both ASCII cases.
+    pub(crate) fn from_tokens(
+        tokens: Vec<Token>,
+        case_insensitive: bool,
+    ) -> Result<Pattern, AllocError>
+        ensures { IfOk result (λ p. p ≡ record { tokens = tokens_view tokens.items; case_insensitive = case_insensitive }) }
     {
-        Pattern {
+        let nodes = nodes_of(*tokens.allocator(), &tokens)?;
+        Ok(Pattern {
             tokens,
+            nodes,
             case_insensitive,
-        }
+        })
     }
 
-    /// Reads a glob of the dialect.
+    /// Parses a glob.
     ///
     /// # Errors
-    /// `PatternError::Fault` with the fault that begins leftmost, exactly where the glob has one,
-    /// or `PatternError::Memory`.
+    /// `PatternError::Fault` with the leftmost parse error, exactly where the glob is invalid, or
+    /// `PatternError::Memory`.
     pub fn parse(alloc: Global, glob: &str, options: Options) -> Result<Pattern, PatternError>
         ensures reading { IfOk result (λ p. Reads options (chars glob.now) p.tokens) }
         ensures case { IfOk result (λ p. p.case_insensitive ≡ options.case_insensitive) }
         ensures fault { IfErr result (λ e. IfFault e (λ f. IsFaulty options (chars glob.now) f)) }
     {
         match read(alloc, glob, options) {
-            Ok(tokens) => Ok(Pattern::from_tokens(tokens, options.case_insensitive)),
+            Ok(tokens) => match Pattern::from_tokens(tokens, options.case_insensitive) {
+                Ok(pattern) => Ok(pattern),
+                Err(_) => Err(PatternError::Memory),
+            },
             Err(error) => Err(error),
         }
     }
 
-    /// Whether the glob takes the whole text.
+    /// Whether the glob matches the whole text.
     ///
     /// # Errors
-    /// `Error::Memory` alone, since the characters of the text are kept for the time of the call.
+    /// `Error::Memory` alone, since the positions that are reached are kept for the time of the
+    /// call.
     pub fn matches(&self, text: &str) -> Result<bool, Error>
         ensures out_of_memory { IfErr result (λ e. problem_of e ≡ memory) }
         ensures value { IfOk result (λ yes. IsTrue yes ↔ Matches self.now (chars text.now)) }
     {
-        match characters(*self.tokens.allocator(), text) {
-            Ok(all) => Ok(self.matches_chars(&all)),
+        match self.matches_counted(text) {
+            Ok((yes, _)) => Ok(yes),
             Err(e) => Err(e),
         }
     }
 
-    /// For the crates above, which ask many patterns about one text: as `matches`, of the text's `characters`.
+    /// As `matches`, with the number of marks: the pairs of a position of the glob and an offset in
+    /// the text that are reached from its first position at the start of the text, by the steps of
+    /// the glob and the characters of the text. No pair is reached twice, so this bounds the work.
+    ///
+    /// # Errors
+    /// `Error::Memory` alone.
+    pub fn matches_counted(&self, text: &str) -> Result<(bool, u64), Error>
+        ensures out_of_memory { IfErr result (λ e. problem_of e ≡ memory) }
+        ensures value { IfOk result (λ found. IsTrue found.0 ↔ Matches self.now (chars text.now)) }
+        ensures counted { IfOk result (λ found. (n : ℕ) × CountsMarks self.now.case_insensitive self.now.tokens (chars text.now) n × (found.1 ≡ min n (2 ^ 64 - 1))) }
+    {
+        let alloc = *self.nodes.allocator();
+        match marks::matches_counted(alloc, self.case_insensitive, &self.nodes, text) {
+            Ok(found) => Ok(found),
+            Err(_) => Err(Error::Memory),
+        }
+    }
+
+    /// How many positions the glob has: one for each token, inside branches too, and a second one
+    /// for each recursive token.
+    pub fn positions(&self) -> usize
+        ensures { result ≡ positions self.now.tokens }
+    {
+        self.nodes.len()
+    }
+
+    /// For dependents, which match many patterns against one text: as `matches`, with the text's
+    /// `characters`.
     pub fn matches_chars(&self, text: &[char]) -> bool
         ensures { IsTrue result ↔ Matches self.now text.now }
     {
@@ -97,14 +143,11 @@ impl Clone for Pattern {
 
     fn clone(&self) -> Result<Pattern, AllocError> {
         let tokens = copied(&self.tokens)?;
-        Ok(Pattern {
-            tokens,
-            case_insensitive: self.case_insensitive,
-        })
+        Pattern::from_tokens(tokens, self.case_insensitive)
     }
 }
 
-/// For the crates above: the characters of a text, to be asked about by `Pattern::matches_chars`.
+/// For dependents: the characters of a text, for `Pattern::matches_chars`.
 ///
 /// # Errors
 /// `Error::Memory` alone.

@@ -1,4 +1,4 @@
-//! The plain matcher: token by token, it tries each split of the text.
+//! The plain matcher (backtracking): token by token, it tries each way to cut the text.
 //! It recurses once for each token and each level of braces, never for a character.
 ghost use Rattle.std.specs.Prelude.{IsTrue, ◌↔◌, ◌≡◌, ◌≢◌, ◌≤◌, ◌++◌, ℕ, Bool, false, List, All, length, take};
 ghost use Rattle.ignore_glob.specs.Matches.{slash, BeginsWithSlash, EndsWithSlash, IsCaseOf, IsMember, other_case, in_ranges, is_listed, token_matches, tokens_match, branch_matches};
@@ -17,7 +17,7 @@ fn other_case(c: char) -> char
     }
 }
 
-fn is_case_of(fold: bool, c: char, d: char) -> bool
+pub(crate) fn is_case_of(fold: bool, c: char, d: char) -> bool
     ensures { IsTrue result ↔ IsCaseOf fold c d }
 {
     if fold {
@@ -43,7 +43,7 @@ fn is_listed(fold: bool, ranges: &[(char, char)], c: char) -> bool
     }
 }
 
-fn is_member(fold: bool, of: &Class, c: char) -> bool
+pub(crate) fn is_member(fold: bool, of: &Class, c: char) -> bool
     ensures { IsTrue result ↔ IsMember fold of.now.negated of.now.ranges.items c }
 {
     if of.negated {
@@ -108,7 +108,7 @@ fn ends_with_slash(text: &[char]) -> bool
     }
 }
 
-/// How long a front of the text is that has no slash.
+/// The length of the longest prefix of the text without a slash.
 fn name_length(text: &[char]) -> usize
     ensures within { result ≤ length text.now }
     ensures named { All (λ c. c ≢ slash) (take result text.now) }
@@ -122,7 +122,7 @@ fn name_length(text: &[char]) -> usize
     text.len()
 }
 
-/// How long a front of the text is that the token may take.
+/// The length of the longest prefix of the text that the token may match.
 fn reach(token: &Token, text: &[char]) -> usize
     ensures within { result ≤ length text.now }
     ensures longest { (fold : Bool) (a b : List ℕ) → text.now ≡ a ++ b → token_matches fold (view token.now) a → length a ≤ result }
@@ -154,7 +154,7 @@ fn is_star(token: &Token) -> bool
     }
 }
 
-/// Whether the tokens take the text, with ASCII case folded or not.
+/// Whether the tokens match the text, with ASCII case folded or not.
 #[cycle(plain)]
 pub fn all_match(fold: bool, tokens: &[Token], text: &[char]) -> bool
     ensures { IsTrue result ↔ tokens_match fold (tokens_view tokens.now) text.now }
@@ -171,7 +171,7 @@ pub fn all_match(fold: bool, tokens: &[Token], text: &[char]) -> bool
     }
 }
 
-/// Whether a star takes a front of the text and these tokens the rest.
+/// Whether a star matches a prefix of the text and these tokens the rest.
 #[cycle(plain)]
 fn star_first(fold: bool, rest: &[Token], text: &[char]) -> bool
     ensures { IsTrue result ↔ tokens_match fold (then star (tokens_view rest.now)) text.now }
@@ -184,7 +184,7 @@ fn star_first(fold: bool, rest: &[Token], text: &[char]) -> bool
     false
 }
 
-/// Whether the first token takes a front of the text and the others the rest.
+/// Whether the first token matches a prefix of the text and the others the rest.
 #[cycle(plain)]
 fn token_first(fold: bool, first: &Token, rest: &[Token], text: &[char]) -> bool
     ensures { IsTrue result ↔ tokens_match fold (then (view first.now) (tokens_view rest.now)) text.now }

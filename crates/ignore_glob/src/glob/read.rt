@@ -1,4 +1,4 @@
-//! Reading a glob: the tokens of its row of pieces.
+//! Parsing a glob: the tokens of its row of lexemes.
 ghost use Rattle.std.specs.Prelude.{◌≡◌, ◌+◌, ◌<◌, ◌≤◌, ◌∷◌, ℕ, suc, length, IsTrue, IfOk, IfErr};
 ghost use Rattle.std.specs.Str.{chars};
 ghost use Rattle.ignore_glob.specs.Glob.{Tokens, Branches};
@@ -15,7 +15,7 @@ use crate::glob::options::Options;
 use crate::glob::token::{Class, Token};
 use std::alloc::{AllocError, Global};
 
-/// The token that is meant.
+/// The token of a simple token.
 fn token_of(alloc: Global, given: SimpleToken) -> Result<Token, AllocError>
     ensures { IfOk result (λ token. view token ≡ simple_token_view given.entry) }
 {
@@ -34,7 +34,7 @@ fn token_of(alloc: Global, given: SimpleToken) -> Result<Token, AllocError>
     }
 }
 
-/// Puts a token at the end, so many times.
+/// Appends a token so many times.
 fn push_times(
     alloc: Global,
     tokens: &mut Vec<Token>,
@@ -50,7 +50,7 @@ fn push_times(
     Ok(())
 }
 
-/// Puts a branch at the end, unless it has no tokens.
+/// Appends a branch, unless it has no tokens.
 fn push_branch(branches: &mut Vec<Vec<Token>>, tokens: Vec<Token>) -> Result<(), AllocError>
     ensures { IfOk result (λ _. (bs : Branches) → put_branches branches.new.items bs ≡ put_branches branches.old.items (add_branch (tokens_view tokens.items) bs)) }
 {
@@ -139,7 +139,7 @@ fn read_branches(alloc: Global, row: &[Lexeme]) -> Result<(Vec<Vec<Token>>, &[Le
 /// The tokens of a glob.
 ///
 /// # Errors
-/// The fault that begins leftmost, or `Memory`.
+/// The leftmost parse error, or `Memory`.
 pub(crate) fn read(alloc: Global, text: &str, options: Options) -> Result<Vec<Token>, PatternError>
     ensures value { IfOk result (λ tokens. Reads options (chars text.now) (tokens_view tokens.items)) }
     ensures fault { IfErr result (λ e. IfFault e (λ f. IsFaulty options (chars text.now) f)) }

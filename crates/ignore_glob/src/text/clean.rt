@@ -7,7 +7,7 @@ ghost use Rattle.ignore_glob.specs.Roots.{IsWithoutEnd, rises, is_rooted};
 use crate::text::prefix::{has_slash, trim_root, without_slash};
 
 /// Whether a text is a name: not empty, without `/`, and neither `.` nor `..`.
-/// For the crates above.
+/// For dependents.
 pub fn is_name(text: &str) -> bool
     ensures { IsTrue result ↔ IsName text.now }
 {
@@ -21,7 +21,9 @@ pub fn is_clean_path(path: &str) -> bool
     path.is_empty() || are_names(path)
 }
 
-/// Whether a root is clean: `.`, `./` or `/`; or names, joined by single slashes, behind nothing, `/` or `./`; or pieces `..` before names or alone. One `/` may follow. `-` is not clean, as it stands for standard input.
+/// Whether a root is clean: `.`, `./` or `/`; or names, joined by single slashes, after nothing,
+/// `/` or `./`; or components `..`, alone or before names. One `/` may follow. `-` is not clean, as
+/// it means standard input.
 pub fn is_clean_root(root: &str) -> bool
     ensures { IsTrue result ↔ IsCleanRoot root.now }
 {
@@ -40,7 +42,7 @@ fn without_end(path: &str) -> &str
     }
 }
 
-// Whether a root without a slash at its end is names behind what may stand before them.
+// Whether a root without a final slash is names after what may precede them.
 fn is_rooted(body: &str) -> bool
     ensures { result ≡ is_rooted body.now }
 {
@@ -53,7 +55,7 @@ fn is_rooted(body: &str) -> bool
     rises(body)
 }
 
-// Whether the pieces of a text are `..` and then names.
+// Whether the components of a text are `..` and then names.
 fn rises(text: &str) -> bool
     ensures { result ≡ rises (components text.now) }
 {
@@ -62,15 +64,15 @@ fn rises(text: &str) -> bool
         .all(|component| is_proper(component))
 }
 
-// Whether each piece of a text is a name.
+// Whether each component of a text is a name.
 fn are_names(text: &str) -> bool
     ensures { result ≡ list_all is_proper (components text.now) }
 {
     text.split('/').all(|component| is_proper(component))
 }
 
-/// Whether a piece between the slashes of a path is a name: not empty, and neither `.` nor `..`.
-/// For the crates above.
+/// Whether a component of a path is a name: not empty, and neither `.` nor `..`.
+/// For dependents.
 pub fn is_proper(component: &str) -> bool
     ensures { result ≡ is_proper component.now }
 {

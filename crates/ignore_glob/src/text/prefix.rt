@@ -1,11 +1,13 @@
-//! Taking a root off the paths below it.
+//! Stripping a root from the paths below it.
 ghost use Rattle.std.specs.Prelude.{◌≡◌};
 ghost use Rattle.std.specs.Option.{option_copied};
 ghost use Rattle.ignore_glob.specs.Paths.{strip_prefix_of, strip_of, trim_of, without_slash, is_dot, at_bound, has_slash, StripsDirectories};
 
 use memchr::memchr;
 
-/// What follows `prefix` in `path`. None where the path doesn't begin with it, and none inside a name: `prefix` must be empty or end with `/`, or what follows must be empty or begin with `/` (which then stays).
+/// What follows `prefix` in `path`. None where the path doesn't begin with it, and none inside a
+/// name: `prefix` must be empty or end with `/`, or what follows must be empty or begin with `/`
+/// (which then stays).
 pub fn strip_prefix<'p>(prefix: &str, path: &'p str) -> Option<&'p str>
     ensures { option_copied result ≡ strip_prefix_of prefix.now path.now }
 {
@@ -17,7 +19,10 @@ pub fn strip_prefix<'p>(prefix: &str, path: &'p str) -> Option<&'p str>
     }
 }
 
-/// `path` relative to `root`, as the rules of a gitignore file in `root` see it: without one leading `./`, then without `root` and one `/`. What is left of the path after `./` stays as it is where `root` is the working directory (as `.`), where it has no `/`, and where `root` doesn't come off at the bound of a name.
+/// `path` relative to `root`, as the rules of a gitignore file in `root` see it: without one
+/// leading `./`, then without `root` and one `/`. Only the `./` is stripped where `root` is the
+/// working directory (as `.`), where the path has no `/`, and where `root` is no prefix that ends
+/// at a name.
 pub fn strip<'p>(root: &str, path: &'p str) -> &'p str
     ensures { result.now ≡ strip_of root.now path.now }
 {
@@ -32,14 +37,16 @@ pub fn strip<'p>(root: &str, path: &'p str) -> &'p str
 }
 
 /// A root as a gitignore builder keeps it: without one leading `./`.
-/// For the crates above.
+/// For dependents.
 pub fn trim_root(root: &str) -> &str
     ensures { result.now ≡ trim_of root.now }
 {
     root.strip_prefix("./").unwrap_or(root)
 }
 
-/// Stripping a directory off the paths below it leaves their names past the directory: for each clean root, each directory below it (or the root itself), given without its leading `./`, and each clean path below that directory. It does nothing; its contract is the law.
+/// A directory, stripped from a path below it, leaves the names after the directory: for each clean
+/// root, each directory below it (or the root itself), without its leading `./`, and each clean
+/// path below that directory. The function does nothing; its contract is the law.
 pub fn strip_law()
     ensures { StripsDirectories }
 {}
@@ -54,7 +61,7 @@ fn is_dot(root: &str) -> bool
             .all(|component| component == "." || component.is_empty())
 }
 
-// Whether the bound of a component lies between a prefix and what follows it.
+// Whether a prefix ends at a component.
 fn at_bound(prefix: &str, rest: &str) -> bool
     ensures { result ≡ at_bound prefix.now rest.now }
 {
@@ -62,7 +69,7 @@ fn at_bound(prefix: &str, rest: &str) -> bool
 }
 
 /// Whether a path has a `/`.
-/// For the crates above.
+/// For dependents.
 pub fn has_slash(path: &str) -> bool
     ensures { result ≡ has_slash path.now }
 {

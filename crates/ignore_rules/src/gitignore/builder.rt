@@ -1,7 +1,8 @@
 //! Lines added to rules.
 ghost use Rattle.std.specs.Prelude.{◌≡◌, ◌⊎◌, ◌++◌, ◌∷◌, [], None, Some, IfOk, IfErr, OnOk, OnErr, IsOk, option_map, string_bytes, length, take};
 ghost use Rattle.ignore_glob.specs.Problem.{problem_of, memory};
-ghost use Rattle.ignore_rules.specs.Rules.{begun, AddsLine, Refuses, AddsParsed, GivesProblem, built, with_rule, with_case_insensitive, with_unclosed_class};
+ghost use Rattle.ignore_rules.specs.Line.{parsed_line};
+ghost use Rattle.ignore_rules.specs.Rules.{begun, AddsLine, Refuses, AddsParsed, GivesProblem, built, with_rule, with_case_insensitive, with_git_trailing_spaces, with_unclosed_class};
 
 use crate::gitignore::glob::Glob;
 use crate::gitignore::line::ParsedLine;
@@ -18,6 +19,7 @@ pub struct GitignoreBuilder {
     root: String,
     globs: Vec<Glob>,
     options: Options,
+    git_trailing_spaces: bool,
 }
 
 impl Model for GitignoreBuilder {
@@ -28,11 +30,12 @@ impl Model for GitignoreBuilder {
 
     ghost coded = { building_code };
 
-    ghost view = { λ b. record { root = string_bytes b.root; rules = b.globs.items; options = record { glob = b.options } } };
+    ghost view = { λ b. record { root = string_bytes b.root; rules = b.globs.items; options = record { glob = b.options; git_trailing_spaces = b.git_trailing_spaces } } };
 }
 
 impl GitignoreBuilder {
-    /// A builder of no rules, relative to the directory `root`, of which one leading `./` goes.
+    /// A builder of no rules, relative to the directory `root`, of which one leading `./` is
+    /// stripped.
     ///
     /// # Errors
     /// `Error::Memory` alone.
@@ -48,15 +51,18 @@ impl GitignoreBuilder {
                     case_insensitive: false,
                     allow_unclosed_class: true,
                 },
+                git_trailing_spaces: false,
             }),
             Err(_) => Err(Error::Memory),
         }
     }
 
-    /// Adds one line, as gitignore(5) reads it: a comment or a blank line adds nothing, any other line adds a rule. `from` is kept with the rule.
+    /// Adds one line, as in gitignore(5): a comment or a blank line adds nothing, any other line
+    /// adds a rule. `from` is kept with the rule.
     ///
     /// # Errors
-    /// `Error::Glob` with the line and its fault where the glob of the line has a fault, or `Error::Memory`. After an error the builder is as before, which `push_line` states.
+    /// `Error::Glob` with the line and its parse error where the glob of the line is invalid, or
+    /// `Error::Memory`. After an error the builder is as before, which `push_line` states.
     pub fn add_line(&mut self, from: Option<String>, line: &str) -> Result<&mut Self, Error>
         ensures same_reference { IfOk result (λ b. b.ghost_name ≡ self.entry.ghost_name) }
         ensures added { IfOk result (λ b. AddsLine self.old (option_map string_bytes from) line.now b.now) }
@@ -68,13 +74,13 @@ impl GitignoreBuilder {
         }
     }
 
-    /// For the crates above: as `add_line`, without the builder in the answer.
+    /// For dependents: as `add_line`, without the builder in the result.
     pub fn push_line(&mut self, from: Option<String>, line: &str) -> Result<(), Error>
         ensures added { OnOk result (AddsLine self.old (option_map string_bytes from) line.now self.new) }
         ensures refused { IfErr result (λ e. (problem_of e ≡ memory) ⊎ Refuses self.old.options line.now (problem_of e)) }
         ensures unchanged { OnErr result (self.new ≡ self.old) }
     {
-        match ParsedLine::of(*self.root.allocator(), line) {
+        match self.parsed_line(line) {
             Ok(Some(parsed_line)) => self.push_parsed(from, parsed_line),
             Ok(None) => Ok(()),
             Err(_) => Err(Error::Memory),
@@ -109,7 +115,8 @@ impl GitignoreBuilder {
         }
     }
 
-    /// The matcher of the rules added so far, in their order. Without rules it is the empty matcher, whose path is empty. The builder can be used further.
+    /// The matcher of the rules added so far, in their order. Without rules it is the empty
+    /// matcher, whose root is empty. The builder can be used further.
     ///
     /// # Errors
     /// `Error::Memory` alone, as the rules are copied.
@@ -123,7 +130,8 @@ impl GitignoreBuilder {
         }
     }
 
-    /// For the crates above: as `build`, of a builder that isn't used further. It copies nothing and takes no memory.
+    /// For dependents: as `build`, for a builder that isn't used further. It copies nothing and
+    /// allocates nothing.
     pub fn into_gitignore(self) -> Gitignore
         ensures { result ≡ built self }
     {
@@ -134,7 +142,8 @@ impl GitignoreBuilder {
         Gitignore::from_parts(root, globs)
     }
 
-    /// Whether the globs of later lines take both ASCII cases of a letter. It is off at first, and always `Ok`.
+    /// Whether the globs of later lines match both ASCII cases of a letter. It is off at first, and
+    /// always `Ok`.
     pub fn case_insensitive(&mut self, yes: bool) -> Result<&mut Self, Error>
         ensures succeeds { IsOk result }
         ensures same_reference { IfOk result (λ b. b.ghost_name ≡ self.entry.ghost_name) }
@@ -144,12 +153,25 @@ impl GitignoreBuilder {
         Ok(self)
     }
 
-    /// Whether in the globs of later lines a `[` that nothing closes stands for itself, and is no fault. It is on at first.
+    /// Whether in the globs of later lines a `[` that nothing closes stands for itself, and is no
+    /// error. It is on at first.
     pub fn allow_unclosed_class(&mut self, yes: bool) -> &mut Self
         ensures same_reference { result.ghost_name ≡ self.entry.ghost_name }
         ensures value { result.now ≡ with_unclosed_class self.old yes }
     {
         self.options.allow_unclosed_class = yes;
+        self
+    }
+
+    /// Whether white space at the end of later lines is read by git's own rule: as long as a line
+    /// ends with a space, and the number of backslashes directly before that is even, the space is
+    /// removed, and other white space stays. Else all white space at the end is removed, unless the
+    /// line ends with a backslash and one space, as the original has it. It is off at first.
+    pub fn git_trailing_spaces(&mut self, yes: bool) -> &mut Self
+        ensures same_reference { result.ghost_name ≡ self.entry.ghost_name }
+        ensures value { result.now ≡ with_git_trailing_spaces self.old yes }
+    {
+        self.git_trailing_spaces = yes;
         self
     }
 }
@@ -160,13 +182,20 @@ impl GitignoreBuilder {
         *self.root.allocator()
     }
 
+    /// What a line parses to, by the options as they stand.
+    pub(crate) fn parsed_line(&self, line: &str) -> Result<Option<ParsedLine>, AllocError>
+        ensures { IfOk result (λ parsed. parsed ≡ parsed_line self.now.options.git_trailing_spaces line.now) }
+    {
+        ParsedLine::of(*self.root.allocator(), line, self.git_trailing_spaces)
+    }
+
     pub(crate) fn rule_count(&self) -> usize
         ensures { result ≡ length self.now.rules }
     {
         self.globs.len()
     }
 
-    /// Drops the rules behind the first `count`.
+    /// Drops the rules after the first `count`.
     pub(crate) fn truncate_rules(&mut self, count: usize)
         ensures { self.new ≡ record { root = self.old.root; rules = take count self.old.rules; options = self.old.options } }
     {
@@ -184,6 +213,7 @@ impl Clone for GitignoreBuilder {
             root: self.root.clone()?,
             globs: self.globs.clone()?,
             options: self.options,
+            git_trailing_spaces: self.git_trailing_spaces,
         })
     }
 }

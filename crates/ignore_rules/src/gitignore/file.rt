@@ -1,4 +1,4 @@
-//! Files of rules added to a builder.
+//! Adding files of rules to a builder.
 ghost use Rattle.std.specs.Prelude.{◌≡◌, ◌⊎◌, ◌++◌, ◌∷◌, [], ◌<◌, ◌≤◌, ◌+◌, length, take, drop, map, None, Some, Ok, Err, IfOk, IfErr, OnOk, OnErr, option_map, List, Result};
 ghost use Rattle.std.specs.Str.Lines.{strip_carriage_return};
 ghost use Rattle.ignore_files.specs.declared.types.Contents.{Contents};
@@ -11,19 +11,18 @@ ghost use Rattle.ignore_rules.specs.RuleFile.{AddsFile, AddsAnswer, AddsContents
 ghost use Rattle.ignore_rules.specs.RuleSteps.{IsOneSegment, IsLineRead, IsLastLineRead, IsLineAt, AddsOrReports, Keeps};
 
 use crate::gitignore::builder::GitignoreBuilder;
-use crate::gitignore::line::ParsedLine;
 use ignore_files::{Contents, Fault, Files, Refusal};
 use ignore_glob::Error;
 use memchr::memchr;
 use std::alloc::{AllocError, Global};
 use std::str;
 
-/// What stands at a place where a line begins.
+/// What is read at a place where a line begins.
 #[derive(Drop)]
 enum Line<'b> {
-    /// A line, and the place behind it.
+    /// A line, and the place of the next.
     Text(&'b str, usize),
-    /// The fault that keeps the line from being read.
+    /// The fault that ends reading in the line.
     Fault(Fault),
     /// The end of the file.
     End,
@@ -32,10 +31,14 @@ enum Line<'b> {
 impl GitignoreBuilder {
     /// Adds the rules of a file, line by line, as `add_line` does with the path as `from`.
     ///
-    /// A line ends before `\n` or `\r\n`. Each U+FEFF that the file begins with is passed over.
-    /// Reading stops at the first line that isn't UTF-8 (`Fault::InvalidData`) or in which a fault of the file system falls; the lines before it count.
+    /// A line ends before `\n` or `\r\n`. Each U+FEFF at the start of the file is skipped. Reading
+    /// stops at the first line that isn't UTF-8 (`Fault::InvalidData`) or in which a fault of the
+    /// file system occurs; the lines before it count.
     ///
-    /// The answer tells what is wrong with the file: that it can't be opened, as `Error::WithPath` of `Error::Io`, or what is wrong with each of its lines, as `Error::WithPath` of `Error::WithLineNumber` (without the path where that is empty). Several errors are one `Error::Partial`, in order.
+    /// The result reports the errors of the file: that it can't be opened, as `Error::WithPath` of
+    /// `Error::Io`, or the error of each rejected line, as `Error::WithPath` of
+    /// `Error::WithLineNumber` (without the path where that is empty). Several errors are one
+    /// `Error::Partial`, in order.
     ///
     /// # Errors
     /// `Error::Memory` alone, and then the builder is as before.
@@ -103,7 +106,7 @@ impl GitignoreBuilder {
         }
     }
 
-    /// Adds the line with a number; what is wrong with it goes to the problems.
+    /// Adds the line with a number; its error, if any, is appended to the problems.
     fn add_or_report(
         &mut self,
         path: &str,
@@ -127,13 +130,13 @@ impl GitignoreBuilder {
         }
     }
 
-    /// As `push_line`, with a path as `from`, which is copied for a rule alone.
+    /// As `push_line`, with a path as `from`, which is copied only for a rule.
     fn push_line_of(&mut self, path: &str, line: &str) -> Result<(), Error>
         ensures added { OnOk result (AddsLine self.old (Some path.now) line.now self.new) }
         ensures refused { IfErr result (λ e. (problem_of e ≡ memory) ⊎ Refuses self.old.options line.now (problem_of e)) }
         ensures unchanged { OnErr result (self.new ≡ self.old) }
     {
-        match ParsedLine::of(self.allocator(), line) {
+        match self.parsed_line(line) {
             Ok(Some(parsed_line)) => match String::from_str(self.allocator(), path) {
                 Ok(from) => self.push_parsed(Some(from), parsed_line),
                 Err(_) => Err(Error::Memory),
@@ -155,7 +158,7 @@ fn line_at(bytes: &[u8], at: usize, fault: Option<Fault>) -> Line<'_>
     }
 }
 
-/// The line without a line end, if it isn't empty; a fault falls in it.
+/// The last line, which has no newline, if it isn't empty; a fault occurs in it.
 fn last_line(rest: &[u8], fault: Option<Fault>, end: usize) -> Line<'_>
     requires { IsOneSegment rest.now }
     ensures { IsLastLineRead rest.now fault end result }
@@ -186,7 +189,7 @@ fn without_return(line: &[u8]) -> &[u8]
     }
 }
 
-/// The line with a number, of the first without each U+FEFF that it begins with.
+/// The content of the line with a number: the first line without each leading U+FEFF.
 fn line_content(number: u64, line: &str) -> &str
     ensures { result.now ≡ line_content number line.now }
 {
@@ -205,7 +208,7 @@ fn is_memory(error: &Error) -> bool
     matches!(error, Error::Memory)
 }
 
-/// The error with the line of a file that it stands at.
+/// The error with its line of a file.
 fn at_line(alloc: Global, path: &str, line: u64, err: Error) -> Result<Error, AllocError>
     ensures { IfOk result (λ e. problem_of e ≡ at_line_of path.now line (problem_of err)) }
 {

@@ -12,9 +12,10 @@ use ignore_glob::glob::Pattern;
 use std::alloc::AllocError;
 use std::marker::Model;
 
-/// A rule: what one line of a gitignore file says of the paths that its glob takes.
+/// A rule: one line of a gitignore file, which ignores or whitelists the paths that its glob
+/// matches.
 ///
-/// A matcher answers with the rule that decided, so that a user can be told why a path is ignored.
+/// A matcher returns the rule that decided, so that a user can learn why a path is ignored.
 #[derive(Debug, Drop)]
 pub struct Glob {
     from: Option<String>,
@@ -37,7 +38,7 @@ impl Model for Glob {
 }
 
 impl Glob {
-    /// The rule of a line, with the pattern that its glob was read to.
+    /// The rule of a line, with its parsed glob.
     pub(crate) fn new(from: Option<String>, parsed_line: ParsedLine, pattern: Pattern) -> Glob
         ensures { result ≡ read_rule (option_map string_bytes from) parsed_line pattern }
     {
@@ -57,35 +58,35 @@ impl Glob {
         }
     }
 
-    /// Where the rule comes from, as it was given with its line: the path of a file, or nothing.
+    /// The origin of the rule, as it was given with its line: the path of a file, or nothing.
     pub fn from(&self) -> Option<&str>
         ensures { option_copied result ≡ self.now.from }
     {
         self.from.as_deref()
     }
 
-    /// The line that gave the rule, without the white space at its end.
+    /// The line of the rule, without trailing white space.
     pub fn original(&self) -> &str
         ensures { result.now ≡ self.now.original }
     {
         self.original.as_str()
     }
 
-    /// The glob that stands for the line, which is asked of paths relative to the root of the rules.
+    /// The glob of the line, which is matched against paths relative to the root of the rules.
     pub fn actual(&self) -> &str
         ensures { result.now ≡ self.now.actual }
     {
         self.actual.as_str()
     }
 
-    /// Whether the rule whitelists what it takes: its line begins with `!`.
+    /// Whether the rule whitelists what it matches: its line begins with `!`.
     pub fn is_whitelist(&self) -> bool
         ensures { result ≡ self.now.is_whitelist }
     {
         self.is_whitelist
     }
 
-    /// Whether the rule speaks of directories only: its line ends with `/`.
+    /// Whether the rule applies to directories only: its line ends with `/`.
     pub fn is_only_dir(&self) -> bool
         ensures { result ≡ self.now.is_only_dir }
     {

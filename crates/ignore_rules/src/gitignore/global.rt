@@ -16,7 +16,10 @@ use ignore_glob::Error;
 use std::alloc::Global;
 
 impl GitignoreBuilder {
-    /// The matcher of this builder's rules and then those of the global file, and what is wrong with that file, as `add` tells it. The global file is where `gitconfig_excludes_path` leads, if a file is there; where none is, the answer is the empty matcher, and the rules that were added go too. A fault of the file system isn't told.
+    /// The matcher of this builder's rules and then those of the global file, and the errors of
+    /// that file, as `add` reports them. The global file is where `gitconfig_excludes_path` leads,
+    /// if a file is there. Where none is, the result is the empty matcher, without the rules that
+    /// were added. A fault of the file system isn't reported.
     ///
     /// The rules of the global file are relative to the root of this builder, as in the original.
     ///
@@ -40,7 +43,9 @@ impl GitignoreBuilder {
 }
 
 impl Gitignore {
-    /// The matcher of the global file, relative to the working directory of `env`, and what is wrong with the file, as `GitignoreBuilder::build_global` tells it. Where the working directory isn't known, the answer is the empty matcher and `Error::Io` of `Fault::NoCurrentDir`.
+    /// The matcher of the global file, relative to the working directory of `env`, and the errors
+    /// of the file, as `GitignoreBuilder::build_global` reports them. Where the working directory
+    /// is unknown, the result is the empty matcher and `Error::Io` of `Fault::NoCurrentDir`.
     ///
     /// # Errors
     /// `Error::Memory` alone.

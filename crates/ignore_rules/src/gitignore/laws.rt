@@ -4,12 +4,13 @@ ghost use Rattle.ignore_glob.specs.Reading.{Reading, Matches};
 ghost use Rattle.ignore_rules.specs.Answer.{AnswersByTheLast};
 ghost use Rattle.ignore_rules.specs.DoesMatch.{does_match};
 
-/// The test of taking is true exactly where a pattern takes the text.
+/// The test of matching is true exactly where a pattern matches the text.
 pub fn matching_is_decided()
     ensures { (reading : Reading) (text : List ℕ) → IsTrue (does_match reading text) ↔ Matches reading text }
 {}
 
-/// A list of rules answers by its last rule that applies: the one with the greatest index that takes the text and speaks of the kind.
+/// The answer of a list of rules is that of its last rule that applies: the one with the greatest
+/// index that matches the text and applies to the kind.
 pub fn the_last_rule_decides()
     ensures { AnswersByTheLast }
 {}

@@ -1,8 +1,9 @@
-//! What one line says, before its pattern is read.
-ghost use Rattle.std.specs.Prelude.{◌≡◌, ◌⊎◌, IfOk, Some, string_bytes};
+//! Parsing one line to its parts, before its glob is parsed.
+ghost use Rattle.std.specs.Prelude.{◌≡◌, ◌≤◌, ◌==◌, ◌⊎◌, IfOk, Some, length, string_bytes};
+ghost use Rattle.std.specs.List.{suffix_len};
 ghost use Rattle.ignore_glob.specs.GlobFaults.{glob_fault_text};
 ghost use Rattle.ignore_glob.specs.Problem.{problem_of, memory, glob};
-ghost use Rattle.ignore_rules.specs.Line.{has_prefix, has_suffix, without_prefix, without_suffix, trimmed, is_escaped, is_anchored, body, pattern, is_floating, placed, actual, parsed_line};
+ghost use Rattle.ignore_rules.specs.Line.{has_prefix, has_suffix, without_prefix, without_suffix, default_trimmed, git_trimmed, trimmed, is_escaped, is_anchored, body, pattern, is_floating, placed, actual, parsed_line};
 
 use ignore_glob::Error;
 use ignore_glob::glob::GlobFault;
@@ -10,7 +11,7 @@ use ignore_glob::text::has_slash;
 use std::alloc::{AllocError, Global};
 use std::marker::Model;
 
-/// A line that says something: neither blank nor a comment.
+/// A parsed line: one that is neither blank nor a comment.
 #[derive(Drop)]
 pub struct ParsedLine {
     pub original: String,
@@ -29,11 +30,12 @@ impl Model for ParsedLine {
 }
 
 impl ParsedLine {
-    /// What the line says, if anything.
-    pub fn of(alloc: Global, line: &str) -> Result<Option<ParsedLine>, AllocError>
-        ensures { IfOk result (λ parsed. parsed ≡ parsed_line line.now) }
+    /// What the line parses to: nothing for a comment or a blank line. `as_git` says whether white
+    /// space at its end is read by git's own rule.
+    pub fn of(alloc: Global, line: &str, as_git: bool) -> Result<Option<ParsedLine>, AllocError>
+        ensures { IfOk result (λ parsed. parsed ≡ parsed_line as_git line.now) }
     {
-        let text = trimmed(line);
+        let text = trimmed(line, as_git);
         if has_prefix(line, "#") || text.is_empty() {
             return Ok(None);
         }
@@ -53,7 +55,7 @@ impl ParsedLine {
         self.actual.as_str()
     }
 
-    /// The error of a line whose glob has this fault, or `Error::Memory`.
+    /// The error of a line whose glob is invalid, or `Error::Memory`.
     pub fn refused(self, alloc: Global, fault: GlobFault) -> Error
         ensures { (problem_of result ≡ memory) ⊎ (problem_of result ≡ glob (Some self.original) (glob_fault_text fault)) }
     {
@@ -129,14 +131,45 @@ fn is_anchored(line: &str) -> bool
     has_prefix(without_prefix(line, "!"), "/")
 }
 
-fn trimmed(line: &str) -> &str
-    ensures { result.now ≡ trimmed line.now }
+fn trimmed(line: &str, as_git: bool) -> &str
+    ensures { result.now ≡ trimmed as_git line.now }
+{
+    if as_git {
+        git_trimmed(line)
+    } else {
+        default_trimmed(line)
+    }
+}
+
+fn default_trimmed(line: &str) -> &str
+    ensures { result.now ≡ default_trimmed line.now }
 {
     if has_suffix(line, "\\ ") {
         line
     } else {
         line.trim_end()
     }
+}
+
+fn git_trimmed(line: &str) -> &str
+    ensures { result.now ≡ git_trimmed line.now }
+{
+    let bytes = line.as_bytes();
+    let end = bytes.len() - run_at_end(bytes, b' ');
+    let backslashes = run_at_end(&bytes[..end], b'\\');
+    if end < bytes.len() && backslashes % 2 == 1 {
+        &line[..end + 1]
+    } else {
+        &line[..end]
+    }
+}
+
+/// How often this byte stands at the end of the text, one after the other.
+fn run_at_end(text: &[u8], byte: u8) -> usize
+    ensures within { result ≤ length text.now }
+    ensures run { result ≡ suffix_len (λ b. b == byte) text.now }
+{
+    text.iter().rev().take_while(|b| **b == byte).count()
 }
 
 fn has_prefix(text: &str, start: &str) -> bool

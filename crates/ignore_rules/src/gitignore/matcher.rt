@@ -31,7 +31,7 @@ impl Model for Gitignore {
 }
 
 impl Gitignore {
-    /// The matcher of no rules: it answers no match for every path, and its path is empty.
+    /// The matcher of no rules: each path has no match, and its root is empty.
     pub fn empty(alloc: Global) -> Gitignore
         ensures { result ≡ empty }
     {
@@ -61,7 +61,7 @@ impl Gitignore {
         self.globs.is_empty()
     }
 
-    /// For the crates above: the rules, in the order in which they were added.
+    /// For dependents: the rules, in the order in which they were added.
     pub fn rules(&self) -> &[Glob]
         ensures { result.now ≡ self.now.rules }
     {
@@ -76,7 +76,7 @@ impl Gitignore {
         self.globs.len()
     }
 
-    /// How many rules ignore what they take.
+    /// How many rules ignore what they match.
     pub fn num_ignores(&self) -> u64
         ensures { result ≡ ignore_count self.now.rules }
     {
@@ -86,16 +86,20 @@ impl Gitignore {
             .count() as u64
     }
 
-    /// How many rules whitelist what they take.
+    /// How many rules whitelist what they match.
     pub fn num_whitelists(&self) -> u64
         ensures { result ≡ whitelist_count self.now.rules }
     {
         self.globs.iter().filter(|glob| glob.is_whitelist()).count() as u64
     }
 
-    /// What the rules say of a path, with the rule that decided: the last one that takes the path and speaks of its kind, as in gitignore(5), where a later line overrides an earlier one.
+    /// The answer of the rules for a path, with the rule that decided: the last one that matches
+    /// the path and applies to its kind, as in gitignore(5), where a later line overrides an
+    /// earlier one.
     ///
-    /// One leading `./` of the path and the root are taken off first. `is_dir` says whether the path is a directory. A path below an ignored directory has a match of its own or none: its directories aren't asked.
+    /// One leading `./` of the path and the root are stripped first. `is_dir` says whether the path
+    /// is a directory. A path below an ignored directory has a match of its own or none: its
+    /// parents aren't matched.
     ///
     /// # Errors
     /// `Error::Memory` alone.

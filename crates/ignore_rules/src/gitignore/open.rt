@@ -16,9 +16,13 @@ use memchr::memrchr;
 use std::alloc::Global;
 
 impl Gitignore {
-    /// The matcher of one file of rules, relative to the directory of the file, and what is wrong with the file, as `GitignoreBuilder::add` tells it. The directory is what stands before the last `/` of the path: the empty text without a `/`, and `/` for a path directly below it. One leading `./` of it goes.
+    /// The matcher of one file of rules, relative to the directory of the file, and the errors of
+    /// the file, as `GitignoreBuilder::add` reports them. The directory is what precedes the last
+    /// `/` of the path: the empty text without a `/`, and `/` for a path directly below it. One
+    /// leading `./` of it is stripped.
     ///
-    /// A fault of the file system isn't told: a file that can't be read gives the rules of the lines before the fault, or none.
+    /// A fault of the file system isn't reported: a file that can't be read gives the rules of the
+    /// lines before the fault, or none.
     ///
     /// # Errors
     /// `Error::Memory` alone.
@@ -37,7 +41,7 @@ impl Gitignore {
 }
 
 impl GitignoreBuilder {
-    /// The matcher of this builder's rules and then those of a file, and what is wrong with that.
+    /// The matcher of this builder's rules and then those of a file, and the errors of the file.
     pub(crate) fn build_file<F: Files>(
         mut self,
         files: &F,
@@ -52,7 +56,7 @@ impl GitignoreBuilder {
     }
 }
 
-/// What stands before the last slash.
+/// What precedes the last slash.
 fn folder_of(path: &str) -> &str
     ensures { result.now ≡ folder_of path.now }
 {
@@ -63,7 +67,7 @@ fn folder_of(path: &str) -> &str
     }
 }
 
-/// The error, unless it comes down to a fault.
+/// The error, unless it is a fault.
 pub(crate) fn without_fault(error: Option<Error>) -> Option<Error>
     ensures { option_map problem_of result ≡ without_fault (option_map problem_of error) }
 {

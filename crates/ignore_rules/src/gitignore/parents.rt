@@ -1,4 +1,4 @@
-//! Paths asked about together with their parents.
+//! Matching a path together with its parents.
 ghost use Rattle.std.specs.Prelude.{◌≡◌, ◌≢◌, ◌==◌, ◌<◌, ◌≤◌, ◌+◌, ℕ, IsTrue, false, IfOk, IfErr, length, slice_index};
 ghost use Rattle.ignore_glob.specs.Match.{match_map};
 ghost use Rattle.ignore_glob.specs.Problem.{problem_of, memory};
@@ -11,16 +11,20 @@ use ignore_glob::text::strip;
 use ignore_glob::{Error, Match};
 
 impl Gitignore {
-    /// Whether a path can be asked about together with its parents: there are no rules, or what is left of the path without the root doesn't begin with `/`.
+    /// Whether a path can be matched together with its parents: there are no rules, or the path
+    /// without the root doesn't begin with `/`.
     pub fn is_under_root(&self, path: &str) -> bool
         ensures { result ≡ is_under_root self.now path.now }
     {
         self.is_empty() || !strip(self.path(), path).starts_with('/')
     }
 
-    /// What the rules say of a path, or else of the nearest of its parents of which they say something.
+    /// The answer of the rules for a path, or else for the nearest of its parents that has a match.
     ///
-    /// One leading `./` of the path and the root are taken off first. The parents of what is left are asked as directories: it is cut before its last `/`, and so on, down to the empty path, which has no parent. `is_under_root` tests whether a path can be asked about; the original panics for one that can't.
+    /// One leading `./` of the path and the root are stripped first. The parents of the rest are
+    /// matched as directories: what precedes its last `/`, and so on, down to the empty path, which
+    /// has no parent. `is_under_root` tests whether a path can be matched so; the original panics
+    /// for one that can't.
     ///
     /// # Errors
     /// `Error::Memory` alone.
@@ -71,7 +75,7 @@ fn nearest_parent_answer<'g>(globs: &'g [Glob], text: &[char]) -> Match<&'g Glob
     Match::None
 }
 
-/// Where the last slash stands, or 0.
+/// The index of the last slash, or 0.
 fn parent_len(path: &[char]) -> usize
     ensures shorter { 0 < length path.now → result < length path.now }
     ensures cut { 0 < result → slice_index path.now result ≡ 47 }

@@ -48,8 +48,7 @@ impl TypesBuilder {
         }
     }
 
-    /// Adds a glob to the type of this name, behind those that it has. A name
-    /// that isn't there yet becomes a type.
+    /// Appends a glob to the type of this name. A new name becomes a type.
     ///
     /// # Errors
     /// `InvalidDefinition` for the name `all`, and for a name with a character
@@ -69,16 +68,16 @@ impl TypesBuilder {
         }
     }
 
-    /// Adds what a text defines.
+    /// Adds the definition in a text.
     ///
     /// `name:glob` is as `add` of the two. `name:include:one,two` appends the
-    /// globs of each of the types behind `include` to the type of the name, in
-    /// turn: a type that stands there twice is appended twice, and the type
-    /// itself with what it has by then.
+    /// globs of each of the types after `include` to the type of the name, in
+    /// turn: a type that is listed twice is appended twice, and the type itself
+    /// with what it has by then.
     ///
     /// # Errors
-    /// `InvalidDefinition` for a text of another form or with an empty part,
-    /// for a name that `add` refuses, and where a type of the list isn't there;
+    /// `InvalidDefinition` for a text of another form or with an empty field,
+    /// for a name that `add` rejects, and where a type of the list is unknown;
     /// `Memory`. After an error the builder is as before.
     pub fn add_def(&mut self, definition: &str) -> Result<(), Error>
         ensures added { OnOk result (Becomes self.old (after_request (request_of definition.now) self.old.definitions) self.new) }
@@ -148,9 +147,9 @@ impl TypesBuilder {
     /// further.
     ///
     /// # Errors
-    /// For the first choice that is refused, in the order of choosing:
+    /// For the first choice that is rejected, in the order of choosing:
     /// `UnrecognizedFileType` with its name where no type has it, or `Glob` for
-    /// the first of the type's globs that has a fault; `Memory`.
+    /// the first invalid glob of its type; `Memory`.
     pub fn build(&self) -> Result<Types, Error>
         ensures built { IfOk result (IsBuilt self.now) }
         ensures refused { IfErr result (λ e. (problem_of e ≡ memory) ⊎ IsRefusedWith self.now (problem_of e)) }
@@ -186,8 +185,8 @@ impl TypesBuilder {
         }
     }
 
-    /// Drops the type of this name, if it is there. Choices that name it stay,
-    /// and are refused by `build` unless the type is added again.
+    /// Drops the type of this name, if there is one. Choices that name it stay,
+    /// and `build` rejects them unless the type is added again.
     pub fn clear(&mut self, name: &str) -> &mut Self
         ensures same_reference { result.ghost_name ≡ self.entry.ghost_name }
         ensures value { result.now ≡ record { definitions = without name.now self.old.definitions; choices = self.old.choices } }
@@ -196,8 +195,8 @@ impl TypesBuilder {
         self
     }
 
-    /// Selects the type of this name, behind the choices made so far. `all`
-    /// stands for each type that is there at this call, in text order.
+    /// Selects the type of this name, after the choices made so far. `all`
+    /// stands for each type that exists at this call, in text order.
     ///
     /// # Errors
     /// `Memory` alone. After it the builder is as before, which
@@ -213,8 +212,8 @@ impl TypesBuilder {
         }
     }
 
-    /// Negates the type of this name, behind the choices made so far. `all`
-    /// stands for each type that is there at this call, in text order.
+    /// Negates the type of this name, after the choices made so far. `all`
+    /// stands for each type that exists at this call, in text order.
     ///
     /// # Errors
     /// `Memory` alone. After it the builder is as before, which
@@ -230,8 +229,8 @@ impl TypesBuilder {
         }
     }
 
-    /// For the crates above: as `select`, or as `negate`, without the builder
-    /// in the answer.
+    /// For dependents: as `select`, or as `negate`, without the builder in the
+    /// result.
     pub fn push_selection(&mut self, name: &str, negated: bool) -> Result<(), Error>
         ensures chosen { OnOk result (self.new ≡ with_chosen negated name.now self.old) }
         ensures out_of_memory { IfErr result (λ e. problem_of e ≡ memory) }
@@ -272,8 +271,7 @@ impl TypesBuilder {
         }
     }
 
-    /// For the crates above: as `add_defaults`, without the builder in the
-    /// answer.
+    /// For dependents: as `add_defaults`, without the builder in the result.
     pub fn push_defaults(&mut self) -> Result<(), Error>
         ensures added { OnOk result (self.new ≡ record { definitions = with_rows (map (λ r. (map (λ n. n.now) r.0.now, map (λ g. g.now) r.1.now)) DEFAULT_TYPES) self.old.definitions; choices = self.old.choices }) }
         ensures out_of_memory { IfErr result (λ e. problem_of e ≡ memory) }

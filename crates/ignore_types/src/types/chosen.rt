@@ -12,8 +12,8 @@ use ignore_glob::glob::{GlobFault, Options, Pattern, PatternError};
 use std::alloc::{AllocError, Global};
 use std::marker::Model;
 
-/// A chosen type of a matcher: its definition, its globs as they were read, and
-/// whether it was negated.
+/// A chosen type of a matcher: its definition, its parsed globs, and whether it
+/// was negated.
 #[derive(Debug, Drop)]
 pub(super) struct ChosenType {
     definition: FileTypeDef,
@@ -54,7 +54,7 @@ impl ChosenType {
         self.negated
     }
 
-    /// Whether some glob of the type takes the name.
+    /// Whether some glob of the type matches the name.
     pub(super) fn matches(&self, name: &[char]) -> bool
         ensures { IsTrue result ↔ SomeMatches name.now self.now.readings }
     {
@@ -89,7 +89,7 @@ fn some_matches(patterns: &[Pattern], name: &[char]) -> bool
     false
 }
 
-/// The choice of the last glob that takes the name.
+/// The choice of the last glob that matches the name.
 pub(super) fn deciding<'a>(choices: &'a [ChosenType], name: &[char]) -> Option<&'a ChosenType>
     ensures { MatchOption result (NoneMatches name.now choices.now) (λ c. IsDeciding name.now choices.now c.now) }
 {
@@ -110,8 +110,7 @@ pub(super) fn some_selected(choices: &[ChosenType]) -> bool
     choices.iter().any(|choice| !choice.is_negated())
 }
 
-/// The globs of a type as they are read, or the fault of the first that has
-/// one.
+/// The parsed globs of a type, or the error of the first invalid one.
 pub(super) fn read_globs(alloc: Global, globs: &[String]) -> Result<Vec<Pattern>, Error>
     ensures read { IfOk result (λ all. AllZip IsReadAs (map string_bytes globs.now) all.items) }
     ensures refused { IfErr result (λ e. (problem_of e ≡ memory) ⊎ FirstBad IsReadAs (IsGlobProblem (problem_of e)) (map string_bytes globs.now)) }
@@ -145,7 +144,7 @@ fn read_glob(alloc: Global, glob: &str) -> Result<Pattern, Error>
     }
 }
 
-/// The error of a glob with this fault, or `Error::Memory`.
+/// The error of an invalid glob, or `Error::Memory`.
 fn glob_error(alloc: Global, glob: &str, fault: GlobFault) -> Error
     ensures { (problem_of result ≡ memory) ⊎ (problem_of result ≡ glob_problem (Some glob.now) (glob_fault_text fault)) }
 {

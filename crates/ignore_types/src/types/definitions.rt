@@ -90,8 +90,8 @@ impl Definitions {
         self.add_each(name, source.globs())
     }
 
-    /// These types, with the globs of each of the sources in turn behind those
-    /// of the name.
+    /// These types, with the globs of each of the sources in turn appended to
+    /// those of the name.
     pub(super) fn with_types(&self, name: &str, sources: &[&str]) -> Result<Definitions, AllocError>
         ensures { IfOk result (λ ds. ds ≡ with_types name.now (map (λ s. s.now) sources.now) self.now) }
     {
@@ -120,7 +120,7 @@ impl Definitions {
         Ok(())
     }
 
-    /// These types with each row in turn: its globs for each of its names.
+    /// These types with the globs of each row, in turn, for each of its names.
     pub(super) fn with_rows(&self, rows: &[DefaultType]) -> Result<Definitions, AllocError>
         ensures { IfOk result (λ ds. ds ≡ with_rows (map (λ r. (map (λ n. n.now) r.0.now, map (λ g. g.now) r.1.now)) rows.now) self.now) }
     {

@@ -30,9 +30,9 @@ impl<'a> Model for Glob<'a> {
 }
 
 impl<'a> Glob<'a> {
-    /// The type whose glob took the file's name, with its globs in the order of
-    /// adding. None where no glob took it, and it is ignored since other types
-    /// were selected.
+    /// The type whose glob matched the file's name, with its globs in the order
+    /// of adding. None where no glob matched, and the file is ignored since
+    /// other types were selected.
     pub fn file_type_def(&self) -> Option<&FileTypeDef>
         ensures { option_copied result ≡ self.now }
     {
@@ -52,7 +52,7 @@ impl<'a> Clone for Glob<'a> {
     }
 }
 
-/// A matcher of file types: which of them there are, and which were chosen.
+/// A matcher of file types: all types, and those that were chosen.
 #[derive(Debug, Drop)]
 pub struct Types {
     definitions: Vec<FileTypeDef>,
@@ -104,7 +104,7 @@ impl Types {
         self.choices.len()
     }
 
-    /// The types that there are, sorted by name, each with its globs sorted.
+    /// All types, sorted by name, each with its globs sorted.
     pub fn definitions(&self) -> &[FileTypeDef]
         ensures { result.now ≡ self.now.definitions }
     {
@@ -113,9 +113,9 @@ impl Types {
 
     /// The answer for a path, by its file name alone.
     ///
-    /// The last glob that takes the name decides, in the order of choosing and
+    /// The last glob that matches the name decides, in the order of choosing and
     /// then of adding: the file is whitelisted if its type was selected, and
-    /// ignored if it was negated. A file that no glob takes, or that has no
+    /// ignored if it was negated. A file that no glob matches, or that has no
     /// file name, is ignored if some type was selected. Directories have no
     /// match.
     ///

@@ -5,7 +5,7 @@ use crate::types::definition::FileTypeDef;
 use std::alloc::{AllocError, Global};
 use std::marker::Model;
 
-/// A type that was named for choosing, and whether by negating.
+/// A choice: the name of a type, and whether it is negated.
 #[derive(Drop)]
 pub(super) struct Selection {
     name: String,

@@ -2,18 +2,15 @@
 
 use crate::again::build;
 use crate::answer::Answer;
-use crate::rules::{after_operations, match_value, reason_against, uses_git_spaces};
+use crate::rules::{after_operations, match_value, reason_against};
 use ignore_glob::Match;
 use ignore_rules::gitignore::{Gitignore, Glob};
 use serde_json::Value;
 use std::alloc::{AllocError, Global};
-use vectors::{Outcome, Reason, Trouble, flag, text};
+use vectors::{Outcome, Trouble, flag, text};
 
 /// Answers `under_root`, and `answer` where it holds.
 pub fn answer(alloc: Global, input: &Value) -> Result<Outcome, Trouble> {
-    if uses_git_spaces(input)? {
-        return Ok(Outcome::Skipped(Reason::GitTrailingSpaces));
-    }
     let path = text(input, "path")?;
     let is_dir = flag(input, "is_dir")?;
     let built = after_operations(alloc, input)?;

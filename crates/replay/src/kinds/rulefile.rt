@@ -11,7 +11,7 @@ use ignore_glob::Error;
 use ignore_rules::gitignore::GitignoreBuilder;
 use serde_json::Value;
 use std::alloc::Global;
-use vectors::{Outcome, Reason, Trouble, field, flag, item, text, text_at};
+use vectors::{Outcome, Trouble, field, flag, item, text, text_at};
 
 /// The directory of the file, and the root of the rules.
 const ROOT: &str = "/r";
@@ -24,24 +24,27 @@ const CUT: &str = "cut";
 
 /// Answers `rules`, and the `error` of `add` with what it says of itself.
 pub fn answer(alloc: Global, input: &Value) -> Result<Outcome, Trouble> {
-    if flag(input, "gts")? {
-        return Ok(Outcome::Skipped(Reason::GitTrailingSpaces));
-    }
     let path = text(input, "path")?;
-    let ci = flag(input, "ci")?;
     let tree = tree_of(alloc, path, input)?;
-    asked(alloc, &tree, path, ci)
+    let mut builder = builder_of_options(alloc, input)?;
+    asked(alloc, &tree, path, &mut builder)
 }
 
-fn asked(alloc: Global, tree: &MemoryTree, path: &str, ci: bool) -> Result<Outcome, Trouble> {
-    let mut builder = builder_of_case(alloc, ci)?;
-    let error = added(&mut builder, tree, path)?;
-    reported(alloc, &builder, &error)
+fn asked(
+    alloc: Global,
+    tree: &MemoryTree,
+    path: &str,
+    builder: &mut GitignoreBuilder,
+) -> Result<Outcome, Trouble> {
+    let error = added(builder, tree, path)?;
+    reported(alloc, builder, &error)
 }
 
-fn builder_of_case(alloc: Global, ci: bool) -> Result<GitignoreBuilder, Trouble> {
+/// A builder with the options of a vector.
+fn builder_of_options(alloc: Global, input: &Value) -> Result<GitignoreBuilder, Trouble> {
     let mut builder = builder(alloc, ROOT)?;
-    set_case(&mut builder, ci)?;
+    set_case(&mut builder, flag(input, "ci")?)?;
+    builder.git_trailing_spaces(flag(input, "gts")?);
     Ok(builder)
 }
 

@@ -2,17 +2,14 @@
 
 use crate::again::{build, matched};
 use crate::answer::{Answer, Items};
-use crate::rules::{after_operations, match_value, reason_against, rules_value, uses_git_spaces};
+use crate::rules::{after_operations, match_value, reason_against, rules_value};
 use ignore_rules::gitignore::Gitignore;
 use serde_json::Value;
 use std::alloc::Global;
-use vectors::{Outcome, Reason, Trouble, flag, text};
+use vectors::{Outcome, Trouble, flag, text};
 
 /// Answers `answer`, `rules`, `refused`, `path` and the counts.
 pub fn answer(alloc: Global, input: &Value) -> Result<Outcome, Trouble> {
-    if uses_git_spaces(input)? {
-        return Ok(Outcome::Skipped(Reason::GitTrailingSpaces));
-    }
     let path = text(input, "path")?;
     let is_dir = flag(input, "is_dir")?;
     let built = after_operations(alloc, input)?;

@@ -1,4 +1,5 @@
--- An honest value's contents are the tree's, and the value of their bytes is the one that counts.
+-- The contents of a value that is consistent with a tree are the tree's, and the value of their
+-- bytes is the one that counts.
 use Rattle.std.proofs.Common.{None, Some, Ok, sym, ◌∙◌}
 use Rattle.ignore_excludes.proofs.ExcludesPlaces.{ContentsGive-whole}
 use Rattle.ignore_excludes.proofs.config.path_from.Goals as goal

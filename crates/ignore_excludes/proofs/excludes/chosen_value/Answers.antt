@@ -1,4 +1,5 @@
--- Each turn looks at the first key of the text that is left, and drops the line of a key that has no value.
+-- Each turn looks at the first key of the text that is left, and drops the line of a key that has
+-- no value.
 use Rattle.std.proofs.Common.{◌≡◌, ℕ, Bool, List, ◌∷◌, ◌++◌, Option, None, Some, ◌+◌, take, drop, subst, sym, ◌∙◌, ap, arith}
 use Rattle.std.proofs.lemmas.List.{drop-drop}
 use Rattle.ignore_excludes.specs.Excludes.{trimmed_start, SetsKey, IsPreferred, IsChosen}

@@ -6,7 +6,7 @@ use Rattle.ignore_excludes.specs.Excludes.{HasValue, IsShortest}
 use Rattle.ignore_excludes.proofs.ExcludesValues.{no_word, unquoted_word, whole_word, no_value}
 use Rattle.ignore_excludes.proofs.excludes.first_value.Goals as goal
 
--- a fact about the two parts is one about the text
+-- a fact about the prefix and the rest is one about the text
 abbrev whole : (text word after : List ℕ) (r : Option (List ℕ)) → text ≡ word ++ after → IsShortest (λ (v : List ℕ). HasValue v (word ++ after)) r → IsShortest (λ (v : List ℕ). HasValue v text) r
 whole text word after r e h = subst (λ (t : List ℕ). IsShortest (λ (v : List ℕ). HasValue v t) r) (sym e) h
 

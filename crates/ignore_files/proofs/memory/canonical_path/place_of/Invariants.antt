@@ -5,7 +5,7 @@ use Rattle.ignore_glob.specs.Paths.{components}
 use Rattle.ignore_files.specs.Memory.{below}
 use Rattle.ignore_files.proofs.memory.canonical_path.place_of.Given as goal
 
--- what is left of the path leads, from where its front led, to where the path leads
+-- what is left of the path leads, from where its prefix led, to where the path leads
 abbrev pub invariant-loop-component : goal.invariant-loop-component
 invariant-loop-component l = record {
   text : shadow (Utf8 l.rest);

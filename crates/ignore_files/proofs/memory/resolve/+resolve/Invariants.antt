@@ -11,7 +11,7 @@ decreases-step l = 2 * l.links
 abbrev pub decreases-walk : goal.decreases-walk
 decreases-walk l = 2 * l.links + 1
 
--- what is left of the text leads, from where the front of it led, to where the text leads
+-- what is left of the text leads, from where its prefix led, to where the text leads
 abbrev pub invariant-walk-loop-component : goal.invariant-walk-loop-component
 invariant-walk-loop-component l = record {
   text : shadow (Utf8 l.rest);

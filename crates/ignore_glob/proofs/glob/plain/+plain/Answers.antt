@@ -8,7 +8,7 @@ use Rattle.ignore_glob.specs.declared.glob.token.Token.{Token as CodeToken}
 use Rattle.ignore_glob.proofs.Views.{view-Alternates}
 use Rattle.ignore_glob.proofs.glob.plain.+plain.Goals as goal
 
--- where there is a branch, a branch takes what the braces take
+-- where there is a branch, a branch matches what the braces match
 some_branch_matches : (fold : Bool) (bs : List (Vec CodeToken Global)) (w : List ℕ) → 0 < length bs → token_matches fold (alternates (branches_view bs)) w → branch_matches fold (branches_view bs) w
 some_branch_matches fold [] w h t = absurd (omega arith)
 some_branch_matches fold (b ∷ bs) w h t = elim t [ inl e ↦ cc | inr p ↦ p ]
@@ -21,13 +21,13 @@ one_matches-returns-else-is_empty t c =
     let some : 0 < length c.deref.result.now = grind arith in
     rw e (λ h. inr (c.some_matches.ensures.0 h), λ h. c.some_matches.ensures.1 (some_branch_matches c.args.fold c.deref.result.now c.args.text.now some h))
 
--- a front of a name is a name
+-- a prefix of a name is a name
 front_of_name : (w : List ℕ) (k n : ℕ) → k ≤ n → All (λ d. d ≢ slash) (take n w) → All (λ d. d ≢ slash) (take k w)
 front_of_name w k n h all =
     let P : List ℕ → Type 0 = λ xs. All (λ d. d ≢ slash) xs in
     subst P (take-take k n w h) (All-take (λ d. d ≢ slash) k (take n w) all)
 
--- a text is its front and what is left behind it
+-- a text is its prefix and the rest after it
 cut : (w : List ℕ) (k : ℕ) → w ≡ take k w ++ take (length w - k) (drop k w)
 cut w k =
     let n : length (drop k w) ≤ length w - k = omega (arith, length-drop k w) in

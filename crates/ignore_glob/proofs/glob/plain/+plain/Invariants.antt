@@ -19,7 +19,7 @@ decreases-one_matches l = 2 * token_size (view l.token.now)
 abbrev pub decreases-some_matches : goal.decreases-some_matches
 decreases-some_matches l = 2 * branches_size (branches_view l.branches.now)
 
--- no split that was passed is a taken one
+-- no cut that was tried matches
 abbrev pub invariant-star_first-loop-k : goal.invariant-star_first-loop-k
 invariant-star_first-loop-k l = (a b : List ℕ) → l.text ≡ a ++ b → length a < l.k → All (λ c. c ≢ slash) a → tokens_match l.fold (tokens_view l.rest) b → ⊥
 

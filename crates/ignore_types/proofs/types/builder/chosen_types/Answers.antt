@@ -1,4 +1,4 @@
--- Each choice is built in its turn, up to the first that is refused.
+-- Each choice is built in its turn, up to the first that is rejected.
 use Rattle.std.proofs.Common.{◌≡◌, ◌+◌, ◌++◌, ◌∷◌, [], suc, take, drop, sym, subst, inl, inr}
 use Rattle.std.specs.List.{AllZip}
 use Rattle.ignore_types.specs.Building.{IsChosen}

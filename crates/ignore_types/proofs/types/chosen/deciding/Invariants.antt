@@ -1,4 +1,4 @@
--- No choice from the index on takes the name.
+-- No choice from the index on matches the name.
 use Rattle.std.proofs.Common.{◌≤◌, drop, length}
 use Rattle.ignore_types.specs.TypeMatch.{NoneMatches}
 use Rattle.ignore_types.proofs.types.chosen.deciding.Given as goal

@@ -1,4 +1,4 @@
--- The pattern that takes the name is one of them.
+-- The pattern that matches the name is one of them.
 use Rattle.std.proofs.Common.{refl, subst}
 use Rattle.ignore_glob.specs.Reading.{Matches}
 use Rattle.ignore_types.proofs.ChoiceLemmas.{SomeMatches-at}

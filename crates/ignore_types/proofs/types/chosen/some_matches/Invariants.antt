@@ -1,4 +1,4 @@
--- If some pattern takes the name, then one of those that are left does.
+-- If some pattern matches the name, then one of those that are left does.
 use Rattle.std.proofs.Common.{drop}
 use Rattle.ignore_types.specs.TypeMatch.{SomeMatches}
 use Rattle.ignore_types.proofs.types.chosen.some_matches.Given as goal

@@ -1,4 +1,4 @@
--- The parts of a text that is cut at an ASCII character.
+-- The fields of a text that is split at an ASCII character.
 use Rattle.std.proofs.lemmas.Iterator.Consumers.{map_from_collect}
 use Rattle.std.proofs.lemmas.Iterator.Splits.{YieldsList-from_str_split}
 use Rattle.ignore_types.proofs.types.fields.fields.Goals as goal
