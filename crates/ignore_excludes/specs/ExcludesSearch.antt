@@ -7,6 +7,9 @@ use Rattle.ignore_glob.specs.declared.fault.Fault.{Fault}
 use Rattle.ignore_files.specs.Tree.{Tree}
 use Rattle.ignore_files.specs.declared.env.Env.{Env}
 use Rattle.ignore_files.specs.declared.types.Contents.{Contents}
+use Rattle.ignore_files.specs.declared.types.Refusal.{Refusal}
+use Rattle.ignore_files.specs.declared.types.Refusal.TheVariants.{Memory}
+use Rattle.ignore_files.specs.declared.types.Refusal.TheVariants.{Fault as Refused}
 use Rattle.ignore_excludes.specs.Excludes.{IsValue}
 
 -- the value of a variable that is set and not empty
@@ -48,16 +51,30 @@ abbrev pub ContentsGive : Result Contents Fault → Option (List ℕ) → Type 0
 ContentsGive (Ok contents) found = ReadGives contents.bytes contents.fault found
 ContentsGive (Err fault) found = found ≡ None
 
--- the value that a configuration gives; none where its path is unknown
-abbrev pub Gives : Tree → Option (List ℕ) → Option (List ℕ) → Type 0
-Gives tree None found = found ≡ None
-Gives tree (Some path) found = ContentsGive (tree.contents path) found
+-- the value that the file at a path of a tree gives
+abbrev pub TreeGives : Tree → List ℕ → Option (List ℕ) → Type 0
+TreeGives tree path found = ContentsGive (tree.contents path) found
+
+-- the value that one answer gives; that memory ran out is none
+abbrev pub AnswerGives : Result Contents Refusal → Option (List ℕ) → Type 0
+AnswerGives (Ok contents) found = ContentsGive (Ok contents) found
+AnswerGives (Err (Refused fault)) found = ContentsGive (Err fault) found
+AnswerGives (Err Memory) found = ⊥
+
+-- the value that some answer of files for a path gives
+abbrev pub FilesGive : (List ℕ → Result Contents Refusal → Type 0) → List ℕ → Option (List ℕ) → Type 0
+FilesGive Answers path found = (answer : Result Contents Refusal) × Answers path answer × AnswerGives answer found
+
+-- the value that the configuration at a path gives; none where its path is unknown
+abbrev pub Gives : (List ℕ → Option (List ℕ) → Type 0) → Option (List ℕ) → Option (List ℕ) → Type 0
+Gives Says None found = found ≡ None
+Gives Says (Some path) found = Says path found
 
 -- the value of the first configuration that gives one
-abbrev pub IsFirstValue : Tree → List (Option (List ℕ)) → Option (List ℕ) → Type 0
-IsFirstValue tree [] found = found ≡ None
-IsFirstValue tree (place ∷ places) None = Gives tree place None × IsFirstValue tree places None
-IsFirstValue tree (place ∷ places) (Some value) = Gives tree place (Some value) ⊎ (Gives tree place None × IsFirstValue tree places (Some value))
+abbrev pub IsFirstValue : (List ℕ → Option (List ℕ) → Type 0) → List (Option (List ℕ)) → Option (List ℕ) → Type 0
+IsFirstValue Says [] found = found ≡ None
+IsFirstValue Says (place ∷ places) None = Gives Says place None × IsFirstValue Says places None
+IsFirstValue Says (place ∷ places) (Some value) = Gives Says place (Some value) ⊎ (Gives Says place None × IsFirstValue Says places (Some value))
 
 -- the value with the home directory, where it is known, in place of each `~`
 abbrev pub expanded : Option (List ℕ) → List ℕ → List ℕ
@@ -70,16 +87,20 @@ abbrev pub path_of : Env → Option (List ℕ) → Option (List ℕ)
 path_of env None = below (xdg_folder env) (codes "git/ignore")
 path_of env (Some value) = Some (expanded env.home value)
 
+-- the excludes file of an environment, or none, where the file at a path gives such a value
+abbrev pub LeadsTo : (List ℕ → Option (List ℕ) → Type 0) → Env → Option (List ℕ) → Type 0
+LeadsTo Says env found = (value : Option (List ℕ)) × IsFirstValue Says (configurations env) value × (found ≡ path_of env value)
+
 -- the path of the excludes file for a tree and an environment, or none
 abbrev pub IsExcludesPath : Tree → Env → Option (List ℕ) → Type 0
-IsExcludesPath tree env found = (value : Option (List ℕ)) × IsFirstValue tree (configurations env) value × (found ≡ path_of env value)
+IsExcludesPath tree env found = LeadsTo (TreeGives tree) env found
 
 -- the path that a configuration's value names, if it gives a value
-abbrev pub GivesPath : Tree → Option (List ℕ) → Option (List ℕ) → Option (List ℕ) → Type 0
-GivesPath tree home place None = Gives tree place None
-GivesPath tree home place (Some path) = (value : List ℕ) × Gives tree place (Some value) × (path ≡ expanded home value)
+abbrev pub GivesPath : (List ℕ → Option (List ℕ) → Type 0) → Option (List ℕ) → Option (List ℕ) → Option (List ℕ) → Type 0
+GivesPath Says home place None = Gives Says place None
+GivesPath Says home place (Some path) = (value : List ℕ) × Gives Says place (Some value) × (path ≡ expanded home value)
 
 -- the same for the first of several configurations that gives a value
-abbrev pub IsFirstPath : Tree → Option (List ℕ) → List (Option (List ℕ)) → Option (List ℕ) → Type 0
-IsFirstPath tree home places None = IsFirstValue tree places None
-IsFirstPath tree home places (Some path) = (value : List ℕ) × IsFirstValue tree places (Some value) × (path ≡ expanded home value)
+abbrev pub IsFirstPath : (List ℕ → Option (List ℕ) → Type 0) → Option (List ℕ) → List (Option (List ℕ)) → Option (List ℕ) → Type 0
+IsFirstPath Says home places None = IsFirstValue Says places None
+IsFirstPath Says home places (Some path) = (value : List ℕ) × IsFirstValue Says places (Some value) × (path ≡ expanded home value)

@@ -4,7 +4,7 @@ ghost use Rattle.std.specs.Option.{option_copied};
 ghost use Rattle.ignore_glob.specs.Problem.{problem_of, memory};
 ghost use Rattle.ignore_files.specs.Tree.{Tree};
 ghost use Rattle.ignore_files.specs.Gives.{IsHonest};
-ghost use Rattle.ignore_excludes.specs.ExcludesSearch.{filled, below, or_else, xdg_folder, expanded, GivesPath, IsFirstPath, IsExcludesPath};
+ghost use Rattle.ignore_excludes.specs.ExcludesSearch.{filled, below, or_else, xdg_folder, expanded, FilesGive, GivesPath, IsFirstPath, LeadsTo, IsExcludesPath};
 
 use crate::excludes::excludes_value;
 use ignore_files::{Env, Files, Name, Refusal};
@@ -108,7 +108,7 @@ fn path_from<F: Files>(
     home: Option<&str>,
     path: &str,
 ) -> Result<Option<String>, Error>
-    ensures gives { (tree : Tree) → IsHonest F.Files files.now tree → IfOk result (λ found. GivesPath tree (option_copied home.entry) (Some path.now) (option_map string_bytes found)) }
+    ensures gives { IfOk result (λ found. GivesPath (FilesGive (F.contents_gives files.now)) (option_copied home.entry) (Some path.now) (option_map string_bytes found)) }
     ensures out_of_memory { IfErr result (λ error. problem_of error ≡ memory) }
 {
     match files.contents(alloc, path) {
@@ -133,7 +133,7 @@ fn first_path<F: Files>(
     home: Option<&str>,
     places: &[Option<&str>],
 ) -> Result<Option<String>, Error>
-    ensures first { (tree : Tree) → IsHonest F.Files files.now tree → IfOk result (λ found. IsFirstPath tree (option_copied home.entry) (map option_copied places.now) (option_map string_bytes found)) }
+    ensures first { IfOk result (λ found. IsFirstPath (FilesGive (F.contents_gives files.now)) (option_copied home.entry) (map option_copied places.now) (option_map string_bytes found)) }
     ensures out_of_memory { IfErr result (λ error. problem_of error ≡ memory) }
 {
     for place in places {
@@ -170,6 +170,7 @@ pub fn gitconfig_excludes_path<F: Files>(
 ) -> Result<Option<String>, Error>
     ensures found { (tree : Tree) → IsHonest F.Files files.now tree → IfOk result (λ found. IsExcludesPath tree env.now (option_map string_bytes found)) }
     ensures only { (tree : Tree) → IsHonest F.Files files.now tree → IfOk result (λ found. (other : Option (List ℕ)) → IsExcludesPath tree env.now other → option_map string_bytes found ≡ other) }
+    ensures answered { IfOk result (λ found. LeadsTo (FilesGive (F.contents_gives files.now)) env.now (option_map string_bytes found)) }
     ensures out_of_memory { IfErr result (λ error. problem_of error ≡ memory) }
 {
     let home = known(&env.home);

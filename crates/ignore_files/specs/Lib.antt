@@ -11,3 +11,4 @@ pub mod Reported
 pub mod Machine
 pub mod Disk
 pub mod Table
+pub mod Variables

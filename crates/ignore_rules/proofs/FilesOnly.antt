@@ -30,7 +30,7 @@ AddsLines-one path number decoded old a b ps qs (refused n line more o new p rep
     let same = AddsLines-one path (n + 1) more o new end reported others v w in
     (same.0, ap (λ (x : Problem). at_line_of path n x ∷ reported) one ∙ ap (λ (xs : List Problem). at_line_of path n q ∷ xs) same.1)
 
-AddsContents-one : (path : List ℕ) (found : Result Contents Fault) (old a b : Building) (p q : Option Problem) → AddsContents path found old a p → AddsContents path found old b q → (a ≡ b) × (p ≡ q)
+pub AddsContents-one : (path : List ℕ) (found : Result Contents Fault) (old a b : Building) (p q : Option Problem) → AddsContents path found old a p → AddsContents path found old b q → (a ≡ b) × (p ≡ q)
 AddsContents-one path (Ok contents) old a b p q h k =
     let same = AddsLines-one path 1 (lines_read contents.bytes contents.fault) old a b h.0 k.0 h.1 k.1 in
     (same.0, h.2 ∙ (ap (λ (ps : List Problem). joined ps) same.1 ∙ sym k.2))

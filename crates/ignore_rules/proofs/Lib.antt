@@ -10,4 +10,5 @@ pub mod TextLemmas
 pub mod TrailingLemmas
 mod WorkedLines
 pub mod LinesOnly
-mod FilesOnly
+pub mod FilesOnly
+pub mod FileResult

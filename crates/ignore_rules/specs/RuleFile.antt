@@ -1,6 +1,6 @@
 -- Adding a file of rules to a builder: its bytes are split into lines, and each line is added in
 -- turn.
-use Rattle.std.specs.Prelude.{◌≡◌, ℕ, ◌+◌, ◌==◌, Bool, true, false, nat_eq, List, [], ◌∷◌, ◌++◌, map, Option, None, Some, Result, Ok, Err, if◌then◌else◌}
+use Rattle.std.specs.Prelude.{◌≡◌, ◌↔◌, ℕ, ◌+◌, ◌==◌, Bool, true, false, nat_eq, List, [], ◌∷◌, ◌++◌, map, Option, None, Some, Result, Ok, Err, if◌then◌else◌}
 use Rattle.std.specs.List.{slice_split, starts_with}
 use Rattle.std.specs.Str.{is_utf8}
 use Rattle.std.specs.Str.Lines.{lines, strip_carriage_return}
@@ -12,7 +12,7 @@ use Rattle.ignore_files.specs.declared.types.Refusal.{Refusal}
 use Rattle.ignore_files.specs.declared.types.Refusal.TheVariants.{Memory}
 use Rattle.ignore_files.specs.declared.types.Refusal.TheVariants.{Fault as Refused}
 use Rattle.ignore_files.specs.Tree.{Tree}
-use Rattle.ignore_rules.specs.Rules.{Building, AddsLine, Refuses}
+use Rattle.ignore_rules.specs.Rules.{Building, LineOptions, Rule, AddsLine, Refuses}
 
 -- U+FEFF in UTF-8
 abbrev pub mark : List ℕ
@@ -83,6 +83,22 @@ abbrev pub AddsAnswer : List ℕ → Result Contents Refusal → Building → Bu
 AddsAnswer path (Ok contents) old new problem = AddsContents path (Ok contents) old new problem
 AddsAnswer path (Err (Refused fault)) old new problem = AddsContents path (Err fault) old new problem
 AddsAnswer path (Err Memory) old new problem = ⊥
+
+-- the builder with these rules after its own
+abbrev pub with_rules : Building → List Rule → Building
+with_rules b rules = record { root = b.root; rules = b.rules ++ rules; options = b.options }
+
+-- what was read at a path gives these rules and this problem: to add it to any builder with these
+-- options appends them and reports it, and does nothing else
+abbrev pub Gives : List ℕ → Result Contents Fault → LineOptions → List Rule → Option Problem → Type 0
+Gives path read options rules problem =
+    (old new : Building) (reported : Option Problem) → old.options ≡ options
+    → AddsContents path read old new reported ↔ ((new ≡ with_rules old rules) × (reported ≡ problem))
+
+-- whatever was read, and by whatever options, it gives one list of rules and one problem, if any
+abbrev pub GivesOneResult : Type 0
+GivesOneResult =
+    (path : List ℕ) (read : Result Contents Fault) (options : LineOptions) → (rules : List Rule) × (problem : Option Problem) × Gives path read options rules problem
 
 -- the problem is out of memory
 abbrev pub is_memory : Problem → Bool

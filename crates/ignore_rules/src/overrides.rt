@@ -107,15 +107,11 @@ impl Override {
         ensures answered { IfOk result (λ m. m ≡ override_answer self.now path.now is_dir) }
         ensures out_of_memory { IfErr result (λ e. problem_of e ≡ memory) }
     {
-        match self.globs.matched(path, is_dir) {
-            Ok(Match::Ignore(rule)) => Ok(Match::Whitelist(Glob { rule: Some(rule) })),
-            Ok(Match::Whitelist(rule)) => Ok(Match::Ignore(Glob { rule: Some(rule) })),
-            Ok(Match::None) if !is_dir && has_whitelist(&self.globs) => {
-                Ok(Match::Ignore(Glob { rule: None }))
-            }
-            Ok(Match::None) => Ok(Match::None),
-            Err(error) => Err(error),
+        let matched = self.globs.matched(path, is_dir)?;
+        if matched.is_none() && !is_dir && has_whitelist(&self.globs) {
+            return Ok(Match::Ignore(Glob { rule: None }));
         }
+        Ok(matched.invert().map(|rule| Glob { rule: Some(rule) }))
     }
 }
 
@@ -152,33 +148,28 @@ impl OverrideBuilder {
         ensures value { IfOk result (λ b. b ≡ with_unclosed_class (begun root.now) false) }
         ensures out_of_memory { IfErr result (λ e. problem_of e ≡ memory) }
     {
-        match GitignoreBuilder::new(alloc, root) {
-            Ok(mut globs) => {
-                globs.allow_unclosed_class(false);
-                Ok(OverrideBuilder { globs })
-            }
-            Err(error) => Err(error),
-        }
+        let mut globs = GitignoreBuilder::new(alloc, root)?;
+        globs.allow_unclosed_class(false);
+        Ok(OverrideBuilder { globs })
     }
 
     /// Adds a glob, parsed as a line of a gitignore file: with a leading `!` it ignores what it
     /// matches.
     ///
     /// # Errors
-    /// `Error::Glob` with the glob and its parse error, or `Error::Memory`. After an error the
-    /// builder is as before, which `push` states.
+    /// `Error::Glob` with the glob and its parse error, or `Error::Memory`. What holds of the
+    /// builder after an error is proved of `push`, which does the work, and not of this call: a
+    /// caller that needs it as it was uses that one.
     pub fn add(&mut self, glob: &str) -> Result<&mut Self, Error>
         ensures same_reference { IfOk result (λ b. b.ghost_name ≡ self.entry.ghost_name) }
         ensures added { IfOk result (λ b. AddsLine self.old None glob.now b.now) }
         ensures refused { IfErr result (λ e. (problem_of e ≡ memory) ⊎ Refuses self.old.options glob.now (problem_of e)) }
     {
-        match self.push(glob) {
-            Ok(()) => Ok(self),
-            Err(error) => Err(error),
-        }
+        self.push(glob)?;
+        Ok(self)
     }
 
-    /// For dependents: as `add`, without the builder in the result.
+    /// As `add`, without the builder in what is returned. After an error the builder is as before.
     pub fn push(&mut self, glob: &str) -> Result<(), Error>
         ensures added { OnOk result (AddsLine self.old None glob.now self.new) }
         ensures refused { IfErr result (λ e. (problem_of e ≡ memory) ⊎ Refuses self.old.options glob.now (problem_of e)) }
@@ -195,10 +186,8 @@ impl OverrideBuilder {
         ensures value { IfOk result (λ o. o ≡ built self.now) }
         ensures out_of_memory { IfErr result (λ e. problem_of e ≡ memory) }
     {
-        match self.globs.build() {
-            Ok(globs) => Ok(Override { globs }),
-            Err(error) => Err(error),
-        }
+        let globs = self.globs.build()?;
+        Ok(Override { globs })
     }
 
     /// Whether later globs match both ASCII cases of a letter. It is off at first, and always `Ok`.
@@ -207,10 +196,8 @@ impl OverrideBuilder {
         ensures same_reference { IfOk result (λ b. b.ghost_name ≡ self.entry.ghost_name) }
         ensures value { IfOk result (λ b. b.now ≡ with_case_insensitive self.old yes) }
     {
-        match self.globs.case_insensitive(yes) {
-            Ok(_) => Ok(self),
-            Err(error) => Err(error),
-        }
+        self.globs.case_insensitive(yes)?;
+        Ok(self)
     }
 
     /// Whether in later globs a `[` that nothing closes stands for itself. It is off at first.

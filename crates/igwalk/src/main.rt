@@ -33,7 +33,7 @@ fn main(rt: HostRuntime) -> ExitCode {
             &mut rt.stdout(),
             &mut rt.stderr(),
         ),
-        Err(_) => report_stop(&mut rt.stderr(), Stop::Memory).unwrap_or(2),
+        Err(_) => report_stop(&mut rt.stderr(), Stop::Memory),
     };
-    ExitCode::from(status)
+    ExitCode::from(status.unwrap_or(2))
 }

@@ -136,13 +136,13 @@ pub fn report_stop<E: Write>(err: &mut E, stop: Stop) -> Result<u8, Stop>
     ensures reports { IfOk result (λ status. (status ≡ 2) × (stop ≢ Stop.Silence) × Appends (E.contents err.old) (E.contents err.new) (reason stop)) }
     ensures unreported { IfErr result (λ why. why ≡ stop) }
 {
-    let problem_of = match stop {
+    let reported = match stop {
         Stop::Usage => writeln!(err, "{USAGE}"),
         Stop::Memory => writeln!(err, "igwalk: out of memory"),
         Stop::Write => writeln!(err, "igwalk: cannot write"),
         Stop::Silence => return Err(stop),
     };
-    match problem_of {
+    match reported {
         Ok(()) => Ok(2),
         Err(_) => Err(stop),
     }
@@ -154,25 +154,12 @@ pub fn report_stop<E: Write>(err: &mut E, stop: Stop) -> Result<u8, Stop>
 /// `err`, and the other lines count.
 ///
 /// It returns the status: 0; 1 where a line was rejected; 2 for wrong arguments, out of memory and
-/// a failed write. Status 2 is reported on `err`, unless writing to `err` failed, which
-/// `run_or_stop` states. Wrong arguments are found before anything is written to `out`.
-pub fn run<W: Write, E: Write>(alloc: Global, words: &[String], out: &mut W, err: &mut E) -> u8
-    ensures wrong { question_of (map string_bytes words.now) ≡ None → (result ≡ 2) × Appends (W.contents out.old) (W.contents out.new) [] }
-    ensures prints { (question : Question) → question_of (map string_bytes words.now) ≡ Some question → result ≢ 2
-        → Prints question result (Appends (W.contents out.old) (W.contents out.new)) (Appends (E.contents err.old) (E.contents err.new)) }
-    ensures status { result ≤ 2 }
-{
-    match run_or_stop(alloc, words, out, err) {
-        Ok(status) => status,
-        Err(_) => 2,
-    }
-}
-
-/// As `run`, with each early end reported, or else an error.
+/// an answer that can't be written, each reported on `err`. Wrong arguments are found before
+/// anything is written to `out`.
 ///
 /// # Errors
-/// Why the run ended, where that can't be written to `err`.
-pub fn run_or_stop<W: Write, E: Write>(
+/// Why the run ended, where that can't be written to `err`. The status is then 2 too.
+pub fn run<W: Write, E: Write>(
     alloc: Global,
     words: &[String],
     out: &mut W,
@@ -181,11 +168,12 @@ pub fn run_or_stop<W: Write, E: Write>(
     ensures wrong { question_of (map string_bytes words.now) ≡ None → Appends (W.contents out.old) (W.contents out.new) [] }
     ensures usage { question_of (map string_bytes words.now) ≡ None
         → IfOk result (λ status. (status ≡ 2) × Appends (E.contents err.old) (E.contents err.new) (reason Stop.Usage)) }
+    ensures usage_unreported { question_of (map string_bytes words.now) ≡ None → IfErr result (λ stop. stop ≡ Stop.Usage) }
     ensures prints { (question : Question) → question_of (map string_bytes words.now) ≡ Some question
         → IfOk result (λ status. Prints question status (Appends (W.contents out.old) (W.contents out.new)) (Appends (E.contents err.old) (E.contents err.new))
         ⊎ ((status ≡ 2) × EndsReported question (Appends (W.contents out.old) (W.contents out.new)) (Appends (E.contents err.old) (E.contents err.new)))) }
     ensures unreported { (question : Question) → question_of (map string_bytes words.now) ≡ Some question
-        → IfErr result (Ends question (Appends (W.contents out.old) (W.contents out.new)) (λ problem_of. ⊤)) }
+        → IfErr result (Ends question (Appends (W.contents out.old) (W.contents out.new)) (λ reported. ⊤)) }
     ensures status { IfOk result (λ status. status ≤ 2) }
 {
     let Some(request) = read_words(words) else {

@@ -71,24 +71,30 @@ fn runs_over_memory(rt: HostRuntime) -> Result<(), Fail> {
         let words = words_of(alloc, texts)?;
         let mut out: Vec<u8> = Vec::new(alloc);
         let mut err: Vec<u8> = Vec::new(alloc);
-        let got = run(alloc, words.as_slice(), &mut out, &mut err);
-        assert_eq!(rt; got, status, "{told}");
+        let got = run(alloc, words.as_slice(), &mut out, &mut err).unwrap_or(2);
+        assert_eq!(rt; got, status, "{reported}");
         assert_eq!(rt; out.as_slice(), written.as_bytes());
         assert_eq!(rt; err.as_slice(), reported.as_bytes());
     }
     Ok(())
 }
 
-/// A writer that keeps what so many calls write, and fails at all later ones.
+/// A writer of which some of its calls fail: all from one number on, or that one alone.
 #[derive(Drop)]
-struct Refusing {
+struct Failing {
     kept: Vec<u8>,
+    /// How many calls succeed before the one that fails.
     calls: usize,
+    /// Whether the calls after that one succeed again.
+    recovers: bool,
 }
 
-impl Write for Refusing {
+impl Write for Failing {
     fn write(&mut self, bytes: &[u8]) -> io::Result<usize> {
         if self.calls == 0 {
+            if self.recovers {
+                self.calls = usize::MAX;
+            }
             return Err(io::Error::from(io::ErrorKind::BrokenPipe));
         }
         self.calls -= 1;
@@ -101,28 +107,37 @@ impl Write for Refusing {
     }
 }
 
-fn writer_of(alloc: Global, calls: usize) -> Refusing {
-    Refusing {
+fn writer_of(alloc: Global, calls: usize, recovers: bool) -> Failing {
+    Failing {
         kept: Vec::new(alloc),
         calls,
+        recovers,
     }
 }
 
-/// The status, the output and the errors, where so many calls on the output succeed.
-fn with_refusing_output(alloc: Global, calls: usize) -> Result<(u8, Vec<u8>, Vec<u8>), AllocError> {
+/// The status, the output and the errors, where a write of the output fails after so many.
+fn with_failing_output(
+    alloc: Global,
+    calls: usize,
+    recovers: bool,
+) -> Result<(u8, Vec<u8>, Vec<u8>), AllocError> {
     let words = words_of(alloc, &["match", "/r", "{\n*.rs", "a.rs", "f"])?;
-    let mut out = writer_of(alloc, calls);
+    let mut out = writer_of(alloc, calls, recovers);
     let mut err: Vec<u8> = Vec::new(alloc);
-    let status = run(alloc, words.as_slice(), &mut out, &mut err);
+    let status = run(alloc, words.as_slice(), &mut out, &mut err).unwrap_or(2);
     Ok((status, out.kept, err))
 }
 
-/// The same where so many calls on the errors succeed.
-fn with_refusing_errors(alloc: Global, calls: usize) -> Result<(u8, Vec<u8>, Vec<u8>), AllocError> {
+/// The same where a write of the errors fails.
+fn with_failing_errors(
+    alloc: Global,
+    calls: usize,
+    recovers: bool,
+) -> Result<(u8, Vec<u8>, Vec<u8>), AllocError> {
     let words = words_of(alloc, &["match", "/r", "{\n*.rs", "a.rs", "f"])?;
     let mut out: Vec<u8> = Vec::new(alloc);
-    let mut err = writer_of(alloc, calls);
-    let status = run(alloc, words.as_slice(), &mut out, &mut err);
+    let mut err = writer_of(alloc, calls, recovers);
+    let status = run(alloc, words.as_slice(), &mut out, &mut err).unwrap_or(2);
     Ok((status, out, err.kept))
 }
 
@@ -133,10 +148,15 @@ const REPORTED: &[u8] = b"igwalk: line 1: error parsing glob '{': unclosed alter
 const REPORTED_AND_ENDED: &[u8] =
     b"igwalk: line 1: error parsing glob '{': unclosed alternates\nigwalk: cannot write\n";
 
+/// Each write of the answer in turn fails, and those after it fail or succeed.
 #[test]
 fn an_answer_that_cannot_be_written_is_reported(rt: HostRuntime) -> Result<(), Fail> {
-    for calls in 0usize..10 {
-        let (status, written, reported) = with_refusing_output(rt.alloc(), calls)?;
+    for calls in 0usize..20 {
+        let (status, written, reported) = with_failing_output(
+            rt.alloc(),
+            calls / 2,
+            calls % 2 == 1,
+        )?;
         assert!(rt; WRITTEN.starts_with(&written));
         if written.as_slice() == WRITTEN {
             assert_eq!(rt; status, 1);
@@ -149,10 +169,15 @@ fn an_answer_that_cannot_be_written_is_reported(rt: HostRuntime) -> Result<(), F
     Ok(())
 }
 
+/// Each write of the errors in turn fails, and those after it fail or succeed: none is tried.
 #[test]
 fn errors_that_cannot_be_written_end_the_run(rt: HostRuntime) -> Result<(), Fail> {
-    for calls in 0usize..20 {
-        let (status, written, reported) = with_refusing_errors(rt.alloc(), calls)?;
+    for calls in 0usize..40 {
+        let (status, written, reported) = with_failing_errors(
+            rt.alloc(),
+            calls / 2,
+            calls % 2 == 1,
+        )?;
         assert!(rt; REPORTED.starts_with(&reported));
         if reported.as_slice() == REPORTED {
             assert_eq!(rt; status, 1);
@@ -165,16 +190,16 @@ fn errors_that_cannot_be_written_end_the_run(rt: HostRuntime) -> Result<(), Fail
     Ok(())
 }
 
-/// The two tests above fail each write in turn: they begin with the first, and finally fail none.
+/// The tests above let each write in turn fail: they begin at the first, and at last none fails.
 #[test]
-fn writes_are_refused_from_the_first_to_none(rt: HostRuntime) -> Result<(), Fail> {
-    let (status, written, _) = with_refusing_output(rt.alloc(), 0)?;
+fn writes_fail_from_the_first_to_none(rt: HostRuntime) -> Result<(), Fail> {
+    let (status, written, _) = with_failing_output(rt.alloc(), 0, false)?;
     assert_eq!(rt; (status, written.len()), (2, 0));
-    let (status, _, reported) = with_refusing_errors(rt.alloc(), 0)?;
+    let (status, _, reported) = with_failing_errors(rt.alloc(), 0, false)?;
     assert_eq!(rt; (status, reported.len()), (2, 0));
-    let (status, _, _) = with_refusing_errors(rt.alloc(), 19)?;
+    let (status, _, _) = with_failing_errors(rt.alloc(), 19, false)?;
     assert_eq!(rt; status, 1);
-    let (status, _, _) = with_refusing_output(rt.alloc(), 9)?;
+    let (status, _, _) = with_failing_output(rt.alloc(), 9, false)?;
     assert_eq!(rt; status, 1);
     Ok(())
 }

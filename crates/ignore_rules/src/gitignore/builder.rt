@@ -43,18 +43,16 @@ impl GitignoreBuilder {
         ensures value { IfOk result (λ b. b ≡ begun root.now) }
         ensures out_of_memory { IfErr result (λ e. problem_of e ≡ memory) }
     {
-        match String::from_str(alloc, trim_root(root)) {
-            Ok(root) => Ok(GitignoreBuilder {
-                root,
-                globs: Vec::new(alloc),
-                options: Options {
-                    case_insensitive: false,
-                    allow_unclosed_class: true,
-                },
-                git_trailing_spaces: false,
-            }),
-            Err(_) => Err(Error::Memory),
-        }
+        let root = String::from_str(alloc, trim_root(root))?;
+        Ok(GitignoreBuilder {
+            root,
+            globs: Vec::new(alloc),
+            options: Options {
+                case_insensitive: false,
+                allow_unclosed_class: true,
+            },
+            git_trailing_spaces: false,
+        })
     }
 
     /// Adds one line, as in gitignore(5): a comment or a blank line adds nothing, any other line
@@ -62,28 +60,27 @@ impl GitignoreBuilder {
     ///
     /// # Errors
     /// `Error::Glob` with the line and its parse error where the glob of the line is invalid, or
-    /// `Error::Memory`. After an error the builder is as before, which `push_line` states.
+    /// `Error::Memory`. What holds of the builder after an error is proved of `push_line`, which
+    /// does the work, and not of this call: a caller that needs it as it was uses that one.
     pub fn add_line(&mut self, from: Option<String>, line: &str) -> Result<&mut Self, Error>
         ensures same_reference { IfOk result (λ b. b.ghost_name ≡ self.entry.ghost_name) }
         ensures added { IfOk result (λ b. AddsLine self.old (option_map string_bytes from) line.now b.now) }
         ensures refused { IfErr result (λ e. (problem_of e ≡ memory) ⊎ Refuses self.old.options line.now (problem_of e)) }
     {
-        match self.push_line(from, line) {
-            Ok(()) => Ok(self),
-            Err(e) => Err(e),
-        }
+        self.push_line(from, line)?;
+        Ok(self)
     }
 
-    /// For dependents: as `add_line`, without the builder in the result.
+    /// As `add_line`, without the builder in what is returned. After an error the builder is as
+    /// before.
     pub fn push_line(&mut self, from: Option<String>, line: &str) -> Result<(), Error>
         ensures added { OnOk result (AddsLine self.old (option_map string_bytes from) line.now self.new) }
         ensures refused { IfErr result (λ e. (problem_of e ≡ memory) ⊎ Refuses self.old.options line.now (problem_of e)) }
         ensures unchanged { OnErr result (self.new ≡ self.old) }
     {
-        match self.parsed_line(line) {
-            Ok(Some(parsed_line)) => self.push_parsed(from, parsed_line),
-            Ok(None) => Ok(()),
-            Err(_) => Err(Error::Memory),
+        match self.parsed_line(line)? {
+            Some(parsed_line) => self.push_parsed(from, parsed_line),
+            None => Ok(()),
         }
     }
 
@@ -109,10 +106,7 @@ impl GitignoreBuilder {
         ensures out_of_memory { IfErr result (λ e. problem_of e ≡ memory) }
         ensures unchanged { OnErr result (self.new ≡ self.old) }
     {
-        match self.globs.push(glob) {
-            Ok(()) => Ok(()),
-            Err(_) => Err(Error::Memory),
-        }
+        Ok(self.globs.push(glob)?)
     }
 
     /// The matcher of the rules added so far, in their order. Without rules it is the empty
@@ -124,10 +118,7 @@ impl GitignoreBuilder {
         ensures value { IfOk result (λ g. g ≡ built self.now) }
         ensures out_of_memory { IfErr result (λ e. problem_of e ≡ memory) }
     {
-        match self.clone() {
-            Ok(copy) => Ok(copy.into_gitignore()),
-            Err(_) => Err(Error::Memory),
-        }
+        Ok(self.clone()?.into_gitignore())
     }
 
     /// For dependents: as `build`, for a builder that isn't used further. It copies nothing and

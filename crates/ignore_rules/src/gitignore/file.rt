@@ -50,14 +50,10 @@ impl GitignoreBuilder {
     {
         match files.contents(self.allocator(), path) {
             Ok(contents) => self.add_contents(path, &contents),
-            Err(Refusal::Fault(fault)) => match at_path(
-                self.allocator(),
-                path,
-                Error::from(fault),
-            ) {
-                Ok(error) => Ok(Some(error)),
-                Err(_) => Err(Error::Memory),
-            },
+            Err(Refusal::Fault(fault)) => {
+                let error = at_path(self.allocator(), path, Error::from(fault))?;
+                Ok(Some(error))
+            }
             Err(Refusal::Memory) => Err(Error::Memory),
         }
     }
@@ -136,14 +132,11 @@ impl GitignoreBuilder {
         ensures refused { IfErr result (λ e. (problem_of e ≡ memory) ⊎ Refuses self.old.options line.now (problem_of e)) }
         ensures unchanged { OnErr result (self.new ≡ self.old) }
     {
-        match self.parsed_line(line) {
-            Ok(Some(parsed_line)) => match String::from_str(self.allocator(), path) {
-                Ok(from) => self.push_parsed(Some(from), parsed_line),
-                Err(_) => Err(Error::Memory),
-            },
-            Ok(None) => Ok(()),
-            Err(_) => Err(Error::Memory),
-        }
+        let Some(parsed_line) = self.parsed_line(line)? else {
+            return Ok(());
+        };
+        let from = String::from_str(self.allocator(), path)?;
+        self.push_parsed(Some(from), parsed_line)
     }
 }
 

@@ -62,10 +62,8 @@ impl TypesBuilder {
         if !is_allowed(name) {
             return Err(Error::InvalidDefinition);
         }
-        match self.types.add(name, glob) {
-            Ok(()) => Ok(()),
-            Err(_) => Err(Error::Memory),
-        }
+        self.types.add(name, glob)?;
+        Ok(())
     }
 
     /// Adds the definition in a text.
@@ -84,10 +82,8 @@ impl TypesBuilder {
         ensures refused { IfErr result (IsRefusal (after_request (request_of definition.now) self.old.definitions)) }
         ensures unchanged { OnErr result (self.new ≡ self.old) }
     {
-        match fields(*self.selections.allocator(), definition, ':') {
-            Ok(fields) => self.add_fields(&fields),
-            Err(_) => Err(Error::Memory),
-        }
+        let fields = fields(*self.selections.allocator(), definition, ':')?;
+        self.add_fields(&fields)
     }
 
     fn add_fields(&mut self, fields: &[&str]) -> Result<(), Error>
@@ -128,19 +124,12 @@ impl TypesBuilder {
         if !is_allowed(name) {
             return Err(Error::InvalidDefinition);
         }
-        let Ok(sources) = fields(*self.selections.allocator(), sources, ',') else {
-            return Err(Error::Memory);
-        };
+        let sources = fields(*self.selections.allocator(), sources, ',')?;
         if !self.types.has_all(&sources) {
             return Err(Error::InvalidDefinition);
         }
-        match self.types.with_types(name, &sources) {
-            Ok(types) => {
-                self.types = types;
-                Ok(())
-            }
-            Err(_) => Err(Error::Memory),
-        }
+        self.types = self.types.with_types(name, &sources)?;
+        Ok(())
     }
 
     /// The matcher of the types and choices so far. The builder can be used
@@ -154,13 +143,9 @@ impl TypesBuilder {
         ensures built { IfOk result (IsBuilt self.now) }
         ensures refused { IfErr result (λ e. (problem_of e ≡ memory) ⊎ IsRefusedWith self.now (problem_of e)) }
     {
-        match self.chosen_types() {
-            Ok(choices) => match self.types.sorted_copies() {
-                Ok(definitions) => Ok(Types::new(definitions, choices)),
-                Err(_) => Err(Error::Memory),
-            },
-            Err(e) => Err(e),
-        }
+        let choices = self.chosen_types()?;
+        let definitions = self.types.sorted_copies()?;
+        Ok(Types::new(definitions, choices))
     }
 
     fn chosen_types(&self) -> Result<Vec<ChosenType>, Error>
@@ -179,10 +164,7 @@ impl TypesBuilder {
         ensures by_name { IfOk result (λ ds. IsAscending ds.items) }
         ensures out_of_memory { IfErr result (λ e. problem_of e ≡ memory) }
     {
-        match self.types.sorted_copies() {
-            Ok(definitions) => Ok(definitions),
-            Err(_) => Err(Error::Memory),
-        }
+        Ok(self.types.sorted_copies()?)
     }
 
     /// Drops the type of this name, if there is one. Choices that name it stay,
@@ -199,47 +181,40 @@ impl TypesBuilder {
     /// stands for each type that exists at this call, in text order.
     ///
     /// # Errors
-    /// `Memory` alone. After it the builder is as before, which
-    /// `push_selection` states.
+    /// `Memory` alone. What holds of the builder after it is proved of
+    /// `push_selection`, which does the work, and not of this call.
     pub fn select(&mut self, name: &str) -> Result<&mut Self, Error>
         ensures same_reference { IfOk result (λ b. b.ghost_name ≡ self.entry.ghost_name) }
         ensures selected { IfOk result (λ b. b.now ≡ with_chosen false name.now self.old) }
         ensures out_of_memory { IfErr result (λ e. problem_of e ≡ memory) }
     {
-        match self.push_selection(name, false) {
-            Ok(()) => Ok(self),
-            Err(e) => Err(e),
-        }
+        self.push_selection(name, false)?;
+        Ok(self)
     }
 
     /// Negates the type of this name, after the choices made so far. `all`
     /// stands for each type that exists at this call, in text order.
     ///
     /// # Errors
-    /// `Memory` alone. After it the builder is as before, which
-    /// `push_selection` states.
+    /// `Memory` alone. What holds of the builder after it is proved of
+    /// `push_selection`, which does the work, and not of this call.
     pub fn negate(&mut self, name: &str) -> Result<&mut Self, Error>
         ensures same_reference { IfOk result (λ b. b.ghost_name ≡ self.entry.ghost_name) }
         ensures negated { IfOk result (λ b. b.now ≡ with_chosen true name.now self.old) }
         ensures out_of_memory { IfErr result (λ e. problem_of e ≡ memory) }
     {
-        match self.push_selection(name, true) {
-            Ok(()) => Ok(self),
-            Err(e) => Err(e),
-        }
+        self.push_selection(name, true)?;
+        Ok(self)
     }
 
-    /// For dependents: as `select`, or as `negate`, without the builder in the
-    /// result.
+    /// As `select`, or as `negate`, without the builder in what is returned.
+    /// After an error the builder is as before.
     pub fn push_selection(&mut self, name: &str, negated: bool) -> Result<(), Error>
         ensures chosen { OnOk result (self.new ≡ with_chosen negated name.now self.old) }
         ensures out_of_memory { IfErr result (λ e. problem_of e ≡ memory) }
         ensures unchanged { OnErr result (self.new ≡ self.old) }
     {
-        match self.choose(name, negated) {
-            Ok(()) => Ok(()),
-            Err(_) => Err(Error::Memory),
-        }
+        Ok(self.choose(name, negated)?)
     }
 
     fn choose(&mut self, name: &str, negated: bool) -> Result<(), AllocError>
@@ -258,17 +233,15 @@ impl TypesBuilder {
     /// Adds the rows of the table of default types, in its order.
     ///
     /// # Errors
-    /// `Memory` alone. After it the builder is as before, which `push_defaults`
-    /// states.
+    /// `Memory` alone. What holds of the builder after it is proved of
+    /// `push_defaults`, which does the work, and not of this call.
     pub fn add_defaults(&mut self) -> Result<&mut Self, Error>
         ensures same_reference { IfOk result (λ b. b.ghost_name ≡ self.entry.ghost_name) }
         ensures added { IfOk result (λ b. b.now ≡ record { definitions = with_rows (map (λ r. (map (λ n. n.now) r.0.now, map (λ g. g.now) r.1.now)) DEFAULT_TYPES) self.old.definitions; choices = self.old.choices }) }
         ensures out_of_memory { IfErr result (λ e. problem_of e ≡ memory) }
     {
-        match self.push_defaults() {
-            Ok(()) => Ok(self),
-            Err(e) => Err(e),
-        }
+        self.push_defaults()?;
+        Ok(self)
     }
 
     /// For dependents: as `add_defaults`, without the builder in the result.
@@ -277,13 +250,8 @@ impl TypesBuilder {
         ensures out_of_memory { IfErr result (λ e. problem_of e ≡ memory) }
         ensures unchanged { OnErr result (self.new ≡ self.old) }
     {
-        match self.types.with_rows(&DEFAULT_TYPES) {
-            Ok(types) => {
-                self.types = types;
-                Ok(())
-            }
-            Err(_) => Err(Error::Memory),
-        }
+        self.types = self.types.with_rows(&DEFAULT_TYPES)?;
+        Ok(())
     }
 }
 
@@ -317,16 +285,12 @@ fn chosen_type(
     ensures built { IfOk result (IsChosen types.now selection.now) }
     ensures refused { IfErr result (λ e. (problem_of e ≡ memory) ⊎ IsChoiceProblem types.now (problem_of e) selection.now) }
 {
-    match types.get(selection.name()) {
-        None => Err(unrecognized(alloc, selection.name())),
-        Some(definition) => match read_globs(alloc, definition.globs()) {
-            Ok(patterns) => match definition.clone() {
-                Ok(copy) => Ok(ChosenType::new(copy, patterns, selection.is_negated())),
-                Err(_) => Err(Error::Memory),
-            },
-            Err(e) => Err(e),
-        },
-    }
+    let Some(definition) = types.get(selection.name()) else {
+        return Err(unrecognized(alloc, selection.name()));
+    };
+    let patterns = read_globs(alloc, definition.globs())?;
+    let copy = definition.clone()?;
+    Ok(ChosenType::new(copy, patterns, selection.is_negated()))
 }
 
 /// The error of a choice whose name no type has, or `Error::Memory`.

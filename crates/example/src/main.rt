@@ -1,0 +1,19 @@
+//! Asks the `.gitignore` of the working directory about three files.
+#![tactic(auto)]
+
+use ignore_files::DiskFiles;
+use ignore_glob::Error;
+use ignore_rules::gitignore::Gitignore;
+
+fn main(rt: HostRuntime) -> Result<(), Error> {
+    let files = DiskFiles::new(&rt);
+    let (rules, problem) = Gitignore::new(rt.alloc(), &files, ".gitignore")?;
+    for path in ["build/a.o", "keep.o", "main.rs"] {
+        let ignored = rules.matched(path, false)?.is_ignore();
+        println!(rt; "{path} {ignored}")?;
+    }
+    if let Some(problem) = problem {
+        println!(rt; "{problem}")?;
+    }
+    Ok(())
+}

@@ -1,0 +1,46 @@
+//! A checker: asks the file of rules of a folder about a path in it.
+ghost use Rattle.std.specs.Prelude.{◌≡◌, IfOk, IfErr, Result, option_map};
+ghost use Rattle.ignore_files.specs.declared.types.Contents.{Contents};
+ghost use Rattle.ignore_files.specs.declared.types.Refusal.{Refusal};
+ghost use Rattle.ignore_files.specs.Gives.{IsHonest};
+ghost use Rattle.ignore_files.specs.Tree.{Tree};
+ghost use Rattle.ignore_glob.specs.Problem.{problem_of, memory, Problem};
+ghost use Rattle.ignore_rules.specs.Matchers.{BuildsAnswer, IsMatcherOf, folder_of};
+ghost use Rattle.ignore_rules.specs.Rules.{Ruleset, begun};
+ghost use Rattle.uses.specs.Questions.{ignores};
+
+use ignore_files::Files;
+use ignore_glob::Error;
+use ignore_rules::gitignore::Gitignore;
+use std::alloc::Global;
+
+/// Whether the rules of the file at `gitignore` ignore a file, and what is wrong with their lines.
+/// A file of rules that can't be read has none, and ignores nothing.
+///
+/// # Errors
+/// `Error::Memory` alone.
+pub fn is_ignored<F: Files>(
+    alloc: Global,
+    files: &F,
+    gitignore: &str,
+    path: &str,
+) -> Result<(bool, Option<Error>), Error>
+    ensures read { (tree : Tree) → IsHonest F.Files files.now tree → IfOk result (λ r. (rules : Ruleset) × IsMatcherOf tree gitignore.now rules (option_map problem_of r.1) × (r.0 ≡ ignores rules path.now)) }
+    ensures answered { IfOk result (λ r. (rules : Ruleset) × (answer : Result Contents Refusal) × F.contents_gives files.now gitignore.now answer × BuildsAnswer gitignore.now answer (begun (folder_of gitignore.now)) rules (option_map problem_of r.1) × (r.0 ≡ ignores rules path.now)) }
+    ensures out_of_memory { IfErr result (λ e. problem_of e ≡ memory) }
+{
+    let (rules, problem) = Gitignore::new(alloc, files, gitignore)?;
+    let ignored = is_ignored_by(&rules, path)?;
+    Ok((ignored, problem))
+}
+
+/// Whether rules ignore a file.
+pub fn is_ignored_by(rules: &Gitignore, path: &str) -> Result<bool, Error>
+    ensures asked { IfOk result (λ yes. yes ≡ ignores rules.now path.now) }
+    ensures out_of_memory { IfErr result (λ e. problem_of e ≡ memory) }
+{
+    match rules.matched(path, false) {
+        Ok(answer) => Ok(answer.is_ignore()),
+        Err(error) => Err(error),
+    }
+}

@@ -1,0 +1,11 @@
+//! What callers of these crates do. Each function has a contract of its own, which is proved from
+//! the public clauses of `ignore_glob`, `ignore_files` and `ignore_rules` alone.
+#![tactic(auto)]
+
+pub mod buffer;
+pub mod checker;
+pub mod global;
+pub mod lines;
+pub mod linter;
+pub mod packer;
+pub mod reason;

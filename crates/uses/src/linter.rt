@@ -1,0 +1,31 @@
+//! A linter: which files it looks at, by the globs of its command line and the types it is for.
+ghost use Rattle.std.specs.Prelude.{◌≡◌, Option, false, IfOk, IfErr};
+ghost use Rattle.ignore_glob.specs.declared.match_result.Match.{Match};
+ghost use Rattle.ignore_glob.specs.Match.{is_ignore};
+ghost use Rattle.ignore_glob.specs.Paths.{file_name_of};
+ghost use Rattle.ignore_glob.specs.Problem.{problem_of, memory};
+ghost use Rattle.ignore_rules.specs.Overrides.{override_answer};
+ghost use Rattle.ignore_rules.specs.TypeMatch.{IsTypeAnswer};
+ghost use Rattle.ignore_rules.specs.Types.{Definition};
+ghost use Rattle.uses.specs.Questions.{is_linted};
+
+use ignore_glob::{Error, Match};
+use ignore_rules::overrides::Override;
+use ignore_rules::types::Types;
+
+/// Whether a file is looked at: a glob of the command line that says so or denies it decides; else
+/// its types do.
+///
+/// # Errors
+/// `Error::Memory` alone.
+pub fn is_linted(globs: &Override, types: &Types, path: &str) -> Result<bool, Error>
+    ensures chosen { IfOk result (λ yes. (answer : Match (Option Definition)) × IsTypeAnswer types.now.choices false (file_name_of path.now) answer × (yes ≡ is_linted (override_answer globs.now path.now false) (is_ignore answer))) }
+    ensures out_of_memory { IfErr result (λ e. problem_of e ≡ memory) }
+{
+    let skipped = types.matched(path, false)?.is_ignore();
+    match globs.matched(path, false)? {
+        Match::Whitelist(_) => Ok(true),
+        Match::Ignore(_) => Ok(false),
+        Match::None => Ok(!skipped),
+    }
+}
