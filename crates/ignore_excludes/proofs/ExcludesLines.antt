@@ -27,7 +27,7 @@ Reads-shift prefix next place q v (before, rest, e, len, (start, indent, d, star
   key,
 )
 
--- two splits of one text
+-- two ways to cut one text
 two_splits : (start more w u : List ℕ) → start ++ more ≡ w ++ u → ((x : List ℕ) × (w ≡ start ++ x) × (more ≡ x ++ u)) ⊎ ((x : List ℕ) × (x ≢ []) × (start ≡ w ++ x) × (u ≡ x ++ more))
 two_splits [] more w u e = inl (w, refl, e)
 two_splits (a ∷ s) more [] u e = inr (a ∷ s, λ k. cc, refl, sym e)

@@ -16,17 +16,20 @@ named_last q n t i [] e = ap (λ b. cond b (Some i) None) e
 named_last q n t i (Named m u j ∷ es) e = ap (cond (bytes_eq m q) (Some j)) (named_last q n t i es e)
 named_last q n t i (Nameless ∷ es) e = named_last q n t i es e
 
-named_new : (q n : List ℕ) (t : FileType) (i : ℕ) (es : List Entry) → bytes_eq n q ≡ true → named q es ≡ None → named q (es ++ Named n t i ∷ []) ≡ Some i
+named_new : (q n : List ℕ) (t : FileType) (i : ℕ) (es : List Entry) → bytes_eq n q ≡ true → named q es ≡ None
+    → named q (es ++ Named n t i ∷ []) ≡ Some i
 named_new q n t i [] e h = ap (λ b. cond b (Some i) None) e
 named_new q n t i (Named m u j ∷ es) e h = elsewhere (bytes_eq m q) h (named_new q n t i es e)
   where
-    elsewhere : (b : Bool) → cond b (Some j) (named q es) ≡ None → (named q es ≡ None → named q (es ++ Named n t i ∷ []) ≡ Some i) → cond b (Some j) (named q (es ++ Named n t i ∷ [])) ≡ Some i
+    elsewhere : (b : Bool) → cond b (Some j) (named q es) ≡ None → (named q es ≡ None → named q (es ++ Named n t i ∷ []) ≡ Some i)
+        → cond b (Some j) (named q (es ++ Named n t i ∷ [])) ≡ Some i
     elsewhere true k later = cc
     elsewhere false k later = later k
 named_new q n t i (Nameless ∷ es) e h = named_new q n t i es e h
 
 -- a node under a new name is found by it, and every other name as before
-pub named_more : (q n : List ℕ) (t : FileType) (i : ℕ) (es : List Entry) → named n es ≡ None → named q (es ++ Named n t i ∷ []) ≡ cond (bytes_eq n q) (Some i) (named q es)
+pub named_more : (q n : List ℕ) (t : FileType) (i : ℕ) (es : List Entry) → named n es ≡ None
+    → named q (es ++ Named n t i ∷ []) ≡ cond (bytes_eq n q) (Some i) (named q es)
 named_more q n t i es h = either (bytes_eq n q) refl
   where
     either : (b : Bool) → bytes_eq n q ≡ b → named q (es ++ Named n t i ∷ []) ≡ cond b (Some i) (named q es)

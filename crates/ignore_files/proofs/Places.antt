@@ -9,11 +9,16 @@ use Rattle.ignore_files.proofs.Components.{components_some, but_last_then_last}
 use Rattle.ignore_files.specs.declared.memory.node.Node.{Node}
 use Rattle.ignore_files.specs.declared.memory.node.Kind.{Kind}
 
-below_append : (nodes : List Node) (here : ℕ) (ps qs : List (List ℕ)) → below nodes here (ps ++ qs) ≡ option_and_then (λ i. below nodes i qs) (below nodes here ps)
+below_append : (nodes : List Node) (here : ℕ) (ps qs : List (List ℕ))
+    → below nodes here (ps ++ qs) ≡ option_and_then (λ i. below nodes i qs) (below nodes here ps)
 below_append nodes here [] qs = refl
-below_append nodes here (p ∷ ps) qs = first (is_empty p) (child nodes here p) (below_append nodes here ps qs) (λ i. below_append nodes i ps qs)
+below_append nodes here (p ∷ ps) qs =
+    first (is_empty p) (child nodes here p) (below_append nodes here ps qs) (λ i. below_append nodes i ps qs)
   where
-    first : (empty : Bool) (found : Option ℕ) → below nodes here (ps ++ qs) ≡ option_and_then (λ i. below nodes i qs) (below nodes here ps) → ((i : ℕ) → below nodes i (ps ++ qs) ≡ option_and_then (λ i. below nodes i qs) (below nodes i ps)) → cond empty (below nodes here (ps ++ qs)) (option_and_then (λ i. below nodes i (ps ++ qs)) found) ≡ option_and_then (λ i. below nodes i qs) (cond empty (below nodes here ps) (option_and_then (λ i. below nodes i ps) found))
+    first : (empty : Bool) (found : Option ℕ) → below nodes here (ps ++ qs) ≡ option_and_then (λ i. below nodes i qs) (below nodes here ps)
+        → ((i : ℕ) → below nodes i (ps ++ qs) ≡ option_and_then (λ i. below nodes i qs) (below nodes i ps))
+        → cond empty (below nodes here (ps ++ qs)) (option_and_then (λ i. below nodes i (ps ++ qs)) found)
+        ≡ option_and_then (λ i. below nodes i qs) (cond empty (below nodes here ps) (option_and_then (λ i. below nodes i ps) found))
     first true found stays later = stays
     first false None stays later = refl
     first false (Some i) stays later = later i
@@ -23,7 +28,8 @@ chosen true x r e h = (refl, h)
 chosen false x r e h = cc
 
 -- a place that passes
-passing_ok : (test : Kind → Bool) (refused : TreeError) (nodes : List Node) (o : Option ℕ) (place : ℕ) → Ok place ≡ passing test refused nodes o → (o ≡ Some place) × (is_at test nodes place ≡ true)
+passing_ok : (test : Kind → Bool) (refused : TreeError) (nodes : List Node) (o : Option ℕ) (place : ℕ)
+    → Ok place ≡ passing test refused nodes o → (o ≡ Some place) × (is_at test nodes place ≡ true)
 passing_ok test refused nodes None place h = cc
 passing_ok test refused nodes (Some p) place h =
     let c = chosen (is_at test nodes p) place (Ok p) refused h in
@@ -35,12 +41,14 @@ at_some test None h = cc
 at_some test (Some n) h = (n, refl)
 
 -- a node stands where one is found
-pub sought_ok : (test : Kind → Bool) (nodes : List Node) (path : List ℕ) (place : ℕ) → Ok place ≡ sought test nodes path → (n : Node) × (slice_get nodes place ≡ Some n)
+pub sought_ok : (test : Kind → Bool) (nodes : List Node) (path : List ℕ) (place : ℕ) → Ok place ≡ sought test nodes path
+    → (n : Node) × (slice_get nodes place ≡ Some n)
 sought_ok test nodes path place h =
     let clean = chosen (is_canonical_path path) place _ refusal.NotClean h in
     at_some test (slice_get nodes place) (passing_ok test refusal.Missing nodes (place_of nodes path) place clean.1).1
 
-folder_ok : (nodes : List Node) (path : List ℕ) (place : ℕ) → Ok place ≡ folder_sought nodes path → (below nodes 0 (but_last (components path)) ≡ Some place) × ((n : Node) × (slice_get nodes place ≡ Some n))
+folder_ok : (nodes : List Node) (path : List ℕ) (place : ℕ) → Ok place ≡ folder_sought nodes path
+    → (below nodes 0 (but_last (components path)) ≡ Some place) × ((n : Node) × (slice_get nodes place ≡ Some n))
 folder_ok nodes path place h =
     let clean = chosen (is_canonical_path path) place _ refusal.NotClean h in
     let there = passing_ok is_directory refusal.NoParent nodes (below nodes 0 (but_last (components path))) place clean.1 in
@@ -55,29 +63,35 @@ vacant_ok : (o : Option ℕ) (x y : ℕ) → vacant o x ≡ Ok y → (o ≡ None
 vacant_ok None x y h = (refl, cc)
 vacant_ok (Some i) x y h = cc
 
-parent_found : (nodes : List Node) (path : List ℕ) (parent : ℕ) (folder : Result ℕ TreeError) → and_then (vacant (place_of nodes path)) folder ≡ Ok parent → (folder ≡ Ok parent) × (place_of nodes path ≡ None)
+parent_found : (nodes : List Node) (path : List ℕ) (parent : ℕ) (folder : Result ℕ TreeError)
+    → and_then (vacant (place_of nodes path)) folder ≡ Ok parent → (folder ≡ Ok parent) × (place_of nodes path ≡ None)
 parent_found nodes path parent (Ok x) h = let v = vacant_ok (place_of nodes path) x parent h in (ap Ok v.1, v.0)
 parent_found nodes path parent (Err e) h = cc
 
 -- where a node may be added, its directory stands and has nothing under its name
-pub parent_ok : (nodes : List Node) (path : List ℕ) (parent : ℕ) → parent_for nodes path ≡ Ok parent → (n : Node) × (slice_get nodes parent ≡ Some n) × (entry_under (last_component (components path)) n.kind ≡ None)
+pub parent_ok : (nodes : List Node) (path : List ℕ) (parent : ℕ) → parent_for nodes path ≡ Ok parent
+    → (n : Node) × (slice_get nodes parent ≡ Some n) × (entry_under (last_component (components path)) n.kind ≡ None)
 parent_ok nodes path parent h =
     let found = parent_found nodes path parent (folder_sought nodes path) h in
     let folder = folder_ok nodes path parent (sym found.0) in
     let some = components_some path in
-    let whole : but_last (components path) ++ last_component (components path) ∷ [] ≡ components path = ap (λ ps. but_last ps ++ last_component ps ∷ []) some.2 ∙ but_last_then_last some.0 some.1 ∙ sym some.2 in
+    let whole : but_last (components path) ++ last_component (components path) ∷ []
+    ≡ components path = ap (λ ps. but_last ps ++ last_component ps ∷ []) some.2 ∙ but_last_then_last some.0 some.1 ∙ sym some.2 in
     let name = last_component (components path) in
     let led : below nodes parent (name ∷ []) ≡ None =
-    ap (option_and_then (λ i. below nodes i (name ∷ []))) (sym folder.0) ∙ sym (below_append nodes 0 (but_last (components path)) (name ∷ [])) ∙ ap (below nodes 0) whole ∙ found.1 in
+    ap (option_and_then (λ i. below nodes i (name ∷ []))) (sym folder.0)
+    ∙ sym (below_append nodes 0 (but_last (components path)) (name ∷ [])) ∙ ap (below nodes 0) whole ∙ found.1 in
     let n = folder.1 in
     (n.0, n.1, ap (option_and_then (λ m. entry_under name m.kind)) (sym n.1) ∙ nothing (is_empty name) parent (child nodes parent name) led)
 
 -- the first component leads on to where the rest leads
 module _ (nodes : List Node) (here : ℕ) (text component after : List ℕ) (cut : components text ≡ component ∷ components after) where
-  below_turn : below nodes here (components text) ≡ option_and_then (λ i. below nodes i (components after)) (below nodes here (component ∷ []))
+  below_turn : below nodes here (components text) ≡ option_and_then (λ i. below nodes i (components after))
+      (below nodes here (component ∷ []))
   below_turn = ap (below nodes here) cut ∙ below_append nodes here (component ∷ []) (components after)
 
-  pub below_some : (i : ℕ) → Some i ≡ below nodes here (component ∷ []) → below nodes i (components after) ≡ below nodes here (components text)
+  pub below_some : (i : ℕ) → Some i ≡ below nodes here (component ∷ [])
+      → below nodes i (components after) ≡ below nodes here (components text)
   below_some i e = sym (below_turn ∙ ap (option_and_then (λ i. below nodes i (components after))) (sym e))
 
   pub below_none : None ≡ below nodes here (component ∷ []) → None ≡ below nodes here (components text)

@@ -39,19 +39,24 @@ listing_too entry n = record n { kind = with_entry entry n.kind }
 
 -- the nodes with one more, which becomes the last entry of the directory at a place
 abbrev pub with_node : List Node → List ℕ → Kind → ℕ → ℕ → List Node
-with_node nodes path kind len parent = changed (listing_too (Named (last_component (components path)) (file_type_of kind) (length nodes))) nodes parent ++ new_node (length nodes) parent path kind len ∷ []
+with_node nodes path kind len parent =
+    changed (listing_too (Named (last_component (components path)) (file_type_of kind) (length nodes))) nodes parent
+    ++ new_node (length nodes) parent path kind len ∷ []
 
 -- the tree with a node of this kind and size at a path
 abbrev pub added : Kind → ℕ → Memory → List ℕ → Result Memory TreeError
-added kind len tree path = and_then (λ parent. Ok (record tree { nodes = with_node tree.nodes path kind len parent })) (parent_for tree.nodes path)
+added kind len tree path =
+    and_then (λ parent. Ok (record tree { nodes = with_node tree.nodes path kind len parent })) (parent_for tree.nodes path)
 
 -- the same for an empty directory, a file and a link
 abbrev pub dir_added : Memory → List ℕ → Result Memory TreeError
 dir_added = added (Dir []) 0
 
+-- a file with these bytes is added
 abbrev pub file_added : List ℕ → Memory → List ℕ → Result Memory TreeError
 file_added bytes = added (File bytes) (length bytes)
 
+-- a link with this target is added
 abbrev pub link_added : List ℕ → Memory → List ℕ → Result Memory TreeError
 link_added target = added (Link target) (length target)
 
@@ -63,18 +68,23 @@ set_at test f tree path = and_then (λ place. Ok (record tree { nodes = changed 
 abbrev pub nameless_added : Memory → List ℕ → Result Memory TreeError
 nameless_added = set_at is_directory (listing_too Nameless)
 
+-- the size of a file is set
 abbrev pub size_set : ℕ → Memory → List ℕ → Result Memory TreeError
 size_set len = set_at is_file (λ n. record n { len = len })
 
+-- the identity of a node is set
 abbrev pub identity_set : Option Identity → Memory → List ℕ → Result Memory TreeError
 identity_set identity = set_at any_kind (λ n. record n { identity = identity })
 
+-- the fault of `stat` for a node is set
 abbrev pub stat_faulted : Fault → Memory → List ℕ → Result Memory TreeError
 stat_faulted fault = set_at any_kind (λ n. record n { stat_fault = Some fault })
 
+-- the fault of `list` for a directory is set
 abbrev pub list_faulted : Fault → Memory → List ℕ → Result Memory TreeError
 list_faulted fault = set_at is_directory (λ n. record n { list_fault = Some fault })
 
+-- reading of a file ends after so many bytes, by this fault
 abbrev pub contents_cut : ℕ → Fault → Memory → List ℕ → Result Memory TreeError
 contents_cut len fault = set_at is_file (λ n. record n { cut = Some (record { len = len; fault = fault }) })
 

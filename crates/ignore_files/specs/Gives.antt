@@ -15,4 +15,5 @@ pub record IsHonest {F : Type 0} (files : Ghosts F) (f : F) (tree : Tree) : Type
   pub list : (p : List ℕ) (r : Result (List Listed) Refusal) → files.list_gives f p r → Answers (tree.list p) r
   pub contents : (p : List ℕ) (r : Result Contents Refusal) → files.contents_gives f p r → Answers (tree.contents p) r
   pub canonical : (p : List ℕ) (r : Result (List ℕ) Refusal) → files.canonical_gives f p r → Answers (tree.canonical p) r
-  pub identity : (p : List ℕ) (follow : Bool) (r : Result (Option Identity) Refusal) → files.identity_gives f p follow r → Answers (tree.identity p follow) r
+  pub identity : (p : List ℕ) (follow : Bool) (r : Result (Option Identity) Refusal) → files.identity_gives f p follow r
+      → Answers (tree.identity p follow) r

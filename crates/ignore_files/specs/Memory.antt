@@ -73,7 +73,8 @@ child nodes place name = option_and_then (λ n. entry_under name n.kind) (slice_
 -- skipped
 abbrev pub below : List Node → ℕ → List (List ℕ) → Option ℕ
 below nodes place [] = Some place
-below nodes place (component ∷ rest) = cond (is_empty component) (below nodes place rest) (option_and_then (λ i. below nodes i rest) (child nodes place component))
+below nodes place (component ∷ rest) =
+    cond (is_empty component) (below nodes place rest) (option_and_then (λ i. below nodes i rest) (child nodes place component))
 
 -- the node at a canonical path
 abbrev pub place_of : List Node → List ℕ → Option ℕ
@@ -101,7 +102,9 @@ sought test nodes path = cond (is_canonical_path path) (passing test refusal.Mis
 
 -- the place of the directory that a canonical path is in
 abbrev pub folder_sought : List Node → List ℕ → Result ℕ TreeError
-folder_sought nodes path = cond (is_canonical_path path) (passing is_directory refusal.NoParent nodes (below nodes 0 (but_last (components path)))) (Err refusal.NotClean)
+folder_sought nodes path =
+    cond (is_canonical_path path)
+    (passing is_directory refusal.NoParent nodes (below nodes 0 (but_last (components path)))) (Err refusal.NotClean)
 
 -- the directory, unless the path has a node already
 abbrev pub vacant : Option ℕ → ℕ → Result ℕ TreeError

@@ -10,8 +10,10 @@ use Rattle.ignore_glob.specs.Lexing.{Lexeme, char, run, class, comma, closing, o
 use Rattle.ignore_glob.specs.Lexing as P
 use Rattle.ignore_glob.proofs.LexemeLemmas.{put_all, put_all-err}
 
-pub stars_at : (o : Options) (d n : ℕ) (text rest : List ℕ) → text ≡ replicate n 42 ++ rest → NoStarFirst rest → Begins o d (42 ∷ text) (lexeme (run (n + 1)) rest d)
-stars_at o d n text rest e p = let S : List ℕ → Type 0 = λ t. Begins o d (42 ∷ t) (lexeme (run (n + 1)) rest d) in subst S (sym e) (rw add-one (stars d n rest p))
+pub stars_at : (o : Options) (d n : ℕ) (text rest : List ℕ) → text ≡ replicate n 42 ++ rest → NoStarFirst rest
+    → Begins o d (42 ∷ text) (lexeme (run (n + 1)) rest d)
+stars_at o d n text rest e p =
+    let S : List ℕ → Type 0 = λ t. Begins o d (42 ∷ t) (lexeme (run (n + 1)) rest d) in subst S (sym e) (rw add-one (stars d n rest p))
 
 pub opens_at : (o : Options) (d : ℕ) (rest : List ℕ) → d < 64 → Begins o d (123 ∷ rest) (lexeme opening rest (d + 1))
 opens_at o d rest h = rw add-one (opens d rest h)
@@ -44,19 +46,24 @@ module _ (o : Options) (d : ℕ) (text inside : List ℕ) (inside_is : inside �
   same_inside : (b r : List ℕ) → Closes inside b r → Closes (after_sign text) b r
   same_inside b r c = let C : List ℕ → Type 0 = λ t. Closes t b r in subst C inside_is c
 
-  pub class_at : (negated : Bool) (body rest : List ℕ) (rs : List (ℕ × ℕ)) (items : List (ℕ × List ℕ)) → negated ≡ is_negated text → Closes inside body rest → Items body items → are_in_order items ≡ true → rs ≡ ranges items → Begins o d (91 ∷ text) (lexeme (class negated rs) rest d)
+  pub class_at : (negated : Bool) (body rest : List ℕ) (rs : List (ℕ × ℕ)) (items : List (ℕ × List ℕ)) → negated ≡ is_negated text
+      → Closes inside body rest → Items body items → are_in_order items ≡ true → rs ≡ ranges items
+      → Begins o d (91 ∷ text) (lexeme (class negated rs) rest d)
   class_at negated body rest rs items n c i a r = rw (n, r) (bracket d text _ (whole body rest items (same_inside body rest c) i a))
 
-  pub disordered_at : (body rest : List ℕ) (items : List (ℕ × List ℕ)) → Closes inside body rest → Items body items → are_in_order items ≡ false → Begins o d (91 ∷ text) (fault InvalidRange)
+  pub disordered_at : (body rest : List ℕ) (items : List (ℕ × List ℕ)) → Closes inside body rest → Items body items
+      → are_in_order items ≡ false → Begins o d (91 ∷ text) (fault InvalidRange)
   disordered_at body rest items c i a = bracket d text _ (disordered body rest items (same_inside body rest c) i a)
 
   none_inside : ((b r : List ℕ) → Closes inside b r → ⊥) → (b r : List ℕ) → Closes (after_sign text) b r → ⊥
   none_inside u b r c = let C : List ℕ → Type 0 = λ t. Closes t b r in u b r (subst C (sym inside_is) c)
 
-  pub literal_at : ((b r : List ℕ) → Closes inside b r → ⊥) → o.allow_unclosed_class ≡ true → Begins o d (91 ∷ text) (lexeme (char 91) text d)
+  pub literal_at : ((b r : List ℕ) → Closes inside b r → ⊥) → o.allow_unclosed_class ≡ true
+      → Begins o d (91 ∷ text) (lexeme (char 91) text d)
   literal_at u a = bracket d text _ (literal (none_inside u) a)
 
-  pub unclosed_class_at : ((b r : List ℕ) → Closes inside b r → ⊥) → o.allow_unclosed_class ≡ false → Begins o d (91 ∷ text) (fault UnclosedClass)
+  pub unclosed_class_at : ((b r : List ℕ) → Closes inside b r → ⊥) → o.allow_unclosed_class ≡ false
+      → Begins o d (91 ∷ text) (fault UnclosedClass)
   unclosed_class_at u a = bracket d text _ (unclosed (none_inside u) a)
 
 pub and_left : (a b x : Bool) → a ≡ b → a ≡ true → (b && x) ≡ x
@@ -66,6 +73,10 @@ pub and_fails : (a b x : Bool) → a ≡ b → a ≡ false → (b && x) ≡ fals
 and_fails a b x e h = ap (λ c. c && x) (sym e ∙ h)
 
 -- a fault of the rest is the fault of the whole
-pub fault_at : (o : Options) (d : ℕ) (text rest begun : List ℕ) (e : PatternError) (row : List Lexeme) → rest ≡ begun → IfFault e (λ f. Begins o d begun (fault f)) → ((out : Result (List Lexeme) GlobFault) → Lexed o d rest out → Lexed o 0 text (put_all row out)) → IfFault e (λ f. Lexed o 0 text (Err f))
-fault_at o d text rest begun (Why.Fault f) row e b carry = let B : List ℕ → Type 0 = λ t. Begins o d t (fault f) in rw put_all-err at (carry (Err f) (stops d rest f (subst B (sym e) b)))
+pub fault_at : (o : Options) (d : ℕ) (text rest begun : List ℕ) (e : PatternError) (row : List Lexeme) → rest ≡ begun
+    → IfFault e (λ f. Begins o d begun (fault f)) →
+    ((out : Result (List Lexeme) GlobFault) → Lexed o d rest out → Lexed o 0 text (put_all row out))
+    → IfFault e (λ f. Lexed o 0 text (Err f))
+fault_at o d text rest begun (Why.Fault f) row e b carry =
+    let B : List ℕ → Type 0 = λ t. Begins o d t (fault f) in rw put_all-err at (carry (Err f) (stops d rest f (subst B (sym e) b)))
 fault_at o d text rest begun Why.Memory row e b carry = tt

@@ -6,7 +6,8 @@ use Rattle.ignore_glob.specs.declared.glob.options.Options.{Options}
 use Rattle.ignore_glob.specs.Lexing.{class, lexeme, fault, ended, Step, Closes, turns, NoTurn, Items, are_in_order, after_sign, is_negated, ranges, Bracket, whole, disordered, literal, unclosed}
 
 -- the first `]` cuts a text in one way
-first_closing : (m k r s : List ℕ) → AllByRecursion (λ c. c ≢ 93) m → AllByRecursion (λ c. c ≢ 93) k → m ++ 93 ∷ r ≡ k ++ 93 ∷ s → (m ≡ k) × (r ≡ s)
+first_closing : (m k r s : List ℕ) → AllByRecursion (λ c. c ≢ 93) m → AllByRecursion (λ c. c ≢ 93) k → m ++ 93 ∷ r ≡ k ++ 93 ∷ s
+    → (m ≡ k) × (r ≡ s)
 first_closing [] [] r s p q e = (refl, (cc))
 first_closing [] (d ∷ k) r s p q e = absurd (q.0 (cc))
 first_closing (c ∷ m) [] r s p q e = absurd (p.0 (cc))
@@ -43,7 +44,8 @@ Items-same body (i ∷ is) (j ∷ js) p q =
     cc (item, more)
 
 -- two readings of one body
-Class-same : (text body rest body' rest' : List ℕ) (is js : List (ℕ × List ℕ)) → Closes text body rest → Items body is → Closes text body' rest' → Items body' js → (is ≡ js) × (rest ≡ rest')
+Class-same : (text body rest body' rest' : List ℕ) (is js : List (ℕ × List ℕ)) → Closes text body rest → Items body is
+    → Closes text body' rest' → Items body' js → (is ≡ js) × (rest ≡ rest')
 Class-same text body rest body' rest' is js c i d j =
     let h = Closes-same text body rest body' rest' c d in
     let P : List ℕ → Type 0 = λ t. Items t js in
@@ -52,11 +54,16 @@ Class-same text body rest body' rest' is js c i d j =
 pub Bracket-same : (o : Options) (depth : ℕ) (text : List ℕ) (s t : Step) → Bracket o depth text s → Bracket o depth text t → s ≡ t
 Bracket-same o depth text s t (whole body rest is c i a) (whole body' rest' js d j b) =
     let h = Class-same (after_sign text) body rest body' rest' is js c i d j in
-    ap (λ k. lexeme (class (is_negated text) (ranges k)) rest depth) h.0 ∙ ap (λ r. lexeme (class (is_negated text) (ranges js)) r depth) h.1
-Bracket-same o depth text s t (whole body rest is c i a) (disordered body' rest' js d j b) = absurd (let h = Class-same (after_sign text) body rest body' rest' is js c i d j in let e : are_in_order is ≡ are_in_order js = ap (λ k. are_in_order k) h.0 in cc (a, b, e))
+    ap (λ k. lexeme (class (is_negated text) (ranges k)) rest depth) h.0
+    ∙ ap (λ r. lexeme (class (is_negated text) (ranges js)) r depth) h.1
+Bracket-same o depth text s t (whole body rest is c i a) (disordered body' rest' js d j b) =
+    absurd (let h = Class-same (after_sign text) body rest body' rest' is js c i d j in
+    let e : are_in_order is ≡ are_in_order js = ap (λ k. are_in_order k) h.0 in cc (a, b, e))
 Bracket-same o depth text s t (whole body rest is c i a) (literal u b) = absurd (u body rest c)
 Bracket-same o depth text s t (whole body rest is c i a) (unclosed u b) = absurd (u body rest c)
-Bracket-same o depth text s t (disordered body rest is c i a) (whole body' rest' js d j b) = absurd (let h = Class-same (after_sign text) body rest body' rest' is js c i d j in let e : are_in_order is ≡ are_in_order js = ap (λ k. are_in_order k) h.0 in cc (a, b, e))
+Bracket-same o depth text s t (disordered body rest is c i a) (whole body' rest' js d j b) =
+    absurd (let h = Class-same (after_sign text) body rest body' rest' is js c i d j in
+    let e : are_in_order is ≡ are_in_order js = ap (λ k. are_in_order k) h.0 in cc (a, b, e))
 Bracket-same o depth text s t (disordered body rest is c i a) (disordered body' rest' js d j b) = refl
 Bracket-same o depth text s t (disordered body rest is c i a) (literal u b) = absurd (u body rest c)
 Bracket-same o depth text s t (disordered body rest is c i a) (unclosed u b) = absurd (u body rest c)
@@ -70,7 +77,8 @@ Bracket-same o depth text s t (unclosed u b) (literal v a) = absurd (cc (a, b))
 Bracket-same o depth text s t (unclosed u b) (unclosed v a) = refl
 
 -- a text has a `]`, or none
-find_closing : (text : List ℕ) → ((m : List ℕ) × (r : List ℕ) × AllByRecursion (λ c. c ≢ 93) m × (text ≡ m ++ 93 ∷ r)) ⊎ ((m r : List ℕ) → text ≡ m ++ 93 ∷ r → ⊥)
+find_closing : (text : List ℕ) → ((m : List ℕ) × (r : List ℕ) × AllByRecursion (λ c. c ≢ 93) m × (text ≡ m ++ 93 ∷ r))
+    ⊎ ((m r : List ℕ) → text ≡ m ++ 93 ∷ r → ⊥)
 find_closing [] = inr none where
   none : (m r : List ℕ) → [] ≡ m ++ 93 ∷ r → ⊥
   none [] r e = cc e
@@ -86,7 +94,8 @@ find_closing (c ∷ cs) = elim (cases_eq c 93) [
   further c cs n none [] r e = n (cc)
   further c cs n none (d ∷ m) r e = let h : cs ≡ m ++ 93 ∷ r = (cc) in none m r h
 
-find_class : (text : List ℕ) → ((body : List ℕ) × (rest : List ℕ) × Closes text body rest) ⊎ ((body rest : List ℕ) → Closes text body rest → ⊥)
+find_class : (text : List ℕ) → ((body : List ℕ) × (rest : List ℕ) × Closes text body rest)
+    ⊎ ((body rest : List ℕ) → Closes text body rest → ⊥)
 find_class [] = inr (λ body rest h. let e = h.4 in cc e)
 find_class (c ∷ cs) = elim (find_closing cs) [
   | inl f ↦ inl (c ∷ f.0, f.1, (c, f.0, refl, f.2, ap (λ t. c ∷ t) f.3))

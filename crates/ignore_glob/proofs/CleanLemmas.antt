@@ -33,12 +33,17 @@ name_from component e whole = let h = proper_parts component e in record { fille
 -- a text is a name where it may be one and has no slash
 pub Decides-name : (text : List ℕ) → Decides (is_proper text && not (has_slash text)) (IsName text)
 Decides-name text = (
-  λ e. let h = and_parts (is_proper text) (not (has_slash text)) e in name_from text h.0 (λ w. both_ways _ (not-true _ h.1) (has_slash-at text w.0 w.1 (eq-eqb _ 47 (get_or_default text w.0 0 47 w.1 ∙ w.2)))),
-  λ n. and_from (is_proper text) (not (has_slash text)) (proper-name text n) (not_from_false _ (has_slash-none text (λ k l e. n.whole (k, l, get_or_default text k 47 0 l ∙ eqb-true _ 47 e)))),
+  λ e. let h =
+      and_parts (is_proper text) (not (has_slash text)) e in
+      name_from text h.0 (λ w. both_ways _ (not-true _ h.1)
+      (has_slash-at text w.0 w.1 (eq-eqb _ 47 (get_or_default text w.0 0 47 w.1 ∙ w.2)))),
+  λ n. and_from (is_proper text) (not (has_slash text)) (proper-name text n)
+      (not_from_false _ (has_slash-none text (λ k l e. n.whole (k, l, get_or_default text k 47 0 l ∙ eqb-true _ 47 e)))),
 )
 
 -- no component has a slash
-clear_onto : (b : ℕ) (p : List ℕ) (ps : List (List ℕ)) → is_slash b ≡ false → AllByRecursion (λ q. ¬ Contains q 47) (p ∷ ps) → AllByRecursion (λ q. ¬ Contains q 47) (onto_first b (p ∷ ps))
+clear_onto : (b : ℕ) (p : List ℕ) (ps : List (List ℕ)) → is_slash b ≡ false → AllByRecursion (λ q. ¬ Contains q 47) (p ∷ ps)
+    → AllByRecursion (λ q. ¬ Contains q 47) (onto_first b (p ∷ ps))
 clear_onto b p ps apart h = (first, h.1)
   where
     first : ¬ Contains (b ∷ p) 47
@@ -49,10 +54,15 @@ pub clear : (bs : List ℕ) → AllByRecursion (λ q. ¬ Contains q 47) (compone
 clear [] = (λ w. absurd (omega (arith, w.1)), tt)
 clear (b ∷ bs) =
     ⊎_elim
-    (λ e. let is : components (b ∷ bs) ≡ [] ∷ components bs = cond-true (is_slash b) ([] ∷ components bs) (onto_first b (components bs)) e in subst (AllByRecursion (λ q. ¬ Contains q 47)) (sym is) (λ w. absurd (omega (arith, w.1)), clear bs))
+    (λ e. let is : components (b ∷ bs) ≡ [] ∷ components bs = cond-true (is_slash b) ([] ∷ components bs)
+    (onto_first b (components bs)) e in
+    subst (AllByRecursion (λ q. ¬ Contains q 47)) (sym is) (λ w. absurd (omega (arith, w.1)), clear bs))
     (λ e.
-    let is : components (b ∷ bs) ≡ onto_first b (first_component bs ∷ others bs) = cond-false (is_slash b) ([] ∷ components bs) (onto_first b (components bs)) e ∙ ap (onto_first b) (components-first_component bs) in
-    subst (AllByRecursion (λ q. ¬ Contains q 47)) (sym is) (clear_onto b (first_component bs) (others bs) e (subst (AllByRecursion (λ q. ¬ Contains q 47)) (components-first_component bs) (clear bs))))
+    let is : components (b ∷ bs) ≡ onto_first b (first_component bs ∷ others bs) = cond-false (is_slash b) ([] ∷ components bs)
+    (onto_first b (components bs)) e ∙ ap (onto_first b) (components-first_component bs) in
+    subst (AllByRecursion (λ q. ¬ Contains q 47)) (sym is)
+    (clear_onto b (first_component bs) (others bs) e
+    (subst (AllByRecursion (λ q. ¬ Contains q 47)) (components-first_component bs) (clear bs))))
     (cases_Bool (is_slash b))
 
 pub names_each : (ps : List (List ℕ)) → AllByRecursion (λ q. ¬ Contains q 47) ps → list_all is_proper ps ≡ true → All IsName ps
@@ -72,15 +82,19 @@ other_names x xs h k d l = h (suc k) d (omega (arith, l))
 
 pub proper_each : (ps : List (List ℕ)) → All IsName ps → list_all is_proper ps ≡ true
 proper_each [] h = refl
-proper_each (p ∷ ps) h = and_from (is_proper p) (list_all is_proper ps) (proper-name p (first_name p ps h)) (proper_each ps (other_names p ps h))
+proper_each (p ∷ ps) h =
+    and_from (is_proper p) (list_all is_proper ps) (proper-name p (first_name p ps h)) (proper_each ps (other_names p ps h))
 
 pub components-whole : (x : List ℕ) → ¬ Contains x 47 → components x ≡ x ∷ []
-components-whole x h = slice_split_none is_slash x (λ k d l. false_from_ne_true _ (λ e. h (k, l, get_or_default x k 47 d l ∙ eqb-true _ 47 e)))
+components-whole x h =
+    slice_split_none is_slash x (λ k d l. false_from_ne_true _ (λ e. h (k, l, get_or_default x k 47 d l ∙ eqb-true _ 47 e)))
 
 -- names that are joined are its components
 pub components-joined : (x : List ℕ) (xs : List (List ℕ)) → All IsName (x ∷ xs) → components (joined (x ∷ xs)) ≡ x ∷ xs
 components-joined x [] h = components-whole x (first_name x [] h).whole
-components-joined x (y ∷ xs) h = components-slash x (joined (y ∷ xs)) ∙ ap (λ l. l ++ components (joined (y ∷ xs))) (components-whole x (first_name x (y ∷ xs) h).whole) ∙ ap (λ l. x ∷ l) (components-joined y xs (other_names x (y ∷ xs) h))
+components-joined x (y ∷ xs) h =
+    components-slash x (joined (y ∷ xs)) ∙ ap (λ l. l ++ components (joined (y ∷ xs))) (components-whole x (first_name x (y ∷ xs) h).whole)
+    ∙ ap (λ l. x ∷ l) (components-joined y xs (other_names x (y ∷ xs) h))
 
 pub Decides-clean_path : (path : List ℕ) → Decides (length path == 0 || list_all is_proper (components path)) (IsCleanPath path)
 Decides-clean_path path = (there, back)
@@ -91,9 +105,12 @@ Decides-clean_path path = (there, back)
         (λ h. (components path, names-components path h, sym (joined-components path)))
         (or_cases (length path == 0) (list_all is_proper (components path)) e)
 
-    from : (names : List (List ℕ)) → All IsName names → path ≡ joined names → (length path == 0 || list_all is_proper (components path)) ≡ true
+    from : (names : List (List ℕ)) → All IsName names → path ≡ joined names
+        → (length path == 0 || list_all is_proper (components path)) ≡ true
     from [] h e = or_left (length path == 0) (list_all is_proper (components path)) (eq-eqb _ 0 (ap length e))
-    from (x ∷ xs) h e = or_right (length path == 0) (list_all is_proper (components path)) (ap (list_all is_proper) (ap components e ∙ components-joined x xs h) ∙ proper_each (x ∷ xs) h)
+    from (x ∷ xs) h e =
+        or_right (length path == 0) (list_all is_proper (components path))
+        (ap (list_all is_proper) (ap components e ∙ components-joined x xs h) ∙ proper_each (x ∷ xs) h)
 
     back : IsCleanPath path → (length path == 0 || list_all is_proper (components path)) ≡ true
     back w = from w.0 w.1 w.2

@@ -5,7 +5,8 @@ use Rattle.std.proofs.lemmas.List.Elements.{All-contains}
 use Rattle.ignore_glob.specs.Nodes.{Node, literal_at, any_at, star_at, start_at, middle_at, end_at, until_slash, until_end, class_at, fork_at, StepsByNothing, StepsBy, Reached, here, on, SteppedTo}
 use Rattle.ignore_glob.specs.Flags.{LeadsOn, AllLeadOn}
 
--- only what is reached is in the new set, what was in the old one still is, and the new one is closed at the positions below
+-- only what is reached is in the new set, what was in the old one still is, and the new one is
+-- closed at the positions below
 pub record IsClosedBelow (nodes : List Node) (old new : ℕ → Type 0) (below : ℕ) : Type 0 where
   pub sound : (q : ℕ) → new q → Reached nodes old q
   pub kept : (q : ℕ) → old q → new q
@@ -20,7 +21,8 @@ FromHereBy fold nodes from c p q = (node : Node) × from p × (slice_get nodes p
 
 -- a step by the character leads from one of these positions below to q
 abbrev pub SteppedBelow : Bool → List Node → (ℕ → Type 0) → ℕ → ℕ → ℕ → Type 0
-SteppedBelow fold nodes from c below q = (p : ℕ) × (node : Node) × (p < below) × from p × (slice_get nodes p ≡ Some node) × StepsBy fold node c p q
+SteppedBelow fold nodes from c below q =
+    (p : ℕ) × (node : Node) × (p < below) × from p × (slice_get nodes p ≡ Some node) × StepsBy fold node c p q
 
 -- what is reached from positions is reached from more positions
 pub Reached-mono : (nodes : List Node) (S T : ℕ → Type 0) → ((q : ℕ) → S q → T q) → (q : ℕ) → Reached nodes S q → Reached nodes T q
@@ -42,14 +44,22 @@ steps_later (fork_at firsts) p q end h s = (All-contains (λ r. (p < r) × (r �
 
 -- below its first position a set is closed
 pub closed_init : (nodes : List Node) (old : ℕ → Type 0) (low : ℕ) → ((q : ℕ) → old q → low ≤ q) → IsClosedBelow nodes old old low
-closed_init nodes old low first = record { sound = λ q f. here q f; kept = λ q f. f; closed = λ p q node h f. absurd (let n = first p f in omega (arith, h, n)) }
+closed_init nodes old low first =
+    record { sound = λ q f. here q f; kept = λ q f. f; closed = λ p q node h f. absurd (let n = first p f in omega (arith, h, n)) }
 
-module _ (nodes : List Node) (old mid new : ℕ → Type 0) (p : ℕ) (leads : AllLeadOn nodes) (step : (q : ℕ) → new q ↔ (mid q ⊎ FromHere nodes mid p q)) where
+module _ (nodes : List Node) (old mid new : ℕ → Type 0) (p : ℕ) (leads : AllLeadOn nodes)
+    (step : (q : ℕ) → new q ↔ (mid q ⊎ FromHere nodes mid p q)) where
   -- what is there at p or below was there before the step at p
   there_before : (r : ℕ) → r ≤ p → new r → mid r
-  there_before r h f = elim ((step r).0 f) [ inl g ↦ g | inr s ↦ absurd (let l = steps_later s.0 p r (length nodes) (leads p s.0 s.2) s.3 in omega (arith, l, h)) ]
+  there_before r h f =
+      elim ((step r).0 f) [
+        | inl g ↦ g
+        | inr s ↦ absurd
+            (let l = steps_later s.0 p r (length nodes) (leads p s.0 s.2) s.3 in omega (arith, l, h))
+      ]
 
-  closed_here : IsClosedBelow nodes old mid p → (r : ℕ) → r < p + 1 → (q : ℕ) (node : Node) → new r → slice_get nodes r ≡ Some node → StepsByNothing node r q → new q
+  closed_here : IsClosedBelow nodes old mid p → (r : ℕ) → r < p + 1 → (q : ℕ) (node : Node) → new r → slice_get nodes r ≡ Some node
+      → StepsByNothing node r q → new q
   closed_here inv =
       let P : ℕ → Type 0 = λ r. (q : ℕ) (node : Node) → new r → slice_get nodes r ≡ Some node → StepsByNothing node r q → new q in
       below_more P p
@@ -64,7 +74,8 @@ module _ (nodes : List Node) (old mid new : ℕ → Type 0) (p : ℕ) (leads : A
   }
 
 -- closed at all its positions, a set is what is reached
-pub closed_all : (nodes : List Node) (old new : ℕ → Type 0) (below : ℕ) → IsClosedBelow nodes old new below → ((q : ℕ) → new q → q < length nodes → q < below) → (q : ℕ) → new q ↔ Reached nodes old q
+pub closed_all : (nodes : List Node) (old new : ℕ → Type 0) (below : ℕ) → IsClosedBelow nodes old new below
+    → ((q : ℕ) → new q → q < length nodes → q < below) → (q : ℕ) → new q ↔ Reached nodes old q
 closed_all nodes old new below inv last q =
     let back : (r : ℕ) → Reached nodes old r → new r = λ r. closed_back r in
     (inv.sound q, back q)
@@ -74,22 +85,29 @@ closed_all nodes old new below inv last q =
     closed_back r (on p k node m at s) = let f = closed_back p m in inv.closed p k node (last p f (slice_get_within nodes p node at)) f at s
 
 -- below its first position nothing has stepped
-pub stepped_init : (fold : Bool) (nodes : List Node) (from new : ℕ → Type 0) (c low : ℕ) → ((q : ℕ) → from q → low ≤ q) → ((q : ℕ) → new q → ⊥) → (q : ℕ) → new q ↔ SteppedBelow fold nodes from c low q
-stepped_init fold nodes from new c low first clear q = (λ f. absurd (clear q f), λ s. absurd (let n = first s.0 s.3 in let h = s.2 in omega (arith, n, h)))
+pub stepped_init : (fold : Bool) (nodes : List Node) (from new : ℕ → Type 0) (c low : ℕ) → ((q : ℕ) → from q → low ≤ q)
+    → ((q : ℕ) → new q → ⊥) → (q : ℕ) → new q ↔ SteppedBelow fold nodes from c low q
+stepped_init fold nodes from new c low first clear q =
+    (λ f. absurd (clear q f), λ s. absurd (let n = first s.0 s.3 in let h = s.2 in omega (arith, n, h)))
 
 -- one more position has stepped
-pub stepped_more : (fold : Bool) (nodes : List Node) (from mid new : ℕ → Type 0) (c p : ℕ) → ((q : ℕ) → mid q ↔ SteppedBelow fold nodes from c p q) → ((q : ℕ) → new q ↔ (mid q ⊎ FromHereBy fold nodes from c p q)) → (q : ℕ) → new q ↔ SteppedBelow fold nodes from c (p + 1) q
+pub stepped_more : (fold : Bool) (nodes : List Node) (from mid new : ℕ → Type 0) (c p : ℕ)
+    → ((q : ℕ) → mid q ↔ SteppedBelow fold nodes from c p q) → ((q : ℕ) → new q ↔ (mid q ⊎ FromHereBy fold nodes from c p q)) → (q : ℕ)
+    → new q ↔ SteppedBelow fold nodes from c (p + 1) q
 stepped_more fold nodes from mid new c p inv step q = (
   λ f. elim ((step q).0 f) [
     | inl g ↦ let s = (inv q).0 g in (s.0, s.1, (let h : s.0 < p = s.2 in omega (arith, h)), s.3, s.4, s.5)
     | inr s ↦ (p, s.0, omega arith, s.1, s.2, s.3)
   ],
   λ s. let P : ℕ → Type 0 = λ r. (node : Node) → from r → slice_get nodes r ≡ Some node → StepsBy fold node c r q → new q in
-      below_more P p (λ r h node f at t. (step q).1 (inl ((inv q).1 (r, node, h, f, at, t)))) (λ node f at t. (step q).1 (inr (node, f, at, t))) s.0 s.2 s.1 s.3 s.4 s.5,
+      below_more P p (λ r h node f at t. (step q).1 (inl ((inv q).1 (r, node, h, f, at, t))))
+      (λ node f at t. (step q).1 (inr (node, f, at, t))) s.0 s.2 s.1 s.3 s.4 s.5,
 )
 
 -- all positions have stepped
-pub stepped_all : (fold : Bool) (nodes : List Node) (from new : ℕ → Type 0) (c below : ℕ) → ((q : ℕ) → new q ↔ SteppedBelow fold nodes from c below q) → ((q : ℕ) → from q → q < length nodes → q < below) → (q : ℕ) → new q ↔ SteppedTo fold nodes from c q
+pub stepped_all : (fold : Bool) (nodes : List Node) (from new : ℕ → Type 0) (c below : ℕ)
+    → ((q : ℕ) → new q ↔ SteppedBelow fold nodes from c below q) → ((q : ℕ) → from q → q < length nodes → q < below) → (q : ℕ)
+    → new q ↔ SteppedTo fold nodes from c q
 stepped_all fold nodes from new c below inv last q = (
   λ f. let s = (inv q).0 f in (s.0, s.1, s.3, s.4, s.5),
   λ s. (inv q).1 (s.0, s.1, last s.0 s.2 (slice_get_within nodes s.0 s.1 s.3), s.2, s.3, s.4),

@@ -19,7 +19,8 @@ others (b ∷ bs) = cond (is_slash b) (components bs) (others bs)
 pub components-first_component : (bs : List ℕ) → components bs ≡ first_component bs ∷ others bs
 components-first_component [] = refl
 components-first_component (b ∷ bs) =
-    elim (is_slash b) as (λ v. cond v ([] ∷ components bs) (onto_first b (components bs)) ≡ cond v [] (b ∷ first_component bs) ∷ cond v (components bs) (others bs)) [
+    elim (is_slash b) as (λ v. cond v ([] ∷ components bs) (onto_first b (components bs))
+    ≡ cond v [] (b ∷ first_component bs) ∷ cond v (components bs) (others bs)) [
       | true ↦ refl
       | false ↦ ap (onto_first b) (components-first_component bs)
     ]
@@ -28,7 +29,8 @@ components-first_component (b ∷ bs) =
 pub components-slash : (xs ys : List ℕ) → components (xs ++ 47 ∷ ys) ≡ components xs ++ components ys
 components-slash [] ys = refl
 components-slash (x ∷ xs) ys =
-    elim (is_slash x) as (λ v. cond v ([] ∷ components (xs ++ 47 ∷ ys)) (onto_first x (components (xs ++ 47 ∷ ys))) ≡ cond v ([] ∷ components xs) (onto_first x (components xs)) ++ components ys) [
+    elim (is_slash x) as (λ v. cond v ([] ∷ components (xs ++ 47 ∷ ys)) (onto_first x (components (xs ++ 47 ∷ ys)))
+    ≡ cond v ([] ∷ components xs) (onto_first x (components xs)) ++ components ys) [
       | true ↦ ap (λ l. [] ∷ l) (components-slash xs ys)
       | false ↦ ap (onto_first x) (components-slash xs ys ∙ ap (λ l. l ++ components ys) (components-first_component xs)) ∙ sym (ap (λ l. onto_first x l ++ components ys) (components-first_component xs))
     ]
@@ -59,22 +61,29 @@ pub no_slash : (xs : List ℕ) → ((k : ℕ) → k < length xs → is_slash (ge
 no_slash xs h = λ k d l. rw (get_or_default xs k d 0 l) (false_from_ne_true _ (h k l))
 
 -- the last component, where the last slash is known
-pub last_component-none : (xs : List ℕ) → ((k : ℕ) → k < length xs → is_slash (get_or xs k 0) ≡ true → ⊥) → last_component (components xs) ≡ xs
+pub last_component-none : (xs : List ℕ) → ((k : ℕ) → k < length xs → is_slash (get_or xs k 0) ≡ true → ⊥)
+    → last_component (components xs) ≡ xs
 last_component-none xs h = ap last_component (slice_split_none is_slash xs (no_slash xs h))
 
 pub cut_at : (xs : List ℕ) (k : ℕ) → k < length xs → is_slash (get_or xs k 0) ≡ true → xs ≡ take k xs ++ 47 ∷ drop (k + 1) xs
-cut_at xs k l e = sym (take-append-drop k xs) ∙ ap (λ r. take k xs ++ r) (drop_more xs k 0 l ∙ ap (λ x. x ∷ drop (k + 1) xs) (eqb-true _ 47 e))
+cut_at xs k l e =
+    sym (take-append-drop k xs) ∙ ap (λ r. take k xs ++ r) (drop_more xs k 0 l ∙ ap (λ x. x ∷ drop (k + 1) xs) (eqb-true _ 47 e))
 
-pub last_component-last : (xs : List ℕ) (k : ℕ) → k < length xs → is_slash (get_or xs k 0) ≡ true → ((j : ℕ) → k + 1 ≤ j → j < length xs → is_slash (get_or xs j 0) ≡ true → ⊥) → last_component (components xs) ≡ drop (k + 1) xs
+pub last_component-last : (xs : List ℕ) (k : ℕ) → k < length xs → is_slash (get_or xs k 0) ≡ true
+    → ((j : ℕ) → k + 1 ≤ j → j < length xs → is_slash (get_or xs j 0) ≡ true → ⊥) → last_component (components xs) ≡ drop (k + 1) xs
 last_component-last xs k l e after =
     let rest = drop (k + 1) xs in
-    let clear : (j : ℕ) → j < length rest → is_slash (get_or rest j 0) ≡ true → ⊥ = λ j m s. after (k + 1 + j) (omega arith) (omega (arith, length-drop (k + 1) xs)) (ap is_slash (sym (get_or-drop (k + 1) xs j 0)) ∙ s) in
+    let clear : (j : ℕ) → j < length rest → is_slash (get_or rest j 0) ≡ true
+    → ⊥ = λ j m s. after (k + 1 + j) (omega arith) (omega (arith, length-drop (k + 1) xs))
+    (ap is_slash (sym (get_or-drop (k + 1) xs j 0)) ∙ s) in
     ap (λ t. last_component (components t)) (cut_at xs k l e)
-    ∙ ap last_component (components-slash (take k xs) rest ∙ ap (λ l. components (take k xs) ++ l) (slice_split_none is_slash rest (no_slash rest clear)))
+    ∙ ap last_component (components-slash (take k xs) rest
+    ∙ ap (λ l. components (take k xs) ++ l) (slice_split_none is_slash rest (no_slash rest clear)))
     ∙ last_component-snoc (components (take k xs)) rest
 
 -- a component stays whole where more is prepended
-whole_components-onto : (b : ℕ) (p : List ℕ) (ps : List (List ℕ)) → whole_components (p ∷ ps) ≡ p ∷ ps → whole_components (onto_first b (p ∷ ps)) ≡ onto_first b (p ∷ ps)
+whole_components-onto : (b : ℕ) (p : List ℕ) (ps : List (List ℕ)) → whole_components (p ∷ ps) ≡ p ∷ ps
+    → whole_components (onto_first b (p ∷ ps)) ≡ onto_first b (p ∷ ps)
 whole_components-onto b p [] h = refl
 whole_components-onto b p (q ∷ ps) h = ap (λ l. (b ∷ p) ∷ l) (cons_tail h)
   where
@@ -82,17 +91,21 @@ whole_components-onto b p (q ∷ ps) h = ap (λ l. (b ∷ p) ∷ l) (cons_tail h
     cons_tail e = cc
 
 -- where no slash ends a text that is not empty, its last component is not empty
-pub whole_components-same : (xs : List ℕ) → xs ≢ [] → ((ys : List ℕ) → xs ≢ ys ++ 47 ∷ []) → whole_components (components xs) ≡ components xs
+pub whole_components-same : (xs : List ℕ) → xs ≢ [] → ((ys : List ℕ) → xs ≢ ys ++ 47 ∷ [])
+    → whole_components (components xs) ≡ components xs
 whole_components-same [] some open_end = absurd (some refl)
 whole_components-same (x ∷ []) some open_end =
     let no : is_slash x ≡ false = false_from_ne_true _ (λ e. open_end [] (ap (λ y. y ∷ []) (eqb-true x 47 e))) in
     let is : components (x ∷ []) ≡ (x ∷ []) ∷ [] = cond-false (is_slash x) ([] ∷ ([] ∷ [])) ((x ∷ []) ∷ []) no in
     ap whole_components is ∙ sym is
 whole_components-same (x ∷ (y ∷ xs)) some open_end =
-    let ih : whole_components (components (y ∷ xs)) ≡ components (y ∷ xs) = whole_components-same (y ∷ xs) (λ e. nil_cons e) (λ ys e. open_end (x ∷ ys) (ap (λ l. x ∷ l) e)) in
+    let ih : whole_components (components (y ∷ xs))
+    ≡ components (y ∷ xs) = whole_components-same (y ∷ xs) (λ e. nil_cons e) (λ ys e. open_end (x ∷ ys) (ap (λ l. x ∷ l) e)) in
     let at = components-first_component (y ∷ xs) in
-    let ih' : whole_components (first_component (y ∷ xs) ∷ others (y ∷ xs)) ≡ first_component (y ∷ xs) ∷ others (y ∷ xs) = sym (ap whole_components at) ∙ ih ∙ at in
-    elim (is_slash x) as (λ v. whole_components (cond v ([] ∷ components (y ∷ xs)) (onto_first x (components (y ∷ xs)))) ≡ cond v ([] ∷ components (y ∷ xs)) (onto_first x (components (y ∷ xs)))) [
+    let ih' : whole_components (first_component (y ∷ xs) ∷ others (y ∷ xs))
+    ≡ first_component (y ∷ xs) ∷ others (y ∷ xs) = sym (ap whole_components at) ∙ ih ∙ at in
+    elim (is_slash x) as (λ v. whole_components (cond v ([] ∷ components (y ∷ xs)) (onto_first x (components (y ∷ xs))))
+    ≡ cond v ([] ∷ components (y ∷ xs)) (onto_first x (components (y ∷ xs)))) [
       | true ↦ ap (λ l. whole_components ([] ∷ l)) at ∙ ap (λ l. [] ∷ l) ih' ∙ sym (ap (λ l. [] ∷ l) at)
       | false ↦ ap (λ l. whole_components (onto_first x l)) at ∙ whole_components-onto x (first_component (y ∷ xs)) (others (y ∷ xs)) ih' ∙ sym (ap (onto_first x) at)
     ]
@@ -122,7 +135,8 @@ ending (x ∷ (y ∷ xs)) = inr (more (ending (y ∷ xs)))
         cut e = cc
     tail (z ∷ ys) e = (ys, cc)
 
-    more : (y ∷ xs ≡ []) ⊎ (((ys : List ℕ) × (y ∷ xs ≡ ys ++ 47 ∷ [])) ⊎ ((y ∷ xs ≢ []) × ((ys : List ℕ) → y ∷ xs ≢ ys ++ 47 ∷ []))) → ((ys : List ℕ) × (x ∷ (y ∷ xs) ≡ ys ++ 47 ∷ [])) ⊎ ((x ∷ (y ∷ xs) ≢ []) × ((ys : List ℕ) → x ∷ (y ∷ xs) ≢ ys ++ 47 ∷ []))
+    more : (y ∷ xs ≡ []) ⊎ (((ys : List ℕ) × (y ∷ xs ≡ ys ++ 47 ∷ [])) ⊎ ((y ∷ xs ≢ []) × ((ys : List ℕ) → y ∷ xs ≢ ys ++ 47 ∷ [])))
+        → ((ys : List ℕ) × (x ∷ (y ∷ xs) ≡ ys ++ 47 ∷ [])) ⊎ ((x ∷ (y ∷ xs) ≢ []) × ((ys : List ℕ) → x ∷ (y ∷ xs) ≢ ys ++ 47 ∷ []))
     more (inl e) = absurd (nil_cons y xs e)
     more (inr (inl w)) = inl (x ∷ w.0, ap (λ l. x ∷ l) w.1)
     more (inr (inr w)) = inr (λ e. nil_cons x (y ∷ xs) e, λ ys e. let t = tail ys e in w.1 t.0 t.1)

@@ -22,4 +22,5 @@ count_before [] (suc k) h = refl
 count_before (x ∷ xs) zero h = let none = count_none (x ∷ xs) (λ q f. let n = h q f in absurd (omega (arith, n))) in omega (arith, none)
 count_before (x ∷ xs) (suc k) h =
     let one : Bool → ℕ = λ b. cond b 1 0 in
-    sum_by-cons one x (take k xs) ∙ (ap (λ n. cond x 1 0 + n) (count_before xs k (λ q f. let n = h (suc q) f in omega (arith, n))) ∙ sym (sum_by-cons one x xs))
+    sum_by-cons one x (take k xs) ∙ (ap (λ n. cond x 1 0 + n) (count_before xs k (λ q f. let n = h (suc q) f in omega (arith, n)))
+    ∙ sym (sum_by-cons one x xs))

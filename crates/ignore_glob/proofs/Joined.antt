@@ -23,7 +23,9 @@ newlines zero = refl
 newlines (suc n) = refl
 
 -- one text more
-pub joined_more : (first : List ℕ) (xs : List Error) (i : ℕ) (x : Error) → i < length xs → x ≡ get_or xs i x → joined_from first (take (suc i) (map text_of xs)) ≡ joined_from first (take i (map text_of xs)) ++ (separator_from first i ++ text_of x)
+pub joined_more : (first : List ℕ) (xs : List Error) (i : ℕ) (x : Error) → i < length xs → x ≡ get_or xs i x
+    → joined_from first (take (suc i) (map text_of xs))
+    ≡ joined_from first (take i (map text_of xs)) ++ (separator_from first i ++ text_of x)
 joined_more first [] i x h is = absurd (omega (arith, h))
 joined_more first (y ∷ ys) zero x h is = rw (is, append-nil)
 joined_more first (y ∷ ys) (suc i) x h is = rw (joined_more (10 ∷ []) ys i x (omega (arith, h)) is, newlines i, append_assoc, append_assoc)
@@ -43,7 +45,8 @@ joined_from-nil (text ∷ (next ∷ texts)) = ap (λ l. text ++ l) (after_newlin
 pub joined_all : (xs : List Error) (i : ℕ) → length xs ≤ i → joined_from [] (take i (map text_of xs)) ≡ join_with_byte 10 (map text_of xs)
 joined_all xs i h = all [] xs i h ∙ joined_from-nil (map text_of xs)
   where
-    all : (separator : List ℕ) (ys : List Error) (j : ℕ) → length ys ≤ j → joined_from separator (take j (map text_of ys)) ≡ joined_from separator (map text_of ys)
+    all : (separator : List ℕ) (ys : List Error) (j : ℕ) → length ys ≤ j
+        → joined_from separator (take j (map text_of ys)) ≡ joined_from separator (map text_of ys)
     all separator [] zero k = refl
     all separator [] (suc j) k = refl
     all separator (y ∷ ys) zero k = absurd (omega (arith, k))

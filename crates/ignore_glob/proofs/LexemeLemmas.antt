@@ -4,7 +4,8 @@ use Rattle.std.specs.List.{AllByRecursion, list_all}
 use Rattle.ignore_glob.specs.declared.glob.fault.GlobFault.{GlobFault}
 use Rattle.ignore_glob.specs.declared.glob.lexeme.Lexeme.{Lexeme as CodeLexeme}
 use Rattle.ignore_glob.specs.Lexing.{Lexeme, put_first, turns, last_end, after_sign}
-use Rattle.ignore_glob.specs.LexemeViews.{lexeme_view, row_view, ClosesBefore}
+use Rattle.ignore_glob.specs.LexemeViews.{lexeme_view, row_view}
+use Rattle.ignore_glob.specs.ParserSteps.{ClosesBefore}
 use Rattle.ignore_glob.proofs.BracketLemmas.{sign-cut}
 
 -- an outcome, with these lexemes before it
@@ -12,7 +13,8 @@ abbrev pub put_all : List Lexeme → Result (List Lexeme) GlobFault → Result (
 put_all [] out = out
 put_all (l ∷ ls) out = put_first l (put_all ls out)
 
-pub put_all-push : (ls : List CodeLexeme) (l : CodeLexeme) (out : Result (List Lexeme) GlobFault) → put_all (row_view (ls ++ l ∷ [])) out ≡ put_all (row_view ls) (put_first (lexeme_view l) out)
+pub put_all-push : (ls : List CodeLexeme) (l : CodeLexeme) (out : Result (List Lexeme) GlobFault)
+    → put_all (row_view (ls ++ l ∷ [])) out ≡ put_all (row_view ls) (put_first (lexeme_view l) out)
 put_all-push [] l out = refl
 put_all-push (k ∷ ls) l out = ap (λ x. put_first (lexeme_view k) x) (put_all-push ls l out)
 
@@ -59,4 +61,6 @@ pub ClosesBefore-rest : (n : ℕ) (text prefix rest : List ℕ) → text ≡ pre
 ClosesBefore-rest n text prefix rest e h m r f = h (prefix ++ m) r (e ∙ (ap (λ x. prefix ++ x) f ∙ sym (append_assoc prefix m (93 ∷ r))))
 
 pub ClosesBefore-sign : (n : ℕ) (text inside : List ℕ) → inside ≡ after_sign text → ClosesBefore n text → ClosesBefore n inside
-ClosesBefore-sign n text inside e h = let C : List ℕ → Type 0 = λ x. ClosesBefore n x in let s = sign-cut text in subst C (sym e) (ClosesBefore-rest n text s.0 (after_sign text) s.1 h)
+ClosesBefore-sign n text inside e h =
+    let C : List ℕ → Type 0 = λ x. ClosesBefore n x in let s = sign-cut text in
+    subst C (sym e) (ClosesBefore-rest n text s.0 (after_sign text) s.1 h)

@@ -34,25 +34,29 @@ flagged_length (false ∷ fs) (p ∷ ps) e =
     let sum : count_by (λ b. b) (false ∷ fs) ≡ 0 + count_by (λ b. b) fs = sum_by-cons (λ b. cond b 1 0) false fs in
     omega (arith, more, sum)
 
-flagged_from : (fs : List Bool) (ps : List Position) (x : Position) → Contains (flagged fs ps) x → (k : ℕ) × (slice_get fs k ≡ Some true) × (slice_get ps k ≡ Some x)
+flagged_from : (fs : List Bool) (ps : List Position) (x : Position) → Contains (flagged fs ps) x
+    → (k : ℕ) × (slice_get fs k ≡ Some true) × (slice_get ps k ≡ Some x)
 flagged_from [] ps x h = absurd (omega (arith, h.1))
 flagged_from (b ∷ fs) [] x h = absurd (omega (arith, h.1))
 flagged_from (true ∷ fs) (p ∷ ps) x (zero, l, e) = (0, refl, ap (λ y. Some y) e)
 flagged_from (true ∷ fs) (p ∷ ps) x (suc i, l, e) = let more = flagged_from fs ps x (i, omega (arith, l), e) in (suc more.0, more.1, more.2)
 flagged_from (false ∷ fs) (p ∷ ps) x h = let more = flagged_from fs ps x h in (suc more.0, more.1, more.2)
 
-flagged_has : (fs : List Bool) (ps : List Position) (k : ℕ) (x : Position) → slice_get fs k ≡ Some true → slice_get ps k ≡ Some x → Contains (flagged fs ps) x
+flagged_has : (fs : List Bool) (ps : List Position) (k : ℕ) (x : Position) → slice_get fs k ≡ Some true → slice_get ps k ≡ Some x
+    → Contains (flagged fs ps) x
 flagged_has [] ps k x f a = absurd (cc f)
 flagged_has (b ∷ fs) [] k x f a = absurd (cc a)
 flagged_has (true ∷ fs) (p ∷ ps) zero x f a = (0, omega arith, cc a)
 flagged_has (false ∷ fs) (p ∷ ps) zero x f a = absurd (cc f)
-flagged_has (true ∷ fs) (p ∷ ps) (suc k) x f a = let more = contains_at (flagged fs ps) x (flagged_has fs ps k x f a) in at_contains (p ∷ flagged fs ps) (suc more.0) x more.1
+flagged_has (true ∷ fs) (p ∷ ps) (suc k) x f a =
+    let more = contains_at (flagged fs ps) x (flagged_has fs ps k x f a) in at_contains (p ∷ flagged fs ps) (suc more.0) x more.1
 flagged_has (false ∷ fs) (p ∷ ps) (suc k) x f a = flagged_has fs ps k x f a
 
 flagged_once : (fs : List Bool) (ps : List Position) → HasNoDuplicates ps → HasNoDuplicates (flagged fs ps)
 flagged_once [] ps h = tt
 flagged_once (b ∷ fs) [] h = tt
-flagged_once (true ∷ fs) (p ∷ ps) h = ((λ has. let found = flagged_from fs ps p has in h.0 (at_contains ps found.0 p found.2)), flagged_once fs ps h.1)
+flagged_once (true ∷ fs) (p ∷ ps) h =
+    ((λ has. let found = flagged_from fs ps p has in h.0 (at_contains ps found.0 p found.2)), flagged_once fs ps h.1)
 flagged_once (false ∷ fs) (p ∷ ps) h = flagged_once fs ps h.1
 
 pub all_length : (ts : Tokens) → length (all ts) ≡ positions ts + 1
@@ -85,7 +89,8 @@ module _ (whole : Tokens) (nodes : List Node) (at : AreGlobNodes nodes whole) (f
   here_once o n (flags, are, count) =
       let known : List Position = flagged flags (all whole) in
       let pair : Position → Position × ℕ = λ x. (x, o) in
-      let len : length flags ≡ length (all whole) = let a = are.len in let b = all_length whole in let c = positions_length nodes whole at in omega (arith, a, b, c) in
+      let len : length flags ≡ length (all whole) = let a = are.len in let b = all_length whole in
+      let c = positions_length nodes whole at in omega (arith, a, b, c) in
       record {
         marks = map pair known;
         each = λ p i. (

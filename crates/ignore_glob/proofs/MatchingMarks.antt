@@ -12,7 +12,8 @@ drop_from_slice_get o [] c at = absurd (cc at)
 drop_from_slice_get zero (t ∷ ts) c at = cc
 drop_from_slice_get (suc o) (t ∷ ts) c at = drop_from_slice_get o ts c at
 
-slice_get_from_drop : (o : ℕ) (text : List ℕ) (c : ℕ) (u : List ℕ) → c ∷ u ≡ drop o text → (slice_get text o ≡ Some c) × (u ≡ drop (suc o) text)
+slice_get_from_drop : (o : ℕ) (text : List ℕ) (c : ℕ) (u : List ℕ) → c ∷ u ≡ drop o text
+    → (slice_get text o ≡ Some c) × (u ≡ drop (suc o) text)
 slice_get_from_drop zero [] c u e = absurd (cc e)
 slice_get_from_drop (suc o) [] c u e = absurd (cc e)
 slice_get_from_drop zero (t ∷ ts) c u e = (cc, cc)
@@ -27,7 +28,8 @@ past_all (suc o) (t ∷ ts) e = omega (arith, past_all o ts e)
 module _ (fold : Bool) (nodes : List Node) (text : List ℕ) where
   -- a mark from which a path leads to the end has a path from the first position
   mutual
-    reached_back : (S : ℕ → Type 0) (w : List ℕ) → ((q : ℕ) → S q → Path fold nodes q w → Path fold nodes 0 text) → (q : ℕ) → Reached nodes S q → Path fold nodes q w → Path fold nodes 0 text
+    reached_back : (S : ℕ → Type 0) (w : List ℕ) → ((q : ℕ) → S q → Path fold nodes q w → Path fold nodes 0 text) → (q : ℕ)
+        → Reached nodes S q → Path fold nodes q w → Path fold nodes 0 text
     reached_back S w from q (here k s) r = from k s r
     reached_back S w from q (on p k node m at s) r = reached_back S w from p m (nothing p k w node at s r)
 
@@ -36,14 +38,17 @@ module _ (fold : Bool) (nodes : List Node) (text : List ℕ) where
   marks_back (suc o) q m r =
       reached_back (λ k. (c : ℕ) × (slice_get text o ≡ Some c) × SteppedTo fold nodes (Marked fold nodes text o) c k) (drop (suc o) text)
       (λ k s t. let P : List ℕ → Type 0 = λ v. Path fold nodes s.2.0 v in
-      marks_back o s.2.0 s.2.2 (subst P (sym (drop_from_slice_get o text s.0 s.1)) (character s.2.0 k s.0 (drop (suc o) text) s.2.1 s.2.3 s.2.4 t)))
+      marks_back o s.2.0 s.2.2 (subst P (sym (drop_from_slice_get o text s.0 s.1))
+      (character s.2.0 k s.0 (drop (suc o) text) s.2.1 s.2.3 s.2.4 t)))
       q m r
 
-  pub marked_on : (o p q : ℕ) (node : Node) → Marked fold nodes text o p → slice_get nodes p ≡ Some node → StepsByNothing node p q → Marked fold nodes text o q
+  pub marked_on : (o p q : ℕ) (node : Node) → Marked fold nodes text o p → slice_get nodes p ≡ Some node → StepsByNothing node p q
+      → Marked fold nodes text o q
   marked_on zero p q node m at s = on p q node m at s
   marked_on (suc o) p q node m at s = on p q node m at s
 
-  path_marks : (p : ℕ) (w : List ℕ) → Path fold nodes p w → (o : ℕ) → Marked fold nodes text o p → w ≡ drop o text → o ≤ length text → Marked fold nodes text (length text) (length nodes)
+  path_marks : (p : ℕ) (w : List ℕ) → Path fold nodes p w → (o : ℕ) → Marked fold nodes text o p → w ≡ drop o text → o ≤ length text
+      → Marked fold nodes text (length text) (length nodes)
   path_marks n w ends o m e h =
       let same : o ≡ length text = omega (arith, past_all o text e) in
       let P : ℕ → Type 0 = λ k. Marked fold nodes text k (length nodes) in
@@ -60,7 +65,8 @@ module _ (fold : Bool) (nodes : List Node) (text : List ℕ) where
   )
 
   -- the whole glob matches exactly where the end is marked at the end of the text
-  pub matching_mark : (ts : Tokens) → AreGlobNodes nodes ts → (glob_matches fold ts text ↔ Marked fold nodes text (length text) (length nodes))
+  pub matching_mark : (ts : Tokens) → AreGlobNodes nodes ts
+      → (glob_matches fold ts text ↔ Marked fold nodes text (length text) (length nodes))
   matching_mark ts at = elim at [
     | inl lone ↦ ((λ h. path_marks 0 text (lone_path fold nodes text lone.1) 0 (here 0 refl) refl (omega arith)), (λ m. inl lone.0))
     | inr plain ↦ let both = tokens_mark ts plain.1 in

@@ -20,18 +20,23 @@ mutual
   tokens_nodes-length done b e = refl
   tokens_nodes-length (then t ts) b e =
       let next = entry ts (b + token_width t) e in
-      length-append (token_nodes t b next) (tokens_nodes ts (b + token_width t) e) ∙ omega (arith, token_nodes-length t b next, tokens_nodes-length ts (b + token_width t) e)
+      length-append (token_nodes t b next) (tokens_nodes ts (b + token_width t) e)
+      ∙ omega (arith, token_nodes-length t b next, tokens_nodes-length ts (b + token_width t) e)
 
   pub branches_nodes-length : (bs : Branches) (b e : ℕ) → length (branches_nodes bs b e) ≡ branches_width bs
   branches_nodes-length no_branch b e = refl
   branches_nodes-length (branch ts bs) b e =
-      length-append (tokens_nodes ts b e) (branches_nodes bs (b + width ts) e) ∙ omega (arith, tokens_nodes-length ts b e, branches_nodes-length bs (b + width ts) e)
+      length-append (tokens_nodes ts b e) (branches_nodes bs (b + width ts) e)
+      ∙ omega (arith, tokens_nodes-length ts b e, branches_nodes-length bs (b + width ts) e)
 
 -- a token more stands, and a branch more
-pub token_put : (old new : List Node) (t : Token) (ts : Tokens) (m n e : ℕ) → new ≡ old ++ token_nodes t n (entry ts (n + token_width t) e) → m ≡ n + token_width t → new ++ tokens_nodes ts m e ≡ old ++ tokens_nodes (then t ts) n e
-token_put old new t ts m n e p q = rw (p, q) (append_assoc old (token_nodes t n (entry ts (n + token_width t) e)) (tokens_nodes ts (n + token_width t) e))
+pub token_put : (old new : List Node) (t : Token) (ts : Tokens) (m n e : ℕ) → new ≡ old ++ token_nodes t n (entry ts (n + token_width t) e)
+    → m ≡ n + token_width t → new ++ tokens_nodes ts m e ≡ old ++ tokens_nodes (then t ts) n e
+token_put old new t ts m n e p q =
+    rw (p, q) (append_assoc old (token_nodes t n (entry ts (n + token_width t) e)) (tokens_nodes ts (n + token_width t) e))
 
-pub branch_put : (old new : List Node) (ts : Tokens) (bs : Branches) (m n e : ℕ) → new ≡ old ++ tokens_nodes ts n e → m ≡ n + width ts → new ++ branches_nodes bs m e ≡ old ++ branches_nodes (branch ts bs) n e
+pub branch_put : (old new : List Node) (ts : Tokens) (bs : Branches) (m n e : ℕ) → new ≡ old ++ tokens_nodes ts n e → m ≡ n + width ts
+    → new ++ branches_nodes bs m e ≡ old ++ branches_nodes (branch ts bs) n e
 branch_put old new ts bs m n e p q = rw (p, q) (append_assoc old (tokens_nodes ts n e) (branches_nodes bs (n + width ts) e))
 
 slice_get-past : (before rest : List Node) (x : Node) → slice_get (before ++ x ∷ rest) (length before) ≡ Some x
@@ -41,12 +46,15 @@ slice_get-past (y ∷ before) rest x = slice_get-past before rest x
 at_place : (nodes before rest : List Node) (x : Node) (b : ℕ) → nodes ≡ before ++ x ∷ rest → b ≡ length before → slice_get nodes b ≡ Some x
 at_place nodes before rest x b e h = rw (e, h) (slice_get-past before rest x)
 
-next_place : (nodes before rest : List Node) (x y : Node) (b : ℕ) → nodes ≡ before ++ x ∷ y ∷ rest → b ≡ length before → slice_get nodes (b + 1) ≡ Some y
+next_place : (nodes before rest : List Node) (x y : Node) (b : ℕ) → nodes ≡ before ++ x ∷ y ∷ rest → b ≡ length before
+    → slice_get nodes (b + 1) ≡ Some y
 next_place nodes before rest x y b e h =
-    at_place nodes (before ++ x ∷ []) rest y (b + 1) (e ∙ sym (append_assoc before (x ∷ []) (y ∷ rest))) (omega (arith, h, length-append before (x ∷ [])))
+    at_place nodes (before ++ x ∷ []) rest y (b + 1) (e ∙ sym (append_assoc before (x ∷ []) (y ∷ rest)))
+    (omega (arith, h, length-append before (x ∷ [])))
 
 mutual
-  token_at : (t : Token) (nodes before rest : List Node) (b e : ℕ) → nodes ≡ before ++ (token_nodes t b e ++ rest) → b ≡ length before → TokenAt nodes t b e
+  token_at : (t : Token) (nodes before rest : List Node) (b e : ℕ) → nodes ≡ before ++ (token_nodes t b e ++ rest) → b ≡ length before
+      → TokenAt nodes t b e
   token_at (literal c) nodes before rest b e p h = at_place nodes before rest _ b p h
   token_at any nodes before rest b e p h = at_place nodes before rest _ b p h
   token_at star nodes before rest b e p h = at_place nodes before rest _ b p h
@@ -57,10 +65,13 @@ mutual
   token_at (alternates bs) nodes before rest b e p h =
       let first = fork_at (fork bs (b + 1) e) in (
         at_place nodes before (branches_nodes bs (b + 1) e ++ rest) first b p h,
-        branches_at bs nodes (before ++ first ∷ []) rest (b + 1) e (p ∙ sym (append_assoc before (first ∷ []) (branches_nodes bs (b + 1) e ++ rest))) (omega (arith, h, length-append before (first ∷ []))),
+        branches_at bs nodes (before ++ first ∷ []) rest (b + 1) e
+            (p ∙ sym (append_assoc before (first ∷ []) (branches_nodes bs (b + 1) e ++ rest)))
+            (omega (arith, h, length-append before (first ∷ []))),
       )
 
-  tokens_at : (ts : Tokens) (nodes before rest : List Node) (b e : ℕ) → nodes ≡ before ++ (tokens_nodes ts b e ++ rest) → b ≡ length before → TokensAt nodes ts b e
+  tokens_at : (ts : Tokens) (nodes before rest : List Node) (b e : ℕ) → nodes ≡ before ++ (tokens_nodes ts b e ++ rest) → b ≡ length before
+      → TokensAt nodes ts b e
   tokens_at done nodes before rest b e p h = tt
   tokens_at (then t ts) nodes before rest b e p h =
       let w = token_width t in
@@ -69,10 +80,12 @@ mutual
       let more = tokens_nodes ts (b + w) e in
       let cut : nodes ≡ before ++ (here ++ (more ++ rest)) = p ∙ ap (λ x. before ++ x) (append_assoc here more rest) in (
         token_at t nodes before (more ++ rest) b next cut h,
-        tokens_at ts nodes (before ++ here) rest (b + w) e (cut ∙ sym (append_assoc before here (more ++ rest))) (omega (arith, h, length-append before here, token_nodes-length t b next)),
+        tokens_at ts nodes (before ++ here) rest (b + w) e (cut ∙ sym (append_assoc before here (more ++ rest)))
+            (omega (arith, h, length-append before here, token_nodes-length t b next)),
       )
 
-  branches_at : (bs : Branches) (nodes before rest : List Node) (b e : ℕ) → nodes ≡ before ++ (branches_nodes bs b e ++ rest) → b ≡ length before → BranchesAt nodes bs b e
+  branches_at : (bs : Branches) (nodes before rest : List Node) (b e : ℕ) → nodes ≡ before ++ (branches_nodes bs b e ++ rest)
+      → b ≡ length before → BranchesAt nodes bs b e
   branches_at no_branch nodes before rest b e p h = tt
   branches_at (branch ts bs) nodes before rest b e p h =
       let w = width ts in
@@ -80,7 +93,8 @@ mutual
       let more = branches_nodes bs (b + w) e in
       let cut : nodes ≡ before ++ (here ++ (more ++ rest)) = p ∙ ap (λ x. before ++ x) (append_assoc here more rest) in (
         tokens_at ts nodes before (more ++ rest) b e cut h,
-        branches_at bs nodes (before ++ here) rest (b + w) e (cut ∙ sym (append_assoc before here (more ++ rest))) (omega (arith, h, length-append before here, tokens_nodes-length ts b e)),
+        branches_at bs nodes (before ++ here) rest (b + w) e (cut ∙ sym (append_assoc before here (more ++ rest)))
+            (omega (arith, h, length-append before here, tokens_nodes-length ts b e)),
       )
 
 pub tokens_nodes-are : (ts : Tokens) → AreNodes (tokens_nodes ts 0 (width ts)) ts

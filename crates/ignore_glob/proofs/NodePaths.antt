@@ -11,8 +11,10 @@ use Rattle.ignore_glob.specs.Nodes.{Node, literal_at, any_at, star_at, start_at,
 -- from the position, some steps by this text lead to the end
 pub data Path (fold : Bool) (nodes : List Node) : ℕ → List ℕ → Type 0 where
   ends : Path fold nodes (length nodes) []
-  nothing : (p q : ℕ) (w : List ℕ) (node : Node) → slice_get nodes p ≡ Some node → StepsByNothing node p q → Path fold nodes q w → Path fold nodes p w
-  character : (p q c : ℕ) (w : List ℕ) (node : Node) → slice_get nodes p ≡ Some node → StepsBy fold node c p q → Path fold nodes q w → Path fold nodes p (c ∷ w)
+  nothing : (p q : ℕ) (w : List ℕ) (node : Node) → slice_get nodes p ≡ Some node → StepsByNothing node p q → Path fold nodes q w
+      → Path fold nodes p w
+  character : (p q c : ℕ) (w : List ℕ) (node : Node) → slice_get nodes p ≡ Some node → StepsBy fold node c p q → Path fold nodes q w
+      → Path fold nodes p (c ∷ w)
 
 Contains-head : (x : ℕ) (xs : List ℕ) → Contains (x ∷ xs) x
 Contains-head x xs = (0, omega arith, refl)
@@ -26,7 +28,8 @@ Contains-cases x y xs (suc k, lt, e) = inr (k, omega (arith, lt), e)
 
 module _ (fold : Bool) (nodes : List Node) where
   -- inside a start or a middle, any text up to a slash leads on
-  past_slash : (b e : ℕ) (a v : List ℕ) → slice_get nodes b ≡ Some (until_slash e) → Path fold nodes e v → Path fold nodes b (a ++ slash ∷ v)
+  past_slash : (b e : ℕ) (a v : List ℕ) → slice_get nodes b ≡ Some (until_slash e) → Path fold nodes e v
+      → Path fold nodes b (a ++ slash ∷ v)
   past_slash b e [] v at p = character b e slash v (until_slash e) at (inr (refl, refl)) p
   past_slash b e (c ∷ a) v at p = character b b c (a ++ slash ∷ v) (until_slash e) at (inl refl) (past_slash b e a v at p)
 
@@ -34,17 +37,23 @@ module _ (fold : Bool) (nodes : List Node) where
   past_end b e [] v at p = nothing b e v (until_end e) at refl p
   past_end b e (c ∷ a) v at p = character b b c (a ++ v) (until_end e) at refl (past_end b e a v at p)
 
-  past_star : (b e : ℕ) (a v : List ℕ) → slice_get nodes b ≡ Some (star_at e) → All (λ c. c ≢ slash) a → Path fold nodes e v → Path fold nodes b (a ++ v)
+  past_star : (b e : ℕ) (a v : List ℕ) → slice_get nodes b ≡ Some (star_at e) → All (λ c. c ≢ slash) a → Path fold nodes e v
+      → Path fold nodes b (a ++ v)
   past_star b e [] v at all p = nothing b e v (star_at e) at refl p
-  past_star b e (c ∷ a) v at all p = character b b c (a ++ v) (star_at e) at (All-head (λ d. d ≢ slash) c a all, refl) (past_star b e a v at (All-tail (λ d. d ≢ slash) c a all) p)
+  past_star b e (c ∷ a) v at all p =
+      character b b c (a ++ v) (star_at e) at (All-head (λ d. d ≢ slash) c a all, refl)
+      (past_star b e a v at (All-tail (λ d. d ≢ slash) c a all) p)
 
-  past_middle : (b e : ℕ) (x y v : List ℕ) → slice_get nodes b ≡ Some (middle_at e) → slice_get nodes (b + 1) ≡ Some (until_slash e) → x ++ slash ∷ [] ≡ slash ∷ y → Path fold nodes e v → Path fold nodes b ((x ++ slash ∷ []) ++ v)
+  past_middle : (b e : ℕ) (x y v : List ℕ) → slice_get nodes b ≡ Some (middle_at e) → slice_get nodes (b + 1) ≡ Some (until_slash e)
+      → x ++ slash ∷ [] ≡ slash ∷ y → Path fold nodes e v → Path fold nodes b ((x ++ slash ∷ []) ++ v)
   past_middle b e [] y v at inside same p = character b e slash v (middle_at e) at (refl, inr refl) p
   past_middle b e (c ∷ x) y v at inside same p =
       let first : c ≡ slash = cc in
       rw append_assoc (character b (b + 1) c (x ++ slash ∷ v) (middle_at e) at (first, inl refl) (past_slash (b + 1) e x v inside p))
 
-  fork_path : (bs : Branches) (b e : ℕ) (a v : List ℕ) → TokenAt nodes (alternates bs) b e → token_matches fold (alternates bs) a → Path fold nodes e v → (branch_matches fold bs a → (q : ℕ) × Contains (entries bs (b + 1) e) q × Path fold nodes q (a ++ v)) → Path fold nodes b (a ++ v)
+  fork_path : (bs : Branches) (b e : ℕ) (a v : List ℕ) → TokenAt nodes (alternates bs) b e → token_matches fold (alternates bs) a
+      → Path fold nodes e v → (branch_matches fold bs a → (q : ℕ) × Contains (entries bs (b + 1) e) q × Path fold nodes q (a ++ v))
+      → Path fold nodes b (a ++ v)
   fork_path no_branch b e a v at h p find = elim h [
     | inl none ↦ rw none.1 (nothing b e v (fork_at (e ∷ [])) at.0 (Contains-head e []) p)
     | inr some ↦ absurd some
@@ -55,7 +64,8 @@ module _ (fold : Bool) (nodes : List Node) where
   ]
 
   mutual
-    token_path : (t : Token) (b e : ℕ) (a v : List ℕ) → TokenAt nodes t b e → token_matches fold t a → Path fold nodes e v → Path fold nodes b (a ++ v)
+    token_path : (t : Token) (b e : ℕ) (a v : List ℕ) → TokenAt nodes t b e → token_matches fold t a → Path fold nodes e v
+        → Path fold nodes b (a ++ v)
     token_path (literal c) b e a v at h p = rw h.1 (character b e h.0 v (literal_at c e) at (h.2, refl) p)
     token_path any b e a v at h p = rw h.1 (character b e h.0 v (any_at e) at (h.2, refl) p)
     token_path star b e a v at h p = past_star b e a v at h p
@@ -63,17 +73,22 @@ module _ (fold : Bool) (nodes : List Node) where
       | inl none ↦ rw none (nothing b e v (start_at e) at.0 (inr refl) p)
       | inr some ↦ rw (some.1, append_assoc) (nothing b (b + 1) (some.0 ++ slash ∷ v) (start_at e) at.0 (inl refl) (past_slash (b + 1) e some.0 v at.1 p))
     ]
-    token_path middle b e a v at h p = let same : h.1.0 ++ slash ∷ [] ≡ slash ∷ h.0.0 = sym h.1.1 ∙ h.0.1 in rw h.1.1 (past_middle b e h.1.0 h.0.0 v at.0 at.1 same p)
-    token_path end b e a v at h p = rw h.1 (character b (b + 1) slash (h.0 ++ v) (end_at e) at.0 (refl, refl) (past_end (b + 1) e h.0 v at.1 p))
+    token_path middle b e a v at h p =
+        let same : h.1.0 ++ slash ∷ [] ≡ slash ∷ h.0.0 = sym h.1.1 ∙ h.0.1 in rw h.1.1 (past_middle b e h.1.0 h.0.0 v at.0 at.1 same p)
+    token_path end b e a v at h p =
+        rw h.1 (character b (b + 1) slash (h.0 ++ v) (end_at e) at.0 (refl, refl) (past_end (b + 1) e h.0 v at.1 p))
     token_path (class negated ranges) b e a v at h p = rw h.1 (character b e h.0 v (class_at negated ranges e) at (h.2, refl) p)
     token_path (alternates bs) b e a v at h p = fork_path bs b e a v at h p (λ some. branches_path bs (b + 1) e a v at.1 some p)
 
-    tokens_path : (ts : Tokens) (b e : ℕ) (a v : List ℕ) → TokensAt nodes ts b e → tokens_match fold ts a → Path fold nodes e v → Path fold nodes (entry ts b e) (a ++ v)
+    tokens_path : (ts : Tokens) (b e : ℕ) (a v : List ℕ) → TokensAt nodes ts b e → tokens_match fold ts a → Path fold nodes e v
+        → Path fold nodes (entry ts b e) (a ++ v)
     tokens_path done b e a v at h p = rw h p
     tokens_path (then t ts) b e a v at h p =
-        rw (h.2, append_assoc) (token_path t b (entry ts (b + token_width t) e) h.0 (h.1 ++ v) at.0 h.3 (tokens_path ts (b + token_width t) e h.1 v at.1 h.4 p))
+        rw (h.2, append_assoc) (token_path t b (entry ts (b + token_width t) e) h.0 (h.1 ++ v) at.0 h.3
+        (tokens_path ts (b + token_width t) e h.1 v at.1 h.4 p))
 
-    branches_path : (bs : Branches) (b e : ℕ) (a v : List ℕ) → BranchesAt nodes bs b e → branch_matches fold bs a → Path fold nodes e v → (q : ℕ) × Contains (entries bs b e) q × Path fold nodes q (a ++ v)
+    branches_path : (bs : Branches) (b e : ℕ) (a v : List ℕ) → BranchesAt nodes bs b e → branch_matches fold bs a → Path fold nodes e v
+        → (q : ℕ) × Contains (entries bs b e) q × Path fold nodes q (a ++ v)
     branches_path no_branch b e a v at h p = absurd h
     branches_path (branch ts bs) b e a v at h p = elim h [
       | inl here ↦ (entry ts b e, Contains-head (entry ts b e) (entries bs (b + width ts) e), tokens_path ts b e a v at.0 here p)
@@ -89,7 +104,9 @@ module _ (fold : Bool) (nodes : List Node) where
   moved p q w e r = let P : ℕ → Type 0 = λ n. Path fold nodes n w in subst P e r
 
   abbrev FirstStep : Node → ℕ → List ℕ → Type 0
-  FirstStep node b w = ((q : ℕ) × StepsByNothing node b q × Path fold nodes q w) ⊎ ((c q : ℕ) × (u : List ℕ) × (w ≡ c ∷ u) × StepsBy fold node c b q × Path fold nodes q u)
+  FirstStep node b w =
+      ((q : ℕ) × StepsByNothing node b q × Path fold nodes q w)
+      ⊎ ((c q : ℕ) × (u : List ℕ) × (w ≡ c ∷ u) × StepsBy fold node c b q × Path fold nodes q u)
 
   nowhere : (node : Node) → slice_get nodes (length nodes) ≡ Some node → ⊥
   nowhere node at = let h = slice_get_within nodes (length nodes) node at in omega (arith, h)
@@ -110,8 +127,10 @@ module _ (fold : Bool) (nodes : List Node) where
   end_back m w (nothing p q u k here s r) e = absurd (let h = slice_get_within nodes p k here in omega (arith, h, e))
   end_back m w (character p q c u k here s r) e = absurd (let h = slice_get_within nodes p k here in omega (arith, h, e))
 
-  star_back : (p : ℕ) (w : List ℕ) → Path fold nodes p w → (b e : ℕ) → p ≡ b → slice_get nodes b ≡ Some (star_at e) → Splits (token_matches fold star) e w
-  star_back m w ends b e same at = absurd (let P : ℕ → Type 0 = λ n. slice_get nodes n ≡ Some (star_at e) in nowhere (star_at e) (subst P (sym same) at))
+  star_back : (p : ℕ) (w : List ℕ) → Path fold nodes p w → (b e : ℕ) → p ≡ b → slice_get nodes b ≡ Some (star_at e)
+      → Splits (token_matches fold star) e w
+  star_back m w ends b e same at =
+      absurd (let P : ℕ → Type 0 = λ n. slice_get nodes n ≡ Some (star_at e) in nowhere (star_at e) (subst P (sym same) at))
   star_back m w (nothing p q u k here s r) b e same at =
       let node : k ≡ star_at e = cc (at, here, same) in
       let P : Node → Type 0 = λ n. StepsByNothing n p q in
@@ -123,8 +142,10 @@ module _ (fold : Bool) (nodes : List Node) where
       let more = star_back q u r b e (step.1 ∙ same) at in
       (c ∷ more.0, more.1, ap (λ x. c ∷ x) more.2, All-cons (λ d. d ≢ slash) c more.0 step.0 more.3, more.4)
 
-  slash_back : (p : ℕ) (w : List ℕ) → Path fold nodes p w → (b e : ℕ) → p ≡ b → slice_get nodes b ≡ Some (until_slash e) → (x v : List ℕ) × (w ≡ x ++ slash ∷ v) × Path fold nodes e v
-  slash_back m w ends b e same at = absurd (let P : ℕ → Type 0 = λ n. slice_get nodes n ≡ Some (until_slash e) in nowhere (until_slash e) (subst P (sym same) at))
+  slash_back : (p : ℕ) (w : List ℕ) → Path fold nodes p w → (b e : ℕ) → p ≡ b → slice_get nodes b ≡ Some (until_slash e)
+      → (x v : List ℕ) × (w ≡ x ++ slash ∷ v) × Path fold nodes e v
+  slash_back m w ends b e same at =
+      absurd (let P : ℕ → Type 0 = λ n. slice_get nodes n ≡ Some (until_slash e) in nowhere (until_slash e) (subst P (sym same) at))
   slash_back m w (nothing p q u k here s r) b e same at =
       let node : k ≡ until_slash e = cc (at, here, same) in
       let P : Node → Type 0 = λ n. StepsByNothing n p q in
@@ -137,8 +158,10 @@ module _ (fold : Bool) (nodes : List Node) where
         | inr go ↦ ([], u, ap (λ d. d ∷ u) go.0, moved q e u go.1 r)
       ]
 
-  inside_end_back : (p : ℕ) (w : List ℕ) → Path fold nodes p w → (b e : ℕ) → p ≡ b → slice_get nodes b ≡ Some (until_end e) → (x v : List ℕ) × (w ≡ x ++ v) × Path fold nodes e v
-  inside_end_back m w ends b e same at = absurd (let P : ℕ → Type 0 = λ n. slice_get nodes n ≡ Some (until_end e) in nowhere (until_end e) (subst P (sym same) at))
+  inside_end_back : (p : ℕ) (w : List ℕ) → Path fold nodes p w → (b e : ℕ) → p ≡ b → slice_get nodes b ≡ Some (until_end e)
+      → (x v : List ℕ) × (w ≡ x ++ v) × Path fold nodes e v
+  inside_end_back m w ends b e same at =
+      absurd (let P : ℕ → Type 0 = λ n. slice_get nodes n ≡ Some (until_end e) in nowhere (until_end e) (subst P (sym same) at))
   inside_end_back m w (nothing p q u k here s r) b e same at =
       let node : k ≡ until_end e = cc (at, here, same) in
       let P : Node → Type 0 = λ n. StepsByNothing n p q in
@@ -149,7 +172,8 @@ module _ (fold : Bool) (nodes : List Node) where
       let more = inside_end_back q u r b e (subst P node s ∙ same) at in
       (c ∷ more.0, more.1, ap (λ x. c ∷ x) more.2, more.3)
 
-  fork_back : (bs : Branches) (b e q : ℕ) (w : List ℕ) → Contains (fork bs (b + 1) e) q → Path fold nodes q w → (Contains (entries bs (b + 1) e) q → Splits (branch_matches fold bs) e w) → Splits (token_matches fold (alternates bs)) e w
+  fork_back : (bs : Branches) (b e q : ℕ) (w : List ℕ) → Contains (fork bs (b + 1) e) q → Path fold nodes q w
+      → (Contains (entries bs (b + 1) e) q → Splits (branch_matches fold bs) e w) → Splits (token_matches fold (alternates bs)) e w
   fork_back no_branch b e q w has r find = elim (Contains-cases e q [] has) [
     | inl here ↦ ([], w, refl, inl (refl, refl), moved q e w here r)
     | inr none ↦ absurd (omega (arith, none.1))
@@ -178,8 +202,14 @@ module _ (fold : Bool) (nodes : List Node) where
       | inl s ↦ absurd s.1
       | inr s ↦ let begins : w ≡ slash ∷ s.2 = s.3 ∙ ap (λ d. d ∷ s.2) s.4.0 in
           elim s.4.1 [
-            | inl in' ↦ let more = slash_back s.1 s.2 s.5 (b + 1) e in' at.1 in
-                (slash ∷ (more.0 ++ slash ∷ []), more.1, begins ∙ ap (λ x. slash ∷ x) (more.2 ∙ sym (append_assoc more.0 (slash ∷ []) more.1)), ((more.0 ++ slash ∷ [], refl), (slash ∷ more.0, refl)), more.3)
+            | inl in' ↦ let more = slash_back s.1 s.2 s.5 (b + 1) e in' at.1 in (
+              slash ∷ (more.0 ++ slash ∷ []),
+              more.1,
+              begins
+                  ∙ ap (λ x. slash ∷ x) (more.2 ∙ sym (append_assoc more.0 (slash ∷ []) more.1)),
+              ((more.0 ++ slash ∷ [], refl), (slash ∷ more.0, refl)),
+              more.3,
+            )
             | inr go ↦ (slash ∷ [], s.2, begins, (([], refl), ([], refl)), moved s.1 e s.2 go s.5)
           ]
     ]
@@ -198,14 +228,21 @@ module _ (fold : Bool) (nodes : List Node) where
       | inr s ↦ absurd s.4
     ]
 
-    tokens_back : (ts : Tokens) (b e : ℕ) (w : List ℕ) → TokensAt nodes ts b e → Path fold nodes (entry ts b e) w → Splits (tokens_match fold ts) e w
+    tokens_back : (ts : Tokens) (b e : ℕ) (w : List ℕ) → TokensAt nodes ts b e → Path fold nodes (entry ts b e) w
+        → Splits (tokens_match fold ts) e w
     tokens_back done b e w at r = ([], w, refl, refl, r)
     tokens_back (then t ts) b e w at r =
         let first = token_back t b (entry ts (b + token_width t) e) w at.0 r in
-        let more = tokens_back ts (b + token_width t) e first.1 at.1 first.4 in
-        (first.0 ++ more.0, more.1, first.2 ∙ (ap (λ x. first.0 ++ x) more.2 ∙ sym (append_assoc first.0 more.0 more.1)), (first.0, more.0, refl, first.3, more.3), more.4)
+        let more = tokens_back ts (b + token_width t) e first.1 at.1 first.4 in (
+          first.0 ++ more.0,
+          more.1,
+          first.2 ∙ (ap (λ x. first.0 ++ x) more.2 ∙ sym (append_assoc first.0 more.0 more.1)),
+          (first.0, more.0, refl, first.3, more.3),
+          more.4,
+        )
 
-    branches_back : (bs : Branches) (b e q : ℕ) (w : List ℕ) → BranchesAt nodes bs b e → Contains (entries bs b e) q → Path fold nodes q w → Splits (branch_matches fold bs) e w
+    branches_back : (bs : Branches) (b e q : ℕ) (w : List ℕ) → BranchesAt nodes bs b e → Contains (entries bs b e) q → Path fold nodes q w
+        → Splits (branch_matches fold bs) e w
     branches_back no_branch b e q w at has r = absurd (omega (arith, has.1))
     branches_back (branch ts bs) b e q w at has r = elim (Contains-cases (entry ts b e) q (entries bs (b + width ts) e) has) [
       | inl here ↦ let found = tokens_back ts b e w at.0 (moved q (entry ts b e) w here r) in (found.0, found.1, found.2, inl found.3, found.4)

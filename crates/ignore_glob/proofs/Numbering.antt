@@ -58,7 +58,8 @@ Numbers (m ∷ ms) (q ∷ qs) known = (slice_get known m ≡ Some q) × Numbers 
 -- the inside of a start leads on by a slash, and that of the whole glob by nothing
 abbrev pub LeavesStart : Tokens → List Node → ℕ → ℕ → Place → Position → Type 0
 LeavesStart ts nodes k m p n =
-    ((ts ≢ then start done) × (slice_get nodes k ≡ Some (until_slash m))) ⊎ ((ts ≡ then start done) × (slice_get nodes k ≡ Some (until_end m)) × (p ≡ first) × (n ≡ the_end))
+    ((ts ≢ then start done) × (slice_get nodes k ≡ Some (until_slash m)))
+    ⊎ ((ts ≡ then start done) × (slice_get nodes k ≡ Some (until_end m)) × (p ≡ first) × (n ≡ the_end))
 
 module _ (whole : Tokens) (nodes : List Node) where
   -- the node of this number is that of the entry
@@ -67,10 +68,17 @@ module _ (whole : Tokens) (nodes : List Node) where
   Fits (before p) (literal c) n k = (m : ℕ) × (slice_get (all whole) m ≡ Some n) × (slice_get nodes k ≡ Some (literal_at c m))
   Fits (before p) any n k = (m : ℕ) × (slice_get (all whole) m ≡ Some n) × (slice_get nodes k ≡ Some (any_at m))
   Fits (before p) star n k = (m : ℕ) × (slice_get (all whole) m ≡ Some n) × (slice_get nodes k ≡ Some (star_at m))
-  Fits (before p) start n k = (m : ℕ) × (slice_get (all whole) m ≡ Some n) × (slice_get nodes k ≡ Some (start_at m)) × (slice_get (all whole) (k + 1) ≡ Some (inside p))
-  Fits (before p) middle n k = (m : ℕ) × (slice_get (all whole) m ≡ Some n) × (slice_get nodes k ≡ Some (middle_at m)) × (slice_get (all whole) (k + 1) ≡ Some (inside p))
-  Fits (before p) end n k = (m : ℕ) × (slice_get (all whole) m ≡ Some n) × (slice_get nodes k ≡ Some (end_at m)) × (slice_get (all whole) (k + 1) ≡ Some (inside p))
-  Fits (before p) (class negated ranges) n k = (m : ℕ) × (slice_get (all whole) m ≡ Some n) × (slice_get nodes k ≡ Some (class_at negated ranges m))
+  Fits (before p) start n k =
+      (m : ℕ) × (slice_get (all whole) m ≡ Some n) × (slice_get nodes k ≡ Some (start_at m))
+      × (slice_get (all whole) (k + 1) ≡ Some (inside p))
+  Fits (before p) middle n k =
+      (m : ℕ) × (slice_get (all whole) m ≡ Some n) × (slice_get nodes k ≡ Some (middle_at m))
+      × (slice_get (all whole) (k + 1) ≡ Some (inside p))
+  Fits (before p) end n k =
+      (m : ℕ) × (slice_get (all whole) m ≡ Some n) × (slice_get nodes k ≡ Some (end_at m))
+      × (slice_get (all whole) (k + 1) ≡ Some (inside p))
+  Fits (before p) (class negated ranges) n k =
+      (m : ℕ) × (slice_get (all whole) m ≡ Some n) × (slice_get nodes k ≡ Some (class_at negated ranges m))
   Fits (before p) (alternates bs) n k = (ms : List ℕ) × (slice_get nodes k ≡ Some (fork_at ms)) × Numbers ms (forks bs p n) (all whole)
   Fits (inside p) (literal c) n k = ⊥
   Fits (inside p) any n k = ⊥
@@ -99,11 +107,14 @@ module _ (whole : Tokens) (nodes : List Node) where
 
   fits_append : (xs ys : List Entry) (b : ℕ) → FitsFrom xs b → FitsFrom ys (b + length xs) → FitsFrom (xs ++ ys) b
   fits_append [] ys b f g = moved_fits ys (b + 0) b (omega arith) g
-  fits_append (x ∷ xs) ys b f g = (f.0, fits_append xs ys (b + 1) f.1 (moved_fits ys (b + length (x ∷ xs)) ((b + 1) + length xs) (omega arith) g))
+  fits_append (x ∷ xs) ys b f g =
+      (f.0, fits_append xs ys (b + 1) f.1 (moved_fits ys (b + length (x ∷ xs)) ((b + 1) + length xs) (omega arith) g))
 
   stand_append : (xs ys : List Entry) (b : ℕ) → StandFrom (xs ++ ys) b → StandFrom xs b × StandFrom ys (b + length xs)
   stand_append [] ys b h = (tt, moved_stand ys b (b + 0) (omega arith) h)
-  stand_append (x ∷ xs) ys b h = let more = stand_append xs ys (b + 1) h.1 in ((h.0, more.0), moved_stand ys ((b + 1) + length xs) (b + length (x ∷ xs)) (omega arith) more.1)
+  stand_append (x ∷ xs) ys b h =
+      let more = stand_append xs ys (b + 1) h.1 in
+      ((h.0, more.0), moved_stand ys ((b + 1) + length xs) (b + length (x ∷ xs)) (omega arith) more.1)
 
   fits_at : (rs : List Entry) (b i : ℕ) (r : Entry) → FitsFrom rs b → slice_get rs i ≡ Some r → Fits r.0 r.1 r.2 (b + i)
   fits_at [] b i r h at = absurd (cc at)
@@ -118,14 +129,16 @@ module _ (whole : Tokens) (nodes : List Node) where
       let Q : ℕ → Type 0 = λ n. Fits r.0 r.1 r.2 n in
       subst Q e (fits_at xs (b + 1) i r h.1 at)
 
-  stand_from : (rs : List Entry) (front back : List Position) (b : ℕ) → all whole ≡ front ++ (own rs ++ back) → length front ≡ b → StandFrom rs b
-  stand_from [] front back b same len = tt
-  stand_from (r ∷ rs) front back b same len = (
-    (let at = get_seam front r.0 (own rs ++ back) in
-        let P : List Position → Type 0 = λ l. slice_get l (length front) ≡ Some r.0 in
+  stand_from : (rs : List Entry) (prefix back : List Position) (b : ℕ) → all whole ≡ prefix ++ (own rs ++ back) → length prefix ≡ b
+      → StandFrom rs b
+  stand_from [] prefix back b same len = tt
+  stand_from (r ∷ rs) prefix back b same len = (
+    (let at = get_seam prefix r.0 (own rs ++ back) in
+        let P : List Position → Type 0 = λ l. slice_get l (length prefix) ≡ Some r.0 in
         let Q : ℕ → Type 0 = λ n. slice_get (all whole) n ≡ Some r.0 in
         subst Q len (subst P (sym same) at)),
-    stand_from rs (front ++ r.0 ∷ []) back (b + 1) (same ∙ sym (append_assoc front (r.0 ∷ []) (own rs ++ back))) (let e = length-append front (r.0 ∷ []) in omega (arith, e, len)),
+    stand_from rs (prefix ++ r.0 ∷ []) back (b + 1) (same ∙ sym (append_assoc prefix (r.0 ∷ []) (own rs ++ back)))
+        (let e = length-append prefix (r.0 ∷ []) in omega (arith, e, len)),
   )
 
   all_stand : StandFrom (table whole first the_end) 0
@@ -142,24 +155,33 @@ module _ (whole : Tokens) (nodes : List Node) where
   token_first (class negated ranges) p n b h = h.0
   token_first (alternates bs) p n b h = h.0
 
-  entrance_number : (ts : Tokens) (p : Place) (n : Position) (b m : ℕ) → slice_get (all whole) m ≡ Some n → StandFrom (table ts p n) b → slice_get (all whole) (entry ts b m) ≡ Some (entrance ts p n)
+  entrance_number : (ts : Tokens) (p : Place) (n : Position) (b m : ℕ) → slice_get (all whole) m ≡ Some n → StandFrom (table ts p n) b
+      → slice_get (all whole) (entry ts b m) ≡ Some (entrance ts p n)
   entrance_number done p n b m is h = is
-  entrance_number (then t ts) p n b m is h = token_first t p (entrance ts (after p) n) b (stand_append (token_table t p (entrance ts (after p) n)) (table ts (after p) n) b h).0
+  entrance_number (then t ts) p n b m is h =
+      token_first t p (entrance ts (after p) n) b (stand_append (token_table t p (entrance ts (after p) n)) (table ts (after p) n) b h).0
 
-  entrances_numbers : (bs : Branches) (i : ℕ) (p : Place) (n : Position) (b m : ℕ) → slice_get (all whole) m ≡ Some n → StandFrom (branch_table bs i p n) b → Numbers (entries bs b m) (entrances bs i p n) (all whole)
+  entrances_numbers : (bs : Branches) (i : ℕ) (p : Place) (n : Position) (b m : ℕ) → slice_get (all whole) m ≡ Some n
+      → StandFrom (branch_table bs i p n) b → Numbers (entries bs b m) (entrances bs i p n) (all whole)
   entrances_numbers no_branch i p n b m is h = tt
   entrances_numbers (branch ts bs) i p n b m is h =
       let both = stand_append (table ts (in_branch i p) n) (branch_table bs (suc i) p n) b h in
-      let len = table_length ts (in_branch i p) n in
-      (entrance_number ts (in_branch i p) n b m is both.0, entrances_numbers bs (suc i) p n (b + width ts) m is (moved_stand (branch_table bs (suc i) p n) (b + length (table ts (in_branch i p) n)) (b + width ts) (omega (arith, len)) both.1))
+      let len = table_length ts (in_branch i p) n in (
+        entrance_number ts (in_branch i p) n b m is both.0,
+        entrances_numbers bs (suc i) p n (b + width ts) m is
+            (moved_stand (branch_table bs (suc i) p n) (b + length (table ts (in_branch i p) n)) (b + width ts)
+            (omega (arith, len)) both.1),
+      )
 
-  forks_numbers : (bs : Branches) (p : Place) (n : Position) (b m : ℕ) → slice_get (all whole) m ≡ Some n → StandFrom (branch_table bs 0 p n) (b + 1) → Numbers (fork bs (b + 1) m) (forks bs p n) (all whole)
+  forks_numbers : (bs : Branches) (p : Place) (n : Position) (b m : ℕ) → slice_get (all whole) m ≡ Some n
+      → StandFrom (branch_table bs 0 p n) (b + 1) → Numbers (fork bs (b + 1) m) (forks bs p n) (all whole)
   forks_numbers no_branch p n b m is h = (is, tt)
   forks_numbers (branch ts bs) p n b m is h = entrances_numbers (branch ts bs) 0 p n (b + 1) m is h
 
   module _ (plain : whole ≢ then start done) where
     mutual
-      token_fits : (t : Token) (p : Place) (n : Position) (b m : ℕ) → TokenAt nodes t b m → slice_get (all whole) m ≡ Some n → StandFrom (token_table t p n) b → FitsFrom (token_table t p n) b
+      token_fits : (t : Token) (p : Place) (n : Position) (b m : ℕ) → TokenAt nodes t b m → slice_get (all whole) m ≡ Some n
+          → StandFrom (token_table t p n) b → FitsFrom (token_table t p n) b
       token_fits (literal c) p n b m at is h = ((m, is, at), tt)
       token_fits any p n b m at is h = ((m, is, at), tt)
       token_fits star p n b m at is h = ((m, is, at), tt)
@@ -167,9 +189,11 @@ module _ (whole : Tokens) (nodes : List Node) where
       token_fits middle p n b m at is h = ((m, is, at.0, h.1.0), ((m, is, at.1), tt))
       token_fits end p n b m at is h = ((m, is, at.0, h.1.0), ((m, is, at.1), tt))
       token_fits (class negated ranges) p n b m at is h = ((m, is, at), tt)
-      token_fits (alternates bs) p n b m at is h = ((fork bs (b + 1) m, at.0, forks_numbers bs p n b m is h.1), branches_fit bs 0 p n (b + 1) m at.1 is h.1)
+      token_fits (alternates bs) p n b m at is h =
+          ((fork bs (b + 1) m, at.0, forks_numbers bs p n b m is h.1), branches_fit bs 0 p n (b + 1) m at.1 is h.1)
 
-      tokens_fit : (ts : Tokens) (p : Place) (n : Position) (b m : ℕ) → TokensAt nodes ts b m → slice_get (all whole) m ≡ Some n → StandFrom (table ts p n) b → FitsFrom (table ts p n) b
+      tokens_fit : (ts : Tokens) (p : Place) (n : Position) (b m : ℕ) → TokensAt nodes ts b m → slice_get (all whole) m ≡ Some n
+          → StandFrom (table ts p n) b → FitsFrom (table ts p n) b
       tokens_fit done p n b m at is h = tt
       tokens_fit (then t ts) p n b m at is h =
           let n' = entrance ts (after p) n in
@@ -179,9 +203,11 @@ module _ (whole : Tokens) (nodes : List Node) where
           let rest = moved_stand (table ts (after p) n) (b + length (token_table t p n')) (b + token_width t) e both.1 in
           let next = entrance_number ts (after p) n (b + token_width t) m is rest in
           fits_append (token_table t p n') (table ts (after p) n) b (token_fits t p n' b (entry ts (b + token_width t) m) at.0 next both.0)
-          (moved_fits (table ts (after p) n) (b + token_width t) (b + length (token_table t p n')) (sym e) (tokens_fit ts (after p) n (b + token_width t) m at.1 is rest))
+          (moved_fits (table ts (after p) n) (b + token_width t) (b + length (token_table t p n')) (sym e)
+          (tokens_fit ts (after p) n (b + token_width t) m at.1 is rest))
 
-      branches_fit : (bs : Branches) (i : ℕ) (p : Place) (n : Position) (b m : ℕ) → BranchesAt nodes bs b m → slice_get (all whole) m ≡ Some n → StandFrom (branch_table bs i p n) b → FitsFrom (branch_table bs i p n) b
+      branches_fit : (bs : Branches) (i : ℕ) (p : Place) (n : Position) (b m : ℕ) → BranchesAt nodes bs b m
+          → slice_get (all whole) m ≡ Some n → StandFrom (branch_table bs i p n) b → FitsFrom (branch_table bs i p n) b
       branches_fit no_branch i p n b m at is h = tt
       branches_fit (branch ts bs) i p n b m at is h =
           let both = stand_append (table ts (in_branch i p) n) (branch_table bs (suc i) p n) b h in
@@ -189,7 +215,8 @@ module _ (whole : Tokens) (nodes : List Node) where
           let e : b + length (table ts (in_branch i p) n) ≡ b + width ts = omega (arith, len) in
           let rest = moved_stand (branch_table bs (suc i) p n) (b + length (table ts (in_branch i p) n)) (b + width ts) e both.1 in
           fits_append (table ts (in_branch i p) n) (branch_table bs (suc i) p n) b (tokens_fit ts (in_branch i p) n b m at.0 is both.0)
-          (moved_fits (branch_table bs (suc i) p n) (b + width ts) (b + length (table ts (in_branch i p) n)) (sym e) (branches_fit bs (suc i) p n (b + width ts) m at.1 is rest))
+          (moved_fits (branch_table bs (suc i) p n) (b + width ts) (b + length (table ts (in_branch i p) n)) (sym e)
+          (branches_fit bs (suc i) p n (b + width ts) m at.1 is rest))
 
   pub end_number : slice_get (all whole) (positions whole) ≡ Some the_end
   end_number =
@@ -199,7 +226,8 @@ module _ (whole : Tokens) (nodes : List Node) where
 
   lone_fits : whole ≡ then start done → nodes ≡ start_at 2 ∷ until_end 2 ∷ [] → FitsFrom (table whole first the_end) 0
   lone_fits lone same =
-      let known : table whole first the_end ≡ (before first, start, the_end) ∷ (inside first, start, the_end) ∷ [] = ap (λ (ts : Tokens). table ts first the_end) lone in
+      let known : table whole first the_end ≡ (before first, start, the_end) ∷ (inside first, start, the_end)
+      ∷ [] = ap (λ (ts : Tokens). table ts first the_end) lone in
       let outer : slice_get nodes 0 ≡ Some (start_at 2) = ap (λ (l : List Node). slice_get l 0) same in
       let inner : slice_get nodes 1 ≡ Some (until_end 2) = ap (λ (l : List Node). slice_get l 1) same in
       let one : slice_get (all whole) 1 ≡ Some (inside first) = ap (λ (ts : Tokens). slice_get (all ts) 1) lone in

@@ -1,4 +1,5 @@
--- Lists without duplicates: joined and mapped ones, and one whose elements another list has is no longer than it.
+-- Lists without duplicates: joined and mapped ones, and one whose elements another list has is no
+-- longer than it.
 use Rattle.std.proofs.Common.{◌≡◌, ◌≤◌, ◌+◌, ◌⊎◌, inl, inr, ℕ, zero, suc, List, [], ◌∷◌, ◌++◌, length, map, arith, slice_get, Some, refl, sym, ◌∙◌, ap, subst}
 use Rattle.std.specs.Prelude.{Contains}
 use Rattle.std.proofs.lemmas.Option.{slice_get_within, slice_get-get_or, get_or_from_slice_get}
@@ -20,23 +21,26 @@ pub get_seam : {X : Type 0} → (xs : List X) (x : X) (ys : List X) → slice_ge
 get_seam [] x ys = refl
 get_seam (y ∷ xs) x ys = get_seam xs x ys
 
-pub get_cases : {X : Type 0} → (xs ys : List X) (i : ℕ) (x : X) → slice_get (xs ++ ys) i ≡ Some x → (slice_get xs i ≡ Some x) ⊎ ((j : ℕ) × (i ≡ length xs + j) × (slice_get ys j ≡ Some x))
+pub get_cases : {X : Type 0} → (xs ys : List X) (i : ℕ) (x : X) → slice_get (xs ++ ys) i ≡ Some x
+    → (slice_get xs i ≡ Some x) ⊎ ((j : ℕ) × (i ≡ length xs + j) × (slice_get ys j ≡ Some x))
 get_cases [] ys i x at = inr (i, omega arith, at)
 get_cases (y ∷ xs) ys zero x at = inl at
 get_cases (y ∷ xs) ys (suc i) x at = elim (get_cases xs ys i x at) [
-  | inl front ↦ inl front
+  | inl prefix ↦ inl prefix
   | inr back ↦ inr (back.0, (let e : i ≡ length xs + back.0 = back.1 in omega (arith, e)), back.2)
 ]
 
 -- an element stands at one place alone
-pub unique_at : {X : Type 0} → (xs : List X) (i j : ℕ) (x : X) → HasNoDuplicates xs → slice_get xs i ≡ Some x → slice_get xs j ≡ Some x → i ≡ j
+pub unique_at : {X : Type 0} → (xs : List X) (i j : ℕ) (x : X) → HasNoDuplicates xs → slice_get xs i ≡ Some x → slice_get xs j ≡ Some x
+    → i ≡ j
 unique_at [] i j x once a b = absurd (cc a)
 unique_at (y ∷ ys) zero zero x once a b = refl
 unique_at (y ∷ ys) zero (suc j) x once a b = let same : slice_get ys j ≡ Some y = cc (a, b) in absurd (once.0 (at_contains ys j y same))
 unique_at (y ∷ ys) (suc i) zero x once a b = let same : slice_get ys i ≡ Some y = cc (a, b) in absurd (once.0 (at_contains ys i y same))
 unique_at (y ∷ ys) (suc i) (suc j) x once a b = let e = unique_at ys i j x once.1 a b in omega (arith, e)
 
-pub append_once : {X : Type 0} → (xs ys : List X) → HasNoDuplicates xs → HasNoDuplicates ys → ((x : X) → Contains xs x → Contains ys x → ⊥) → HasNoDuplicates (xs ++ ys)
+pub append_once : {X : Type 0} → (xs ys : List X) → HasNoDuplicates xs → HasNoDuplicates ys → ((x : X) → Contains xs x → Contains ys x → ⊥)
+    → HasNoDuplicates (xs ++ ys)
 append_once [] ys a b apart = b
 append_once (x ∷ xs) ys a b apart = (
   (λ h. elim (Contains-append_cases xs ys x h) [ inl l ↦ a.0 l | inr r ↦ apart x (0, omega arith, refl) r ]),
@@ -47,14 +51,19 @@ append_once (x ∷ xs) ys a b apart = (
 pub map_contains : {X Y : Type 0} → (f : X → Y) (xs : List X) (y : Y) → Contains (map f xs) y → (x : X) × Contains xs x × (f x ≡ y)
 map_contains f [] y h = absurd (omega (arith, h.1))
 map_contains f (x ∷ xs) y (zero, l, e) = (x, (0, omega arith, refl), e)
-map_contains f (x ∷ xs) y (suc k, l, e) = let found = map_contains f xs y (k, omega (arith, l), e) in let at = contains_at xs found.0 found.1 in (found.0, at_contains (x ∷ xs) (suc at.0) found.0 at.1, found.2)
+map_contains f (x ∷ xs) y (suc k, l, e) =
+    let found = map_contains f xs y (k, omega (arith, l), e) in let at = contains_at xs found.0 found.1 in
+    (found.0, at_contains (x ∷ xs) (suc at.0) found.0 at.1, found.2)
 
 pub contains_map : {X Y : Type 0} → (f : X → Y) (xs : List X) (x : X) → Contains xs x → Contains (map f xs) (f x)
 contains_map f [] x h = absurd (omega (arith, h.1))
 contains_map f (z ∷ xs) x (zero, l, e) = (0, omega arith, ap f e)
-contains_map f (z ∷ xs) x (suc k, l, e) = let at = contains_at (map f xs) (f x) (contains_map f xs x (k, omega (arith, l), e)) in at_contains (f z ∷ map f xs) (suc at.0) (f x) at.1
+contains_map f (z ∷ xs) x (suc k, l, e) =
+    let at = contains_at (map f xs) (f x) (contains_map f xs x (k, omega (arith, l), e)) in
+    at_contains (f z ∷ map f xs) (suc at.0) (f x) at.1
 
-pub map_once : {X Y : Type 0} → (f : X → Y) → ((a b : X) → f a ≡ f b → a ≡ b) → (xs : List X) → HasNoDuplicates xs → HasNoDuplicates (map f xs)
+pub map_once : {X Y : Type 0} → (f : X → Y) → ((a b : X) → f a ≡ f b → a ≡ b) → (xs : List X) → HasNoDuplicates xs
+    → HasNoDuplicates (map f xs)
 map_once f one [] h = tt
 map_once {X} f one (x ∷ xs) h = (
   (λ k. let found = map_contains f xs (f x) k in let P : X → Type 0 = λ z. Contains xs z in h.0 (subst P (one found.0 x found.2) found.1)),
@@ -72,7 +81,8 @@ removed_length [] k x at = absurd (cc at)
 removed_length (y ∷ ys) zero x at = omega arith
 removed_length (y ∷ ys) (suc k) x at = let e = removed_length ys k x at in omega (arith, e)
 
-removed_still : {X : Type 0} → (ys : List X) (k i : ℕ) (x z : X) → slice_get ys k ≡ Some x → slice_get ys i ≡ Some z → (x ≡ z → ⊥) → (j : ℕ) × (slice_get (removed k ys) j ≡ Some z)
+removed_still : {X : Type 0} → (ys : List X) (k i : ℕ) (x z : X) → slice_get ys k ≡ Some x → slice_get ys i ≡ Some z → (x ≡ z → ⊥)
+    → (j : ℕ) × (slice_get (removed k ys) j ≡ Some z)
 removed_still [] k i x z at is differs = absurd (cc at)
 removed_still (y ∷ ys) zero zero x z at is differs = absurd (differs (cc (at, is)))
 removed_still (y ∷ ys) zero (suc i) x z at is differs = (i, is)

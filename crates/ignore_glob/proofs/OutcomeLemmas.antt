@@ -58,7 +58,8 @@ Begins-step o d text s (escape d' c rest) = refl
 Begins-step o d text s (dangling d') = refl
 Begins-step o d text s (question d' rest) = refl
 Begins-step o d text s (stars d' n rest p) = sym (ap (λ (q : ℕ × List ℕ). lexeme (run (suc q.0)) q.1 d') (past_stars-run n rest p))
-Begins-step o d text s (bracket d' inside step b) = Bracket-same o d' inside step (find_bracket o d' inside).0 b (find_bracket o d' inside).1
+Begins-step o d text s (bracket d' inside step b) =
+    Bracket-same o d' inside step (find_bracket o d' inside).0 b (find_bracket o d' inside).1
 Begins-step o d text s (opens d' rest h) = sym (ap (λ b. if b then lexeme opening rest (suc d') else fault TooDeep) (below d' 64 h))
 Begins-step o d text s (too_deep d' rest h) = sym (ap (λ b. if b then lexeme opening rest (suc d') else fault TooDeep) (not_below d' 64 h))
 Begins-step o d text s (separates d' rest) = refl
@@ -72,13 +73,20 @@ Begins-same o d text s t p q = Begins-step o d text s p ∙ sym (Begins-step o d
 
 pub Lexed-same : (o : Options) (d : ℕ) (text : List ℕ) (a b : Result (List Lexeme) GlobFault) → Lexed o d text a → Lexed o d text b → a ≡ b
 Lexed-same o d text a b (ends d1 t1 p) (ends d2 t2 q) = refl
-Lexed-same o d text a b (ends d1 t1 p) (stops d2 t2 g q) = absurd (let e : ended ≡ fault g = Begins-same o d1 t1 ended (fault g) p q in cc e)
-Lexed-same o d text a b (ends d1 t1 p) (continues d2 e2 t2 rest l out q w) = absurd (let e : ended ≡ lexeme l rest e2 = Begins-same o d1 t1 ended (lexeme l rest e2) p q in cc e)
-Lexed-same o d text a b (stops d1 t1 f p) (ends d2 t2 q) = absurd (let e : fault f ≡ ended = Begins-same o d1 t1 (fault f) ended p q in cc e)
-Lexed-same o d text a b (stops d1 t1 f p) (stops d2 t2 g q) = let e : fault f ≡ fault g = Begins-same o d1 t1 (fault f) (fault g) p q in let h : f ≡ g = cc e in ap (λ x. Err x) h
-Lexed-same o d text a b (stops d1 t1 f p) (continues d2 e2 t2 rest l out q w) = absurd (let e : fault f ≡ lexeme l rest e2 = Begins-same o d1 t1 (fault f) (lexeme l rest e2) p q in cc e)
-Lexed-same o d text a b (continues d1 e1 t1 rest l out p v) (ends d2 t2 q) = absurd (let e : lexeme l rest e1 ≡ ended = Begins-same o d1 t1 (lexeme l rest e1) ended p q in cc e)
-Lexed-same o d text a b (continues d1 e1 t1 rest l out p v) (stops d2 t2 g q) = absurd (let e : lexeme l rest e1 ≡ fault g = Begins-same o d1 t1 (lexeme l rest e1) (fault g) p q in cc e)
+Lexed-same o d text a b (ends d1 t1 p) (stops d2 t2 g q) =
+    absurd (let e : ended ≡ fault g = Begins-same o d1 t1 ended (fault g) p q in cc e)
+Lexed-same o d text a b (ends d1 t1 p) (continues d2 e2 t2 rest l out q w) =
+    absurd (let e : ended ≡ lexeme l rest e2 = Begins-same o d1 t1 ended (lexeme l rest e2) p q in cc e)
+Lexed-same o d text a b (stops d1 t1 f p) (ends d2 t2 q) =
+    absurd (let e : fault f ≡ ended = Begins-same o d1 t1 (fault f) ended p q in cc e)
+Lexed-same o d text a b (stops d1 t1 f p) (stops d2 t2 g q) =
+    let e : fault f ≡ fault g = Begins-same o d1 t1 (fault f) (fault g) p q in let h : f ≡ g = cc e in ap (λ x. Err x) h
+Lexed-same o d text a b (stops d1 t1 f p) (continues d2 e2 t2 rest l out q w) =
+    absurd (let e : fault f ≡ lexeme l rest e2 = Begins-same o d1 t1 (fault f) (lexeme l rest e2) p q in cc e)
+Lexed-same o d text a b (continues d1 e1 t1 rest l out p v) (ends d2 t2 q) =
+    absurd (let e : lexeme l rest e1 ≡ ended = Begins-same o d1 t1 (lexeme l rest e1) ended p q in cc e)
+Lexed-same o d text a b (continues d1 e1 t1 rest l out p v) (stops d2 t2 g q) =
+    absurd (let e : lexeme l rest e1 ≡ fault g = Begins-same o d1 t1 (lexeme l rest e1) (fault g) p q in cc e)
 Lexed-same o d text a b (continues d1 e1 t1 rest l out p v) (continues d2 e2 t2 rest' k out' q w) =
     let e : lexeme l rest e1 ≡ lexeme k rest' e2 = Begins-same o d1 t1 (lexeme l rest e1) (lexeme k rest' e2) p q in
     let l_is : l ≡ k = cc e in
@@ -97,13 +105,16 @@ find_stars (c ∷ cs) = elim (cases_eq c 42) [
 ]
 
 pub plain : (d c : ℕ) → c ≢ 63 → c ≢ 42 → c ≢ 92 → c ≢ 91 → c ≢ 123 → c ≢ 125 → c ≢ 44 → is_special d c ≡ false
-plain d c a1 a2 a3 a4 a5 a6 a7 = rw (ne_eqb c 63 a1, ne_eqb c 42 a2, ne_eqb c 92 a3, ne_eqb c 91 a4, ne_eqb c 123 a5, ne_eqb c 125 a6, ne_eqb c 44 a7) refl
+plain d c a1 a2 a3 a4 a5 a6 a7 =
+    rw (ne_eqb c 63 a1, ne_eqb c 42 a2, ne_eqb c 92 a3, ne_eqb c 91 a4, ne_eqb c 123 a5, ne_eqb c 125 a6, ne_eqb c 44 a7) refl
 
 abbrev HasStep : Options → ℕ → List ℕ → Type 0
 HasStep o d text = (s : Step) × Begins o d text s
 
 at_stars : (o : Options) (d : ℕ) (cs : List ℕ) → HasStep o d (42 ∷ cs)
-at_stars o d cs = let f = find_stars cs in let P : List ℕ → Type 0 = λ t. HasStep o d (42 ∷ t) in subst P (sym f.2) (lexeme (run (suc f.0)) f.1 d, stars d f.0 f.1 f.3)
+at_stars o d cs =
+    let f = find_stars cs in let P : List ℕ → Type 0 = λ t. HasStep o d (42 ∷ t) in
+    subst P (sym f.2) (lexeme (run (suc f.0)) f.1 d, stars d f.0 f.1 f.3)
 
 at_backslash : (o : Options) (d : ℕ) (cs : List ℕ) → HasStep o d (92 ∷ cs)
 at_backslash o d [] = (fault DanglingEscape, dangling d)
@@ -177,14 +188,19 @@ Begins-rest o d text s end = tt
 abbrev HasOutcome : Options → ℕ → List ℕ → Type 0
 HasOutcome o d text = (out : Result (List Lexeme) GlobFault) × Lexed o d text out
 
-by_step : (o : Options) (d : ℕ) (text : List ℕ) (s : Step) → Begins o d text s → LeavesRest text s → ((e : ℕ) (rest : List ℕ) → length rest < length text → HasOutcome o e rest) → HasOutcome o d text
+by_step : (o : Options) (d : ℕ) (text : List ℕ) (s : Step) → Begins o d text s → LeavesRest text s
+    → ((e : ℕ) (rest : List ℕ) → length rest < length text → HasOutcome o e rest) → HasOutcome o d text
 by_step o d text ended b s more = (Ok [], ends d text b)
 by_step o d text (fault f) b s more = (Err f, stops d text f b)
-by_step o d text (lexeme l rest e) b s more = let w = more e rest (IsRest-shorter text rest s) in (put_first l w.0, continues d e text rest l w.0 b w.1)
+by_step o d text (lexeme l rest e) b s more =
+    let w = more e rest (IsRest-shorter text rest s) in (put_first l w.0, continues d e text rest l w.0 b w.1)
 
 outcome_within : (o : Options) (n d : ℕ) (text : List ℕ) → length text ≤ n → HasOutcome o d text
-outcome_within o zero d text h = let f = find_step o d text in by_step o d text f.0 f.1 (Begins-rest o d text f.0 f.1) (λ e rest k. absurd (omega arith))
-outcome_within o (suc n) d text h = let f = find_step o d text in by_step o d text f.0 f.1 (Begins-rest o d text f.0 f.1) (λ e rest k. outcome_within o n e rest (omega arith))
+outcome_within o zero d text h =
+    let f = find_step o d text in by_step o d text f.0 f.1 (Begins-rest o d text f.0 f.1) (λ e rest k. absurd (omega arith))
+outcome_within o (suc n) d text h =
+    let f = find_step o d text in
+    by_step o d text f.0 f.1 (Begins-rest o d text f.0 f.1) (λ e rest k. outcome_within o n e rest (omega arith))
 
 pub find_outcome : (o : Options) (text : List ℕ) → HasOutcome o 0 text
 find_outcome o text = outcome_within o (length text) 0 text (omega arith)

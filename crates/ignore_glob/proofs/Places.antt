@@ -171,7 +171,8 @@ mutual
         | inr b ↦ in_after p x (tokens_in ts (after p) n x b)
       ]
 
-  branches_in : (bs : Branches) (i : ℕ) (p : Place) (n x : Position) → Contains (own (branch_table bs i p n)) x → (j : ℕ) × (i ≤ j) × In (in_branch j p) x
+  branches_in : (bs : Branches) (i : ℕ) (p : Place) (n x : Position) → Contains (own (branch_table bs i p n)) x
+      → (j : ℕ) × (i ≤ j) × In (in_branch j p) x
   branches_in no_branch i p n x h = absurd (none x h)
   branches_in (branch ts bs) i p n x h =
       elim (Contains-append_cases (own (table ts (in_branch i p) n)) (own (branch_table bs (suc i) p n)) x (rw map-append at h)) [
@@ -195,15 +196,19 @@ mutual
 
   tokens_once : (ts : Tokens) (p : Place) (n : Position) → HasNoDuplicates (own (table ts p n))
   tokens_once done p n = tt
-  tokens_once (then t ts) p n = rw map-append (append_once (own (token_table t p _)) (own (table ts (after p) n)) (token_once t p _) (tokens_once ts (after p) n)
+  tokens_once (then t ts) p n =
+      rw map-append (append_once (own (token_table t p _)) (own (table ts (after p) n)) (token_once t p _) (tokens_once ts (after p) n)
       (λ x a b. of_token_apart p x (token_in t p _ x a) (tokens_in ts (after p) n x b)))
 
   branches_once : (bs : Branches) (i : ℕ) (p : Place) (n : Position) → HasNoDuplicates (own (branch_table bs i p n))
   branches_once no_branch i p n = tt
-  branches_once (branch ts bs) i p n = rw map-append (append_once (own (table ts (in_branch i p) n)) (own (branch_table bs (suc i) p n)) (tokens_once ts (in_branch i p) n) (branches_once bs (suc i) p n)
+  branches_once (branch ts bs) i p n =
+      rw map-append (append_once (own (table ts (in_branch i p) n)) (own (branch_table bs (suc i) p n)) (tokens_once ts (in_branch i p) n)
+      (branches_once bs (suc i) p n)
       (λ x a b.
       let found = branches_in bs (suc i) p n x b in
-      let same : in_branch i p ≡ in_branch found.0 p = one_in x (in_branch i p) (in_branch found.0 p) (tokens_in ts (in_branch i p) n x a) found.2 refl in
+      let same : in_branch i p ≡ in_branch found.0 p = one_in x (in_branch i p) (in_branch found.0 p)
+      (tokens_in ts (in_branch i p) n x a) found.2 refl in
       let number : i ≡ found.0 = cc same in
       let l = found.1 in omega (arith, l, number)))
 
@@ -213,4 +218,5 @@ all ts = own (table ts first the_end) ++ the_end ∷ []
 
 pub all_once : (ts : Tokens) → HasNoDuplicates (all ts)
 all_once ts = append_once (own (table ts first the_end)) (the_end ∷ []) (tokens_once ts first the_end) ((λ h. none the_end h), tt)
-    (λ x a b. let e : x ≡ the_end = only the_end x b in let P : Position → Type 0 = λ y. In first y in subst P e (tokens_in ts first the_end x a))
+    (λ x a b. let e : x ≡ the_end = only the_end x b in let P : Position → Type 0 = λ y. In first y in
+    subst P e (tokens_in ts first the_end x a))

@@ -70,7 +70,8 @@ before_slash n c ls p = elim (cases_eq n 2) [
 ]
 
 past_chain-none : (rest : List Lexeme) → (BeforeSlash rest → ⊥) → past_chain rest ≡ (0, rest)
-past_chain-none (run n ∷ char c ∷ ls) p = ap (λ b. if b then (suc (past_chain ls).0, (past_chain ls).1) else (0, run n ∷ char c ∷ ls)) (before_slash n c ls p)
+past_chain-none (run n ∷ char c ∷ ls) p =
+    ap (λ b. if b then (suc (past_chain ls).0, (past_chain ls).1) else (0, run n ∷ char c ∷ ls)) (before_slash n c ls p)
 past_chain-none ls p = refl
 
 past_chain-chain : (n : ℕ) (rest : List Lexeme) → (BeforeSlash rest → ⊥) → past_chain (chain n rest) ≡ (n, rest)
@@ -105,15 +106,23 @@ slash_meaning : (p : Left) (l : Lexeme) (ls : List Lexeme) → IsSlash l → mea
 slash_meaning p l ls (inl e) = ap (λ x. meaning_of p (x ∷ ls)) e
 slash_meaning p l ls (inr e) = ap (λ x. meaning_of p (x ∷ ls)) e
 
-chain_meaning : (n : ℕ) (rest : List Lexeme) → (BeforeSlash rest → ⊥) → (AtEnd rest → ⊥) → after_slash (past_chain (chain n rest)) ≡ gives 1 (slash_or_middle n) rest
-chain_meaning n rest b a = ap after_slash (past_chain-chain n rest b) ∙ ap (λ t. if t then gives 1 G.end (tail rest) else gives 1 (slash_or_middle n) rest) (is_at_end-false rest a)
+chain_meaning : (n : ℕ) (rest : List Lexeme) → (BeforeSlash rest → ⊥) → (AtEnd rest → ⊥)
+    → after_slash (past_chain (chain n rest)) ≡ gives 1 (slash_or_middle n) rest
+chain_meaning n rest b a =
+    ap after_slash (past_chain-chain n rest b) ∙ ap (λ t. if t then gives 1 G.end (tail rest) else gives 1 (slash_or_middle n) rest)
+    (is_at_end-false rest a)
 
 end_meaning : (n : ℕ) (rest : List Lexeme) → Ends rest → after_slash (past_chain (chain n (run 2 ∷ rest))) ≡ gives 1 G.end rest
-end_meaning n rest h = ap after_slash (past_chain-chain n (run 2 ∷ rest) (ends_before rest h)) ∙ ap (λ t. if t then gives 1 G.end rest else gives 1 (slash_or_middle n) (run 2 ∷ rest)) (is_end-true rest h)
+end_meaning n rest h =
+    ap after_slash (past_chain-chain n (run 2 ∷ rest) (ends_before rest h))
+    ∙ ap (λ t. if t then gives 1 G.end rest else gives 1 (slash_or_middle n) (run 2 ∷ rest)) (is_end-true rest h)
 
-start_meaning : (p : Left) (n : ℕ) (rest : List Lexeme) → IsStart p → (BeforeSlash rest → ⊥) → meaning_of p (chain (suc n) rest) ≡ gives 1 G.start (if is_at_end rest then tail rest else rest)
-start_meaning glob_start n rest s b = ap (λ (q : ℕ × List Lexeme). gives 1 G.start (if is_at_end q.1 then tail q.1 else q.1)) (past_chain-chain n rest b)
-start_meaning branch_start n rest s b = ap (λ (q : ℕ × List Lexeme). gives 1 G.start (if is_at_end q.1 then tail q.1 else q.1)) (past_chain-chain n rest b)
+start_meaning : (p : Left) (n : ℕ) (rest : List Lexeme) → IsStart p → (BeforeSlash rest → ⊥)
+    → meaning_of p (chain (suc n) rest) ≡ gives 1 G.start (if is_at_end rest then tail rest else rest)
+start_meaning glob_start n rest s b =
+    ap (λ (q : ℕ × List Lexeme). gives 1 G.start (if is_at_end q.1 then tail q.1 else q.1)) (past_chain-chain n rest b)
+start_meaning branch_start n rest s b =
+    ap (λ (q : ℕ × List Lexeme). gives 1 G.start (if is_at_end q.1 then tail q.1 else q.1)) (past_chain-chain n rest b)
 start_meaning lexeme n rest s b = absurd s
 
 lone-stars : (n : ℕ) (ls : List Lexeme) → (run n ∷ ls ≡ run 2 ∷ [] → ⊥) → lone n ls ≡ gives n G.star ls
@@ -121,21 +130,28 @@ lone-stars n [] p = ap (λ b. if b then gives 1 G.start [] else gives n G.star [
 lone-stars n (l ∷ ls) p = refl
 
 stars_meaning : (p : Left) (n : ℕ) (ls : List Lexeme) → (IsRecursive p (run n ∷ ls) → ⊥) → at_run p n ls ≡ gives n G.star ls
-stars_meaning glob_start n ls r = ap (λ (q : ℕ × List Lexeme). at_chain q.0 q.1 (lone n ls)) (past_chain-none (run n ∷ ls) (λ b. r (inl b))) ∙ lone-stars n ls (λ e. r (inr e))
+stars_meaning glob_start n ls r =
+    ap (λ (q : ℕ × List Lexeme). at_chain q.0 q.1 (lone n ls)) (past_chain-none (run n ∷ ls) (λ b. r (inl b)))
+    ∙ lone-stars n ls (λ e. r (inr e))
 stars_meaning branch_start n ls r = ap (λ (q : ℕ × List Lexeme). at_chain q.0 q.1 (gives n G.star ls)) (past_chain-none (run n ∷ ls) r)
 stars_meaning lexeme n ls r = refl
 
 Means-meaning : (p : Left) (ls : List Lexeme) (m : Meaning) → Means p ls m → m ≡ meaning_of p ls
-Means-meaning p ls m (character q c rest n) = sym (ap (λ b. if b then after_slash (past_chain rest) else gives 1 (G.literal c) rest) (ne_eqb c 47 n))
-Means-meaning p ls m (escape q c rest n) = sym (ap (λ b. if b then after_slash (past_chain rest) else gives 1 (G.literal c) rest) (ne_eqb c 47 n))
+Means-meaning p ls m (character q c rest n) =
+    sym (ap (λ b. if b then after_slash (past_chain rest) else gives 1 (G.literal c) rest) (ne_eqb c 47 n))
+Means-meaning p ls m (escape q c rest n) =
+    sym (ap (λ b. if b then after_slash (past_chain rest) else gives 1 (G.literal c) rest) (ne_eqb c 47 n))
 Means-meaning p ls m (question q rest) = refl
 Means-meaning p ls m (bracket q negated ranges rest) = refl
 Means-meaning p ls m (stars q n rest r) = sym (stars_meaning q n rest r)
 Means-meaning p ls m (slash q l rest s b a) = sym (slash_meaning q l rest s ∙ chain_meaning 0 rest b a)
 Means-meaning p ls m (middle q l n rest s b a) = sym (slash_meaning q l (chain (suc n) rest) s ∙ chain_meaning (suc n) rest b a)
 Means-meaning p ls m (end q l n rest s h) = sym (slash_meaning q l (chain n (run 2 ∷ rest)) s ∙ end_meaning n rest h)
-Means-meaning p ls m (start q n rest s b a) = sym (start_meaning q n rest s b ∙ ap (λ t. gives 1 G.start (if t then tail rest else rest)) (is_at_end-false rest a))
-Means-meaning p ls m (start_to_end q n rest s h) = sym (start_meaning q n (run 2 ∷ rest) s (ends_before rest h) ∙ ap (λ t. gives 1 G.start (if t then rest else run 2 ∷ rest)) (is_end-true rest h))
+Means-meaning p ls m (start q n rest s b a) =
+    sym (start_meaning q n rest s b ∙ ap (λ t. gives 1 G.start (if t then tail rest else rest)) (is_at_end-false rest a))
+Means-meaning p ls m (start_to_end q n rest s h) =
+    sym (start_meaning q n (run 2 ∷ rest) s (ends_before rest h)
+    ∙ ap (λ t. gives 1 G.start (if t then rest else run 2 ∷ rest)) (is_end-true rest h))
 Means-meaning p ls m alone = refl
 Means-meaning p ls m (opens q rest) = refl
 Means-meaning p ls m (ends q rest h) = ends_ended q rest h where
@@ -150,9 +166,12 @@ Means-same p ls m k a b = Means-meaning p ls m a ∙ sym (Means-meaning p ls k b
 mutual
   pub Row-same : (p : Left) (ls r s : List Lexeme) (ts us : Tokens) → Row p ls ts r → Row p ls us s → (ts ≡ us) × (r ≡ s)
   Row-same p ls r s ts us (nothing p1 l1 a) (nothing p2 l2 b) = (refl, refl)
-  Row-same p ls r s ts us (nothing p1 l1 a) (further p2 l2 mid rest n t vs b w) = absurd (let e : ended ≡ gives n t mid = Means-same p1 l1 ended (gives n t mid) a b in cc e)
-  Row-same p ls r s ts us (nothing p1 l1 a) (nested p2 l2 inner after rest bs vs b i w) = absurd (let e : ended ≡ braces inner = Means-same p1 l1 ended (braces inner) a b in cc e)
-  Row-same p ls r s ts us (further p1 l1 mid rest n t vs a v) (nothing p2 l2 b) = absurd (let e : gives n t mid ≡ ended = Means-same p1 l1 (gives n t mid) ended a b in cc e)
+  Row-same p ls r s ts us (nothing p1 l1 a) (further p2 l2 mid rest n t vs b w) =
+      absurd (let e : ended ≡ gives n t mid = Means-same p1 l1 ended (gives n t mid) a b in cc e)
+  Row-same p ls r s ts us (nothing p1 l1 a) (nested p2 l2 inner after rest bs vs b i w) =
+      absurd (let e : ended ≡ braces inner = Means-same p1 l1 ended (braces inner) a b in cc e)
+  Row-same p ls r s ts us (further p1 l1 mid rest n t vs a v) (nothing p2 l2 b) =
+      absurd (let e : gives n t mid ≡ ended = Means-same p1 l1 (gives n t mid) ended a b in cc e)
   Row-same p ls r s ts us (further p1 l1 mid rest n t vs a v) (further p2 l2 mid' rest' n' t' vs' b w) =
       let e : gives n t mid ≡ gives n' t' mid' = Means-same p1 l1 (gives n t mid) (gives n' t' mid') a b in
       let n_is : n ≡ n' = cc e in
@@ -161,9 +180,12 @@ mutual
       let P : List Lexeme → Type 0 = λ x. Row lexeme x vs' rest' in
       let h = Row-same lexeme mid rest rest' vs vs' v (subst P (sym mid_is) w) in
       (ap (λ x. times x t vs) n_is ∙ (ap (λ x. times n' x vs) t_is ∙ ap (λ x. times n' t' x) h.0), h.1)
-  Row-same p ls r s ts us (further p1 l1 mid rest n t vs a v) (nested p2 l2 inner after rest' bs vs' b i w) = absurd (let e : gives n t mid ≡ braces inner = Means-same p1 l1 (gives n t mid) (braces inner) a b in cc e)
-  Row-same p ls r s ts us (nested p1 l1 inner after rest bs vs a i v) (nothing p2 l2 b) = absurd (let e : braces inner ≡ ended = Means-same p1 l1 (braces inner) ended a b in cc e)
-  Row-same p ls r s ts us (nested p1 l1 inner after rest bs vs a i v) (further p2 l2 mid' rest' n' t' vs' b w) = absurd (let e : braces inner ≡ gives n' t' mid' = Means-same p1 l1 (braces inner) (gives n' t' mid') a b in cc e)
+  Row-same p ls r s ts us (further p1 l1 mid rest n t vs a v) (nested p2 l2 inner after rest' bs vs' b i w) =
+      absurd (let e : gives n t mid ≡ braces inner = Means-same p1 l1 (gives n t mid) (braces inner) a b in cc e)
+  Row-same p ls r s ts us (nested p1 l1 inner after rest bs vs a i v) (nothing p2 l2 b) =
+      absurd (let e : braces inner ≡ ended = Means-same p1 l1 (braces inner) ended a b in cc e)
+  Row-same p ls r s ts us (nested p1 l1 inner after rest bs vs a i v) (further p2 l2 mid' rest' n' t' vs' b w) =
+      absurd (let e : braces inner ≡ gives n' t' mid' = Means-same p1 l1 (braces inner) (gives n' t' mid') a b in cc e)
   Row-same p ls r s ts us (nested p1 l1 inner after rest bs vs a i v) (nested p2 l2 inner' after' rest' cs vs' b j w) =
       let e : braces inner ≡ braces inner' = Means-same p1 l1 (braces inner) (braces inner') a b in
       let inner_is : inner ≡ inner' = cc e in
@@ -178,8 +200,10 @@ mutual
       let h = Row-same branch_start l1 (closing ∷ rest) (closing ∷ rest') ts us v w in
       let rest_is : rest ≡ rest' = cc h.1 in
       (ap (λ x. add_branch x no_branch) h.0, rest_is)
-  Inner-same ls r s bs cs (last_branch l1 rest ts v) (further_branch l2 mid rest' us ds w j) = absurd (let h = Row-same branch_start l1 (closing ∷ rest) (comma ∷ mid) ts us v w in cc h.1)
-  Inner-same ls r s bs cs (further_branch l1 mid rest ts ds v i) (last_branch l2 rest' us w) = absurd (let h = Row-same branch_start l1 (comma ∷ mid) (closing ∷ rest') ts us v w in cc h.1)
+  Inner-same ls r s bs cs (last_branch l1 rest ts v) (further_branch l2 mid rest' us ds w j) =
+      absurd (let h = Row-same branch_start l1 (closing ∷ rest) (comma ∷ mid) ts us v w in cc h.1)
+  Inner-same ls r s bs cs (further_branch l1 mid rest ts ds v i) (last_branch l2 rest' us w) =
+      absurd (let h = Row-same branch_start l1 (comma ∷ mid) (closing ∷ rest') ts us v w in cc h.1)
   Inner-same ls r s bs cs (further_branch l1 mid rest ts ds v i) (further_branch l2 mid' rest' us es w j) =
       let h = Row-same branch_start l1 (comma ∷ mid) (comma ∷ mid') ts us v w in
       let mid_is : mid ≡ mid' = cc h.1 in
@@ -196,7 +220,9 @@ Reads-same o text ts us a b =
     (Row-same glob_start a.0 [] [] ts us a.2 (subst P (sym row_is) b.2)).0
 
 pub one_fault : (o : Options) (text : List ℕ) (f g : GlobFault) → IsFaulty o text f → IsFaulty o text g → f ≡ g
-one_fault o text f g a b = let e : ◌≡◌ {A = Result (List Lexeme) GlobFault} (Err f) (Err g) = Lexed-same o 0 text (Err f) (Err g) a b in cc e
+one_fault o text f g a b =
+    let e : ◌≡◌ {A = Result (List Lexeme) GlobFault} (Err f) (Err g) = Lexed-same o 0 text (Err f) (Err g) a b in cc e
 
 pub never_both : (o : Options) (text : List ℕ) (ts : Tokens) (f : GlobFault) → Reads o text ts → IsFaulty o text f → ⊥
-never_both o text ts f a b = let e : ◌≡◌ {A = Result (List Lexeme) GlobFault} (Ok a.0) (Err f) = Lexed-same o 0 text (Ok a.0) (Err f) a.1 b in cc e
+never_both o text ts f a b =
+    let e : ◌≡◌ {A = Result (List Lexeme) GlobFault} (Ok a.0) (Err f) = Lexed-same o 0 text (Ok a.0) (Err f) a.1 b in cc e

@@ -19,8 +19,10 @@ text_of e = problem_text (problem_of e)
 pub problem_of-Partial : (errors : Vec Error Global) → problem_of (Partial errors) ≡ several (problems_of (map problem_of errors.items))
 problem_of-Partial errors = ap problem_of (sym (rolls-Partial errors)) ∙ fold-roll-Error Problem problem_step (open_error.Partial errors)
 
-pub problem_of-Loop : (ancestor child : String Global) → problem_of (Loop ancestor child) ≡ loop (string_bytes ancestor) (string_bytes child)
-problem_of-Loop ancestor child = ap problem_of (sym (rolls-Loop ancestor child)) ∙ fold-roll-Error Problem problem_step (open_error.Loop ancestor child)
+pub problem_of-Loop : (ancestor child : String Global)
+    → problem_of (Loop ancestor child) ≡ loop (string_bytes ancestor) (string_bytes child)
+problem_of-Loop ancestor child =
+    ap problem_of (sym (rolls-Loop ancestor child)) ∙ fold-roll-Error Problem problem_step (open_error.Loop ancestor child)
 
 -- the texts of the members are those of the errors
 texts : (errors : List Error) → problem_texts (problems_of (map problem_of errors)) ≡ map text_of errors
@@ -30,7 +32,9 @@ texts (e ∷ es) = ap (λ l. text_of e ∷ l) (texts es)
 pub text_of-Partial : (errors : Vec Error Global) → text_of (Partial errors) ≡ join_with_byte 10 (map text_of errors.items)
 text_of-Partial errors = ap problem_text (problem_of-Partial errors) ∙ ap (join_with_byte 10) (texts errors.items)
 
-pub text_of-Loop : (ancestor child : String Global) → text_of (Loop ancestor child) ≡ codes "File system loop found: " ++ (string_bytes child ++ (codes " points to an ancestor " ++ string_bytes ancestor))
+pub text_of-Loop : (ancestor child : String Global)
+    → text_of (Loop ancestor child) ≡ codes "File system loop found: "
+    ++ (string_bytes child ++ (codes " points to an ancestor " ++ string_bytes ancestor))
 text_of-Loop ancestor child = ap problem_text (problem_of-Loop ancestor child)
 
 -- two members or more have no one fault

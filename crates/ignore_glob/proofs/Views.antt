@@ -11,6 +11,8 @@ branches_of-mapped [] = refl
 branches_of-mapped (b ∷ bs) = ap (branch (tokens_view b.items)) (branches_of-mapped bs)
 
 pub view-Alternates : (bs : Vec (Vec CodeToken Global) Global) → view (Alternates bs) ≡ alternates (branches_view bs.items)
-view-Alternates bs = ap view (sym (rolls-Alternates bs)) ∙ (fold-roll-Token Token view_step (Token-F.Alternates bs) ∙ ap alternates (branches_of-mapped bs.items))
+view-Alternates bs =
+    ap view (sym (rolls-Alternates bs)) ∙ (fold-roll-Token Token view_step (Token-F.Alternates bs)
+    ∙ ap alternates (branches_of-mapped bs.items))
 
 pub ruleset view_equations = (view-Alternates)

@@ -9,12 +9,18 @@ middle_positions : positions (then (literal 97) (then middle (then (literal 98) 
 middle_positions = refl
 
 -- {a,{b,}}c: the braces, a, the inner braces, b, and c
-nested_positions : positions (then (alternates (branch (then (literal 97) done) (branch (then (alternates (branch (then (literal 98) done) no_branch)) done) no_branch))) (then (literal 99) done)) ≡ 5
+nested_positions : positions (then (alternates (branch (then (literal 97) done)
+    (branch (then (alternates (branch (then (literal 98) done) no_branch)) done) no_branch))) (then (literal 99) done)) ≡ 5
 nested_positions = refl
 
 -- next after b, inside both braces, is c
-nested_table : table (then (alternates (branch (then (literal 97) done) (branch (then (alternates (branch (then (literal 98) done) no_branch)) done) no_branch))) (then (literal 99) done)) first the_end ≡
-    (before first, alternates (branch (then (literal 97) done) (branch (then (alternates (branch (then (literal 98) done) no_branch)) done) no_branch)), before (after first)) ∷
+nested_table : table (then (alternates (branch (then (literal 97) done)
+    (branch (then (alternates (branch (then (literal 98) done) no_branch)) done) no_branch))) (then (literal 99) done)) first the_end ≡ (
+      before first,
+      alternates (branch (then (literal 97) done)
+          (branch (then (alternates (branch (then (literal 98) done) no_branch)) done) no_branch)),
+      before (after first),
+    ) ∷
     (before (in_branch 0 first), literal 97, before (after first)) ∷
     (before (in_branch 1 first), alternates (branch (then (literal 98) done) no_branch), before (after first)) ∷
     (before (in_branch 0 (in_branch 1 first)), literal 98, before (after first)) ∷

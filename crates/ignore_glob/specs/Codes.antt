@@ -1,14 +1,17 @@
--- Codes: tokens as trees of numbers, by which proofs distinguish tokens.
+-- Codes: tokens as trees of numbers, and readings as pairs, by which proofs distinguish them.
 use Rattle.std.specs.Prelude.{◌≡◌, ℕ, zero, suc, Bool, true, false, List, [], ◌∷◌, refl}
-use Rattle.std.specs.Coded.{Coded, code_by}
+use Rattle.std.specs.Coded.{Coded, code_by, coded×, coded_bool}
 use base.Stored.{Gv, gnil, gnum, gcons}
 use denote.Struct.Codes.{itself}
 use Rattle.ignore_glob.specs.Glob.{Token, literal, any, star, start, middle, end, class, alternates, Tokens, done, then, Branches, no_branch, branch}
+use Rattle.ignore_glob.specs.Reading.{Reading}
 
+-- the tree of ranges
 abbrev pub ranges_tree : List (ℕ × ℕ) → Gv
 ranges_tree [] = gnil
 ranges_tree (r ∷ rs) = gcons (gcons (gnum r.0) (gnum r.1)) (ranges_tree rs)
 
+-- the tree of a class
 abbrev pub class_tree : Bool → Gv → Gv
 class_tree false ranges = gcons (gnum 0) ranges
 class_tree true ranges = gcons (gnum 1) ranges
@@ -38,16 +41,19 @@ number gnil = 0
 number (gnum n) = n
 number (gcons a b) = 0
 
+-- the range of a tree
 abbrev pub range : Gv → ℕ × ℕ
 range gnil = (0, 0)
 range (gnum n) = (0, 0)
 range (gcons a b) = (number a, number b)
 
+-- the ranges of a tree
 abbrev pub ranges_from : Gv → List (ℕ × ℕ)
 ranges_from gnil = []
 ranges_from (gnum n) = []
 ranges_from (gcons r rs) = range r ∷ ranges_from rs
 
+-- the token without contents with a number
 abbrev pub bare : ℕ → Token
 bare zero = any
 bare (suc zero) = star
@@ -55,6 +61,7 @@ bare (suc (suc zero)) = start
 bare (suc (suc (suc zero))) = middle
 bare (suc (suc (suc (suc n)))) = end
 
+-- the class of a tree
 abbrev pub class_from : ℕ → List (ℕ × ℕ) → Token
 class_from zero ranges = class false ranges
 class_from (suc n) ranges = class true ranges
@@ -77,10 +84,12 @@ abbrev mutual
   branches_from (gnum n) = no_branch
   branches_from (gcons ts bs) = branch (tokens_from ts) (branches_from bs)
 
+-- ranges come back from their tree
 pub ranges_back : (rs : List (ℕ × ℕ)) → ranges_from (ranges_tree rs) ≡ rs
 ranges_back [] = refl
 ranges_back (r ∷ rs) = λ i. r ∷ ranges_back rs i
 
+-- a class comes back from its tree
 pub class_back : (negated : Bool) (ranges : List (ℕ × ℕ)) → token_from (class_tree negated (ranges_tree ranges)) ≡ class negated ranges
 class_back false ranges = λ i. class false (ranges_back ranges i)
 class_back true ranges = λ i. class true (ranges_back ranges i)
@@ -104,5 +113,12 @@ mutual
   branches_back no_branch = refl
   branches_back (branch ts bs) = λ i. branch (tokens_back ts i) (branches_back bs i)
 
+-- the code of tokens
 abbrev pub tokens_code : Coded Tokens
 tokens_code = code_by Gv itself tokens_tree tokens_from tokens_back
+
+-- code: proofs distinguish readings by the pair of their fields
+abbrev pub reading_code : Coded Reading
+reading_code =
+    code_by (Tokens × Bool) (coded× tokens_code coded_bool) (λ r. (r.tokens, r.case_insensitive))
+    (λ p. record { tokens = p.0; case_insensitive = p.1 }) (λ _. refl)

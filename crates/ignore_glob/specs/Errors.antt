@@ -2,6 +2,7 @@
 use Rattle.std.specs.Prelude.{ℕ, Bool, true, false, List, [], ◌∷◌, ◌++◌, codes, Option, Some, None}
 use Rattle.std.specs.Fmt.{decimal}
 use Rattle.std.specs.List.{join_with_byte}
+use Rattle.ignore_glob.specs.Text.{Bytes}
 use Rattle.ignore_glob.specs.Faults.{fault_text}
 use Rattle.ignore_glob.specs.declared.fault.Fault.{Fault}
 use Rattle.ignore_glob.specs.Problem.{Problem, several, at_line, at_path, at_depth, loop, io, glob, unrecognized, invalid_definition, memory, Problems, no_problems, problem}
@@ -53,13 +54,13 @@ depth_of invalid_definition = None
 depth_of memory = None
 
 -- what is wrong with a glob, after the glob itself where it is known
-abbrev pub glob_text : Option (List ℕ) → List ℕ → List ℕ
+abbrev pub glob_text : Option Bytes → Bytes → Bytes
 glob_text None err = err
 glob_text (Some pattern) err = codes "error parsing glob '" ++ (pattern ++ (codes "': " ++ err))
 
 abbrev mutual
   -- the text of a problem; several are separated by newlines
-  pub problem_text : Problem → List ℕ
+  pub problem_text : Problem → Bytes
   problem_text (several ps) = join_with_byte 10 (problem_texts ps)
   problem_text (at_line line p) = codes "line " ++ (decimal line ++ (codes ": " ++ problem_text p))
   problem_text (at_path path p) = path ++ (codes ": " ++ problem_text p)
@@ -72,6 +73,6 @@ abbrev mutual
   problem_text memory = codes "out of memory"
 
   -- the text of each problem
-  pub problem_texts : Problems → List (List ℕ)
+  pub problem_texts : Problems → List Bytes
   problem_texts no_problems = []
   problem_texts (problem p ps) = problem_text p ∷ problem_texts ps

@@ -1,10 +1,11 @@
 -- The text of a fault.
 use Rattle.std.specs.Prelude.{ℕ, List, codes}
+use Rattle.ignore_glob.specs.Text.{Bytes}
 use Rattle.ignore_glob.specs.declared.fault.Fault.{Fault}
 use Rattle.ignore_glob.specs.declared.fault.Fault.TheVariants.{NotFound, PermissionDenied, NotADirectory, IsADirectory, InvalidData, BadName, LinkLimit, NoIdentity, NoCurrentDir, StepLimit, NoMetadata, Other}
 
 -- what a fault prints
-abbrev pub fault_text : Fault → List ℕ
+abbrev pub fault_text : Fault → Bytes
 fault_text NotFound = codes "not found"
 fault_text PermissionDenied = codes "permission denied"
 fault_text NotADirectory = codes "not a directory"

@@ -17,7 +17,8 @@ CountAt fold nodes text o n = (flags : List Bool) × AreFlags nodes (Marked fold
 -- how many pairs of a position and an offset up to this one are marked
 abbrev pub Count : Bool → List Node → List ℕ → ℕ → ℕ → Type 0
 Count fold nodes text zero n = CountAt fold nodes text zero n
-Count fold nodes text (suc o) n = (before here : ℕ) × Count fold nodes text o before × CountAt fold nodes text (suc o) here × (n ≡ before + here)
+Count fold nodes text (suc o) n =
+    (before here : ℕ) × Count fold nodes text o before × CountAt fold nodes text (suc o) here × (n ≡ before + here)
 
 -- The node at p leads to positions up to the end, and by no character only to later ones.
 abbrev pub LeadsOn : Node → ℕ → ℕ → Type 0

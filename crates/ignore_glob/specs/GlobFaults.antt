@@ -1,11 +1,13 @@
 -- The text and the number of each parse error of a glob.
 use Rattle.std.specs.Prelude.{ℕ, List, codes}
+use Rattle.ignore_glob.specs.Text.{Bytes}
 use Rattle.ignore_glob.specs.declared.glob.fault.GlobFault.{GlobFault}
 use Rattle.ignore_glob.specs.declared.glob.fault.GlobFault.TheVariants.{UnclosedClass, InvalidRange, UnopenedAlternates, UnclosedAlternates, DanglingEscape, TooDeep}
 use Rattle.ignore_glob.specs.declared.glob.fault.PatternError.{PatternError}
 use Rattle.ignore_glob.specs.declared.glob.fault.PatternError.TheVariants as Why
 
-abbrev pub glob_fault_text : GlobFault → List ℕ
+-- the text of a parse error
+abbrev pub glob_fault_text : GlobFault → Bytes
 glob_fault_text UnclosedClass = codes "unclosed character class"
 glob_fault_text InvalidRange = codes "invalid range"
 glob_fault_text UnopenedAlternates = codes "unopened alternates"
@@ -13,6 +15,7 @@ glob_fault_text UnclosedAlternates = codes "unclosed alternates"
 glob_fault_text DanglingEscape = codes "dangling escape"
 glob_fault_text TooDeep = codes "alternates nested too deep"
 
+-- the number of a parse error
 abbrev pub glob_fault_number : GlobFault → ℕ
 glob_fault_number UnclosedClass = 1
 glob_fault_number InvalidRange = 2
@@ -21,7 +24,8 @@ glob_fault_number UnclosedAlternates = 4
 glob_fault_number DanglingEscape = 5
 glob_fault_number TooDeep = 6
 
-abbrev pub pattern_error_text : PatternError → List ℕ
+-- the text of an error of parsing
+abbrev pub pattern_error_text : PatternError → Bytes
 pattern_error_text (Why.Fault fault) = glob_fault_text fault
 pattern_error_text Why.Memory = codes "out of memory"
 

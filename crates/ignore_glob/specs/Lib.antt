@@ -1,3 +1,4 @@
+pub mod Text
 pub mod Faults
 pub mod Errors
 pub mod Problem
@@ -9,6 +10,7 @@ pub mod GlobFaults
 pub mod Lexing
 pub mod Row
 pub mod LexemeViews
+pub mod ParserSteps
 pub mod Matches
 pub mod Nodes
 pub mod Flags
@@ -17,4 +19,5 @@ pub mod Positions
 pub mod Codes
 pub mod Reading
 pub mod Paths
-pub mod Roots
+pub mod RootSteps
+pub mod Forms

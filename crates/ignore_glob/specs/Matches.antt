@@ -2,17 +2,19 @@
 use Rattle.std.specs.Prelude.{◌≡◌, ◌≢◌, ◌⊎◌, ℕ, Bool, true, false, List, [], ◌∷◌, ◌++◌, All, IsTrue, nat_le, ◌&&◌, ◌||◌, cond}
 use Rattle.std.specs.List.{list_any}
 use Rattle.std.specs.Char.{is_ascii_lowercase, to_ascii_uppercase, to_ascii_lowercase}
+use Rattle.ignore_glob.specs.Text.{Chars}
 use Rattle.ignore_glob.specs.Glob.{Token, literal, any, star, start, middle, end, class, alternates, Tokens, done, then, Branches, no_branch, branch}
 
+-- the character `/`
 abbrev pub slash : ℕ
 slash = 47
 
 -- the text begins with a slash
-abbrev pub BeginsWithSlash : List ℕ → Type 0
+abbrev pub BeginsWithSlash : Chars → Type 0
 BeginsWithSlash w = (b : List ℕ) × (w ≡ slash ∷ b)
 
 -- the text ends with a slash
-abbrev pub EndsWithSlash : List ℕ → Type 0
+abbrev pub EndsWithSlash : Chars → Type 0
 EndsWithSlash w = (a : List ℕ) × (w ≡ a ++ slash ∷ [])
 
 -- the other ASCII case of a letter, and any other character itself: a for A, é for é
@@ -42,7 +44,7 @@ IsMember fold true ranges c = IsTrue (is_listed fold ranges c) → ⊥
 -- The first argument says whether ASCII case is folded. So a/**/b matches a/b: its middle matches
 -- the slash.
 abbrev mutual
-  pub token_matches : Bool → Token → List ℕ → Type 0
+  pub token_matches : Bool → Token → Chars → Type 0
   token_matches fold (literal c) w = (d : ℕ) × (w ≡ d ∷ []) × IsCaseOf fold c d
   token_matches fold any w = (d : ℕ) × (w ≡ d ∷ []) × (d ≢ slash)
   token_matches fold star w = All (λ d. d ≢ slash) w
@@ -52,14 +54,14 @@ abbrev mutual
   token_matches fold (class negated ranges) w = (d : ℕ) × (w ≡ d ∷ []) × IsMember fold negated ranges d
   token_matches fold (alternates bs) w = ((bs ≡ no_branch) × (w ≡ [])) ⊎ branch_matches fold bs w
 
-  pub tokens_match : Bool → Tokens → List ℕ → Type 0
+  pub tokens_match : Bool → Tokens → Chars → Type 0
   tokens_match fold done w = w ≡ []
   tokens_match fold (then t ts) w = (a b : List ℕ) × (w ≡ a ++ b) × token_matches fold t a × tokens_match fold ts b
 
-  pub branch_matches : Bool → Branches → List ℕ → Type 0
+  pub branch_matches : Bool → Branches → Chars → Type 0
   branch_matches fold no_branch w = ⊥
   branch_matches fold (branch ts bs) w = tokens_match fold ts w ⊎ branch_matches fold bs w
 
 -- a glob that is one recursive start matches everything; a branch that is one doesn't
-abbrev pub glob_matches : Bool → Tokens → List ℕ → Type 0
+abbrev pub glob_matches : Bool → Tokens → Chars → Type 0
 glob_matches fold ts w = (ts ≡ then start done) ⊎ tokens_match fold ts w

@@ -103,4 +103,5 @@ parts_back (fork_at firsts) = refl
 
 abbrev pub node_code : Coded Node
 node_code =
-    code_by Parts (coded× coded_ℕ (coded× coded_ℕ (coded× coded_ℕ (coded× coded_bool (coded× (coded_list (coded× coded_ℕ coded_ℕ)) (coded_list coded_ℕ)))))) parts from_parts parts_back
+    code_by Parts (coded× coded_ℕ (coded× coded_ℕ (coded× coded_ℕ
+    (coded× coded_bool (coded× (coded_list (coded× coded_ℕ coded_ℕ)) (coded_list coded_ℕ)))))) parts from_parts parts_back

@@ -123,4 +123,5 @@ SteppedTo fold nodes from c q = (p : ℕ) × (node : Node) × from p × (slice_g
 -- The position is marked at this offset of the text, offset by offset from the first position at 0.
 abbrev pub Marked : Bool → List Node → List ℕ → ℕ → ℕ → Type 0
 Marked fold nodes text zero = Reached nodes (λ q. q ≡ 0)
-Marked fold nodes text (suc o) = Reached nodes (λ q. (c : ℕ) × (slice_get text o ≡ Some c) × SteppedTo fold nodes (Marked fold nodes text o) c q)
+Marked fold nodes text (suc o) =
+    Reached nodes (λ q. (c : ℕ) × (slice_get text o ≡ Some c) × SteppedTo fold nodes (Marked fold nodes text o) c q)

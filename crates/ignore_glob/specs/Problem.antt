@@ -1,6 +1,7 @@
 -- Problems: what an error reports, as plain data. Contracts compare errors by their problems, since
 -- two errors that report the same may lie in different memory.
 use Rattle.std.specs.Prelude.{ℕ, List, [], ◌∷◌, Option, Some, None, option_map, string_bytes}
+use Rattle.ignore_glob.specs.Text.{Bytes, Path}
 use Rattle.ignore_glob.specs.declared.fault.Fault.{Fault}
 use Rattle.ignore_glob.specs.declared.error.Error.{Error}
 use Rattle.ignore_glob.specs.declared.error.Error.TheOpen.{Error-F, Partial, WithLineNumber, WithPath, WithDepth, Loop, Io, Glob, UnrecognizedFileType, InvalidDefinition, Memory}
@@ -11,14 +12,14 @@ mutual
   pub data Problem : Type 0 where
     several : Problems → Problem
     at_line : ℕ → Problem → Problem
-    at_path : List ℕ → Problem → Problem
+    at_path : Path → Problem → Problem
     at_depth : ℕ → Problem → Problem
     -- the ancestor, then the child that points to it
-    loop : List ℕ → List ℕ → Problem
+    loop : Path → Path → Problem
     io : Fault → Problem
     -- the glob as it was written, if it is known, then what is wrong with it
-    glob : Option (List ℕ) → List ℕ → Problem
-    unrecognized : List ℕ → Problem
+    glob : Option Bytes → Bytes → Problem
+    unrecognized : Bytes → Problem
     invalid_definition : Problem
     memory : Problem
 

@@ -1,6 +1,7 @@
 -- Parsing a row of lexemes to tokens. The neighbours of a run of two stars decide what it means.
 -- 47 `/`
 use Rattle.std.specs.Prelude.{◌≡◌, ◌≢◌, ◌⊎◌, ℕ, zero, suc, Bool, List, [], ◌∷◌, Ok, Err}
+use Rattle.ignore_glob.specs.Text.{Chars}
 use Rattle.ignore_glob.specs.declared.glob.options.Options.{Options}
 use Rattle.ignore_glob.specs.declared.glob.fault.GlobFault.{GlobFault}
 use Rattle.ignore_glob.specs.Glob as G
@@ -61,19 +62,25 @@ pub data Means : Left → List Lexeme → Meaning → Type 0 where
   character : (p : Left) (c : ℕ) (rest : List Lexeme) → c ≢ 47 → Means p (char c ∷ rest) (gives 1 (G.literal c) rest)
   escape : (p : Left) (c : ℕ) (rest : List Lexeme) → c ≢ 47 → Means p (escaped c ∷ rest) (gives 1 (G.literal c) rest)
   question : (p : Left) (rest : List Lexeme) → Means p (any ∷ rest) (gives 1 G.any rest)
-  bracket : (p : Left) (negated : Bool) (ranges : List (ℕ × ℕ)) (rest : List Lexeme) → Means p (class negated ranges ∷ rest) (gives 1 (G.class negated ranges) rest)
+  bracket : (p : Left) (negated : Bool) (ranges : List (ℕ × ℕ)) (rest : List Lexeme)
+      → Means p (class negated ranges ∷ rest) (gives 1 (G.class negated ranges) rest)
   -- a run that is no recursive start is plain stars: `*`, `***`, `a**`, `{**}`
   stars : (p : Left) (n : ℕ) (rest : List Lexeme) → (IsRecursive p (run n ∷ rest) → ⊥) → Means p (run n ∷ rest) (gives n G.star rest)
   -- a slash with no run of two after it, or with one that has another right neighbour, as in `/**a`
-  slash : (p : Left) (l : Lexeme) (rest : List Lexeme) → IsSlash l → (BeforeSlash rest → ⊥) → (AtEnd rest → ⊥) → Means p (l ∷ rest) (gives 1 (G.literal 47) rest)
+  slash : (p : Left) (l : Lexeme) (rest : List Lexeme) → IsSlash l → (BeforeSlash rest → ⊥) → (AtEnd rest → ⊥)
+      → Means p (l ∷ rest) (gives 1 (G.literal 47) rest)
   -- `/**/` is a middle, and further runs at its slash add nothing: `/**/**/`
-  middle : (p : Left) (l : Lexeme) (n : ℕ) (rest : List Lexeme) → IsSlash l → (BeforeSlash rest → ⊥) → (AtEnd rest → ⊥) → Means p (l ∷ chain (suc n) rest) (gives 1 G.middle rest)
+  middle : (p : Left) (l : Lexeme) (n : ℕ) (rest : List Lexeme) → IsSlash l → (BeforeSlash rest → ⊥) → (AtEnd rest → ⊥)
+      → Means p (l ∷ chain (suc n) rest) (gives 1 G.middle rest)
   -- `/**` at the end is an end, after a middle too: `/**/**`
-  end : (p : Left) (l : Lexeme) (n : ℕ) (rest : List Lexeme) → IsSlash l → Ends rest → Means p (l ∷ chain n (run 2 ∷ rest)) (gives 1 G.end rest)
+  end : (p : Left) (l : Lexeme) (n : ℕ) (rest : List Lexeme) → IsSlash l → Ends rest
+      → Means p (l ∷ chain n (run 2 ∷ rest)) (gives 1 G.end rest)
   -- `**/` at a start is a recursive start, and further runs at its slash add nothing: `**/**/`,
   -- `**/**`
-  start : (p : Left) (n : ℕ) (rest : List Lexeme) → IsStart p → (BeforeSlash rest → ⊥) → (AtEnd rest → ⊥) → Means p (chain (suc n) rest) (gives 1 G.start rest)
-  start_to_end : (p : Left) (n : ℕ) (rest : List Lexeme) → IsStart p → Ends rest → Means p (chain (suc n) (run 2 ∷ rest)) (gives 1 G.start rest)
+  start : (p : Left) (n : ℕ) (rest : List Lexeme) → IsStart p → (BeforeSlash rest → ⊥) → (AtEnd rest → ⊥)
+      → Means p (chain (suc n) rest) (gives 1 G.start rest)
+  start_to_end : (p : Left) (n : ℕ) (rest : List Lexeme) → IsStart p → Ends rest
+      → Means p (chain (suc n) (run 2 ∷ rest)) (gives 1 G.start rest)
   -- `**` as the whole glob
   alone : Means glob_start (run 2 ∷ []) (gives 1 G.start [])
   -- braces are parsed by themselves; a comma, a closing brace or nothing is the end
@@ -94,18 +101,21 @@ mutual
   -- the row, given what is left of it, has these tokens up to an end, and then this rest
   pub data Row : Left → List Lexeme → Tokens → List Lexeme → Type 0 where
     nothing : (p : Left) (ls : List Lexeme) → Means p ls ended → Row p ls done ls
-    further : (p : Left) (ls mid rest : List Lexeme) (n : ℕ) (t : Token) (ts : Tokens) → Means p ls (gives n t mid) → Row lexeme mid ts rest → Row p ls (times n t ts) rest
-    nested : (p : Left) (ls inner after rest : List Lexeme) (bs : Branches) (ts : Tokens) → Means p ls (braces inner) → Inner inner bs after → Row lexeme after ts rest → Row p ls (then (G.alternates bs) ts) rest
+    further : (p : Left) (ls mid rest : List Lexeme) (n : ℕ) (t : Token) (ts : Tokens) → Means p ls (gives n t mid) → Row lexeme mid ts rest
+        → Row p ls (times n t ts) rest
+    nested : (p : Left) (ls inner after rest : List Lexeme) (bs : Branches) (ts : Tokens) → Means p ls (braces inner) → Inner inner bs after
+        → Row lexeme after ts rest → Row p ls (then (G.alternates bs) ts) rest
 
   -- the row has these branches, then a closing brace, and then this rest
   pub data Inner : List Lexeme → Branches → List Lexeme → Type 0 where
     last_branch : (ls rest : List Lexeme) (ts : Tokens) → Row branch_start ls ts (closing ∷ rest) → Inner ls (add_branch ts no_branch) rest
-    further_branch : (ls mid rest : List Lexeme) (ts : Tokens) (bs : Branches) → Row branch_start ls ts (comma ∷ mid) → Inner mid bs rest → Inner ls (add_branch ts bs) rest
+    further_branch : (ls mid rest : List Lexeme) (ts : Tokens) (bs : Branches) → Row branch_start ls ts (comma ∷ mid) → Inner mid bs rest
+        → Inner ls (add_branch ts bs) rest
 
 -- the text parses to these tokens: it lexes to a row of lexemes that has them
-abbrev pub Reads : Options → List ℕ → Tokens → Type 0
+abbrev pub Reads : Options → Chars → Tokens → Type 0
 Reads o text tokens = (row : List Lexeme) × Lexed o 0 text (Ok row) × Row glob_start row tokens []
 
 -- the text is an invalid glob: its leftmost error is this
-abbrev pub IsFaulty : Options → List ℕ → GlobFault → Type 0
+abbrev pub IsFaulty : Options → Chars → GlobFault → Type 0
 IsFaulty o text f = Lexed o 0 text (Err f)

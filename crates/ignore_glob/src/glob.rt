@@ -4,6 +4,7 @@ mod class;
 mod copies;
 mod fault;
 mod flags;
+mod key;
 pub mod laws;
 mod lexeme;
 mod marks;
@@ -17,5 +18,6 @@ mod read;
 mod token;
 
 pub use fault::{GlobFault, PatternError};
+pub use key::Key;
 pub use options::Options;
 pub use pattern::{Pattern, characters};

@@ -18,10 +18,13 @@ applies_to_kind true is_dir = (λ e. inr e, λ h. elim h [ inl wrong ↦ absurd 
 
 pub applies_decided : (text : List ℕ) (is_dir : Bool) (rule : Rule) → Decides (does_apply text is_dir rule) (Applies text is_dir rule)
 applies_decided text is_dir rule =
-    Decides-and (not rule.is_only_dir || is_dir) (does_match rule.reading text) (applies_to_kind rule.is_only_dir is_dir) (matching_decided rule.reading text)
+    Decides-and (not rule.is_only_dir || is_dir) (does_match rule.reading text) (applies_to_kind rule.is_only_dir is_dir)
+    (matching_decided rule.reading text)
 
 -- one rule alone
-alone : (text : List ℕ) (is_dir : Bool) (rule : Rule) (rules : List Rule) → IsAnswer rules text is_dir None → (yes : Bool) (flag : Bool) → does_apply text is_dir rule ≡ yes → rule.is_whitelist ≡ flag → IsAnswer (rule ∷ rules) text is_dir (cond yes (cond flag (Whitelist rule) (Ignore rule)) None)
+alone : (text : List ℕ) (is_dir : Bool) (rule : Rule) (rules : List Rule) → IsAnswer rules text is_dir None → (yes : Bool) (flag : Bool)
+    → does_apply text is_dir rule ≡ yes → rule.is_whitelist ≡ flag
+    → IsAnswer (rule ∷ rules) text is_dir (cond yes (cond flag (Whitelist rule) (Ignore rule)) None)
 alone text is_dir rule rules none true true e f =
     (record { before = []; after = rules; place = refl; applies = (applies_decided text is_dir rule).0 e; last = none }, f)
 alone text is_dir rule rules none true false e f =
@@ -30,11 +33,13 @@ alone text is_dir rule rules none false flag e f =
     All-cons (λ r. Applies text is_dir r → ⊥) rule rules (not_from_Decides _ (applies_decided text is_dir rule) e) none
 
 -- a rule before those that decide changes nothing
-further : (text : List ℕ) (is_dir : Bool) (rule decider : Rule) (rules : List Rule) → IsLast rules text is_dir decider → IsLast (rule ∷ rules) text is_dir decider
+further : (text : List ℕ) (is_dir : Bool) (rule decider : Rule) (rules : List Rule) → IsLast rules text is_dir decider
+    → IsLast (rule ∷ rules) text is_dir decider
 further text is_dir rule decider rules h =
     record { before = rule ∷ h.before; after = h.after; place = ap (λ l. rule ∷ l) h.place; applies = h.applies; last = h.last }
 
-before_all : (text : List ℕ) (is_dir : Bool) (rule : Rule) (rules : List Rule) (m : Match Rule) → IsAnswer rules text is_dir m → IsAnswer (rule ∷ rules) text is_dir (match_or m (rule_answer text is_dir rule))
+before_all : (text : List ℕ) (is_dir : Bool) (rule : Rule) (rules : List Rule) (m : Match Rule) → IsAnswer rules text is_dir m
+    → IsAnswer (rule ∷ rules) text is_dir (match_or m (rule_answer text is_dir rule))
 before_all text is_dir rule rules None h = alone text is_dir rule rules h (does_apply text is_dir rule) rule.is_whitelist refl refl
 before_all text is_dir rule rules (Ignore decider) h = (further text is_dir rule decider rules h.0, h.1)
 before_all text is_dir rule rules (Whitelist decider) h = (further text is_dir rule decider rules h.0, h.1)
@@ -46,9 +51,11 @@ answer_by_the_last (rule ∷ rules) text is_dir =
 
 -- One rule of a list, the later ones having no answer: how a scan from the end goes on.
 module _ (rules : List Rule) (text : List ℕ) (is_dir : Bool) where
-  at_rule : (i : ℕ) (rule : Rule) → i < length rules → rule ≡ get_or rules i rule → list_answer (drop (i + 1) rules) text is_dir ≡ None → list_answer (drop i rules) text is_dir ≡ rule_answer text is_dir rule
+  at_rule : (i : ℕ) (rule : Rule) → i < length rules → rule ≡ get_or rules i rule → list_answer (drop (i + 1) rules) text is_dir ≡ None
+      → list_answer (drop i rules) text is_dir ≡ rule_answer text is_dir rule
   at_rule i rule fits is none =
-      let place : drop i rules ≡ rule ∷ drop (i + 1) rules = rw add-one (drop-cons rules i rule fits ∙ ap (λ r. r ∷ drop (suc i) rules) (sym is)) in
+      let place : drop i rules ≡ rule ∷ drop (i + 1) rules = rw add-one
+      (drop-cons rules i rule fits ∙ ap (λ r. r ∷ drop (suc i) rules) (sym is)) in
       ap (λ rest. list_answer rest text is_dir) place ∙ ap (λ m. match_or m (rule_answer text is_dir rule)) none
 
 or_settled : (m other : Match Rule) → (m ≡ None → ⊥) → match_or m other ≡ m
@@ -56,7 +63,8 @@ or_settled None other some = absurd (some refl)
 or_settled (Ignore r) other some = refl
 or_settled (Whitelist r) other some = refl
 
-settled : (rules : List Rule) (text : List ℕ) (is_dir : Bool) (i : ℕ) → (list_answer (drop i rules) text is_dir ≡ None → ⊥) → list_answer rules text is_dir ≡ list_answer (drop i rules) text is_dir
+settled : (rules : List Rule) (text : List ℕ) (is_dir : Bool) (i : ℕ) → (list_answer (drop i rules) text is_dir ≡ None → ⊥)
+    → list_answer rules text is_dir ≡ list_answer (drop i rules) text is_dir
 settled rules text is_dir zero some = refl
 settled [] text is_dir (suc i) some = refl
 settled (rule ∷ rules) text is_dir (suc i) some =
@@ -68,9 +76,12 @@ decision_of_some : (rule : Rule) (flag : Bool) → cond flag (Whitelist rule) (I
 decision_of_some rule true e = cc
 decision_of_some rule false e = cc
 
-pub decided : (rules : List Rule) (text : List ℕ) (is_dir : Bool) (i : ℕ) (rule : Rule) → i < length rules → rule ≡ get_or rules i rule → list_answer (drop (i + 1) rules) text is_dir ≡ None → does_apply text is_dir rule ≡ true → list_answer rules text is_dir ≡ decision_of rule
+pub decided : (rules : List Rule) (text : List ℕ) (is_dir : Bool) (i : ℕ) (rule : Rule) → i < length rules → rule ≡ get_or rules i rule
+    → list_answer (drop (i + 1) rules) text is_dir ≡ None → does_apply text is_dir rule ≡ true
+    → list_answer rules text is_dir ≡ decision_of rule
 decided rules text is_dir i rule fits is none e =
-    let here : list_answer (drop i rules) text is_dir ≡ decision_of rule = at_rule rules text is_dir i rule fits is none ∙ ap (λ yes. cond yes (decision_of rule) None) e in
+    let here : list_answer (drop i rules) text is_dir ≡ decision_of rule = at_rule rules text is_dir i rule fits is none
+    ∙ ap (λ yes. cond yes (decision_of rule) None) e in
     settled rules text is_dir i (λ f. decision_of_some rule rule.is_whitelist (sym here ∙ f)) ∙ here
 
 one_more : (flag : Bool) (n a b : ℕ) → n ≡ a + b → suc n ≡ (cond (not flag) 1 0 + a) + (cond flag 1 0 + b)

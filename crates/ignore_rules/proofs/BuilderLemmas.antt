@@ -7,7 +7,9 @@ use Rattle.ignore_glob.specs.Row.{Reads}
 use Rattle.ignore_rules.specs.Line.{ParsedLine}
 use Rattle.ignore_rules.specs.Rules.{Rule, LineOptions, read_rule, GivesRule}
 
-pub gives_rule : (options : LineOptions) (used : Options) (from : Option (List ℕ)) (w : ParsedLine) (text : List ℕ) (p : Reading) (rule : Rule) → used ≡ options.glob → text ≡ w.actual → Reads used (chars text) p.tokens → p.case_insensitive ≡ used.case_insensitive → rule ≡ read_rule from w p → GivesRule options from (Some w) (Some rule)
+pub gives_rule : (options : LineOptions) (used : Options) (from : Option (List ℕ)) (w : ParsedLine) (text : List ℕ) (p : Reading)
+    (rule : Rule) → used ≡ options.glob → text ≡ w.actual → Reads used (chars text) p.tokens → p.case_insensitive ≡ used.case_insensitive
+    → rule ≡ read_rule from w p → GivesRule options from (Some w) (Some rule)
 gives_rule options used from w text p rule same is reads folds made =
     let read = subst (λ o. Reads o (chars text) p.tokens) same reads in
     let folded : p.case_insensitive ≡ options.glob.case_insensitive = folds ∙ ap (λ (o : Options). o.case_insensitive) same in (

@@ -18,7 +18,8 @@ Decides-is_empty : (w : List ℕ) → Decides (is_empty w) (w ≡ [])
 Decides-is_empty [] = always refl
 Decides-is_empty (c ∷ cs) = never (λ e. cc)
 
-Decides-is_one : (p : ℕ → Bool) (P : ℕ → Type 0) → ((c : ℕ) → Decides (p c) (P c)) → (w : List ℕ) → Decides (is_one p w) ((d : ℕ) × (w ≡ d ∷ []) × P d)
+Decides-is_one : (p : ℕ → Bool) (P : ℕ → Type 0) → ((c : ℕ) → Decides (p c) (P c)) → (w : List ℕ)
+    → Decides (is_one p w) ((d : ℕ) × (w ≡ d ∷ []) × P d)
 Decides-is_one p P each [] = never (λ h. let e = h.1 in cc)
 Decides-is_one p P each (c ∷ []) =
     Decides-like (p c) (λ h. (c, refl, h)) (λ h. let e = h.1 in let same : h.0 ≡ c = cc in subst P same h.2) (each c)
@@ -33,9 +34,11 @@ no_cut : (a b : List ℕ) → [] ≡ a ++ b → (a ≡ []) × (b ≡ [])
 no_cut [] b e = (refl, sym e)
 no_cut (c ∷ cs) b e = absurd cc
 
-Decides-some_split : (p : List ℕ → List ℕ → Bool) (P : List ℕ → List ℕ → Type 0) → ((a b : List ℕ) → Decides (p a b) (P a b)) → (w : List ℕ) → Decides (some_split p w) ((a b : List ℕ) × (w ≡ a ++ b) × P a b)
+Decides-some_split : (p : List ℕ → List ℕ → Bool) (P : List ℕ → List ℕ → Type 0) → ((a b : List ℕ) → Decides (p a b) (P a b)) → (w : List ℕ)
+    → Decides (some_split p w) ((a b : List ℕ) × (w ≡ a ++ b) × P a b)
 Decides-some_split p P each [] =
-    Decides-like (p [] []) (λ h. ([], [], refl, h)) (λ h. let e = no_cut h.0 h.1 h.2 in subst (λ b. P [] b) e.1 (subst (λ a. P a h.1) e.0 h.3)) (each [] [])
+    Decides-like (p [] []) (λ h. ([], [], refl, h))
+    (λ h. let e = no_cut h.0 h.1 h.2 in subst (λ b. P [] b) e.1 (subst (λ a. P a h.1) e.0 h.3)) (each [] [])
 Decides-some_split p P each (c ∷ cs) =
     Decides-like (p [] (c ∷ cs) || some_split (λ a b. p (c ∷ a) b) cs)
     (λ h. elim h [ inl now ↦ ([], c ∷ cs, refl, now) | inr later ↦ (c ∷ later.0, later.1, ap (λ l. c ∷ l) later.2, later.3) ])
@@ -43,7 +46,8 @@ Decides-some_split p P each (c ∷ cs) =
       | inl now ↦ inl (subst (λ b. P [] b) (sym now.1) (subst (λ a. P a h.1) now.0 h.3))
       | inr later ↦ inr (later.0, h.1, later.2, subst (λ a. P a h.1) later.1 h.3)
     ])
-    (Decides-or (p [] (c ∷ cs)) (some_split (λ a b. p (c ∷ a) b) cs) (each [] (c ∷ cs)) (Decides-some_split (λ a b. p (c ∷ a) b) (λ a b. P (c ∷ a) b) (λ a b. each (c ∷ a) b) cs))
+    (Decides-or (p [] (c ∷ cs)) (some_split (λ a b. p (c ∷ a) b) cs) (each [] (c ∷ cs))
+    (Decides-some_split (λ a b. p (c ∷ a) b) (λ a b. P (c ∷ a) b) (λ a b. each (c ∷ a) b) cs))
 
 Decides-has_prefix : (w : List ℕ) → Decides (begins_with_slash w) (BeginsWithSlash w)
 Decides-has_prefix [] = never (λ h. let e = h.1 in cc)
@@ -60,7 +64,8 @@ Decides-ends (c ∷ cs) =
     Decides-like ((is_empty cs && eqb c slash) || ends_with_slash cs)
     (λ h. elim h [ inl last ↦ ([], cc (last.0, last.1)) | inr later ↦ (c ∷ later.0, ap (λ l. c ∷ l) later.1) ])
     (λ h. end_back c cs h.0 h.1)
-    (Decides-or (is_empty cs && eqb c slash) (ends_with_slash cs) (Decides-and (is_empty cs) (eqb c slash) (Decides-is_empty cs) (Decides-eqb c slash)) (Decides-ends cs))
+    (Decides-or (is_empty cs && eqb c slash) (ends_with_slash cs)
+    (Decides-and (is_empty cs) (eqb c slash) (Decides-is_empty cs) (Decides-eqb c slash)) (Decides-ends cs))
 
 Decides-is_case_of : (fold : Bool) (c d : ℕ) → Decides (is_case_of fold c d) (IsCaseOf fold c d)
 Decides-is_case_of false c d = Decides-eqb d c
@@ -69,7 +74,8 @@ Decides-is_case_of true c d = Decides-or (eqb d c) (eqb d (other_case c)) (Decid
 itself : (b : Bool) → Decides b (b ≡ true)
 itself b = (λ e. e, λ e. e)
 
-Decides-is_member : (fold negated : Bool) (ranges : List (ℕ × ℕ)) (c : ℕ) → Decides (is_member fold negated ranges c) (IsMember fold negated ranges c)
+Decides-is_member : (fold negated : Bool) (ranges : List (ℕ × ℕ)) (c : ℕ)
+    → Decides (is_member fold negated ranges c) (IsMember fold negated ranges c)
 Decides-is_member fold false ranges c = itself (is_listed fold ranges c)
 Decides-is_member fold true ranges c = Decides-not (is_listed fold ranges c) (itself (is_listed fold ranges c))
 
@@ -91,20 +97,26 @@ mutual
   token_decided fold start w = Decides-or (is_empty w) (ends_with_slash w) (Decides-is_empty w) (Decides-ends w)
   token_decided fold middle w = Decides-and (begins_with_slash w) (ends_with_slash w) (Decides-has_prefix w) (Decides-ends w)
   token_decided fold end w = Decides-has_prefix w
-  token_decided fold (class negated ranges) w = Decides-is_one (is_member fold negated ranges) (IsMember fold negated ranges) (Decides-is_member fold negated ranges) w
+  token_decided fold (class negated ranges) w =
+      Decides-is_one (is_member fold negated ranges) (IsMember fold negated ranges) (Decides-is_member fold negated ranges) w
   token_decided fold (alternates bs) w =
-      Decides-or (has_no_branch bs && is_empty w) (does_branch_match fold bs w) (Decides-and (has_no_branch bs) (is_empty w) (Decides-no_branch bs) (Decides-is_empty w)) (branch_decided fold bs w)
+      Decides-or (has_no_branch bs && is_empty w) (does_branch_match fold bs w)
+      (Decides-and (has_no_branch bs) (is_empty w) (Decides-no_branch bs) (Decides-is_empty w)) (branch_decided fold bs w)
 
   pub tokens_decided : (fold : Bool) (ts : Tokens) (w : List ℕ) → Decides (do_tokens_match fold ts w) (tokens_match fold ts w)
   tokens_decided fold done w = Decides-is_empty w
   tokens_decided fold (then t ts) w =
       Decides-like (some_split (λ a b. does_token_match fold t a && do_tokens_match fold ts b) w)
       (λ h. (h.0, h.1, h.2, h.3.0, h.3.1)) (λ h. (h.0, h.1, h.2, (h.3, h.4)))
-      (Decides-some_split (λ a b. does_token_match fold t a && do_tokens_match fold ts b) (λ a b. token_matches fold t a × tokens_match fold ts b) (λ a b. Decides-and (does_token_match fold t a) (do_tokens_match fold ts b) (token_decided fold t a) (tokens_decided fold ts b)) w)
+      (Decides-some_split (λ a b. does_token_match fold t a && do_tokens_match fold ts b)
+      (λ a b. token_matches fold t a × tokens_match fold ts b)
+      (λ a b. Decides-and (does_token_match fold t a) (do_tokens_match fold ts b) (token_decided fold t a)
+      (tokens_decided fold ts b)) w)
 
   pub branch_decided : (fold : Bool) (bs : Branches) (w : List ℕ) → Decides (does_branch_match fold bs w) (branch_matches fold bs w)
   branch_decided fold no_branch w = never (λ h. h)
-  branch_decided fold (branch ts bs) w = Decides-or (do_tokens_match fold ts w) (does_branch_match fold bs w) (tokens_decided fold ts w) (branch_decided fold bs w)
+  branch_decided fold (branch ts bs) w =
+      Decides-or (do_tokens_match fold ts w) (does_branch_match fold bs w) (tokens_decided fold ts w) (branch_decided fold bs w)
 
 Decides-lone : (ts : Tokens) → Decides (is_lone_start ts) (ts ≡ then start done)
 Decides-lone done = never (λ e. cc)
@@ -121,4 +133,5 @@ Decides-lone (then (alternates bs) ts) = never (λ e. cc)
 pub matching_decided : (reading : Reading) (w : List ℕ) → Decides (does_match reading w) (Matches reading w)
 unfolding does_match
 matching_decided reading w =
-    Decides-or (is_lone_start reading.tokens) (do_tokens_match reading.case_insensitive reading.tokens w) (Decides-lone reading.tokens) (tokens_decided reading.case_insensitive reading.tokens w)
+    Decides-or (is_lone_start reading.tokens) (do_tokens_match reading.case_insensitive reading.tokens w) (Decides-lone reading.tokens)
+    (tokens_decided reading.case_insensitive reading.tokens w)

@@ -5,7 +5,8 @@ use Rattle.std.specs.Str.{trim_end, chars}
 use Rattle.ignore_rules.specs.Line.{parsed_line, ParsedLine}
 
 parsed : List ℕ → List ℕ → Bool → Bool → Option ParsedLine
-parsed original actual whitelist only_dir = Some (record { original = original; actual = actual; is_whitelist = whitelist; is_only_dir = only_dir })
+parsed original actual whitelist only_dir =
+    Some (record { original = original; actual = actual; is_whitelist = whitelist; is_only_dir = only_dir })
 
 comment : parsed_line false (codes "#a") ≡ None
 comment = refl

@@ -1,6 +1,7 @@
 -- The answer of a list of rules.
 use Rattle.std.specs.Prelude.{◌≡◌, ◌⊎◌, ℕ, Bool, true, false, not, ◌&&◌, ◌||◌, List, [], ◌∷◌, ◌++◌, All, if◌then◌else◌}
 use Rattle.std.specs.Str.{chars}
+use Rattle.ignore_glob.specs.Text.{Chars, Path}
 use Rattle.ignore_glob.specs.declared.match_result.Match.{Match}
 use Rattle.ignore_glob.specs.declared.match_result.Match.TheVariants.{None, Ignore, Whitelist}
 use Rattle.ignore_glob.specs.Match.{match_or}
@@ -10,7 +11,7 @@ use Rattle.ignore_rules.specs.Rules.{Rule}
 use Rattle.ignore_rules.specs.DoesMatch.{does_match}
 
 -- the rule matches the text, and a rule for directories only is asked for a directory
-abbrev pub does_apply : List ℕ → Bool → Rule → Bool
+abbrev pub does_apply : Chars → Bool → Rule → Bool
 does_apply text is_dir rule = (not rule.is_only_dir || is_dir) && does_match rule.reading text
 
 -- the match of a rule that decides
@@ -18,26 +19,26 @@ abbrev pub decision_of : Rule → Match Rule
 decision_of rule = if rule.is_whitelist then Whitelist rule else Ignore rule
 
 -- the match of a rule where it applies, else none
-abbrev pub rule_answer : List ℕ → Bool → Rule → Match Rule
+abbrev pub rule_answer : Chars → Bool → Rule → Match Rule
 rule_answer text is_dir rule = if does_apply text is_dir rule then decision_of rule else None
 
 -- the match of the last rule that applies: a later rule overrides an earlier one
-abbrev pub list_answer : List Rule → List ℕ → Bool → Match Rule
+abbrev pub list_answer : List Rule → Chars → Bool → Match Rule
 list_answer [] text is_dir = None
 list_answer (rule ∷ rules) text is_dir = match_or (list_answer rules text is_dir) (rule_answer text is_dir rule)
 
 -- the answer of rules relative to a root for a path
-abbrev pub answer : List ℕ → List Rule → List ℕ → Bool → Match Rule
+abbrev pub answer : Path → List Rule → Path → Bool → Match Rule
 answer root rules path is_dir = list_answer rules (chars (strip_of root path)) is_dir
 
 -- The same in other words, without an order in which rules are tried.
 
 -- the rule matches the text, and a rule for directories only is asked for a directory
-abbrev pub Applies : List ℕ → Bool → Rule → Type 0
+abbrev pub Applies : Chars → Bool → Rule → Type 0
 Applies text is_dir rule = ((rule.is_only_dir ≡ false) ⊎ (is_dir ≡ true)) × Matches rule.reading text
 
 -- the rule with the greatest index that applies
-pub record IsLast (rules : List Rule) (text : List ℕ) (is_dir : Bool) (rule : Rule) : Type 0 where
+pub record IsLast (rules : List Rule) (text : Chars) (is_dir : Bool) (rule : Rule) : Type 0 where
   pub before : List Rule
   pub after : List Rule
   pub place : rules ≡ before ++ rule ∷ after
@@ -45,7 +46,7 @@ pub record IsLast (rules : List Rule) (text : List ℕ) (is_dir : Bool) (rule : 
   pub last : All (λ later. Applies text is_dir later → ⊥) after
 
 -- the last rule that applies decides by its flag; no match where no rule applies
-abbrev pub IsAnswer : List Rule → List ℕ → Bool → Match Rule → Type 0
+abbrev pub IsAnswer : List Rule → Chars → Bool → Match Rule → Type 0
 IsAnswer rules text is_dir None = All (λ rule. Applies text is_dir rule → ⊥) rules
 IsAnswer rules text is_dir (Ignore rule) = IsLast rules text is_dir rule × (rule.is_whitelist ≡ false)
 IsAnswer rules text is_dir (Whitelist rule) = IsLast rules text is_dir rule × (rule.is_whitelist ≡ true)

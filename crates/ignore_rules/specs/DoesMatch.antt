@@ -17,26 +17,32 @@ is_one p [] = false
 is_one p (c ∷ []) = p c
 is_one p (c ∷ (d ∷ ds)) = false
 
+-- the text is empty
 abbrev pub is_empty : List ℕ → Bool
 is_empty [] = true
 is_empty (c ∷ cs) = false
 
+-- the text begins with a slash
 abbrev pub begins_with_slash : List ℕ → Bool
 begins_with_slash [] = false
 begins_with_slash (c ∷ cs) = c == slash
 
+-- the text ends with a slash
 abbrev pub ends_with_slash : List ℕ → Bool
 ends_with_slash [] = false
 ends_with_slash (c ∷ cs) = (is_empty cs && c == slash) || ends_with_slash cs
 
+-- the character d is c, or where case is folded the other case of c
 abbrev pub is_case_of : Bool → ℕ → ℕ → Bool
 is_case_of false c d = d == c
 is_case_of true c d = d == c || d == other_case c
 
+-- the character is in the class
 abbrev pub is_member : Bool → Bool → List (ℕ × ℕ) → ℕ → Bool
 is_member fold false ranges c = is_listed fold ranges c
 is_member fold true ranges c = not (is_listed fold ranges c)
 
+-- there is no branch
 abbrev pub has_no_branch : Branches → Bool
 has_no_branch no_branch = true
 has_no_branch (branch ts bs) = false

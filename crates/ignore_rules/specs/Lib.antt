@@ -1,6 +1,7 @@
 pub mod Line
 pub mod DoesMatch
 pub mod Rules
+pub mod RuleCodes
 pub mod Answer
 pub mod Overrides
 pub mod RuleFile
@@ -9,10 +10,11 @@ pub mod Matchers
 pub mod Parents
 pub use Rattle.ignore_types.specs.TypeNames
 pub use Rattle.ignore_types.specs.Types
-pub use Rattle.ignore_types.specs.Places
+pub use Rattle.ignore_types.specs.PlaceSteps
 pub use Rattle.ignore_types.specs.Refusals
 pub use Rattle.ignore_types.specs.Defaults
 pub use Rattle.ignore_types.specs.TypeMatch
+pub use Rattle.ignore_types.specs.TypeCodes
 pub use Rattle.ignore_types.specs.Building
 pub use Rattle.ignore_excludes.specs.Excludes
 pub use Rattle.ignore_excludes.specs.ExcludesSearch

@@ -2,6 +2,7 @@
 use Rattle.std.specs.Prelude.{ℕ, Bool, not, ◌&&◌, List, Option, if◌then◌else◌}
 use Rattle.std.specs.Prelude.{None as Nothing, Some as Only}
 use Rattle.std.specs.List.{list_any}
+use Rattle.ignore_glob.specs.Text.{Path}
 use Rattle.ignore_glob.specs.declared.match_result.Match.{Match}
 use Rattle.ignore_glob.specs.declared.match_result.Match.TheVariants.{None, Ignore, Whitelist}
 use Rattle.ignore_rules.specs.Answer.{answer}
@@ -20,5 +21,5 @@ overridden hides (Whitelist rule) = Ignore (Only rule)
 
 -- the answer of globs relative to a root for a path. Where some glob whitelists, a file that no
 -- glob matches is ignored; a directory isn't
-abbrev pub override_answer : Ruleset → List ℕ → Bool → Match (Option Rule)
+abbrev pub override_answer : Ruleset → Path → Bool → Match (Option Rule)
 override_answer globs path is_dir = overridden (has_whitelist globs.rules && not is_dir) (answer globs.root globs.rules path is_dir)

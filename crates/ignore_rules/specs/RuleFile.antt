@@ -39,6 +39,7 @@ ended_of_segments [] = []
 ended_of_segments (last ∷ []) = []
 ended_of_segments (line ∷ (next ∷ more)) = strip_carriage_return line ∷ ended_of_segments (next ∷ more)
 
+-- the lines of these bytes that end with a newline
 abbrev pub ended_lines : List ℕ → List (List ℕ)
 ended_lines bytes = ended_of_segments (slice_split (λ b. b == 10) bytes)
 
@@ -53,6 +54,7 @@ abbrev pub in_file : List ℕ → Problem → Problem
 in_file [] problem = problem
 in_file (c ∷ path) problem = at_path (c ∷ path) problem
 
+-- a problem at a line of a file
 abbrev pub at_line_of : List ℕ → ℕ → Problem → Problem
 at_line_of path number problem = in_file path (at_line number problem)
 
@@ -61,11 +63,15 @@ at_line_of path number problem = in_file path (at_line number problem)
 -- fault
 pub data AddsLines (path : List ℕ) : ℕ → List (Result (List ℕ) Fault) → Building → Building → List Problem → Type 0 where
   done : (number : ℕ) (old : Building) → AddsLines path number [] old old []
-  stopped : (number : ℕ) (fault : Fault) (more : List (Result (List ℕ) Fault)) (old : Building) → AddsLines path number (Err fault ∷ more) old old (at_line_of path number (io fault) ∷ [])
+  stopped : (number : ℕ) (fault : Fault) (more : List (Result (List ℕ) Fault)) (old : Building)
+      → AddsLines path number (Err fault ∷ more) old old (at_line_of path number (io fault) ∷ [])
   added : (number : ℕ) (line : List ℕ) (more : List (Result (List ℕ) Fault)) (old between new : Building) (problems : List Problem)
-      → AddsLine old (Some path) (line_content number line) between → AddsLines path (number + 1) more between new problems → AddsLines path number (Ok line ∷ more) old new problems
-  refused : (number : ℕ) (line : List ℕ) (more : List (Result (List ℕ) Fault)) (old new : Building) (problem : Problem) (problems : List Problem)
-      → Refuses old.options (line_content number line) problem → AddsLines path (number + 1) more old new problems → AddsLines path number (Ok line ∷ more) old new (at_line_of path number problem ∷ problems)
+      → AddsLine old (Some path) (line_content number line) between → AddsLines path (number + 1) more between new problems
+      → AddsLines path number (Ok line ∷ more) old new problems
+  refused : (number : ℕ) (line : List ℕ) (more : List (Result (List ℕ) Fault)) (old new : Building) (problem : Problem)
+      (problems : List Problem)
+      → Refuses old.options (line_content number line) problem → AddsLines path (number + 1) more old new problems
+      → AddsLines path number (Ok line ∷ more) old new (at_line_of path number problem ∷ problems)
 
 -- adding the contents of a file leads from the old builder to the new one, with this problem, if
 -- any: the problems of all lines as one, or that the file can't be opened

@@ -20,7 +20,8 @@ IsLineRead line next End = ⊥
 
 -- the last line was read so
 abbrev pub IsLastLineRead : List ℕ → Option FileFault → ℕ → Line → Type 0
-IsLastLineRead rest fault end (Text text place) = (lines_read rest fault ≡ Ok text.now ∷ lines_read [] fault) × (place ≡ end) × (0 < length rest)
+IsLastLineRead rest fault end (Text text place) =
+    (lines_read rest fault ≡ Ok text.now ∷ lines_read [] fault) × (place ≡ end) × (0 < length rest)
 IsLastLineRead rest fault end (Fault reported) = (more : List (Result (List ℕ) FileFault)) × (lines_read rest fault ≡ Err reported ∷ more)
 IsLastLineRead rest fault end End = lines_read rest fault ≡ []
 
@@ -28,7 +29,8 @@ IsLastLineRead rest fault end End = lines_read rest fault ≡ []
 abbrev pub IsLineAt : List ℕ → Option FileFault → ℕ → Line → Type 0
 IsLineAt bytes fault at (Text text next) =
     (lines_read (drop at bytes) fault ≡ Ok text.now ∷ lines_read (drop next bytes) fault) × (at < next) × (next ≤ length bytes)
-IsLineAt bytes fault at (Fault reported) = (more : List (Result (List ℕ) FileFault)) × (lines_read (drop at bytes) fault ≡ Err reported ∷ more)
+IsLineAt bytes fault at (Fault reported) =
+    (more : List (Result (List ℕ) FileFault)) × (lines_read (drop at bytes) fault ≡ Err reported ∷ more)
 IsLineAt bytes fault at End = lines_read (drop at bytes) fault ≡ []
 
 -- the line with a number was added, or it was rejected and its problem was appended to the earlier
@@ -36,7 +38,8 @@ IsLineAt bytes fault at End = lines_read (drop at bytes) fault ≡ []
 abbrev pub AddsOrReports : List ℕ → ℕ → List ℕ → Building → Building → List Problem → List Problem → Type 0
 AddsOrReports path number line old new before after =
     (AddsLine old (Some path) (line_content number line) new × (after ≡ before))
-    ⊎ ((problem : Problem) × Refuses old.options (line_content number line) problem × (new ≡ old) × (after ≡ before ++ at_line_of path number problem ∷ []))
+    ⊎ ((problem : Problem) × Refuses old.options (line_content number line) problem × (new ≡ old)
+    × (after ≡ before ++ at_line_of path number problem ∷ []))
 
 -- the new builder is the old one with further rules
 abbrev pub Keeps : Building → Building → Type 0

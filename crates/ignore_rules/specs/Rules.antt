@@ -1,22 +1,22 @@
 -- Rules, matchers and builders, and the rule or problem of a line that is added to a builder.
-use Rattle.std.specs.Prelude.{◌≡◌, ℕ, Bool, true, false, List, [], ◌∷◌, ◌++◌, Option, None, Some, not, count_by, refl, if◌then◌else◌, length, ◌==◌}
-use Rattle.std.specs.Coded.{Coded, code_by, coded×, coded_bool, coded_list, coded_option, coded_ℕ}
+use Rattle.std.specs.Prelude.{◌≡◌, ℕ, Bool, true, false, List, [], ◌∷◌, ◌++◌, Option, None, Some, not, count_by, if◌then◌else◌, length, ◌==◌}
 use Rattle.std.specs.Str.{chars}
+use Rattle.ignore_glob.specs.Text.{Bytes, Path}
 use Rattle.ignore_glob.specs.declared.glob.options.Options.{Options}
 use Rattle.ignore_glob.specs.declared.glob.fault.GlobFault.{GlobFault}
 use Rattle.ignore_glob.specs.Glob.{Tokens}
 use Rattle.ignore_glob.specs.GlobFaults.{glob_fault_text}
 use Rattle.ignore_glob.specs.Paths.{trim_of}
 use Rattle.ignore_glob.specs.Problem.{Problem, glob}
-use Rattle.ignore_glob.specs.Reading.{Reading, reading_code}
+use Rattle.ignore_glob.specs.Reading.{Reading}
 use Rattle.ignore_glob.specs.Row.{Reads, IsFaulty}
 use Rattle.ignore_rules.specs.Line.{ParsedLine, parsed_line}
 
 -- a rule: where it came from, its line, its glob, its two flags, and what the glob parses to
 pub record Rule : Type 0 where
-  pub from : Option (List ℕ)
-  pub original : List ℕ
-  pub actual : List ℕ
+  pub from : Option Path
+  pub original : Bytes
+  pub actual : Bytes
   pub is_whitelist : Bool
   pub is_only_dir : Bool
   pub reading : Reading
@@ -28,22 +28,29 @@ pub record LineOptions : Type 0 where
 
 -- a matcher: rules, and the directory that they are relative to
 pub record Ruleset : Type 0 where
-  pub root : List ℕ
+  pub root : Path
   pub rules : List Rule
 
 -- a builder: the same, and how the next line is parsed
 pub record Building : Type 0 where
-  pub root : List ℕ
+  pub root : Path
   pub rules : List Rule
   pub options : LineOptions
 
 -- the rule of a parsed line whose glob parses to this reading
-abbrev pub read_rule : Option (List ℕ) → ParsedLine → Reading → Rule
+abbrev pub read_rule : Option Path → ParsedLine → Reading → Rule
 read_rule from w reading =
-    record { from = from; original = w.original; actual = w.actual; is_whitelist = w.is_whitelist; is_only_dir = w.is_only_dir; reading = reading }
+    record {
+      from = from;
+      original = w.original;
+      actual = w.actual;
+      is_whitelist = w.is_whitelist;
+      is_only_dir = w.is_only_dir;
+      reading = reading;
+    }
 
 -- a parsed line gives this rule; no parsed line gives none
-abbrev pub GivesRule : LineOptions → Option (List ℕ) → Option ParsedLine → Option Rule → Type 0
+abbrev pub GivesRule : LineOptions → Option Path → Option ParsedLine → Option Rule → Type 0
 GivesRule options from None given = given ≡ None
 GivesRule options from (Some w) given =
     (tokens : Tokens) × Reads options.glob (chars w.actual) tokens
@@ -52,10 +59,11 @@ GivesRule options from (Some w) given =
 -- a parsed line is rejected with this problem: its glob is invalid
 abbrev pub GivesProblem : LineOptions → Option ParsedLine → Problem → Type 0
 GivesProblem options None problem = ⊥
-GivesProblem options (Some w) problem = (f : GlobFault) × IsFaulty options.glob (chars w.actual) f × (problem ≡ glob (Some w.original) (glob_fault_text f))
+GivesProblem options (Some w) problem =
+    (f : GlobFault) × IsFaulty options.glob (chars w.actual) f × (problem ≡ glob (Some w.original) (glob_fault_text f))
 
 -- the line is rejected with this problem
-abbrev pub Refuses : LineOptions → List ℕ → Problem → Type 0
+abbrev pub Refuses : LineOptions → Bytes → Problem → Type 0
 Refuses options line problem = GivesProblem options (parsed_line options.git_trailing_spaces line) problem
 
 -- the builder with one more rule, if any
@@ -64,31 +72,41 @@ with_rule b None = b
 with_rule b (Some rule) = record { root = b.root; rules = b.rules ++ rule ∷ []; options = b.options }
 
 -- adding a parsed line, if any, leads from the old builder to the new one
-abbrev pub AddsParsed : Building → Option (List ℕ) → Option ParsedLine → Building → Type 0
+abbrev pub AddsParsed : Building → Option Path → Option ParsedLine → Building → Type 0
 AddsParsed old from parsed new = (given : Option Rule) × GivesRule old.options from parsed given × (new ≡ with_rule old given)
 
 -- adding a line leads from the old builder to the new one
-abbrev pub AddsLine : Building → Option (List ℕ) → List ℕ → Building → Type 0
+abbrev pub AddsLine : Building → Option Path → Bytes → Building → Type 0
 AddsLine old from line new = AddsParsed old from (parsed_line old.options.git_trailing_spaces line) new
 
 -- the builder with other options of later lines
 abbrev pub with_options : Building → LineOptions → Building
 with_options b options = record { root = b.root; rules = b.rules; options = options }
 
--- a new builder: no rules, case sensitive, an unclosed class allowed, trailing white space as the
--- original has it
-abbrev pub begun : List ℕ → Building
+-- a new builder: no rules, case sensitive, an unclosed class allowed, the original's rule for
+-- trailing white space
+abbrev pub begun : Path → Building
 begun root =
-    record { root = trim_of root; rules = []; options = record { glob = record { case_insensitive = false; allow_unclosed_class = true }; git_trailing_spaces = false } }
+    record {
+      root = trim_of root;
+      rules = [];
+      options = record { glob = record { case_insensitive = false; allow_unclosed_class = true }; git_trailing_spaces = false };
+    }
 
 -- the builder with one option of later lines set
 abbrev pub with_case_insensitive : Building → Bool → Building
 with_case_insensitive b on =
-    with_options b (record { glob = record { case_insensitive = on; allow_unclosed_class = b.options.glob.allow_unclosed_class }; git_trailing_spaces = b.options.git_trailing_spaces })
+    with_options b (record {
+      glob = record { case_insensitive = on; allow_unclosed_class = b.options.glob.allow_unclosed_class };
+      git_trailing_spaces = b.options.git_trailing_spaces;
+    })
 
 abbrev pub with_unclosed_class : Building → Bool → Building
 with_unclosed_class b on =
-    with_options b (record { glob = record { case_insensitive = b.options.glob.case_insensitive; allow_unclosed_class = on }; git_trailing_spaces = b.options.git_trailing_spaces })
+    with_options b (record {
+      glob = record { case_insensitive = b.options.glob.case_insensitive; allow_unclosed_class = on };
+      git_trailing_spaces = b.options.git_trailing_spaces;
+    })
 
 abbrev pub with_git_trailing_spaces : Building → Bool → Building
 with_git_trailing_spaces b on = with_options b (record { glob = b.options.glob; git_trailing_spaces = on })
@@ -101,29 +119,10 @@ empty = record { root = []; rules = [] }
 abbrev pub built : Building → Ruleset
 built b = if length b.rules == 0 then empty else record { root = b.root; rules = b.rules }
 
+-- how many rules whitelist
 abbrev pub whitelist_count : List Rule → ℕ
 whitelist_count rules = count_by (λ rule. rule.is_whitelist) rules
 
+-- how many rules ignore
 abbrev pub ignore_count : List Rule → ℕ
 ignore_count rules = count_by (λ rule. not rule.is_whitelist) rules
-
--- codes: proofs distinguish rules, matchers and builders by their fields
-abbrev pub rule_code : Coded Rule
-rule_code =
-    code_by (Option (List ℕ) × (List ℕ × (List ℕ × (Bool × (Bool × Reading)))))
-    (coded× (coded_option (coded_list coded_ℕ)) (coded× (coded_list coded_ℕ) (coded× (coded_list coded_ℕ) (coded× coded_bool (coded× coded_bool reading_code)))))
-    (λ r. (r.from, (r.original, (r.actual, (r.is_whitelist, (r.is_only_dir, r.reading))))))
-    (λ p. record { from = p.0; original = p.1.0; actual = p.1.1.0; is_whitelist = p.1.1.1.0; is_only_dir = p.1.1.1.1.0; reading = p.1.1.1.1.1 })
-    (λ _. refl)
-
-abbrev pub ruleset_code : Coded Ruleset
-ruleset_code =
-    code_by (List ℕ × List Rule) (coded× (coded_list coded_ℕ) (coded_list rule_code)) (λ r. (r.root, r.rules)) (λ p. record { root = p.0; rules = p.1 }) (λ _. refl)
-
-abbrev pub building_code : Coded Building
-building_code =
-    code_by (List ℕ × (List Rule × (Bool × (Bool × Bool))))
-    (coded× (coded_list coded_ℕ) (coded× (coded_list rule_code) (coded× coded_bool (coded× coded_bool coded_bool))))
-    (λ b. (b.root, (b.rules, (b.options.glob.case_insensitive, (b.options.glob.allow_unclosed_class, b.options.git_trailing_spaces)))))
-    (λ p. record { root = p.0; rules = p.1.0; options = record { glob = record { case_insensitive = p.1.1.0; allow_unclosed_class = p.1.1.1.0 }; git_trailing_spaces = p.1.1.1.1 } })
-    (λ _. refl)

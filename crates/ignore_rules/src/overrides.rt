@@ -23,7 +23,8 @@ impl<'a> Model for Glob<'a> {
     ghost use Rattle.std.specs.Prelude.{Option};
     ghost use Rattle.std.specs.Option.{option_copied};
     ghost use Rattle.std.specs.Coded.{coded_option};
-    ghost use Rattle.ignore_rules.specs.Rules.{Rule, rule_code};
+    ghost use Rattle.ignore_rules.specs.Rules.{Rule};
+    ghost use Rattle.ignore_rules.specs.RuleCodes.{rule_code};
 
     ghost Value = { Option Rule };
 
@@ -49,7 +50,8 @@ pub struct Override {
 }
 
 impl Model for Override {
-    ghost use Rattle.ignore_rules.specs.Rules.{Ruleset, ruleset_code};
+    ghost use Rattle.ignore_rules.specs.Rules.{Ruleset};
+    ghost use Rattle.ignore_rules.specs.RuleCodes.{ruleset_code};
 
     ghost Value = { Ruleset };
 
@@ -129,7 +131,8 @@ pub struct OverrideBuilder {
 }
 
 impl Model for OverrideBuilder {
-    ghost use Rattle.ignore_rules.specs.Rules.{Building, building_code};
+    ghost use Rattle.ignore_rules.specs.Rules.{Building};
+    ghost use Rattle.ignore_rules.specs.RuleCodes.{building_code};
 
     ghost Value = { Building };
 

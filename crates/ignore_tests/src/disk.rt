@@ -1,5 +1,4 @@
 //! The machine's files beside a tree in memory with the same things.
-use crate::things::add;
 use ignore_files::{
     DiskFiles, Fault, FileType, Files, Identity, Listing, MemoryTree, Metadata, Refusal, TreeError,
 };
@@ -21,6 +20,19 @@ fn tree_at(alloc: Global, cwd: &str) -> Result<MemoryTree, TreeError> {
     Ok(tree)
 }
 
+/// Adds a thing: `PATH/` is a directory, `PATH>TARGET` a link and `PATH=TEXT` a file.
+fn add(tree: &mut MemoryTree, thing: &str) -> Result<(), TreeError> {
+    if let Some(path) = thing.strip_suffix('/') {
+        tree.add_dir(path)
+    } else if let Some((path, target)) = thing.split_once('>') {
+        tree.add_link(path, target)
+    } else if let Some((path, text)) = thing.split_once('=') {
+        tree.add_file(path, text.as_bytes())
+    } else {
+        Ok(())
+    }
+}
+
 /// Makes on the machine what `add` adds to a tree in memory.
 fn make(rt: &HostRuntime, thing: &str) -> io::Result<()> {
     if let Some(path) = thing.strip_suffix('/') {
@@ -34,15 +46,24 @@ fn make(rt: &HostRuntime, thing: &str) -> io::Result<()> {
     }
 }
 
-/// Makes a folder of this process alone, and works in it from now on. The folder's path. (Each test is a process.)
+/// The path of a folder of this process alone. (Each test is a process.)
+fn own_folder(rt: &HostRuntime) -> io::Result<String> {
+    let temp = env::temp_dir(rt)?;
+    let id = process::id(rt.process());
+    let folder = format!(in rt.alloc(); "{}/ignore_tests-{id}", temp.as_str())?;
+    Ok(folder)
+}
+
+/// Makes a folder, and works in it from now on.
+fn work_in(rt: &HostRuntime, folder: &str) -> io::Result<()> {
+    fs::create_dir(rt, folder)?;
+    env::set_current_dir(rt, folder)
+}
+
+/// Makes a folder of this process alone, and works in it from now on. The folder's path.
 fn enter(rt: &HostRuntime) -> io::Result<String> {
-    let folder = format!(in rt.alloc();
-        "{}/ignore_tests-{}",
-        env::temp_dir(rt)?.as_str(),
-        process::id(rt.process())
-    )?;
-    fs::create_dir(rt, folder.as_str())?;
-    env::set_current_dir(rt, folder.as_str())?;
+    let folder = own_folder(rt)?;
+    work_in(rt, folder.as_str())?;
     Ok(folder)
 }
 
@@ -52,7 +73,8 @@ fn leave(rt: &HostRuntime, folder: &str) -> io::Result<()> {
     fs::remove_dir_all(rt, folder)
 }
 
-/// Makes things, parted by bars, in the working directory of the machine, and gives a tree with the same.
+/// Makes things, separated by bars, in the working directory of the machine, and returns a tree
+/// with the same things.
 fn made(rt: &HostRuntime, things: &str) -> Result<MemoryTree, Fail> {
     let cwd = env::current_dir(rt)?;
     let mut tree = tree_at(rt.alloc(), cwd.as_str())?;
@@ -84,7 +106,8 @@ fn sorted(alloc: Global, answer: Result<Listing, Refusal>) -> Result<Vec<String>
     Ok(lines)
 }
 
-/// What the five calls answer for a path, but for the order of a listing and the size of a directory. Of the identity it tells whether a link has that of what it leads to.
+/// The answers of the five calls for a path, except the order of a listing and the size of a
+/// directory. For the identity it says whether a link has that of what it leads to.
 fn reported<F: Files>(alloc: Global, files: &F, path: &str) -> Result<String, AllocError> {
     let followed = files.stat(alloc, path, true).map(without_size);
     let own = files.stat(alloc, path, false).map(without_size);
@@ -95,7 +118,8 @@ fn reported<F: Files>(alloc: Global, files: &F, path: &str) -> Result<String, Al
     format!(in alloc; "{followed:?} {own:?} {listing:?} {contents:?} {canonical:?} {is_one}")
 }
 
-/// Asks the machine and a tree, with the same things in them, about the paths of a text, which bars part, and tells what they answer differently.
+/// Queries the machine and a tree, with the same things in them, for the paths of a text, separated
+/// by bars, and returns where their answers differ.
 fn differences(rt: &HostRuntime, things: &str, paths: &str) -> Result<String, Fail> {
     let folder = enter(rt)?;
     let tree = made(rt, things)?;
@@ -159,7 +183,7 @@ fn a_large_file_is_read_whole(rt: HostRuntime) -> Result<(), Fail> {
     Ok(())
 }
 
-/// What the machine tells of a thing by its numbers, links followed or not.
+/// The identity of a thing on the machine, links followed or not.
 fn identity(rt: &HostRuntime, path: &str, follow: bool) -> Result<Option<Identity>, Refusal> {
     DiskFiles::new(rt).identity(rt.alloc(), path, follow)
 }
@@ -190,7 +214,8 @@ fn is_roots(rt: &HostRuntime, path: &str) -> io::Result<bool> {
 const DENIED: &str =
     "Err(Fault(PermissionDenied)) Err(Fault(PermissionDenied)) Err(Fault(PermissionDenied)) Err(Fault(PermissionDenied)) Err(Fault(PermissionDenied)) true";
 
-/// What the machine lists of the folder `dir`, and answers for the file in it, while nobody may use the folder.
+/// What the machine lists of the folder `dir`, and answers for the file in it, while nobody may use
+/// the folder.
 fn shut(rt: &HostRuntime) -> Result<(Result<Vec<String>, Refusal>, String), Fail> {
     let disk = DiskFiles::new(rt);
     permit(rt, "dir", 0)?;

@@ -5,13 +5,25 @@ use ignore_rules::gitignore::{Gitignore, GitignoreBuilder};
 use std::alloc::{AllocError, Global};
 use std::test::Fail;
 
-/// A tree of one directory with so many files, whose names are numbers from 0.
-fn wide(alloc: Global, count: u32) -> Result<MemoryTree, TreeError> {
-    let mut tree = MemoryTree::new(alloc, "/")?;
+/// Adds a file of one byte, whose name is a number.
+fn add_numbered(alloc: Global, tree: &mut MemoryTree, number: u32) -> Result<(), TreeError> {
+    let path = format!(in alloc; "/wide/{number}")?;
+    tree.add_file(&path, b"a")
+}
+
+/// Adds a directory with so many files, whose names are numbers from 0.
+fn add_wide(alloc: Global, tree: &mut MemoryTree, count: u32) -> Result<(), TreeError> {
     tree.add_dir("/wide")?;
     for number in 0..count {
-        tree.add_file(&format!(in alloc; "/wide/{number}")?, b"a")?;
+        add_numbered(alloc, tree, number)?;
     }
+    Ok(())
+}
+
+/// A tree of such a directory.
+fn wide(alloc: Global, count: u32) -> Result<MemoryTree, TreeError> {
+    let mut tree = MemoryTree::new(alloc, "/")?;
+    add_wide(alloc, &mut tree, count)?;
     Ok(tree)
 }
 
@@ -30,10 +42,7 @@ const LINES: &str = "*.o\n!keep.o\n# comment\n\n/target/\nsrc/**/x\n";
 
 /// A file of a megabyte: the lines 25,600 times, and one more line.
 fn rules(alloc: Global, last: &str) -> Result<String, AllocError> {
-    let mut text = String::new(alloc);
-    for _ in 0u32..25_600 {
-        text.push_str(LINES)?;
-    }
+    let mut text = LINES.repeat(alloc, 25_600)?;
     text.push_str(last)?;
     Ok(text)
 }
@@ -66,11 +75,24 @@ fn each_rule_of_a_megabyte_counts(rt: HostRuntime) -> Result<(), Fail> {
 
 const UNCLOSED: &str = "/rules: line 153601: error parsing glob '{': unclosed alternates";
 
+/// The text of an error, if there is one.
+fn text_of(alloc: Global, error: &Option<Error>) -> Result<String, AllocError> {
+    match error {
+        Some(error) => format!(in alloc; "{error}"),
+        None => Ok(String::new(alloc)),
+    }
+}
+
+/// The number of the rules of that file, and the text of what is wrong with it.
+fn reported(alloc: Global, last: &str) -> Result<(usize, String), Fail> {
+    let (rules, error) = added(alloc, last)?;
+    Ok((rules.len(), text_of(alloc, &error)?))
+}
+
 #[test]
 fn the_last_line_of_a_megabyte_is_reported(rt: HostRuntime) -> Result<(), Fail> {
-    let (rules, error) = added(rt.alloc(), "{")?;
-    let error = error.ok_or("the last line is refused")?;
-    assert_eq!(rt; format!(in rt.alloc(); "{error}")?.as_str(), UNCLOSED);
-    assert_eq!(rt; rules.len(), 102_400);
+    let (count, error) = reported(rt.alloc(), "{")?;
+    assert_eq!(rt; count, 102_400);
+    assert_eq!(rt; error.as_str(), UNCLOSED);
     Ok(())
 }

@@ -1,19 +1,9 @@
-//! Tests of the crates below: worked examples, public calls with ample memory, and calls over files that fail or refuse memory.
+//! Tests that need code: the example of the README, the machine's files beside a tree in memory,
+//! and very long globs and files.
 #![tactic(auto)]
 
-/// The answer of a call. A call that is refused memory is made again, once.
 #[cfg(test)]
-macro_rules! again {
-    ($call:expr) => {
-        match $call {
-            Ok(answer) => answer,
-            Err(_) => $call?,
-        }
-    };
-}
-
-#[cfg(test)]
-mod copies;
+mod brackets;
 #[cfg(test)]
 mod deep;
 #[cfg(test)]
@@ -21,12 +11,10 @@ mod disk;
 #[cfg(test)]
 mod example;
 #[cfg(test)]
+mod faults;
+#[cfg(test)]
 mod large;
 #[cfg(test)]
 mod machines;
 #[cfg(test)]
 mod queries;
-#[cfg(test)]
-mod refusing;
-#[cfg(test)]
-mod things;

@@ -4,7 +4,8 @@ use Rattle.std.specs.List.{AllZip}
 use Rattle.ignore_glob.specs.Reading.{Reading, Matches}
 use Rattle.ignore_types.specs.TypeMatch.{SomeMatches}
 
-pub SomeMatches-at : (name : List ℕ) (rs : List Reading) (i : ℕ) (d : Reading) → i < length rs → Matches (get_or rs i d) name → SomeMatches name rs
+pub SomeMatches-at : (name : List ℕ) (rs : List Reading) (i : ℕ) (d : Reading) → i < length rs → Matches (get_or rs i d) name
+    → SomeMatches name rs
 SomeMatches-at name [] i d within matches = absurd (omega arith)
 SomeMatches-at name (r ∷ rs) zero d within matches = inl matches
 SomeMatches-at name (r ∷ rs) (suc i) d within matches = inr (SomeMatches-at name rs i d (omega arith) matches)
@@ -16,7 +17,8 @@ split-at (y ∷ ys) zero x within read = λ j. sym read j ∷ ys
 split-at (y ∷ ys) (suc i) x within read = ap (λ l. y ∷ l) (split-at ys i x (omega arith) read)
 
 -- the same of what a function makes of the elements
-pub split-map : {A B : Type 0} (f : A → B) (xs : List A) (i : ℕ) (x : A) → i < length xs → x ≡ get_or xs i x → map f xs ≡ map f (take i xs) ++ f x ∷ map f (drop (suc i) xs)
+pub split-map : {A B : Type 0} (f : A → B) (xs : List A) (i : ℕ) (x : A) → i < length xs → x ≡ get_or xs i x
+    → map f xs ≡ map f (take i xs) ++ f x ∷ map f (drop (suc i) xs)
 split-map f [] i x within read = absurd (omega arith)
 split-map f (y ∷ ys) zero x within read = λ j. f (sym read j) ∷ map f ys
 split-map f (y ∷ ys) (suc i) x within read = ap (λ l. f y ∷ l) (split-map f ys i x (omega arith) read)
@@ -29,16 +31,19 @@ take-suc (y ∷ ys) (suc i) x within read = ap (λ l. y ∷ l) (take-suc ys i x 
 pub take-push : {A : Type 0} (xs : List A) (i : ℕ) (x : A) → i < length xs → x ≡ get_or xs i x → take (i + 1) xs ≡ take i xs ++ x ∷ []
 take-push xs i x within read = rw add-one (take-suc xs i x within read)
 
-map-take-suc : {A B : Type 0} (f : A → B) (xs : List A) (i : ℕ) (x : A) → i < length xs → x ≡ get_or xs i x → map f (take (suc i) xs) ≡ map f (take i xs) ++ f x ∷ []
+map-take-suc : {A B : Type 0} (f : A → B) (xs : List A) (i : ℕ) (x : A) → i < length xs → x ≡ get_or xs i x
+    → map f (take (suc i) xs) ≡ map f (take i xs) ++ f x ∷ []
 map-take-suc f [] i x within read = absurd (omega arith)
 map-take-suc f (y ∷ ys) zero x within read = λ j. f (sym read j) ∷ []
 map-take-suc f (y ∷ ys) (suc i) x within read = ap (λ l. f y ∷ l) (map-take-suc f ys i x (omega arith) read)
 
-pub map-take-push : {A B : Type 0} (f : A → B) (xs : List A) (i : ℕ) (x : A) → i < length xs → x ≡ get_or xs i x → map f (take (i + 1) xs) ≡ map f (take i xs) ++ f x ∷ []
+pub map-take-push : {A B : Type 0} (f : A → B) (xs : List A) (i : ℕ) (x : A) → i < length xs → x ≡ get_or xs i x
+    → map f (take (i + 1) xs) ≡ map f (take i xs) ++ f x ∷ []
 map-take-push f xs i x within read = rw add-one (map-take-suc f xs i x within read)
 
 -- one more, of two lists of different things
-pub AllZip-push : {A B : Type 0} (R : A → B → Type 0) (xs : List A) (ys : List B) (x : A) (y : B) → AllZip R xs ys → R x y → AllZip R (xs ++ x ∷ []) (ys ++ y ∷ [])
+pub AllZip-push : {A B : Type 0} (R : A → B → Type 0) (xs : List A) (ys : List B) (x : A) (y : B) → AllZip R xs ys → R x y
+    → AllZip R (xs ++ x ∷ []) (ys ++ y ∷ [])
 AllZip-push R [] [] x y all one = (one, tt)
 AllZip-push R [] (b ∷ ys) x y all one = absurd all
 AllZip-push R (a ∷ xs) [] x y all one = absurd all

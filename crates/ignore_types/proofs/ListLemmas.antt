@@ -4,7 +4,8 @@ use Rattle.std.specs.List.{AllZip}
 use Rattle.std.specs.List.Sorted.{IsSortedBy}
 use Rattle.std.specs.Cmp.Lexicographic.{pointwise}
 
-pub pointwise-map : {A B : Type 0} (E : B → B → Bool) (f : A → B) (xs ys : List A) → pointwise (λ x y. E (f x) (f y)) xs ys ≡ pointwise E (map f xs) (map f ys)
+pub pointwise-map : {A B : Type 0} (E : B → B → Bool) (f : A → B) (xs ys : List A)
+    → pointwise (λ x y. E (f x) (f y)) xs ys ≡ pointwise E (map f xs) (map f ys)
 pointwise-map E f [] [] = refl
 pointwise-map E f [] (y ∷ ys) = refl
 pointwise-map E f (x ∷ xs) [] = refl
@@ -16,13 +17,16 @@ map-same f [] (y ∷ ys) same = absurd same
 map-same f (x ∷ xs) [] same = absurd same
 map-same f (x ∷ xs) (y ∷ ys) same = λ i. same.0 i ∷ map-same f xs ys same.1 i
 
-neighbours-map : {A B : Type 0} (lt : B → B → Bool) (f : A → B) (xs : List A) → ((k : ℕ) (d : A) → suc k < length xs → lt (f (get_or xs (suc k) d)) (f (get_or xs k d)) ≡ false)
+neighbours-map : {A B : Type 0} (lt : B → B → Bool) (f : A → B) (xs : List A)
+    → ((k : ℕ) (d : A) → suc k < length xs → lt (f (get_or xs (suc k) d)) (f (get_or xs k d)) ≡ false)
     → (k : ℕ) (d : B) → suc k < length (map f xs) → lt (get_or (map f xs) (suc k) d) (get_or (map f xs) k d) ≡ false
 neighbours-map lt f [] sorted k d within = absurd (omega arith)
 neighbours-map lt f (x ∷ []) sorted k d within = absurd (omega arith)
 neighbours-map lt f (x ∷ (y ∷ xs)) sorted zero d within = sorted 0 x (omega arith)
-neighbours-map lt f (x ∷ (y ∷ xs)) sorted (suc k) d within = neighbours-map lt f (y ∷ xs) (λ j e low. sorted (suc j) e (omega arith)) k d (omega arith)
+neighbours-map lt f (x ∷ (y ∷ xs)) sorted (suc k) d within =
+    neighbours-map lt f (y ∷ xs) (λ j e low. sorted (suc j) e (omega arith)) k d (omega arith)
 
-pub IsSortedBy-map : {A B : Type 0} (lt : B → B → Bool) (f : A → B) (xs : List A) → IsSortedBy (λ x y. lt (f x) (f y)) xs → IsSortedBy lt (map f xs)
+pub IsSortedBy-map : {A B : Type 0} (lt : B → B → Bool) (f : A → B) (xs : List A) → IsSortedBy (λ x y. lt (f x) (f y)) xs
+    → IsSortedBy lt (map f xs)
 IsSortedBy-map lt f xs sorted k d low within =
     rw add-one (neighbours-map lt f xs (λ j e high. rw add-one at (sorted j e (omega arith) (omega arith))) k d (omega arith))

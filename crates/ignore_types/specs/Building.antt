@@ -2,6 +2,7 @@
 use Rattle.std.specs.Prelude.{◌≡◌, ◌⊎◌, ℕ, false, List, ◌∷◌, ◌++◌, Some, None}
 use Rattle.std.specs.List.{AllZip}
 use Rattle.std.specs.Str.{chars}
+use Rattle.ignore_glob.specs.Text.{Bytes}
 use Rattle.ignore_glob.specs.declared.glob.options.Options.{Options}
 use Rattle.ignore_glob.specs.declared.glob.fault.GlobFault.{GlobFault}
 use Rattle.ignore_glob.specs.GlobFaults.{glob_fault_text}
@@ -16,7 +17,7 @@ abbrev pub plain : Options
 plain = record { case_insensitive = false; allow_unclosed_class = false }
 
 -- a glob parses to this reading
-pub record IsReadAs (text : List ℕ) (reading : Reading) : Type 0 where
+pub record IsReadAs (text : Bytes) (reading : Reading) : Type 0 where
   pub reads : Reads plain (chars text) reading.tokens
   pub case : reading.case_insensitive ≡ false
 
@@ -44,7 +45,7 @@ pub record FirstBad {A B : Type 0} (Good : A → B → Type 0) (Bad : A → Type
   pub fails : Bad bad
 
 -- the problem is that of an invalid glob
-abbrev pub IsGlobProblem : Problem → List ℕ → Type 0
+abbrev pub IsGlobProblem : Problem → Bytes → Type 0
 IsGlobProblem p text = (f : GlobFault) × IsFaulty plain (chars text) f × (p ≡ glob (Some text) (glob_fault_text f))
 
 -- a choice is rejected with this problem: no type has its name, or the problem is that of the first

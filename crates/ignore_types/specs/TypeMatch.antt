@@ -1,10 +1,10 @@
 -- The answer of a matcher of file types for a path.
-use Rattle.std.specs.Prelude.{◌≡◌, ◌⊎◌, ℕ, Bool, true, false, not, List, [], ◌∷◌, ◌++◌, Option, if◌then◌else◌, refl}
+use Rattle.std.specs.Prelude.{◌≡◌, ◌⊎◌, ℕ, Bool, true, false, not, List, [], ◌∷◌, ◌++◌, Option, if◌then◌else◌}
 use Rattle.std.specs.Prelude as std
 use Rattle.std.specs.List.{list_any}
 use Rattle.std.specs.Str.{chars}
-use Rattle.std.specs.Coded.{Coded, code_by, coded×, coded_bool, coded_list, coded_ℕ}
-use Rattle.ignore_glob.specs.Reading.{Reading, Matches, reading_code}
+use Rattle.ignore_glob.specs.Text.{Bytes, Chars}
+use Rattle.ignore_glob.specs.Reading.{Reading, Matches}
 use Rattle.ignore_glob.specs.declared.match_result.Match.{Match}
 use Rattle.ignore_glob.specs.declared.match_result.Match.TheVariants.{None, Ignore, Whitelist}
 use Rattle.ignore_types.specs.Types.{Definition}
@@ -21,33 +21,19 @@ pub record Matcher : Type 0 where
   pub definitions : List Definition
   pub choices : List Chosen
 
--- codes: proofs distinguish definitions, choices and matchers by their fields
-abbrev pub definition_code : Coded Definition
-definition_code = code_by (List ℕ × List (List ℕ)) (coded× (coded_list coded_ℕ) (coded_list (coded_list coded_ℕ))) (λ d. (d.name, d.globs)) (λ p. record { name = p.0; globs = p.1 }) (λ _. refl)
-
-abbrev pub chosen_code : Coded Chosen
-chosen_code =
-    code_by (Definition × (List Reading × Bool)) (coded× definition_code (coded× (coded_list reading_code) coded_bool))
-    (λ c. (c.definition, (c.readings, c.negated))) (λ p. record { definition = p.0; readings = p.1.0; negated = p.1.1 }) (λ _. refl)
-
-abbrev pub matcher_code : Coded Matcher
-matcher_code =
-    code_by (List Definition × List Chosen) (coded× (coded_list definition_code) (coded_list chosen_code))
-    (λ m. (m.definitions, m.choices)) (λ p. record { definitions = p.0; choices = p.1 }) (λ _. refl)
-
 -- some of the globs matches the name
-abbrev pub SomeMatches : List ℕ → List Reading → Type 0
+abbrev pub SomeMatches : Chars → List Reading → Type 0
 SomeMatches name [] = ⊥
 SomeMatches name (r ∷ rs) = Matches r name ⊎ SomeMatches name rs
 
 -- no glob of these choices matches the name
-abbrev pub NoneMatches : List ℕ → List Chosen → Type 0
+abbrev pub NoneMatches : Chars → List Chosen → Type 0
 NoneMatches name [] = Unit {0}
 NoneMatches name (c ∷ cs) = ¬ SomeMatches name c.readings × NoneMatches name cs
 
 -- the last choice with a glob that matches the name: some of its globs does, and none of a later
 -- choice
-pub record IsDeciding (name : List ℕ) (choices : List Chosen) (choice : Chosen) : Type 0 where
+pub record IsDeciding (name : Chars) (choices : List Chosen) (choice : Chosen) : Type 0 where
   pub before : List Chosen
   pub after : List Chosen
   pub split : choices ≡ before ++ choice ∷ after
@@ -63,12 +49,13 @@ abbrev pub unmatched : List Chosen → Match (Option Definition)
 unmatched choices = if list_any (λ c. not c.negated) choices then Ignore std.None else None
 
 -- the answer for a file of this name, a list of characters
-abbrev pub IsNameAnswer : List Chosen → List ℕ → Match (Option Definition) → Type 0
-IsNameAnswer choices name m = ((c : Chosen) × IsDeciding name choices c × (m ≡ verdict_of c)) ⊎ (NoneMatches name choices × (m ≡ unmatched choices))
+abbrev pub IsNameAnswer : List Chosen → Chars → Match (Option Definition) → Type 0
+IsNameAnswer choices name m =
+    ((c : Chosen) × IsDeciding name choices c × (m ≡ verdict_of c)) ⊎ (NoneMatches name choices × (m ≡ unmatched choices))
 
 -- the answer for a path that is a directory or not, by its file name alone: a directory has no
 -- match, and no glob matches a file without a name
-abbrev pub IsTypeAnswer : List Chosen → Bool → Option (List ℕ) → Match (Option Definition) → Type 0
+abbrev pub IsTypeAnswer : List Chosen → Bool → Option Bytes → Match (Option Definition) → Type 0
 IsTypeAnswer choices true name m = m ≡ None
 IsTypeAnswer choices false std.None m = m ≡ unmatched choices
 IsTypeAnswer choices false (std.Some name) m = IsNameAnswer choices (chars name) m

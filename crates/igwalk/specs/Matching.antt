@@ -19,12 +19,16 @@ refusal number problem = codes "igwalk: line " ++ (decimal number ++ (codes ": "
 -- reported
 pub data Adds (root : List ℕ) : List (List ℕ) → Building → List ℕ → Type 0 where
   no_line : Adds root [] (begun root) []
-  added : (lines : List (List ℕ)) (line : List ℕ) (old new : Building) (reported : List ℕ) → Adds root lines old reported → AddsLine old Nothing line new → Adds root (lines ++ line ∷ []) new reported
-  refused : (lines : List (List ℕ)) (line : List ℕ) (builder : Building) (reported : List ℕ) (problem : Problem) → Adds root lines builder reported → Refuses builder.options line problem → Adds root (lines ++ line ∷ []) builder (reported ++ refusal (length lines + 1) problem)
+  added : (lines : List (List ℕ)) (line : List ℕ) (old new : Building) (reported : List ℕ) → Adds root lines old reported
+      → AddsLine old Nothing line new → Adds root (lines ++ line ∷ []) new reported
+  refused : (lines : List (List ℕ)) (line : List ℕ) (builder : Building) (reported : List ℕ) (problem : Problem)
+      → Adds root lines builder reported → Refuses builder.options line problem
+      → Adds root (lines ++ line ∷ []) builder (reported ++ refusal (length lines + 1) problem)
 
 -- the same, with the report of the rejected lines in what was written, and whether there is one
 abbrev pub AddsAll : List ℕ → List (List ℕ) → Building → (List ℕ → Type 0) → Bool → Type 0
-AddsAll root lines builder err any = (reported : List ℕ) × Adds root lines builder reported × err reported × (any ≡ not (length reported == 0))
+AddsAll root lines builder err any =
+    (reported : List ℕ) × Adds root lines builder reported × err reported × (any ≡ not (length reported == 0))
 
 -- a line was rejected and reported with its number, or added with nothing reported
 abbrev pub AddsOne : Building → ℕ → List ℕ → Building → (List ℕ → Type 0) → Bool → Type 0

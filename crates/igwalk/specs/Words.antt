@@ -21,7 +21,8 @@ ask root rules path (Some is_dir) = Some (record { root = root; rules = rules; p
 
 -- `match ROOT RULES PATH d|f`
 abbrev pub question_of : List (List ℕ) → Option Question
-question_of (command ∷ root ∷ rules ∷ path ∷ kind ∷ []) = if bytes_eq command (codes "match") then ask root rules path (kind_of kind) else None
+question_of (command ∷ root ∷ rules ∷ path ∷ kind ∷ []) =
+    if bytes_eq command (codes "match") then ask root rules path (kind_of kind) else None
 question_of _ = None
 
 -- the question that the program's value stands for

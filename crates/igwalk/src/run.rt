@@ -95,7 +95,8 @@ fn write_answer<W: Write>(
     path: &str,
     is_dir: bool,
 ) -> Result<(), Stop>
-    ensures answers { OnOk result (Appends (W.contents out.old) (W.contents out.new) (answer_line (answer_of matcher.now path.now is_dir))) }
+    ensures answers { OnOk result (Appends (W.contents out.old) (W.contents out.new)
+        (answer_line (answer_of matcher.now path.now is_dir))) }
     ensures ended { IfErr result (EndsAnswer (Appends (W.contents out.old) (W.contents out.new))) }
 {
     let written = match matcher.matched(path, is_dir) {
@@ -133,7 +134,8 @@ fn answer<W: Write, E: Write>(
 
 /// Reports why a run ended, and returns its status, or why it ended where that can't be written.
 pub fn report_stop<E: Write>(err: &mut E, stop: Stop) -> Result<u8, Stop>
-    ensures reports { IfOk result (λ status. (status ≡ 2) × (stop ≢ Stop.Silence) × Appends (E.contents err.old) (E.contents err.new) (reason stop)) }
+    ensures reports { IfOk result (λ status. (status ≡ 2) × (stop ≢ Stop.Silence)
+        × Appends (E.contents err.old) (E.contents err.new) (reason stop)) }
     ensures unreported { IfErr result (λ why. why ≡ stop) }
 {
     let reported = match stop {
@@ -170,7 +172,8 @@ pub fn run<W: Write, E: Write>(
         → IfOk result (λ status. (status ≡ 2) × Appends (E.contents err.old) (E.contents err.new) (reason Stop.Usage)) }
     ensures usage_unreported { question_of (map string_bytes words.now) ≡ None → IfErr result (λ stop. stop ≡ Stop.Usage) }
     ensures prints { (question : Question) → question_of (map string_bytes words.now) ≡ Some question
-        → IfOk result (λ status. Prints question status (Appends (W.contents out.old) (W.contents out.new)) (Appends (E.contents err.old) (E.contents err.new))
+        → IfOk result (λ status. Prints question status (Appends (W.contents out.old) (W.contents out.new))
+        (Appends (E.contents err.old) (E.contents err.new))
         ⊎ ((status ≡ 2) × EndsReported question (Appends (W.contents out.old) (W.contents out.new)) (Appends (E.contents err.old) (E.contents err.new)))) }
     ensures unreported { (question : Question) → question_of (map string_bytes words.now) ≡ Some question
         → IfErr result (Ends question (Appends (W.contents out.old) (W.contents out.new)) (λ reported. ⊤)) }

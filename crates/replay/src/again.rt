@@ -1,4 +1,5 @@
-//! Calls of the library that can be refused memory: each is repeated once, on the same value, so that a refused call which changed its builder shows in the answer.
+//! Calls of the library that may be out of memory: each is retried once, on the same value, so that
+//! a failed call which changed its builder shows in the answer.
 
 use ignore_glob::{Error, Match};
 use ignore_rules::gitignore::{Gitignore, GitignoreBuilder, Glob};
@@ -13,7 +14,7 @@ pub fn builder(alloc: Global, root: &str) -> Result<GitignoreBuilder, Trouble> {
     }
 }
 
-/// What a call answered that nothing but want of memory can refuse.
+/// The result of a call whose only error is out of memory.
 pub fn but_for_memory<T: Drop, E: Drop>(answer: Result<T, E>) -> Result<T, Trouble> {
     match answer {
         Ok(value) => Ok(value),
@@ -36,7 +37,7 @@ fn add_line_once(builder: &mut GitignoreBuilder, line: &str) -> Result<Option<Er
     }
 }
 
-/// What is wrong with a line, unless memory was refused.
+/// The error of a line, unless it is out of memory.
 pub fn problem(error: Error) -> Result<Option<Error>, Trouble> {
     match error {
         Error::Memory => Err(Trouble::Memory),

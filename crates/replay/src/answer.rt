@@ -1,4 +1,5 @@
-//! Putting answers together, field by field and item by item. Where memory is refused for one of them, this is told once, when the whole is asked for.
+//! Putting answers together, field by field and item by item. Where an allocation for one of them
+//! fails, this is reported once, with the whole.
 
 use serde_json::{Map, Value};
 use std::alloc::{AllocError, Global};
@@ -57,7 +58,7 @@ impl Answer {
         self.put_value(name, Value::from(number));
     }
 
-    /// The answer as a value, unless memory was refused.
+    /// The answer as a value, unless out of memory.
     pub fn value(self) -> Result<Value, AllocError> {
         if self.is_refused {
             Err(AllocError)
@@ -66,7 +67,7 @@ impl Answer {
         }
     }
 
-    /// The answer as that of a kind, unless memory was refused.
+    /// The answer as that of a kind, unless out of memory.
     pub fn outcome(self) -> Result<Outcome, Trouble> {
         if self.is_refused {
             Err(Trouble::Memory)
@@ -129,7 +130,7 @@ impl Items {
         self.put_value(Value::from(number));
     }
 
-    /// The list as a value, unless memory was refused.
+    /// The list as a value, unless out of memory.
     pub fn value(self) -> Result<Value, AllocError> {
         if self.is_refused {
             Err(AllocError)

@@ -1,8 +1,6 @@
-//! Environments of vectors, and the search for the excludes file in them.
+//! Environments of vectors.
 
-use crate::again::but_for_memory;
-use ignore_files::{Env, MemoryTree, Name};
-use ignore_rules::gitignore::gitconfig_excludes_path;
+use ignore_files::{Env, Name};
 use serde_json::Value;
 use std::alloc::{AllocError, Global};
 use vectors::Trouble;
@@ -30,16 +28,4 @@ pub fn variable(alloc: Global, value: &Value, name: &'static str) -> Result<Opti
 /// A copy of a text.
 pub fn name_of(alloc: Global, text: &str) -> Result<Name, AllocError> {
     Ok(Name::new(String::from_str(alloc, text)?))
-}
-
-/// The path of the excludes file, asked for twice where memory is refused.
-pub fn excludes_path(
-    alloc: Global,
-    tree: &MemoryTree,
-    env: &Env,
-) -> Result<Option<String>, Trouble> {
-    match gitconfig_excludes_path(alloc, tree, env) {
-        Ok(path) => Ok(path),
-        Err(_) => but_for_memory(gitconfig_excludes_path(alloc, tree, env)),
-    }
 }

@@ -1,4 +1,5 @@
-//! Errors in the shape in which vectors write them: a list of the name of the variant and what it holds.
+//! Errors in the shape in which vectors write them: a list of the name of the variant and what it
+//! holds.
 
 use crate::answer::{Answer, Items, text_value};
 use ignore_glob::{Error, Fault};

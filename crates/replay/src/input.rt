@@ -1,4 +1,4 @@
-//! The files of vectors that a run is given, and what it tells at its end.
+//! The files of vectors of a run, and what it reports at its end.
 
 use crate::kinds::Library;
 use std::io::Read;
@@ -6,7 +6,7 @@ use std::rt::Env;
 use std::{env, fs, io};
 use vectors::{Tally, replay};
 
-/// The name by which standard input is told of.
+/// The name of standard input in reports.
 const STDIN: &str = "stdin";
 
 /// Why a run ends before its end.
@@ -16,13 +16,15 @@ enum Stop<'n> {
     Memory,
     /// What has this name can't be read.
     Read(&'n str),
-    /// What is told can't be written.
+    /// A report can't be written.
     Write,
 }
 
-/// Asks the vectors of the files that the words after the program's name name, in turn, and then those of standard input. The last line on standard output counts them.
+/// Asks the vectors of the files that the words after the program's name name, in turn, and then
+/// those of standard input. The last line on standard output counts them.
 ///
-/// The answer is the status: 0; 1 where an answer was another one than wanted, or a line was no vector; 2 for want of memory and for what can't be read or written, told on standard error.
+/// It returns the status: 0; 1 where an answer was not the wanted one, or a line was no vector; 2
+/// for out of memory and for what can't be read or written, reported on standard error.
 pub fn replay_all(rt: &HostRuntime) -> u8 {
     match words(rt) {
         Ok(words) => replay_words(rt, words.as_slice()),
@@ -67,7 +69,7 @@ fn replay_bytes<'w>(
     }
 }
 
-/// The words after the program's name, asked for twice where memory is refused.
+/// The words after the program's name, retried once where it is out of memory.
 fn words(rt: &HostRuntime) -> Result<Vec<String>, Stop<'static>> {
     match words_once(rt) {
         Err(Stop::Memory) => words_once(rt),
@@ -90,7 +92,7 @@ fn all_words(rt: &(impl Env + AllocGlobal)) -> io::Result<Vec<String>> {
     Ok(words)
 }
 
-/// What a file holds, read twice where memory is refused.
+/// What a file holds, read again where that is out of memory.
 fn contents<'w>(rt: &HostRuntime, path: &'w str) -> Result<Vec<u8>, Stop<'w>> {
     match contents_once(rt, path) {
         Err(Stop::Memory) => contents_once(rt, path),
@@ -105,7 +107,7 @@ fn contents_once<'w>(rt: &HostRuntime, path: &'w str) -> Result<Vec<u8>, Stop<'w
     }
 }
 
-/// What standard input holds. Where memory is refused it is read on from there.
+/// What standard input holds. After out of memory, reading continues from there.
 fn standard_input(rt: &HostRuntime) -> Result<Vec<u8>, Stop<'static>> {
     let mut bytes = Vec::new(rt.alloc());
     match read_on(rt, &mut bytes) {
@@ -136,7 +138,7 @@ fn report_tally<'w>(rt: &HostRuntime, tally: &Tally) -> Result<(), Stop<'w>> {
     }
 }
 
-/// Tells why a run ended, and answers its status. What can't be told is let go.
+/// Reports why a run ended, and returns its status. A report that can't be written is dropped.
 fn report_stop(rt: &HostRuntime, stop: Stop<'_>) -> u8 {
     let _ = match stop {
         Stop::Memory => eprintln!(rt; "replay: out of memory"),

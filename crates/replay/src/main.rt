@@ -3,11 +3,13 @@
 
 mod again;
 mod answer;
+mod clones;
 mod environment;
 mod error;
 mod hex_digits;
 mod input;
 mod kinds;
+mod refusing;
 mod rules;
 mod splits;
 mod tree_calls;

@@ -1,8 +1,9 @@
 //! Builders of gitignore rules, as vectors describe them, and their answers.
 
-use crate::again::{add_line, builder};
-use crate::answer::Items;
-use crate::error::printed;
+use crate::again::{add_line, build, builder};
+use crate::answer::{Answer, Items};
+use crate::clones::asked;
+use crate::error::{printed, reported_or_null};
 use crate::splits::needs_too_many;
 use ignore_glob::{Error, Match};
 use ignore_rules::gitignore::{Gitignore, GitignoreBuilder, Glob};
@@ -13,14 +14,40 @@ use vectors::{Reason, Trouble, flag_at, list, text, text_at};
 /// The name of the field that holds the operations.
 const OPS: &str = "ops";
 
-/// A builder after a vector's operations, and what it refused: the number of the operation and the text of the error.
+/// The name of the field that holds the lines of a builder whose root is `/r`.
+pub const LINES: &str = "lines";
+
+/// The builder at `/r` with the lines of a vector, if it has any. What is wrong with them isn't
+/// reported.
+pub fn builder_of_lines(alloc: Global, input: &Value) -> Result<GitignoreBuilder, Trouble> {
+    let mut builder = builder(alloc, "/r")?;
+    if input.get(LINES).is_some() {
+        for line in list(input, LINES)? {
+            add_text(&mut builder, line)?;
+        }
+    }
+    asked(input, builder)
+}
+
+fn add_text(builder: &mut GitignoreBuilder, line: &Value) -> Result<(), Trouble> {
+    match line.as_str() {
+        Some(line) => {
+            add_line(builder, line)?;
+            Ok(())
+        }
+        None => Err(Trouble::Field(LINES)),
+    }
+}
+
+/// A builder after a vector's operations, and what it refused: the number of the operation and the
+/// text of the error.
 #[derive(Drop)]
 pub struct Built {
     pub builder: GitignoreBuilder,
     pub refused: Items,
 }
 
-/// Why a matcher isn't asked about a path, if so.
+/// Why a path isn't matched, if so.
 pub fn reason_against(matcher: &Gitignore, path: &str) -> Option<Reason> {
     for rule in matcher.rules() {
         if needs_too_many(rule.actual(), path) {
@@ -38,6 +65,17 @@ pub fn after_operations(alloc: Global, input: &Value) -> Result<Built, Trouble> 
     };
     apply_all(alloc, &mut built, list(input, OPS)?)?;
     Ok(built)
+}
+
+/// The matcher of a builder.
+pub fn matcher_of(input: &Value, builder: GitignoreBuilder) -> Result<Gitignore, Trouble> {
+    let builder = asked(input, builder)?;
+    asked_matcher(input, &builder)
+}
+
+fn asked_matcher(input: &Value, builder: &GitignoreBuilder) -> Result<Gitignore, Trouble> {
+    let matcher = build(builder)?;
+    asked(input, matcher)
 }
 
 fn apply_all(alloc: Global, built: &mut Built, ops: &[Value]) -> Result<(), Trouble> {
@@ -86,6 +124,13 @@ pub fn refusal(alloc: Global, number: u64, error: Error) -> Result<Value, AllocE
     parts.value()
 }
 
+/// Puts the root and the rules of a matcher, and what is reported of its file.
+pub fn put_read(answer: &mut Answer, alloc: Global, matcher: &Gitignore, error: &Option<Error>) {
+    answer.put_text("root", matcher.path());
+    answer.put("rules", rules_value(alloc, matcher));
+    answer.put("error", reported_or_null(alloc, error.as_ref()));
+}
+
 /// The rules of a matcher, each with all that can be read of it.
 pub fn rules_value(alloc: Global, matcher: &Gitignore) -> Result<Value, AllocError> {
     let mut rules = Items::new(alloc);
@@ -106,7 +151,8 @@ fn rule_value(alloc: Global, rule: &Glob) -> Result<Value, AllocError> {
     parts.value()
 }
 
-/// What a matcher answered: the kind of the match, and the texts and the place of the rule that decided.
+/// What a matcher answered: the kind of the match, and the texts and the place of the rule that
+/// decided.
 pub fn match_value(
     alloc: Global,
     matcher: &Gitignore,

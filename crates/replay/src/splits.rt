@@ -1,9 +1,11 @@
-//! How many splits the plain matcher may try.
+//! How many ways to cut a text the plain matcher may try.
 
-/// The most splits that are tried of one text by one glob.
+/// The most cuts of one text that are tried for one glob.
 const MOST: u64 = 100_000_000;
 
-/// Whether a glob may need too many splits of a text. Each brace and each run of stars is a cut; the cuts are made in turn, so they are counted as choices with repetition. `**` between slashes is cut at slashes, the others anywhere.
+/// Whether a glob may need too many cuts of a text. Each brace and each run of stars is a cut; the
+/// cuts are made in turn, so they are counted as choices with repetition. `**` between slashes is
+/// cut at slashes, the others anywhere.
 pub fn needs_too_many(glob: &str, text: &str) -> bool {
     let bytes = text.as_bytes();
     let slashes = slash_count(bytes);
@@ -68,7 +70,8 @@ fn byte(glob: &[u8], place: usize) -> Option<u8> {
     glob.get(place).copied()
 }
 
-/// In how many ways `count` choices with repetition can be made among `places`, or a number above the most. Of more than 64 choices the first 64 are counted.
+/// In how many ways `count` choices with repetition can be made among `places`, or a number above
+/// the most. Of more than 64 choices the first 64 are counted.
 fn choices(places: u64, count: u64) -> u64 {
     let mut ways = 1u64;
     for choice in 1..=count.min(64) {

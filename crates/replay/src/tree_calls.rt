@@ -10,7 +10,7 @@ use vectors::{Trouble, item, text_at};
 /// The name of the field that holds the calls.
 pub const CALLS: &str = "calls";
 
-/// The tree of the directory `/` alone, asked for twice where memory is refused.
+/// The tree of the directory `/` alone, retried once where it is out of memory.
 pub fn empty_tree(alloc: Global, cwd: &str) -> Result<MemoryTree, TreeError> {
     match MemoryTree::new(alloc, cwd) {
         Err(TreeError::Memory) => MemoryTree::new(alloc, cwd),
@@ -18,7 +18,8 @@ pub fn empty_tree(alloc: Global, cwd: &str) -> Result<MemoryTree, TreeError> {
     }
 }
 
-/// What was made, which nothing but want of memory may refuse: else the field of this name is wrong.
+/// The value of a result whose only error is out of memory; otherwise the field of this name is
+/// wrong.
 pub fn unrefused<T: Drop>(made: Result<T, TreeError>, name: &'static str) -> Result<T, Trouble> {
     match made {
         Ok(value) => Ok(value),
@@ -71,7 +72,7 @@ fn change(
     }
 }
 
-/// The refusal of a call, unless memory was refused.
+/// The error of a call, unless out of memory.
 fn refusal(made: Result<(), TreeError>) -> Result<Option<TreeError>, Trouble> {
     match made {
         Ok(()) => Ok(None),
@@ -80,7 +81,7 @@ fn refusal(made: Result<(), TreeError>) -> Result<Option<TreeError>, Trouble> {
     }
 }
 
-/// Adds a directory, and again where memory is refused.
+/// Adds a directory, and again where it is out of memory.
 pub fn add_dir(tree: &mut MemoryTree, path: &str) -> Result<(), TreeError> {
     match tree.add_dir(path) {
         Err(TreeError::Memory) => tree.add_dir(path),
@@ -102,7 +103,7 @@ fn add_link(tree: &mut MemoryTree, path: &str, target: &str) -> Result<(), TreeE
     }
 }
 
-/// Adds a file, and again where memory is refused.
+/// Adds a file, and again where it is out of memory.
 pub fn add_file(tree: &mut MemoryTree, path: &str, bytes: &[u8]) -> Result<(), TreeError> {
     match tree.add_file(path, bytes) {
         Err(TreeError::Memory) => tree.add_file(path, bytes),

@@ -16,11 +16,13 @@ ignores rules path = is_ignore (answer rules.root rules.rules path false)
 abbrev pub deciding_rule : Ruleset → List ℕ → Bool → Option Rule
 deciding_rule rules path is_dir = inner (answer rules.root rules.rules path is_dir)
 
--- whether a package takes in the file at a path: it is below the root, and neither it nor its nearest decided parent is ignored
+-- whether a package includes the file at a path: it is below the root, and neither it nor else its
+-- nearest parent with an answer is ignored
 abbrev pub is_packed : Ruleset → List ℕ → Bool
 is_packed rules path = is_under_root rules path && not (is_ignore (answer_with_parents rules.root rules.rules path false))
 
--- whether a linter looks at a file: as the globs of the command line say, or else unless its types say no
+-- whether a linter looks at a file: as the globs of the command line answer, or else unless its types
+-- skip it
 abbrev pub is_linted : Match (Option Rule) → Bool → Bool
 is_linted overridden is_skipped = is_whitelist overridden || (is_none overridden && not is_skipped)
 

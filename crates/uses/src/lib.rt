@@ -9,3 +9,5 @@ pub mod lines;
 pub mod linter;
 pub mod packer;
 pub mod reason;
+#[cfg(test)]
+mod tests;

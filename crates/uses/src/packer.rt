@@ -1,4 +1,4 @@
-//! A packer: which of the paths of a list a package takes in.
+//! A packer: which of the paths of a list a package includes.
 ghost use Rattle.std.specs.Prelude.{◌≡◌, IfOk, IfErr, map};
 ghost use Rattle.std.specs.List.{filter};
 ghost use Rattle.ignore_glob.specs.Problem.{problem_of, memory};
@@ -8,7 +8,7 @@ use ignore_glob::Error;
 use ignore_rules::gitignore::Gitignore;
 use std::alloc::Global;
 
-/// Whether a package takes in the file at a path: it lies below the root of the rules, and neither
+/// Whether a package includes the file at a path: it lies below the root of the rules, and neither
 /// the file nor a directory that it is in is ignored, the nearest answer deciding.
 ///
 /// # Errors
@@ -26,7 +26,7 @@ pub fn is_packed(rules: &Gitignore, path: &str) -> Result<bool, Error>
     }
 }
 
-/// The paths of a list that a package takes in, in their order.
+/// The paths of a list that a package includes, in their order.
 ///
 /// # Errors
 /// `Error::Memory` alone.

@@ -16,4 +16,5 @@ Stands fields waiting name d = (get_member name fields ≡ Some d) ⊎ ((get_mem
 -- the answer is an object that has each wanted field and no other
 abbrev pub Agrees : Members → Data → List (List ℕ) → Type 0
 Agrees wanted answer waiting =
-    (fields : Members) × (answer ≡ object fields) × EachMember (Stands fields waiting) wanted × EachMember (λ name _. IsSome (get_member name wanted)) fields
+    (fields : Members) × (answer ≡ object fields) × EachMember (Stands fields waiting) wanted
+    × EachMember (λ name _. IsSome (get_member name wanted)) fields

@@ -3,6 +3,8 @@ use Rattle.std.specs.Prelude.{ℕ, ◌+◌, ◌-◌, ◌^◌, min, List, [], ◌
 use Rattle.vectors.specs.declared.outcome.Reason.{Reason}
 use Rattle.vectors.specs.declared.outcome.Reason.TheVariants.{GitTrailingSpaces, TooManySplits}
 
+-- the counts: vectors that passed or failed, those skipped for each reason, and lines that are no
+-- vector
 pub record Counts : Type 0 where
   pub passed : ℕ
   pub failed : ℕ
@@ -10,6 +12,7 @@ pub record Counts : Type 0 where
   pub too_many_splits : ℕ
   pub unread : ℕ
 
+-- all counts are 0
 abbrev pub nothing : Counts
 nothing = record { passed = 0; failed = 0; git_trailing_spaces = 0; too_many_splits = 0; unread = 0 }
 

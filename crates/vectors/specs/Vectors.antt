@@ -29,4 +29,10 @@ pub record IsVector (d : Data) (id kind : List ℕ) (input : Data) (wanted : Mem
 -- the first of the four fields that is missing or of another form
 abbrev pub wrong_field : Data → Option (List ℕ)
 wrong_field d =
-    if is_some (text_in (codes "id") d) then (if is_some (text_in (codes "kind") d) then (if is_some (object_in (codes "in") d) then (if is_some (object_in (codes "out") d) then None else Some (codes "out")) else Some (codes "in")) else Some (codes "kind")) else Some (codes "id")
+    if is_some (text_in (codes "id") d)
+    then (if is_some (text_in (codes "kind") d)
+    then (if is_some (object_in (codes "in") d)
+    then (if is_some (object_in (codes "out") d) then None else Some (codes "out"))
+    else Some (codes "in"))
+    else Some (codes "kind"))
+    else Some (codes "id")

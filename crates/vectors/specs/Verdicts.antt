@@ -18,7 +18,8 @@ IsWanted d answer waiting = (wanted : Members) × (object_in (codes "out") d ≡
 -- the outcome is skipped, for the same reason
 abbrev pub Judges : Data → Outcome → List (List ℕ) → Verdict → Type 0
 Judges d (outcome.Answer answer) waiting verdict.Passed = IsWanted d (view answer) waiting
-Judges d (outcome.Answer answer) waiting (verdict.Failed vector answered) = ¬ IsWanted d (view answer) waiting × (view vector ≡ d) × (view answered ≡ view answer)
+Judges d (outcome.Answer answer) waiting (verdict.Failed vector answered) =
+    ¬ IsWanted d (view answer) waiting × (view vector ≡ d) × (view answered ≡ view answer)
 Judges d (outcome.Answer answer) waiting (verdict.Skipped reason) = ⊥
 Judges d (outcome.Skipped why) waiting verdict.Passed = ⊥
 Judges d (outcome.Skipped why) waiting (verdict.Failed vector answered) = ⊥

@@ -21,7 +21,13 @@ impl Model for Tally {
 
     ghost Value = { Counts };
 
-    ghost view = { λ t. record { passed = t.passed; failed = t.failed; git_trailing_spaces = t.git_trailing_spaces; too_many_splits = t.too_many_splits; unread = t.unread } };
+    ghost view = { λ t. record {
+      passed = t.passed;
+      failed = t.failed;
+      git_trailing_spaces = t.git_trailing_spaces;
+      too_many_splits = t.too_many_splits;
+      unread = t.unread;
+    } };
 }
 
 impl Tally {

@@ -146,7 +146,8 @@ pub fn find_node<'a>(
     path: &str,
     follow: bool,
 ) -> Result<&'a Node, Fault>
-    ensures { MatchResult result (λ n. node_found cwd.now nodes.now path.now follow ≡ Ok n.now) (λ e. node_found cwd.now nodes.now path.now follow ≡ Err e) }
+    ensures { MatchResult result (λ n. node_found cwd.now nodes.now path.now follow ≡ Ok n.now)
+        (λ e. node_found cwd.now nodes.now path.now follow ≡ Err e) }
 {
     match resolve(nodes, cwd, path, follow) {
         Err(fault) => Err(fault),

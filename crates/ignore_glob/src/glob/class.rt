@@ -2,7 +2,7 @@
 ghost use Rattle.std.specs.Prelude.{◌≡◌, ◌≢◌, ◌+◌, ◌<◌, ◌≤◌, ◌++◌, ◌∷◌, [], ℕ, List, Bool, true, false, take, drop, length, nat_le, IfOk, IfSome, IfNone, Ok, Err};
 ghost use Rattle.std.specs.List.{AllByRecursion, list_all};
 ghost use Rattle.ignore_glob.specs.Lexing.{Closes, turns, NoTurn, Items, last_end, ranges, are_in_order, is_negated, after_sign};
-ghost use Rattle.ignore_glob.specs.LexemeViews.{ClosesBefore};
+ghost use Rattle.ignore_glob.specs.ParserSteps.{ClosesBefore};
 
 use std::alloc::{AllocError, Global};
 
@@ -76,7 +76,8 @@ fn turn(text: &[char]) -> Option<(char, &[char])>
 /// The first item of a body, whether its ends are in order, and what follows.
 fn item(body: &[char]) -> ((char, char), bool, &[char])
     requires { 0 < length body.now }
-    ensures { (ends : List ℕ) × (body.now ≡ result.0.0 ∷ (turns ends ++ result.2.now)) × NoTurn result.2.now × (result.0.1 ≡ last_end result.0.0 ends) × (result.1 ≡ list_all (nat_le result.0.0) ends) }
+    ensures { (ends : List ℕ) × (body.now ≡ result.0.0 ∷ (turns ends ++ result.2.now)) × NoTurn result.2.now
+        × (result.0.1 ≡ last_end result.0.0 ends) × (result.1 ≡ list_all (nat_le result.0.0) ends) }
 {
     let Some((low, more)) = body.split_first() else {
         unreachable!();
@@ -94,7 +95,8 @@ fn item(body: &[char]) -> ((char, char), bool, &[char])
 
 /// The ranges of a body, if all are in order.
 pub fn ranges_of(alloc: Global, body: &[char]) -> Result<Option<Vec<(char, char)>>, AllocError>
-    ensures some { IfOk result (λ found. IfSome found (λ all. (items : List (ℕ × List ℕ)) × Items body.now items × (are_in_order items ≡ true) × (all.items ≡ ranges items))) }
+    ensures some { IfOk result (λ found. IfSome found
+        (λ all. (items : List (ℕ × List ℕ)) × Items body.now items × (are_in_order items ≡ true) × (all.items ≡ ranges items))) }
     ensures none { IfOk result (λ found. IfNone found ((items : List (ℕ × List ℕ)) × Items body.now items × (are_in_order items ≡ false))) }
 {
     let mut all = Vec::new(alloc);

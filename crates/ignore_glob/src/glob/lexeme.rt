@@ -3,7 +3,8 @@ ghost use Rattle.std.specs.Prelude.{◌≡◌, ◌≢◌, ◌+◌, ◌<◌, ◌�
 ghost use Rattle.ignore_glob.specs.Lexing.{Step, lexeme, fault, Begins, Lexed, NoStarFirst};
 ghost use Rattle.ignore_glob.specs.declared.glob.options.Options.{Options};
 ghost use Rattle.ignore_glob.specs.GlobFaults.{IfFault};
-ghost use Rattle.ignore_glob.specs.LexemeViews.{lexeme_view, row_view, ClosesBefore};
+ghost use Rattle.ignore_glob.specs.LexemeViews.{lexeme_view, row_view};
+ghost use Rattle.ignore_glob.specs.ParserSteps.{ClosesBefore};
 
 use crate::glob::class::{after_last_closing, body, ranges_of, sign};
 use crate::glob::fault::{GlobFault, PatternError};
@@ -76,7 +77,8 @@ fn bracket(
 
 /// What a backslash begins, before this text.
 fn escape(depth: usize, text: &[char]) -> Result<(Lexeme, &[char], usize), PatternError>
-    ensures lexeme { (o : Options) → IfOk result (λ found. Begins o depth (92 ∷ text.now) (lexeme (lexeme_view found.0) found.1.now found.2)) }
+    ensures lexeme { (o : Options) → IfOk result (λ found. Begins o depth (92 ∷ text.now)
+        (lexeme (lexeme_view found.0) found.1.now found.2)) }
     ensures fault { (o : Options) → IfErr result (λ e. IfFault e (λ f. Begins o depth (92 ∷ text.now) (fault f))) }
 {
     match text.split_first() {

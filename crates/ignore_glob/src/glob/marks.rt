@@ -15,7 +15,8 @@ fn flag_by_nothing(node: &Node, p: usize, end: usize, flags: &mut Flags)
     requires end { length flags.old.all.items ≡ end + 1 }
     requires within { LeadsOn (node_view node.now) p end }
     ensures len { length flags.new.all.items ≡ length flags.old.all.items }
-    ensures flagged { (q : ℕ) → IsFlagged flags.new.all.items q ↔ (IsFlagged flags.old.all.items q ⊎ StepsByNothing (node_view node.now) p q) }
+    ensures flagged { (q : ℕ) → IsFlagged flags.new.all.items q
+        ↔ (IsFlagged flags.old.all.items q ⊎ StepsByNothing (node_view node.now) p q) }
 {
     match node {
         Node::Star(next) => flags.set(*next),
@@ -51,7 +52,8 @@ fn close_at(nodes: &[Node], p: usize, flags: &mut Flags)
     requires len { length flags.old.all.items ≡ length nodes.now + 1 }
     requires on { AllLeadOn (nodes_view nodes.now) }
     ensures len { length flags.new.all.items ≡ length flags.old.all.items }
-    ensures flagged { (q : ℕ) → IsFlagged flags.new.all.items q ↔ (IsFlagged flags.old.all.items q ⊎ StepsAt (nodes_view nodes.now) (IsFlagged flags.old.all.items) p q) }
+    ensures flagged { (q : ℕ) → IsFlagged flags.new.all.items q
+        ↔ (IsFlagged flags.old.all.items q ⊎ StepsAt (nodes_view nodes.now) (IsFlagged flags.old.all.items) p q) }
 {
     if flags.has(p) {
         flag_by_nothing(&nodes[p], p, nodes.len(), flags);
@@ -79,7 +81,8 @@ fn flag_by(fold: bool, node: &Node, c: char, p: usize, end: usize, flags: &mut F
     requires position { p ≤ end }
     requires within { LeadsOn (node_view node.now) p end }
     ensures len { length flags.new.all.items ≡ length flags.old.all.items }
-    ensures flagged { (q : ℕ) → IsFlagged flags.new.all.items q ↔ (IsFlagged flags.old.all.items q ⊎ StepsBy fold (node_view node.now) c p q) }
+    ensures flagged { (q : ℕ) → IsFlagged flags.new.all.items q
+        ↔ (IsFlagged flags.old.all.items q ⊎ StepsBy fold (node_view node.now) c p q) }
 {
     match node {
         Node::Literal(k, next) => {
@@ -130,7 +133,8 @@ fn step_at(fold: bool, nodes: &[Node], from: &Flags, c: char, p: usize, flags: &
     requires len { length flags.old.all.items ≡ length nodes.now + 1 }
     requires on { AllLeadOn (nodes_view nodes.now) }
     ensures len { length flags.new.all.items ≡ length flags.old.all.items }
-    ensures flagged { (q : ℕ) → IsFlagged flags.new.all.items q ↔ (IsFlagged flags.old.all.items q ⊎ StepsAtBy fold (nodes_view nodes.now) (IsFlagged from.now.all.items) c p q) }
+    ensures flagged { (q : ℕ) → IsFlagged flags.new.all.items q
+        ↔ (IsFlagged flags.old.all.items q ⊎ StepsAtBy fold (nodes_view nodes.now) (IsFlagged from.now.all.items) c p q) }
 {
     if from.has(p) {
         flag_by(fold, &nodes[p], c, p, nodes.len(), flags);
@@ -168,7 +172,8 @@ fn advance(fold: bool, nodes: &[Node], from: &Flags, c: char, flags: &mut Flags)
     requires from { length from.now.all.items ≡ length nodes.now + 1 }
     requires len { length flags.old.all.items ≡ length nodes.now + 1 }
     ensures len { length flags.new.all.items ≡ length nodes.now + 1 }
-    ensures flagged { (q : ℕ) → IsFlagged flags.new.all.items q ↔ Reached (nodes_view nodes.now) (SteppedTo fold (nodes_view nodes.now) (IsFlagged from.now.all.items) c) q }
+    ensures flagged { (q : ℕ) → IsFlagged flags.new.all.items q
+        ↔ Reached (nodes_view nodes.now) (SteppedTo fold (nodes_view nodes.now) (IsFlagged from.now.all.items) c) q }
 {
     flags.clear();
     step(fold, nodes, from, c, flags);
@@ -183,8 +188,10 @@ pub fn matches_counted(
     text: &str,
 ) -> Result<(bool, u64), AllocError>
     requires on { AllLeadOn (nodes_view nodes.now) }
-    ensures matched { IfOk result (λ found. IsTrue found.0 ↔ Marked fold (nodes_view nodes.now) (chars text.now) (length (chars text.now)) (length nodes.now)) }
-    ensures count { IfOk result (λ found. (n : ℕ) × Count fold (nodes_view nodes.now) (chars text.now) (length (chars text.now)) n × (found.1 ≡ min n (2 ^ 64 - 1))) }
+    ensures matched { IfOk result (λ found. IsTrue found.0
+        ↔ Marked fold (nodes_view nodes.now) (chars text.now) (length (chars text.now)) (length nodes.now)) }
+    ensures count { IfOk result (λ found. (n : ℕ) × Count fold (nodes_view nodes.now) (chars text.now) (length (chars text.now)) n
+        × (found.1 ≡ min n (2 ^ 64 - 1))) }
 {
     let mut here = first_marks(alloc, nodes)?;
     let mut next = Flags::new(alloc, nodes.len() + 1)?;

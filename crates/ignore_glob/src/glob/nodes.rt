@@ -120,7 +120,8 @@ fn push_entries(
 #[cycle(compile)]
 #[tactic(auto, using(crate::proofs::Views::view_equations))]
 fn push_token(nodes: &mut Vec<Node>, token: &Token, next: usize) -> Result<(), AllocError>
-    ensures { IfOk result (λ _. nodes_view nodes.new.items ≡ nodes_view nodes.old.items ++ token_nodes (view token.now) (length nodes.old.items) next) }
+    ensures { IfOk result (λ _. nodes_view nodes.new.items
+        ≡ nodes_view nodes.old.items ++ token_nodes (view token.now) (length nodes.old.items) next) }
 {
     match token {
         Token::Literal(c) => push_one(nodes, Node::Literal(*c, next)),
@@ -170,7 +171,9 @@ fn push_braces(
     branches: &[Vec<Token>],
     next: usize,
 ) -> Result<(), AllocError>
-    ensures { IfOk result (λ _. nodes_view nodes.new.items ≡ nodes_view nodes.old.items ++ fork_at (fork (branches_view branches.now) (length nodes.old.items + 1) next) ∷ branches_nodes (branches_view branches.now) (length nodes.old.items + 1) next) }
+    ensures { IfOk result (λ _. nodes_view nodes.new.items
+        ≡ nodes_view nodes.old.items ++ fork_at (fork (branches_view branches.now) (length nodes.old.items + 1) next)
+        ∷ branches_nodes (branches_view branches.now) (length nodes.old.items + 1) next) }
 {
     let firsts = fork(*nodes.allocator(), branches, nodes.len() + 1, next)?;
     nodes.push(Node::Fork(firsts))?;
@@ -185,7 +188,8 @@ fn push_braces(
 /// Puts the nodes of tokens at the end, where `end` comes next.
 #[cycle(compile)]
 fn push_tokens(nodes: &mut Vec<Node>, tokens: &[Token], end: usize) -> Result<(), AllocError>
-    ensures { IfOk result (λ _. nodes_view nodes.new.items ≡ nodes_view nodes.old.items ++ tokens_nodes (tokens_view tokens.now) (length nodes.old.items) end) }
+    ensures { IfOk result (λ _. nodes_view nodes.new.items
+        ≡ nodes_view nodes.old.items ++ tokens_nodes (tokens_view tokens.now) (length nodes.old.items) end) }
 {
     let mut rest = tokens;
     while let Some((first, more)) = rest.split_first() {

@@ -3,6 +3,7 @@ ghost use Rattle.std.specs.Prelude.{◌≡◌, ◌-◌, ◌^◌, ◌↔◌, ℕ,
 ghost use Rattle.std.specs.Coded.{Coded-set, coded_list};
 ghost use Rattle.std.specs.Str.{chars};
 ghost use Rattle.ignore_glob.specs.Glob.{start, then, done};
+ghost use Rattle.ignore_glob.specs.Forms.{key_form, form_of};
 ghost use Rattle.ignore_glob.specs.Positions.{CountsMarks, positions};
 ghost use Rattle.ignore_glob.specs.NodeLists.{glob_nodes, node_code, nodes_view};
 ghost use Rattle.ignore_glob.specs.GlobFaults.{IfFault};
@@ -14,6 +15,7 @@ ghost use Rattle.ignore_glob.specs.View.{view, tokens_view};
 use crate::error::Error;
 use crate::glob::copies::copied;
 use crate::glob::fault::PatternError;
+use crate::glob::key::{Key, key_of};
 use crate::glob::marks;
 use crate::glob::node::Node;
 use crate::glob::nodes::nodes_of;
@@ -37,7 +39,8 @@ pub struct Pattern {
 }
 
 impl Model for Pattern {
-    ghost use Rattle.ignore_glob.specs.Reading.{Reading, reading_code};
+    ghost use Rattle.ignore_glob.specs.Reading.{Reading};
+    ghost use Rattle.ignore_glob.specs.Codes.{reading_code};
 
     ghost Value = { Reading };
 
@@ -107,7 +110,8 @@ impl Pattern {
     pub fn matches_counted(&self, text: &str) -> Result<(bool, u64), Error>
         ensures out_of_memory { IfErr result (λ e. problem_of e ≡ memory) }
         ensures value { IfOk result (λ found. IsTrue found.0 ↔ Matches self.now (chars text.now)) }
-        ensures counted { IfOk result (λ found. (n : ℕ) × CountsMarks self.now.case_insensitive self.now.tokens (chars text.now) n × (found.1 ≡ min n (2 ^ 64 - 1))) }
+        ensures counted { IfOk result (λ found. (n : ℕ) × CountsMarks self.now.case_insensitive self.now.tokens (chars text.now) n
+            × (found.1 ≡ min n (2 ^ 64 - 1))) }
     {
         let alloc = *self.nodes.allocator();
         match marks::matches_counted(alloc, self.case_insensitive, &self.nodes, text) {
@@ -133,6 +137,17 @@ impl Pattern {
             return true;
         }
         all_match(self.case_insensitive, &self.tokens, text)
+    }
+
+    /// For dependents: the text by which the pattern can be looked up, if it has a form for that.
+    pub fn key(&self) -> Result<Key, AllocError>
+        ensures { IfOk result (λ key. key_form key ≡ form_of self.now) }
+    {
+        if self.case_insensitive {
+            Ok(Key::Other)
+        } else {
+            key_of(*self.tokens.allocator(), &self.tokens)
+        }
     }
 }
 

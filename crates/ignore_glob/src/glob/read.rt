@@ -6,7 +6,8 @@ ghost use Rattle.ignore_glob.specs.Lexing.{comma, closing};
 ghost use Rattle.ignore_glob.specs.GlobFaults.{IfFault};
 ghost use Rattle.ignore_glob.specs.Row.{Row, Inner, Ends, Reads, IsFaulty, times, add_branch};
 ghost use Rattle.ignore_glob.specs.View.{view, tokens_view, branches_view};
-ghost use Rattle.ignore_glob.specs.LexemeViews.{row_view, left_view, simple_token_view, Balanced, put_tokens, put_branches};
+ghost use Rattle.ignore_glob.specs.LexemeViews.{row_view, left_view, simple_token_view};
+ghost use Rattle.ignore_glob.specs.ParserSteps.{Balanced, put_tokens, put_branches};
 
 use crate::glob::fault::PatternError;
 use crate::glob::lexeme::{Lexeme, lexemes};
@@ -41,7 +42,8 @@ fn push_times(
     n: usize,
     given: SimpleToken,
 ) -> Result<(), AllocError>
-    ensures { IfOk result (λ _. (ts : Tokens) → put_tokens tokens.new.items ts ≡ put_tokens tokens.old.items (times n (simple_token_view given.entry) ts)) }
+    ensures { IfOk result (λ _. (ts : Tokens) → put_tokens tokens.new.items ts
+        ≡ put_tokens tokens.old.items (times n (simple_token_view given.entry) ts)) }
 {
     for _i in 0..n {
         let token = token_of(alloc, given)?;
@@ -52,7 +54,8 @@ fn push_times(
 
 /// Appends a branch, unless it has no tokens.
 fn push_branch(branches: &mut Vec<Vec<Token>>, tokens: Vec<Token>) -> Result<(), AllocError>
-    ensures { IfOk result (λ _. (bs : Branches) → put_branches branches.new.items bs ≡ put_branches branches.old.items (add_branch (tokens_view tokens.items) bs)) }
+    ensures { IfOk result (λ _. (bs : Branches) → put_branches branches.new.items bs
+        ≡ put_branches branches.old.items (add_branch (tokens_view tokens.items) bs)) }
 {
     if !tokens.is_empty() {
         branches.push(tokens)?;

@@ -2,7 +2,7 @@
 ghost use Rattle.std.specs.Prelude.{◌≡◌, ◌↔◌, IsTrue};
 ghost use Rattle.std.specs.List.{list_all};
 ghost use Rattle.ignore_glob.specs.Paths.{components, is_proper, IsName, IsCleanPath, IsCleanRoot};
-ghost use Rattle.ignore_glob.specs.Roots.{IsWithoutEnd, rises, is_rooted};
+ghost use Rattle.ignore_glob.specs.RootSteps.{IsWithoutEnd, rises, is_rooted};
 
 use crate::text::prefix::{has_slash, trim_root, without_slash};
 

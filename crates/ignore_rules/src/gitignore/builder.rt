@@ -24,13 +24,18 @@ pub struct GitignoreBuilder {
 
 impl Model for GitignoreBuilder {
     ghost use Rattle.std.specs.Prelude.{string_bytes};
-    ghost use Rattle.ignore_rules.specs.Rules.{Building, building_code};
+    ghost use Rattle.ignore_rules.specs.Rules.{Building};
+    ghost use Rattle.ignore_rules.specs.RuleCodes.{building_code};
 
     ghost Value = { Building };
 
     ghost coded = { building_code };
 
-    ghost view = { λ b. record { root = string_bytes b.root; rules = b.globs.items; options = record { glob = b.options; git_trailing_spaces = b.git_trailing_spaces } } };
+    ghost view = { λ b. record {
+      root = string_bytes b.root;
+      rules = b.globs.items;
+      options = record { glob = b.options; git_trailing_spaces = b.git_trailing_spaces };
+    } };
 }
 
 impl GitignoreBuilder {

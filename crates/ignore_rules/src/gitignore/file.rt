@@ -43,8 +43,10 @@ impl GitignoreBuilder {
     /// # Errors
     /// `Error::Memory` alone, and then the builder is as before.
     pub fn add<F: Files>(&mut self, files: &F, path: &str) -> Result<Option<Error>, Error>
-        ensures added { (tree : Tree) → IsHonest F.Files files.now tree → IfOk result (λ problem. AddsFile tree path.now self.old self.new (option_map problem_of problem)) }
-        ensures answered { IfOk result (λ problem. (answer : Result Contents Refusal) × F.contents_gives files.now path.now answer × AddsAnswer path.now answer self.old self.new (option_map problem_of problem)) }
+        ensures added { (tree : Tree) → IsHonest F.Files files.now tree
+            → IfOk result (λ problem. AddsFile tree path.now self.old self.new (option_map problem_of problem)) }
+        ensures answered { IfOk result (λ problem. (answer : Result Contents Refusal) × F.contents_gives files.now path.now answer
+            × AddsAnswer path.now answer self.old self.new (option_map problem_of problem)) }
         ensures out_of_memory { IfErr result (λ e. problem_of e ≡ memory) }
         ensures unchanged { OnErr result (self.new ≡ self.old) }
     {
@@ -79,7 +81,8 @@ impl GitignoreBuilder {
         bytes: &[u8],
         fault: Option<Fault>,
     ) -> Result<Vec<Error>, AllocError>
-        ensures added { IfOk result (λ problems. AddsLines path.now 1 (lines_read bytes.now fault) self.old self.new (map problem_of problems.items)) }
+        ensures added { IfOk result (λ problems. AddsLines path.now 1 (lines_read bytes.now fault) self.old self.new
+            (map problem_of problems.items)) }
         ensures kept { Keeps self.old self.new }
     {
         let mut problems = Vec::new(self.allocator());
@@ -110,7 +113,8 @@ impl GitignoreBuilder {
         line: &str,
         problems: &mut Vec<Error>,
     ) -> Result<(), AllocError>
-        ensures added_or_reported { OnOk result (AddsOrReports path.now number line.now self.old self.new (map problem_of problems.old.items) (map problem_of problems.new.items)) }
+        ensures added_or_reported { OnOk result (AddsOrReports path.now number line.now self.old self.new
+            (map problem_of problems.old.items) (map problem_of problems.new.items)) }
         ensures kept { Keeps self.old self.new }
     {
         match self.push_line_of(path, line_content(number, line)) {

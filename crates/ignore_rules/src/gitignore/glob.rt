@@ -28,13 +28,21 @@ pub struct Glob {
 
 impl Model for Glob {
     ghost use Rattle.std.specs.Prelude.{option_map, string_bytes};
-    ghost use Rattle.ignore_rules.specs.Rules.{Rule, rule_code};
+    ghost use Rattle.ignore_rules.specs.Rules.{Rule};
+    ghost use Rattle.ignore_rules.specs.RuleCodes.{rule_code};
 
     ghost Value = { Rule };
 
     ghost coded = { rule_code };
 
-    ghost view = { λ g. record { from = option_map string_bytes g.from; original = string_bytes g.original; actual = string_bytes g.actual; is_whitelist = g.is_whitelist; is_only_dir = g.is_only_dir; reading = g.pattern } };
+    ghost view = { λ g. record {
+      from = option_map string_bytes g.from;
+      original = string_bytes g.original;
+      actual = string_bytes g.actual;
+      is_whitelist = g.is_whitelist;
+      is_only_dir = g.is_only_dir;
+      reading = g.pattern;
+    } };
 }
 
 impl Glob {

@@ -30,7 +30,8 @@ impl GitignoreBuilder {
         files: &F,
         env: &Env,
     ) -> Result<(Gitignore, Option<Error>), Error>
-        ensures read { (tree : Tree) → IsHonest F.Files files.now tree → IfOk result (λ r. BuildsGlobal tree env.now self r.0 (option_map problem_of r.1)) }
+        ensures read { (tree : Tree) → IsHonest F.Files files.now tree
+            → IfOk result (λ r. BuildsGlobal tree env.now self r.0 (option_map problem_of r.1)) }
         ensures answered { IfOk result (λ r. BuildsAnyAnswer (F.contents_gives files.now) self r.0 (option_map problem_of r.1)) }
         ensures out_of_memory { IfErr result (λ e. problem_of e ≡ memory) }
     {
@@ -54,9 +55,12 @@ impl Gitignore {
         files: &F,
         env: &Env,
     ) -> Result<(Gitignore, Option<Error>), Error>
-        ensures read { (tree : Tree) → IsHonest F.Files files.now tree → IfOk result (λ r. IsGlobalMatcher tree env.now r.0 (option_map problem_of r.1)) }
-        ensures answered { (dir : List ℕ) → env.now.current_dir ≡ Some dir → IfOk result (λ r. BuildsAnyAnswer (F.contents_gives files.now) (begun dir) r.0 (option_map problem_of r.1)) }
-        ensures unknown { env.now.current_dir ≡ None → IsOkAnd result (λ r. (r.0 ≡ empty) × (option_map problem_of r.1 ≡ Some (io NoCurrentDir))) }
+        ensures read { (tree : Tree) → IsHonest F.Files files.now tree
+            → IfOk result (λ r. IsGlobalMatcher tree env.now r.0 (option_map problem_of r.1)) }
+        ensures answered { (dir : List ℕ) → env.now.current_dir ≡ Some dir
+            → IfOk result (λ r. BuildsAnyAnswer (F.contents_gives files.now) (begun dir) r.0 (option_map problem_of r.1)) }
+        ensures unknown { env.now.current_dir ≡ None
+            → IsOkAnd result (λ r. (r.0 ≡ empty) × (option_map problem_of r.1 ≡ Some (io NoCurrentDir))) }
         ensures out_of_memory { IfErr result (λ e. problem_of e ≡ memory) }
     {
         match &env.current_dir {
@@ -74,7 +78,9 @@ impl Gitignore {
 
 /// The path of the global file, if a file is there.
 fn global_file<F: Files>(alloc: Global, files: &F, env: &Env) -> Result<Option<String>, Error>
-    ensures found { (tree : Tree) → IsHonest F.Files files.now tree → IfOk result (λ path. (found : Option (List ℕ)) × IsExcludesPath tree env.now found × (option_map string_bytes path ≡ global_file tree found)) }
+    ensures found { (tree : Tree) → IsHonest F.Files files.now tree
+        → IfOk result (λ path. (found : Option (List ℕ)) × IsExcludesPath tree env.now found
+        × (option_map string_bytes path ≡ global_file tree found)) }
     ensures out_of_memory { IfErr result (λ e. problem_of e ≡ memory) }
 {
     match gitconfig_excludes_path(alloc, files, env)? {

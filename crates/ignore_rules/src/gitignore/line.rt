@@ -26,7 +26,12 @@ impl Model for ParsedLine {
 
     ghost Value = { Says };
 
-    ghost view = { λ w. record { original = string_bytes w.original; actual = string_bytes w.actual; is_whitelist = w.is_whitelist; is_only_dir = w.is_only_dir } };
+    ghost view = { λ w. record {
+      original = string_bytes w.original;
+      actual = string_bytes w.actual;
+      is_whitelist = w.is_whitelist;
+      is_only_dir = w.is_only_dir;
+    } };
 }
 
 impl ParsedLine {

@@ -21,7 +21,8 @@ pub struct Gitignore {
 
 impl Model for Gitignore {
     ghost use Rattle.std.specs.Prelude.{string_bytes};
-    ghost use Rattle.ignore_rules.specs.Rules.{Ruleset, ruleset_code};
+    ghost use Rattle.ignore_rules.specs.Rules.{Ruleset};
+    ghost use Rattle.ignore_rules.specs.RuleCodes.{ruleset_code};
 
     ghost Value = { Ruleset };
 

@@ -31,8 +31,10 @@ impl Gitignore {
         files: &F,
         path: &str,
     ) -> Result<(Gitignore, Option<Error>), Error>
-        ensures read { (tree : Tree) → IsHonest F.Files files.now tree → IfOk result (λ r. IsMatcherOf tree path.now r.0 (option_map problem_of r.1)) }
-        ensures answered { IfOk result (λ r. (answer : Result Contents Refusal) × F.contents_gives files.now path.now answer × BuildsAnswer path.now answer (begun (folder_of path.now)) r.0 (option_map problem_of r.1)) }
+        ensures read { (tree : Tree) → IsHonest F.Files files.now tree
+            → IfOk result (λ r. IsMatcherOf tree path.now r.0 (option_map problem_of r.1)) }
+        ensures answered { IfOk result (λ r. (answer : Result Contents Refusal) × F.contents_gives files.now path.now answer
+            × BuildsAnswer path.now answer (begun (folder_of path.now)) r.0 (option_map problem_of r.1)) }
         ensures out_of_memory { IfErr result (λ e. problem_of e ≡ memory) }
     {
         let builder = GitignoreBuilder::new(alloc, folder_of(path))?;
@@ -47,8 +49,10 @@ impl GitignoreBuilder {
         files: &F,
         path: &str,
     ) -> Result<(Gitignore, Option<Error>), Error>
-        ensures read { (tree : Tree) → IsHonest F.Files files.now tree → IfOk result (λ r. BuildsFile tree path.now self r.0 (option_map problem_of r.1)) }
-        ensures answered { IfOk result (λ r. (answer : Result Contents Refusal) × F.contents_gives files.now path.now answer × BuildsAnswer path.now answer self r.0 (option_map problem_of r.1)) }
+        ensures read { (tree : Tree) → IsHonest F.Files files.now tree
+            → IfOk result (λ r. BuildsFile tree path.now self r.0 (option_map problem_of r.1)) }
+        ensures answered { IfOk result (λ r. (answer : Result Contents Refusal) × F.contents_gives files.now path.now answer
+            × BuildsAnswer path.now answer self r.0 (option_map problem_of r.1)) }
         ensures out_of_memory { IfErr result (λ e. problem_of e ≡ memory) }
     {
         let error = self.add(files, path)?;

@@ -22,7 +22,8 @@ pub(super) struct ChosenType {
 }
 
 impl Model for ChosenType {
-    ghost use Rattle.ignore_types.specs.TypeMatch.{Chosen, chosen_code};
+    ghost use Rattle.ignore_types.specs.TypeMatch.{Chosen};
+    ghost use Rattle.ignore_types.specs.TypeCodes.{chosen_code};
 
     ghost Value = { Chosen };
 
@@ -113,7 +114,8 @@ pub(super) fn some_selected(choices: &[ChosenType]) -> bool
 /// The parsed globs of a type, or the error of the first invalid one.
 pub(super) fn read_globs(alloc: Global, globs: &[String]) -> Result<Vec<Pattern>, Error>
     ensures read { IfOk result (λ all. AllZip IsReadAs (map string_bytes globs.now) all.items) }
-    ensures refused { IfErr result (λ e. (problem_of e ≡ memory) ⊎ FirstBad IsReadAs (IsGlobProblem (problem_of e)) (map string_bytes globs.now)) }
+    ensures refused { IfErr result (λ e. (problem_of e ≡ memory)
+        ⊎ FirstBad IsReadAs (IsGlobProblem (problem_of e)) (map string_bytes globs.now)) }
 {
     let mut all = Vec::new(alloc);
     for glob in globs {

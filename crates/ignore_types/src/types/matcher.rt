@@ -60,7 +60,8 @@ pub struct Types {
 }
 
 impl Model for Types {
-    ghost use Rattle.ignore_types.specs.TypeMatch.{Matcher, matcher_code};
+    ghost use Rattle.ignore_types.specs.TypeMatch.{Matcher};
+    ghost use Rattle.ignore_types.specs.TypeCodes.{matcher_code};
 
     ghost Value = { Matcher };
 

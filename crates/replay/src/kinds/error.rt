@@ -46,7 +46,7 @@ fn copied_shape(alloc: Global, error: &Error) -> Result<Value, AllocError> {
     }
 }
 
-/// A clone of an error, asked for twice where memory is refused.
+/// A clone of an error, retried once where it is out of memory.
 fn copy(error: &Error) -> Result<Error, AllocError> {
     match error.clone() {
         Ok(copy) => Ok(copy),

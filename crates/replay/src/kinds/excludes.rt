@@ -1,10 +1,12 @@
 //! The value of a configuration: the path of its excludes file.
 
+use crate::again::but_for_memory;
 use crate::answer::Answer;
-use crate::environment::{excludes_path, name_of, variable};
+use crate::environment::{name_of, variable};
 use crate::hex_digits::bytes_of;
 use crate::tree_calls::{add_file, empty_tree, unrefused};
 use ignore_files::{Env, MemoryTree, Name};
+use ignore_rules::gitignore::gitconfig_excludes_path;
 use serde_json::Value;
 use std::alloc::{AllocError, Global};
 use vectors::{Outcome, Trouble, text};
@@ -18,8 +20,12 @@ const BYTES: &str = "hex";
 /// Answers `value`: the path that the configuration names, with `home` in it, or `null`.
 pub fn answer(alloc: Global, input: &Value) -> Result<Outcome, Trouble> {
     let tree = tree_of(alloc, input)?;
+    asked(alloc, input, &tree)
+}
+
+fn asked(alloc: Global, input: &Value, tree: &MemoryTree) -> Result<Outcome, Trouble> {
     let home = variable(alloc, input, "home")?;
-    let value = value_of(alloc, &tree, home)?;
+    let value = value_of(alloc, tree, home)?;
     let mut answer = Answer::new(alloc);
     answer.put_text_or_null("value", value.as_deref());
     answer.outcome()
@@ -37,7 +43,8 @@ fn tree_with(alloc: Global, bytes: &[u8]) -> Result<MemoryTree, Trouble> {
     Ok(tree)
 }
 
-/// The path that the configuration names. Without `home` there is nothing else that could be named, so this tells whether it names any.
+/// The path that the configuration names. Without `home` there is nothing else that could be named,
+/// so this shows whether it names any.
 fn value_of(
     alloc: Global,
     tree: &MemoryTree,
@@ -55,7 +62,7 @@ fn value_at(
     home: Option<Name>,
 ) -> Result<Option<String>, Trouble> {
     let env = configured(alloc, home)?;
-    excludes_path(alloc, tree, &env)
+    but_for_memory(gitconfig_excludes_path(alloc, tree, &env))
 }
 
 /// The environment that names the configuration, and maybe `home`.

@@ -1,7 +1,8 @@
-//! Whether a glob is read, and takes a text.
+//! Whether a glob is valid, and matches a text.
 
 use crate::again::but_for_memory;
 use crate::answer::Answer;
+use crate::clones;
 use crate::splits::needs_too_many;
 use ignore_glob::glob::{GlobFault, Options, Pattern, PatternError};
 use serde_json::Value;
@@ -17,7 +18,7 @@ pub fn answer(alloc: Global, input: &Value) -> Result<Outcome, Trouble> {
         Err(PatternError::Fault(fault)) => reported_fault(alloc, fault),
         Err(PatternError::Memory) => Err(Trouble::Memory),
         Ok(_) if needs_too_many(glob, asked) => Ok(Outcome::Skipped(Reason::TooManySplits)),
-        Ok(pattern) => reported_taken(alloc, &pattern, asked),
+        Ok(pattern) => reported_taken(alloc, &clones::asked(input, pattern)?, asked),
     }
 }
 
@@ -28,7 +29,7 @@ fn options(input: &Value) -> Result<Options, Trouble> {
     })
 }
 
-/// Reads a glob, twice where memory is refused.
+/// Parses a glob, and again where it is out of memory.
 fn parse(alloc: Global, glob: &str, options: Options) -> Result<Pattern, PatternError> {
     match Pattern::parse(alloc, glob, options) {
         Err(PatternError::Memory) => Pattern::parse(alloc, glob, options),
@@ -50,7 +51,7 @@ fn reported_taken(alloc: Global, pattern: &Pattern, asked: &str) -> Result<Outco
     answer.outcome()
 }
 
-/// Whether a pattern takes a text, asked twice where memory is refused.
+/// Whether a pattern matches a text, retried once where it is out of memory.
 fn takes(pattern: &Pattern, asked: &str) -> Result<bool, Trouble> {
     match pattern.matches(asked) {
         Ok(taken) => Ok(taken),

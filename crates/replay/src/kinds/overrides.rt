@@ -2,6 +2,7 @@
 
 use crate::again::{but_for_memory, problem};
 use crate::answer::{Answer, Items};
+use crate::clones;
 use crate::rules::refusal;
 use crate::splits::needs_too_many;
 use ignore_glob::{Error, Match};
@@ -21,17 +22,18 @@ pub fn answer(alloc: Global, input: &Value) -> Result<Outcome, Trouble> {
     if collected.needs_too_many {
         return Ok(Outcome::Skipped(Reason::TooManySplits));
     }
-    asked(alloc, path, is_dir, collected)
+    asked(alloc, input, path, is_dir, collected)
 }
 
 fn asked(
     alloc: Global,
+    input: &Value,
     path: &str,
     is_dir: bool,
     collected: Collected,
 ) -> Result<Outcome, Trouble> {
-    let globs = build(&collected.builder)?;
-    let kind = kind(&globs, path, is_dir)?;
+    let globs = globs_of(input, collected.builder)?;
+    let kind = kind(input, &globs, path, is_dir)?;
     let mut answer = Answer::new(alloc);
     answer.put_text("kind", kind);
     answer.put("refused", collected.refused.value());
@@ -39,7 +41,8 @@ fn asked(
     answer.outcome()
 }
 
-/// A builder after a vector's operations, what it refused, and whether one of its globs may need too many splits.
+/// A builder after a vector's operations, the errors, and whether one of its globs may need too
+/// many cuts.
 #[derive(Drop)]
 struct Collected {
     builder: OverrideBuilder,
@@ -54,7 +57,7 @@ fn put_readers(answer: &mut Answer, globs: &Override) {
     answer.put_number("num_whitelists", globs.num_whitelists());
 }
 
-/// A builder, asked for twice where memory is refused.
+/// A builder, retried once where it is out of memory.
 fn builder(alloc: Global, root: &str) -> Result<OverrideBuilder, Trouble> {
     match OverrideBuilder::new(alloc, root) {
         Ok(builder) => Ok(builder),
@@ -90,7 +93,7 @@ fn apply_all(
     Ok(())
 }
 
-/// Whether an operation adds a glob that may need too many splits of a path.
+/// Whether an operation adds a glob that may need too many cuts of a path.
 fn is_too_much(op: &Value, path: &str) -> Result<bool, Trouble> {
     if text_at(op, 0, OPS)? != "line" {
         return Ok(false);
@@ -122,7 +125,7 @@ fn set_case_insensitive(
     }
 }
 
-/// Adds a glob, twice where memory is refused.
+/// Adds a glob, and again where it is out of memory.
 fn add(builder: &mut OverrideBuilder, glob: &str) -> Result<Option<Error>, Trouble> {
     match add_once(builder, glob) {
         Err(_) => add_once(builder, glob),
@@ -137,7 +140,7 @@ fn add_once(builder: &mut OverrideBuilder, glob: &str) -> Result<Option<Error>, 
     }
 }
 
-/// The globs of a builder, asked for twice where memory is refused.
+/// The globs of a builder, retried once where it is out of memory.
 fn build(builder: &OverrideBuilder) -> Result<Override, Trouble> {
     match builder.build() {
         Ok(globs) => Ok(globs),
@@ -145,19 +148,28 @@ fn build(builder: &OverrideBuilder) -> Result<Override, Trouble> {
     }
 }
 
-/// What globs say of a path, asked twice where memory is refused.
-fn kind(globs: &Override, path: &str, is_dir: bool) -> Result<&'static str, Trouble> {
-    match kind_once(globs, path, is_dir) {
-        Err(_) => kind_once(globs, path, is_dir),
-        kind => kind,
-    }
+/// The globs that are asked.
+fn globs_of(input: &Value, builder: OverrideBuilder) -> Result<Override, Trouble> {
+    let builder = clones::asked(input, builder)?;
+    built(input, &builder)
 }
 
-fn kind_once(globs: &Override, path: &str, is_dir: bool) -> Result<&'static str, Trouble> {
-    match globs.matched(path, is_dir) {
-        Ok(Match::None) => Ok("none"),
-        Ok(Match::Ignore(_)) => Ok("ignore"),
-        Ok(Match::Whitelist(_)) => Ok("whitelist"),
-        Err(_) => Err(Trouble::Memory),
+fn built(input: &Value, builder: &OverrideBuilder) -> Result<Override, Trouble> {
+    let globs = build(builder)?;
+    clones::asked(input, globs)
+}
+
+/// The answer of globs for a path.
+fn kind(
+    input: &Value,
+    globs: &Override,
+    path: &str,
+    is_dir: bool,
+) -> Result<&'static str, Trouble> {
+    let said = but_for_memory(globs.matched(path, is_dir))?;
+    match clones::asked(input, said)? {
+        Match::None => Ok("none"),
+        Match::Ignore(_) => Ok("ignore"),
+        Match::Whitelist(_) => Ok("whitelist"),
     }
 }

@@ -1,8 +1,7 @@
 //! What the lines of gitignore files say of a path or of the nearest of its parents.
 
-use crate::again::build;
 use crate::answer::Answer;
-use crate::rules::{after_operations, match_value, reason_against};
+use crate::rules::{after_operations, match_value, matcher_of, reason_against};
 use ignore_glob::Match;
 use ignore_rules::gitignore::{Gitignore, Glob};
 use serde_json::Value;
@@ -14,7 +13,7 @@ pub fn answer(alloc: Global, input: &Value) -> Result<Outcome, Trouble> {
     let path = text(input, "path")?;
     let is_dir = flag(input, "is_dir")?;
     let built = after_operations(alloc, input)?;
-    let matcher = build(&built.builder)?;
+    let matcher = matcher_of(input, built.builder)?;
     match reason_against(&matcher, path) {
         Some(reason) => Ok(Outcome::Skipped(reason)),
         None => asked(alloc, path, is_dir, &matcher),
@@ -29,7 +28,7 @@ fn asked(alloc: Global, path: &str, is_dir: bool, matcher: &Gitignore) -> Result
     answer.outcome()
 }
 
-/// What a matcher said, or `null` where the path can't be asked about.
+/// The answer of a matcher, or `null` where the path can't be matched so.
 fn said_value(
     alloc: Global,
     matcher: &Gitignore,
@@ -41,7 +40,8 @@ fn said_value(
     }
 }
 
-/// What a matcher says of a path or its nearest parent, asked twice where memory is refused; nothing where the path can't be asked about.
+/// The answer of a matcher for a path or its nearest parent, retried once where it is out of
+/// memory; nothing where the path can't be matched so.
 fn nearest<'g>(
     matcher: &'g Gitignore,
     path: &str,

@@ -1,10 +1,11 @@
-//! The rules of a file, and what is told of it.
+//! The rules of a file, and its errors.
 
-use crate::again::{build, builder, but_for_memory};
+use crate::again::{build, but_for_memory};
 use crate::answer::Answer;
 use crate::error::{fault_of, reported_or_null};
 use crate::hex_digits::bytes_of;
-use crate::rules::rules_value;
+use crate::refusing::Refusing;
+use crate::rules::{builder_of_lines, rules_value};
 use crate::tree_calls::{add_dir, add_file, empty_tree, unrefused};
 use ignore_files::MemoryTree;
 use ignore_glob::Error;
@@ -19,30 +20,31 @@ const ROOT: &str = "/r";
 /// The name of the field that holds the bytes of the file, or `null` where no file is there.
 const BYTES: &str = "hex";
 
-/// The name of the field that holds how many bytes are read, and the fault behind them.
+/// The name of the field with how many bytes are read, and the fault after them.
 const CUT: &str = "cut";
 
-/// Answers `rules`, and the `error` of `add` with what it says of itself.
+/// Answers `rules`, and the `error` of `add` with what it says of itself. Where there are lines,
+/// they stand before the rules of the file.
 pub fn answer(alloc: Global, input: &Value) -> Result<Outcome, Trouble> {
     let path = text(input, "path")?;
     let tree = tree_of(alloc, path, input)?;
     let mut builder = builder_of_options(alloc, input)?;
-    asked(alloc, &tree, path, &mut builder)
+    asked(alloc, &Refusing::of(&tree, input)?, path, &mut builder)
 }
 
 fn asked(
     alloc: Global,
-    tree: &MemoryTree,
+    files: &Refusing<'_>,
     path: &str,
     builder: &mut GitignoreBuilder,
 ) -> Result<Outcome, Trouble> {
-    let error = added(builder, tree, path)?;
+    let error = added(builder, files, path)?;
     reported(alloc, builder, &error)
 }
 
-/// A builder with the options of a vector.
+/// A builder with the lines and then the options of a vector.
 fn builder_of_options(alloc: Global, input: &Value) -> Result<GitignoreBuilder, Trouble> {
-    let mut builder = builder(alloc, ROOT)?;
+    let mut builder = builder_of_lines(alloc, input)?;
     set_case(&mut builder, flag(input, "ci")?)?;
     builder.git_trailing_spaces(flag(input, "gts")?);
     Ok(builder)
@@ -83,16 +85,25 @@ fn set_case(builder: &mut GitignoreBuilder, yes: bool) -> Result<(), Trouble> {
     }
 }
 
-/// Adds a file to a builder, and again where memory is refused.
+/// Adds a file to a builder, and again where it is out of memory, but not where the files are.
 fn added(
     builder: &mut GitignoreBuilder,
-    tree: &MemoryTree,
+    files: &Refusing<'_>,
     path: &str,
 ) -> Result<Option<Error>, Trouble> {
-    match builder.add(tree, path) {
+    match builder.add(files, path) {
         Ok(error) => Ok(error),
-        Err(_) => but_for_memory(builder.add(tree, path)),
+        Err(error) if files.refused_memory() => Ok(Some(error)),
+        Err(_) => added_again(builder, files, path),
     }
+}
+
+fn added_again(
+    builder: &mut GitignoreBuilder,
+    files: &Refusing<'_>,
+    path: &str,
+) -> Result<Option<Error>, Trouble> {
+    but_for_memory(builder.add(files, path))
 }
 
 /// The tree with the directory and the file, if there is one.

@@ -1,8 +1,8 @@
 //! What the lines of gitignore files say of a path, and all that can be read of their matcher.
 
-use crate::again::{build, matched};
+use crate::again::matched;
 use crate::answer::{Answer, Items};
-use crate::rules::{after_operations, match_value, reason_against, rules_value};
+use crate::rules::{after_operations, match_value, matcher_of, reason_against, rules_value};
 use ignore_rules::gitignore::Gitignore;
 use serde_json::Value;
 use std::alloc::Global;
@@ -13,7 +13,7 @@ pub fn answer(alloc: Global, input: &Value) -> Result<Outcome, Trouble> {
     let path = text(input, "path")?;
     let is_dir = flag(input, "is_dir")?;
     let built = after_operations(alloc, input)?;
-    let matcher = build(&built.builder)?;
+    let matcher = matcher_of(input, built.builder)?;
     match reason_against(&matcher, path) {
         Some(reason) => Ok(Outcome::Skipped(reason)),
         None => asked(alloc, path, is_dir, &matcher, built.refused),

@@ -36,7 +36,7 @@ fn put_stripped(answer: &mut Answer, root: &str, path: &str) {
     answer.put_text_or_null("strip_prefix", paths::strip_prefix(root, path));
 }
 
-/// A path joined to a root, asked for twice where memory is refused.
+/// A path joined to a root, retried once where it is out of memory.
 fn join(alloc: Global, root: &str, path: &str) -> Result<String, Trouble> {
     match paths::join(alloc, root, path) {
         Ok(joined) => Ok(joined),

@@ -140,7 +140,7 @@ fn asked_identity(
     }
 }
 
-/// The fault that a refusal tells.
+/// The fault of an error.
 fn refused(alloc: Global, refusal: Refusal) -> Result<Value, Trouble> {
     match refusal {
         Refusal::Fault(fault) => but_for_memory(alone(alloc, "fault", fault_value(alloc, fault))),

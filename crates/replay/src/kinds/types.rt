@@ -2,6 +2,7 @@
 
 use crate::again::{but_for_memory, problem};
 use crate::answer::{Answer, Items};
+use crate::clones::asked;
 use crate::error::reported;
 use crate::rules::refusal;
 use ignore_glob::{Error, Match};
@@ -13,14 +14,15 @@ use vectors::{Outcome, Trouble, flag_at, list, text_at};
 /// The name of the field that holds the operations.
 const OPS: &str = "ops";
 
-/// The name of the field that holds the paths that are asked about.
+/// The name of the field with the paths that are matched.
 const ASKS: &str = "asks";
 
-/// Answers `refused`, `definitions`, `build` (its error), and then `len` and `answers`, which is `null` where nothing is built.
+/// Answers `refused`, `definitions`, `build` (its error), and then `len` and `answers`, which is
+/// `null` where nothing is built.
 pub fn answer(alloc: Global, input: &Value) -> Result<Outcome, Trouble> {
     let mut builder = TypesBuilder::new(alloc);
     let refused = refusals(alloc, &mut builder, input)?;
-    let definitions = definitions(&builder)?;
+    let definitions = asked(input, definitions(&builder)?)?;
     let built = build(&builder)?;
     reported_built(alloc, input, refused, &definitions, built)
 }
@@ -36,7 +38,9 @@ fn reported_built(
     answer.put("refused", refused.value());
     answer.put("definitions", definitions_value(alloc, definitions));
     match built {
-        Built::Types(types) => reported_types(alloc, input, answer, definitions, &types),
+        Built::Types(types) => {
+            reported_types(alloc, input, answer, definitions, &asked(input, types)?)
+        }
         Built::Refused(error) => reported_refused(alloc, answer, error),
     }
 }
@@ -63,7 +67,8 @@ fn reported_types(
     answer.outcome()
 }
 
-/// The definitions of the matcher are a field of their own, which isn't wanted, where they aren't those of the builder.
+/// The definitions of the matcher are a field of their own, which isn't wanted, where they aren't
+/// those of the builder.
 fn put_other_definitions(
     answer: &mut Answer,
     alloc: Global,
@@ -95,7 +100,7 @@ fn refusals(alloc: Global, builder: &mut TypesBuilder, input: &Value) -> Result<
     Ok(refused)
 }
 
-/// Does an operation, twice where memory is refused; the answer is what is wrong with it.
+/// Does an operation, and again where it is out of memory; returns its error.
 fn apply(builder: &mut TypesBuilder, op: &Value) -> Result<Option<Error>, Trouble> {
     match apply_once(builder, op) {
         Err(Trouble::Memory) => apply_once(builder, op),
@@ -158,7 +163,7 @@ fn negate(builder: &mut TypesBuilder, name: &str) -> Result<Option<Error>, Troub
     }
 }
 
-/// The definitions of a builder, asked for twice where memory is refused.
+/// The definitions of a builder, retried once where it is out of memory.
 fn definitions(builder: &TypesBuilder) -> Result<Vec<FileTypeDef>, Trouble> {
     match builder.definitions() {
         Ok(definitions) => Ok(definitions),
@@ -166,7 +171,7 @@ fn definitions(builder: &TypesBuilder) -> Result<Vec<FileTypeDef>, Trouble> {
     }
 }
 
-/// The matcher of a builder, asked for twice where memory is refused.
+/// The matcher of a builder, retried once where it is out of memory.
 fn build(builder: &TypesBuilder) -> Result<Built, Trouble> {
     match build_once(builder) {
         Err(_) => build_once(builder),
@@ -206,27 +211,21 @@ fn globs_value(alloc: Global, globs: &[String]) -> Result<Value, AllocError> {
     values.value()
 }
 
-/// What the types say of each path that is asked about.
+/// The answer of the types for each path.
 fn answers(alloc: Global, input: &Value, types: &Types) -> Result<Items, Trouble> {
     let mut answers = Items::new(alloc);
     for ask in list(input, ASKS)? {
-        answers.put_value(answered(alloc, ask, types)?);
+        let answer = answered(alloc, input, types, ask)?;
+        answers.put_value(answer);
     }
     Ok(answers)
 }
 
 /// What the types say of a path.
-fn answered(alloc: Global, ask: &Value, types: &Types) -> Result<Value, Trouble> {
-    let said = matched(types, text_at(ask, 0, ASKS)?, flag_at(ask, 1, ASKS)?)?;
-    but_for_memory(match_value(alloc, said))
-}
-
-/// What types say of a path, asked twice where memory is refused.
-fn matched<'t>(types: &'t Types, path: &str, is_dir: bool) -> Result<Match<Glob<'t>>, Trouble> {
-    match types.matched(path, is_dir) {
-        Ok(said) => Ok(said),
-        Err(_error) => but_for_memory(types.matched(path, is_dir)),
-    }
+fn answered(alloc: Global, input: &Value, types: &Types, ask: &Value) -> Result<Value, Trouble> {
+    let said = but_for_memory(types.matched(text_at(ask, 0, ASKS)?, flag_at(ask, 1, ASKS)?))?;
+    let said = asked(input, said)?;
+    Ok(match_value(alloc, said)?)
 }
 
 /// The kind of a match, and the type that decided or `null`.

@@ -14,7 +14,8 @@ returns-then-is_empty c =
 pub returns-then-eq : goal.returns-then-eq
 returns-then-eq c =
     let some : c.args.path.now ≢ [] = λ e. both_ways _ c.if-is_empty.false (c.is_empty.ensures ∙ eq-eqb _ 0 (ap length e)) in
-    sym (file_name_of-some c.args.path.now some ∙ ap name_in (sym c.last_component-name.ensures) ∙ name_in-none c.last_component-name.result.now (elim c.then-eq.branch [
+    sym (file_name_of-some c.args.path.now some ∙ ap name_in (sym c.last_component-name.ensures)
+    ∙ name_in-none c.last_component-name.result.now (elim c.then-eq.branch [
       | then-eq-via-then-eq w ↦ inl (sym c.eq.ensures ∙ w.if-eq.true)
       | then-eq-via-else-eq+then-eq-2 w ↦ inr (sym w.eq-else-eq.ensures ∙ w.if-eq-2.true)
     ]))
@@ -22,4 +23,5 @@ returns-then-eq c =
 pub returns : goal.returns
 returns c =
     let some : c.args.path.now ≢ [] = λ e. both_ways _ c.if-is_empty.false (c.is_empty.ensures ∙ eq-eqb _ 0 (ap length e)) in
-    sym (file_name_of-some c.args.path.now some ∙ ap name_in (sym c.last_component-name.ensures) ∙ name_in-some c.last_component-name.result.now (sym c.eq.ensures ∙ c.if-eq.false) (sym c.eq-else-eq.ensures ∙ c.if-eq-2.false))
+    sym (file_name_of-some c.args.path.now some ∙ ap name_in (sym c.last_component-name.ensures)
+    ∙ name_in-some c.last_component-name.result.now (sym c.eq.ensures ∙ c.if-eq.false) (sym c.eq-else-eq.ensures ∙ c.if-eq-2.false))

@@ -15,7 +15,8 @@ pub returns-in-Some : goal.returns-in-Some
 returns-in-Some c =
     let found = c.in-Some.ensures in
     let path = c.as_bytes.result.now in
-    c.range_from.ensures.value ∙ rw (← c.as_bytes.ensures.value) (sym (last_component-last path c.in-Some.slash found.0.high found.1 found.0.after))
+    c.range_from.ensures.value ∙ rw (← c.as_bytes.ensures.value)
+    (sym (last_component-last path c.in-Some.slash found.0.high found.1 found.0.after))
 
 pub returns-in-None : goal.returns-in-None
 returns-in-None c =

@@ -7,7 +7,8 @@ use Rattle.vectors.proofs.run.replay.Given as goal
 
 abbrev pub invariant-loop-rest : goal.invariant-loop-rest
 invariant-loop-rest g l =
-    (c : Counts) → CountsLines (g.K.Kinds.gives l.kinds) (g.K.Kinds.waits l.kinds) (lines_left (option_map (λ (r : Bor (List ℕ)). r.now) l.rest)) l.tally c
+    (c : Counts) → CountsLines (g.K.Kinds.gives l.kinds) (g.K.Kinds.waits l.kinds)
+    (lines_left (option_map (λ (r : Bor (List ℕ)). r.now) l.rest)) l.tally c
     → CountsLines (g.K.Kinds.gives l.kinds) (g.K.Kinds.waits l.kinds) (slice_split (λ b. b == 10) l.bytes) l.fn.tally c
 
 abbrev pub decreases-loop-rest : goal.decreases-loop-rest

@@ -9,5 +9,8 @@ use Rattle.ignore_files.proofs.memory.canonical_path.count_dirs.Goals as goal
 pub returns : goal.returns
 returns c =
     let nodes = c.args.nodes.now in
-    count_from_yields_List c.filter.result c.count.result c.count.ensures.ran (YieldsList-from_filter _ (λ (n : Node). is_directory n.kind) (YieldsList-at c.filter.ensures.source (YieldsList-from_slice nodes c.iter.ensures.rest)) c.filter.ensures.closure (λ x r q k. search (rules, tests)))
+    count_from_yields_List c.filter.result c.count.result c.count.ensures.ran
+    (YieldsList-from_filter _ (λ (n : Node). is_directory n.kind)
+    (YieldsList-at c.filter.ensures.source (YieldsList-from_slice nodes c.iter.ensures.rest)) c.filter.ensures.closure
+    (λ x r q k. search (rules, tests)))
     ∙ length-filter (λ (n : Node). is_directory n.kind) nodes

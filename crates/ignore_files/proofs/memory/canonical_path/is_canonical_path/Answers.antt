@@ -12,5 +12,8 @@ returns-in-None c = canonical_none c.args.path.now (strip_prefix_char 47 c.args.
 pub returns-else-is_empty : goal.returns-else-is_empty
 returns-else-is_empty c =
     let rest = c.in-Some.rest in
-    all_from_yields_List is_proper _ _ c.all.result c.all.ensures.ran (YieldsList-from_str_split 47 rest.now (lit< tt) c.split.ensures.text c.split.ensures.has_more c.split.ensures.pattern) (λ x b q k. search (rules, tests))
-    ∙ canonical_rest c.args.path.now rest.now (strip_prefix_char 47 c.args.path.now (Some rest) c.in-Some.ensures.cases (lit< tt)) (sym c.if-is_empty.ensures)
+    all_from_yields_List is_proper _ _ c.all.result c.all.ensures.ran
+    (YieldsList-from_str_split 47 rest.now (lit< tt) c.split.ensures.text c.split.ensures.has_more c.split.ensures.pattern)
+    (λ x b q k. search (rules, tests))
+    ∙ canonical_rest c.args.path.now rest.now (strip_prefix_char 47 c.args.path.now (Some rest) c.in-Some.ensures.cases (lit< tt))
+    (sym c.if-is_empty.ensures)

@@ -26,11 +26,13 @@ walk-loop-component-preserved t c =
     let cut = components_split l.rest.now (c.in-Some.component, c.in-Some.after) c.in-Some.ensures.cases in
     record {
       text = search rules;
-      same = turn_in c.args.nodes.now c.args.follow l.reached.links l.reached.node l.rest.now c.in-Some.component.now c.in-Some.after.now _ l.invariant.same cut.0 c.in_ok-reached.reached c.in_ok-reached.ensures.value cc;
+      same =
+          turn_in c.args.nodes.now c.args.follow l.reached.links l.reached.node l.rest.now c.in-Some.component.now c.in-Some.after.now _ l.invariant.same cut.0 c.in_ok-reached.reached c.in_ok-reached.ensures.value cc;
       fewer = omega (arith, c.in_ok-reached.ensures.fewer, l.invariant.fewer);
     }
 
 pub walk-returns-clause-value : goal.walk-returns-clause-value
 walk-returns-clause-value t c =
     let l = c.loop-component in
-    c.step-2.ensures.value ∙ ap (λ ps. walk c.args.nodes.now c.args.follow l.reached.links ps l.reached.node) (sym (components_whole l.rest.now c.in_default.ensures.cases)) ∙ l.invariant.same
+    c.step-2.ensures.value ∙ ap (λ ps. walk c.args.nodes.now c.args.follow l.reached.links ps l.reached.node)
+    (sym (components_whole l.rest.now c.in_default.ensures.cases)) ∙ l.invariant.same

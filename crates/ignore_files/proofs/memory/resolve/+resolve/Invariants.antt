@@ -15,7 +15,8 @@ decreases-walk l = 2 * l.links + 1
 abbrev pub invariant-walk-loop-component : goal.invariant-walk-loop-component
 invariant-walk-loop-component l = record {
   text : shadow (Utf8 l.rest);
-  same : walk l.nodes l.follow l.reached.links (components l.rest) l.reached.node ≡ walk l.nodes l.follow l.links (components l.text) l.start;
+  same : walk l.nodes l.follow l.reached.links (components l.rest) l.reached.node
+      ≡ walk l.nodes l.follow l.links (components l.text) l.start;
   fewer : l.reached.links ≤ l.links;
 }
 

@@ -20,7 +20,8 @@ loop-rest-preserved c items h =
     let range = c.item-ordered.result.0 in
     let new = c.loop-rest.invariant ((range.0, it.0) ∷ items) (c.item-ordered.result.2.now, it.1, it.2, h) in
     let pushed : c.push.new.self.items ≡ c.loop-rest.all.items ++ range ∷ [] = grind (arith, common_steps) in
-    let reported : ranges new.0 ≡ c.loop-rest.all.items ++ range ∷ ranges items = new.3 ∙ ap (λ high. c.loop-rest.all.items ++ (range.0, high) ∷ ranges items) (sym it.3) in
+    let reported : ranges new.0 ≡ c.loop-rest.all.items ++ range ∷ ranges items = new.3
+    ∙ ap (λ high. c.loop-rest.all.items ++ (range.0, high) ∷ ranges items) (sym it.3) in
     (new.0, new.1, new.2 ∙ and_left _ _ (are_in_order items) it.4 c.if-not-ordered.false, rw (pushed, append_assoc) reported)
 
 pub returns-clause-some : goal.returns-clause-some

@@ -9,7 +9,8 @@ pub returns-in-63-clause-lexeme : goal.returns-in-63-clause-lexeme
 returns-in-63-clause-lexeme c = rw c.in-63.is (question c.args.depth c.args.text.now)
 
 pub returns-in-42-clause-lexeme : goal.returns-in-42-clause-lexeme
-returns-in-42-clause-lexeme c = rw (c.in-42.is, take_rest) (stars_at c.args.options c.args.depth c.run_length-n.result c.args.text.now _ c.run_length-n.ensures.stars c.run_length-n.ensures.whole)
+returns-in-42-clause-lexeme c =
+    rw (c.in-42.is, take_rest) (stars_at c.args.options c.args.depth c.run_length-n.result c.args.text.now _ c.run_length-n.ensures.stars c.run_length-n.ensures.whole)
 
 pub returns-in-92-clause-lexeme : goal.returns-in-92-clause-lexeme
 returns-in-92-clause-lexeme c = rw c.in-92.is (c.escape.ensures.lexeme c.args.options)
@@ -39,4 +40,6 @@ pub returns-else-depth-gt0-2-clause-lexeme : goal.returns-else-depth-gt0-2-claus
 returns-else-depth-gt0-2-clause-lexeme c = rw c.in-44.is (comma_at c.args.options c.args.depth c.args.text.now (omega arith))
 
 pub returns-in_default-clause-lexeme : goal.returns-in_default-clause-lexeme
-returns-in_default-clause-lexeme c = ordinary c.args.depth c.args.first c.args.text.now (plain c.args.depth c.args.first (omega arith) (omega arith) (omega arith) (omega arith) (omega arith) (omega arith) (omega arith))
+returns-in_default-clause-lexeme c =
+    ordinary c.args.depth c.args.first c.args.text.now
+    (plain c.args.depth c.args.first (omega arith) (omega arith) (omega arith) (omega arith) (omega arith) (omega arith) (omega arith))

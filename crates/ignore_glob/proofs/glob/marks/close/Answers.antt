@@ -19,7 +19,9 @@ pub loop-p-preserved : goal.loop-p-preserved
 loop-p-preserved c =
     record {
       len = omega (arith, c.close_at.ensures.len, c.loop-p.invariant.len);
-      closed = closed_more (nodes_view c.args.nodes.now) _ (IsFlagged c.loop-p.flags.all.items) _ c.loop-p.p c.requires.on c.close_at.ensures.flagged c.loop-p.invariant.closed;
+      closed =
+          closed_more (nodes_view c.args.nodes.now) _
+          (IsFlagged c.loop-p.flags.all.items) _ c.loop-p.p c.requires.on c.close_at.ensures.flagged c.loop-p.invariant.closed;
     }
 
 pub returns-clause-flagged : goal.returns-clause-flagged

@@ -15,7 +15,8 @@ cases_there x p xs (zero, lt, e) = inl (sym e)
 cases_there x p xs (suc k, lt, e) = inr (k, omega (arith, lt), e)
 
 -- a flag that was still to be set is set
-moved : (mid new : ℕ → Type 0) (x : ℕ) (xs : List ℕ) → ((p : ℕ) → new p ↔ (mid p ⊎ (p ≡ x))) → (p : ℕ) → (new p ⊎ Contains xs p) ↔ (mid p ⊎ Contains (x ∷ xs) p)
+moved : (mid new : ℕ → Type 0) (x : ℕ) (xs : List ℕ) → ((p : ℕ) → new p ↔ (mid p ⊎ (p ≡ x))) → (p : ℕ)
+    → (new p ⊎ Contains xs p) ↔ (mid p ⊎ Contains (x ∷ xs) p)
 moved mid new x xs step p = (
   λ h. elim h [
     | inl f ↦ elim ((step p).0 f) [ inl g ↦ inl g | inr e ↦ inr (head_there x p xs e) ]
@@ -35,7 +36,8 @@ loop-first-preserved c =
     let cut : c.loop-first.rest.now ≡ first ∷ more = search rules in
     let P : List ℕ → Type 0 = λ xs. All (λ q. q < n) xs in
     let mid : ℕ → Type 0 = IsFlagged c.loop-first.flags.all.items in
-    let Q : ℕ → List ℕ → Type 0 = λ p xs. (mid p ⊎ Contains xs p) ↔ (IsFlagged c.args.flags.now.all.items p ⊎ Contains c.args.positions.now p) in
+    let Q : ℕ → List ℕ → Type 0 = λ p xs. (mid p ⊎ Contains xs p)
+    ↔ (IsFlagged c.args.flags.now.all.items p ⊎ Contains c.args.positions.now p) in
     record {
       len = omega (arith, c.set.ensures.len, c.loop-first.invariant.len);
       within = All-tail (λ q. q < n) first more (subst P cut c.loop-first.invariant.within);

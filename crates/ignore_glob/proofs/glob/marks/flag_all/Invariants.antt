@@ -8,7 +8,8 @@ abbrev pub invariant-loop-first : goal.invariant-loop-first
 invariant-loop-first l = record {
   len : length l.flags.all.items ≡ length l.initial.flags.all.items;
   within : All (λ q. q < length l.initial.flags.all.items) l.rest;
-  flagged : (p : ℕ) → (IsFlagged l.flags.all.items p ⊎ Contains l.rest p) ↔ (IsFlagged l.initial.flags.all.items p ⊎ Contains l.positions p);
+  flagged : (p : ℕ) → (IsFlagged l.flags.all.items p ⊎ Contains l.rest p)
+      ↔ (IsFlagged l.initial.flags.all.items p ⊎ Contains l.positions p);
 }
 
 abbrev pub decreases-loop-first : goal.decreases-loop-first

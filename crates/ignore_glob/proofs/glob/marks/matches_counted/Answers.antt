@@ -20,26 +20,31 @@ loop-c-preserved c =
     let at = slice_get_read text (length text) i _ refl turn.0 turn.1 in
     let next = c.advance.new.flags.all.items in
     let long = length-map c.args.nodes.now node_view in
-    let marked = marked_next fold nodes text c.loop-c.here.all.items next i c.in-Some.c c.loop-c.invariant.flags at (omega (arith, long, c.advance.ensures.len)) c.advance.ensures.flagged in
+    let marked = marked_next fold nodes text c.loop-c.here.all.items next i c.in-Some.c c.loop-c.invariant.flags at
+    (omega (arith, long, c.advance.ensures.len)) c.advance.ensures.flagged in
     let one_more : suc i ≡ length (c.loop-c.yielded ++ c.in-Some.c ∷ []) = omega (arith, length_push c.loop-c.yielded c.in-Some.c) in
     let P : ℕ → Type 0 = λ o. AreFlags nodes (Marked fold nodes text o) next in
     let n = c.loop-c.invariant.count.0 in
     let m = n + count_by (λ b. b) next in
     let Q : ℕ → Type 0 = λ o. Count fold nodes text o m in
     record {
-      goes_on = (tt, tt);
+      continues = (tt, tt);
       flags = subst P one_more marked;
       next = omega (arith, c.loop-c.invariant.flags.len, long);
-      count = (m, subst Q one_more (count_next fold nodes text next i n c.loop-c.invariant.count.1 marked), omega (arith, c.count.ensures, c.saturating_add-count.ensures, c.loop-c.invariant.count.2));
+      count = (
+        m,
+        subst Q one_more (count_next fold nodes text next i n c.loop-c.invariant.count.1 marked),
+        omega (arith, c.count.ensures, c.saturating_add-count.ensures, c.loop-c.invariant.count.2),
+      );
     }
 
 pub returns-clause-matched : goal.returns-clause-matched
 returns-clause-matched c =
     let nodes = nodes_view c.args.nodes.now in
     let text = chars c.args.text.now in
-    let over = YieldsList-end (YieldsList-from_chars c.args.text.now c.utf8.text cc) c.loop-c.yielded _ c.loop-c.yielded_by _ _ c.in-None.is c.next.ensures.steps in
+    let ended = YieldsList-end (YieldsList-from_chars c.args.text.now c.utf8.text cc) c.loop-c.yielded _ c.loop-c.yielded_by _ _ c.in-None.is c.next.ensures.steps in
     let P : ℕ → Type 0 = λ o. AreFlags nodes (Marked c.args.fold nodes text o) c.loop-c.here.all.items in
-    let flags = subst P over.1 c.loop-c.invariant.flags in
+    let flags = subst P ended.1 c.loop-c.invariant.flags in
     let both = flags.flagged (length c.args.nodes.now) in
     (λ t. both.0 (c.has.ensures.0 t), λ m. c.has.ensures.1 (both.1 m))
 
@@ -47,10 +52,10 @@ pub returns-clause-count : goal.returns-clause-count
 returns-clause-count c =
     let nodes = nodes_view c.args.nodes.now in
     let text = chars c.args.text.now in
-    let over = YieldsList-end (YieldsList-from_chars c.args.text.now c.utf8.text cc) c.loop-c.yielded _ c.loop-c.yielded_by _ _ c.in-None.is c.next.ensures.steps in
+    let ended = YieldsList-end (YieldsList-from_chars c.args.text.now c.utf8.text cc) c.loop-c.yielded _ c.loop-c.yielded_by _ _ c.in-None.is c.next.ensures.steps in
     let n = c.loop-c.invariant.count.0 in
     let Q : ℕ → Type 0 = λ o. Count c.args.fold nodes text o n in
-    (n, subst Q over.1 c.loop-c.invariant.count.1, c.loop-c.invariant.count.2)
+    (n, subst Q ended.1 c.loop-c.invariant.count.1, c.loop-c.invariant.count.2)
 
 pub returns-then-is_clear-clause-matched : goal.returns-then-is_clear-clause-matched
 returns-then-is_clear-clause-matched c =
@@ -79,5 +84,8 @@ returns-then-is_clear-clause-count c =
     let clear : (q : ℕ) → IsFlagged c.loop-c.here.all.items q → ⊥ = λ q f. c.if-is_clear.ensures refl q f in
     let none : (q : ℕ) → Marked fold nodes text i q → ⊥ = λ q m. clear q ((flags.flagged q).1 m) in
     let n = c.loop-c.invariant.count.0 in
-    let Q : ℕ → Type 0 = λ o. Count fold nodes text o n in
-    (n, subst Q end (count_later fold nodes text c.loop-c.here.all.items flags.len clear k i n none c.loop-c.invariant.count.1), c.loop-c.invariant.count.2)
+    let Q : ℕ → Type 0 = λ o. Count fold nodes text o n in (
+      n,
+      subst Q end (count_later fold nodes text c.loop-c.here.all.items flags.len clear k i n none c.loop-c.invariant.count.1),
+      c.loop-c.invariant.count.2,
+    )

@@ -7,7 +7,7 @@ use Rattle.ignore_glob.proofs.glob.marks.matches_counted.Given as goal
 
 abbrev pub invariant-loop-c : goal.invariant-loop-c
 invariant-loop-c l = record {
-  goes_on : (goal.iterator-loop-c).can_next l.c-iterator × (goal.iterator-loop-c).is_finite l.c-iterator;
+  continues : (goal.iterator-loop-c).can_next l.c-iterator × (goal.iterator-loop-c).is_finite l.c-iterator;
   flags : AreFlags (nodes_view l.nodes) (Marked l.fold (nodes_view l.nodes) (chars l.text) (length l.yielded)) l.here.all.items;
   next : length l.next.all.items ≡ length l.nodes + 1;
   count : (n : ℕ) × Count l.fold (nodes_view l.nodes) (chars l.text) (length l.yielded) n × (l.count ≡ min n (2 ^ 64 - 1));

@@ -9,7 +9,9 @@ pub loop-p-preserved : goal.loop-p-preserved
 loop-p-preserved c =
     record {
       len = omega (arith, c.step_at.ensures.len, c.loop-p.invariant.len);
-      flagged = stepped_more c.args.fold (nodes_view c.args.nodes.now) (IsFlagged c.args.from.now.all.items) (IsFlagged c.loop-p.flags.all.items) _ c.args.c c.loop-p.p c.loop-p.invariant.flagged c.step_at.ensures.flagged;
+      flagged =
+          stepped_more c.args.fold (nodes_view c.args.nodes.now) (IsFlagged c.args.from.now.all.items)
+          (IsFlagged c.loop-p.flags.all.items) _ c.args.c c.loop-p.p c.loop-p.invariant.flagged c.step_at.ensures.flagged;
     }
 
 pub returns-clause-flagged : goal.returns-clause-flagged

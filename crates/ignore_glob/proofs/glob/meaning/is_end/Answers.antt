@@ -7,7 +7,8 @@ use Rattle.ignore_glob.proofs.glob.meaning.is_end.Goals as goal
 pub returns-in-Some : goal.returns-in-Some
 returns-in-Some c =
     let row : c.args.row.now ≡ c.in-Some.first.now ∷ c.in-Some.field-0-1.now = grind (arith, common_steps) in
-    ends_at c.is_branch_end.result (lexeme_view c.in-Some.first.now) (row_view c.args.row.now) (row_view c.in-Some.field-0-1.now) (ap row_view row) c.is_branch_end.ensures
+    ends_at c.is_branch_end.result (lexeme_view c.in-Some.first.now) (row_view c.args.row.now) (row_view c.in-Some.field-0-1.now)
+    (ap row_view row) c.is_branch_end.ensures
 
 pub returns-in-None : goal.returns-in-None
 returns-in-None c =

@@ -39,9 +39,11 @@ returns-in-Opening c =
 pub returns-in-Comma : goal.returns-in-Comma
 returns-in-Comma c =
     let row : c.args.row.now ≡ Code.Comma ∷ c.in-Some.rest.now = grind (arith, common_steps) in
-    means_at (left_view c.args.left) (row_view c.args.row.now) _ _ (ap row_view row) (ends (left_view c.args.left) _ (at_comma (row_view c.in-Some.rest.now)))
+    means_at (left_view c.args.left) (row_view c.args.row.now) _ _ (ap row_view row)
+    (ends (left_view c.args.left) _ (at_comma (row_view c.in-Some.rest.now)))
 
 pub returns-in-Closing : goal.returns-in-Closing
 returns-in-Closing c =
     let row : c.args.row.now ≡ Code.Closing ∷ c.in-Some.rest.now = grind (arith, common_steps) in
-    means_at (left_view c.args.left) (row_view c.args.row.now) _ _ (ap row_view row) (ends (left_view c.args.left) _ (at_closing (row_view c.in-Some.rest.now)))
+    means_at (left_view c.args.left) (row_view c.args.row.now) _ _ (ap row_view row)
+    (ends (left_view c.args.left) _ (at_closing (row_view c.in-Some.rest.now)))

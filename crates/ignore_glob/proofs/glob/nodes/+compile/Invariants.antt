@@ -18,7 +18,8 @@ decreases-push_braces l = 2 * branches_size (branches_view l.branches.now) + 1
 abbrev pub invariant-push_braces-loop-branch : goal.invariant-push_braces-loop-branch
 invariant-push_braces-loop-branch l = record {
   all : nodes_view l.nodes.items ++ branches_nodes (branches_view l.rest) (length l.nodes.items) l.next
-      ≡ nodes_view l.fn.nodes.items ++ fork_at (fork (branches_view l.branches) (length l.fn.nodes.items + 1) l.next) ∷ branches_nodes (branches_view l.branches) (length l.fn.nodes.items + 1) l.next;
+      ≡ nodes_view l.fn.nodes.items ++ fork_at (fork (branches_view l.branches) (length l.fn.nodes.items + 1) l.next)
+      ∷ branches_nodes (branches_view l.branches) (length l.fn.nodes.items + 1) l.next;
   smaller : branches_size (branches_view l.rest) ≤ branches_size (branches_view l.branches);
 }
 

@@ -21,7 +21,10 @@ decreases-some_matches l = 2 * branches_size (branches_view l.branches.now)
 
 -- no cut that was tried matches
 abbrev pub invariant-star_first-loop-k : goal.invariant-star_first-loop-k
-invariant-star_first-loop-k l = (a b : List ℕ) → l.text ≡ a ++ b → length a < l.k → All (λ c. c ≢ slash) a → tokens_match l.fold (tokens_view l.rest) b → ⊥
+invariant-star_first-loop-k l =
+    (a b : List ℕ) → l.text ≡ a ++ b → length a < l.k → All (λ c. c ≢ slash) a → tokens_match l.fold (tokens_view l.rest) b → ⊥
 
 abbrev pub invariant-token_first-loop-k : goal.invariant-token_first-loop-k
-invariant-token_first-loop-k l = (a b : List ℕ) → l.text ≡ a ++ b → length a < l.k → token_matches l.fold (view l.first) a → tokens_match l.fold (tokens_view l.rest) b → ⊥
+invariant-token_first-loop-k l =
+    (a b : List ℕ) → l.text ≡ a ++ b → length a < l.k → token_matches l.fold (view l.first) a → tokens_match l.fold (tokens_view l.rest) b
+    → ⊥

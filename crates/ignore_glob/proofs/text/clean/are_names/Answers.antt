@@ -6,4 +6,6 @@ use Rattle.ignore_glob.proofs.text.clean.are_names.Goals as goal
 
 pub returns : goal.returns
 returns c =
-    all_from_yields_List is_proper _ _ c.all.result c.all.ensures.ran (YieldsList-from_str_split 47 c.args.text.now (lit< tt) c.split.ensures.text c.split.ensures.has_more c.split.ensures.pattern) (λ x b q k. search (rules, tests))
+    all_from_yields_List is_proper _ _ c.all.result c.all.ensures.ran
+    (YieldsList-from_str_split 47 c.args.text.now (lit< tt) c.split.ensures.text c.split.ensures.has_more c.split.ensures.pattern)
+    (λ x b q k. search (rules, tests))

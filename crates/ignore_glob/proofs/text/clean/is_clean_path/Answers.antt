@@ -8,4 +8,6 @@ use Rattle.ignore_glob.proofs.text.clean.is_clean_path.Goals as goal
 pub returns-else-is_empty : goal.returns-else-is_empty
 returns-else-is_empty c =
     let path = c.args.path.now in
-    Decides-at _ (length path == 0 || list_all is_proper (components path)) (c.are_names.ensures ∙ ap (λ b. b || list_all is_proper (components path)) (sym (sym c.is_empty.ensures ∙ c.if-is_empty.false))) (Decides-clean_path path)
+    Decides-at _ (length path == 0 || list_all is_proper (components path))
+    (c.are_names.ensures ∙ ap (λ b. b || list_all is_proper (components path)) (sym (sym c.is_empty.ensures ∙ c.if-is_empty.false)))
+    (Decides-clean_path path)

@@ -11,6 +11,9 @@ pub returns-then-starts_with : goal.returns-then-starts_with
 returns-then-starts_with c =
     let root = c.args.root.now in
     let test : List ℕ → Bool = λ component. bytes_eq component (codes ".") || length component == 0 in
-    let first : (get_or root 0 0 == 46) ≡ true = eq-eqb _ 46 ((starts_char 46 root c.starts_with.result c.starts_with.ensures.cases (lit< tt) (lit< tt)).0 c.if-starts_with.true) in
-    all_from_yields_List test _ _ c.all.result c.all.ensures.ran (YieldsList-from_str_split 47 root (lit< tt) c.split.ensures.text c.split.ensures.has_more c.split.ensures.pattern) (λ x b q k. search (rules, tests))
+    let first : (get_or root 0 0 == 46) ≡ true = eq-eqb _ 46
+    ((starts_char 46 root c.starts_with.result c.starts_with.ensures.cases (lit< tt) (lit< tt)).0 c.if-starts_with.true) in
+    all_from_yields_List test _ _ c.all.result c.all.ensures.ran
+    (YieldsList-from_str_split 47 root (lit< tt) c.split.ensures.text c.split.ensures.has_more c.split.ensures.pattern)
+    (λ x b q k. search (rules, tests))
     ∙ sym (ap (λ b. b && list_all test (components root)) first)

@@ -4,18 +4,21 @@ use Rattle.ignore_glob.proofs.PathLemmas.{strip_prefix_of-none, strip_prefix_of-
 use Rattle.ignore_glob.proofs.text.prefix.strip_prefix.Goals as goal
 
 pub returns-in_err-rest : goal.returns-in_err-rest
-returns-in_err-rest c = ap option_copied c.from_residual.ensures ∙ sym (strip_prefix_of-none c.args.prefix.now c.args.path.now c.in_err-rest.ensures.cases)
+returns-in_err-rest c =
+    ap option_copied c.from_residual.ensures ∙ sym (strip_prefix_of-none c.args.prefix.now c.args.path.now c.in_err-rest.ensures.cases)
 
 pub returns-then-at_bound : goal.returns-then-at_bound
 returns-then-at_bound c =
     let prefix = c.args.prefix.now in
     let found = c.in_ok-rest.ensures.cases in
     let at = found.1.1 ∙ ap (λ r. prefix ++ r) (sym found.2) in
-    sym (strip_prefix_of-at prefix c.args.path.now c.in_ok-rest.rest.now at ∙ ap (λ b. cond b (Some c.in_ok-rest.rest.now) None) (sym c.at_bound.ensures ∙ c.if-at_bound.true))
+    sym (strip_prefix_of-at prefix c.args.path.now c.in_ok-rest.rest.now at
+    ∙ ap (λ b. cond b (Some c.in_ok-rest.rest.now) None) (sym c.at_bound.ensures ∙ c.if-at_bound.true))
 
 pub returns-else-at_bound : goal.returns-else-at_bound
 returns-else-at_bound c =
     let prefix = c.args.prefix.now in
     let found = c.in_ok-rest.ensures.cases in
     let at = found.1.1 ∙ ap (λ r. prefix ++ r) (sym found.2) in
-    sym (strip_prefix_of-at prefix c.args.path.now c.in_ok-rest.rest.now at ∙ ap (λ b. cond b (Some c.in_ok-rest.rest.now) None) (sym c.at_bound.ensures ∙ c.if-at_bound.false))
+    sym (strip_prefix_of-at prefix c.args.path.now c.in_ok-rest.rest.now at
+    ∙ ap (λ b. cond b (Some c.in_ok-rest.rest.now) None) (sym c.at_bound.ensures ∙ c.if-at_bound.false))

@@ -6,4 +6,5 @@ use Rattle.ignore_glob.proofs.text.prefix.without_slash.Goals as goal
 pub returns : goal.returns
 returns c =
     ap (λ (x : Bor (List ℕ)). x.now) c.unwrap_or.ensures
-    ∙ without_slash-is c.args.path.now c.strip_prefix.result c.args.path refl (strip_prefix_char 47 c.args.path.now c.strip_prefix.result c.strip_prefix.ensures.cases (lit< tt))
+    ∙ without_slash-is c.args.path.now c.strip_prefix.result c.args.path refl
+    (strip_prefix_char 47 c.args.path.now c.strip_prefix.result c.strip_prefix.ensures.cases (lit< tt))

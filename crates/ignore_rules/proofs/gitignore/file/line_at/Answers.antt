@@ -8,7 +8,9 @@ last_line-requires c = one_segment _ c.in-None.ensures
 
 pub returns-in-Some : goal.returns-in-Some
 returns-in-Some c =
-    read_before_end c.args.bytes.now c.args.fault c.args.at c.in-Some.end _ _ (take_rest c.args.bytes.now c.args.at) c.in-Some.ensures (grind (arith, c.without_return.ensures)) c.line_of.result c.line_of.ensures
+    read_before_end c.args.bytes.now c.args.fault c.args.at c.in-Some.end _ _ (take_rest c.args.bytes.now c.args.at) c.in-Some.ensures
+    (grind (arith, c.without_return.ensures)) c.line_of.result c.line_of.ensures
 
 pub returns-in-None : goal.returns-in-None
-returns-in-None c = read_at_last c.args.bytes.now c.args.fault c.args.at _ (take_rest c.args.bytes.now c.args.at) c.last_line.result c.last_line.ensures
+returns-in-None c =
+    read_at_last c.args.bytes.now c.args.fault c.args.at _ (take_rest c.args.bytes.now c.args.at) c.last_line.result c.last_line.ensures

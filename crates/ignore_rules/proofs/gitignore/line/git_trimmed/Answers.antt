@@ -6,11 +6,13 @@ use Rattle.ignore_rules.proofs.gitignore.line.git_trimmed.Goals.{else-end-bytes-
 
 pub range-requires-clause-end_boundary : goal.range-requires-clause-end_boundary
 range-requires-clause-end_boundary c =
-    rw c.as_bytes-bytes.ensures.value (cut_at_space c.args.line.now c.run_at_end.result _ (rw c.as_bytes-bytes.ensures.value at c.run_at_end.ensures.run) (omega arith) (omega arith))
+    rw c.as_bytes-bytes.ensures.value (cut_at_space c.args.line.now c.run_at_end.result _
+    (rw c.as_bytes-bytes.ensures.value at c.run_at_end.ensures.run) (omega arith) (omega arith))
 
 pub range-requires-else-end-bytes-clause-end_boundary : goal.range-requires-else-end-bytes-clause-end_boundary
 range-requires-else-end-bytes-clause-end_boundary c =
-    rw c.as_bytes-bytes.ensures.value (cut_at_space c.args.line.now c.run_at_end.result _ (rw c.as_bytes-bytes.ensures.value at c.run_at_end.ensures.run) (omega arith) (omega arith))
+    rw c.as_bytes-bytes.ensures.value (cut_at_space c.args.line.now c.run_at_end.result _
+    (rw c.as_bytes-bytes.ensures.value at c.run_at_end.ensures.run) (omega arith) (omega arith))
 
 pub returns-then-backslashes-eq1 : goal.returns-then-backslashes-eq1
 returns-then-backslashes-eq1 c =
@@ -19,14 +21,16 @@ returns-then-backslashes-eq1 c =
     let cut : c.range.result.now ≡ take (length bytes - n + 1) c.args.line.now = grind (arith, c.range.ensures.value) in
     let odd = eq-eqb _ 1 c.if-backslashes-eq1.true in
     let kept = all_but_one bytes n c.run_at_end-backslashes.result c.run_at_end.ensures.run c.run_at_end-backslashes.ensures.run c.if-end-bytes.true odd in
-    cut ∙ (ap (take (length bytes - n + 1)) (sym c.as_bytes-bytes.ensures.value) ∙ (sym kept ∙ ap git_trimmed c.as_bytes-bytes.ensures.value))
+    cut ∙ (ap (take (length bytes - n + 1)) (sym c.as_bytes-bytes.ensures.value)
+    ∙ (sym kept ∙ ap git_trimmed c.as_bytes-bytes.ensures.value))
 
 pub returns-else-end-bytes : goal.returns-else-end-bytes
 returns-else-end-bytes c =
     let bytes = c.as_bytes-bytes.result.now in
     let n = c.run_at_end.result in
     let m = c.run_at_end-backslashes.result in
-    let cut : c.range-else-end-bytes.result.now ≡ take (length bytes - n) c.args.line.now = grind (arith, c.range-else-end-bytes.ensures.value) in
+    let cut : c.range-else-end-bytes.result.now ≡ take (length bytes - n) c.args.line.now = grind
+    (arith, c.range-else-end-bytes.ensures.value) in
     let within = c.run_at_end.ensures.within in
     let which : (n ≡ 0) ⊎ (eqb (m % 2) 1 ≡ false) =
     elim c.else-end-bytes.branch [

@@ -9,4 +9,5 @@ returns-then-applies c =
     let i = c.loop-i.i - 1 in
     let next : c.loop-i.i ≡ i + 1 = omega arith in
     let none = subst (λ n. list_answer (drop n c.args.globs.now) c.args.text.now c.args.is_dir ≡ None) next c.loop-i.invariant in
-    c.decision.ensures ∙ sym (decided c.args.globs.now c.args.text.now c.args.is_dir i _ (omega arith) c.index-globs-i.is none (sym c.applies.ensures ∙ c.if-applies.true))
+    c.decision.ensures ∙ sym (decided c.args.globs.now c.args.text.now c.args.is_dir i _ (omega arith) c.index-globs-i.is none
+    (sym c.applies.ensures ∙ c.if-applies.true))

@@ -17,5 +17,6 @@ loop-end-preserved c =
     let none : is_none c.last_answer-answer.result ≡ true = search rules in
     record {
       within = omega (arith, next.0, c.loop-end.invariant.within);
-      rest = passes_on (λ g. g.now) c.last_answer-answer.result _ _ _ c.last_answer-answer.ensures none (c.loop-end.invariant.rest ∙ next.1);
+      rest =
+          passes_on (λ g. g.now) c.last_answer-answer.result _ _ _ c.last_answer-answer.ensures none (c.loop-end.invariant.rest ∙ next.1);
     }

@@ -14,7 +14,8 @@ returns-in-Err-clause-refused c =
         goods = c.loop-selection.all.items;
         bad = c.selection-item.result;
         after = drop (suc c.loop-selection.selection-index) c.args.selections.now;
-        split = split-at c.args.selections.now c.loop-selection.selection-index c.selection-item.result c.loop-selection-test.true c.selection-item.is;
+        split =
+            split-at c.args.selections.now c.loop-selection.selection-index c.selection-item.result c.loop-selection-test.true c.selection-item.is;
         good = c.loop-selection.invariant;
         fails = problem;
       })
@@ -24,7 +25,8 @@ pub loop-selection-preserved : goal.loop-selection-preserved
 loop-selection-preserved c =
     let i = c.loop-selection.selection-index in
     let item = c.selection-item.result in
-    let more : take (i + 1) c.args.selections.now ≡ take i c.args.selections.now ++ item ∷ [] = take-push c.args.selections.now i item c.loop-selection-test.true c.selection-item.is in
+    let more : take (i + 1) c.args.selections.now ≡ take i c.args.selections.now
+    ++ item ∷ [] = take-push c.args.selections.now i item c.loop-selection-test.true c.selection-item.is in
     let items : c.push.new.self.items ≡ c.loop-selection.all.items ++ c.in-Ok.choice ∷ [] = c.in_default.ensures.items in
     subst (λ l. AllZip (IsChosen c.args.types.now) l c.push.new.self.items) (sym more)
     (subst (λ l. AllZip (IsChosen c.args.types.now) (take i c.args.selections.now ++ item ∷ []) l) (sym items)

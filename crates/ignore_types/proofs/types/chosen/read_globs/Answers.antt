@@ -1,4 +1,4 @@
--- Each glob is read in its turn, up to the first that has a fault.
+-- Each glob is read in its turn, up to the first invalid one.
 use Rattle.std.proofs.Common.{◌≡◌, ◌+◌, ◌++◌, ◌∷◌, [], suc, map, take, drop, string_bytes, sym, subst, inl, inr}
 use Rattle.std.specs.List.{AllZip}
 use Rattle.ignore_glob.specs.Problem.{problem_of}
@@ -25,9 +25,13 @@ pub loop-glob-preserved : goal.loop-glob-preserved
 loop-glob-preserved c =
     let i = c.loop-glob.glob-index in
     let item = c.glob-item.result in
-    let more : map string_bytes (take (i + 1) c.args.globs.now) ≡ map string_bytes (take i c.args.globs.now) ++ string_bytes item ∷ [] = map-take-push string_bytes c.args.globs.now i item c.loop-glob-test.true c.glob-item.is in
-    let read : IsReadAs (string_bytes item) c.in-Ok.pattern = subst (λ t. IsReadAs t c.in-Ok.pattern) c.as_str.ensures.value c.in-Ok.ensures.read in
+    let more : map string_bytes (take (i + 1) c.args.globs.now)
+    ≡ map string_bytes (take i c.args.globs.now)
+    ++ string_bytes item ∷ [] = map-take-push string_bytes c.args.globs.now i item c.loop-glob-test.true c.glob-item.is in
+    let read : IsReadAs (string_bytes item) c.in-Ok.pattern = subst
+    (λ t. IsReadAs t c.in-Ok.pattern) c.as_str.ensures.value c.in-Ok.ensures.read in
     let items : c.push.new.self.items ≡ c.loop-glob.all.items ++ c.in-Ok.pattern ∷ [] = c.in_default.ensures.items in
     subst (λ l. AllZip IsReadAs l c.push.new.self.items) (sym more)
     (subst (λ l. AllZip IsReadAs (map string_bytes (take i c.args.globs.now) ++ string_bytes item ∷ []) l) (sym items)
-    (AllZip-push IsReadAs (map string_bytes (take i c.args.globs.now)) c.loop-glob.all.items (string_bytes item) c.in-Ok.pattern c.loop-glob.invariant read))
+    (AllZip-push IsReadAs (map string_bytes (take i c.args.globs.now)) c.loop-glob.all.items
+    (string_bytes item) c.in-Ok.pattern c.loop-glob.invariant read))

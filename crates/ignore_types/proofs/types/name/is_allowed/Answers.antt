@@ -10,5 +10,7 @@ use Rattle.ignore_types.proofs.types.name.is_allowed.Goals as goal
 
 pub returns-then-ne : goal.returns-then-ne
 returns-then-ne c =
-    let each : c.all.result ≡ list_all is_name_char (chars c.args.name.now) = all_from_yields_List is_name_char _ _ c.all.result c.all.ensures.ran (YieldsList-from_chars c.args.name.now c.utf8.name c.chars.ensures.rest) (λ x b q k. search (rules, tests)) in
+    let each : c.all.result ≡ list_all is_name_char
+    (chars c.args.name.now) = all_from_yields_List is_name_char _ _ c.all.result c.all.ensures.ran
+    (YieldsList-from_chars c.args.name.now c.utf8.name c.chars.ensures.rest) (λ x b q k. search (rules, tests)) in
     each ∙ ap (λ b. b && list_all is_name_char (chars c.args.name.now)) c.if-ne.ensures

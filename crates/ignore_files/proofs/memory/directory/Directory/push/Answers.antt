@@ -12,5 +12,6 @@ invariant_of-self-in-Ok c = λ name.
     btree_map_updates_text (string_bytes c.in_ok-key.key) fields.by_name c.insert.new.self (Some c.args.node) c.in-Ok.ensures.updates name
     ∙ ap (λ bs. cond (bytes_eq bs name) (Some c.args.node) (get_by_text fields.by_name name)) key
     ∙ ap (cond (bytes_eq c.args.name name) (Some c.args.node)) (c.self.invariant name)
-    ∙ sym (named_more name c.args.name c.args.file_type c.args.node fields.entries.items (ap (named c.args.name) c.self.view_is ∙ c.requires))
+    ∙ sym (named_more name c.args.name c.args.file_type c.args.node fields.entries.items
+    (ap (named c.args.name) c.self.view_is ∙ c.requires))
     ∙ ap (named name) (sym c.in_ok-push.ensures.items)

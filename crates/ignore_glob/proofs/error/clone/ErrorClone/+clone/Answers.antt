@@ -9,7 +9,8 @@ returns-after-loop-err t c =
     record {
       cases = rw c.in-Partial.is (
           problem_of-Partial c.loop-err.copies
-          ∙ ap (λ l. several (problems_of l)) (c.loop-err.invariant ∙ ap (map problem_of) (take_all _ _ c.loop-err-test.false ∙ c.deref-err-items.ensures.value))
+          ∙ ap (λ l. several (problems_of l)) (c.loop-err.invariant
+          ∙ ap (map problem_of) (take_all _ _ c.loop-err-test.false ∙ c.deref-err-items.ensures.value))
           ∙ sym (problem_of-Partial c.in-Partial.errors)
           );
     }

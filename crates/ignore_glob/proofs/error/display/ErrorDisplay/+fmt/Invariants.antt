@@ -9,6 +9,7 @@ use Rattle.ignore_glob.proofs.error.display.ErrorDisplay.+fmt.Given as goal
 abbrev pub invariant-loop-err : goal.invariant-loop-err
 invariant-loop-err g l = record {
   separator : l.separator ≡ separator_at l.err-index;
-  written : IsPlainFormatter l.initial.f → HasWritten g.W.Write.write_str_gives l.initial.f (joined_from [] (take l.err-index (map text_of l.err-items))) l.f;
+  written : IsPlainFormatter l.initial.f → HasWritten g.W.Write.write_str_gives l.initial.f
+      (joined_from [] (take l.err-index (map text_of l.err-items))) l.f;
   text : shadow (Utf8 l.separator);
 }

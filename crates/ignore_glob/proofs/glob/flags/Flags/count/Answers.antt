@@ -3,7 +3,9 @@ use Rattle.ignore_glob.proofs.FlagLemmas.{count_after, count_before}
 use Rattle.ignore_glob.proofs.glob.flags.Flags.count.Goals as goal
 
 pub loop-p-init : goal.loop-p-init
-loop-p-init c = let within = c.args.self.now.within in (sym (count_after c.args.self.now.all.items c.args.self.now.low (λ q f. (within q f).0)), omega arith)
+loop-p-init c =
+    let within = c.args.self.now.within in
+    (sym (count_after c.args.self.now.all.items c.args.self.now.low (λ q f. (within q f).0)), omega arith)
 
 pub returns : goal.returns
 returns c =

@@ -35,8 +35,10 @@ returns-in-Ok-clause-value c =
     let last = length-map all node_view in
     let M : ℕ → Type 0 = λ p. Marked fold (nodes_view all) text (length text) p in
     let R : Reading → Type 0 = λ r. Matches r text in
-    let found = c.in-Ok.ensures.matched in
-    (λ t. subst R c.self.view_is (mark.1 (subst M (sym last) (found.0 t))), λ m. found.1 (subst M last (mark.0 (subst R (sym c.self.view_is) m))))
+    let found = c.in-Ok.ensures.matched in (
+      λ t. subst R c.self.view_is (mark.1 (subst M (sym last) (found.0 t))),
+      λ m. found.1 (subst M last (mark.0 (subst R (sym c.self.view_is) m))),
+    )
 
 pub returns-in-Ok-clause-counted : goal.returns-in-Ok-clause-counted
 returns-in-Ok-clause-counted c =

@@ -13,4 +13,12 @@ returns c =
     let nodes = c.self.inside.nodes.items in
     let ts = tokens_view c.self.inside.tokens.items in
     let same : ts ≡ c.args.self.now.tokens = ap (λ (r : Reading). r.tokens) c.self.view_is in
-    omega (arith, c.len.ensures, length-map nodes node_view, ap length c.self.inside.compiled, glob_nodes-length ts, positions_width ts, ap positions same)
+    omega (
+      arith,
+      c.len.ensures,
+      length-map nodes node_view,
+      ap length c.self.inside.compiled,
+      glob_nodes-length ts,
+      positions_width ts,
+      ap positions same,
+    )

@@ -9,7 +9,8 @@ abbrev pub invariant-loop-text : goal.invariant-loop-text
 invariant-loop-text l = record {
   within : l.at ≤ length l.bytes;
   counted : l.number ≤ l.at;
-  leads : LeadsTo l.path (lines_read l.bytes l.fault) l.initial.self (l.number + 1) (lines_read (drop l.at l.bytes) l.fault) l.self (map problem_of l.problems.items);
+  leads : LeadsTo l.path (lines_read l.bytes l.fault) l.initial.self (l.number + 1) (lines_read (drop l.at l.bytes) l.fault) l.self
+      (map problem_of l.problems.items);
   kept : Keeps l.initial.self l.self;
 }
 

@@ -7,7 +7,11 @@ use Rattle.ignore_rules.proofs.gitignore.builder.GitignoreBuilder.add_or_report.
 
 pub returns-in-Ok-clause-added_or_reported : goal.returns-in-Ok-clause-added_or_reported
 returns-in-Ok-clause-added_or_reported c =
-    inl (subst (λ (l : List ℕ). AddsLine c.args.self.now (Some c.args.path.now) l c.push_line_of.new.self) c.line_content.ensures c.in-Ok.ensures.added, refl)
+    inl (
+      subst (λ (l : List ℕ). AddsLine c.args.self.now
+          (Some c.args.path.now) l c.push_line_of.new.self) c.line_content.ensures c.in-Ok.ensures.added,
+      refl,
+    )
 
 pub returns-in_ok-push-in-Err-clause-added_or_reported : goal.returns-in_ok-push-in-Err-clause-added_or_reported
 returns-in_ok-push-in-Err-clause-added_or_reported c =

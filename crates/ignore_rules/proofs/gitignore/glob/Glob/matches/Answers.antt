@@ -7,4 +7,5 @@ use Rattle.ignore_rules.proofs.gitignore.glob.Glob.matches.Goals as goal
 
 pub returns : goal.returns
 returns c =
-    same_from_decides _ _ c.matches_chars.ensures (matching_decided c.self.inside.pattern c.args.text.now) ∙ ap (λ (r : Rule). does_match r.reading c.args.text.now) c.self.view_is
+    same_from_decides _ _ c.matches_chars.ensures (matching_decided c.self.inside.pattern c.args.text.now)
+    ∙ ap (λ (r : Rule). does_match r.reading c.args.text.now) c.self.view_is

@@ -8,7 +8,10 @@ use Rattle.ignore_types.proofs.types.definition.FileTypeDefPartialEq.eq.Goals as
 
 pub returns-then-eq : goal.returns-then-eq
 returns-then-eq c =
-    let globs : c.eq-then-eq.result ≡ pointwise bytes_eq (map string_bytes c.self.inside.globs.items) (map string_bytes c.other.inside.globs.items) = c.eq-then-eq.ensures ∙ pointwise-map bytes_eq string_bytes c.self.inside.globs.items c.other.inside.globs.items in
+    let globs : c.eq-then-eq.result ≡ pointwise bytes_eq (map string_bytes c.self.inside.globs.items)
+    (map string_bytes c.other.inside.globs.items) = c.eq-then-eq.ensures
+    ∙ pointwise-map bytes_eq string_bytes c.self.inside.globs.items c.other.inside.globs.items in
     globs
-    ∙ ap (λ b. b && pointwise bytes_eq (map string_bytes c.self.inside.globs.items) (map string_bytes c.other.inside.globs.items)) c.if-eq.ensures
+    ∙ ap (λ b. b && pointwise bytes_eq (map string_bytes c.self.inside.globs.items)
+    (map string_bytes c.other.inside.globs.items)) c.if-eq.ensures
     ∙ (λ i. same_definition (c.self.view_is i) (c.other.view_is i))

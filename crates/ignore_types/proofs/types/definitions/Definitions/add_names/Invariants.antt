@@ -4,4 +4,6 @@ use Rattle.ignore_types.specs.Types.{with_names}
 use Rattle.ignore_types.proofs.types.definitions.Definitions.add_names.Given as goal
 
 abbrev pub invariant-loop-name : goal.invariant-loop-name
-invariant-loop-name l = with_names (map (λ n. n.now) (drop l.name-index l.names)) (map (λ g. g.now) l.globs) l.self ≡ with_names (map (λ n. n.now) l.names) (map (λ g. g.now) l.globs) l.initial.self
+invariant-loop-name l =
+    with_names (map (λ n. n.now) (drop l.name-index l.names)) (map (λ g. g.now) l.globs) l.self
+    ≡ with_names (map (λ n. n.now) l.names) (map (λ g. g.now) l.globs) l.initial.self

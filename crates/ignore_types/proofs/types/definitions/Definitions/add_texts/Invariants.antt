@@ -4,4 +4,5 @@ use Rattle.ignore_types.specs.Types.{with_globs}
 use Rattle.ignore_types.proofs.types.definitions.Definitions.add_texts.Given as goal
 
 abbrev pub invariant-loop-glob : goal.invariant-loop-glob
-invariant-loop-glob l = with_globs l.name (map (λ g. g.now) (drop l.glob-index l.globs)) l.self ≡ with_globs l.name (map (λ g. g.now) l.globs) l.initial.self
+invariant-loop-glob l =
+    with_globs l.name (map (λ g. g.now) (drop l.glob-index l.globs)) l.self ≡ with_globs l.name (map (λ g. g.now) l.globs) l.initial.self

@@ -14,4 +14,5 @@ returns-in-Ok c =
 
 pub returns-in-Err : goal.returns-in-Err
 returns-in-Err c =
-    sym (definition_of-absent c.args.name.now c.as_slice.result.now _ (c.in-Err.ensures {u = tt})) ∙ ap (definition_of c.args.name.now) c.as_slice.ensures.value
+    sym (definition_of-absent c.args.name.now c.as_slice.result.now _ (c.in-Err.ensures {u = tt}))
+    ∙ ap (definition_of c.args.name.now) c.as_slice.ensures.value

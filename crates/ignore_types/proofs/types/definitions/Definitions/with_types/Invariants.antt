@@ -4,4 +4,6 @@ use Rattle.ignore_types.specs.Types.{with_types}
 use Rattle.ignore_types.proofs.types.definitions.Definitions.with_types.Given as goal
 
 abbrev pub invariant-loop-source : goal.invariant-loop-source
-invariant-loop-source l = with_types l.name (map (λ s. s.now) (drop l.source-index l.sources)) l.definitions ≡ with_types l.name (map (λ s. s.now) l.sources) l.self
+invariant-loop-source l =
+    with_types l.name (map (λ s. s.now) (drop l.source-index l.sources)) l.definitions
+    ≡ with_types l.name (map (λ s. s.now) l.sources) l.self

@@ -25,5 +25,6 @@ pub record IsGap (name : List ℕ) (ds : List Definition) (i : ℕ) : Type 0 whe
   pub before : AllBefore name (take i ds)
   pub after : AllAfter name (drop i ds)
 
+-- the result is the place of a name: where it is, or where it belongs
 abbrev pub IsPlace : List ℕ → List Definition → Result ℕ ℕ → Type 0
 IsPlace name ds r = MatchResult r (IsAt name ds) (IsGap name ds)

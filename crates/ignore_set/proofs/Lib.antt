@@ -1,0 +1,5 @@
+pub mod FormLemmas
+pub mod EndLemmas
+pub mod SetLemmas
+pub mod EntryLemmas
+mod WorkedForms

@@ -1,0 +1,109 @@
+//! Each use once, with ample memory.
+use crate::buffer::rules_of_buffer;
+use crate::checker::is_ignored;
+use crate::global::is_ignored_globally;
+use crate::lines::add_if_valid;
+use crate::linter::is_linted;
+use crate::packer::packed;
+use crate::reason::{deciding_file, deciding_line};
+use ignore_files::{MemoryTree, TreeError};
+use ignore_glob::Error;
+use ignore_rules::gitignore::{Gitignore, GitignoreBuilder};
+use ignore_rules::overrides::{Override, OverrideBuilder};
+use ignore_rules::types::{Types, TypesBuilder};
+use std::alloc::Global;
+use std::test::Fail;
+
+/// A tree with one file of rules.
+fn tree(alloc: Global) -> Result<MemoryTree, TreeError> {
+    let mut tree = MemoryTree::new(alloc, "/")?;
+    tree.add_dir("/p")?;
+    tree.add_file("/p/.gitignore", b"*.o\n!keep.o\n")?;
+    Ok(tree)
+}
+
+fn ignored(alloc: Global, path: &str) -> Result<bool, Fail> {
+    let (ignored, problem) = is_ignored(alloc, &tree(alloc)?, "/p/.gitignore", path)?;
+    Ok(ignored && problem.is_none())
+}
+
+#[test]
+fn a_checker_asks_a_file(rt: HostRuntime) -> Result<(), Fail> {
+    assert!(rt; ignored(rt.alloc(), "/p/a.o")?);
+    assert!(rt; !ignored(rt.alloc(), "/p/keep.o")?);
+    Ok(())
+}
+
+/// The rules of two lines, below `p`.
+fn rules(alloc: Global) -> Result<Gitignore, Error> {
+    let (rules, _) = rules_of_buffer(alloc, "p/.gitignore", "build/\n*.o\n")?;
+    Ok(rules)
+}
+
+#[test]
+fn an_editor_reports_why(rt: HostRuntime) -> Result<(), Fail> {
+    let rules = rules(rt.alloc())?;
+    assert_eq!(rt; deciding_line(&rules, "p/a.o", false)?, Some("*.o"));
+    assert_eq!(rt;
+        deciding_file(&rules, "p/a.o", false)?,
+        Some("p/.gitignore")
+    );
+    Ok(())
+}
+
+#[test]
+fn a_packer_leaves_out_what_is_built(rt: HostRuntime) -> Result<(), Fail> {
+    let rules = rules(rt.alloc())?;
+    let paths = ["p/a.c", "p/build/x", "p/a.o", "p/b.c"];
+    let all = packed(rt.alloc(), &rules, &paths)?;
+    assert_eq!(rt; all.as_slice(), ["p/a.c", "p/b.c"].as_slice());
+    Ok(())
+}
+
+/// The types of a linter for Rust.
+fn rust(alloc: Global) -> Result<Types, Error> {
+    let mut types = TypesBuilder::new(alloc);
+    types.add_defaults()?;
+    types.select("rust")?;
+    types.build()
+}
+
+/// The globs of a command line that denies what is generated.
+fn not_generated(alloc: Global) -> Result<Override, Error> {
+    let mut globs = OverrideBuilder::new(alloc, ".")?;
+    globs.add("!*.gen.rs")?;
+    globs.build()
+}
+
+fn linted(alloc: Global, path: &str) -> Result<bool, Error> {
+    is_linted(&not_generated(alloc)?, &rust(alloc)?, path)
+}
+
+#[test]
+fn a_linter_looks_at_its_types(rt: HostRuntime) -> Result<(), Fail> {
+    assert!(rt; linted(rt.alloc(), "src/a.rs")?);
+    assert!(rt; !linted(rt.alloc(), "src/a.gen.rs")?);
+    assert!(rt; !linted(rt.alloc(), "README")?);
+    Ok(())
+}
+
+/// How many rules three lines give, of which the second is invalid.
+fn valid_lines(alloc: Global) -> Result<usize, Error> {
+    let mut builder = GitignoreBuilder::new(alloc, ".")?;
+    for line in ["a", "{", "b"] {
+        add_if_valid(&mut builder, line)?;
+    }
+    Ok(builder.build()?.len())
+}
+
+#[test]
+fn an_invalid_line_changes_nothing(rt: HostRuntime) -> Result<(), Fail> {
+    assert_eq!(rt; valid_lines(rt.alloc())?, 2);
+    Ok(())
+}
+
+#[test]
+fn the_global_file_of_the_process_is_asked(rt: HostRuntime) -> Result<(), Fail> {
+    let _ = is_ignored_globally(&rt, "a")?;
+    Ok(())
+}
