@@ -3,12 +3,13 @@
 use Rattle.std.proofs.Common.{◌≡◌, ◌⊎◌, inl, inr, ℕ, suc, Bool, List, [], ◌∷◌, length, Option, Result, Ok, Err, refl, sym, ap, ◌∙◌}
 use Rattle.std.specs.declared.io.Error.{Error}
 use Rattle.std.specs.Fs.{IsDir, IsFile, IsSymlink}
-use Rattle.std.specs.declared.fs.DirEntry.{DirEntry}
 use Rattle.std.specs.declared.fs.FileType.{FileType as MachineType}
 use Rattle.ignore_glob.specs.declared.fault.Fault.{Fault}
 use Rattle.ignore_files.specs.Tree.{Tree, Answers}
 use Rattle.ignore_files.specs.Gives.{IsHonest}
-use Rattle.ignore_files.specs.Disk.{IsReportedAs, IsFaultOf, IsEntryOf, AreReported}
+use Rattle.ignore_files.specs.Reported.{IsReportedAs, IsFaultOf, IsEntryOf}
+use Rattle.ignore_files.specs.Machine.{AreReported}
+use Rattle.ignore_files.specs.declared.machine.Machine.{Ghosts as MachineGhosts}
 use Rattle.ignore_files.specs.declared.files.Files.{Ghosts}
 use Rattle.ignore_files.specs.declared.types.Refusal.{Refusal}
 use Rattle.ignore_files.specs.declared.types.Refusal.TheVariants.{Fault as Refused}
@@ -61,10 +62,10 @@ IsFaultOf-one error (listed.Fault f) (listed.Fault g) h k =
     let e : ◌≡◌ {A = Refusal} (Refused f) (Refused g) = sym h ∙ k in let same : f ≡ g = cc e in ap (λ x. listed.Fault x) same
 
 -- an entry whose type is known is reported with its name and a kind of that type
-IsEntryOf-named : (name : List ℕ) (t : MachineType) (item : Listed) → IsEntryOf name (Ok t) item
-    → (kind : FileType) × (item ≡ listed.Entry name kind) × IsReportedAs t kind
-IsEntryOf-named name t (listed.Entry n kind) h = (kind, ap (λ x. listed.Entry x kind) h.0, h.1)
-IsEntryOf-named name t (listed.Fault f) h = absurd h
+IsEntryOf-named : (IsName : List ℕ → Type 0) (t : MachineType) (item : Listed) → IsEntryOf IsName (Ok t) item
+    → (name : List ℕ) × (kind : FileType) × (item ≡ listed.Entry name kind) × IsName name × IsReportedAs t kind
+IsEntryOf-named IsName t (listed.Entry name kind) h = (name, kind, refl, h.0, h.1)
+IsEntryOf-named IsName t (listed.Fault f) h = absurd h
 
 -- what is reported as none of the three is none of them
 IsReportedAs-other : (t : MachineType) → IsReportedAs t Other → (IsDir t ⊎ (IsFile t ⊎ IsSymlink t)) → ⊥
@@ -73,9 +74,9 @@ IsReportedAs-other t h (inr (inl e)) = h.1 e
 IsReportedAs-other t h (inr (inr e)) = h.2 e
 
 -- each item is reported, and nothing else
-AreReported-length : {R A F D : Type 0} (all : List (Result (DirEntry R A F D) Error)) (items : List Listed) → AreReported all items
-    → length items ≡ length all
-AreReported-length [] [] h = refl
-AreReported-length [] (item ∷ items) h = absurd h
-AreReported-length (one ∷ more) [] h = absurd h
-AreReported-length (one ∷ more) (item ∷ items) h = ap (λ n. suc n) (AreReported-length more items h.1)
+AreReported-length : {R M E D F : Type 0} (machine : MachineGhosts R M E D F) (all : List (Result E Error)) (items : List Listed)
+    → AreReported machine all items → length items ≡ length all
+AreReported-length machine [] [] h = refl
+AreReported-length machine [] (item ∷ items) h = absurd h
+AreReported-length machine (one ∷ more) [] h = absurd h
+AreReported-length machine (one ∷ more) (item ∷ items) h = ap (λ n. suc n) (AreReported-length machine more items h.1)

@@ -4,5 +4,7 @@ pub mod Walks
 pub mod EntryLemmas
 pub mod NodeLemmas
 mod DiskLemmas
+mod Honest
+mod Truthful
 mod ChangesOnly
 mod AnswersOnly

@@ -1,83 +1,73 @@
--- The files of the machine: how answers of std are reported.
-use Rattle.std.specs.Prelude.{◌≡◌, ℕ, ℤ, List, [], ◌∷◌, Option, Some, None, Result, Ok, Err}
-use Rattle.std.specs.Iterator.{Drains}
-use Rattle.std.specs.declared.io.Error.{Error}
-use Rattle.std.specs.declared.io.ErrorKind.{ErrorKind}
-use Rattle.std.specs.declared.io.ErrorKind.TheVariants.{NotFound, PermissionDenied, NotADirectory, IsADirectory, InvalidData, InvalidFilename, FilesystemLoop, OutOfMemory}
-use Rattle.std.specs.IoError.{error_kind, raw_os_error}
-use Rattle.std.specs.Fs.{IsDir, IsFile, IsSymlink, dir_entry_name}
-use Rattle.std.specs.declared.fs.DirEntry.{DirEntry}
-use Rattle.std.specs.declared.fs.FileType.{FileType as MachineType}
+-- What the machine's files answer, and the tree that a disk is.
+use Rattle.std.specs.Prelude.{◌≡◌, ℕ, Bool, true, false, List, Option, Some, None, Result, Ok, Err}
 use Rattle.ignore_glob.specs.declared.fault.Fault.{Fault}
 use Rattle.ignore_glob.specs.declared.fault.Fault.TheVariants as fault
+use Rattle.ignore_files.specs.Tree.{Tree}
+use Rattle.ignore_files.specs.Memory.{and_then}
+use Rattle.ignore_files.specs.Machine.{Disk, MayStat, MayRead}
+use Rattle.ignore_files.specs.declared.machine.Machine.{Ghosts}
+use Rattle.ignore_files.specs.declared.disk.DiskFiles.{DiskFiles}
+use Rattle.ignore_files.specs.declared.stat.Stat.{Stat}
 use Rattle.ignore_files.specs.declared.types.Refusal.{Refusal}
-use Rattle.ignore_files.specs.declared.types.Refusal.TheVariants.{Memory}
 use Rattle.ignore_files.specs.declared.types.Refusal.TheVariants.{Fault as Refused}
 use Rattle.ignore_files.specs.declared.types.FileType.{FileType}
 use Rattle.ignore_files.specs.declared.types.FileType.TheVariants.{File, Dir, Symlink, Other}
-use Rattle.ignore_files.specs.declared.disk.DiskFiles.{DiskFiles}
-use Rattle.ignore_files.specs.declared.types.Listed.{Listed}
-use Rattle.ignore_files.specs.declared.types.Listed.TheVariants as listed
+use Rattle.ignore_files.specs.declared.types.Metadata.{Metadata}
+use Rattle.ignore_files.specs.declared.types.Identity.{Identity}
+use Rattle.ignore_files.specs.declared.types.Contents.{Contents}
 
--- the runtime whose files these are
-abbrev pub runtime_of : {R : Type 0} → DiskFiles R → R
-runtime_of files = files.rt.now
+-- the system whose files they are
+abbrev pub machine_of : {R : Type 0} → DiskFiles R → R
+machine_of files = files.rt.now
 
--- the fault of an invalid name: a name that isn't UTF-8 has no error number of the system, and a
--- name that is too long for the system has one
-abbrev pub name_fault : Option ℤ → Fault
-name_fault None = fault.BadName
-name_fault (Some code) = fault.Other
+-- kind and size of what was heard of a path
+abbrev pub metadata_of : Stat → Result Metadata Refusal
+metadata_of stat = Ok stat.metadata
 
--- five kinds keep their name, a loop of links is `LinkLimit`, out of memory stays so, and every
--- other kind is `Other`
-abbrev pub refusal_of : Option ℤ → ErrorKind → Refusal
-refusal_of code NotFound = Refused fault.NotFound
-refusal_of code PermissionDenied = Refused fault.PermissionDenied
-refusal_of code NotADirectory = Refused fault.NotADirectory
-refusal_of code IsADirectory = Refused fault.IsADirectory
-refusal_of code InvalidData = Refused fault.InvalidData
-refusal_of code InvalidFilename = Refused (name_fault code)
-refusal_of code FilesystemLoop = Refused fault.LinkLimit
-refusal_of code OutOfMemory = Memory
-refusal_of code _ = Refused fault.Other
+-- its numbers
+abbrev pub identity_of : Stat → Result (Option Identity) Refusal
+identity_of stat = Ok (Some stat.identity)
 
--- the fault of an error, as an item of an answer; out of memory is no item
-abbrev pub reported_fault : Refusal → Result Fault Refusal
-reported_fault (Refused fault) = Ok fault
-reported_fault Memory = Err Memory
+-- what `stat` answers
+abbrev pub GivesStat : {R M E D F : Type 0} → Ghosts R M E D F → R → List ℕ → Bool → Result Metadata Refusal → Type 0
+GivesStat machine r path follow answer =
+    (heard : Result Stat Refusal) × MayStat machine r path follow heard × (answer ≡ and_then metadata_of heard)
 
--- the machine's type of a file is reported as this
-abbrev pub IsReportedAs : MachineType → FileType → Type 0
-IsReportedAs t Dir = IsDir t
-IsReportedAs t File = IsFile t
-IsReportedAs t Symlink = IsSymlink t
-IsReportedAs t Other = (IsDir t → ⊥) × (IsFile t → ⊥) × (IsSymlink t → ⊥)
+-- what `identity` answers
+abbrev pub GivesIdentity : {R M E D F : Type 0} → Ghosts R M E D F → R → List ℕ → Bool → Result (Option Identity) Refusal → Type 0
+GivesIdentity machine r path follow answer =
+    (heard : Result Stat Refusal) × MayStat machine r path follow heard × (answer ≡ and_then identity_of heard)
 
--- an error is reported by its fault
-abbrev pub IsFaultOf : Error → Listed → Type 0
-IsFaultOf error (listed.Entry n kind) = ⊥
-IsFaultOf error (listed.Fault f) = refusal_of (raw_os_error error) (error_kind error) ≡ Refused f
+-- a file or a directory is opened and read, and anything else is `Other` unopened
+abbrev pub GivesOf : FileType → (Result Contents Refusal → Type 0) → Result Contents Refusal → Type 0
+GivesOf File May answer = May answer
+GivesOf Dir May answer = May answer
+GivesOf Symlink May answer = answer ≡ Err (Refused fault.Other)
+GivesOf Other May answer = answer ≡ Err (Refused fault.Other)
 
--- an entry is reported with its name and kind, or as a fault where its kind is unknown
-abbrev pub IsEntryOf : List ℕ → Result MachineType Error → Listed → Type 0
-IsEntryOf name (Ok t) (listed.Entry n kind) = (n ≡ name) × IsReportedAs t kind
-IsEntryOf name (Ok t) (listed.Fault f) = ⊥
-IsEntryOf name (Err error) item = IsFaultOf error item
+-- the same by what was heard of the path
+abbrev pub GivesAt : Result Stat Refusal → (Result Contents Refusal → Type 0) → Result Contents Refusal → Type 0
+GivesAt (Ok stat) May answer = GivesOf stat.metadata.file_type May answer
+GivesAt (Err refusal) May answer = answer ≡ Err refusal
 
--- one item of the machine's listing is reported as this
-abbrev pub IsReported : {R A F D : Type 0} → Result (DirEntry R A F D) Error → Listed → Type 0
-IsReported (Ok entry) item = (kind : Result MachineType Error) × IsEntryOf (dir_entry_name entry) kind item
-IsReported (Err error) item = IsFaultOf error item
+-- what `contents` answers
+abbrev pub GivesContents : {R M E D F : Type 0} → Ghosts R M E D F → R → List ℕ → Result Contents Refusal → Type 0
+GivesContents machine r path answer =
+    (heard : Result Stat Refusal) × MayStat machine r path true heard × GivesAt heard (MayRead machine r path) answer
 
--- all items of the machine's listing are reported as these, in order
-abbrev pub AreReported : {R A F D : Type 0} → List (Result (DirEntry R A F D) Error) → List Listed → Type 0
-AreReported [] [] = Unit {0}
-AreReported [] (item ∷ items) = ⊥
-AreReported (one ∷ more) [] = ⊥
-AreReported (one ∷ more) (item ∷ items) = IsReported one item × AreReported more items
+-- the contents at a path of this kind, where reading gives these
+abbrev pub contents_at : FileType → Result Contents Fault → Result Contents Fault
+contents_at File contents = contents
+contents_at Dir contents = contents
+contents_at Symlink contents = Err fault.Other
+contents_at Other contents = Err fault.Other
 
--- the listing reports all items of the machine's listing, from the first to the last
-abbrev pub IsListingOf : {S R A F D : Type 0} → (S → Option (Result (DirEntry R A F D) Error) → S → Type 0) → S → List Listed → Type 0
-IsListingOf {S} {R} {A} {F} {D} steps s listing =
-    (all : List (Result (DirEntry R A F D) Error)) × Drains steps s all × AreReported all listing
+-- the tree that a disk is
+abbrev pub tree_on : Disk → Tree
+tree_on disk = record {
+  stat = λ path follow. and_then (λ stat. Ok stat.metadata) (disk.stat path follow);
+  list = disk.list;
+  contents = λ path. and_then (λ stat. contents_at stat.metadata.file_type (disk.read path)) (disk.stat path true);
+  canonical = disk.canonical;
+  identity = λ path follow. and_then (λ stat. Ok (Some stat.identity)) (disk.stat path follow);
+}

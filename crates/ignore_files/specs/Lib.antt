@@ -7,5 +7,8 @@ pub mod Refusals
 pub mod Resolve
 pub mod Answers
 pub mod Changes
+pub mod Reported
+pub mod Machine
 pub mod Disk
+pub mod Table
 pub mod Variables

@@ -1,109 +1,169 @@
 //! The machine's files.
-ghost use Rattle.std.specs.Prelude.{◌≡◌, IfOk, IfErr, IfSome, MatchResult};
-ghost use Rattle.std.specs.Fs.{dir_entry_name, file_type, metadata_len};
-ghost use Rattle.std.specs.Io.KnownBytes.{Consumes};
+ghost use Rattle.std.specs.Prelude.{◌≡◌, Ok, Err, MatchResult, MatchOption, ⊤};
+ghost use Rattle.std.specs.Path.{path_buf_bytes};
 ghost use Rattle.std.specs.Iterator.{IsFinite};
-ghost use Rattle.std.specs.IoError.{error_kind, raw_os_error};
-ghost use Rattle.ignore_files.specs.Disk.{refusal_of, reported_fault, IsEntryOf, IsListingOf, IsReportedAs, IsReported, runtime_of};
+ghost use Rattle.ignore_files.specs.Reported.{IsEntryOf};
+ghost use Rattle.ignore_files.specs.Machine.{metadata_gives, IsStatOf, IsReported, IsListingOf, IsReadOf, IsTruthful, Disk, MayStat, MayList, MayRead, MayCanonicalize};
+ghost use Rattle.ignore_files.specs.declared.types.Refusal.TheVariants.{Memory};
 
+use crate::ask::{ask, ask_at, fault_of, is_interrupted, kind_of};
 use crate::files::Files;
+use crate::machine::Machine;
+use crate::stat::Stat;
 use crate::types::{Bytes, Contents, FileType, Identity, Listed, Listing, Metadata, Name, Refusal};
 use ignore_glob::Fault;
 use std::alloc::Global;
-use std::io::Read;
-use std::os::unix::fs::MetadataExt;
-use std::{fs, io, rt};
+use std::io;
 
 /// How much room a read begins with, in bytes: where little is spare, reading an opened
 /// directory can fail otherwise than the system says.
 const FIRST_READ: usize = 32 * 1024;
 
-/// The machine's files, as std tells of them through a runtime.
+/// The machine's files, as std reports them through a runtime `R`; or those of any other
+/// `Machine`, as a fake one in a test.
 ///
-/// Each call is safe and returns, whatever the machine answers. What it answers is the
-/// machine's word; contracts speak of how that is told. A name that isn't UTF-8 is
-/// `Fault::BadName` (a name that the system finds too long isn't), a loop of links
-/// `Fault::LinkLimit`, a refused allocation `Refusal::Memory`; of the other errors five keep
-/// their name (not found, permission denied, not a directory, is a directory, invalid data),
-/// and all else is `Fault::Other`. A listing tells each thing that the machine lists, in its
-/// order, and what was read of a file stands before the fault that ended the reading.
+/// Each call asks the machine and returns its answer in this crate's types. Contracts state each
+/// answer from the machine's (`GivesStat`, `MayList` ..); where the machine answers truly from
+/// one disk, these files are consistent with the tree on it (`is_honest`). The machine is asked again
+/// where a signal interrupted it (`EINTR`), and never about a path with a NUL, which is not
+/// found. Of its errors five keep their name (not found, permission denied, not a directory, is a
+/// directory, invalid data); a name that isn't UTF-8 is `Fault::BadName` (one that the system
+/// finds too long isn't), a loop of links `Fault::LinkLimit`, out of memory `Refusal::Memory`, and
+/// all else `Fault::Other`.
+///
+/// - `stat` and `identity`: one system call.
+/// - `list`: each thing that the directory gives, in its order; an entry whose kind can't be had
+///   is a fault without its name. A system call for each entry, since the kit drops the kinds
+///   that the system gives with the names.
+/// - `contents`: what leads to neither a file nor a directory, as a pipe or a device, is
+///   `Fault::Other` and isn't opened (unless it is put in a file's place between the two system
+///   calls). What was read of a file stands before the fault that ended the reading.
 #[derive(Drop)]
 pub struct DiskFiles<'r, R> {
     rt: &'r R,
 }
 
 impl<'r, R> DiskFiles<'r, R> {
+    ghost use Rattle.std.specs.Prelude.{◌≡◌};
+    ghost use Rattle.ignore_files.specs.Disk.{machine_of};
+
     /// The files that this runtime reaches.
     pub fn new(rt: &'r R) -> DiskFiles<'r, R>
-        ensures { runtime_of result ≡ rt.now }
+        ensures { machine_of result ≡ rt.now }
     {
         DiskFiles { rt }
     }
 }
 
-/// What an error of the machine is told as.
-fn refusal_of(error: io::Error) -> Refusal
-    ensures { result ≡ refusal_of (raw_os_error error) (error_kind error) }
+/// What the machine says of a path.
+fn stat<R: Machine>(machine: &R, path: &str, follow: bool) -> Result<Stat, Refusal>
+    ensures { MayStat R.Machine machine.now path.now follow result }
 {
-    match error.kind() {
-        io::ErrorKind::NotFound => Refusal::Fault(Fault::NotFound),
-        io::ErrorKind::PermissionDenied => Refusal::Fault(Fault::PermissionDenied),
-        io::ErrorKind::NotADirectory => Refusal::Fault(Fault::NotADirectory),
-        io::ErrorKind::IsADirectory => Refusal::Fault(Fault::IsADirectory),
-        io::ErrorKind::InvalidData => Refusal::Fault(Fault::InvalidData),
-        io::ErrorKind::InvalidFilename if error.raw_os_error().is_none() => {
-            Refusal::Fault(Fault::BadName)
-        }
-        io::ErrorKind::FilesystemLoop => Refusal::Fault(Fault::LinkLimit),
-        io::ErrorKind::OutOfMemory => Refusal::Memory,
-        _ => Refusal::Fault(Fault::Other),
+    let heard = ask_at(path, || metadata(machine, path, follow));
+    match heard {
+        Ok(metadata) => Ok(stat_of::<R>(&metadata)),
+        Err(refusal) => Err(refusal),
     }
 }
 
-/// A fault that stands in the answer; a refused allocation ends the call.
-fn fault_of(error: io::Error) -> Result<Fault, Refusal>
-    ensures { result ≡ reported_fault (refusal_of (raw_os_error error) (error_kind error)) }
+/// What the machine says of a path, asked once.
+fn metadata<R: Machine>(machine: &R, path: &str, follow: bool) -> io::Result<R::Metadata>
+    ensures { metadata_gives R.Machine machine.now follow path.now result }
 {
-    match refusal_of(error) {
-        Refusal::Fault(fault) => Ok(fault),
-        Refusal::Memory => Err(Refusal::Memory),
-    }
-}
-
-/// What is told of the machine's type of a file.
-fn kind_of(kind: fs::FileType) -> FileType
-    ensures { IsReportedAs kind result }
-{
-    if kind.is_dir() {
-        FileType::Dir
-    } else if kind.is_file() {
-        FileType::File
-    } else if kind.is_symlink() {
-        FileType::Symlink
+    if follow {
+        machine.metadata(path)
     } else {
-        FileType::Other
+        machine.symlink_metadata(path)
     }
 }
 
-/// What is told of a path.
-fn reported(metadata: &fs::Metadata) -> Metadata
-    ensures file_type { IsReportedAs (file_type metadata.now) result.file_type }
-    ensures len { result.len ≡ metadata_len metadata.now }
+/// What is read off an answer about a path.
+fn stat_of<R: Machine>(metadata: &R::Metadata) -> Stat
+    ensures { IsStatOf R.Machine metadata.now result }
 {
-    Metadata {
-        file_type: kind_of(metadata.file_type()),
-        len: metadata.len(),
+    Stat {
+        metadata: Metadata {
+            file_type: kind_of(R::file_type(metadata)),
+            len: R::len(metadata),
+        },
+        identity: Identity {
+            device: R::dev(metadata),
+            inode: R::ino(metadata),
+        },
+    }
+}
+
+/// What the machine lists of a directory, or `None` where it was interrupted on the way.
+fn list_once<R: Machine>(alloc: Global, machine: &R, path: &str) -> Result<Option<Listing>, Refusal>
+    ensures { MatchResult result
+        (λ found. MatchOption found
+        (MayList R.Machine R.Dir.next_gives machine.now path.now (Err Memory))
+        (λ listing. MayList R.Machine R.Dir.next_gives machine.now path.now (Ok listing)))
+        (λ e. MayList R.Machine R.Dir.next_gives machine.now path.now (Err e)) }
+{
+    match ask_at(path, || machine.read_dir(path)) {
+        Ok(dir) => listing_of::<R>(alloc, dir),
+        Err(refusal) => Err(refusal),
+    }
+}
+
+/// All that a directory gives, or `None` where the machine was interrupted on the way.
+fn listing_of<R: Machine>(alloc: Global, dir: R::Dir) -> Result<Option<Listing>, Refusal>
+where
+    requires callable { R.Dir.can_next dir }
+    requires ends { IsFinite (R.Dir.remaining dir) }
+    ensures { MatchResult result
+        (λ found. MatchOption found ⊤ (λ listing. IsListingOf R.Machine R.Dir.next_gives dir listing)) (λ e. e ≡ Memory) }
+{
+    let mut listed = Vec::new(alloc);
+    for entry in dir {
+        if is_interrupted(&entry) {
+            return Ok(None);
+        }
+        listed.push(listed_of::<R>(alloc, entry)?)?;
+    }
+    Ok(Some(Listing::new(listed)))
+}
+
+/// As what one of the things that a directory gives is reported.
+fn listed_of<R: Machine>(alloc: Global, entry: io::Result<R::Entry>) -> Result<Listed, Refusal>
+    ensures { MatchResult result (λ listed. IsReported R.Machine entry listed) (λ e. e ≡ Memory) }
+{
+    match entry {
+        Ok(entry) => entry_of::<R>(alloc, &entry),
+        Err(error) => Ok(Listed::Fault(fault_of(error)?)),
+    }
+}
+
+/// As what an entry is reported.
+fn entry_of<R: Machine>(alloc: Global, entry: &R::Entry) -> Result<Listed, Refusal>
+    ensures { MatchResult result (λ listed. IsReported R.Machine (Ok entry.now) listed) (λ e. e ≡ Memory) }
+{
+    match ask(|| R::entry_type(entry)) {
+        Ok(kind) => Ok(Listed::Entry {
+            name: Name::new(String::from_str(alloc, R::file_name(entry))?),
+            file_type: kind_of(kind),
+        }),
+        Err(error) => Ok(Listed::Fault(fault_of(error)?)),
+    }
+}
+
+/// What the machine has of a file's bytes.
+fn contents<R: Machine>(alloc: Global, machine: &R, path: &str) -> Result<Contents, Refusal>
+    ensures { MayRead R.Machine machine.now path.now result }
+{
+    match ask_at(path, || machine.open(path)) {
+        Ok(file) => read::<R>(alloc, file),
+        Err(refusal) => Err(refusal),
     }
 }
 
 /// All that an opened file gives, or what it gave before a fault.
-fn read<F: Read>(alloc: Global, file: &mut F) -> Result<Contents, Refusal>
-    ensures whole { IfOk result (λ contents. contents.fault ≡ None → IfSome (F.remaining file.old) (λ bytes. contents.bytes ≡ bytes)) }
-    ensures in_order { IfOk result (λ contents. Consumes (F.remaining file.old) (F.remaining file.new) contents.bytes) }
-    ensures out_of_memory { IfErr result (λ e. e ≡ Refusal.Memory) }
+fn read<R: Machine>(alloc: Global, mut file: R::File) -> Result<Contents, Refusal>
+    ensures { IsReadOf R.Machine file result }
 {
     let mut bytes = Vec::with_capacity(alloc, FIRST_READ)?;
-    let fault = match file.read_to_end(&mut bytes) {
+    let fault = match R::read_to_end(&mut file, &mut bytes) {
         Ok(_) => None,
         Err(error) => Some(fault_of(error)?),
     };
@@ -111,91 +171,61 @@ fn read<F: Read>(alloc: Global, file: &mut F) -> Result<Contents, Refusal>
     Ok(Contents { bytes, fault })
 }
 
-/// What is told of all that a directory lists.
-fn listing_of<R, I>(alloc: Global, entries: I) -> Result<Listing, Refusal>
-where
-    R: rt::Files + Clone + Drop + AllocGlobal,
-    I: Iterator<Item = io::Result<fs::DirEntry<R, Global>>> + Drop,
-    requires callable { I.can_next entries }
-    requires ends { IsFinite (I.remaining entries) }
-    ensures { MatchResult result (λ listing. IsListingOf I.next_gives entries listing) (λ e. e ≡ Refusal.Memory) }
+/// The one path without links, as the machine has it.
+fn canonical<R: Machine>(machine: &R, path: &str) -> Result<Name, Refusal>
+    ensures { MayCanonicalize R.Machine machine.now path.now result }
 {
-    let mut listed = Vec::new(alloc);
-    for entry in entries {
-        listed.push(listed_of(alloc, entry)?)?;
-    }
-    Ok(Listing::new(listed))
-}
-
-/// What is told of one of the things that a directory lists.
-fn listed_of<R>(
-    alloc: Global,
-    entry: io::Result<fs::DirEntry<R, Global>>,
-) -> Result<Listed, Refusal>
-where
-    R: rt::Files + Clone + Drop + AllocGlobal,
-    ensures { MatchResult result (λ listed. IsReported entry listed) (λ e. e ≡ Refusal.Memory) }
-{
-    match entry {
-        Ok(entry) => entry_of(alloc, &entry, entry.file_type()),
-        Err(error) => Ok(Listed::Fault(fault_of(error)?)),
+    match ask_at(path, || machine.canonicalize(path)) {
+        Ok(found) => Ok(Name::new(found.into_string())),
+        Err(refusal) => Err(refusal),
     }
 }
 
-/// What is told of an entry whose kind the machine tells so.
-fn entry_of<R>(
-    alloc: Global,
-    entry: &fs::DirEntry<R, Global>,
-    kind: io::Result<fs::FileType>,
-) -> Result<Listed, Refusal>
-where
-    R: rt::Files + Clone + Drop + AllocGlobal,
-    ensures { MatchResult result (λ listed. IsEntryOf (dir_entry_name entry.now) kind listed) (λ e. e ≡ Refusal.Memory) }
-{
-    match kind {
-        Ok(kind) => Ok(Listed::Entry {
-            name: Name::new(String::from_str(alloc, entry.file_name())?),
-            file_type: kind_of(kind),
-        }),
-        Err(error) => Ok(Listed::Fault(fault_of(error)?)),
-    }
-}
+impl<'r, R: Machine> Files for DiskFiles<'r, R> {
+    ghost use Rattle.std.specs.Prelude.{true};
+    ghost use Rattle.ignore_files.specs.Machine.{MayList, MayCanonicalize};
+    ghost use Rattle.ignore_files.specs.Disk.{machine_of, GivesStat, GivesIdentity, GivesContents};
 
-impl<'r, R> DiskFiles<'r, R>
-where
-    R: rt::Files + Clone + Drop + AllocGlobal,
-{
-    fn metadata_of(&self, path: &str, follow: bool) -> Result<fs::Metadata, Refusal> {
-        let answer = if follow {
-            fs::metadata(self.rt, path)
-        } else {
-            fs::symlink_metadata(self.rt, path)
-        };
-        answer.map_err(refusal_of)
-    }
-}
+    ghost stat_gives = { λ files path follow answer. GivesStat R.Machine (machine_of files) path follow answer };
 
-impl<'r, R> Files for DiskFiles<'r, R>
-where
-    R: rt::Files + Clone + Drop + AllocGlobal,
-{
+    ghost list_gives = { λ files path answer. MayList R.Machine R.Dir.next_gives (machine_of files) path answer };
+
+    ghost contents_gives = { λ files path answer. GivesContents R.Machine (machine_of files) path answer };
+
+    ghost canonical_gives = { λ files path answer. MayCanonicalize R.Machine (machine_of files) path answer };
+
+    ghost identity_gives = { λ files path follow answer. GivesIdentity R.Machine (machine_of files) path follow answer };
+
     fn stat(&self, _alloc: Global, path: &str, follow: bool) -> Result<Metadata, Refusal> {
-        Ok(reported(&self.metadata_of(path, follow)?))
+        match stat(self.rt, path, follow) {
+            Ok(stat) => Ok(stat.metadata),
+            Err(refusal) => Err(refusal),
+        }
     }
 
     fn list(&self, alloc: Global, path: &str) -> Result<Listing, Refusal> {
-        let entries = fs::read_dir(self.rt, path).map_err(refusal_of)?;
-        listing_of(alloc, entries)
+        for _ in 0..u64::MAX {
+            if let Some(listing) = list_once(alloc, self.rt, path)? {
+                return Ok(listing);
+            }
+        }
+        list_once(alloc, self.rt, path)?.ok_or(Refusal::Memory)
     }
 
     fn contents(&self, alloc: Global, path: &str) -> Result<Contents, Refusal> {
-        let mut file = fs::open(self.rt, path).map_err(refusal_of)?;
-        read(alloc, &mut file)
+        match stat(self.rt, path, true) {
+            Ok(stat) => match stat.metadata.file_type {
+                FileType::File => contents(alloc, self.rt, path),
+                FileType::Dir => contents(alloc, self.rt, path),
+                FileType::Symlink => Err(Refusal::Fault(Fault::Other)),
+                FileType::Other => Err(Refusal::Fault(Fault::Other)),
+            },
+            Err(refusal) => Err(refusal),
+        }
     }
 
-    fn canonical(&self, alloc: Global, path: &str) -> Result<Name, Refusal> {
-        let path = fs::canonicalize(self.rt, path).map_err(refusal_of)?;
-        Ok(Name::new(String::from_str(alloc, path.as_str())?))
+    fn canonical(&self, _alloc: Global, path: &str) -> Result<Name, Refusal> {
+        canonical(self.rt, path)
     }
 
     fn identity(
@@ -204,10 +234,22 @@ where
         path: &str,
         follow: bool,
     ) -> Result<Option<Identity>, Refusal> {
-        let metadata = self.metadata_of(path, follow)?;
-        Ok(Some(Identity {
-            device: metadata.dev(),
-            inode: metadata.ino(),
-        }))
+        match stat(self.rt, path, follow) {
+            Ok(stat) => Ok(Some(stat.identity)),
+            Err(refusal) => Err(refusal),
+        }
     }
+}
+
+impl<'r, R: Machine> DiskFiles<'r, R> {
+    ghost use Rattle.ignore_files.specs.Machine.{Disk, IsTruthful};
+    ghost use Rattle.ignore_files.specs.Gives.{IsHonest};
+    ghost use Rattle.ignore_files.specs.Disk.{machine_of, tree_on};
+
+    /// Where the machine answers truly from one disk, these files are consistent with the tree on
+    /// it.
+    pub fn is_honest(&self)
+        ensures { (disk : Disk) → IsTruthful R.Machine R.Dir.next_gives (machine_of self.now) disk
+            → IsHonest ⟦<DiskFiles<'r, R> as Files>⟧ self.now (tree_on disk) }
+    {}
 }

@@ -2,10 +2,14 @@
 //! files; and the environment of a run (`Env`), which is handed in.
 #![tactic(auto)]
 
+mod ask;
 mod disk;
 mod env;
 mod files;
+mod machine;
 mod memory;
+mod stat;
+mod table;
 mod tree_error;
 mod types;
 
@@ -13,6 +17,9 @@ pub use disk::DiskFiles;
 pub use env::Env;
 pub use files::Files;
 pub use ignore_glob::Fault;
+pub use machine::Machine;
 pub use memory::MemoryTree;
+pub use stat::Stat;
+pub use table::{Row, TableMachine};
 pub use tree_error::TreeError;
 pub use types::{Bytes, Contents, FileType, Identity, Listed, Listing, Metadata, Name, Refusal};

@@ -17,4 +17,6 @@ mod large;
 #[cfg(test)]
 mod long_globs;
 #[cfg(test)]
+mod machines;
+#[cfg(test)]
 mod queries;

@@ -1,0 +1,334 @@
+//! The machine's files over machines that interrupt, refuse, lie and list strange names.
+use ignore_files::{DiskFiles, Fault, Files, Identity, Machine, Refusal};
+use std::alloc::Global;
+use std::cell::Cell;
+use std::os::fd::AsRawFd;
+use std::os::unix::fs::MetadataExt;
+use std::path::PathBuf;
+use std::test::Fail;
+use std::vec::IntoIter;
+use std::{fs, io};
+
+/// A machine on which each path leads to a thing of one type, and each directory has the same
+/// names.
+#[derive(Drop)]
+struct Fake {
+    alloc: Global,
+    /// The type of each thing.
+    file_type: fs::FileType,
+    /// How often each directory has its name.
+    count: u32,
+    /// The name.
+    name: &'static str,
+    /// How many steps were made: questions, and entries that were given.
+    steps: Cell<u32>,
+    /// The number of the step that is interrupted.
+    interrupted: u32,
+    /// How many questions were asked.
+    asked: Cell<u32>,
+    /// The number of the question that is refused.
+    refused: u32,
+    /// Whether a file was opened.
+    is_opened: Cell<bool>,
+}
+
+/// An entry whose kind is known or not. The first question about it is interrupted.
+#[derive(Drop)]
+struct Entry {
+    name: &'static str,
+    file_type: Option<fs::FileType>,
+    is_asked: Cell<bool>,
+}
+
+impl Fake {
+    /// A machine that answers each question.
+    fn new(alloc: Global, file_type: fs::FileType, count: u32, name: &'static str) -> Fake {
+        Fake {
+            alloc,
+            file_type,
+            count,
+            name,
+            steps: Cell::new(0),
+            interrupted: 0,
+            asked: Cell::new(0),
+            refused: 0,
+            is_opened: Cell::new(false),
+        }
+    }
+
+    /// Makes a step, and whether it was interrupted.
+    fn is_interrupted(&self) -> bool {
+        let step = self.steps.get().saturating_add(1);
+        self.steps.set(step);
+        step == self.interrupted
+    }
+
+    /// Counts a question, which may be interrupted or refused.
+    fn count_question(&self) -> io::Result<()> {
+        if self.is_interrupted() {
+            return Err(io::Error::from(io::ErrorKind::Interrupted));
+        }
+        let asked = self.asked.get().saturating_add(1);
+        self.asked.set(asked);
+        if asked == self.refused {
+            Err(io::Error::from(io::ErrorKind::PermissionDenied))
+        } else {
+            Ok(())
+        }
+    }
+
+    /// An entry, or an interruption in its place; an empty name stands for one that isn't UTF-8,
+    /// and `lost` for an entry that is gone when its kind is asked.
+    fn entry(&self) -> io::Result<Entry> {
+        if self.is_interrupted() {
+            return Err(io::Error::from(io::ErrorKind::Interrupted));
+        }
+        if self.name.is_empty() {
+            return Err(io::Error::from(io::ErrorKind::InvalidFilename));
+        }
+        Ok(Entry {
+            name: self.name,
+            file_type: if self.name == "lost" { None } else { Some(self.file_type) },
+            is_asked: Cell::new(false),
+        })
+    }
+}
+
+impl Machine for Fake {
+    type Metadata = fs::FileType;
+
+    type Entry = Entry;
+
+    type Dir = IntoIter<io::Result<Entry>, Global>;
+
+    type File = u8;
+
+    fn metadata(&self, _path: &str) -> io::Result<fs::FileType> {
+        self.count_question()?;
+        Ok(self.file_type)
+    }
+
+    fn symlink_metadata(&self, _path: &str) -> io::Result<fs::FileType> {
+        self.count_question()?;
+        Ok(self.file_type)
+    }
+
+    fn file_type(metadata: &fs::FileType) -> fs::FileType {
+        *metadata
+    }
+
+    fn len(_metadata: &fs::FileType) -> u64 {
+        3
+    }
+
+    fn dev(_metadata: &fs::FileType) -> u64 {
+        7
+    }
+
+    fn ino(_metadata: &fs::FileType) -> u64 {
+        8
+    }
+
+    fn read_dir(&self, _path: &str) -> io::Result<IntoIter<io::Result<Entry>, Global>> {
+        self.count_question()?;
+        let mut entries = Vec::new(self.alloc);
+        for _ in 0..self.count {
+            entries.push(self.entry())?;
+        }
+        Ok(entries.into_iter())
+    }
+
+    fn file_name<'e>(entry: &'e Entry) -> &'e str {
+        entry.name
+    }
+
+    fn entry_type(entry: &Entry) -> io::Result<fs::FileType> {
+        if !entry.is_asked.replace(true) {
+            return Err(io::Error::from(io::ErrorKind::Interrupted));
+        }
+        match entry.file_type {
+            Some(file_type) => Ok(file_type),
+            None => Err(io::Error::from(io::ErrorKind::NotFound)),
+        }
+    }
+
+    fn open(&self, _path: &str) -> io::Result<u8> {
+        self.is_opened.set(true);
+        self.count_question()?;
+        Ok(b'a')
+    }
+
+    fn read_to_end(file: &mut u8, buf: &mut Vec<u8>) -> io::Result<usize> {
+        buf.push(*file)?;
+        Err(io::Error::from(io::ErrorKind::PermissionDenied))
+    }
+
+    fn canonicalize(&self, path: &str) -> io::Result<PathBuf> {
+        self.count_question()?;
+        Ok(PathBuf::from_str(self.alloc, path)?)
+    }
+}
+
+/// What the five calls answer, as a text.
+fn answers(alloc: Global, machine: &Fake, path: &str) -> Result<String, Fail> {
+    let disk = DiskFiles::new(machine);
+    let stat = disk.stat(alloc, path, true);
+    let identity = disk.identity(alloc, path, false);
+    let list = disk.list(alloc, path);
+    let contents = disk.contents(alloc, path);
+    let canonical = disk.canonical(alloc, path);
+    Ok(format!(in alloc; "{stat:?}|{identity:?}|{list:?}|{contents:?}|{canonical:?}")?)
+}
+
+/// What a machine of directories answers, where this question is refused and this step is
+/// interrupted.
+fn answers_of(rt: &HostRuntime, refused: u32, interrupted: u32) -> Result<String, Fail> {
+    let mut machine = Fake::new(rt.alloc(), directory(), 2, "a");
+    machine.refused = refused;
+    machine.interrupted = interrupted;
+    answers(rt.alloc(), &machine, "path")
+}
+
+/// The type of a directory.
+fn directory() -> fs::FileType {
+    fs::Metadata::of_dir().file_type()
+}
+
+/// What it answers where nothing is refused.
+const ANSWERS: &str = "Ok(Metadata { file_type: Dir, len: 3 })|Ok(Some(Identity { device: 7, inode: 8 }))|Ok(Listing { items: [Entry { name: Name { text: \"a\" }, file_type: Dir }, Entry { name: Name { text: \"a\" }, file_type: Dir }] })|Ok(Contents { bytes: Bytes { bytes: [97] }, fault: Some(PermissionDenied) })|Ok(Name { text: \"path\" })";
+
+#[test]
+fn interrupted_questions_are_asked_again(rt: HostRuntime) -> Result<(), Fail> {
+    for interrupted in 0..12 {
+        let text = answers_of(&rt, 0, interrupted)?;
+        assert_eq!(rt; text.as_str(), ANSWERS);
+    }
+    Ok(())
+}
+
+/// How many of the five answers are that permission was denied.
+fn denied(answers: &str) -> usize {
+    answers
+        .split('|')
+        .filter(|answer| *answer == "Err(Fault(PermissionDenied))")
+        .count()
+}
+
+#[test]
+fn each_refused_question_ends_its_call_alone(rt: HostRuntime) -> Result<(), Fail> {
+    for refused in 1..7 {
+        let text = answers_of(&rt, refused, 0)?;
+        assert_eq!(rt; denied(&text), 1);
+    }
+    Ok(())
+}
+
+/// What a directory with this name in it is listed as.
+fn listed(rt: &HostRuntime, name: &'static str) -> Result<String, Fail> {
+    let machine = Fake::new(rt.alloc(), directory(), 1, name);
+    let listing = DiskFiles::new(&machine).list(rt.alloc(), "path")?;
+    Ok(format!(in rt.alloc(); "{:?}", listing.as_slice())?)
+}
+
+#[test]
+fn an_entry_that_is_lost_before_its_kind_is_a_fault(rt: HostRuntime) -> Result<(), Fail> {
+    let text = listed(&rt, "lost")?;
+    assert_eq!(rt; text.as_str(), "[Fault(NotFound)]");
+    Ok(())
+}
+
+#[test]
+fn a_name_that_is_not_utf8_is_a_fault(rt: HostRuntime) -> Result<(), Fail> {
+    let text = listed(&rt, "")?;
+    assert_eq!(rt; text.as_str(), "[Fault(BadName)]");
+    Ok(())
+}
+
+#[test]
+fn a_name_with_a_slash_is_listed_as_it_is(rt: HostRuntime) -> Result<(), Fail> {
+    let text = listed(&rt, "a/../b")?;
+    assert_eq!(rt; text.as_str(), "[Entry { name: Name { text: \"a/../b\" }, file_type: Dir }]");
+    Ok(())
+}
+
+#[test]
+fn a_name_with_a_nul_is_listed_as_it_is(rt: HostRuntime) -> Result<(), Fail> {
+    let text = listed(&rt, "a\0b")?;
+    assert_eq!(rt; text.as_str(), "[Entry { name: Name { text: \"a\\0b\" }, file_type: Dir }]");
+    Ok(())
+}
+
+#[test]
+fn a_hundred_thousand_names_are_listed(rt: HostRuntime) -> Result<(), Fail> {
+    let machine = Fake::new(rt.alloc(), directory(), 100_000, "name");
+    let count = DiskFiles::new(&machine).list(rt.alloc(), "path")?.len();
+    assert_eq!(rt; count, 100_000);
+    Ok(())
+}
+
+#[test]
+fn a_path_with_a_nul_is_not_found_and_not_asked(rt: HostRuntime) -> Result<(), Fail> {
+    let machine = Fake::new(rt.alloc(), directory(), 1, "a");
+    let text = answers(rt.alloc(), &machine, "a\0b")?;
+    assert_eq!(rt; text.split('|').filter(|answer| *answer == "Err(Fault(NotFound))").count(), 5);
+    assert_eq!(rt; machine.asked.get(), 0);
+    Ok(())
+}
+
+#[test]
+fn a_device_is_not_opened(rt: HostRuntime) -> Result<(), Fail> {
+    let file_type = fs::metadata(&rt, "/dev/null")?.file_type();
+    let machine = Fake::new(rt.alloc(), file_type, 1, "a");
+    let contents = DiskFiles::new(&machine).contents(rt.alloc(), "path");
+    assert_eq!(rt; contents.err(), Some(Refusal::Fault(Fault::Other)));
+    assert!(rt; !machine.is_opened.get());
+    Ok(())
+}
+
+#[test]
+fn an_endless_device_of_the_machine_is_not_read(rt: HostRuntime) -> Result<(), Fail> {
+    let contents = DiskFiles::new(&rt).contents(rt.alloc(), "/dev/zero");
+    assert_eq!(rt; contents.err(), Some(Refusal::Fault(Fault::Other)));
+    Ok(())
+}
+
+#[test]
+fn a_pipe_of_the_machine_is_not_read(rt: HostRuntime) -> Result<(), Fail> {
+    let ends = io::pipe(&rt)?;
+    let path = format!(in rt.alloc(); "/proc/self/fd/{}", ends.0.as_raw_fd())?;
+    let contents = DiskFiles::new(&rt).contents(rt.alloc(), &path);
+    assert_eq!(rt; contents.err(), Some(Refusal::Fault(Fault::Other)));
+    Ok(())
+}
+
+/// The numbers that std reports of a path, links followed or not.
+fn numbers(rt: &HostRuntime, path: &str, follow: bool) -> io::Result<(u64, u64)> {
+    let metadata = if follow {
+        fs::metadata(rt, path)?
+    } else {
+        fs::symlink_metadata(rt, path)?
+    };
+    Ok((metadata.dev(), metadata.ino()))
+}
+
+/// The same by the machine's files.
+fn identity(rt: &HostRuntime, path: &str, follow: bool) -> Result<(u64, u64), Fail> {
+    match DiskFiles::new(rt).identity(rt.alloc(), path, follow)? {
+        Some(Identity { device, inode }) => Ok((device, inode)),
+        None => Ok((0, 0)),
+    }
+}
+
+#[test]
+fn device_and_inode_are_those_that_std_reports(rt: HostRuntime) -> Result<(), Fail> {
+    for path in ["/", "/dev/null", "/proc/self"] {
+        assert_eq!(rt; identity(&rt, path, true)?, numbers(&rt, path, true)?);
+    }
+    Ok(())
+}
+
+#[test]
+fn device_and_inode_of_a_link_are_its_own(rt: HostRuntime) -> Result<(), Fail> {
+    assert_eq!(rt; identity(&rt, "/proc/self", false)?, numbers(&rt, "/proc/self", false)?);
+    Ok(())
+}
