@@ -88,7 +88,11 @@ impl Fake {
         }
         Ok(Entry {
             name: self.name,
-            file_type: if self.name == "lost" { None } else { Some(self.file_type) },
+            file_type: if self.name == "lost" {
+                None
+            } else {
+                Some(self.file_type)
+            },
             is_asked: Cell::new(false),
         })
     }
@@ -195,7 +199,8 @@ fn directory() -> fs::FileType {
 }
 
 /// What it answers where nothing is refused.
-const ANSWERS: &str = "Ok(Metadata { file_type: Dir, len: 3 })|Ok(Some(Identity { device: 7, inode: 8 }))|Ok(Listing { items: [Entry { name: Name { text: \"a\" }, file_type: Dir }, Entry { name: Name { text: \"a\" }, file_type: Dir }] })|Ok(Contents { bytes: Bytes { bytes: [97] }, fault: Some(PermissionDenied) })|Ok(Name { text: \"path\" })";
+const ANSWERS: &str =
+    "Ok(Metadata { file_type: Dir, len: 3 })|Ok(Some(Identity { device: 7, inode: 8 }))|Ok(Listing { items: [Entry { name: Name { text: \"a\" }, file_type: Dir }, Entry { name: Name { text: \"a\" }, file_type: Dir }] })|Ok(Contents { bytes: Bytes { bytes: [97] }, fault: Some(PermissionDenied) })|Ok(Name { text: \"path\" })";
 
 #[test]
 fn interrupted_questions_are_asked_again(rt: HostRuntime) -> Result<(), Fail> {
@@ -247,14 +252,20 @@ fn a_name_that_is_not_utf8_is_a_fault(rt: HostRuntime) -> Result<(), Fail> {
 #[test]
 fn a_name_with_a_slash_is_listed_as_it_is(rt: HostRuntime) -> Result<(), Fail> {
     let text = listed(&rt, "a/../b")?;
-    assert_eq!(rt; text.as_str(), "[Entry { name: Name { text: \"a/../b\" }, file_type: Dir }]");
+    assert_eq!(rt;
+        text.as_str(),
+        "[Entry { name: Name { text: \"a/../b\" }, file_type: Dir }]"
+    );
     Ok(())
 }
 
 #[test]
 fn a_name_with_a_nul_is_listed_as_it_is(rt: HostRuntime) -> Result<(), Fail> {
     let text = listed(&rt, "a\0b")?;
-    assert_eq!(rt; text.as_str(), "[Entry { name: Name { text: \"a\\0b\" }, file_type: Dir }]");
+    assert_eq!(rt;
+        text.as_str(),
+        "[Entry { name: Name { text: \"a\\0b\" }, file_type: Dir }]"
+    );
     Ok(())
 }
 
@@ -270,7 +281,12 @@ fn a_hundred_thousand_names_are_listed(rt: HostRuntime) -> Result<(), Fail> {
 fn a_path_with_a_nul_is_not_found_and_not_asked(rt: HostRuntime) -> Result<(), Fail> {
     let machine = Fake::new(rt.alloc(), directory(), 1, "a");
     let text = answers(rt.alloc(), &machine, "a\0b")?;
-    assert_eq!(rt; text.split('|').filter(|answer| *answer == "Err(Fault(NotFound))").count(), 5);
+    assert_eq!(rt;
+        text.split('|')
+            .filter(|answer| *answer == "Err(Fault(NotFound))")
+            .count(),
+        5
+    );
     assert_eq!(rt; machine.asked.get(), 0);
     Ok(())
 }
@@ -329,6 +345,9 @@ fn device_and_inode_are_those_that_std_reports(rt: HostRuntime) -> Result<(), Fa
 
 #[test]
 fn device_and_inode_of_a_link_are_its_own(rt: HostRuntime) -> Result<(), Fail> {
-    assert_eq!(rt; identity(&rt, "/proc/self", false)?, numbers(&rt, "/proc/self", false)?);
+    assert_eq!(rt;
+        identity(&rt, "/proc/self", false)?,
+        numbers(&rt, "/proc/self", false)?
+    );
     Ok(())
 }
