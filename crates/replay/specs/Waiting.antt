@@ -2,8 +2,7 @@
 use Rattle.std.specs.Prelude.{ℕ, List, [], ◌∷◌, codes, if◌then◌else◌}
 use Rattle.std.specs.Str.{bytes_eq}
 
--- the fields of a kind that aren't compared: of calls that aren't there yet, and a bound
+-- the field of a kind that isn't compared: a bound, which a clause states
 abbrev pub waiting_fields : List ℕ → List (List ℕ)
 waiting_fields kind =
-    if bytes_eq kind (codes "glob") then codes "marks" ∷ codes "positions" ∷ []
-    else (if bytes_eq kind (codes "set") then codes "pass_bound" ∷ [] else [])
+    if bytes_eq kind (codes "set") then codes "pass_bound" ∷ [] else []

@@ -46,10 +46,9 @@ impl Kinds for Library {
         }
     }
 
-    /// The fields of a kind that aren't compared: of calls that aren't there yet, and a bound.
+    /// The field of a kind that isn't compared: a bound, which a clause states.
     fn waiting(&self, kind: &str) -> &'static [&'static str] {
         match kind {
-            "glob" => &["marks", "positions"],
             "set" => &["pass_bound"],
             _ => &[],
         }

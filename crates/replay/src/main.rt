@@ -11,7 +11,6 @@ mod input;
 mod kinds;
 mod refusing;
 mod rules;
-mod splits;
 mod tree_calls;
 
 use input::replay_all;

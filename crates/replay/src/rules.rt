@@ -4,12 +4,11 @@ use crate::again::{add_line, build, builder};
 use crate::answer::{Answer, Items};
 use crate::clones::asked;
 use crate::error::{printed, reported_or_null};
-use crate::splits::needs_too_many;
 use ignore_glob::{Error, Match};
 use ignore_rules::gitignore::{Gitignore, GitignoreBuilder, Glob};
 use serde_json::Value;
 use std::alloc::{AllocError, Global};
-use vectors::{Reason, Trouble, flag_at, list, text, text_at};
+use vectors::{Trouble, flag_at, list, text, text_at};
 
 /// The name of the field that holds the operations.
 const OPS: &str = "ops";
@@ -45,16 +44,6 @@ fn add_text(builder: &mut GitignoreBuilder, line: &Value) -> Result<(), Trouble>
 pub struct Built {
     pub builder: GitignoreBuilder,
     pub refused: Items,
-}
-
-/// Why a path isn't matched, if so.
-pub fn reason_against(matcher: &Gitignore, path: &str) -> Option<Reason> {
-    for rule in matcher.rules() {
-        if needs_too_many(rule.actual(), path) {
-            return Some(Reason::TooManySplits);
-        }
-    }
-    None
 }
 
 /// The builder of a vector, after its operations.

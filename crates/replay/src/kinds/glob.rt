@@ -1,15 +1,18 @@
-//! Whether a glob is valid, and matches a text.
+//! Whether a glob is valid, and matches a text, by how many marks and positions.
 
 use crate::again::but_for_memory;
 use crate::answer::Answer;
 use crate::clones;
-use crate::splits::needs_too_many;
 use ignore_glob::glob::{GlobFault, Options, Pattern, PatternError};
 use serde_json::Value;
 use std::alloc::Global;
-use vectors::{Outcome, Reason, Trouble, flag, text};
+use vectors::{Outcome, Trouble, flag, text};
 
-/// Answers `fault`, or `taken`.
+/// The name of the field that says whether marks and positions are asked too. Where it is missing
+/// they are.
+const COUNTED: &str = "counted";
+
+/// Answers `fault`; or `taken`, and `marks` and `positions` where they are asked.
 pub fn answer(alloc: Global, input: &Value) -> Result<Outcome, Trouble> {
     let glob = text(input, "glob")?;
     let asked = text(input, "text")?;
@@ -17,8 +20,7 @@ pub fn answer(alloc: Global, input: &Value) -> Result<Outcome, Trouble> {
     match parse(alloc, glob, options) {
         Err(PatternError::Fault(fault)) => reported_fault(alloc, fault),
         Err(PatternError::Memory) => Err(Trouble::Memory),
-        Ok(_) if needs_too_many(glob, asked) => Ok(Outcome::Skipped(Reason::TooManySplits)),
-        Ok(pattern) => reported_taken(alloc, &clones::asked(input, pattern)?, asked),
+        Ok(pattern) => reported_match(alloc, input, &clones::asked(input, pattern)?, asked),
     }
 }
 
@@ -44,17 +46,44 @@ fn reported_fault(alloc: Global, fault: GlobFault) -> Result<Outcome, Trouble> {
     answer.outcome()
 }
 
-fn reported_taken(alloc: Global, pattern: &Pattern, asked: &str) -> Result<Outcome, Trouble> {
-    let taken = takes(pattern, asked)?;
+fn reported_match(
+    alloc: Global,
+    input: &Value,
+    pattern: &Pattern,
+    asked: &str,
+) -> Result<Outcome, Trouble> {
     let mut answer = Answer::new(alloc);
-    answer.put_flag("taken", taken);
+    answer.put_flag("taken", matches(pattern, asked)?);
+    if input.get(COUNTED).is_none() || flag(input, COUNTED)? {
+        put_counts(&mut answer, pattern, asked)?;
+    }
     answer.outcome()
 }
 
+/// Puts the numbers of marks and positions. That the pass which counts says of the match what the
+/// other says is compared too.
+fn put_counts(answer: &mut Answer, pattern: &Pattern, asked: &str) -> Result<(), Trouble> {
+    let (does_match, marks) = matches_counted(pattern, asked)?;
+    if does_match != matches(pattern, asked)? {
+        answer.put_flag("matches_counted", does_match);
+    }
+    answer.put_number("marks", marks);
+    answer.put_number("positions", pattern.positions() as u64);
+    Ok(())
+}
+
 /// Whether a pattern matches a text, retried once where it is out of memory.
-fn takes(pattern: &Pattern, asked: &str) -> Result<bool, Trouble> {
+fn matches(pattern: &Pattern, asked: &str) -> Result<bool, Trouble> {
     match pattern.matches(asked) {
-        Ok(taken) => Ok(taken),
+        Ok(does_match) => Ok(does_match),
         Err(_) => but_for_memory(pattern.matches(asked)),
+    }
+}
+
+/// The same with the number of marks, retried once where it is out of memory.
+fn matches_counted(pattern: &Pattern, asked: &str) -> Result<(bool, u64), Trouble> {
+    match pattern.matches_counted(asked) {
+        Ok(counted) => Ok(counted),
+        Err(_) => but_for_memory(pattern.matches_counted(asked)),
     }
 }

@@ -4,12 +4,11 @@ use crate::again::{but_for_memory, problem};
 use crate::answer::{Answer, Items};
 use crate::clones;
 use crate::rules::refusal;
-use crate::splits::needs_too_many;
 use ignore_glob::{Error, Match};
 use ignore_rules::overrides::{Override, OverrideBuilder};
 use serde_json::Value;
 use std::alloc::Global;
-use vectors::{Outcome, Reason, Trouble, flag, flag_at, list, text, text_at};
+use vectors::{Outcome, Trouble, flag, flag_at, list, text, text_at};
 
 /// The name of the field that holds the operations.
 const OPS: &str = "ops";
@@ -18,10 +17,7 @@ const OPS: &str = "ops";
 pub fn answer(alloc: Global, input: &Value) -> Result<Outcome, Trouble> {
     let path = text(input, "path")?;
     let is_dir = flag(input, "is_dir")?;
-    let collected = after_operations(alloc, input, path)?;
-    if collected.needs_too_many {
-        return Ok(Outcome::Skipped(Reason::TooManySplits));
-    }
+    let collected = after_operations(alloc, input)?;
     asked(alloc, input, path, is_dir, collected)
 }
 
@@ -41,13 +37,11 @@ fn asked(
     answer.outcome()
 }
 
-/// A builder after a vector's operations, the errors, and whether one of its globs may need too
-/// many cuts.
+/// A builder after a vector's operations, and the errors.
 #[derive(Drop)]
 struct Collected {
     builder: OverrideBuilder,
     refused: Items,
-    needs_too_many: bool,
 }
 
 fn put_readers(answer: &mut Answer, globs: &Override) {
@@ -66,40 +60,24 @@ fn builder(alloc: Global, root: &str) -> Result<OverrideBuilder, Trouble> {
 }
 
 /// The builder of a vector, after its operations.
-fn after_operations(alloc: Global, input: &Value, path: &str) -> Result<Collected, Trouble> {
+fn after_operations(alloc: Global, input: &Value) -> Result<Collected, Trouble> {
     let mut collected = Collected {
         builder: builder(alloc, text(input, "root")?)?,
         refused: Items::new(alloc),
-        needs_too_many: false,
     };
-    apply_all(alloc, &mut collected, list(input, OPS)?, path)?;
+    apply_all(alloc, &mut collected, list(input, OPS)?)?;
     Ok(collected)
 }
 
-fn apply_all(
-    alloc: Global,
-    collected: &mut Collected,
-    ops: &[Value],
-    path: &str,
-) -> Result<(), Trouble> {
+fn apply_all(alloc: Global, collected: &mut Collected, ops: &[Value]) -> Result<(), Trouble> {
     let mut number = 0u64;
     for op in ops {
-        match apply(&mut collected.builder, op)? {
-            Some(error) => collected.refused.put(refusal(alloc, number, error)),
-            None => collected.needs_too_many |= is_too_much(op, path)?,
+        if let Some(error) = apply(&mut collected.builder, op)? {
+            collected.refused.put(refusal(alloc, number, error));
         }
         number = number.saturating_add(1);
     }
     Ok(())
-}
-
-/// Whether an operation adds a glob that may need too many cuts of a path.
-fn is_too_much(op: &Value, path: &str) -> Result<bool, Trouble> {
-    if text_at(op, 0, OPS)? != "line" {
-        return Ok(false);
-    }
-    let glob = text_at(op, 1, OPS)?;
-    Ok(!glob.starts_with('#') && needs_too_many(glob, path))
 }
 
 /// Does an operation; the answer is what is wrong with its glob.

@@ -1,7 +1,7 @@
 //! What the lines of gitignore files say of a path or of the nearest of its parents.
 
 use crate::answer::Answer;
-use crate::rules::{after_operations, match_value, matcher_of, reason_against};
+use crate::rules::{after_operations, match_value, matcher_of};
 use ignore_glob::Match;
 use ignore_rules::gitignore::{Gitignore, Glob};
 use serde_json::Value;
@@ -14,10 +14,7 @@ pub fn answer(alloc: Global, input: &Value) -> Result<Outcome, Trouble> {
     let is_dir = flag(input, "is_dir")?;
     let built = after_operations(alloc, input)?;
     let matcher = matcher_of(input, built.builder)?;
-    match reason_against(&matcher, path) {
-        Some(reason) => Ok(Outcome::Skipped(reason)),
-        None => asked(alloc, path, is_dir, &matcher),
-    }
+    asked(alloc, path, is_dir, &matcher)
 }
 
 fn asked(alloc: Global, path: &str, is_dir: bool, matcher: &Gitignore) -> Result<Outcome, Trouble> {

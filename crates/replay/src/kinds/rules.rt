@@ -2,7 +2,7 @@
 
 use crate::again::matched;
 use crate::answer::{Answer, Items};
-use crate::rules::{after_operations, match_value, matcher_of, reason_against, rules_value};
+use crate::rules::{after_operations, match_value, matcher_of, rules_value};
 use ignore_rules::gitignore::Gitignore;
 use serde_json::Value;
 use std::alloc::Global;
@@ -14,10 +14,7 @@ pub fn answer(alloc: Global, input: &Value) -> Result<Outcome, Trouble> {
     let is_dir = flag(input, "is_dir")?;
     let built = after_operations(alloc, input)?;
     let matcher = matcher_of(input, built.builder)?;
-    match reason_against(&matcher, path) {
-        Some(reason) => Ok(Outcome::Skipped(reason)),
-        None => asked(alloc, path, is_dir, &matcher, built.refused),
-    }
+    asked(alloc, path, is_dir, &matcher, built.refused)
 }
 
 fn asked(
