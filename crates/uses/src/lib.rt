@@ -4,6 +4,7 @@
 
 pub mod buffer;
 pub mod checker;
+pub mod disk;
 pub mod global;
 pub mod lines;
 pub mod linter;

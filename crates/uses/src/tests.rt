@@ -1,17 +1,19 @@
 //! Each use once, with ample memory.
 use crate::buffer::rules_of_buffer;
 use crate::checker::is_ignored;
+use crate::disk::is_ignored_on_disk;
 use crate::global::is_ignored_globally;
 use crate::lines::add_if_valid;
 use crate::linter::is_linted;
 use crate::packer::packed;
 use crate::reason::{deciding_file, deciding_line};
-use ignore_files::{MemoryTree, TreeError};
+use ignore_files::{Bytes, Identity, MemoryTree, Row, TableMachine, TreeError};
 use ignore_glob::Error;
 use ignore_rules::gitignore::{Gitignore, GitignoreBuilder};
 use ignore_rules::overrides::{Override, OverrideBuilder};
 use ignore_rules::types::{Types, TypesBuilder};
 use std::alloc::Global;
+use std::collections::BTreeMap;
 use std::test::Fail;
 
 /// A tree with one file of rules.
@@ -105,5 +107,27 @@ fn an_invalid_line_changes_nothing(rt: HostRuntime) -> Result<(), Fail> {
 #[test]
 fn the_global_file_of_the_process_is_asked(rt: HostRuntime) -> Result<(), Fail> {
     let _ = is_ignored_globally(&rt, "a")?;
+    Ok(())
+}
+
+/// A machine with one file of rules.
+fn machine(alloc: Global) -> Result<TableMachine, Fail> {
+    let row = Row {
+        bytes: Bytes::new(Vec::from_array(alloc, *b"*.o\n")?),
+        identity: Identity {
+            device: 1,
+            inode: 2,
+        },
+    };
+    let mut rows = BTreeMap::new(alloc);
+    rows.insert(String::from_str(alloc, "/p/.gitignore")?, row)?;
+    Ok(TableMachine::new(alloc, rows))
+}
+
+#[test]
+fn a_checker_asks_a_machine(rt: HostRuntime) -> Result<(), Fail> {
+    let machine = machine(rt.alloc())?;
+    let (ignored, problem) = is_ignored_on_disk(rt.alloc(), &machine, "/p/.gitignore", "/p/a.o")?;
+    assert!(rt; ignored && problem.is_none());
     Ok(())
 }
