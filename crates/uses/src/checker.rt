@@ -39,8 +39,5 @@ pub fn is_ignored_by(rules: &Gitignore, path: &str) -> Result<bool, Error>
     ensures asked { IfOk result (λ yes. yes ≡ ignores rules.now path.now) }
     ensures out_of_memory { IfErr result (λ e. problem_of e ≡ memory) }
 {
-    match rules.matched(path, false) {
-        Ok(answer) => Ok(answer.is_ignore()),
-        Err(error) => Err(error),
-    }
+    Ok(rules.matched(path, false)?.is_ignore())
 }

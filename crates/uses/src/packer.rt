@@ -20,10 +20,8 @@ pub fn is_packed(rules: &Gitignore, path: &str) -> Result<bool, Error>
     if !rules.is_under_root(path) {
         return Ok(false);
     }
-    match rules.matched_path_or_any_parents(path, false) {
-        Ok(answer) => Ok(!answer.is_ignore()),
-        Err(error) => Err(error),
-    }
+    let answer = rules.matched_path_or_any_parents(path, false)?;
+    Ok(!answer.is_ignore())
 }
 
 /// The paths of a list that a package includes, in their order.

@@ -16,11 +16,10 @@ pub fn deciding_rule<'m>(
     ensures decides { IfOk result (λ rule. option_copied rule ≡ deciding_rule rules.now path.now is_dir) }
     ensures out_of_memory { IfErr result (λ e. problem_of e ≡ memory) }
 {
-    match rules.matched(path, is_dir) {
-        Ok(Match::None) => Ok(None),
-        Ok(Match::Ignore(rule)) => Ok(Some(rule)),
-        Ok(Match::Whitelist(rule)) => Ok(Some(rule)),
-        Err(error) => Err(error),
+    match rules.matched(path, is_dir)? {
+        Match::None => Ok(None),
+        Match::Ignore(rule) => Ok(Some(rule)),
+        Match::Whitelist(rule) => Ok(Some(rule)),
     }
 }
 
@@ -33,10 +32,9 @@ pub fn deciding_line<'m>(
     ensures line { IfOk result (λ line. option_copied line ≡ option_map (λ rule. rule.original) (deciding_rule rules.now path.now is_dir)) }
     ensures out_of_memory { IfErr result (λ e. problem_of e ≡ memory) }
 {
-    match deciding_rule(rules, path, is_dir) {
-        Ok(None) => Ok(None),
-        Ok(Some(rule)) => Ok(Some(rule.original())),
-        Err(error) => Err(error),
+    match deciding_rule(rules, path, is_dir)? {
+        None => Ok(None),
+        Some(rule) => Ok(Some(rule.original())),
     }
 }
 
@@ -49,9 +47,8 @@ pub fn deciding_file<'m>(
     ensures file { IfOk result (λ file. option_copied file ≡ option_and_then (λ rule. rule.from) (deciding_rule rules.now path.now is_dir)) }
     ensures out_of_memory { IfErr result (λ e. problem_of e ≡ memory) }
 {
-    match deciding_rule(rules, path, is_dir) {
-        Ok(None) => Ok(None),
-        Ok(Some(rule)) => Ok(rule.from()),
-        Err(error) => Err(error),
+    match deciding_rule(rules, path, is_dir)? {
+        None => Ok(None),
+        Some(rule) => Ok(rule.from()),
     }
 }
