@@ -1,8 +1,8 @@
 //! Asks the `.gitignore` of the working directory about three files.
 #![tactic(auto)]
 
+use ignore_base::Error;
 use ignore_files::DiskFiles;
-use ignore_glob::Error;
 use ignore_rules::gitignore::Gitignore;
 
 fn main(rt: HostRuntime) -> Result<(), Error> {

@@ -1,7 +1,7 @@
 -- The first configuration that gives a value, one place at a time.
 use Rattle.std.proofs.Common.{◌≡◌, refl, inl, inr, ℕ, List, [], ◌∷◌, Option, None, Some, Result, Ok, Err, is_some, codes, IfOk, false, sym, ap, ◌∙◌, subst}
 use Rattle.std.proofs.lemmas.Bool.{true≢false}
-use Rattle.ignore_glob.specs.declared.fault.Fault.{Fault}
+use Rattle.ignore_base.specs.declared.fault.Fault.{Fault}
 use Rattle.ignore_files.specs.Tree.{Tree}
 use Rattle.ignore_files.specs.Tree.{Answers}
 use Rattle.ignore_files.specs.Gives.{IsHonest}

@@ -2,8 +2,8 @@
 -- value. 126 `~`
 use Rattle.std.specs.Prelude.{◌≡◌, ◌⊎◌, ◌==◌, ℕ, List, [], ◌∷◌, codes, if◌then◌else◌, Option, None, Some, Result, Ok, Err}
 use Rattle.std.specs.List.{flat_map}
-use Rattle.ignore_glob.specs.Paths.{join_of}
-use Rattle.ignore_glob.specs.declared.fault.Fault.{Fault}
+use Rattle.ignore_base.specs.Paths.{join_of}
+use Rattle.ignore_base.specs.declared.fault.Fault.{Fault}
 use Rattle.ignore_files.specs.Tree.{Tree}
 use Rattle.ignore_files.specs.declared.env.Env.{Env}
 use Rattle.ignore_files.specs.declared.types.Contents.{Contents}

@@ -1,15 +1,15 @@
 //! The search of git's configuration for the excludes file.
 ghost use Rattle.std.specs.Prelude.{◌≡◌, ℕ, List, Option, codes, Some, IfOk, IfErr, map, option_map, string_bytes};
 ghost use Rattle.std.specs.Option.{option_copied};
-ghost use Rattle.ignore_glob.specs.Problem.{problem_of, memory};
+ghost use Rattle.ignore_base.specs.Problem.{problem_of, memory};
 ghost use Rattle.ignore_files.specs.Tree.{Tree};
 ghost use Rattle.ignore_files.specs.Gives.{IsHonest};
 ghost use Rattle.ignore_excludes.specs.ExcludesSearch.{filled, below, or_else, xdg_folder, expanded, FilesGive, GivesPath, IsFirstPath, LeadsTo, IsExcludesPath};
 
 use crate::excludes::excludes_value;
+use ignore_base::Error;
+use ignore_base::text::join;
 use ignore_files::{Env, Files, Name, Refusal};
-use ignore_glob::Error;
-use ignore_glob::text::join;
 use std::alloc::Global;
 
 /// The text of a variable that is set.

@@ -4,7 +4,7 @@ use Rattle.std.proofs.Common.{◌≡◌, ◌⊎◌, inl, inr, ℕ, suc, Bool, Li
 use Rattle.std.specs.declared.io.Error.{Error}
 use Rattle.std.specs.Fs.{IsDir, IsFile, IsSymlink}
 use Rattle.std.specs.declared.fs.FileType.{FileType as MachineType}
-use Rattle.ignore_glob.specs.declared.fault.Fault.{Fault}
+use Rattle.ignore_base.specs.declared.fault.Fault.{Fault}
 use Rattle.ignore_files.specs.Tree.{Tree, Answers}
 use Rattle.ignore_files.specs.Gives.{IsHonest}
 use Rattle.ignore_files.specs.Reported.{IsReportedAs, IsFaultOf, IsEntryOf}

@@ -8,7 +8,7 @@ use Rattle.std.specs.List.{list_all}
 use Rattle.std.specs.Str.Pattern.{RFindsChar}
 use Rattle.std.proofs.lemmas.List.{take-append-drop}
 use Rattle.std.proofs.lemmas.Str.Pattern.{IsSplitOnceResult, split_parts, drop_at_char, NoCharPasses-char}
-use Rattle.ignore_glob.specs.Paths.{components, last_component, is_proper}
+use Rattle.ignore_base.specs.Paths.{components, last_component, is_proper}
 use Rattle.ignore_files.specs.Memory.{but_last, is_empty, is_canonical_path}
 
 no_slash : (b : ℕ) → b ≢ 47 → eqb b 47 ≡ false

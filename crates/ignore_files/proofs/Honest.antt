@@ -1,8 +1,8 @@
 -- The machine's files are consistent with the tree on the disk from which the machine answers truly.
 use Rattle.std.proofs.Common.{◌≡◌, ℕ, Bool, true, List, Option, Result, Ok, Err, refl, sym, ap, subst, Some}
 use Rattle.std.specs.declared.io.Error.{Error}
-use Rattle.ignore_glob.specs.declared.fault.Fault.{Fault}
-use Rattle.ignore_glob.specs.declared.fault.Fault.TheVariants as fault
+use Rattle.ignore_base.specs.declared.fault.Fault.{Fault}
+use Rattle.ignore_base.specs.declared.fault.Fault.TheVariants as fault
 use Rattle.ignore_files.specs.Tree.{Answers}
 use Rattle.ignore_files.specs.Memory.{and_then}
 use Rattle.ignore_files.specs.Machine.{Disk, IsTruthful, MayRead}

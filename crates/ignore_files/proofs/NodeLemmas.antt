@@ -2,7 +2,7 @@
 use Rattle.std.proofs.Common.{◌≡◌, ℕ, zero, suc, Bool, List, [], ◌∷◌, ◌++◌, length, get_or, set, Some, Result, Ok, slice_get, ap, sym, subst, ◌∙◌}
 use Rattle.std.proofs.lemmas.List.{get_or_append_left, set-append_left}
 use Rattle.std.proofs.lemmas.Option.{get_or_from_slice_get, slice_get_within}
-use Rattle.ignore_glob.specs.Paths.{components, last_component}
+use Rattle.ignore_base.specs.Paths.{components, last_component}
 use Rattle.ignore_files.specs.Memory.{Memory, and_then, sought, new_node}
 use Rattle.ignore_files.specs.Answers.{file_type_of}
 use Rattle.ignore_files.specs.Changes.{changed, set_at, Leaves, LeavesIfRoom, listing_too, with_node}

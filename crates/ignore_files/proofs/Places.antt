@@ -1,6 +1,6 @@
 -- Names followed from a place.
 use Rattle.std.proofs.Common.{◌≡◌, ℕ, Bool, true, false, cond, List, [], ◌∷◌, ◌++◌, Option, Some, None, Result, Ok, Err, option_and_then, slice_get, refl, ap, sym, ◌∙◌}
-use Rattle.ignore_glob.specs.Paths.{components, last_component}
+use Rattle.ignore_base.specs.Paths.{components, last_component}
 use Rattle.ignore_files.specs.Memory.{and_then, is_empty, child, below, place_of, is_directory, is_at, is_canonical_path, passing, sought, folder_sought, vacant, parent_for, entry_under, but_last}
 use Rattle.std.specs.Option.{option_map_or}
 use Rattle.ignore_files.specs.declared.tree_error.TreeError.{TreeError}

@@ -4,8 +4,8 @@ use Rattle.std.specs.Fs.{IsFile}
 use Rattle.std.specs.IoError.{error_kind, raw_os_error}
 use Rattle.std.specs.declared.io.Error.{Error}
 use Rattle.std.specs.declared.fs.FileType.{FileType as MachineType}
-use Rattle.ignore_glob.specs.declared.fault.Fault.{Fault}
-use Rattle.ignore_glob.specs.declared.fault.Fault.TheVariants as fault
+use Rattle.ignore_base.specs.declared.fault.Fault.{Fault}
+use Rattle.ignore_base.specs.declared.fault.Fault.TheVariants as fault
 use Rattle.ignore_files.specs.Tree.{Answers}
 use Rattle.ignore_files.specs.Reported.{refusal_of, reported_error, reported, IsReportedAs, cut_by, read_until}
 use Rattle.ignore_files.specs.Machine.{metadata_gives, has_nul, IsHeard, IsStatOf, Reads, Lists, Holds, IsReadOf, IsTruthful}

@@ -1,8 +1,8 @@
 -- A walk over components, cut in two.
 use Rattle.std.proofs.Common.{◌≡◌, ℕ, zero, suc, Bool, true, false, cond, List, [], ◌∷◌, ◌++◌, Option, Some, None, Result, Ok, Err, refl, ap, sym, ◌∙◌, append_assoc}
-use Rattle.ignore_glob.specs.declared.fault.Fault.{Fault}
-use Rattle.ignore_glob.specs.declared.fault.Fault.TheVariants.{NotFound, NotADirectory, LinkLimit}
-use Rattle.ignore_glob.specs.Paths.{components}
+use Rattle.ignore_base.specs.declared.fault.Fault.{Fault}
+use Rattle.ignore_base.specs.declared.fault.Fault.TheVariants.{NotFound, NotADirectory, LinkLimit}
+use Rattle.ignore_base.specs.Paths.{components}
 use Rattle.ignore_files.specs.Memory.{and_then, is_empty, is_dir_at}
 use Rattle.ignore_files.specs.Resolve.{enter, link_at, resolve_last, resolve_inner, resolve_components, walk}
 use Rattle.ignore_files.specs.declared.memory.node.Node.{Node}

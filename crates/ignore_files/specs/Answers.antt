@@ -1,7 +1,7 @@
 -- The five answers of a tree in memory.
 use Rattle.std.specs.Prelude.{ℕ, Bool, true, List, [], map, take, Option, Some, None, Result, Ok, Err}
-use Rattle.ignore_glob.specs.declared.fault.Fault.{Fault}
-use Rattle.ignore_glob.specs.declared.fault.Fault.TheVariants.{NotADirectory, IsADirectory, BadName}
+use Rattle.ignore_base.specs.declared.fault.Fault.{Fault}
+use Rattle.ignore_base.specs.declared.fault.Fault.TheVariants.{NotADirectory, IsADirectory, BadName}
 use Rattle.ignore_files.specs.Tree.{Tree}
 use Rattle.ignore_files.specs.Memory.{Memory, and_then}
 use Rattle.ignore_files.specs.Resolve.{node_found}

@@ -1,7 +1,7 @@
 -- The tree in memory after each call that changes it, or the error of the call.
 use Rattle.std.specs.Prelude.{◌≡◌, ℕ, zero, suc, Bool, List, [], ◌∷◌, ◌++◌, length, Option, Some, Result, Ok, Err, cond}
-use Rattle.ignore_glob.specs.declared.fault.Fault.{Fault}
-use Rattle.ignore_glob.specs.Paths.{components, last_component}
+use Rattle.ignore_base.specs.declared.fault.Fault.{Fault}
+use Rattle.ignore_base.specs.Paths.{components, last_component}
 use Rattle.ignore_files.specs.Memory.{Memory, and_then, is_canonical_path, is_directory, is_file, any_kind, sought, parent_for, new_node}
 use Rattle.ignore_files.specs.Answers.{file_type_of}
 use Rattle.ignore_files.specs.declared.tree_error.TreeError.{TreeError}

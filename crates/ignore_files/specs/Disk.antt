@@ -1,7 +1,7 @@
 -- What the machine's files answer, and the tree that a disk is.
 use Rattle.std.specs.Prelude.{◌≡◌, ℕ, Bool, true, false, List, Option, Some, None, Result, Ok, Err}
-use Rattle.ignore_glob.specs.declared.fault.Fault.{Fault}
-use Rattle.ignore_glob.specs.declared.fault.Fault.TheVariants as fault
+use Rattle.ignore_base.specs.declared.fault.Fault.{Fault}
+use Rattle.ignore_base.specs.declared.fault.Fault.TheVariants as fault
 use Rattle.ignore_files.specs.Tree.{Tree}
 use Rattle.ignore_files.specs.Memory.{and_then}
 use Rattle.ignore_files.specs.Machine.{Disk, MayStat, MayRead}

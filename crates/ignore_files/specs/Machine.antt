@@ -4,8 +4,8 @@ use Rattle.std.specs.List.{list_any}
 use Rattle.std.specs.Iterator.{Drains}
 use Rattle.std.specs.declared.io.Error.{Error}
 use Rattle.std.specs.declared.fs.FileType.{FileType as MachineType}
-use Rattle.ignore_glob.specs.declared.fault.Fault.{Fault}
-use Rattle.ignore_glob.specs.declared.fault.Fault.TheVariants as fault
+use Rattle.ignore_base.specs.declared.fault.Fault.{Fault}
+use Rattle.ignore_base.specs.declared.fault.Fault.TheVariants as fault
 use Rattle.ignore_files.specs.Tree.{Tree, Answers}
 use Rattle.ignore_files.specs.Memory.{and_then}
 use Rattle.ignore_files.specs.Reported.{reported_error, reported, IsReportedAs, IsFaultOf, IsEntryOf, read_until}

@@ -1,7 +1,7 @@
 -- Trees in memory: their nodes, and the nodes to which canonical paths lead.
 use Rattle.std.specs.Prelude.{ℕ, ◌+◌, Bool, true, false, List, [], ◌∷◌, Option, Some, None, option_and_then, Result, Ok, Err, slice_get, ◌==◌, ◌||◌, ◌&&◌, cond, count_by}
 use Rattle.std.specs.List.{list_all}
-use Rattle.ignore_glob.specs.Paths.{components, is_proper}
+use Rattle.ignore_base.specs.Paths.{components, is_proper}
 use Rattle.std.specs.Option.{option_map_or}
 use Rattle.ignore_files.specs.Entries.{named}
 use Rattle.ignore_files.specs.declared.tree_error.TreeError.{TreeError}

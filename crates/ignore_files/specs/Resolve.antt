@@ -1,10 +1,10 @@
 -- Resolving a path in a tree in memory.
 use Rattle.std.specs.Prelude.{ℕ, zero, suc, Bool, true, List, [], ◌∷◌, ◌++◌, Option, Some, None, Result, Ok, Err, ok_or, slice_get, ◌||◌, bytes_eq, codes, cond}
-use Rattle.ignore_glob.specs.Text.{Bytes, Path}
-use Rattle.ignore_glob.specs.declared.fault.Fault.{Fault}
-use Rattle.ignore_glob.specs.declared.fault.Fault.TheVariants.{NotFound, NotADirectory, LinkLimit}
+use Rattle.ignore_base.specs.Text.{Bytes, Path}
+use Rattle.ignore_base.specs.declared.fault.Fault.{Fault}
+use Rattle.ignore_base.specs.declared.fault.Fault.TheVariants.{NotFound, NotADirectory, LinkLimit}
 use Rattle.ignore_files.specs.Entries.{named}
-use Rattle.ignore_glob.specs.Paths.{components, is_absolute}
+use Rattle.ignore_base.specs.Paths.{components, is_absolute}
 use Rattle.ignore_files.specs.Memory.{and_then, is_empty, entries_of, is_dir_at}
 use Rattle.ignore_files.specs.declared.memory.entry.Entry.{Entry}
 use Rattle.ignore_files.specs.declared.memory.node.Node.{Node}

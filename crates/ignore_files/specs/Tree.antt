@@ -1,7 +1,7 @@
 -- A tree of files: five functions of a path, with faults among their answers.
 use Rattle.std.specs.Prelude.{◌≡◌, ℕ, Bool, List, Result, Ok, Err, Option}
-use Rattle.ignore_glob.specs.Text.{Path}
-use Rattle.ignore_glob.specs.declared.fault.Fault.{Fault}
+use Rattle.ignore_base.specs.Text.{Path}
+use Rattle.ignore_base.specs.declared.fault.Fault.{Fault}
 use Rattle.ignore_files.specs.declared.types.Refusal.{Refusal}
 use Rattle.ignore_files.specs.declared.types.Refusal.TheVariants.{Memory}
 use Rattle.ignore_files.specs.declared.types.Refusal.TheVariants.{Fault as Refused}

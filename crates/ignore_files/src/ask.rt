@@ -6,7 +6,7 @@ ghost use Rattle.ignore_files.specs.Reported.{refusal_of, reported_error, report
 ghost use Rattle.ignore_files.specs.Machine.{has_nul, IsHeard};
 
 use crate::types::{FileType, Refusal};
-use ignore_glob::Fault;
+use ignore_base::Fault;
 use std::{fs, io};
 
 /// As what an error of the system is reported.

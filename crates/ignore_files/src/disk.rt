@@ -11,7 +11,7 @@ use crate::files::Files;
 use crate::machine::Machine;
 use crate::stat::Stat;
 use crate::types::{Bytes, Contents, FileType, Identity, Listed, Listing, Metadata, Name, Refusal};
-use ignore_glob::Fault;
+use ignore_base::Fault;
 use std::alloc::Global;
 use std::io;
 

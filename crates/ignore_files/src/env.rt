@@ -1,10 +1,10 @@
 //! The environment of a run, handed in; `Env::of_process` asks the system for it.
 ghost use Rattle.std.specs.Prelude.{IfOk, IfErr, ◌≡◌};
-ghost use Rattle.ignore_glob.specs.Problem.{problem_of, memory};
+ghost use Rattle.ignore_base.specs.Problem.{problem_of, memory};
 ghost use Rattle.ignore_files.specs.Variables.{IsReportedAs};
 
 use crate::types::Name;
-use ignore_glob::Error;
+use ignore_base::Error;
 use std::env::VarError;
 use std::path::PathBuf;
 use std::{env, io, rt};

@@ -16,7 +16,7 @@ mod types;
 pub use disk::DiskFiles;
 pub use env::Env;
 pub use files::Files;
-pub use ignore_glob::Fault;
+pub use ignore_base::Fault;
 pub use machine::Machine;
 pub use memory::MemoryTree;
 pub use stat::Stat;

@@ -19,7 +19,7 @@ use crate::memory::directory::Directory;
 use crate::memory::node::{Cut, Kind, Node};
 use crate::tree_error::TreeError;
 use crate::types::{Bytes, Identity, Name};
-use ignore_glob::Fault;
+use ignore_base::Fault;
 use std::alloc::Global;
 use std::marker::Model;
 

@@ -2,7 +2,7 @@
 ghost use Rattle.std.specs.Prelude.{◌≡◌, ℕ, List, length, string_bytes};
 ghost use Rattle.ignore_files.specs.Kinds.{is_file, is_dir, is_symlink};
 
-use ignore_glob::Fault;
+use ignore_base::Fault;
 use std::alloc::{AllocError, AllocFailed};
 use std::marker::Model;
 

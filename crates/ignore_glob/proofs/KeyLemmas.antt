@@ -1,9 +1,9 @@
 -- The form of a pattern, token by token.
-use Rattle.std.proofs.Common.{◌≡◌, ℕ, suc, ◌+◌, ◌-◌, ◌<◌, ◌≤◌, Bool, true, false, List, [], ◌∷◌, ◌++◌, length, get_or, take, drop, drop-cons, add-one, append_assoc, Option, Some, None, encode_utf8, cond, refl, sym, ap, ◌∙◌, arith}
+use Rattle.std.proofs.Common.{◌≡◌, ℕ, suc, ◌+◌, ◌-◌, ◌<◌, ◌≤◌, true, false, List, [], ◌∷◌, ◌++◌, length, get_or, take, drop, drop-cons, add-one, append_assoc, Option, Some, None, encode_utf8, cond, refl, sym, ap, ◌∙◌, arith}
 use Rattle.std.specs.Option.{option_map}
 use Rattle.std.proofs.lemmas.List.{append-nil, drop_all, take_rest}
 use Rattle.ignore_glob.specs.declared.glob.token.Token.{Token as CodeToken}
-use Rattle.ignore_glob.specs.Forms.{Form, whole, name, ending, other, literal_of, is_start, is_star, before, literals, keyed, below_form, tokens_form}
+use Rattle.ignore_glob.specs.Forms.{whole, name, ending, other, literal_of, is_start, is_star, before, literals, keyed, below_form, tokens_form}
 use Rattle.ignore_glob.specs.View.{view, tokens_view}
 
 -- Literals, up to a place.

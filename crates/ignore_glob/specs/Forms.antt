@@ -1,6 +1,6 @@
 -- The forms of patterns for which a text can be looked up: literals, alone or after `**/` or
 -- `**/*`.
-use Rattle.std.specs.Prelude.{◌≡◌, ℕ, Bool, true, false, List, [], ◌∷◌, ◌++◌, Option, None, Some, string_bytes, encode_utf8, cond}
+use Rattle.std.specs.Prelude.{ℕ, Bool, true, false, List, [], ◌∷◌, ◌++◌, Option, None, Some, string_bytes, encode_utf8, cond}
 use Rattle.std.specs.Option.{option_map}
 use Rattle.ignore_glob.specs.declared.glob.key.Key.{Key}
 use Rattle.ignore_glob.specs.declared.glob.key.Key.TheVariants.{Whole, Name, End, Other}

@@ -1,6 +1,6 @@
 -- The text and the number of each parse error of a glob.
-use Rattle.std.specs.Prelude.{ℕ, List, codes}
-use Rattle.ignore_glob.specs.Text.{Bytes}
+use Rattle.std.specs.Prelude.{ℕ, codes}
+use Rattle.ignore_base.specs.Text.{Bytes}
 use Rattle.ignore_glob.specs.declared.glob.fault.GlobFault.{GlobFault}
 use Rattle.ignore_glob.specs.declared.glob.fault.GlobFault.TheVariants.{UnclosedClass, InvalidRange, UnopenedAlternates, UnclosedAlternates, DanglingEscape, TooDeep}
 use Rattle.ignore_glob.specs.declared.glob.fault.PatternError.{PatternError}

@@ -2,7 +2,7 @@
 -- 42 `*`  63 `?`  92 `\`  91 `[`  93 `]`  33 `!`  94 `^`  45 `-`  123 `{`  44 `,`  125 `}`
 use Rattle.std.specs.Prelude.{◌≡◌, ◌≢◌, ◌<◌, ◌≤◌, ℕ, zero, suc, Bool, true, false, ◌&&◌, ◌||◌, ◌==◌, if◌then◌else◌, nat_le, List, [], ◌∷◌, ◌++◌, map, replicate, Result, Ok, Err}
 use Rattle.std.specs.List.{AllByRecursion, list_all}
-use Rattle.ignore_glob.specs.Text.{Chars}
+use Rattle.ignore_base.specs.Text.{Chars}
 use Rattle.ignore_glob.specs.declared.glob.options.Options.{Options}
 use Rattle.ignore_glob.specs.declared.glob.fault.GlobFault.{GlobFault}
 use Rattle.ignore_glob.specs.declared.glob.fault.GlobFault.TheVariants.{UnclosedClass, InvalidRange, UnopenedAlternates, UnclosedAlternates, DanglingEscape, TooDeep}

@@ -1,9 +1,3 @@
-pub mod Text
-pub mod Faults
-pub mod Errors
-pub mod Problem
-pub mod Kinds
-pub mod Match
 pub mod Glob
 pub mod View
 pub mod GlobFaults
@@ -18,6 +12,4 @@ pub mod NodeLists
 pub mod Positions
 pub mod Codes
 pub mod Reading
-pub mod Paths
-pub mod RootSteps
 pub mod Forms

@@ -2,7 +2,7 @@
 use Rattle.std.specs.Prelude.{◌≡◌, ◌≢◌, ◌⊎◌, ℕ, Bool, true, false, List, [], ◌∷◌, ◌++◌, All, IsTrue, nat_le, ◌&&◌, ◌||◌, cond}
 use Rattle.std.specs.List.{list_any}
 use Rattle.std.specs.Char.{is_ascii_lowercase, to_ascii_uppercase, to_ascii_lowercase}
-use Rattle.ignore_glob.specs.Text.{Chars}
+use Rattle.ignore_base.specs.Text.{Chars}
 use Rattle.ignore_glob.specs.Glob.{Token, literal, any, star, start, middle, end, class, alternates, Tokens, done, then, Branches, no_branch, branch}
 
 -- the character `/`

@@ -1,6 +1,6 @@
 -- A parsed pattern: its tokens, and the texts that it matches.
-use Rattle.std.specs.Prelude.{ℕ, Bool, List}
-use Rattle.ignore_glob.specs.Text.{Chars}
+use Rattle.std.specs.Prelude.{Bool}
+use Rattle.ignore_base.specs.Text.{Chars}
 use Rattle.ignore_glob.specs.Glob.{Tokens}
 use Rattle.ignore_glob.specs.Matches.{glob_matches}
 

@@ -1,7 +1,7 @@
 -- Parsing a row of lexemes to tokens. The neighbours of a run of two stars decide what it means.
 -- 47 `/`
 use Rattle.std.specs.Prelude.{◌≡◌, ◌≢◌, ◌⊎◌, ℕ, zero, suc, Bool, List, [], ◌∷◌, Ok, Err}
-use Rattle.ignore_glob.specs.Text.{Chars}
+use Rattle.ignore_base.specs.Text.{Chars}
 use Rattle.ignore_glob.specs.declared.glob.options.Options.{Options}
 use Rattle.ignore_glob.specs.declared.glob.fault.GlobFault.{GlobFault}
 use Rattle.ignore_glob.specs.Glob as G

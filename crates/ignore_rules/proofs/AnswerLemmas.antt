@@ -4,9 +4,9 @@ use Rattle.std.proofs.lemmas.Bool.{false≢true}
 use Rattle.std.proofs.lemmas.Bool.Decides.{Decides-and, not_from_Decides}
 use Rattle.std.proofs.lemmas.List.Elements.{All-cons, All-nil}
 use Rattle.std.proofs.lemmas.List.Sums.{sum_by-cons}
-use Rattle.ignore_glob.specs.declared.match_result.Match.{Match}
-use Rattle.ignore_glob.specs.declared.match_result.Match.TheVariants.{None, Ignore, Whitelist}
-use Rattle.ignore_glob.specs.Match.{match_or}
+use Rattle.ignore_base.specs.declared.match_result.Match.{Match}
+use Rattle.ignore_base.specs.declared.match_result.Match.TheVariants.{None, Ignore, Whitelist}
+use Rattle.ignore_base.specs.Match.{match_or}
 use Rattle.ignore_rules.specs.Rules.{Rule, ignore_count, whitelist_count}
 use Rattle.ignore_rules.specs.DoesMatch.{does_match}
 use Rattle.ignore_rules.specs.Answer.{does_apply, decision_of, rule_answer, list_answer, Applies, IsLast, IsAnswer}

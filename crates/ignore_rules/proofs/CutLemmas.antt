@@ -9,8 +9,8 @@ use Rattle.std.proofs.lemmas.List.{drop-drop, drop_all, length-drop}
 use Rattle.std.proofs.lemmas.List.Elements.{All-from_get_or}
 use Rattle.std.proofs.lemmas.List.Splits.{slice_split-cons_yes, slice_split-cons_no, slice_split_none}
 use Rattle.memchr.specs.Find.{Nowhere, Passes, is_byte, IsFirstByte}
-use Rattle.ignore_glob.specs.declared.fault.Fault.{Fault}
-use Rattle.ignore_glob.specs.declared.fault.Fault.TheVariants.{InvalidData}
+use Rattle.ignore_base.specs.declared.fault.Fault.{Fault}
+use Rattle.ignore_base.specs.declared.fault.Fault.TheVariants.{InvalidData}
 use Rattle.ignore_rules.specs.RuleFile.{decoded, ended_of_segments, lines_read}
 use Rattle.ignore_rules.specs.declared.gitignore.file.Line.{Line}
 use Rattle.ignore_rules.specs.declared.gitignore.file.Line.TheVariants.{Text, End}

@@ -2,8 +2,8 @@
 use Rattle.std.proofs.Common.{◌≡◌, ◌⊎◌, ℕ, ◌+◌, false, List, [], ◌∷◌, ◌++◌, length, take, Result, Ok, Err, refl, sym, ap, subst, ◌∙◌, append_assoc, inl, inr}
 use Rattle.std.proofs.lemmas.Bool.{false≢true}
 use Rattle.std.proofs.lemmas.List.{append-nil, take_at}
-use Rattle.ignore_glob.specs.declared.fault.Fault.{Fault}
-use Rattle.ignore_glob.specs.Problem.{Problem, io, memory}
+use Rattle.ignore_base.specs.declared.fault.Fault.{Fault}
+use Rattle.ignore_base.specs.Problem.{Problem, io, memory}
 use Rattle.ignore_rules.specs.Rules.{Building}
 use Rattle.ignore_rules.specs.RuleFile.{AddsLines, done, stopped, added, refused, at_line_of, is_memory}
 use Rattle.ignore_rules.specs.RuleSteps.{AddsOrReports, Keeps}

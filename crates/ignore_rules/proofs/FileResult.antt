@@ -2,9 +2,9 @@
 use Rattle.std.proofs.Common.{◌≡◌, ◌⊎◌, inl, inr, ℕ, ◌+◌, List, [], ◌∷◌, ◌++◌, Option, Some, None, Result, Ok, Err, refl, sym, ap, subst, append_assoc}
 use Rattle.std.proofs.lemmas.List.{append-nil}
 use Rattle.std.specs.Str.{chars}
-use Rattle.ignore_glob.specs.declared.fault.Fault.{Fault}
+use Rattle.ignore_base.specs.declared.fault.Fault.{Fault}
 use Rattle.ignore_glob.specs.GlobFaults.{glob_fault_text}
-use Rattle.ignore_glob.specs.Problem.{Problem, at_path, glob, io, joined}
+use Rattle.ignore_base.specs.Problem.{Problem, at_path, glob, io, joined}
 use Rattle.ignore_glob.proofs.RowExists.{find_reading}
 use Rattle.ignore_files.specs.declared.types.Contents.{Contents}
 use Rattle.ignore_rules.specs.Line.{ParsedLine, parsed_line}

@@ -1,8 +1,8 @@
 -- A file adds one thing, with one problem; so does each matcher that is built from it. The answer
 -- of a value that is consistent with a tree adds what the tree's file adds.
 use Rattle.std.proofs.Common.{◌≡◌, ℕ, ◌+◌, List, ◌∷◌, Option, Some, None, Result, Ok, Err, refl, sym, ap, ◌∙◌, subst}
-use Rattle.ignore_glob.specs.declared.fault.Fault.{Fault}
-use Rattle.ignore_glob.specs.Problem.{Problem, joined}
+use Rattle.ignore_base.specs.declared.fault.Fault.{Fault}
+use Rattle.ignore_base.specs.Problem.{Problem, joined}
 use Rattle.ignore_files.specs.declared.env.Env.{Env}
 use Rattle.ignore_files.specs.declared.types.Contents.{Contents}
 use Rattle.ignore_files.specs.declared.types.Refusal.{Refusal}

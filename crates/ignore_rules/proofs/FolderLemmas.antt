@@ -4,8 +4,8 @@ use Rattle.std.specs.Prelude.{codes}
 use Rattle.std.proofs.lemmas.Bool.{false_from_ne_true, eqb-true}
 use Rattle.std.proofs.lemmas.List.{length-take-le, length-drop, get_or-drop}
 use Rattle.std.proofs.lemmas.List.Splits.{slice_split_none}
-use Rattle.ignore_glob.specs.Paths.{is_slash, components, joined, is_absolute}
-use Rattle.ignore_glob.proofs.ComponentLemmas.{components-slash, joined-components, no_slash, cut_at}
+use Rattle.ignore_base.specs.Paths.{is_slash, components, joined, is_absolute}
+use Rattle.ignore_base.proofs.ComponentLemmas.{components-slash, joined-components, no_slash, cut_at}
 use Rattle.ignore_files.specs.Memory.{but_last}
 use Rattle.ignore_files.proofs.Components.{but_last_push}
 use Rattle.ignore_rules.specs.Matchers.{folder_of}

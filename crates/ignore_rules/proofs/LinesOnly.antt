@@ -4,7 +4,7 @@ use Rattle.std.specs.Str.{chars}
 use Rattle.ignore_glob.specs.Glob.{Tokens}
 use Rattle.ignore_glob.specs.GlobFaults.{glob_fault_text}
 use Rattle.ignore_glob.specs.declared.glob.fault.GlobFault.{GlobFault}
-use Rattle.ignore_glob.specs.Problem.{Problem, glob}
+use Rattle.ignore_base.specs.Problem.{Problem, glob}
 use Rattle.ignore_glob.proofs.RowLemmas.{Reads-same, one_fault, never_both}
 use Rattle.ignore_rules.specs.Line.{ParsedLine, parsed_line}
 use Rattle.ignore_rules.specs.Rules.{Rule, Building, LineOptions, read_rule, with_rule, GivesRule, GivesProblem, AddsLine, Refuses}

@@ -6,12 +6,12 @@ use Rattle.std.proofs.lemmas.List.{map-append, length-take-le, length-drop, get_
 use Rattle.std.proofs.lemmas.Str.{encodes-chars, chars-nil, chars-append, chars_past_char, IsUtf8-take, IsUtf8-drop, IsCharBoundary-before_ascii, IsCharBoundary-after_ascii}
 use Rattle.std.specs.Str.{IsUtf8, chars}
 use lib.Utf8.{encode, encodes}
-use Rattle.ignore_glob.proofs.ComponentLemmas.{cut_at}
-use Rattle.ignore_glob.specs.declared.match_result.Match.{Match}
-use Rattle.ignore_glob.specs.declared.match_result.Match.TheVariants.{None, Ignore, Whitelist}
-use Rattle.ignore_glob.specs.Match.{is_none, match_or, match_map}
+use Rattle.ignore_base.proofs.ComponentLemmas.{cut_at}
+use Rattle.ignore_base.specs.declared.match_result.Match.{Match}
+use Rattle.ignore_base.specs.declared.match_result.Match.TheVariants.{None, Ignore, Whitelist}
+use Rattle.ignore_base.specs.Match.{is_none, match_or, match_map}
 use Rattle.ignore_rules.specs.Rules.{Rule, Ruleset}
-use Rattle.ignore_glob.specs.Paths.{is_absolute, strip_of}
+use Rattle.ignore_base.specs.Paths.{is_absolute, strip_of}
 use Rattle.ignore_rules.specs.Parents.{slash_prefixes, slash_prefixes_from, parents, directories_answer, nearest_answer, is_under_root}
 
 -- without a slash there is no such prefix

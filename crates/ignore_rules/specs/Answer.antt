@@ -1,11 +1,11 @@
 -- The answer of a list of rules.
 use Rattle.std.specs.Prelude.{◌≡◌, ◌⊎◌, ℕ, Bool, true, false, not, ◌&&◌, ◌||◌, List, [], ◌∷◌, ◌++◌, All, if◌then◌else◌}
 use Rattle.std.specs.Str.{chars}
-use Rattle.ignore_glob.specs.Text.{Chars, Path}
-use Rattle.ignore_glob.specs.declared.match_result.Match.{Match}
-use Rattle.ignore_glob.specs.declared.match_result.Match.TheVariants.{None, Ignore, Whitelist}
-use Rattle.ignore_glob.specs.Match.{match_or}
-use Rattle.ignore_glob.specs.Paths.{strip_of}
+use Rattle.ignore_base.specs.Text.{Chars, Path}
+use Rattle.ignore_base.specs.declared.match_result.Match.{Match}
+use Rattle.ignore_base.specs.declared.match_result.Match.TheVariants.{None, Ignore, Whitelist}
+use Rattle.ignore_base.specs.Match.{match_or}
+use Rattle.ignore_base.specs.Paths.{strip_of}
 use Rattle.ignore_glob.specs.Reading.{Matches}
 use Rattle.ignore_rules.specs.Rules.{Rule}
 use Rattle.ignore_rules.specs.DoesMatch.{does_match}

@@ -3,8 +3,8 @@
 use Rattle.std.specs.Prelude.{◌==◌, ◌-◌, ℕ, Bool, false, not, ◌&&◌, ◌||◌, if◌then◌else◌, List, [], ◌∷◌, ◌++◌, length, take, drop, reverse, codes, nat_eq, Option, None, Some}
 use Rattle.std.specs.List.{starts_with, ends_with}
 use Rattle.std.specs.Str.{trim_end, bytes_eq}
-use Rattle.ignore_glob.specs.Text.{Bytes}
-use Rattle.ignore_glob.specs.Paths.{has_slash}
+use Rattle.ignore_base.specs.Text.{Bytes}
+use Rattle.ignore_base.specs.Paths.{has_slash}
 
 -- the text begins with this prefix, or ends with this suffix
 abbrev pub has_prefix : Bytes → Bytes → Bool

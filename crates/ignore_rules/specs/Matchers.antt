@@ -1,11 +1,11 @@
 -- Matchers that are built from files: from one file, and from the global file.
 use Rattle.std.specs.Prelude.{◌≡◌, ◌⊎◌, ◌==◌, ◌&&◌, ℕ, Bool, true, false, List, length, codes, Option, None, Some, is_some, Result, Ok, Err, if◌then◌else◌}
-use Rattle.ignore_glob.specs.Text.{Path}
-use Rattle.ignore_glob.specs.declared.fault.Fault.{Fault}
-use Rattle.ignore_glob.specs.declared.fault.Fault.TheVariants.{NoCurrentDir}
-use Rattle.ignore_glob.specs.Errors.{io_fault}
-use Rattle.ignore_glob.specs.Paths.{is_absolute, joined, components}
-use Rattle.ignore_glob.specs.Problem.{Problem, io}
+use Rattle.ignore_base.specs.Text.{Path}
+use Rattle.ignore_base.specs.declared.fault.Fault.{Fault}
+use Rattle.ignore_base.specs.declared.fault.Fault.TheVariants.{NoCurrentDir}
+use Rattle.ignore_base.specs.Errors.{io_fault}
+use Rattle.ignore_base.specs.Paths.{is_absolute, joined, components}
+use Rattle.ignore_base.specs.Problem.{Problem, io}
 use Rattle.ignore_files.specs.declared.env.Env.{Env}
 use Rattle.ignore_files.specs.declared.types.Contents.{Contents}
 use Rattle.ignore_files.specs.declared.types.Metadata.{Metadata}

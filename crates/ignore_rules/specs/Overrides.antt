@@ -2,9 +2,9 @@
 use Rattle.std.specs.Prelude.{ℕ, Bool, not, ◌&&◌, List, Option, if◌then◌else◌}
 use Rattle.std.specs.Prelude.{None as Nothing, Some as Only}
 use Rattle.std.specs.List.{list_any}
-use Rattle.ignore_glob.specs.Text.{Path}
-use Rattle.ignore_glob.specs.declared.match_result.Match.{Match}
-use Rattle.ignore_glob.specs.declared.match_result.Match.TheVariants.{None, Ignore, Whitelist}
+use Rattle.ignore_base.specs.Text.{Path}
+use Rattle.ignore_base.specs.declared.match_result.Match.{Match}
+use Rattle.ignore_base.specs.declared.match_result.Match.TheVariants.{None, Ignore, Whitelist}
 use Rattle.ignore_rules.specs.Answer.{answer}
 use Rattle.ignore_rules.specs.Rules.{Rule, Ruleset}
 

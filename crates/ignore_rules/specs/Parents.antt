@@ -1,11 +1,11 @@
 -- The parents of a path, and the answer of rules for a path together with its parents.
 use Rattle.std.specs.Prelude.{ℕ, ◌==◌, Bool, true, not, ◌||◌, List, [], ◌∷◌, length, map, reverse, if◌then◌else◌}
 use Rattle.std.specs.Str.{chars}
-use Rattle.ignore_glob.specs.Text.{Chars, Path}
-use Rattle.ignore_glob.specs.declared.match_result.Match.{Match}
-use Rattle.ignore_glob.specs.declared.match_result.Match.TheVariants.{None}
-use Rattle.ignore_glob.specs.Match.{match_or}
-use Rattle.ignore_glob.specs.Paths.{is_absolute, strip_of}
+use Rattle.ignore_base.specs.Text.{Chars, Path}
+use Rattle.ignore_base.specs.declared.match_result.Match.{Match}
+use Rattle.ignore_base.specs.declared.match_result.Match.TheVariants.{None}
+use Rattle.ignore_base.specs.Match.{match_or}
+use Rattle.ignore_base.specs.Paths.{is_absolute, strip_of}
 use Rattle.ignore_rules.specs.Rules.{Rule, Ruleset}
 use Rattle.ignore_rules.specs.Answer.{list_answer}
 

@@ -1,8 +1,8 @@
 -- Steps: one step of adding a file, as inner functions promise it to one another.
 use Rattle.std.specs.Prelude.{◌≡◌, ℕ, ◌<◌, ◌≤◌, ◌==◌, ◌⊎◌, List, [], ◌∷◌, ◌++◌, length, drop, Option, Some, Result, Ok, Err}
 use Rattle.std.specs.List.{slice_split}
-use Rattle.ignore_glob.specs.declared.fault.Fault.{Fault as FileFault}
-use Rattle.ignore_glob.specs.Problem.{Problem}
+use Rattle.ignore_base.specs.declared.fault.Fault.{Fault as FileFault}
+use Rattle.ignore_base.specs.Problem.{Problem}
 use Rattle.ignore_rules.specs.declared.gitignore.file.Line.{Line}
 use Rattle.ignore_rules.specs.declared.gitignore.file.Line.TheVariants.{Text, Fault, End}
 use Rattle.ignore_rules.specs.Rules.{Building, Rule, AddsLine, Refuses}

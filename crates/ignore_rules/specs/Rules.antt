@@ -1,13 +1,13 @@
 -- Rules, matchers and builders, and the rule or problem of a line that is added to a builder.
 use Rattle.std.specs.Prelude.{◌≡◌, ℕ, Bool, true, false, List, [], ◌∷◌, ◌++◌, Option, None, Some, not, count_by, if◌then◌else◌, length, ◌==◌}
 use Rattle.std.specs.Str.{chars}
-use Rattle.ignore_glob.specs.Text.{Bytes, Path}
+use Rattle.ignore_base.specs.Text.{Bytes, Path}
 use Rattle.ignore_glob.specs.declared.glob.options.Options.{Options}
 use Rattle.ignore_glob.specs.declared.glob.fault.GlobFault.{GlobFault}
 use Rattle.ignore_glob.specs.Glob.{Tokens}
 use Rattle.ignore_glob.specs.GlobFaults.{glob_fault_text}
-use Rattle.ignore_glob.specs.Paths.{trim_of}
-use Rattle.ignore_glob.specs.Problem.{Problem, glob}
+use Rattle.ignore_base.specs.Paths.{trim_of}
+use Rattle.ignore_base.specs.Problem.{Problem, glob}
 use Rattle.ignore_glob.specs.Reading.{Reading}
 use Rattle.ignore_glob.specs.Row.{Reads, IsFaulty}
 use Rattle.ignore_rules.specs.Line.{ParsedLine, parsed_line}

@@ -3,13 +3,13 @@
 //! They are gitignore globs with the meaning inverted: a glob whitelists what it matches, and one
 //! with a leading `!` ignores it.
 ghost use Rattle.std.specs.Prelude.{◌≡◌, ◌⊎◌, ◌==◌, None, false, IfOk, IfErr, IsOk, OnOk, OnErr, length};
-ghost use Rattle.ignore_glob.specs.Problem.{problem_of, memory};
+ghost use Rattle.ignore_base.specs.Problem.{problem_of, memory};
 ghost use Rattle.ignore_rules.specs.Overrides.{has_whitelist, override_answer};
 ghost use Rattle.ignore_rules.specs.Rules.{begun, empty, built, AddsLine, Refuses, ignore_count, whitelist_count, with_case_insensitive, with_unclosed_class};
 
 use crate::gitignore;
 use crate::gitignore::{Gitignore, GitignoreBuilder};
-use ignore_glob::{Error, Match};
+use ignore_base::{Error, Match};
 use std::alloc::{AllocError, Global};
 use std::marker::Model;
 

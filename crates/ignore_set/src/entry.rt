@@ -1,12 +1,12 @@
 //! One pattern of a set, with the text by which it can be looked up.
 ghost use Rattle.std.specs.Prelude.{◌≡◌, ◌≤◌, ◌↔◌, IsTrue, IfOk, IfErr};
 ghost use Rattle.std.specs.Str.{chars};
-ghost use Rattle.ignore_glob.specs.Problem.{problem_of, memory};
+ghost use Rattle.ignore_base.specs.Problem.{problem_of, memory};
 ghost use Rattle.ignore_glob.specs.Reading.{Matches};
 ghost use Rattle.ignore_set.specs.Sets.{Allows, Applies, passes_of};
 
 use crate::text::{has_end, has_name, is_same};
-use ignore_glob::Error;
+use ignore_base::Error;
 use ignore_glob::glob::{Key, Pattern};
 use std::alloc::AllocError;
 use std::marker::Model;

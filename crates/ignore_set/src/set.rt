@@ -1,11 +1,11 @@
 //! A set of patterns.
 ghost use Rattle.std.specs.Prelude.{◌≡◌, ◌≤◌, IfOk, IfErr, map};
 ghost use Rattle.std.specs.Str.{chars};
-ghost use Rattle.ignore_glob.specs.Problem.{problem_of, memory};
+ghost use Rattle.ignore_base.specs.Problem.{problem_of, memory};
 ghost use Rattle.ignore_set.specs.Sets.{IsLastMatch, members, pass_bound};
 
 use crate::entry::Entry;
-use ignore_glob::Error;
+use ignore_base::Error;
 use ignore_glob::glob::Pattern;
 use std::alloc::AllocError;
 use std::marker::Model;

@@ -1,6 +1,6 @@
 //! The example of the README.
 
-use ignore_glob::Error;
+use ignore_base::Error;
 use ignore_rules::gitignore::GitignoreBuilder;
 use std::alloc::Global;
 use std::test::Fail;

@@ -1,6 +1,6 @@
 //! Files of which each call has the same fault, for each fault that there is.
+use ignore_base::Error;
 use ignore_files::{Contents, Env, Fault, Files, Identity, Listing, Metadata, Name, Refusal};
-use ignore_glob::Error;
 use ignore_rules::gitignore::{Gitignore, GitignoreBuilder, gitconfig_excludes_path};
 use std::alloc::{AllocError, Global};
 use std::test::Fail;

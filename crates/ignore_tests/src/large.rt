@@ -1,6 +1,6 @@
 //! A tree of many nodes and a file of many rules.
+use ignore_base::Error;
 use ignore_files::{Files, MemoryTree, TreeError};
-use ignore_glob::Error;
 use ignore_rules::gitignore::{Gitignore, GitignoreBuilder};
 use std::alloc::{AllocError, Global};
 use std::test::Fail;

@@ -1,6 +1,6 @@
 //! What matches, kinds of files and metadata answer when they are asked.
+use ignore_base::Match;
 use ignore_files::{FileType, Metadata};
-use ignore_glob::Match;
 
 /// Whether a match is none, an ignore or a whitelist, and what decided.
 fn answers(found: &Match<u8>) -> (bool, bool, bool, Option<u8>) {

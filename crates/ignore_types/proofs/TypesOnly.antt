@@ -6,11 +6,11 @@ use Rattle.std.specs.Str.{chars}
 use Rattle.ignore_glob.specs.Glob.{Tokens}
 use Rattle.ignore_glob.specs.GlobFaults.{glob_fault_text}
 use Rattle.ignore_glob.specs.declared.glob.fault.GlobFault.{GlobFault}
-use Rattle.ignore_glob.specs.declared.match_result.Match.{Match}
-use Rattle.ignore_glob.specs.Problem.{Problem, problem_of, glob, invalid_definition, memory}
+use Rattle.ignore_base.specs.declared.match_result.Match.{Match}
+use Rattle.ignore_base.specs.Problem.{Problem, problem_of, glob, invalid_definition, memory}
 use Rattle.ignore_glob.specs.Reading.{Reading}
 use Rattle.ignore_glob.proofs.RowLemmas.{Reads-same, one_fault, never_both}
-use Rattle.ignore_glob.specs.declared.error.Error.{Error}
+use Rattle.ignore_base.specs.declared.error.Error.{Error}
 use Rattle.std.specs.declared.cmp.Ordering.TheVariants.{Less}
 use Rattle.ignore_types.specs.Types.{Definition, Choice, Draft, Becomes, IsSortedCopy, IsAscending, text_cmp, definition_of}
 use Rattle.ignore_types.specs.TypeMatch.{Chosen, Matcher, SomeMatches, NoneMatches, IsNameAnswer, IsTypeAnswer, verdict_of}

@@ -2,11 +2,11 @@
 use Rattle.std.specs.Prelude.{◌≡◌, ◌⊎◌, ℕ, false, List, ◌∷◌, ◌++◌, Some, None}
 use Rattle.std.specs.List.{AllZip}
 use Rattle.std.specs.Str.{chars}
-use Rattle.ignore_glob.specs.Text.{Bytes}
+use Rattle.ignore_base.specs.Text.{Bytes}
 use Rattle.ignore_glob.specs.declared.glob.options.Options.{Options}
 use Rattle.ignore_glob.specs.declared.glob.fault.GlobFault.{GlobFault}
 use Rattle.ignore_glob.specs.GlobFaults.{glob_fault_text}
-use Rattle.ignore_glob.specs.Problem.{Problem, glob, unrecognized}
+use Rattle.ignore_base.specs.Problem.{Problem, glob, unrecognized}
 use Rattle.ignore_glob.specs.Reading.{Reading}
 use Rattle.ignore_glob.specs.Row.{Reads, IsFaulty}
 use Rattle.ignore_types.specs.Types.{Definition, Choice, Draft, definition_of, IsSortedCopy, IsAscending}

@@ -1,7 +1,7 @@
 -- The errors of a builder of file types for a definition.
 use Rattle.std.specs.Prelude.{◌≡◌, ◌⊎◌, List, Option, None}
-use Rattle.ignore_glob.specs.declared.error.Error.{Error}
-use Rattle.ignore_glob.specs.Problem.{problem_of, memory, invalid_definition}
+use Rattle.ignore_base.specs.declared.error.Error.{Error}
+use Rattle.ignore_base.specs.Problem.{problem_of, memory, invalid_definition}
 use Rattle.ignore_types.specs.Types.{Definition}
 
 -- the error is out of memory, or the definition isn't allowed and is reported as invalid

@@ -3,10 +3,10 @@ use Rattle.std.specs.Prelude.{◌≡◌, ◌⊎◌, ℕ, Bool, true, false, not,
 use Rattle.std.specs.Prelude as std
 use Rattle.std.specs.List.{list_any}
 use Rattle.std.specs.Str.{chars}
-use Rattle.ignore_glob.specs.Text.{Bytes, Chars}
+use Rattle.ignore_base.specs.Text.{Bytes, Chars}
 use Rattle.ignore_glob.specs.Reading.{Reading, Matches}
-use Rattle.ignore_glob.specs.declared.match_result.Match.{Match}
-use Rattle.ignore_glob.specs.declared.match_result.Match.TheVariants.{None, Ignore, Whitelist}
+use Rattle.ignore_base.specs.declared.match_result.Match.{Match}
+use Rattle.ignore_base.specs.declared.match_result.Match.TheVariants.{None, Ignore, Whitelist}
 use Rattle.ignore_types.specs.Types.{Definition}
 
 -- a chosen type of a matcher: its definition with the globs in the order of adding, what each

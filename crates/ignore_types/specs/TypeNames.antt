@@ -6,7 +6,7 @@ use Rattle.unicode.specs.Binary.{is_alphabetic}
 use Rattle.unicode.specs.GeneralCategory.{general_category}
 use Rattle.ucd_category.specs.declared.GeneralCategory.{GeneralCategory}
 use Rattle.ucd_category.specs.declared.GeneralCategory.TheVariants.{DecimalNumber, LetterNumber, OtherNumber}
-use Rattle.ignore_glob.specs.Text.{Bytes}
+use Rattle.ignore_base.specs.Text.{Bytes}
 
 -- one of the categories Nd, Nl and No
 abbrev pub is_number : GeneralCategory → Bool

@@ -8,7 +8,7 @@ use Rattle.std.specs.Cmp.Lexicographic.{slice_cmp, pointwise, lists_equiv}
 use Rattle.std.specs.Cmp.{IsEquivalence, and_equiv, on_equiv, nat_eq_equiv}
 use Rattle.std.specs.declared.cmp.Ordering.{Ordering}
 use Rattle.std.specs.declared.cmp.Ordering.TheVariants.{Less, Equal, Greater}
-use Rattle.ignore_glob.specs.Text.{Bytes}
+use Rattle.ignore_base.specs.Text.{Bytes}
 use Rattle.ignore_types.specs.TypeNames.{is_type_name, every_type}
 
 -- a file type: its name, and its globs in the order of adding

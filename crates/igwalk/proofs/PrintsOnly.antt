@@ -3,7 +3,7 @@
 use Rattle.std.proofs.Common.{◌≡◌, ℕ, ◌+◌, ◌==◌, not, Bool, cond, List, [], ◌∷◌, ◌++◌, length, refl, sym, ap, ◌∙◌, subst}
 use Rattle.std.proofs.Common.{None as Nothing}
 use Rattle.std.specs.Str.Lines.{lines}
-use Rattle.ignore_glob.specs.Problem.{Problem}
+use Rattle.ignore_base.specs.Problem.{Problem}
 use Rattle.ignore_rules.specs.Rules.{Building, built, AddsLine, Refuses}
 use Rattle.ignore_rules.proofs.LinesOnly.{AddsLine-one, Refuses-one, AddsLine-never}
 use Rattle.igwalk.specs.Matching.{Adds, no_line, added, refused, refusal, Prints, answer_line, answer_of}

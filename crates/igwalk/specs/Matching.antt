@@ -3,10 +3,10 @@ use Rattle.std.specs.Prelude.{◌≡◌, ℕ, ◌+◌, Bool, true, false, List, 
 use Rattle.std.specs.Prelude.{None as Nothing}
 use Rattle.std.specs.Fmt.{decimal}
 use Rattle.std.specs.Str.Lines.{lines}
-use Rattle.ignore_glob.specs.declared.match_result.Match.{Match}
-use Rattle.ignore_glob.specs.declared.match_result.Match.TheVariants.{None, Ignore, Whitelist}
-use Rattle.ignore_glob.specs.Errors.{problem_text}
-use Rattle.ignore_glob.specs.Problem.{Problem}
+use Rattle.ignore_base.specs.declared.match_result.Match.{Match}
+use Rattle.ignore_base.specs.declared.match_result.Match.TheVariants.{None, Ignore, Whitelist}
+use Rattle.ignore_base.specs.Errors.{problem_text}
+use Rattle.ignore_base.specs.Problem.{Problem}
 use Rattle.ignore_rules.specs.Answer.{answer}
 use Rattle.ignore_rules.specs.Rules.{Rule, Ruleset, Building, begun, built, AddsLine, Refuses}
 use Rattle.igwalk.specs.Words.{Question}

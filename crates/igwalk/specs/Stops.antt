@@ -2,7 +2,7 @@
 -- line, so a report begins with the rejected lines among the first ones.
 use Rattle.std.specs.Prelude.{◌≡◌, ◌≢◌, ℕ, List, [], ◌∷◌, ◌++◌, codes, ⊤}
 use Rattle.std.specs.Str.Lines.{lines}
-use Rattle.ignore_glob.specs.Problem.{Problem, several, at_line, at_path, at_depth, loop, io, glob, unrecognized, invalid_definition, memory}
+use Rattle.ignore_base.specs.Problem.{Problem, several, at_line, at_path, at_depth, loop, io, glob, unrecognized, invalid_definition, memory}
 use Rattle.ignore_rules.specs.Rules.{Building, LineOptions, Refuses}
 use Rattle.igwalk.specs.declared.run.Stop.{Stop}
 use Rattle.igwalk.specs.declared.run.Stop.TheVariants.{Usage, Memory, Write, Silence}

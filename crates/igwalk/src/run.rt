@@ -2,15 +2,15 @@
 ghost use Rattle.std.specs.Prelude.{◌≡◌, ◌≢◌, ◌≤◌, ◌⊎◌, ◌==◌, [], ℕ, List, None, Some, true, false, ⊤, OnOk, IfOk, IfErr, codes, length, map, string_bytes, if◌then◌else◌};
 ghost use Rattle.std.specs.Io.KnownBytes.{Appends};
 ghost use Rattle.std.specs.Str.Lines.{lines};
-ghost use Rattle.ignore_glob.specs.Errors.{problem_text};
-ghost use Rattle.ignore_glob.specs.Problem.{problem_of, memory};
+ghost use Rattle.ignore_base.specs.Errors.{problem_text};
+ghost use Rattle.ignore_base.specs.Problem.{problem_of, memory};
 ghost use Rattle.ignore_rules.specs.Rules.{begun, built};
 ghost use Rattle.igwalk.specs.Words.{Question, question_of, request_view};
 ghost use Rattle.igwalk.specs.Stops.{Ends, EndsAnswer, EndsLine, EndsLines, EndsReported, line_stop, reason};
 ghost use Rattle.igwalk.specs.Matching.{AddsAll, AddsOne, Prints, answer_line, answer_of, refusal};
 
 use crate::words::{Request, read_words};
-use ignore_glob::{Error, Match};
+use ignore_base::{Error, Match};
 use ignore_rules::gitignore::{Gitignore, GitignoreBuilder};
 use std::alloc::Global;
 use std::io::Write;

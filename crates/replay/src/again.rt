@@ -1,7 +1,7 @@
 //! Calls of the library that may be out of memory: each is retried once, on the same value, so that
 //! a failed call which changed its builder shows in the answer.
 
-use ignore_glob::{Error, Match};
+use ignore_base::{Error, Match};
 use ignore_rules::gitignore::{Gitignore, GitignoreBuilder, Glob};
 use std::alloc::Global;
 use vectors::Trouble;

@@ -2,7 +2,7 @@
 //! holds.
 
 use crate::answer::{Answer, Items, text_value};
-use ignore_glob::{Error, Fault};
+use ignore_base::{Error, Fault};
 use serde_json::Value;
 use std::alloc::{AllocError, Global};
 use vectors::Trouble;

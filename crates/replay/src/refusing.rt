@@ -1,10 +1,10 @@
 //! Trees in memory, of which one call is refused.
 
 use crate::error::{fault_of, reported};
+use ignore_base::Error;
 use ignore_files::{
     Contents, Fault, Files, Identity, Listing, MemoryTree, Metadata, Name, Refusal,
 };
-use ignore_glob::Error;
 use serde_json::Value;
 use std::alloc::Global;
 use std::cell::Cell;

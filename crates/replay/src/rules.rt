@@ -4,7 +4,7 @@ use crate::again::{add_line, build, builder};
 use crate::answer::{Answer, Items};
 use crate::clones::asked;
 use crate::error::{printed, reported_or_null};
-use ignore_glob::{Error, Match};
+use ignore_base::{Error, Match};
 use ignore_rules::gitignore::{Gitignore, GitignoreBuilder, Glob};
 use serde_json::Value;
 use std::alloc::{AllocError, Global};

@@ -1,8 +1,8 @@
 -- What callers ask, in the words of the crates below.
 use Rattle.std.specs.Prelude.{◌≡◌, ◌&&◌, ◌||◌, ℕ, Bool, true, false, not, List, Option, None, if◌then◌else◌}
-use Rattle.ignore_glob.specs.declared.match_result.Match.{Match}
-use Rattle.ignore_glob.specs.Match.{inner, is_ignore, is_none, is_whitelist}
-use Rattle.ignore_glob.specs.Problem.{Problem}
+use Rattle.ignore_base.specs.declared.match_result.Match.{Match}
+use Rattle.ignore_base.specs.Match.{inner, is_ignore, is_none, is_whitelist}
+use Rattle.ignore_base.specs.Problem.{Problem}
 use Rattle.ignore_rules.specs.Answer.{answer}
 use Rattle.ignore_rules.specs.Overrides.{override_answer}
 use Rattle.ignore_rules.specs.Parents.{answer_with_parents, is_under_root}

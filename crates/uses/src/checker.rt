@@ -4,13 +4,13 @@ ghost use Rattle.ignore_files.specs.declared.types.Contents.{Contents};
 ghost use Rattle.ignore_files.specs.declared.types.Refusal.{Refusal};
 ghost use Rattle.ignore_files.specs.Gives.{IsHonest};
 ghost use Rattle.ignore_files.specs.Tree.{Tree};
-ghost use Rattle.ignore_glob.specs.Problem.{problem_of, memory, Problem};
+ghost use Rattle.ignore_base.specs.Problem.{problem_of, memory, Problem};
 ghost use Rattle.ignore_rules.specs.Matchers.{BuildsAnswer, IsMatcherOf, folder_of};
 ghost use Rattle.ignore_rules.specs.Rules.{Ruleset, begun};
 ghost use Rattle.uses.specs.Questions.{ignores};
 
+use ignore_base::Error;
 use ignore_files::Files;
-use ignore_glob::Error;
 use ignore_rules::gitignore::Gitignore;
 use std::alloc::Global;
 

@@ -3,14 +3,14 @@
 ghost use Rattle.std.specs.Prelude.{◌≡◌, IfOk, IfErr, option_map};
 ghost use Rattle.ignore_files.specs.Disk.{tree_on};
 ghost use Rattle.ignore_files.specs.Machine.{Disk, IsTruthful};
-ghost use Rattle.ignore_glob.specs.Problem.{problem_of, memory};
+ghost use Rattle.ignore_base.specs.Problem.{problem_of, memory};
 ghost use Rattle.ignore_rules.specs.Matchers.{IsMatcherOf};
 ghost use Rattle.ignore_rules.specs.Rules.{Ruleset};
 ghost use Rattle.uses.specs.Questions.{ignores};
 
 use crate::checker::is_ignored;
+use ignore_base::Error;
 use ignore_files::{DiskFiles, Machine};
-use ignore_glob::Error;
 use std::alloc::Global;
 
 /// As `is_ignored`, over the files of a machine: a program passes its runtime.

@@ -1,10 +1,10 @@
 //! The global file of the process that asks.
 ghost use Rattle.std.specs.Prelude.{◌≡◌, IfErr};
-ghost use Rattle.ignore_glob.specs.Problem.{problem_of, memory};
+ghost use Rattle.ignore_base.specs.Problem.{problem_of, memory};
 
 use crate::checker::is_ignored_by;
+use ignore_base::Error;
 use ignore_files::{DiskFiles, Env};
-use ignore_glob::Error;
 use ignore_rules::gitignore::Gitignore;
 use std::rt;
 

@@ -1,9 +1,9 @@
 //! Lines that a user types in: the valid ones are added, and an invalid one changes nothing.
 ghost use Rattle.std.specs.Prelude.{◌≡◌, ◌≢◌, IsTrue, IfOk, IfErr, OnErr};
-ghost use Rattle.ignore_glob.specs.Problem.{problem_of, memory};
+ghost use Rattle.ignore_base.specs.Problem.{problem_of, memory};
 ghost use Rattle.uses.specs.Questions.{AddsIfValid};
 
-use ignore_glob::Error;
+use ignore_base::Error;
 use ignore_rules::gitignore::GitignoreBuilder;
 
 /// Whether an error is of a glob.

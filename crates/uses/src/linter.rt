@@ -1,15 +1,15 @@
 //! A linter: which files it looks at, by the globs of its command line and the types it is for.
 ghost use Rattle.std.specs.Prelude.{◌≡◌, Option, false, IfOk, IfErr};
-ghost use Rattle.ignore_glob.specs.declared.match_result.Match.{Match};
-ghost use Rattle.ignore_glob.specs.Match.{is_ignore};
-ghost use Rattle.ignore_glob.specs.Paths.{file_name_of};
-ghost use Rattle.ignore_glob.specs.Problem.{problem_of, memory};
+ghost use Rattle.ignore_base.specs.declared.match_result.Match.{Match};
+ghost use Rattle.ignore_base.specs.Match.{is_ignore};
+ghost use Rattle.ignore_base.specs.Paths.{file_name_of};
+ghost use Rattle.ignore_base.specs.Problem.{problem_of, memory};
 ghost use Rattle.ignore_rules.specs.Overrides.{override_answer};
 ghost use Rattle.ignore_rules.specs.TypeMatch.{IsTypeAnswer};
 ghost use Rattle.ignore_rules.specs.Types.{Definition};
 ghost use Rattle.uses.specs.Questions.{is_linted};
 
-use ignore_glob::{Error, Match};
+use ignore_base::{Error, Match};
 use ignore_rules::overrides::Override;
 use ignore_rules::types::Types;
 

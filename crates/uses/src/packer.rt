@@ -1,10 +1,10 @@
 //! A packer: which of the paths of a list a package includes.
 ghost use Rattle.std.specs.Prelude.{◌≡◌, IfOk, IfErr, map};
 ghost use Rattle.std.specs.List.{filter};
-ghost use Rattle.ignore_glob.specs.Problem.{problem_of, memory};
+ghost use Rattle.ignore_base.specs.Problem.{problem_of, memory};
 ghost use Rattle.uses.specs.Questions.{is_packed};
 
-use ignore_glob::Error;
+use ignore_base::Error;
 use ignore_rules::gitignore::Gitignore;
 use std::alloc::Global;
 

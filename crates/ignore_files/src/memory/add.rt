@@ -6,7 +6,7 @@ ghost use Rattle.ignore_files.specs.Changes.{with_node};
 use crate::memory::node::{Kind, Node};
 use crate::tree_error::TreeError;
 use crate::types::Name;
-use ignore_glob::text::last_component;
+use ignore_base::text::last_component;
 
 /// Adds a node to the directory at the place `parent`, which is the one for its path. After an
 /// `Err` nothing has changed.

@@ -9,7 +9,7 @@ use crate::memory::entry::Entry;
 use crate::memory::node::{Cut, Kind, Node};
 use crate::memory::resolve::find_node;
 use crate::types::{Bytes, Contents, Identity, Listed, Listing, Metadata, Name, Refusal};
-use ignore_glob::Fault;
+use ignore_base::Fault;
 use std::alloc::Global;
 
 fn list_entries(alloc: Global, entries: &[Entry]) -> Result<Vec<Listed>, Refusal>

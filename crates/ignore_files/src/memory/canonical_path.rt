@@ -1,13 +1,13 @@
 //! The canonical paths of nodes: from `/`, by names alone.
 ghost use Rattle.std.specs.Prelude.{◌≡◌, ◌∷◌, [], List, count_by};
-ghost use Rattle.ignore_glob.specs.Paths.{components};
+ghost use Rattle.ignore_base.specs.Paths.{components};
 ghost use Rattle.ignore_files.specs.Memory.{is_canonical_path, child, place_of, any_kind, is_file, is_directory, sought, folder_sought, parent_for, below, but_last};
 ghost use Rattle.ignore_files.specs.declared.memory.node.Node.{Node};
 
 use crate::memory::node::{Kind, Node};
 use crate::memory::resolve::is_dir;
 use crate::tree_error::TreeError;
-use ignore_glob::text::is_proper;
+use ignore_base::text::is_proper;
 
 /// Whether the path is `/`, or `/` and names joined by single slashes.
 pub fn is_canonical_path(path: &str) -> bool

@@ -2,7 +2,7 @@
 
 use crate::memory::directory::Directory;
 use crate::types::{Bytes, FileType, Identity, Name};
-use ignore_glob::Fault;
+use ignore_base::Fault;
 use std::alloc::AllocError;
 
 /// What a node is.

@@ -1,12 +1,12 @@
 //! Resolving a path in a tree in memory.
 
 ghost use Rattle.std.specs.Prelude.{◌≡◌, ◌≤◌, [], ◌∷◌, IfOk, MatchResult, Ok, Err, option_map};
-ghost use Rattle.ignore_glob.specs.Paths.{components};
+ghost use Rattle.ignore_base.specs.Paths.{components};
 ghost use Rattle.ignore_files.specs.Memory.{is_dir_at};
 ghost use Rattle.ignore_files.specs.Resolve.{enter, link_at, walk, resolved, node_found};
 
 use crate::memory::node::{Kind, Node};
-use ignore_glob::Fault;
+use ignore_base::Fault;
 
 /// How many links may be followed to resolve one path.
 pub const LINKS: usize = 40;

@@ -6,12 +6,11 @@ ghost use Rattle.ignore_glob.specs.Forms.{key_form, form_of};
 ghost use Rattle.ignore_glob.specs.Positions.{CountsMarks, positions};
 ghost use Rattle.ignore_glob.specs.NodeLists.{glob_nodes, node_code, nodes_view};
 ghost use Rattle.ignore_glob.specs.GlobFaults.{IfFault};
-ghost use Rattle.ignore_glob.specs.Problem.{problem_of, memory};
+ghost use Rattle.ignore_base.specs.Problem.{problem_of, memory};
 ghost use Rattle.ignore_glob.specs.Reading.{Matches};
 ghost use Rattle.ignore_glob.specs.Row.{Reads, IsFaulty};
 ghost use Rattle.ignore_glob.specs.View.{tokens_view};
 
-use crate::error::Error;
 use crate::glob::copies::copied;
 use crate::glob::fault::PatternError;
 use crate::glob::key::{Key, key_of};
@@ -21,6 +20,7 @@ use crate::glob::nodes::nodes_of;
 use crate::glob::options::Options;
 use crate::glob::read::read;
 use crate::glob::token::Token;
+use ignore_base::Error;
 use std::alloc::{AllocError, Global};
 use std::marker::Model;
 

@@ -1,15 +1,15 @@
 //! Lines added to rules.
 ghost use Rattle.std.specs.Prelude.{◌≡◌, ◌⊎◌, ◌++◌, ◌∷◌, [], None, Some, IfOk, IfErr, OnOk, OnErr, IsOk, option_map, string_bytes, length, take};
-ghost use Rattle.ignore_glob.specs.Problem.{problem_of, memory};
+ghost use Rattle.ignore_base.specs.Problem.{problem_of, memory};
 ghost use Rattle.ignore_rules.specs.Line.{parsed_line};
 ghost use Rattle.ignore_rules.specs.Rules.{begun, AddsLine, Refuses, AddsParsed, GivesProblem, built, with_rule, with_case_insensitive, with_git_trailing_spaces, with_unclosed_class};
 
 use crate::gitignore::glob::Glob;
 use crate::gitignore::line::ParsedLine;
 use crate::gitignore::matcher::Gitignore;
-use ignore_glob::Error;
+use ignore_base::Error;
+use ignore_base::text::trim_root;
 use ignore_glob::glob::{Options, Pattern, PatternError};
-use ignore_glob::text::trim_root;
 use std::alloc::{AllocError, Global};
 use std::marker::Model;
 

@@ -5,14 +5,14 @@ ghost use Rattle.ignore_files.specs.declared.types.Contents.{Contents};
 ghost use Rattle.ignore_files.specs.declared.types.Refusal.{Refusal};
 ghost use Rattle.ignore_files.specs.Gives.{IsHonest};
 ghost use Rattle.ignore_files.specs.Tree.{Tree};
-ghost use Rattle.ignore_glob.specs.Problem.{problem_of, memory, at_path, io, Problem};
+ghost use Rattle.ignore_base.specs.Problem.{problem_of, memory, at_path, io, Problem};
 ghost use Rattle.ignore_rules.specs.Rules.{AddsLine, Refuses};
 ghost use Rattle.ignore_rules.specs.RuleFile.{AddsFile, AddsAnswer, AddsContents, AddsLines, lines_read, at_line_of, in_file, is_memory, line_content, unmarked};
 ghost use Rattle.ignore_rules.specs.RuleSteps.{IsOneSegment, IsLineRead, IsLastLineRead, IsLineAt, AddsOrReports, Keeps};
 
 use crate::gitignore::builder::GitignoreBuilder;
+use ignore_base::Error;
 use ignore_files::{Contents, Fault, Files, Refusal};
-use ignore_glob::Error;
 use memchr::memchr;
 use std::alloc::{AllocError, Global};
 use std::str;

@@ -2,15 +2,15 @@
 ghost use Rattle.std.specs.Prelude.{◌≡◌, option_map, string_bytes, IfOk, IfErr};
 ghost use Rattle.std.specs.Option.{option_copied};
 ghost use Rattle.std.specs.Str.{chars};
-ghost use Rattle.ignore_glob.specs.Match.{match_map};
-ghost use Rattle.ignore_glob.specs.Problem.{problem_of, memory};
+ghost use Rattle.ignore_base.specs.Match.{match_map};
+ghost use Rattle.ignore_base.specs.Problem.{problem_of, memory};
 ghost use Rattle.ignore_rules.specs.Answer.{does_apply, decision_of};
 ghost use Rattle.ignore_rules.specs.Rules.{read_rule};
 ghost use Rattle.ignore_rules.specs.DoesMatch.{does_match};
 
 use crate::gitignore::line::ParsedLine;
+use ignore_base::{Error, Match};
 use ignore_glob::glob::Pattern;
-use ignore_glob::{Error, Match};
 use std::alloc::AllocError;
 use std::marker::Model;
 

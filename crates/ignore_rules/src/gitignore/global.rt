@@ -2,17 +2,17 @@
 ghost use Rattle.std.specs.Prelude.{◌≡◌, ℕ, List, Option, None, Some, true, IfOk, IfErr, IsOkAnd, option_map, string_bytes};
 ghost use Rattle.ignore_files.specs.Gives.{IsHonest};
 ghost use Rattle.ignore_files.specs.Tree.{Tree};
-ghost use Rattle.ignore_glob.specs.declared.fault.Fault.TheVariants.{NoCurrentDir};
-ghost use Rattle.ignore_glob.specs.Problem.{problem_of, memory, io};
+ghost use Rattle.ignore_base.specs.declared.fault.Fault.TheVariants.{NoCurrentDir};
+ghost use Rattle.ignore_base.specs.Problem.{problem_of, memory, io};
 ghost use Rattle.ignore_excludes.specs.ExcludesSearch.{IsExcludesPath};
 ghost use Rattle.ignore_rules.specs.Matchers.{BuildsGlobal, BuildsAnyAnswer, IsGlobalMatcher, global_file, is_file_there};
 ghost use Rattle.ignore_rules.specs.Rules.{begun, empty};
 
 use crate::gitignore::builder::GitignoreBuilder;
 use crate::gitignore::matcher::Gitignore;
+use ignore_base::Error;
 use ignore_excludes::gitconfig_excludes_path;
 use ignore_files::{Env, Fault, Files, Refusal};
-use ignore_glob::Error;
 use std::alloc::Global;
 
 impl GitignoreBuilder {

@@ -2,12 +2,12 @@
 ghost use Rattle.std.specs.Prelude.{◌≡◌, ◌≤◌, ◌==◌, ◌⊎◌, IfOk, Some, length, string_bytes};
 ghost use Rattle.std.specs.List.{suffix_len};
 ghost use Rattle.ignore_glob.specs.GlobFaults.{glob_fault_text};
-ghost use Rattle.ignore_glob.specs.Problem.{problem_of, memory, glob};
+ghost use Rattle.ignore_base.specs.Problem.{problem_of, memory, glob};
 ghost use Rattle.ignore_rules.specs.Line.{has_prefix, has_suffix, without_prefix, without_suffix, default_trimmed, git_trimmed, trimmed, is_escaped, is_anchored, body, pattern, is_floating, placed, actual, parsed_line};
 
-use ignore_glob::Error;
+use ignore_base::Error;
+use ignore_base::text::has_slash;
 use ignore_glob::glob::GlobFault;
-use ignore_glob::text::has_slash;
 use std::alloc::{AllocError, Global};
 use std::marker::Model;
 

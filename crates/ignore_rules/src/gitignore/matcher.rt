@@ -1,14 +1,14 @@
 //! A matcher of rules.
 ghost use Rattle.std.specs.Prelude.{◌≡◌, ◌+◌, ◌==◌, IfOk, IfErr, length, string_bytes};
 ghost use Rattle.std.specs.Str.{chars};
-ghost use Rattle.ignore_glob.specs.Match.{match_map};
-ghost use Rattle.ignore_glob.specs.Problem.{problem_of, memory};
+ghost use Rattle.ignore_base.specs.Match.{match_map};
+ghost use Rattle.ignore_base.specs.Problem.{problem_of, memory};
 ghost use Rattle.ignore_rules.specs.Answer.{answer, list_answer};
 ghost use Rattle.ignore_rules.specs.Rules.{empty, ignore_count, whitelist_count};
 
 use crate::gitignore::glob::Glob;
-use ignore_glob::text::strip;
-use ignore_glob::{Error, Match};
+use ignore_base::text::strip;
+use ignore_base::{Error, Match};
 use std::alloc::{AllocError, Global};
 use std::marker::Model;
 

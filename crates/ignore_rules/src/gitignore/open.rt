@@ -4,14 +4,14 @@ ghost use Rattle.ignore_files.specs.declared.types.Contents.{Contents};
 ghost use Rattle.ignore_files.specs.declared.types.Refusal.{Refusal};
 ghost use Rattle.ignore_files.specs.Gives.{IsHonest};
 ghost use Rattle.ignore_files.specs.Tree.{Tree};
-ghost use Rattle.ignore_glob.specs.Problem.{problem_of, memory};
+ghost use Rattle.ignore_base.specs.Problem.{problem_of, memory};
 ghost use Rattle.ignore_rules.specs.Matchers.{IsMatcherOf, BuildsFile, BuildsAnswer, folder_of, without_fault};
 ghost use Rattle.ignore_rules.specs.Rules.{begun};
 
 use crate::gitignore::builder::GitignoreBuilder;
 use crate::gitignore::matcher::Gitignore;
+use ignore_base::Error;
 use ignore_files::Files;
-use ignore_glob::Error;
 use memchr::memrchr;
 use std::alloc::Global;
 

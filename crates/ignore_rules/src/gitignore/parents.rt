@@ -1,14 +1,14 @@
 //! Matching a path together with its parents.
 ghost use Rattle.std.specs.Prelude.{◌≡◌, ◌≢◌, ◌==◌, ◌<◌, ◌∷◌, IsTrue, false, IfOk, IfErr, length, slice_index};
 ghost use Rattle.std.specs.Str.{chars};
-ghost use Rattle.ignore_glob.specs.Match.{match_map};
-ghost use Rattle.ignore_glob.specs.Problem.{problem_of, memory};
+ghost use Rattle.ignore_base.specs.Match.{match_map};
+ghost use Rattle.ignore_base.specs.Problem.{problem_of, memory};
 ghost use Rattle.ignore_rules.specs.Parents.{answer_with_parents, directories_answer, is_under_root, nearest_answer, parents};
 
 use crate::gitignore::glob::Glob;
 use crate::gitignore::matcher::{Gitignore, last_answer};
-use ignore_glob::text::strip;
-use ignore_glob::{Error, Match};
+use ignore_base::text::strip;
+use ignore_base::{Error, Match};
 use memchr::memrchr;
 
 impl Gitignore {

@@ -1,7 +1,7 @@
 //! Collecting file types, and choices among them.
 ghost use Rattle.std.specs.Prelude.{◌≡◌, ◌⊎◌, ◌==◌, [], true, false, map, OnOk, OnErr, IfOk, IfErr};
 ghost use Rattle.std.specs.List.{AllZip, slice_split};
-ghost use Rattle.ignore_glob.specs.Problem.{problem_of, memory, unrecognized};
+ghost use Rattle.ignore_base.specs.Problem.{problem_of, memory, unrecognized};
 ghost use Rattle.ignore_types.specs.Types.{Draft, IsSortedCopy, IsAscending, one_glob, included, request_of, request_of_fields, after_request, Becomes, with_chosen, without};
 ghost use Rattle.ignore_types.specs.Building.{IsBuilt, IsChosen, IsChoiceProblem, IsRefusedWith, FirstBad};
 ghost use Rattle.ignore_types.specs.Refusals.{IsRefusal};
@@ -15,7 +15,7 @@ use crate::types::fields::fields;
 use crate::types::matcher::Types;
 use crate::types::name::is_allowed;
 use crate::types::selection::{Selection, selection_of, selections_of};
-use ignore_glob::Error;
+use ignore_base::Error;
 use std::alloc::{AllocError, Global};
 use std::marker::Model;
 

@@ -2,13 +2,13 @@
 ghost use Rattle.std.specs.Prelude.{◌≡◌, ◌⊎◌, ◌↔◌, ℕ, IsTrue, IfOk, IfErr, MatchOption, map, not, string_bytes, Some};
 ghost use Rattle.std.specs.List.{AllZip, list_any};
 ghost use Rattle.std.specs.Str.{chars};
-ghost use Rattle.ignore_glob.specs.Problem.{problem_of, memory, glob as glob_problem};
+ghost use Rattle.ignore_base.specs.Problem.{problem_of, memory, glob as glob_problem};
 ghost use Rattle.ignore_glob.specs.GlobFaults.{glob_fault_text};
 ghost use Rattle.ignore_types.specs.TypeMatch.{SomeMatches, NoneMatches, IsDeciding};
 ghost use Rattle.ignore_types.specs.Building.{plain, IsReadAs, FirstBad, IsGlobProblem};
 
 use crate::types::definition::FileTypeDef;
-use ignore_glob::Error;
+use ignore_base::Error;
 use ignore_glob::glob::{GlobFault, Options, Pattern, PatternError};
 use std::alloc::{AllocError, Global};
 use std::marker::Model;

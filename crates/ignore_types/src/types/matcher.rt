@@ -2,14 +2,14 @@
 ghost use Rattle.std.specs.Prelude.{◌≡◌, ◌==◌, [], length, IfOk, IfErr};
 ghost use Rattle.std.specs.Option.{option_copied};
 ghost use Rattle.std.specs.Str.{chars};
-ghost use Rattle.ignore_glob.specs.Problem.{problem_of, memory};
-ghost use Rattle.ignore_glob.specs.Paths.{file_name_of};
+ghost use Rattle.ignore_base.specs.Problem.{problem_of, memory};
+ghost use Rattle.ignore_base.specs.Paths.{file_name_of};
 ghost use Rattle.ignore_types.specs.TypeMatch.{verdict_of, unmatched, IsNameAnswer, IsTypeAnswer};
 
 use crate::types::chosen::{ChosenType, deciding, some_selected};
 use crate::types::definition::FileTypeDef;
-use ignore_glob::text::file_name;
-use ignore_glob::{Error, Match};
+use ignore_base::text::file_name;
+use ignore_base::{Error, Match};
 use std::alloc::{AllocError, Global};
 use std::marker::Model;
 

@@ -2,7 +2,7 @@
 
 use crate::answer::Answer;
 use crate::error::{fault_name, fault_of, printed, shape};
-use ignore_glob::{Error, Fault};
+use ignore_base::{Error, Fault};
 use serde_json::Value;
 use std::alloc::{AllocError, Global};
 use vectors::{Outcome, Trouble, field};

@@ -4,7 +4,7 @@ use crate::again::{but_for_memory, problem};
 use crate::answer::{Answer, Items};
 use crate::clones;
 use crate::rules::refusal;
-use ignore_glob::{Error, Match};
+use ignore_base::{Error, Match};
 use ignore_rules::overrides::{Override, OverrideBuilder};
 use serde_json::Value;
 use std::alloc::Global;

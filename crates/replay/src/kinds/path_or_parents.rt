@@ -2,7 +2,7 @@
 
 use crate::answer::Answer;
 use crate::rules::{after_operations, match_value, matcher_of};
-use ignore_glob::Match;
+use ignore_base::Match;
 use ignore_rules::gitignore::{Gitignore, Glob};
 use serde_json::Value;
 use std::alloc::{AllocError, Global};

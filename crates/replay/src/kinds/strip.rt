@@ -2,7 +2,7 @@
 
 use crate::again::but_for_memory;
 use crate::answer::Answer;
-use ignore_glob::text as paths;
+use ignore_base::text as paths;
 use serde_json::Value;
 use std::alloc::Global;
 use vectors::{Outcome, Trouble, text};

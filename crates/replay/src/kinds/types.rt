@@ -5,7 +5,7 @@ use crate::answer::{Answer, Items};
 use crate::clones::asked;
 use crate::error::reported;
 use crate::rules::refusal;
-use ignore_glob::{Error, Match};
+use ignore_base::{Error, Match};
 use ignore_rules::types::{FileTypeDef, Glob, Types, TypesBuilder};
 use serde_json::Value;
 use std::alloc::{AllocError, Global};

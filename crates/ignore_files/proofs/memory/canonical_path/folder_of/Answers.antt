@@ -1,5 +1,5 @@
 use Rattle.std.proofs.Common.{ap, sym, ◌∙◌}
-use Rattle.ignore_glob.specs.Paths.{components}
+use Rattle.ignore_base.specs.Paths.{components}
 use Rattle.ignore_files.specs.Memory.{but_last, below}
 use Rattle.ignore_files.proofs.Components.{components_cut_last, but_last_push, components_uncut}
 use Rattle.ignore_files.proofs.memory.canonical_path.folder_of.Goals as goal

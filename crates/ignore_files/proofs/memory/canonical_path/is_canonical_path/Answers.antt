@@ -2,7 +2,7 @@ use Rattle.std.proofs.Common.{rules, tests, ◌∙◌, sym, lit<, Some, None}
 use Rattle.std.proofs.lemmas.Str.Pattern.{strip_prefix_char}
 use Rattle.std.proofs.lemmas.Iterator.Search.{all_from_yields_List}
 use Rattle.std.proofs.lemmas.Iterator.Splits.{YieldsList-from_str_split}
-use Rattle.ignore_glob.specs.Paths.{is_proper}
+use Rattle.ignore_base.specs.Paths.{is_proper}
 use Rattle.ignore_files.proofs.Components.{canonical_none, canonical_rest}
 use Rattle.ignore_files.proofs.memory.canonical_path.is_canonical_path.Goals as goal
 

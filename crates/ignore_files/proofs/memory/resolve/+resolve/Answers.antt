@@ -1,6 +1,6 @@
 use Rattle.std.proofs.Common.{sym, ap, ◌∙◌, arith, rules}
 use Rattle.std.proofs.lemmas.Result.{err_from_is_err_and}
-use Rattle.ignore_glob.specs.Paths.{components}
+use Rattle.ignore_base.specs.Paths.{components}
 use Rattle.ignore_files.specs.Resolve.{walk}
 use Rattle.ignore_files.proofs.Components.{components_split, components_whole}
 use Rattle.ignore_files.proofs.Walks.{turn_fault, turn_in, turn_out}

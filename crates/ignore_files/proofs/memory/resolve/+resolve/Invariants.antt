@@ -1,7 +1,7 @@
 use Rattle.std.proofs.Common.{◌≡◌, ◌+◌, ◌*◌, ◌≤◌, length}
 use denote.Text.{Utf8}
 use denote.Shadow.{shadow}
-use Rattle.ignore_glob.specs.Paths.{components}
+use Rattle.ignore_base.specs.Paths.{components}
 use Rattle.ignore_files.specs.Resolve.{walk}
 use Rattle.ignore_files.proofs.memory.resolve.+resolve.Given as goal
 

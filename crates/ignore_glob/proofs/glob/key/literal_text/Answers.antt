@@ -1,4 +1,4 @@
-use Rattle.std.proofs.Common.{sym, ◌∙◌, arith}
+use Rattle.std.proofs.Common.{sym, ◌∙◌}
 use Rattle.ignore_glob.proofs.KeyLemmas.{one_literal, no_literal, all_literals}
 use Rattle.ignore_glob.proofs.glob.key.literal_text.Goals as goal
 

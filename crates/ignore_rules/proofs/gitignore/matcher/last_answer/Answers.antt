@@ -1,5 +1,5 @@
 use Rattle.std.proofs.Common.{◌≡◌, ◌+◌, ◌-◌, drop, sym, subst, ◌∙◌, arith}
-use Rattle.ignore_glob.specs.declared.match_result.Match.TheVariants.{None}
+use Rattle.ignore_base.specs.declared.match_result.Match.TheVariants.{None}
 use Rattle.std.specs.Str.{chars}
 use Rattle.ignore_rules.specs.Answer.{list_answer}
 use Rattle.ignore_rules.proofs.AnswerLemmas.{decided}

@@ -1,6 +1,6 @@
 use Rattle.std.proofs.Common.{◌≡◌, drop}
 use Rattle.std.specs.Str.{chars}
-use Rattle.ignore_glob.specs.declared.match_result.Match.TheVariants.{None}
+use Rattle.ignore_base.specs.declared.match_result.Match.TheVariants.{None}
 use Rattle.ignore_rules.specs.Answer.{list_answer}
 use Rattle.ignore_rules.proofs.gitignore.matcher.last_answer.Given as goal
 

@@ -1,5 +1,5 @@
 use Rattle.std.proofs.Common.{◌≡◌, false, true, sym, refl, ◌∙◌, rules}
-use Rattle.ignore_glob.specs.Match.{is_none}
+use Rattle.ignore_base.specs.Match.{is_none}
 use Rattle.ignore_rules.proofs.ParentLemmas.{decides, passes_on, on_ok}
 use Rattle.ignore_rules.proofs.gitignore.parents.nearest_answer.Goals as goal
 

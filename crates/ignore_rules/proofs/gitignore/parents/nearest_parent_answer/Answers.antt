@@ -1,5 +1,5 @@
 use Rattle.std.proofs.Common.{◌≡◌, false, true, length, ap, sym, ◌∙◌, rules}
-use Rattle.ignore_glob.specs.Match.{is_none}
+use Rattle.ignore_base.specs.Match.{is_none}
 use Rattle.ignore_rules.specs.Parents.{directories_answer}
 use Rattle.ignore_rules.proofs.ParentLemmas.{decides, passes_on, parents-over}
 use Rattle.ignore_rules.proofs.gitignore.parents.nearest_parent_answer.Goals as goal

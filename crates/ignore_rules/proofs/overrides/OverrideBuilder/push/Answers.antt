@@ -1,5 +1,5 @@
 use Rattle.std.proofs.Common.{◌≡◌, ◌⊎◌, None, OnOk, IfErr, subst}
-use Rattle.ignore_glob.specs.Problem.{problem_of, memory}
+use Rattle.ignore_base.specs.Problem.{problem_of, memory}
 use Rattle.ignore_rules.specs.Rules.{Building, AddsLine, Refuses}
 use Rattle.ignore_rules.proofs.overrides.OverrideBuilder.push.Goals as goal
 

@@ -1,7 +1,7 @@
 -- Each glob is read in its turn, up to the first invalid one.
 use Rattle.std.proofs.Common.{◌≡◌, ◌+◌, ◌++◌, ◌∷◌, [], suc, map, take, drop, string_bytes, sym, subst, inl, inr}
 use Rattle.std.specs.List.{AllZip}
-use Rattle.ignore_glob.specs.Problem.{problem_of}
+use Rattle.ignore_base.specs.Problem.{problem_of}
 use Rattle.ignore_types.specs.Building.{IsReadAs, IsGlobProblem}
 use Rattle.ignore_types.proofs.ChoiceLemmas.{split-map, map-take-push, AllZip-push}
 use Rattle.ignore_types.proofs.types.chosen.read_globs.Goals as goal

@@ -1,6 +1,6 @@
 use Rattle.std.proofs.Common.{◌+◌, List, [], ◌∷◌, ◌++◌, map, sym, ap, subst, ◌∙◌, arith, rules}
 use Rattle.std.proofs.lemmas.List.{map-append}
-use Rattle.ignore_glob.specs.Problem.{Problem, problem_of}
+use Rattle.ignore_base.specs.Problem.{Problem, problem_of}
 use Rattle.ignore_rules.specs.RuleFile.{AddsLines, lines_read}
 use Rattle.ignore_rules.proofs.FileLemmas.{one_more, stopped_here, done_here, keeps_then}
 use Rattle.ignore_rules.proofs.gitignore.builder.GitignoreBuilder.add_lines.Goals as goal

@@ -1,5 +1,5 @@
 use Rattle.std.proofs.Common.{◌+◌, ◌-◌, ◌≤◌, length, drop, map}
-use Rattle.ignore_glob.specs.Problem.{problem_of}
+use Rattle.ignore_base.specs.Problem.{problem_of}
 use Rattle.ignore_rules.specs.RuleFile.{lines_read}
 use Rattle.ignore_rules.specs.RuleSteps.{Keeps}
 use Rattle.ignore_rules.proofs.FileLemmas.{LeadsTo}

@@ -1,6 +1,6 @@
 use Rattle.std.proofs.Common.{Some, List, ℕ, [], ◌∷◌, ◌++◌, map, refl, sym, ap, subst, ◌∙◌, inl, inr}
 use Rattle.std.proofs.lemmas.List.{map-append}
-use Rattle.ignore_glob.specs.Problem.{problem_of}
+use Rattle.ignore_base.specs.Problem.{problem_of}
 use Rattle.ignore_rules.specs.Rules.{AddsLine, Refuses}
 use Rattle.ignore_rules.proofs.FileLemmas.{not_memory}
 use Rattle.ignore_rules.proofs.gitignore.builder.GitignoreBuilder.add_or_report.Goals as goal

@@ -1,7 +1,7 @@
 use Rattle.std.proofs.Common.{sym, ap, ◌∙◌}
 use Rattle.std.proofs.lemmas.Bool.{eqb-true}
 use Rattle.std.specs.Str.{chars}
-use Rattle.ignore_glob.specs.Paths.{strip_of}
+use Rattle.ignore_base.specs.Paths.{strip_of}
 use Rattle.ignore_rules.proofs.ParentLemmas.{nearest-nil, no_first_slash}
 use Rattle.ignore_rules.proofs.gitignore.matcher.Gitignore.matched_path_or_any_parents.Goals as goal
 

@@ -1,0 +1,9 @@
+pub mod Joined
+pub mod Texts
+pub mod ComponentLemmas
+pub mod JoinLemmas
+pub mod PathLemmas
+pub mod RootLemmas
+pub mod FirstComponentLemmas
+pub mod CleanLemmas
+pub mod CleanRootLemmas
