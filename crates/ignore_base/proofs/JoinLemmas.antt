@@ -8,7 +8,7 @@ pub join_of-absolute : (base path : List ℕ) → is_absolute path ≡ true → 
 unfolding join_of
 join_of-absolute base path e = cond-true (is_absolute path) path (joined (whole_components (components base) ++ components path)) e
 
-relative : (base path : List ℕ) → is_absolute path ≡ false
+pub relative : (base path : List ℕ) → is_absolute path ≡ false
     → join_of base path ≡ joined (whole_components (components base) ++ components path)
 unfolding join_of
 relative base path e = cond-false (is_absolute path) path (joined (whole_components (components base) ++ components path)) e

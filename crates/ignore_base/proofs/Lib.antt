@@ -2,6 +2,7 @@ pub mod Joined
 pub mod Texts
 pub mod ComponentLemmas
 pub mod JoinLemmas
+pub mod JoinLaws
 pub mod PathLemmas
 pub mod RootLemmas
 pub mod FirstComponentLemmas

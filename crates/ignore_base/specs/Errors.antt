@@ -1,5 +1,5 @@
 -- What each query of an error returns, and what it prints, by cases of its problem.
-use Rattle.std.specs.Prelude.{ℕ, Bool, true, false, List, [], ◌∷◌, ◌++◌, codes, Option, Some, None}
+use Rattle.std.specs.Prelude.{ℕ, Bool, true, false, List, [], ◌∷◌, ◌++◌, codes, Option, Some, None, is_some, if◌then◌else◌}
 use Rattle.std.specs.Fmt.{decimal}
 use Rattle.std.specs.List.{join_with_byte}
 use Rattle.ignore_base.specs.Text.{Bytes}
@@ -39,6 +39,11 @@ abbrev mutual
   only_fault no_problems = None
   only_fault (problem p no_problems) = io_fault p
   only_fault (problem p (problem q ps)) = None
+
+-- the problem, unless it is a fault of the file system
+abbrev pub without_fault : Option Problem → Option Problem
+without_fault None = None
+without_fault (Some p) = if is_some (io_fault p) then None else Some p
 
 -- the depth of a problem, maybe at a path
 abbrev pub depth_of : Problem → Option ℕ

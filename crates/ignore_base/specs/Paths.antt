@@ -1,5 +1,5 @@
 -- Paths as lists of components: joining, stripping, file names, and clean paths and roots.
-use Rattle.std.specs.Prelude.{◌≡◌, ◌≢◌, ℕ, ◌-◌, slice_index, Bool, ◌||◌, ◌&&◌, not, ◌==◌, nat_eq, List, [], ◌∷◌, ◌++◌, length, drop, Option, Some, None, unwrap_or, Contains, All, codes, if◌then◌else◌, ◌⊎◌}
+use Rattle.std.specs.Prelude.{◌≡◌, ◌≢◌, ℕ, ◌-◌, ◌+◌, slice_index, Bool, false, ◌||◌, ◌&&◌, not, ◌==◌, nat_eq, List, [], ◌∷◌, ◌++◌, length, drop, Option, Some, None, unwrap_or, Contains, All, codes, if◌then◌else◌, ◌⊎◌}
 use Rattle.std.specs.List.{slice_split, join_with_byte, starts_with, list_all, list_any}
 use Rattle.std.specs.Option.{option_map}
 use Rattle.std.specs.Str.{bytes_eq}
@@ -144,3 +144,32 @@ abbrev pub StripsDirectories : Type 0
 StripsDirectories = (root : List ℕ) (names : List (List ℕ)) (name : List ℕ) (more : List (List ℕ))
     → IsCleanRoot root → All IsName names → IsName name → All IsName more
     → strip_of (trim_of (directory_of root names)) (join_of root (joined (names ++ (name ∷ more)))) ≡ joined (name ∷ more)
+
+-- for each root, each directory below it and a path of names below that directory: the path joined
+-- to the directory is all the names joined to the root
+abbrev pub JoinsNames : Type 0
+JoinsNames = (root : List ℕ) (names : List (List ℕ)) (name : List ℕ) (more : List (List ℕ)) → All IsName names → IsName name → All IsName more
+    → join_of (directory_of root names) (joined (name ∷ more)) ≡ join_of root (joined (names ++ (name ∷ more)))
+
+-- the same for one name: it leads to the directory with one name more
+abbrev pub JoinsName : Type 0
+JoinsName = (root : List ℕ) (names : List (List ℕ)) (name : List ℕ) → All IsName names → IsName name
+    → join_of (directory_of root names) name ≡ directory_of root (names ++ name ∷ [])
+
+-- where what is joined to a directory begins: after the directory, and after one slash unless the
+-- directory is empty or ends with one. It is 2 for `a`, `a/` and `./`
+abbrev pub offset_below : Path → ℕ
+offset_below dir = if length dir == 0 || ends_with_slash dir then length dir else length dir + 1
+
+-- for each directory and each relative path: what follows the offset of the directory in the two
+-- joined is the path
+abbrev pub LeavesThePath : Type 0
+LeavesThePath = (dir path : List ℕ) → is_absolute path ≡ false → drop (offset_below dir) (join_of dir path) ≡ path
+
+-- for each clean root and each directory below it: the trimmed directory, stripped from a path
+-- below the directory, leaves what follows the offset of the directory
+abbrev pub StripsByOffset : Type 0
+StripsByOffset = (root : List ℕ) (names : List (List ℕ)) (name : List ℕ) (more : List (List ℕ))
+    → IsCleanRoot root → All IsName names → IsName name → All IsName more
+    → strip_of (trim_of (directory_of root names)) (join_of root (joined (names ++ (name ∷ more))))
+    ≡ drop (offset_below (directory_of root names)) (join_of root (joined (names ++ (name ∷ more))))

@@ -1,14 +1,15 @@
 //! Errors of parsing rules and of walking files.
-ghost use Rattle.std.specs.Prelude.{◌≡◌, is_some, map, option_map};
+ghost use Rattle.std.specs.Prelude.{◌≡◌, IfOk, is_some, map, option_map};
 ghost use Rattle.std.specs.Option.{option_copied};
-ghost use Rattle.ignore_base.specs.Errors.{is_partial, io_fault, depth_of};
-ghost use Rattle.ignore_base.specs.Problem.{problem_of, joined};
+ghost use Rattle.ignore_base.specs.Errors.{is_partial, io_fault, depth_of, without_fault};
+ghost use Rattle.ignore_base.specs.Problem.{problem_of, at_path, joined};
 
 mod clone;
 mod display;
 mod from;
 
 use crate::fault::Fault;
+use std::alloc::{AllocError, Global};
 
 /// An error of parsing rules, of building a matcher or of walking files.
 ///
@@ -149,5 +150,24 @@ impl Error {
             return errors.pop();
         }
         Some(Error::Partial(errors))
+    }
+
+    /// The error at a path. For dependents.
+    pub fn with_path(self, alloc: Global, path: &str) -> Result<Error, AllocError>
+        ensures value { IfOk result (λ e. problem_of e ≡ at_path path.now (problem_of self)) }
+    {
+        let path = String::from_str(alloc, path)?;
+        let err = Box::new(alloc, self)?;
+        Ok(Error::WithPath { path, err })
+    }
+
+    /// The error, if there is one, unless it is a fault. For dependents.
+    pub fn without_fault(error: Option<Error>) -> Option<Error>
+        ensures { option_map problem_of result ≡ without_fault (option_map problem_of error) }
+    {
+        match error {
+            None => None,
+            Some(error) => { if error.is_io() { None } else { Some(error) } }
+        }
     }
 }

@@ -5,12 +5,14 @@ ghost use Rattle.ignore_base.specs.Paths.{components, last_component, join_of, f
 ghost use Rattle.ignore_base.specs.Problem.{problem_of, memory};
 
 mod clean;
+mod laws;
 mod prefix;
 
 use crate::Error;
 pub use clean::{is_clean_path, is_clean_root, is_name, is_proper};
+pub use laws::{join_law, offset_law, strip_law};
 use memchr::memrchr;
-pub use prefix::{has_slash, strip, strip_law, strip_prefix, trim_root};
+pub use prefix::{has_slash, is_absolute, offset_below, strip, strip_prefix, trim_root};
 use std::alloc::Global;
 
 /// `path` seen from `base`, as Rust's `Path::join`: `path` itself where it begins with `/` or

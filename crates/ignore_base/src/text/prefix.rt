@@ -1,7 +1,7 @@
 //! Stripping a root from the paths below it.
 ghost use Rattle.std.specs.Prelude.{◌≡◌};
 ghost use Rattle.std.specs.Option.{option_copied};
-ghost use Rattle.ignore_base.specs.Paths.{strip_prefix_of, strip_of, trim_of, without_slash, is_dot, at_bound, has_slash, StripsDirectories};
+ghost use Rattle.ignore_base.specs.Paths.{strip_prefix_of, strip_of, trim_of, without_slash, is_absolute, is_dot, at_bound, has_slash, offset_below};
 
 use memchr::memchr;
 
@@ -44,12 +44,26 @@ pub fn trim_root(root: &str) -> &str
     root.strip_prefix("./").unwrap_or(root)
 }
 
-/// A directory, stripped from a path below it, leaves the names after the directory: for each clean
-/// root, each directory below it (or the root itself), without its leading `./`, and each clean
-/// path below that directory. The function does nothing; its contract is the law.
-pub fn strip_law()
-    ensures { StripsDirectories }
-{}
+/// Where what is joined to a directory begins: after the directory, and after one slash unless the
+/// directory is empty or ends with one.
+/// For dependents.
+pub fn offset_below(dir: &str) -> usize
+    ensures { result ≡ offset_below dir.now }
+{
+    if dir.is_empty() || dir.ends_with('/') {
+        dir.len()
+    } else {
+        dir.len() + 1
+    }
+}
+
+/// Whether a path is absolute: whether it begins with `/`.
+/// For dependents.
+pub fn is_absolute(path: &str) -> bool
+    ensures { result ≡ is_absolute path.now }
+{
+    path.starts_with('/')
+}
 
 // Whether a root is the working directory, however it is written.
 fn is_dot(root: &str) -> bool
