@@ -1,5 +1,4 @@
 pub mod FormLemmas
 pub mod EndLemmas
 pub mod SetLemmas
-pub mod EntryLemmas
 mod WorkedForms

@@ -1,8 +1,13 @@
 //! Sets of patterns: which of them is the last that matches a text and allows its kind.
 #![tactic(auto)]
 
+mod candidate;
 mod entry;
+mod has_pattern;
+mod index;
 mod set;
 mod text;
 
+pub use has_pattern::HasPattern;
+pub use index::Index;
 pub use set::PatternSet;
