@@ -41,9 +41,11 @@ prefix_of (b ∷ bs) =
     ]
 
 -- what follows white space, where that begins with none
-pub after_blank : (Q : List ℕ → Type 0) (text : List ℕ) → ((rest : List ℕ) → Q rest → StartsSolid rest) → Then IsBlank Q text → Q (trimmed_start text)
+pub after_blank : (Q : List ℕ → Type 0) (text : List ℕ) → ((rest : List ℕ) → Q rest → StartsSolid rest) → Then IsBlank Q text
+    → Q (trimmed_start text)
 after_blank Q text starts h =
-    let e : trimmed_start text ≡ h.1 = ap trimmed_start h.2 ∙ (trimmed_start-append h.0 h.1 h.3 ∙ trimmed_start-solid h.1 (starts h.1 h.4)) in
+    let e : trimmed_start text ≡ h.1 = ap trimmed_start h.2
+    ∙ (trimmed_start-append h.0 h.1 h.3 ∙ trimmed_start-solid h.1 (starts h.1 h.4)) in
     subst Q (sym e) h.4
 
 pub before_blank : (Q : List ℕ → Type 0) (text : List ℕ) → Q (trimmed_start text) → Then IsBlank Q text
@@ -61,7 +63,14 @@ EndsLine-solid b bs solid (c ∷ cs, rest, e, blank, end) =
     both_ways (is_space b) solid (ap is_space same ∙ blank.0)
 
 pub EndsLine-append : (blank text : List ℕ) → IsBlank blank → EndsLine text → EndsLine (blank ++ text)
-EndsLine-append blank text h k = (blank ++ k.0, k.1, ap (λ t. blank ++ t) k.2 ∙ sym (append_assoc blank k.0 k.1), IsBlank-append blank k.0 h k.3, k.4)
+EndsLine-append blank text h k = (
+  blank ++ k.0,
+  k.1,
+  ap (λ t. blank ++ t) k.2
+      ∙ sym (append_assoc blank k.0 k.1),
+  IsBlank-append blank k.0 h k.3,
+  k.4,
+)
 
 -- a byte of white space other than a newline leaves the question to what follows it
 pub EndsLine-more : (b : ℕ) (bs : List ℕ) → (b ≡ 10 → ⊥) → EndsLine (b ∷ bs) → EndsLine bs

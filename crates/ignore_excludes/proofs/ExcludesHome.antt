@@ -24,7 +24,8 @@ flat_map-no_tilde home (b ∷ bs) e = elim (cases_Bool (is_tilde b)) [
       )
 ]
 
-pub flat_map-first_tilde : (home bs : List ℕ) → position_or_len is_tilde bs < length bs → flat_map (in_place home) bs ≡ before_first is_tilde bs ++ (home ++ flat_map (in_place home) (after_first is_tilde bs))
+pub flat_map-first_tilde : (home bs : List ℕ) → position_or_len is_tilde bs < length bs → flat_map (in_place home) bs
+    ≡ before_first is_tilde bs ++ (home ++ flat_map (in_place home) (after_first is_tilde bs))
 flat_map-first_tilde home [] e = absurd (omega arith)
 flat_map-first_tilde home (b ∷ bs) e = elim (cases_Bool (is_tilde b)) [
   | inl h ↦ rw h refl
@@ -37,7 +38,10 @@ flat_map-first_tilde home (b ∷ bs) e = elim (cases_Bool (is_tilde b)) [
 ]
 
 -- one `~` more is written
-pub written_more : (home value text rest before after first second : List ℕ) → position_or_len is_tilde rest < length rest → before ≡ before_first is_tilde rest → after ≡ after_first is_tilde rest → first ≡ text ++ before → second ≡ first ++ home → text ++ flat_map (in_place home) rest ≡ flat_map (in_place home) value → second ++ flat_map (in_place home) after ≡ flat_map (in_place home) value
+pub written_more : (home value text rest before after first second : List ℕ) → position_or_len is_tilde rest < length rest → before
+    ≡ before_first is_tilde rest → after ≡ after_first is_tilde rest → first ≡ text ++ before → second ≡ first ++ home
+    → text ++ flat_map (in_place home) rest ≡ flat_map (in_place home) value → second ++ flat_map (in_place home) after
+    ≡ flat_map (in_place home) value
 written_more home value text rest before after first second inside b a f s e =
     let tail : List ℕ = flat_map (in_place home) after in
     let cut : flat_map (in_place home) rest ≡ before ++ (home ++ tail) = (

@@ -41,7 +41,8 @@ IsShortest-one P v w one h k =
     let high = k.1 v h.0 in
     one v w (omega arith) h.0 k.0
 
-IsPreferred-one : (R : Bool → List ℕ → Type 0) (v w : List ℕ) → ((q : Bool) → IsOnePerLength (R q)) → IsPreferred R (Some v) → IsPreferred R (Some w) → v ≡ w
+IsPreferred-one : (R : Bool → List ℕ → Type 0) (v w : List ℕ) → ((q : Bool) → IsOnePerLength (R q)) → IsPreferred R (Some v)
+    → IsPreferred R (Some w) → v ≡ w
 IsPreferred-one R v w one (inl h) (inl k) = IsShortest-one (R true) v w (one true) h k
 IsPreferred-one R v w one (inl h) (inr k) = absurd (k.0 v h.0)
 IsPreferred-one R v w one (inr h) (inl k) = absurd (h.0 w k.0)
@@ -60,7 +61,9 @@ IsChosen-one text (Some v) (Some w) h k =
     let r = reading_of (Reads text h.0) v h.1 in
     let s = reading_of (Reads text k.0) w k.1 in
     elim (cases_order h.0 k.0) [
-      | inl same ↦ (let there : IsPreferred (Reads text k.0) (Some v) = subst (λ (n : ℕ). IsPreferred (Reads text n) (Some v)) same h.1 in ap (λ t. Some t) (IsPreferred-one (Reads text k.0) v w (Reads-one text k.0) there k.1))
+      | inl same ↦ (let there : IsPreferred (Reads text k.0) (Some v) =
+          subst (λ (n : ℕ). IsPreferred (Reads text n) (Some v)) same h.1 in
+          ap (λ t. Some t) (IsPreferred-one (Reads text k.0) v w (Reads-one text k.0) there k.1))
       | inr (inl before) ↦ absurd (k.2 h.0 before r.0 v r.1)
       | inr (inr after) ↦ absurd (h.2 k.0 after s.0 w s.1)
     ]
@@ -71,14 +74,21 @@ some_one a b e = cc
 pub IsValue-one : (text : List ℕ) (a b : Option (List ℕ)) → IsValue text a → IsValue text b → a ≡ b
 IsValue-one text None None h k = refl
 IsValue-one text None (Some w) (inl h) k = IsChosen-one text None (Some w) h k.0
-IsValue-one text None (Some w) (inr (v, h, bad)) k = absurd (bad (subst IsUtf8 (some_one w v (IsChosen-one text (Some w) (Some v) k.0 h)) k.1))
+IsValue-one text None (Some w) (inr (v, h, bad)) k =
+    absurd (bad (subst IsUtf8 (some_one w v (IsChosen-one text (Some w) (Some v) k.0 h)) k.1))
 IsValue-one text (Some v) None h (inl k) = IsChosen-one text (Some v) None h.0 k
-IsValue-one text (Some v) None h (inr (w, k, bad)) = absurd (bad (subst IsUtf8 (some_one v w (IsChosen-one text (Some v) (Some w) h.0 k)) h.1))
+IsValue-one text (Some v) None h (inr (w, k, bad)) =
+    absurd (bad (subst IsUtf8 (some_one v w (IsChosen-one text (Some v) (Some w) h.0 k)) h.1))
 IsValue-one text (Some v) (Some w) h k = IsChosen-one text (Some v) (Some w) h.0 k.0
 
 -- the chosen bytes as a text, where they are one
-pub IsValue-from_chosen : {E : Type 0} (text value : List ℕ) (Q : E → Type 0) (r : Result (Bor (List ℕ)) E) (found : Option (Bor (List ℕ))) → IsChosen text (Some value) → MatchResult r (λ s. (s.now ≡ value) × IsUtf8 value) (λ e. ¬ (IsUtf8 value) × Q e) → found ≡ result_ok r → IsValue text (option_copied found)
+pub IsValue-from_chosen : {E : Type 0} (text value : List ℕ) (Q : E → Type 0) (r : Result (Bor (List ℕ)) E)
+    (found : Option (Bor (List ℕ))) → IsChosen text (Some value)
+    → MatchResult r (λ s. (s.now ≡ value) × IsUtf8 value) (λ e. ¬ (IsUtf8 value) × Q e) → found ≡ result_ok r
+    → IsValue text (option_copied found)
 IsValue-from_chosen text value Q (Ok s) found h k e =
-    let there : IsChosen text (Some s.now) × IsUtf8 s.now = (subst (λ (v : List ℕ). IsChosen text (Some v)) (sym k.0) h, subst IsUtf8 (sym k.0) k.1) in
+    let there : IsChosen text (Some s.now)
+    × IsUtf8 s.now = (subst (λ (v : List ℕ). IsChosen text (Some v)) (sym k.0) h, subst IsUtf8 (sym k.0) k.1) in
     subst (λ (o : Option (Bor (List ℕ))). IsValue text (option_copied o)) (sym e) there
-IsValue-from_chosen text value Q (Err x) found h k e = subst (λ (o : Option (Bor (List ℕ))). IsValue text (option_copied o)) (sym e) (inr (value, h, k.0))
+IsValue-from_chosen text value Q (Err x) found h k e = subst (λ (o : Option (Bor (List ℕ))). IsValue text (option_copied o))
+    (sym e) (inr (value, h, k.0))

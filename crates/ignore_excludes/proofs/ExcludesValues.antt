@@ -6,7 +6,8 @@ use Rattle.ignore_excludes.specs.Excludes.{is_space, IsSolid, EndsLine, Closes, 
 use Rattle.ignore_excludes.proofs.ExcludesBlanks.{StartsSolid, trimmed_start-append, trimmed_start-solid, prefix_of, EndsLine-solid, EndsLine-append}
 
 -- a byte that is no white space and closes the line is a `"`
-closing : (x : ℕ) (w rest after : List ℕ) → rest ≡ x ∷ (w ++ after) → is_space x ≡ false → IsSolid w → Closes rest → (x ∷ w ≡ 34 ∷ []) × EndsLine after
+closing : (x : ℕ) (w rest after : List ℕ) → rest ≡ x ∷ (w ++ after) → is_space x ≡ false → IsSolid w → Closes rest
+    → (x ∷ w ≡ 34 ∷ []) × EndsLine after
 closing x w rest after e solid more (c ∷ cs, r, d, blank, later) =
     let same : c ≡ x = cc in
     absurd (both_ways (is_space x) solid (ap is_space (sym same) ∙ blank.0))
@@ -24,7 +25,8 @@ closing x (y ∷ w) rest after e solid more ([], r, d, blank, (q, s, f, (true, o
     absurd (EndsLine-solid y (w ++ after) more.0 (subst EndsLine then ends))
 
 -- a value is the whole word, or all of it but a `"` that closes the line
-pub first_word : (v word rest after : List ℕ) → v ++ rest ≡ word ++ after → IsSolid v → IsSolid word → StartsBlank after → Closes rest → ((v ≡ word) × (rest ≡ after)) ⊎ ((word ≡ v ++ 34 ∷ []) × EndsLine after)
+pub first_word : (v word rest after : List ℕ) → v ++ rest ≡ word ++ after → IsSolid v → IsSolid word → StartsBlank after
+    → Closes rest → ((v ≡ word) × (rest ≡ after)) ⊎ ((word ≡ v ++ 34 ∷ []) × EndsLine after)
 first_word [] [] rest after e p q s c = inl (refl, e)
 first_word [] (x ∷ w) rest after e p q s c = inr (closing x w rest after e q.0 q.1 c)
 first_word (b ∷ v) [] rest after e p q s c =
@@ -51,7 +53,8 @@ pub Closes-plain : (after : List ℕ) → EndsLine after → Closes after
 Closes-plain after h = ([], after, refl, tt, ([], after, refl, (false, refl), h))
 
 pub Closes-quote : (after rest : List ℕ) → trimmed_start after ≡ 34 ∷ rest → EndsLine rest → Closes after
-Closes-quote after rest e h = let prefix = prefix_of after in (prefix.0, trimmed_start after, prefix.1, prefix.2, (34 ∷ [], rest, e, (true, refl), h))
+Closes-quote after rest e h = let prefix = prefix_of after in
+    (prefix.0, trimmed_start after, prefix.1, prefix.2, (34 ∷ [], rest, e, (true, refl), h))
 
 -- the text begins with a value, and its line closes after it
 pub HasValue-solid : (v text : List ℕ) → HasValue v text → StartsSolid text
@@ -64,7 +67,8 @@ IsSolid-prefix : (a b : List ℕ) → IsSolid (a ++ b) → IsSolid a
 IsSolid-prefix [] b h = tt
 IsSolid-prefix (x ∷ a) b h = (h.0, IsSolid-prefix a b h.1)
 
-pub HasValue-cases : (v word after : List ℕ) → IsSolid word → StartsBlank after → HasValue v (word ++ after) → (v ≢ []) × (((v ≡ word) × Closes after) ⊎ ((word ≡ v ++ 34 ∷ []) × EndsLine after))
+pub HasValue-cases : (v word after : List ℕ) → IsSolid word → StartsBlank after → HasValue v (word ++ after) → (v ≢ [])
+    × (((v ≡ word) × Closes after) ⊎ ((word ≡ v ++ 34 ∷ []) × EndsLine after))
 HasValue-cases v word after q s (prefix, rest, e, (is, ne, solid), closes) =
     let whole : v ++ rest ≡ word ++ after = ap (λ t. t ++ rest) (sym is) ∙ sym e in (
       ne,
@@ -83,9 +87,16 @@ no_word after s v h =
     ]
 
 -- the line ends after the word
-pub unquoted_word : (word after value : List ℕ) → word ≢ [] → IsSolid word → StartsBlank after → EndsLine after → IsUnquoted word value → IsShortest (λ (v : List ℕ). HasValue v (word ++ after)) (Some value)
+pub unquoted_word : (word after value : List ℕ) → word ≢ [] → IsSolid word → StartsBlank after → EndsLine after
+    → IsUnquoted word value → IsShortest (λ (v : List ℕ). HasValue v (word ++ after)) (Some value)
 unquoted_word word after value ne q s ends (inl (some, e)) = (
-  (value, 34 ∷ after, ap (λ t. t ++ after) e ∙ append_assoc value (34 ∷ []) after, (refl, some, IsSolid-prefix value (34 ∷ []) (subst IsSolid e q)), ([], 34 ∷ after, refl, tt, (34 ∷ [], after, refl, (true, refl), ends))),
+  (
+    value,
+    34 ∷ after,
+    ap (λ t. t ++ after) e ∙ append_assoc value (34 ∷ []) after,
+    (refl, some, IsSolid-prefix value (34 ∷ []) (subst IsSolid e q)),
+    ([], 34 ∷ after, refl, tt, (34 ∷ [], after, refl, (true, refl), ends)),
+  ),
   λ v h. (
       let cases = HasValue-cases v word after q s h in
       let len = ap length e in
@@ -95,19 +106,21 @@ unquoted_word word after value ne q s ends (inl (some, e)) = (
       ]
       ),
 )
-unquoted_word word after value ne q s ends (inr (is, unclosed)) = subst (λ (t : List ℕ). IsShortest (λ (v : List ℕ). HasValue v (word ++ after)) (Some t)) (sym is) (
-  (word, after, refl, (refl, ne, q), Closes-plain after ends),
-  λ v h. (
-      let cases = HasValue-cases v word after q s h in
-      elim cases.1 [
-        | inl k ↦ (let same = ap length k.0 in omega arith)
-        | inr k ↦ absurd (unclosed v cases.0 k.0)
-      ]
-      ),
-)
+unquoted_word word after value ne q s ends (inr (is, unclosed)) =
+    subst (λ (t : List ℕ). IsShortest (λ (v : List ℕ). HasValue v (word ++ after)) (Some t)) (sym is) (
+      (word, after, refl, (refl, ne, q), Closes-plain after ends),
+      λ v h. (
+          let cases = HasValue-cases v word after q s h in
+          elim cases.1 [
+            | inl k ↦ (let same = ap length k.0 in omega arith)
+            | inr k ↦ absurd (unclosed v cases.0 k.0)
+          ]
+          ),
+    )
 
 -- a `"` follows the word, before the line ends
-pub whole_word : (word after : List ℕ) → word ≢ [] → IsSolid word → StartsBlank after → Closes after → (EndsLine after → ⊥) → IsShortest (λ (v : List ℕ). HasValue v (word ++ after)) (Some word)
+pub whole_word : (word after : List ℕ) → word ≢ [] → IsSolid word → StartsBlank after → Closes after → (EndsLine after → ⊥)
+    → IsShortest (λ (v : List ℕ). HasValue v (word ++ after)) (Some word)
 whole_word word after ne q s c never = (
   (word, after, refl, (refl, ne, q), c),
   λ v h. (
@@ -119,7 +132,8 @@ whole_word word after ne q s c never = (
       ),
 )
 
-pub no_value : (word after : List ℕ) → IsSolid word → StartsBlank after → (Closes after → ⊥) → IsShortest (λ (v : List ℕ). HasValue v (word ++ after)) None
+pub no_value : (word after : List ℕ) → IsSolid word → StartsBlank after → (Closes after → ⊥)
+    → IsShortest (λ (v : List ℕ). HasValue v (word ++ after)) None
 no_value word after q s never v h =
     let cases = HasValue-cases v word after q s h in
     elim cases.1 [

@@ -1,6 +1,7 @@
 //! The search of git's configuration for the excludes file.
 ghost use Rattle.std.specs.Prelude.{◌≡◌, ℕ, List, Option, codes, Some, IfOk, IfErr, map, option_map, string_bytes};
 ghost use Rattle.std.specs.Option.{option_copied};
+ghost use Rattle.ignore_base.specs.Text.{Path};
 ghost use Rattle.ignore_base.specs.Problem.{problem_of, memory};
 ghost use Rattle.ignore_files.specs.Tree.{Tree};
 ghost use Rattle.ignore_files.specs.Gives.{IsHonest};
@@ -108,7 +109,8 @@ fn path_from<F: Files>(
     home: Option<&str>,
     path: &str,
 ) -> Result<Option<String>, Error>
-    ensures gives { IfOk result (λ found. GivesPath (FilesGive (F.contents_gives files.now)) (option_copied home.entry) (Some path.now) (option_map string_bytes found)) }
+    ensures gives { IfOk result (λ found.
+        GivesPath (FilesGive (F.contents_gives files.now)) (option_copied home.entry) (Some path.now) (option_map string_bytes found)) }
     ensures out_of_memory { IfErr result (λ error. problem_of error ≡ memory) }
 {
     match files.contents(alloc, path) {
@@ -133,7 +135,9 @@ fn first_path<F: Files>(
     home: Option<&str>,
     places: &[Option<&str>],
 ) -> Result<Option<String>, Error>
-    ensures first { IfOk result (λ found. IsFirstPath (FilesGive (F.contents_gives files.now)) (option_copied home.entry) (map option_copied places.now) (option_map string_bytes found)) }
+    ensures first { IfOk result (λ found.
+        IsFirstPath (FilesGive (F.contents_gives files.now)) (option_copied home.entry) (map option_copied places.now)
+        (option_map string_bytes found)) }
     ensures out_of_memory { IfErr result (λ error. problem_of error ≡ memory) }
 {
     for place in places {
@@ -168,8 +172,10 @@ pub fn gitconfig_excludes_path<F: Files>(
     files: &F,
     env: &Env,
 ) -> Result<Option<String>, Error>
-    ensures found { (tree : Tree) → IsHonest F.Files files.now tree → IfOk result (λ found. IsExcludesPath tree env.now (option_map string_bytes found)) }
-    ensures only { (tree : Tree) → IsHonest F.Files files.now tree → IfOk result (λ found. (other : Option (List ℕ)) → IsExcludesPath tree env.now other → option_map string_bytes found ≡ other) }
+    ensures found { (tree : Tree) → IsHonest F.Files files.now tree
+        → IfOk result (λ found. IsExcludesPath tree env.now (option_map string_bytes found)) }
+    ensures only { (tree : Tree) → IsHonest F.Files files.now tree
+        → IfOk result (λ found. (other : Option Path) → IsExcludesPath tree env.now other → option_map string_bytes found ≡ other) }
     ensures answered { IfOk result (λ found. LeadsTo (FilesGive (F.contents_gives files.now)) env.now (option_map string_bytes found)) }
     ensures out_of_memory { IfErr result (λ error. problem_of error ≡ memory) }
 {

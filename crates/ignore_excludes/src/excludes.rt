@@ -1,6 +1,7 @@
 //! The value of `core.excludesFile` in the bytes of one configuration of git.
 ghost use Rattle.std.specs.Prelude.{◌≡◌, ◌↔◌, ◌≤◌, ◌++◌, ℕ, List, Option, length, drop, IsTrue};
 ghost use Rattle.std.specs.Option.{option_copied};
+ghost use Rattle.ignore_base.specs.Text.{Bytes};
 ghost use Rattle.ignore_excludes.specs.Excludes.{is_space, trimmed_start, IsSolid, EndsLine, HasValue, Assigns, SetsKey, IsShortest, IsPreferred, IsChosen, IsValue, StartsBlank, Closes, IsUnquoted};
 
 use memchr::memchr;
@@ -162,7 +163,7 @@ fn chosen_value(bytes: &[u8]) -> Option<&[u8]>
 /// None where no line is the key with a value, and where the value isn't UTF-8.
 pub(crate) fn excludes_value(bytes: &[u8]) -> Option<&str>
     ensures value { IsValue bytes.now (option_copied result) }
-    ensures only { (other : Option (List ℕ)) → IsValue bytes.now other → option_copied result ≡ other }
+    ensures only { (other : Option Bytes) → IsValue bytes.now other → option_copied result ≡ other }
 {
     str::from_utf8(chosen_value(bytes)?).ok()
 }

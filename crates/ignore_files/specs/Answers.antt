@@ -1,5 +1,6 @@
 -- The five answers of a tree in memory.
-use Rattle.std.specs.Prelude.{ℕ, Bool, true, List, [], map, take, Option, Some, None, Result, Ok, Err}
+use Rattle.std.specs.Prelude.{Bool, true, List, [], map, take, Option, Some, None, Result, Ok, Err}
+use Rattle.ignore_base.specs.Text.{Bytes, Path}
 use Rattle.ignore_base.specs.declared.fault.Fault.{Fault}
 use Rattle.ignore_base.specs.declared.fault.Fault.TheVariants.{NotADirectory, IsADirectory, BadName}
 use Rattle.ignore_files.specs.Tree.{Tree}
@@ -49,7 +50,7 @@ abbrev pub list_of : Node → Result (List Listed) Fault
 list_of n = unless n.list_fault (listing_of n.kind)
 
 -- the bytes up to where reading ends, with the fault that ends it
-abbrev pub read_of : List ℕ → Option Cut → Contents
+abbrev pub read_of : Bytes → Option Cut → Contents
 read_of bytes None = record { bytes = bytes; fault = None }
 read_of bytes (Some cut) = record { bytes = take cut.len bytes; fault = Some cut.fault }
 
@@ -60,7 +61,7 @@ contents_of cut (File bytes) = read_of bytes cut
 contents_of cut (Link target) = record { bytes = []; fault = Some IsADirectory }
 
 -- the node to which a path leads
-abbrev pub found : Memory → List ℕ → Bool → Result Node Fault
+abbrev pub found : Memory → Path → Bool → Result Node Fault
 found tree path follow = node_found tree.cwd tree.nodes path follow
 
 -- the tree of files that a tree in memory is

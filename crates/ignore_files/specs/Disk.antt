@@ -1,5 +1,6 @@
 -- What the machine's files answer, and the tree that a disk is.
-use Rattle.std.specs.Prelude.{◌≡◌, ℕ, Bool, true, false, List, Option, Some, None, Result, Ok, Err}
+use Rattle.std.specs.Prelude.{◌≡◌, Bool, true, Option, Some, Result, Ok, Err}
+use Rattle.ignore_base.specs.Text.{Path}
 use Rattle.ignore_base.specs.declared.fault.Fault.{Fault}
 use Rattle.ignore_base.specs.declared.fault.Fault.TheVariants as fault
 use Rattle.ignore_files.specs.Tree.{Tree}
@@ -29,12 +30,12 @@ abbrev pub identity_of : Stat → Result (Option Identity) Refusal
 identity_of stat = Ok (Some stat.identity)
 
 -- what `stat` answers
-abbrev pub GivesStat : {R M E D F : Type 0} → Ghosts R M E D F → R → List ℕ → Bool → Result Metadata Refusal → Type 0
+abbrev pub GivesStat : {R M E D F : Type 0} → Ghosts R M E D F → R → Path → Bool → Result Metadata Refusal → Type 0
 GivesStat machine r path follow answer =
     (heard : Result Stat Refusal) × MayStat machine r path follow heard × (answer ≡ and_then metadata_of heard)
 
 -- what `identity` answers
-abbrev pub GivesIdentity : {R M E D F : Type 0} → Ghosts R M E D F → R → List ℕ → Bool → Result (Option Identity) Refusal → Type 0
+abbrev pub GivesIdentity : {R M E D F : Type 0} → Ghosts R M E D F → R → Path → Bool → Result (Option Identity) Refusal → Type 0
 GivesIdentity machine r path follow answer =
     (heard : Result Stat Refusal) × MayStat machine r path follow heard × (answer ≡ and_then identity_of heard)
 
@@ -51,7 +52,7 @@ GivesAt (Ok stat) May answer = GivesOf stat.metadata.file_type May answer
 GivesAt (Err refusal) May answer = answer ≡ Err refusal
 
 -- what `contents` answers
-abbrev pub GivesContents : {R M E D F : Type 0} → Ghosts R M E D F → R → List ℕ → Result Contents Refusal → Type 0
+abbrev pub GivesContents : {R M E D F : Type 0} → Ghosts R M E D F → R → Path → Result Contents Refusal → Type 0
 GivesContents machine r path answer =
     (heard : Result Stat Refusal) × MayStat machine r path true heard × GivesAt heard (MayRead machine r path) answer
 

@@ -1,10 +1,11 @@
 -- The entries of a directory in memory.
 use Rattle.std.specs.Prelude.{ℕ, List, [], ◌∷◌, Option, Some, None, bytes_eq, cond}
+use Rattle.ignore_base.specs.Text.{Bytes}
 use Rattle.ignore_files.specs.declared.memory.entry.Entry.{Entry}
 use Rattle.ignore_files.specs.declared.memory.entry.Entry.TheVariants.{Named, Nameless}
 
 -- the node of the entry with a name
-abbrev pub named : List ℕ → List Entry → Option ℕ
+abbrev pub named : Bytes → List Entry → Option ℕ
 named name [] = None
 named name (Named n file_type node ∷ entries) = cond (bytes_eq n name) (Some node) (named name entries)
 named name (Nameless ∷ entries) = named name entries

@@ -1,41 +1,39 @@
 -- What is heard of a system, and when all that it answers is what one disk holds.
-use Rattle.std.specs.Prelude.{◌≡◌, ℕ, Bool, true, false, List, [], ◌∷◌, ◌==◌, ◌⊎◌, Option, Some, None, Result, Ok, Err}
+use Rattle.std.specs.Prelude.{◌≡◌, ℕ, Bool, true, false, List, [], ◌∷◌, ◌==◌, ◌⊎◌, Option, Result, Ok, Err}
 use Rattle.std.specs.List.{list_any}
 use Rattle.std.specs.Iterator.{Drains}
 use Rattle.std.specs.declared.io.Error.{Error}
 use Rattle.std.specs.declared.fs.FileType.{FileType as MachineType}
+use Rattle.ignore_base.specs.Text.{Bytes, Path}
 use Rattle.ignore_base.specs.declared.fault.Fault.{Fault}
 use Rattle.ignore_base.specs.declared.fault.Fault.TheVariants as fault
-use Rattle.ignore_files.specs.Tree.{Tree, Answers}
-use Rattle.ignore_files.specs.Memory.{and_then}
-use Rattle.ignore_files.specs.Reported.{reported_error, reported, IsReportedAs, IsFaultOf, IsEntryOf, read_until}
+use Rattle.ignore_files.specs.Tree.{Answers}
+use Rattle.ignore_files.specs.Reported.{reported, IsReportedAs, IsFaultOf, IsEntryOf, read_until}
 use Rattle.ignore_files.specs.declared.machine.Machine.{Ghosts}
 use Rattle.ignore_files.specs.declared.stat.Stat.{Stat}
 use Rattle.ignore_files.specs.declared.types.Refusal.{Refusal}
 use Rattle.ignore_files.specs.declared.types.Refusal.TheVariants.{Memory}
 use Rattle.ignore_files.specs.declared.types.Refusal.TheVariants.{Fault as Refused}
-use Rattle.ignore_files.specs.declared.types.FileType.{FileType}
-use Rattle.ignore_files.specs.declared.types.FileType.TheVariants.{File, Dir, Symlink, Other}
-use Rattle.ignore_files.specs.declared.types.Metadata.{Metadata}
-use Rattle.ignore_files.specs.declared.types.Identity.{Identity}
 use Rattle.ignore_files.specs.declared.types.Listed.{Listed}
 use Rattle.ignore_files.specs.declared.types.Contents.{Contents}
 
 -- a NUL stands in the path
-abbrev pub has_nul : List ℕ → Bool
+abbrev pub has_nul : Path → Bool
 has_nul path = list_any (λ b. b == 0) path
 
--- what is heard at a path: where it has a NUL nothing is there, and else the system is asked, its error reported as a refusal
-pub record IsHeard {T : Type 0} (path : List ℕ) (gives : Result T Error → Type 0) (heard : Result T Refusal) : Type 0 where
+-- what is heard at a path: where it has a NUL nothing is there, and else the system is asked, its
+-- error reported as a refusal
+pub record IsHeard {T : Type 0} (path : Path) (gives : Result T Error → Type 0) (heard : Result T Refusal) : Type 0 where
   pub nul : has_nul path ≡ true → heard ≡ Err (Refused fault.NotFound)
   pub asked : has_nul path ≡ false → (answer : Result T Error) × gives answer × (heard ≡ reported answer)
 
 -- the answers about a path, a link in last place followed or not
-abbrev pub metadata_gives : {R M E D F : Type 0} → Ghosts R M E D F → R → Bool → List ℕ → Result M Error → Type 0
+abbrev pub metadata_gives : {R M E D F : Type 0} → Ghosts R M E D F → R → Bool → Path → Result M Error → Type 0
 metadata_gives machine r true = machine.metadata_gives r
 metadata_gives machine r false = machine.symlink_metadata_gives r
 
--- what is read off such an answer: its type as a kind, its size, and the numbers of device and inode
+-- what is read off such an answer: its type as a kind, its size, and the numbers of device and
+-- inode
 pub record IsStatOf {R M E D F : Type 0} (machine : Ghosts R M E D F) (metadata : M) (stat : Stat) : Type 0 where
   pub file_type : (t : MachineType) × machine.file_type_gives metadata t × IsReportedAs t stat.metadata.file_type
   pub len : machine.len_gives metadata stat.metadata.len
@@ -50,11 +48,12 @@ Reads machine (Err heard) (Ok stat) = ⊥
 Reads machine (Err heard) (Err refusal) = refusal ≡ heard
 
 -- what may be heard of a path
-abbrev pub MayStat : {R M E D F : Type 0} → Ghosts R M E D F → R → List ℕ → Bool → Result Stat Refusal → Type 0
+abbrev pub MayStat : {R M E D F : Type 0} → Ghosts R M E D F → R → Path → Bool → Result Stat Refusal → Type 0
 MayStat {R} {M} {E} {D} {F} machine r path follow stat =
     (heard : Result M Refusal) × IsHeard path (metadata_gives machine r follow path) heard × Reads machine heard stat
 
--- a thing that a directory gives is reported: an entry by its name and kind, or by the fault in place of its kind; an error by its fault
+-- a thing that a directory gives is reported: an entry by its name and kind, or by the fault in
+-- place of its kind; an error by its fault
 abbrev pub IsReported : {R M E D F : Type 0} → Ghosts R M E D F → Result E Error → Listed → Type 0
 IsReported machine (Ok entry) item =
     (kind : Result MachineType Error) × machine.entry_type_gives entry kind × IsEntryOf (machine.file_name_gives entry) kind item
@@ -82,14 +81,15 @@ Lists machine next (Err heard) (Err refusal) = refusal ≡ heard
 
 -- what may be heard of a directory
 abbrev pub MayList : {R M E D F : Type 0} → Ghosts R M E D F → (D → Option (Result E Error) → D → Type 0)
-    → R → List ℕ → Result (List Listed) Refusal → Type 0
+    → R → Path → Result (List Listed) Refusal → Type 0
 MayList {R} {M} {E} {D} {F} machine next r path listing =
     (heard : Result D Refusal) × IsHeard path (machine.read_dir_gives r path) heard × Lists machine next heard listing
 
--- all that an opened file gives, or what came before the fault that ended the reading; or memory runs out
+-- all that an opened file gives, or what came before the fault that ended the reading; or out of
+-- memory
 abbrev pub IsReadOf : {R M E D F : Type 0} → Ghosts R M E D F → F → Result Contents Refusal → Type 0
 IsReadOf machine file contents = (contents ≡ Err Memory)
-    ⊎ ((bytes : List ℕ) × (end : Result ℕ Error) × machine.read_gives file bytes end × (contents ≡ read_until bytes end))
+    ⊎ ((bytes : Bytes) × (end : Result ℕ Error) × machine.read_gives file bytes end × (contents ≡ read_until bytes end))
 
 -- the same of what was heard when it was opened
 abbrev pub Holds : {R M E D F : Type 0} → Ghosts R M E D F → Result F Refusal → Result Contents Refusal → Type 0
@@ -97,27 +97,29 @@ Holds machine (Ok file) contents = IsReadOf machine file contents
 Holds machine (Err heard) contents = contents ≡ Err heard
 
 -- what may be heard of a file's bytes
-abbrev pub MayRead : {R M E D F : Type 0} → Ghosts R M E D F → R → List ℕ → Result Contents Refusal → Type 0
+abbrev pub MayRead : {R M E D F : Type 0} → Ghosts R M E D F → R → Path → Result Contents Refusal → Type 0
 MayRead {R} {M} {E} {D} {F} machine r path contents =
     (heard : Result F Refusal) × IsHeard path (machine.open_gives r path) heard × Holds machine heard contents
 
 -- what may be heard of a canonical path
-abbrev pub MayCanonicalize : {R M E D F : Type 0} → Ghosts R M E D F → R → List ℕ → Result (List ℕ) Refusal → Type 0
+abbrev pub MayCanonicalize : {R M E D F : Type 0} → Ghosts R M E D F → R → Path → Result Path Refusal → Type 0
 MayCanonicalize machine r path heard = IsHeard path (machine.canonicalize_gives r path) heard
 
--- a disk to which nobody writes: what it says of each path, what each directory lists, what each file has, and the canonical paths
+-- a disk to which nobody writes: kind, size and numbers at each path, the listing of each
+-- directory, the bytes of each file, and the canonical paths
 pub record Disk : Type 0 where
-  pub stat : List ℕ → Bool → Result Stat Fault
-  pub list : List ℕ → Result (List Listed) Fault
-  pub read : List ℕ → Result Contents Fault
-  pub canonical : List ℕ → Result (List ℕ) Fault
+  pub stat : Path → Bool → Result Stat Fault
+  pub list : Path → Result (List Listed) Fault
+  pub read : Path → Result Contents Fault
+  pub canonical : Path → Result Path Fault
 
--- the system answers truly: all that may be heard of it, but that memory ran out, is what the disk holds
+-- the system answers truly: all that may be heard of it, other than out of memory, is what the disk
+-- holds
 pub record IsTruthful {R M E D F : Type 0} (machine : Ghosts R M E D F)
     (next : D → Option (Result E Error) → D → Type 0) (r : R) (disk : Disk) : Type 0 where
-  pub stat : (path : List ℕ) (follow : Bool) (heard : Result Stat Refusal)
+  pub stat : (path : Path) (follow : Bool) (heard : Result Stat Refusal)
       → MayStat machine r path follow heard → Answers (disk.stat path follow) heard
-  pub list : (path : List ℕ) (heard : Result (List Listed) Refusal) → MayList machine next r path heard → Answers (disk.list path) heard
-  pub read : (path : List ℕ) (heard : Result Contents Refusal) → MayRead machine r path heard → Answers (disk.read path) heard
-  pub canonical : (path : List ℕ) (heard : Result (List ℕ) Refusal)
+  pub list : (path : Path) (heard : Result (List Listed) Refusal) → MayList machine next r path heard → Answers (disk.list path) heard
+  pub read : (path : Path) (heard : Result Contents Refusal) → MayRead machine r path heard → Answers (disk.read path) heard
+  pub canonical : (path : Path) (heard : Result Path Refusal)
       → MayCanonicalize machine r path heard → Answers (disk.canonical path) heard

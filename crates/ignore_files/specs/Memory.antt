@@ -3,6 +3,7 @@ use Rattle.std.specs.Prelude.{ℕ, ◌+◌, Bool, true, false, List, [], ◌∷�
 use Rattle.std.specs.List.{list_all}
 use Rattle.ignore_base.specs.Paths.{components, is_proper}
 use Rattle.std.specs.Option.{option_map_or}
+use Rattle.ignore_base.specs.Text.{Bytes, Path}
 use Rattle.ignore_files.specs.Entries.{named}
 use Rattle.ignore_files.specs.declared.tree_error.TreeError.{TreeError}
 use Rattle.ignore_files.specs.declared.tree_error.TreeError.TheVariants as refusal
@@ -14,7 +15,7 @@ use Rattle.ignore_files.specs.declared.memory.node.Kind.TheVariants.{Dir, File, 
 -- a tree in memory: its working directory, and its nodes in the order in which they were added. A
 -- node is named by its place in that order; `/` has place 0
 pub record Memory : Type 0 where
-  pub cwd : List ℕ
+  pub cwd : Path
   pub nodes : List Node
 
 -- the error of a result, or f of its value
@@ -62,31 +63,31 @@ entries_of (File bytes) = None
 entries_of (Link target) = None
 
 -- the node of a directory's entry with a name
-abbrev pub entry_under : List ℕ → Kind → Option ℕ
+abbrev pub entry_under : Bytes → Kind → Option ℕ
 entry_under name kind = option_and_then (named name) (entries_of kind)
 
 -- the node of the entry with a name in the directory at a place
-abbrev pub child : List Node → ℕ → List ℕ → Option ℕ
+abbrev pub child : List Node → ℕ → Bytes → Option ℕ
 child nodes place name = option_and_then (λ n. entry_under name n.kind) (slice_get nodes place)
 
 -- the node to which components lead, one after another and through no links; empty components are
 -- skipped
-abbrev pub below : List Node → ℕ → List (List ℕ) → Option ℕ
+abbrev pub below : List Node → ℕ → List Bytes → Option ℕ
 below nodes place [] = Some place
 below nodes place (component ∷ rest) =
     cond (is_empty component) (below nodes place rest) (option_and_then (λ i. below nodes i rest) (child nodes place component))
 
 -- the node at a canonical path
-abbrev pub place_of : List Node → List ℕ → Option ℕ
+abbrev pub place_of : List Node → Path → Option ℕ
 place_of nodes path = below nodes 0 (components path)
 
 -- a canonical path: `/`, or `/` and names joined by single slashes
-abbrev pub is_canonical_path : List ℕ → Bool
+abbrev pub is_canonical_path : Path → Bool
 is_canonical_path [] = false
 is_canonical_path (b ∷ rest) = (b == 47) && (is_empty rest || list_all is_proper (components rest))
 
 -- the components but the last
-abbrev pub but_last : List (List ℕ) → List (List ℕ)
+abbrev pub but_last : List Bytes → List Bytes
 but_last [] = []
 but_last (component ∷ []) = []
 but_last (component ∷ next ∷ rest) = component ∷ but_last (next ∷ rest)
@@ -97,11 +98,11 @@ passing test refused nodes None = Err refused
 passing test refused nodes (Some place) = cond (is_at test nodes place) (Ok place) (Err refused)
 
 -- the place of the node at a canonical path whose kind passes
-abbrev pub sought : (Kind → Bool) → List Node → List ℕ → Result ℕ TreeError
+abbrev pub sought : (Kind → Bool) → List Node → Path → Result ℕ TreeError
 sought test nodes path = cond (is_canonical_path path) (passing test refusal.Missing nodes (place_of nodes path)) (Err refusal.NotClean)
 
 -- the place of the directory that a canonical path is in
-abbrev pub folder_sought : List Node → List ℕ → Result ℕ TreeError
+abbrev pub folder_sought : List Node → Path → Result ℕ TreeError
 folder_sought nodes path =
     cond (is_canonical_path path)
     (passing is_directory refusal.NoParent nodes (below nodes 0 (but_last (components path)))) (Err refusal.NotClean)
@@ -113,11 +114,11 @@ vacant (Some place) parent = Err refusal.Exists
 
 -- the place of the directory in which a node may be added at a path: the path is canonical, what it
 -- is in is a directory, and nothing is there
-abbrev pub parent_for : List Node → List ℕ → Result ℕ TreeError
+abbrev pub parent_for : List Node → Path → Result ℕ TreeError
 parent_for nodes path = and_then (vacant (place_of nodes path)) (folder_sought nodes path)
 
 -- a node as it is added at a place: its inode is its number, counted from 1
-abbrev pub new_node : ℕ → ℕ → List ℕ → Kind → ℕ → Node
+abbrev pub new_node : ℕ → ℕ → Path → Kind → ℕ → Node
 new_node place parent path kind len = record {
   parent = parent;
   path = path;

@@ -1,11 +1,12 @@
 -- As what an answer of a system is reported.
-use Rattle.std.specs.Prelude.{◌≡◌, ℕ, ℤ, List, Option, Some, None, Result, Ok, Err}
+use Rattle.std.specs.Prelude.{◌≡◌, ℕ, ℤ, Option, Some, None, Result, Ok, Err}
 use Rattle.std.specs.declared.io.Error.{Error}
 use Rattle.std.specs.declared.io.ErrorKind.{ErrorKind}
 use Rattle.std.specs.declared.io.ErrorKind.TheVariants.{NotFound, PermissionDenied, NotADirectory, IsADirectory, InvalidData, InvalidFilename, FilesystemLoop, OutOfMemory, Interrupted}
 use Rattle.std.specs.IoError.{error_kind, raw_os_error}
 use Rattle.std.specs.Fs.{IsDir, IsFile, IsSymlink}
 use Rattle.std.specs.declared.fs.FileType.{FileType as MachineType}
+use Rattle.ignore_base.specs.Text.{Bytes}
 use Rattle.ignore_base.specs.declared.fault.Fault.{Fault}
 use Rattle.ignore_base.specs.declared.fault.Fault.TheVariants as fault
 use Rattle.ignore_files.specs.declared.types.Refusal.{Refusal}
@@ -17,7 +18,8 @@ use Rattle.ignore_files.specs.declared.types.Listed.{Listed}
 use Rattle.ignore_files.specs.declared.types.Listed.TheVariants as listed
 use Rattle.ignore_files.specs.declared.types.Contents.{Contents}
 
--- a name that can't be read: one that isn't UTF-8 has no number of the system's, and one that the system finds too long has one
+-- a name that can't be read: one that isn't UTF-8 has no number of the system's, and one that the
+-- system finds too long has one
 abbrev pub name_fault : Option ℤ → Fault
 name_fault None = fault.BadName
 name_fault (Some code) = fault.Other
@@ -63,17 +65,17 @@ IsFaultOf error (listed.Entry n kind) = ⊥
 IsFaultOf error (listed.Fault f) = reported_error error ≡ Refused f
 
 -- an entry is reported under its name with its kind, or by the fault in place of its kind
-abbrev pub IsEntryOf : (List ℕ → Type 0) → Result MachineType Error → Listed → Type 0
+abbrev pub IsEntryOf : (Bytes → Type 0) → Result MachineType Error → Listed → Type 0
 IsEntryOf IsName (Ok t) (listed.Entry name kind) = IsName name × IsReportedAs t kind
 IsEntryOf IsName (Ok t) (listed.Fault f) = ⊥
 IsEntryOf IsName (Err error) item = IsFaultOf error item
 
 -- bytes that were read until this refusal ended the reading
-abbrev pub cut_by : List ℕ → Refusal → Result Contents Refusal
+abbrev pub cut_by : Bytes → Refusal → Result Contents Refusal
 cut_by bytes (Refused fault) = Ok (record { bytes = bytes; fault = Some fault })
 cut_by bytes Memory = Err Memory
 
 -- bytes that were read to the end of a file, or to an error
-abbrev pub read_until : List ℕ → Result ℕ Error → Result Contents Refusal
+abbrev pub read_until : Bytes → Result ℕ Error → Result Contents Refusal
 read_until bytes (Ok count) = Ok (record { bytes = bytes; fault = None })
 read_until bytes (Err error) = cut_by bytes (reported_error error)

@@ -1,9 +1,10 @@
 -- What a machine by a table of files answers, and the disk of its rows.
-use Rattle.std.specs.Prelude.{◌≡◌, ℕ, true, false, cond, List, length, Option, Some, None, option_map, ok_or, Result, Ok, Err}
+use Rattle.std.specs.Prelude.{◌≡◌, ℕ, cond, List, length, Option, Some, None, option_map, ok_or, Result, Ok, Err}
 use Rattle.std.specs.BTreeMap.{get_by_text}
 use Rattle.std.specs.IoError.{error_kind}
 use Rattle.std.specs.declared.io.Error.{Error}
 use Rattle.std.specs.declared.io.ErrorKind.TheVariants.{NotFound, NotADirectory, OutOfMemory}
+use Rattle.ignore_base.specs.Text.{Bytes, Path}
 use Rattle.ignore_base.specs.declared.fault.Fault.{Fault}
 use Rattle.ignore_base.specs.declared.fault.Fault.TheVariants as fault
 use Rattle.ignore_files.specs.Machine.{Disk, has_nul}
@@ -15,7 +16,7 @@ use Rattle.ignore_files.specs.declared.types.Listed.{Listed}
 use Rattle.ignore_files.specs.declared.types.Contents.{Contents}
 
 -- the row at a path
-abbrev pub row_at : TableMachine → List ℕ → Option Row
+abbrev pub row_at : TableMachine → Path → Option Row
 row_at table path = get_by_text table.rows path
 
 -- what is said of a row: a file of so many bytes, with its numbers
@@ -36,12 +37,12 @@ Refuses (Some row) (Err error) = error_kind error ≡ NotADirectory
 Refuses None (Err error) = error_kind error ≡ NotFound
 
 -- a file is read whole, or memory runs out
-abbrev pub ReadsWhole : List ℕ → List ℕ → Result ℕ Error → Type 0
+abbrev pub ReadsWhole : Bytes → Bytes → Result ℕ Error → Type 0
 ReadsWhole file bytes (Ok count) = bytes ≡ file
 ReadsWhole file bytes (Err error) = error_kind error ≡ OutOfMemory
 
 -- the row that can be found at a path: a path with a NUL leads nowhere
-abbrev pub visible : TableMachine → List ℕ → Option Row
+abbrev pub visible : TableMachine → Path → Option Row
 visible table path = cond (has_nul path) None (row_at table path)
 
 -- a listing fails: a row is no directory, and elsewhere nothing is found

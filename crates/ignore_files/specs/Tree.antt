@@ -1,5 +1,5 @@
 -- A tree of files: five functions of a path, with faults among their answers.
-use Rattle.std.specs.Prelude.{◌≡◌, ℕ, Bool, List, Result, Ok, Err, Option}
+use Rattle.std.specs.Prelude.{◌≡◌, Bool, List, Result, Ok, Err, Option}
 use Rattle.ignore_base.specs.Text.{Path}
 use Rattle.ignore_base.specs.declared.fault.Fault.{Fault}
 use Rattle.ignore_files.specs.declared.types.Refusal.{Refusal}

@@ -1,12 +1,14 @@
 -- What is known of a variable of the process.
-use Rattle.std.specs.Prelude.{◌≡◌, ℕ, List, Option, None, Some, Result, Ok, Err, string_bytes}
+use Rattle.std.specs.Prelude.{◌≡◌, Option, None, Some, Result, Ok, Err, string_bytes}
 use Rattle.std.specs.declared.alloc.Global.{Global}
 use Rattle.std.specs.declared.string.String.{String}
 use Rattle.std.specs.declared.env.VarError.{VarError}
 use Rattle.std.specs.declared.env.VarError.TheVariants.{NotPresent, NotUnicode, OutOfMemory}
+use Rattle.ignore_base.specs.Text.{Bytes}
 
--- a variable that is reported so has this value: none where it isn't set or isn't UTF-8; that memory ran out says nothing of it
-abbrev pub IsReportedAs : Option (List ℕ) → Result (String Global) VarError → Type 0
+-- a variable that is reported so has this value: none where it isn't set or isn't UTF-8; out of
+-- memory says nothing of it
+abbrev pub IsReportedAs : Option Bytes → Result (String Global) VarError → Type 0
 IsReportedAs value (Ok text) = value ≡ Some (string_bytes text)
 IsReportedAs value (Err NotPresent) = value ≡ None
 IsReportedAs value (Err NotUnicode) = value ≡ None

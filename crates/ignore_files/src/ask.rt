@@ -29,7 +29,7 @@ pub fn refusal_of(error: io::Error) -> Refusal
     }
 }
 
-/// A fault that stands in the answer; a refused allocation ends the call.
+/// A fault that stands in the answer; a failed allocation ends the call.
 pub fn fault_of(error: io::Error) -> Result<Fault, Refusal>
     ensures { result ≡ reported_fault (reported_error error) }
 {

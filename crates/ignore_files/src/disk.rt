@@ -16,7 +16,7 @@ use std::alloc::Global;
 use std::io;
 
 /// How much room a read begins with, in bytes: where little is spare, reading an opened
-/// directory can fail otherwise than the system says.
+/// directory can fail otherwise than the system reports.
 const FIRST_READ: usize = 32 * 1024;
 
 /// The machine's files, as std reports them through a runtime `R`; or those of any other
@@ -24,8 +24,8 @@ const FIRST_READ: usize = 32 * 1024;
 ///
 /// Each call asks the machine and returns its answer in this crate's types. Contracts state each
 /// answer from the machine's (`GivesStat`, `MayList` ..); where the machine answers truly from
-/// one disk, these files are consistent with the tree on it (`is_honest`). The machine is asked again
-/// where a signal interrupted it (`EINTR`), and never about a path with a NUL, which is not
+/// one disk, these files are consistent with the tree on it (`is_honest`). The machine is asked
+/// again where a signal interrupted it (`EINTR`), and never about a path with a NUL, which is not
 /// found. Of its errors five keep their name (not found, permission denied, not a directory, is a
 /// directory, invalid data); a name that isn't UTF-8 is `Fault::BadName` (one that the system
 /// finds too long isn't), a loop of links `Fault::LinkLimit`, out of memory `Refusal::Memory`, and
@@ -55,18 +55,15 @@ impl<'r, R> DiskFiles<'r, R> {
     }
 }
 
-/// What the machine says of a path.
+/// What the machine reports of a path.
 fn stat<R: Machine>(machine: &R, path: &str, follow: bool) -> Result<Stat, Refusal>
     ensures { MayStat R.Machine machine.now path.now follow result }
 {
-    let heard = ask_at(path, || metadata(machine, path, follow));
-    match heard {
-        Ok(metadata) => Ok(stat_of::<R>(&metadata)),
-        Err(refusal) => Err(refusal),
-    }
+    let metadata = ask_at(path, || metadata(machine, path, follow))?;
+    Ok(stat_of::<R>(&metadata))
 }
 
-/// What the machine says of a path, asked once.
+/// What the machine reports of a path, asked once.
 fn metadata<R: Machine>(machine: &R, path: &str, follow: bool) -> io::Result<R::Metadata>
     ensures { metadata_gives R.Machine machine.now follow path.now result }
 {
@@ -101,10 +98,8 @@ fn list_once<R: Machine>(alloc: Global, machine: &R, path: &str) -> Result<Optio
         (λ listing. MayList R.Machine R.Dir.next_gives machine.now path.now (Ok listing)))
         (λ e. MayList R.Machine R.Dir.next_gives machine.now path.now (Err e)) }
 {
-    match ask_at(path, || machine.read_dir(path)) {
-        Ok(dir) => listing_of::<R>(alloc, dir),
-        Err(refusal) => Err(refusal),
-    }
+    let dir = ask_at(path, || machine.read_dir(path))?;
+    listing_of::<R>(alloc, dir)
 }
 
 /// All that a directory gives, or `None` where the machine was interrupted on the way.
@@ -152,10 +147,8 @@ fn entry_of<R: Machine>(alloc: Global, entry: &R::Entry) -> Result<Listed, Refus
 fn contents<R: Machine>(alloc: Global, machine: &R, path: &str) -> Result<Contents, Refusal>
     ensures { MayRead R.Machine machine.now path.now result }
 {
-    match ask_at(path, || machine.open(path)) {
-        Ok(file) => read::<R>(alloc, file),
-        Err(refusal) => Err(refusal),
-    }
+    let file = ask_at(path, || machine.open(path))?;
+    read::<R>(alloc, file)
 }
 
 /// All that an opened file gives, or what it gave before a fault.
@@ -175,10 +168,8 @@ fn read<R: Machine>(alloc: Global, mut file: R::File) -> Result<Contents, Refusa
 fn canonical<R: Machine>(machine: &R, path: &str) -> Result<Name, Refusal>
     ensures { MayCanonicalize R.Machine machine.now path.now result }
 {
-    match ask_at(path, || machine.canonicalize(path)) {
-        Ok(found) => Ok(Name::new(found.into_string())),
-        Err(refusal) => Err(refusal),
-    }
+    let found = ask_at(path, || machine.canonicalize(path))?;
+    Ok(Name::new(found.into_string()))
 }
 
 impl<'r, R: Machine> Files for DiskFiles<'r, R> {
@@ -197,10 +188,7 @@ impl<'r, R: Machine> Files for DiskFiles<'r, R> {
     ghost identity_gives = { λ files path follow answer. GivesIdentity R.Machine (machine_of files) path follow answer };
 
     fn stat(&self, _alloc: Global, path: &str, follow: bool) -> Result<Metadata, Refusal> {
-        match stat(self.rt, path, follow) {
-            Ok(stat) => Ok(stat.metadata),
-            Err(refusal) => Err(refusal),
-        }
+        Ok(stat(self.rt, path, follow)?.metadata)
     }
 
     fn list(&self, alloc: Global, path: &str) -> Result<Listing, Refusal> {
@@ -213,14 +201,11 @@ impl<'r, R: Machine> Files for DiskFiles<'r, R> {
     }
 
     fn contents(&self, alloc: Global, path: &str) -> Result<Contents, Refusal> {
-        match stat(self.rt, path, true) {
-            Ok(stat) => match stat.metadata.file_type {
-                FileType::File => contents(alloc, self.rt, path),
-                FileType::Dir => contents(alloc, self.rt, path),
-                FileType::Symlink => Err(Refusal::Fault(Fault::Other)),
-                FileType::Other => Err(Refusal::Fault(Fault::Other)),
-            },
-            Err(refusal) => Err(refusal),
+        match stat(self.rt, path, true)?.metadata.file_type {
+            FileType::File => contents(alloc, self.rt, path),
+            FileType::Dir => contents(alloc, self.rt, path),
+            FileType::Symlink => Err(Refusal::Fault(Fault::Other)),
+            FileType::Other => Err(Refusal::Fault(Fault::Other)),
         }
     }
 
@@ -234,10 +219,7 @@ impl<'r, R: Machine> Files for DiskFiles<'r, R> {
         path: &str,
         follow: bool,
     ) -> Result<Option<Identity>, Refusal> {
-        match stat(self.rt, path, follow) {
-            Ok(stat) => Ok(Some(stat.identity)),
-            Err(refusal) => Err(refusal),
-        }
+        Ok(Some(stat(self.rt, path, follow)?.identity))
     }
 }
 

@@ -8,22 +8,23 @@ use std::alloc::Global;
 /// the call may give. A value is consistent with a tree (`IsHonest`) where each of these answers,
 /// other than `Refusal::Memory`, is the tree's.
 pub trait Files {
-    ghost use Rattle.std.specs.Prelude.{ℕ, Bool, List, Result, Option, ⊤};
+    ghost use Rattle.std.specs.Prelude.{Bool, List, Result, Option, ⊤};
+    ghost use Rattle.ignore_base.specs.Text.{Path};
     ghost use Rattle.ignore_files.specs.declared.types.Refusal.{Refusal};
     ghost use Rattle.ignore_files.specs.declared.types.Metadata.{Metadata};
     ghost use Rattle.ignore_files.specs.declared.types.Listed.{Listed};
     ghost use Rattle.ignore_files.specs.declared.types.Contents.{Contents};
     ghost use Rattle.ignore_files.specs.declared.types.Identity.{Identity};
 
-    ghost stat_gives: { Self → List ℕ → Bool → Result Metadata Refusal → Type 0 } = { λ _ _ _ _. ⊤ };
+    ghost stat_gives: { Self → Path → Bool → Result Metadata Refusal → Type 0 } = { λ _ _ _ _. ⊤ };
 
-    ghost list_gives: { Self → List ℕ → Result (List Listed) Refusal → Type 0 } = { λ _ _ _. ⊤ };
+    ghost list_gives: { Self → Path → Result (List Listed) Refusal → Type 0 } = { λ _ _ _. ⊤ };
 
-    ghost contents_gives: { Self → List ℕ → Result Contents Refusal → Type 0 } = { λ _ _ _. ⊤ };
+    ghost contents_gives: { Self → Path → Result Contents Refusal → Type 0 } = { λ _ _ _. ⊤ };
 
-    ghost canonical_gives: { Self → List ℕ → Result (List ℕ) Refusal → Type 0 } = { λ _ _ _. ⊤ };
+    ghost canonical_gives: { Self → Path → Result Path Refusal → Type 0 } = { λ _ _ _. ⊤ };
 
-    ghost identity_gives: { Self → List ℕ → Bool → Result (Option Identity) Refusal → Type 0 } = { λ _ _ _ _. ⊤ };
+    ghost identity_gives: { Self → Path → Bool → Result (Option Identity) Refusal → Type 0 } = { λ _ _ _ _. ⊤ };
 
     /// What the path leads to, and its size. A link as last component is followed where `follow` is
     /// set, or where a slash follows it; links before it always are.

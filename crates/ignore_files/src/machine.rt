@@ -12,9 +12,10 @@ use std::{fs, io, rt};
 
 /// What a system is asked about its files, in the terms of std, and what it may answer.
 pub trait Machine {
-    ghost use Rattle.std.specs.Prelude.{ℕ, List, Result, ⊤};
+    ghost use Rattle.std.specs.Prelude.{ℕ, Result, ⊤};
     ghost use Rattle.std.specs.declared.io.Error.{Error};
     ghost use Rattle.std.specs.declared.fs.FileType.{FileType};
+    ghost use Rattle.ignore_base.specs.Text.{Bytes, Path};
 
     /// What is said of a path.
     type Metadata: Drop;
@@ -28,9 +29,9 @@ pub trait Machine {
     /// An opened file.
     type File: Drop;
 
-    ghost metadata_gives: { Self → List ℕ → Result Self.Metadata Error → Type 0 } = { λ _ _ _. ⊤ };
+    ghost metadata_gives: { Self → Path → Result Self.Metadata Error → Type 0 } = { λ _ _ _. ⊤ };
 
-    ghost symlink_metadata_gives: { Self → List ℕ → Result Self.Metadata Error → Type 0 } = { λ _ _ _. ⊤ };
+    ghost symlink_metadata_gives: { Self → Path → Result Self.Metadata Error → Type 0 } = { λ _ _ _. ⊤ };
 
     ghost file_type_gives: { Self.Metadata → FileType → Type 0 } = { λ _ _. ⊤ };
 
@@ -40,17 +41,17 @@ pub trait Machine {
 
     ghost ino_gives: { Self.Metadata → ℕ → Type 0 } = { λ _ _. ⊤ };
 
-    ghost read_dir_gives: { Self → List ℕ → Result Self.Dir Error → Type 0 } = { λ _ _ _. ⊤ };
+    ghost read_dir_gives: { Self → Path → Result Self.Dir Error → Type 0 } = { λ _ _ _. ⊤ };
 
-    ghost file_name_gives: { Self.Entry → List ℕ → Type 0 } = { λ _ _. ⊤ };
+    ghost file_name_gives: { Self.Entry → Bytes → Type 0 } = { λ _ _. ⊤ };
 
     ghost entry_type_gives: { Self.Entry → Result FileType Error → Type 0 } = { λ _ _. ⊤ };
 
-    ghost open_gives: { Self → List ℕ → Result Self.File Error → Type 0 } = { λ _ _ _. ⊤ };
+    ghost open_gives: { Self → Path → Result Self.File Error → Type 0 } = { λ _ _ _. ⊤ };
 
-    ghost read_gives: { Self.File → List ℕ → Result ℕ Error → Type 0 } = { λ _ _ _. ⊤ };
+    ghost read_gives: { Self.File → Bytes → Result ℕ Error → Type 0 } = { λ _ _ _. ⊤ };
 
-    ghost canonicalize_gives: { Self → List ℕ → Result (List ℕ) Error → Type 0 } = { λ _ _ _. ⊤ };
+    ghost canonicalize_gives: { Self → Path → Result Path Error → Type 0 } = { λ _ _ _. ⊤ };
 
     /// What is said of what the path leads to, links followed.
     fn metadata(&self, path: &str) -> io::Result<Self::Metadata>

@@ -1,7 +1,7 @@
-//! What a system says of a path.
+//! What a system reports of a path.
 use crate::types::{Identity, Metadata};
 
-/// What a system says of a path in one answer.
+/// What a system reports of a path in one answer.
 #[derive(Clone, Copy, Debug, PartialEq, Eq)]
 pub struct Stat {
     /// Its kind and its size.

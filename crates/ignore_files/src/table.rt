@@ -17,7 +17,7 @@ use std::{fs, io};
 pub struct Row {
     /// The file's bytes.
     pub bytes: Bytes,
-    /// The numbers by which the machine tells it from every other.
+    /// The numbers by which the machine identifies it.
     pub identity: Identity,
 }
 

@@ -14,8 +14,9 @@ pub struct Directory {
 }
 
 impl Model for Directory {
-    ghost use Rattle.std.specs.Prelude.{List, ◌≡◌, ℕ};
+    ghost use Rattle.std.specs.Prelude.{List, ◌≡◌};
     ghost use Rattle.std.specs.BTreeMap.{get_by_text};
+    ghost use Rattle.ignore_base.specs.Text.{Bytes};
     ghost use Rattle.ignore_files.specs.declared.memory.entry.Entry.{Entry};
     ghost use Rattle.ignore_files.specs.Entries.{named};
 
@@ -23,7 +24,7 @@ impl Model for Directory {
 
     ghost view = { λ d. d.entries.items };
 
-    ghost invariant = { λ d. (name : List ℕ) → get_by_text d.by_name name ≡ named name d.entries.items };
+    ghost invariant = { λ d. (name : Bytes) → get_by_text d.by_name name ≡ named name d.entries.items };
 }
 
 impl Directory {

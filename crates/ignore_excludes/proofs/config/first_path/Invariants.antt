@@ -5,4 +5,6 @@ use Rattle.ignore_excludes.proofs.config.first_path.Given as goal
 
 -- the places that are left decide for all
 abbrev pub invariant-loop-place : goal.invariant-loop-place
-invariant-loop-place g l = (found : Option (List ℕ)) → IsFirstValue (FilesGive (g.F.Files.contents_gives l.files)) (map option_copied (drop l.place-index l.places)) found → IsFirstValue (FilesGive (g.F.Files.contents_gives l.files)) (map option_copied l.places) found
+invariant-loop-place g l = (found : Option (List ℕ)) → IsFirstValue (FilesGive (g.F.Files.contents_gives l.files))
+    (map option_copied (drop l.place-index l.places)) found →
+    IsFirstValue (FilesGive (g.F.Files.contents_gives l.files)) (map option_copied l.places) found

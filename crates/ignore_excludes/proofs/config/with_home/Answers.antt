@@ -11,7 +11,9 @@ loop-before-preserved c =
     let after = c.in-Some.after in
     let cut = split_once_first 126 rest (Some (before, after)) c.in-Some.ensures.cases (lit< tt) in
     record {
-      written = written_more c.args.home.now c.args.value.now (string_bytes c.loop-before.text) rest before.now after.now (string_bytes c.push_str.new.self) (string_bytes c.push_str-in-Some.new.self) cut.0 cut.1 cut.2 c.in_ok-push_str.ensures.bytes c.in_ok-push_str-2.ensures.bytes c.loop-before.invariant.written;
+      written = written_more c.args.home.now c.args.value.now (string_bytes c.loop-before.text) rest before.now after.now
+          (string_bytes c.push_str.new.self) (string_bytes c.push_str-in-Some.new.self) cut.0 cut.1 cut.2
+          c.in_ok-push_str.ensures.bytes c.in_ok-push_str-2.ensures.bytes c.loop-before.invariant.written;
       text = search rules;
     }
 

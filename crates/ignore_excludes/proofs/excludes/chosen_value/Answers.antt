@@ -10,7 +10,9 @@ use Rattle.ignore_excludes.proofs.excludes.chosen_value.Goals as goal
 line_is : (rest line : List ℕ) (start : ℕ) → line ≡ drop start rest → drop start rest ≡ trimmed_start rest → line ≡ trimmed_start rest
 line_is rest line start e h = e ∙ h
 
-preferred : (rest line : List ℕ) (r : Option (List ℕ)) → line ≡ trimmed_start rest → IsPreferred (λ (q : Bool) (v : List ℕ). SetsKey q v line) r → IsPreferred (λ (q : Bool) (v : List ℕ). SetsKey q v (trimmed_start rest)) r
+preferred : (rest line : List ℕ) (r : Option (List ℕ)) → line ≡ trimmed_start rest
+    → IsPreferred (λ (q : Bool) (v : List ℕ). SetsKey q v line) r
+    → IsPreferred (λ (q : Bool) (v : List ℕ). SetsKey q v (trimmed_start rest)) r
 preferred rest line r e h = subst (λ (t : List ℕ). IsPreferred (λ (q : Bool) (v : List ℕ). SetsKey q v t) r) e h
 
 pub returns-in-Some : goal.returns-in-Some
@@ -54,7 +56,8 @@ loop-value-preserved c =
     let inside = parts.1 in (
       omega arith,
       λ found h. (
-          let further = chosen_further rest (take end line) (drop (end + 1) line) cut parts.2 (preferred rest line None same c.in_default.ensures) found (subst (λ (t : List ℕ). IsChosen t found) next h) in
+          let further = chosen_further rest (take end line) (drop (end + 1) line) cut parts.2
+          (preferred rest line None same c.in_default.ensures) found (subst (λ (t : List ℕ). IsChosen t found) next h) in
           c.loop-value.invariant.1 found (subst (λ (t : List ℕ). IsChosen t found) c.split_at.ensures.back further)
           ),
     )

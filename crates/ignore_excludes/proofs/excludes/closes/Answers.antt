@@ -24,7 +24,8 @@ returns-then-quote-eq34 c =
       λ yes. Closes-quote text c.in-Some.rest.now first (c.ends_line-then-quote-eq34.ensures.0 yes),
       λ h. elim (Closes-cases text h) [
         | inl k ↦ absurd (never k)
-        | inr k ↦ c.ends_line-then-quote-eq34.ensures.1 (let same : k.0 ≡ c.in-Some.rest.now = (let d = k.1 in cc) in subst EndsLine same k.2)
+        | inr k ↦ c.ends_line-then-quote-eq34.ensures.1 (let same : k.0 ≡ c.in-Some.rest.now = (let d = k.1 in cc) in
+            subst EndsLine same k.2)
       ],
     )
 

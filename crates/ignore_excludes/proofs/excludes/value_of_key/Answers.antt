@@ -24,7 +24,8 @@ pub returns-then-equals-ne61 : goal.returns-then-equals-ne61
 returns-then-equals-ne61 c =
     let back = ap trimmed_start c.in_ok-key.ensures.cases.2 in
     key_nothing c.args.text.now (λ key rest e. c.if-equals-ne61.true (
-    let whole : c.in_ok-equals.equals.now ∷ c.in_ok-equals.rest.now ≡ 61 ∷ rest = sym c.in_ok-equals.ensures.cases.0 ∙ (c.trim.ensures ∙ (back ∙ e)) in
+    let whole : c.in_ok-equals.equals.now ∷ c.in_ok-equals.rest.now ≡ 61 ∷ rest = sym c.in_ok-equals.ensures.cases.0
+    ∙ (c.trim.ensures ∙ (back ∙ e)) in
     cc
     ))
 
@@ -32,6 +33,8 @@ pub returns : goal.returns
 returns c =
     let back = ap trimmed_start c.in_ok-key.ensures.cases.2 in
     let rest = c.in_ok-equals.rest.now in
-    let key : IsKey (take 12 c.args.text.now) = subst IsKey c.in_ok-key.ensures.cases.1 (c.eq_ignore_ascii_case.ensures.test.0 c.if-not-eq_ignore_ascii_case.false) in
-    let first : trimmed_start (drop 12 c.args.text.now) ≡ 61 ∷ rest = sym back ∙ (sym c.trim.ensures ∙ (c.in_ok-equals.ensures.cases.0 ∙ ap (λ b. b ∷ rest) c.if-equals-ne61.false)) in
+    let key : IsKey (take 12 c.args.text.now) = subst IsKey c.in_ok-key.ensures.cases.1
+    (c.eq_ignore_ascii_case.ensures.test.0 c.if-not-eq_ignore_ascii_case.false) in
+    let first : trimmed_start (drop 12 c.args.text.now) ≡ 61 ∷ rest = sym back
+    ∙ (sym c.trim.ensures ∙ (c.in_ok-equals.ensures.cases.0 ∙ ap (λ b. b ∷ rest) c.if-equals-ne61.false)) in
     key_value c.args.text.now rest (option_copied c.assigned_value.result) key first c.assigned_value.ensures

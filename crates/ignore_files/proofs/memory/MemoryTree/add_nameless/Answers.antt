@@ -9,4 +9,5 @@ pub returns : goal.returns
 returns c =
     let found = c.in_ok-place.ensures ∙ ap (λ nodes. sought is_directory nodes c.args.dir.now) c.deref.ensures.value in
     rw (← c.self.view_is) (leaves_room is_directory (listing_too Nameless)
-    (record { cwd = c.self.inside.cwd; nodes = c.self.inside.nodes.items }) c.args.dir.now c.in_ok-place.place c.index_mut.result.now found c.index_mut.ensures.value c.list_nameless.new.self c.in_ok-list_nameless.ensures.added)
+    (record { cwd = c.self.inside.cwd; nodes = c.self.inside.nodes.items }) c.args.dir.now c.in_ok-place.place
+    c.index_mut.result.now found c.index_mut.ensures.value c.list_nameless.new.self c.in_ok-list_nameless.ensures.added)

@@ -8,4 +8,6 @@ pub returns : goal.returns
 returns c =
     let found = c.in_ok-place.ensures ∙ ap (λ nodes. sought is_file nodes c.args.path.now) c.deref.ensures.value in
     rw (← c.self.view_is) (leaves_written is_file (λ
-    (n : Node). record n { cut = Some (record { len = c.args.len; fault = c.args.fault }) }) (record { cwd = c.self.inside.cwd; nodes = c.self.inside.nodes.items }) c.args.path.now c.in_ok-place.place c.index_mut.result.now found c.index_mut.ensures.value)
+    (n : Node). record n { cut = Some (record { len = c.args.len; fault = c.args.fault }) })
+    (record { cwd = c.self.inside.cwd; nodes = c.self.inside.nodes.items }) c.args.path.now c.in_ok-place.place
+    c.index_mut.result.now found c.index_mut.ensures.value)

@@ -37,4 +37,6 @@ returns-in-Ok-clause-added c =
     ap (λ ns. set ns parent c.list_named.new.self) c.in_ok-push.ensures.items
     ∙ ap (set (nodes ++ c.new.result ∷ []) parent) c.in-Ok.ensures.added
     ∙ write_before (listing_too entry) nodes c.new.result parent there.0 read there.1 at
-    ∙ with_node_is nodes c.args.path.now c.args.kind c.args.len parent c.new-name.result c.file_type-file_type.result c.len-place.result c.new-path.result c.new.result name c.file_type-file_type.ensures (c.len-place.ensures ∙ c.args.nodes.now.ok.0) copy c.new.ensures
+    ∙ with_node_is nodes c.args.path.now c.args.kind c.args.len parent c.new-name.result c.file_type-file_type.result
+    c.len-place.result c.new-path.result c.new.result name c.file_type-file_type.ensures
+    (c.len-place.ensures ∙ c.args.nodes.now.ok.0) copy c.new.ensures

@@ -19,7 +19,8 @@ loop-component-preserved c =
     record {
       text = search rules;
       same =
-          below_some c.args.nodes.now l.here l.rest.now c.in-Some.component.now c.in-Some.after.now cut.0 c.in_ok-here.here c.in_ok-here.ensures ∙ l.invariant.same;
+          below_some c.args.nodes.now l.here l.rest.now c.in-Some.component.now c.in-Some.after.now cut.0
+          c.in_ok-here.here c.in_ok-here.ensures ∙ l.invariant.same;
     }
 
 pub returns : goal.returns

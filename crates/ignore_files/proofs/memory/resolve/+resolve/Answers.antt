@@ -10,7 +10,10 @@ pub walk-returns-in_err-reached-clause-value : goal.walk-returns-in_err-reached-
 walk-returns-in_err-reached-clause-value t c =
     let l = c.loop-component in
     let cut = components_split l.rest.now (c.in-Some.component, c.in-Some.after) c.in-Some.ensures.cases in
-    let reported = turn_fault c.args.nodes.now c.args.follow l.reached.links l.reached.node l.rest.now c.in-Some.component.now c.in-Some.after.now (walk c.args.nodes.now c.args.follow c.args.links (components c.args.text.now) c.args.start) l.invariant.same cut.0 c.in_err-reached.field-0.0 c.in_err-reached.ensures.value in
+    let reported = turn_fault c.args.nodes.now c.args.follow l.reached.links l.reached.node l.rest.now
+    c.in-Some.component.now c.in-Some.after.now
+    (walk c.args.nodes.now c.args.follow c.args.links (components c.args.text.now) c.args.start) l.invariant.same
+    cut.0 c.in_err-reached.field-0.0 c.in_err-reached.ensures.value in
     let p = err_from_is_err_and c.from_residual.result c.from_residual.ensures.1 in
     rw (p.1, p.2) reported
 
@@ -18,7 +21,8 @@ pub walk-returns-then-not-is_dir-clause-value : goal.walk-returns-then-not-is_di
 walk-returns-then-not-is_dir-clause-value t c =
     let l = c.loop-component in
     let cut = components_split l.rest.now (c.in-Some.component, c.in-Some.after) c.in-Some.ensures.cases in
-    turn_out c.args.nodes.now c.args.follow l.reached.links l.reached.node l.rest.now c.in-Some.component.now c.in-Some.after.now _ l.invariant.same cut.0 c.in_ok-reached.reached c.in_ok-reached.ensures.value cc
+    turn_out c.args.nodes.now c.args.follow l.reached.links l.reached.node l.rest.now c.in-Some.component.now
+    c.in-Some.after.now _ l.invariant.same cut.0 c.in_ok-reached.reached c.in_ok-reached.ensures.value cc
 
 pub walk-loop-component-preserved : goal.walk-loop-component-preserved
 walk-loop-component-preserved t c =
@@ -27,7 +31,8 @@ walk-loop-component-preserved t c =
     record {
       text = search rules;
       same =
-          turn_in c.args.nodes.now c.args.follow l.reached.links l.reached.node l.rest.now c.in-Some.component.now c.in-Some.after.now _ l.invariant.same cut.0 c.in_ok-reached.reached c.in_ok-reached.ensures.value cc;
+          turn_in c.args.nodes.now c.args.follow l.reached.links l.reached.node l.rest.now c.in-Some.component.now
+          c.in-Some.after.now _ l.invariant.same cut.0 c.in_ok-reached.reached c.in_ok-reached.ensures.value cc;
       fewer = omega (arith, c.in_ok-reached.ensures.fewer, l.invariant.fewer);
     }
 
