@@ -1,4 +1,5 @@
-// Preloaded to a program: refuses its request for memory number REFUSE, counted from 1, and writes how many there were to the file COUNT.
+// Preloaded to a program: makes its allocation with the number REFUSE fail, counted from 1, and
+// writes how many there were to the file COUNT.
 #define _GNU_SOURCE
 #include <dlfcn.h>
 #include <stdio.h>

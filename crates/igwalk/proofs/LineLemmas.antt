@@ -14,7 +14,8 @@ one_line : (x : ℕ) (p : List ℕ) → length (lines_of_parts ((x ∷ p) ∷ []
 one_line x p = rw (eqb-suc-zero (length p)) (omega arith)
 
 -- one more segment has at most one more line
-part_more : (b : Bool) (x n : ℕ) (ps : List (List ℕ)) → 0 < length ps → length (lines_of_parts ps) ≤ n → length (lines_of_parts (cond b ([] ∷ ps) (onto_first x ps))) ≤ n + 1
+part_more : (b : Bool) (x n : ℕ) (ps : List (List ℕ)) → 0 < length ps → length (lines_of_parts ps) ≤ n
+    → length (lines_of_parts (cond b ([] ∷ ps) (onto_first x ps))) ≤ n + 1
 part_more b x n [] h k = absurd (omega (arith, h))
 part_more true x n (p ∷ ps) h k = omega (arith, k)
 part_more false x n (p ∷ []) h k = omega (arith, one_line x p)
@@ -23,7 +24,12 @@ part_more false x n (p ∷ q ∷ ps) h k = omega (arith, k)
 -- a text has at most as many lines as bytes
 pub length-lines : (bs : List ℕ) → length (lines bs) ≤ length bs
 length-lines [] = omega arith
-length-lines (x ∷ xs) = omega (arith, part_more (x == 10) x (length xs) (slice_split (λ b. b == 10) xs) (omega (arith, length-slice_split (λ b. b == 10) xs)) (length-lines xs))
+length-lines (x ∷ xs) =
+    omega (
+      arith,
+      part_more (x == 10) x (length xs) (slice_split (λ b. b == 10) xs)
+          (omega (arith, length-slice_split (λ b. b == 10) xs)) (length-lines xs),
+    )
 
 pub appends_nothing : (a : Option (List ℕ)) → Appends a a []
 appends_nothing Nothing = tt
@@ -51,11 +57,23 @@ or-false true = refl
 or-false false = refl
 
 -- a line that was rejected, or added
-pub adds_one : (root : List ℕ) (ls : List (List ℕ)) (line : List ℕ) (old new : Building) (before middle after : Option (List ℕ)) (number : ℕ) (r any : Bool) → AddsAll root ls old (Appends before middle) any → number ≡ length ls + 1 → AddsOne old number line new (Appends middle after) r → AddsAll root (ls ++ line ∷ []) new (Appends before after) (any || r)
+pub adds_one : (root : List ℕ) (ls : List (List ℕ)) (line : List ℕ) (old new : Building) (before middle after : Option (List ℕ))
+    (number : ℕ) (r any : Bool) → AddsAll root ls old (Appends before middle) any → number ≡ length ls + 1
+    → AddsOne old number line new (Appends middle after) r → AddsAll root (ls ++ line ∷ []) new (Appends before after) (any || r)
 adds_one root ls line old new before middle after number true any so is one =
     let p = one.0 in
     let now : Appends middle after (refusal (length ls + 1) p) = subst (λ n. Appends middle after (refusal n p)) is one.3 in
-    let all : Adds root (ls ++ line ∷ []) old (so.0 ++ refusal (length ls + 1) p) = refused ls line old so.0 p so.1 one.1 in
-    (so.0 ++ refusal (length ls + 1) p, subst (λ b. Adds root (ls ++ line ∷ []) b (so.0 ++ refusal (length ls + 1) p)) (sym one.2) all, appends_on before middle after so.0 _ so.2 now, or-true any ∙ some_text so.0 _ _)
-adds_one root ls line old new before middle after number false any so is one =
-    (so.0, added ls line old new so.0 so.1 one.0, subst (Appends before after) (append-nil so.0) (appends_on before middle after so.0 [] so.2 one.1), or-false any ∙ so.3)
+    let all : Adds root (ls ++ line ∷ []) old (so.0 ++ refusal (length ls + 1) p) = refused ls line old so.0 p so.1 one.1 in (
+      so.0 ++ refusal (length ls + 1) p,
+      subst (λ b. Adds root (ls ++ line ∷ []) b (so.0 ++ refusal (length ls + 1) p)) (sym one.2)
+          all,
+      appends_on before middle after so.0 _ so.2 now,
+      or-true any ∙ some_text so.0 _ _,
+    )
+adds_one root ls line old new before middle after number false any so is one = (
+  so.0,
+  added ls line old new so.0 so.1 one.0,
+  subst (Appends before after) (append-nil so.0)
+      (appends_on before middle after so.0 [] so.2 one.1),
+  or-false any ∙ so.3,
+)

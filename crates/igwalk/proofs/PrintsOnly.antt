@@ -26,11 +26,14 @@ last_same (a ∷ xs) (b ∷ ys) x y e =
     (ap (λ z. z ∷ xs) here ∙ ap (λ zs. b ∷ zs) more.0, more.1)
 
 -- the same line, asked of the same builder
-moved : (old other : Building) (line text : List ℕ) (new : Building) → old ≡ other → line ≡ text → AddsLine old Nothing line new → AddsLine other Nothing text new
-moved old other line text new e f h = subst (λ (t : List ℕ). AddsLine other Nothing t new) f (subst (λ (b : Building). AddsLine b Nothing line new) e h)
+moved : (old other : Building) (line text : List ℕ) (new : Building) → old ≡ other → line ≡ text → AddsLine old Nothing line new
+    → AddsLine other Nothing text new
+moved old other line text new e f h = subst (λ (t : List ℕ). AddsLine other Nothing t new) f
+    (subst (λ (b : Building). AddsLine b Nothing line new) e h)
 
 -- lines that are added in turn give one builder, and one report of those that were rejected
-Adds-one : (root : List ℕ) (ls ms : List (List ℕ)) (a b : Building) (reported other : List ℕ) → ls ≡ ms → Adds root ls a reported → Adds root ms b other → (a ≡ b) × (reported ≡ other)
+Adds-one : (root : List ℕ) (ls ms : List (List ℕ)) (a b : Building) (reported other : List ℕ) → ls ≡ ms → Adds root ls a reported
+    → Adds root ms b other → (a ≡ b) × (reported ≡ other)
 Adds-one root ls ms a b reported other e no_line no_line = (refl, refl)
 Adds-one root ls ms a b reported other e no_line (added ys y old new text v h) = absurd (no_end ys y e)
 Adds-one root ls ms a b reported other e no_line (refused ys y builder text p v h) = absurd (no_end ys y e)
@@ -52,13 +55,19 @@ Adds-one root ls ms a b reported other e (refused xs x builder text p v h) (refu
     let at = last_same xs ys x y e in
     let same = Adds-one root xs ys builder maker text words at.0 v w in
     let here = subst (λ (t : List ℕ). Refuses maker.options t p) at.1 (subst (λ (z : Building). Refuses z.options x p) same.0 h) in
-    let one = Refuses-one maker.options y p q here k in
-    (same.0, ap (λ (t : List ℕ). t ++ refusal (length xs + 1) p) same.1 ∙ (ap (λ (zs : List (List ℕ)). words ++ refusal (length zs + 1) p) at.0 ∙ ap (λ (r : Problem). words ++ refusal (length ys + 1) r) one))
+    let one = Refuses-one maker.options y p q here k in (
+      same.0,
+      ap (λ (t : List ℕ). t ++ refusal (length xs + 1) p) same.1
+          ∙ (ap (λ (zs : List (List ℕ)). words ++ refusal (length zs + 1) p) at.0
+          ∙ ap (λ (r : Problem). words ++ refusal (length ys + 1) r) one),
+    )
 
 -- a question has one status, one answer and one report of rejected lines
-Prints-one : (question : Question) (s t : ℕ) (out err text words : List ℕ) → Prints question s (λ l. l ≡ out) (λ l. l ≡ err) → Prints question t (λ l. l ≡ text) (λ l. l ≡ words) → (s ≡ t) × (out ≡ text) × (err ≡ words)
+Prints-one : (question : Question) (s t : ℕ) (out err text words : List ℕ) → Prints question s (λ l. l ≡ out) (λ l. l ≡ err)
+    → Prints question t (λ l. l ≡ text) (λ l. l ≡ words) → (s ≡ t) × (out ≡ text) × (err ≡ words)
 Prints-one question s t out err text words h k =
-    let same = Adds-one question.root (lines question.rules) (lines question.rules) h.builder k.builder h.adds.0 k.adds.0 refl h.adds.1 k.adds.1 in
+    let same = Adds-one question.root (lines question.rules) (lines question.rules) h.builder k.builder h.adds.0 k.adds.0 refl
+    h.adds.1 k.adds.1 in
     let any : h.refused ≡ k.refused = h.adds.3 ∙ (ap (λ (l : List ℕ). not (length l == 0)) same.1 ∙ sym k.adds.3) in (
       h.ends ∙ (ap (λ (b : Bool). cond b 1 0) any ∙ sym k.ends),
       sym h.answers ∙ (ap (λ (b : Building). answer_line (answer_of (built b) question.path question.is_dir)) same.0 ∙ k.answers),

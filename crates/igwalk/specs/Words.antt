@@ -1,26 +1,27 @@
 -- Parsing the words after the program's name.
-use Rattle.std.specs.Prelude.{ℕ, Bool, true, false, List, [], ◌∷◌, codes, Option, None, Some, if◌then◌else◌}
+use Rattle.std.specs.Prelude.{Bool, true, false, List, [], ◌∷◌, codes, Option, None, Some, if◌then◌else◌}
 use Rattle.std.specs.Str.{bytes_eq}
+use Rattle.ignore_base.specs.Text.{Bytes, Path}
 use Rattle.igwalk.specs.declared.words.Request.{Request}
 
 -- a question: the answer of the rules in a text, relative to a root, for a path that is a directory
 -- or not
 pub record Question : Type 0 where
-  pub root : List ℕ
-  pub rules : List ℕ
-  pub path : List ℕ
+  pub root : Path
+  pub rules : Bytes
+  pub path : Path
   pub is_dir : Bool
 
 -- `d` is a directory, `f` is none, and other words are invalid
-abbrev pub kind_of : List ℕ → Option Bool
+abbrev pub kind_of : Bytes → Option Bool
 kind_of word = if bytes_eq word (codes "d") then Some true else (if bytes_eq word (codes "f") then Some false else None)
 
-abbrev pub ask : List ℕ → List ℕ → List ℕ → Option Bool → Option Question
+abbrev pub ask : Path → Bytes → Path → Option Bool → Option Question
 ask root rules path None = None
 ask root rules path (Some is_dir) = Some (record { root = root; rules = rules; path = path; is_dir = is_dir })
 
 -- `match ROOT RULES PATH d|f`
-abbrev pub question_of : List (List ℕ) → Option Question
+abbrev pub question_of : List Bytes → Option Question
 question_of (command ∷ root ∷ rules ∷ path ∷ kind ∷ []) =
     if bytes_eq command (codes "match") then ask root rules path (kind_of kind) else None
 question_of _ = None

@@ -2,6 +2,7 @@
 ghost use Rattle.std.specs.Prelude.{◌≡◌, ◌≢◌, ◌≤◌, ◌⊎◌, ◌==◌, [], ℕ, List, None, Some, true, false, ⊤, OnOk, IfOk, IfErr, codes, length, map, string_bytes, if◌then◌else◌};
 ghost use Rattle.std.specs.Io.KnownBytes.{Appends};
 ghost use Rattle.std.specs.Str.Lines.{lines};
+ghost use Rattle.ignore_base.specs.Text.{Path};
 ghost use Rattle.ignore_base.specs.Errors.{problem_text};
 ghost use Rattle.ignore_base.specs.Problem.{problem_of, memory};
 ghost use Rattle.ignore_rules.specs.Rules.{begun, built};
@@ -74,9 +75,9 @@ fn add_lines<E: Write>(
     rules: &str,
     err: &mut E,
 ) -> Result<bool, Stop>
-    ensures added { (root : List ℕ) → builder.old ≡ begun root
+    ensures added { (root : Path) → builder.old ≡ begun root
         → IfOk result (AddsAll root (lines rules.now) builder.new (Appends (E.contents err.old) (E.contents err.new))) }
-    ensures ended { (root : List ℕ) → builder.old ≡ begun root
+    ensures ended { (root : Path) → builder.old ≡ begun root
         → IfErr result (EndsLines root (lines rules.now) (Appends (E.contents err.old) (E.contents err.new))) }
 {
     let mut number = 0u64;
@@ -174,7 +175,8 @@ pub fn run<W: Write, E: Write>(
     ensures prints { (question : Question) → question_of (map string_bytes words.now) ≡ Some question
         → IfOk result (λ status. Prints question status (Appends (W.contents out.old) (W.contents out.new))
         (Appends (E.contents err.old) (E.contents err.new))
-        ⊎ ((status ≡ 2) × EndsReported question (Appends (W.contents out.old) (W.contents out.new)) (Appends (E.contents err.old) (E.contents err.new)))) }
+        ⊎ ((status ≡ 2) × EndsReported question (Appends (W.contents out.old) (W.contents out.new))
+        (Appends (E.contents err.old) (E.contents err.new)))) }
     ensures unreported { (question : Question) → question_of (map string_bytes words.now) ≡ Some question
         → IfErr result (Ends question (Appends (W.contents out.old) (W.contents out.new)) (λ reported. ⊤)) }
     ensures status { IfOk result (λ status. status ≤ 2) }

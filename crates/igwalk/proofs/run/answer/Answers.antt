@@ -7,5 +7,12 @@ use Rattle.igwalk.proofs.run.answer.Goals as goal
 
 -- out of memory for a builder, nothing is reported
 pub returns-in_default-clause-ended : goal.returns-in_default-clause-ended
-returns-in_default-clause-ended g c =
-    (appends_nothing (g.W.Write.contents c.args.out.now), ([], lines c.args.request.rules.now, refl, (begun c.args.request.root.now, [], no_line, appends_nothing (g.E.Write.contents c.args.err.now))))
+returns-in_default-clause-ended g c = (
+  appends_nothing (g.W.Write.contents c.args.out.now),
+  (
+    [],
+    lines c.args.request.rules.now,
+    refl,
+    (begun c.args.request.root.now, [], no_line, appends_nothing (g.E.Write.contents c.args.err.now)),
+  ),
+)

@@ -9,22 +9,30 @@ use Rattle.igwalk.proofs.run.run.Goals as goal
 
 pub returns-in-Err-clause-prints : goal.returns-in-Err-clause-prints
 returns-in-Err-clause-prints g c = λ question is.
-    let asked : Some (request_view c.in-Some.request) ≡ Some question = sym (ap (option_map request_view) c.in-Some.is) ∙ c.read_words.ensures ∙ is in
+    let asked : Some (request_view c.in-Some.request) ≡ Some question = sym (ap (option_map request_view) c.in-Some.is)
+    ∙ c.read_words.ensures ∙ is in
     let same : request_view c.in-Some.request ≡ question = cc in
     let out = Appends (g.W.Write.contents c.args.out.now) (g.W.Write.contents c.answer.new.out) in
     let before = g.E.Write.contents c.args.err.now in
     let middle = g.E.Write.contents c.answer.new.err in
     let after = g.E.Write.contents c.report_stop-in-Err.new.err in
     IfOk-weaker c.report_stop-in-Err.result _ _
-    (λ status h. inr (h.0, subst (λ (q : Question). EndsReported q out (Appends before after)) same (ends_reported (request_view c.in-Some.request) out before middle after c.in-Err.stop c.in-Err.ensures.ended h.1 h.2)))
+    (λ status h. inr (
+      h.0,
+      subst (λ (q : Question). EndsReported q out (Appends before after)) same
+          (ends_reported (request_view c.in-Some.request) out before middle after c.in-Err.stop c.in-Err.ensures.ended h.1 h.2),
+    ))
     c.report_stop-in-Err.ensures.reports
 
 pub returns-in-Err-clause-unreported : goal.returns-in-Err-clause-unreported
 returns-in-Err-clause-unreported g c = λ question is.
-    let asked : Some (request_view c.in-Some.request) ≡ Some question = sym (ap (option_map request_view) c.in-Some.is) ∙ c.read_words.ensures ∙ is in
+    let asked : Some (request_view c.in-Some.request) ≡ Some question = sym (ap (option_map request_view) c.in-Some.is)
+    ∙ c.read_words.ensures ∙ is in
     let same : request_view c.in-Some.request ≡ question = cc in
     let out = Appends (g.W.Write.contents c.args.out.now) (g.W.Write.contents c.answer.new.out) in
     let reported = Appends (g.E.Write.contents c.args.err.now) (g.E.Write.contents c.answer.new.err) in
     IfErr-weaker c.report_stop-in-Err.result _ _
-    (λ why h. subst (Ends question out (λ reported. ⊤)) (sym h) (subst (λ (q : Question). Ends q out (λ reported. ⊤) c.in-Err.stop) same (ends_anyhow (request_view c.in-Some.request) out reported c.in-Err.stop c.in-Err.ensures.ended)))
+    (λ why h. subst (Ends question out (λ reported. ⊤)) (sym h)
+    (subst (λ (q : Question). Ends q out (λ reported. ⊤) c.in-Err.stop) same
+    (ends_anyhow (request_view c.in-Some.request) out reported c.in-Err.stop c.in-Err.ensures.ended)))
     c.report_stop-in-Err.ensures.unreported
