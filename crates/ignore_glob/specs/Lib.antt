@@ -12,4 +12,5 @@ pub mod NodeLists
 pub mod Positions
 pub mod Codes
 pub mod Reading
+pub mod DoesMatch
 pub mod Forms

@@ -6,48 +6,50 @@ use Rattle.std.proofs.lemmas.List.Elements.{All-cons, All-nil}
 use Rattle.std.proofs.lemmas.List.Sums.{sum_by-cons}
 use Rattle.ignore_base.specs.declared.match_result.Match.{Match}
 use Rattle.ignore_base.specs.declared.match_result.Match.TheVariants.{None, Ignore, Whitelist}
+use Rattle.ignore_glob.specs.DoesMatch.{does_match}
 use Rattle.ignore_base.specs.Match.{match_or}
+use Rattle.ignore_glob.specs.Reading.{Reading, Matches}
 use Rattle.ignore_rules.specs.Rules.{Rule, ignore_count, whitelist_count}
-use Rattle.ignore_rules.specs.DoesMatch.{does_match}
 use Rattle.ignore_rules.specs.Answer.{does_apply, decision_of, rule_answer, list_answer, Applies, IsLast, IsAnswer}
-use Rattle.ignore_rules.proofs.DoesMatchLemmas.{matching_decided}
 
 applies_to_kind : (only_dir is_dir : Bool) → Decides (not only_dir || is_dir) ((only_dir ≡ false) ⊎ (is_dir ≡ true))
 applies_to_kind false is_dir = (λ _. inl refl, λ _. refl)
 applies_to_kind true is_dir = (λ e. inr e, λ h. elim h [ inl wrong ↦ absurd (false≢true (sym wrong)) | inr e ↦ e ])
 
-pub applies_decided : (text : List ℕ) (is_dir : Bool) (rule : Rule) → Decides (does_apply text is_dir rule) (Applies text is_dir rule)
-applies_decided text is_dir rule =
-    Decides-and (not rule.is_only_dir || is_dir) (does_match rule.reading text) (applies_to_kind rule.is_only_dir is_dir)
-    (matching_decided rule.reading text)
+-- The law that the test of matching decides matching is handed in.
+module _ (decides : (reading : Reading) (text : List ℕ) → Decides (does_match reading text) (Matches reading text)) where
+  pub applies_decided : (text : List ℕ) (is_dir : Bool) (rule : Rule) → Decides (does_apply text is_dir rule) (Applies text is_dir rule)
+  applies_decided text is_dir rule =
+      Decides-and (not rule.is_only_dir || is_dir) (does_match rule.reading text) (applies_to_kind rule.is_only_dir is_dir)
+      (decides rule.reading text)
 
--- one rule alone
-alone : (text : List ℕ) (is_dir : Bool) (rule : Rule) (rules : List Rule) → IsAnswer rules text is_dir None → (yes : Bool) (flag : Bool)
-    → does_apply text is_dir rule ≡ yes → rule.is_whitelist ≡ flag
-    → IsAnswer (rule ∷ rules) text is_dir (cond yes (cond flag (Whitelist rule) (Ignore rule)) None)
-alone text is_dir rule rules none true true e f =
-    (record { before = []; after = rules; place = refl; applies = (applies_decided text is_dir rule).0 e; last = none }, f)
-alone text is_dir rule rules none true false e f =
-    (record { before = []; after = rules; place = refl; applies = (applies_decided text is_dir rule).0 e; last = none }, f)
-alone text is_dir rule rules none false flag e f =
-    All-cons (λ r. Applies text is_dir r → ⊥) rule rules (not_from_Decides _ (applies_decided text is_dir rule) e) none
+  -- one rule alone
+  alone : (text : List ℕ) (is_dir : Bool) (rule : Rule) (rules : List Rule) → IsAnswer rules text is_dir None → (yes : Bool) (flag : Bool)
+      → does_apply text is_dir rule ≡ yes → rule.is_whitelist ≡ flag
+      → IsAnswer (rule ∷ rules) text is_dir (cond yes (cond flag (Whitelist rule) (Ignore rule)) None)
+  alone text is_dir rule rules none true true e f =
+      (record { before = []; after = rules; place = refl; applies = (applies_decided text is_dir rule).0 e; last = none }, f)
+  alone text is_dir rule rules none true false e f =
+      (record { before = []; after = rules; place = refl; applies = (applies_decided text is_dir rule).0 e; last = none }, f)
+  alone text is_dir rule rules none false flag e f =
+      All-cons (λ r. Applies text is_dir r → ⊥) rule rules (not_from_Decides _ (applies_decided text is_dir rule) e) none
 
--- a rule before those that decide changes nothing
-further : (text : List ℕ) (is_dir : Bool) (rule decider : Rule) (rules : List Rule) → IsLast rules text is_dir decider
-    → IsLast (rule ∷ rules) text is_dir decider
-further text is_dir rule decider rules h =
-    record { before = rule ∷ h.before; after = h.after; place = ap (λ l. rule ∷ l) h.place; applies = h.applies; last = h.last }
+  -- a rule before those that decide changes nothing
+  further : (text : List ℕ) (is_dir : Bool) (rule decider : Rule) (rules : List Rule) → IsLast rules text is_dir decider
+      → IsLast (rule ∷ rules) text is_dir decider
+  further text is_dir rule decider rules h =
+      record { before = rule ∷ h.before; after = h.after; place = ap (λ l. rule ∷ l) h.place; applies = h.applies; last = h.last }
 
-before_all : (text : List ℕ) (is_dir : Bool) (rule : Rule) (rules : List Rule) (m : Match Rule) → IsAnswer rules text is_dir m
-    → IsAnswer (rule ∷ rules) text is_dir (match_or m (rule_answer text is_dir rule))
-before_all text is_dir rule rules None h = alone text is_dir rule rules h (does_apply text is_dir rule) rule.is_whitelist refl refl
-before_all text is_dir rule rules (Ignore decider) h = (further text is_dir rule decider rules h.0, h.1)
-before_all text is_dir rule rules (Whitelist decider) h = (further text is_dir rule decider rules h.0, h.1)
+  before_all : (text : List ℕ) (is_dir : Bool) (rule : Rule) (rules : List Rule) (m : Match Rule) → IsAnswer rules text is_dir m
+      → IsAnswer (rule ∷ rules) text is_dir (match_or m (rule_answer text is_dir rule))
+  before_all text is_dir rule rules None h = alone text is_dir rule rules h (does_apply text is_dir rule) rule.is_whitelist refl refl
+  before_all text is_dir rule rules (Ignore decider) h = (further text is_dir rule decider rules h.0, h.1)
+  before_all text is_dir rule rules (Whitelist decider) h = (further text is_dir rule decider rules h.0, h.1)
 
-pub answer_by_the_last : (rules : List Rule) (text : List ℕ) (is_dir : Bool) → IsAnswer rules text is_dir (list_answer rules text is_dir)
-answer_by_the_last [] text is_dir = All-nil (λ r. Applies text is_dir r → ⊥)
-answer_by_the_last (rule ∷ rules) text is_dir =
-    before_all text is_dir rule rules (list_answer rules text is_dir) (answer_by_the_last rules text is_dir)
+  pub answer_by_the_last : (rules : List Rule) (text : List ℕ) (is_dir : Bool) → IsAnswer rules text is_dir (list_answer rules text is_dir)
+  answer_by_the_last [] text is_dir = All-nil (λ r. Applies text is_dir r → ⊥)
+  answer_by_the_last (rule ∷ rules) text is_dir =
+      before_all text is_dir rule rules (list_answer rules text is_dir) (answer_by_the_last rules text is_dir)
 
 -- One rule of a list, the later ones having no answer: how a scan from the end goes on.
 module _ (rules : List Rule) (text : List ℕ) (is_dir : Bool) where

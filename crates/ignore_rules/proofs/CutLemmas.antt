@@ -70,10 +70,10 @@ ended_line bytes line rest fault e =
     ∙ (line_before line first.0 first.1 fault ∙ ap (λ l. decoded (strip_carriage_return line) ∷ l) behind))
 
 -- a byte that is the first of its kind is the end of the first line
-pub first_line : (bytes : List ℕ) (k : ℕ) (fault : Option Fault) → k < length bytes → Passes (is_byte 10) bytes k
+pub line_before_newline : (bytes : List ℕ) (k : ℕ) (fault : Option Fault) → k < length bytes → Passes (is_byte 10) bytes k
     → Nowhere (Passes (is_byte 10) bytes) 0 k → lines_read bytes fault
     ≡ decoded (strip_carriage_return (take k bytes)) ∷ lines_read (drop (k + 1) bytes) fault
-first_line bytes k fault l here before =
+line_before_newline bytes k fault l here before =
     let cut = cut_at bytes k l here (λ i h. false_from_ne_true _ (before i (omega arith) h)) in
     ended_line bytes (take k bytes) (drop (k + 1) bytes) fault
     (cut ∙ ap (λ n. take k bytes ∷ slice_split (λ b. eqb b 10) (drop n bytes)) (sym (add-one k)))
@@ -101,7 +101,7 @@ here_then : (bytes : List ℕ) (fault : Option Fault) (at end : ℕ) (rest line 
     → lines_read (drop at bytes) fault ≡ decoded line ∷ lines_read (drop (at + (end + 1)) bytes) fault
 here_then bytes fault at end rest line same found is =
     ap (λ l. lines_read l fault) (sym same)
-    ∙ (first_line rest end fault found.0.high found.1 found.0.before
+    ∙ (line_before_newline rest end fault found.0.high found.1 found.0.before
     ∙ (ap (λ l. decoded l ∷ lines_read (drop (end + 1) rest) fault) (sym is)
     ∙ (ap (λ l. decoded line ∷ lines_read (drop (end + 1) l) fault) same
     ∙ ap (λ l. decoded line ∷ lines_read l fault) (drop-drop (end + 1) at bytes))))

@@ -2,6 +2,7 @@
 -- of a value that is consistent with a tree adds what the tree's file adds.
 use Rattle.std.proofs.Common.{◌≡◌, ℕ, ◌+◌, List, ◌∷◌, Option, Some, None, Result, Ok, Err, refl, sym, ap, ◌∙◌, subst}
 use Rattle.ignore_base.specs.declared.fault.Fault.{Fault}
+use Rattle.ignore_base.specs.Errors.{without_fault}
 use Rattle.ignore_base.specs.Problem.{Problem, joined}
 use Rattle.ignore_files.specs.declared.env.Env.{Env}
 use Rattle.ignore_files.specs.declared.types.Contents.{Contents}
@@ -13,7 +14,7 @@ use Rattle.ignore_files.specs.Gives.{IsHonest}
 use Rattle.ignore_files.specs.Tree.{Tree, Answers}
 use Rattle.ignore_rules.specs.Rules.{Building, Ruleset, begun, built}
 use Rattle.ignore_rules.specs.RuleFile.{AddsLines, done, stopped, added, refused, AddsContents, AddsFile, AddsAnswer, at_line_of, line_content, lines_read}
-use Rattle.ignore_rules.specs.Matchers.{BuildsFile, BuildsWith, BuildsGlobal, IsMatcherOf, IsGlobalIn, IsGlobalMatcher, folder_of, global_file, without_fault}
+use Rattle.ignore_rules.specs.Matchers.{BuildsFile, BuildsWith, BuildsGlobal, IsMatcherOf, IsGlobalIn, IsGlobalMatcher, folder_of, global_file}
 use Rattle.ignore_rules.proofs.LinesOnly.{AddsLine-one, Refuses-one, AddsLine-never}
 use Rattle.ignore_excludes.proofs.ExcludesPlaces.{IsExcludesPath-one}
 

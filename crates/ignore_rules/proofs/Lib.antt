@@ -4,8 +4,8 @@ pub mod CutLemmas
 pub mod FileLemmas
 pub mod FolderLemmas
 pub mod MarkLemmas
+pub mod OffsetLemmas
 pub mod ParentLemmas
-pub mod DoesMatchLemmas
 pub mod TextLemmas
 pub mod TrailingLemmas
 mod WorkedLines

@@ -1,14 +1,14 @@
 -- The answer of a list of rules.
-use Rattle.std.specs.Prelude.{◌≡◌, ◌⊎◌, ℕ, Bool, true, false, not, ◌&&◌, ◌||◌, List, [], ◌∷◌, ◌++◌, All, if◌then◌else◌}
+use Rattle.std.specs.Prelude.{◌≡◌, ◌⊎◌, ℕ, Bool, true, false, not, ◌&&◌, ◌||◌, List, [], ◌∷◌, ◌++◌, drop, All, if◌then◌else◌}
 use Rattle.std.specs.Str.{chars}
 use Rattle.ignore_base.specs.Text.{Chars, Path}
 use Rattle.ignore_base.specs.declared.match_result.Match.{Match}
 use Rattle.ignore_base.specs.declared.match_result.Match.TheVariants.{None, Ignore, Whitelist}
+use Rattle.ignore_glob.specs.DoesMatch.{does_match}
 use Rattle.ignore_base.specs.Match.{match_or}
-use Rattle.ignore_base.specs.Paths.{strip_of}
+use Rattle.ignore_base.specs.Paths.{strip_of, trim_of, join_of, joined, directory_of, offset_below, IsName, IsCleanRoot}
 use Rattle.ignore_glob.specs.Reading.{Matches}
-use Rattle.ignore_rules.specs.Rules.{Rule}
-use Rattle.ignore_rules.specs.DoesMatch.{does_match}
+use Rattle.ignore_rules.specs.Rules.{Rule, Building, built}
 
 -- the rule matches the text, and a rule for directories only is asked for a directory
 abbrev pub does_apply : Chars → Bool → Rule → Bool
@@ -30,6 +30,16 @@ list_answer (rule ∷ rules) text is_dir = match_or (list_answer rules text is_d
 -- the answer of rules relative to a root for a path
 abbrev pub answer : Path → List Rule → Path → Bool → Match Rule
 answer root rules path is_dir = list_answer rules (chars (strip_of root path)) is_dir
+
+-- a matcher that is relative to a directory below a clean root: its answer for a path below the
+-- directory is that of its rules for what follows the offset of the directory
+abbrev pub AnswersByOffset : Type 0
+AnswersByOffset =
+    (root : List ℕ) (names : List (List ℕ)) (name : List ℕ) (more : List (List ℕ)) (builder : Building) (is_dir : Bool)
+    → IsCleanRoot root → All IsName names → IsName name → All IsName more → builder.root ≡ trim_of (directory_of root names)
+    → let path = join_of root (joined (names ++ (name ∷ more))) in
+    answer (built builder).root (built builder).rules path is_dir
+    ≡ list_answer (built builder).rules (chars (drop (offset_below (directory_of root names)) path)) is_dir
 
 -- The same in other words, without an order in which rules are tried.
 

@@ -1,5 +1,4 @@
 pub mod Line
-pub mod DoesMatch
 pub mod Rules
 pub mod RuleCodes
 pub mod Answer

@@ -1,9 +1,9 @@
 -- Matchers that are built from files: from one file, and from the global file.
-use Rattle.std.specs.Prelude.{◌≡◌, ◌⊎◌, ◌==◌, ◌&&◌, ℕ, Bool, true, false, List, length, codes, Option, None, Some, is_some, Result, Ok, Err, if◌then◌else◌}
+use Rattle.std.specs.Prelude.{◌≡◌, ◌⊎◌, ◌==◌, ◌&&◌, ℕ, Bool, true, false, List, length, codes, Option, None, Some, Result, Ok, Err, if◌then◌else◌}
 use Rattle.ignore_base.specs.Text.{Path}
 use Rattle.ignore_base.specs.declared.fault.Fault.{Fault}
 use Rattle.ignore_base.specs.declared.fault.Fault.TheVariants.{NoCurrentDir}
-use Rattle.ignore_base.specs.Errors.{io_fault}
+use Rattle.ignore_base.specs.Errors.{without_fault}
 use Rattle.ignore_base.specs.Paths.{is_absolute, joined, components}
 use Rattle.ignore_base.specs.Problem.{Problem, io}
 use Rattle.ignore_files.specs.declared.env.Env.{Env}
@@ -21,11 +21,6 @@ use Rattle.ignore_rules.specs.RuleFile.{AddsFile, AddsAnswer}
 -- and empty for a path without a slash
 abbrev pub folder_of : Path → Path
 folder_of path = let folder = joined (but_last (components path)) in if is_absolute path && length folder == 0 then codes "/" else folder
-
--- the problem, unless it is a fault of the file system
-abbrev pub without_fault : Option Problem → Option Problem
-without_fault None = None
-without_fault (Some problem) = if is_some (io_fault problem) then None else Some problem
 
 -- the matcher of the builder after the file was added, and the problem that is reported
 abbrev pub BuildsFile : Tree → Path → Building → Ruleset → Option Problem → Type 0

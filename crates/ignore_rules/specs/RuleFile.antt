@@ -49,6 +49,16 @@ abbrev pub lines_read : List ℕ → Option Fault → List (Result (List ℕ) Fa
 lines_read bytes None = map decoded (lines bytes)
 lines_read bytes (Some fault) = map decoded (ended_lines bytes) ++ Err fault ∷ []
 
+-- the first of what is read, line by line: a line, none where nothing is read, or a fault
+abbrev pub first_read : List (Result (List ℕ) Fault) → Result (Option (List ℕ)) Fault
+first_read [] = Ok None
+first_read (Ok line ∷ more) = Ok (Some line)
+first_read (Err fault ∷ more) = Err fault
+
+-- the first line of what was read of a file: `a` of the bytes `a\r\nb`, and none of an empty file
+abbrev pub first_line : Contents → Result (Option (List ℕ)) Fault
+first_line contents = first_read (lines_read contents.bytes contents.fault)
+
 -- a problem in a file: an empty path isn't reported
 abbrev pub in_file : List ℕ → Problem → Problem
 in_file [] problem = problem
@@ -105,6 +115,23 @@ Gives path read options rules problem =
 abbrev pub GivesOneResult : Type 0
 GivesOneResult =
     (path : List ℕ) (read : Result Contents Fault) (options : LineOptions) → (rules : List Rule) × (problem : Option Problem) × Gives path read options rules problem
+
+-- whatever was read at a path, it can be added to any builder
+abbrev pub AddsSomething : Type 0
+AddsSomething =
+    (path : List ℕ) (read : Result Contents Fault) (old : Building) → (new : Building) × (problem : Option Problem) × AddsContents path read old new problem
+
+-- adding it leads to one builder, with one problem, if any
+abbrev pub AddsOneThing : Type 0
+AddsOneThing =
+    (path : List ℕ) (read : Result Contents Fault) (old new other : Building) (problem reported : Option Problem)
+    → AddsContents path read old new problem → AddsContents path read old other reported → (new ≡ other) × (problem ≡ reported)
+
+-- adding it keeps the root and the options
+abbrev pub KeepsTheRoot : Type 0
+KeepsTheRoot =
+    (path : List ℕ) (read : Result Contents Fault) (old new : Building) (problem : Option Problem)
+    → AddsContents path read old new problem → (new.root ≡ old.root) × (new.options ≡ old.options)
 
 -- the problem is out of memory
 abbrev pub is_memory : Problem → Bool

@@ -12,6 +12,7 @@ mod open;
 mod parents;
 
 pub use builder::GitignoreBuilder;
+pub use file::first_line;
 pub use glob::Glob;
 pub use ignore_excludes::gitconfig_excludes_path;
 pub use matcher::Gitignore;

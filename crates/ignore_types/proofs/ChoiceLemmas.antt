@@ -1,14 +1,6 @@
 -- Lists of choices and globs, one at a time.
 use Rattle.std.proofs.Common.{◌≡◌, ℕ, zero, suc, ◌+◌, ◌<◌, List, [], ◌∷◌, ◌++◌, length, get_or, take, drop, map, sym, ap, inl, inr, arith, add-one}
 use Rattle.std.specs.List.{AllZip}
-use Rattle.ignore_glob.specs.Reading.{Reading, Matches}
-use Rattle.ignore_types.specs.TypeMatch.{SomeMatches}
-
-pub SomeMatches-at : (name : List ℕ) (rs : List Reading) (i : ℕ) (d : Reading) → i < length rs → Matches (get_or rs i d) name
-    → SomeMatches name rs
-SomeMatches-at name [] i d within matches = absurd (omega arith)
-SomeMatches-at name (r ∷ rs) zero d within matches = inl matches
-SomeMatches-at name (r ∷ rs) (suc i) d within matches = inr (SomeMatches-at name rs i d (omega arith) matches)
 
 -- a list is what stands before an element, the element and what stands after it
 pub split-at : {A : Type 0} (xs : List A) (i : ℕ) (x : A) → i < length xs → x ≡ get_or xs i x → xs ≡ take i xs ++ x ∷ drop (suc i) xs

@@ -3,3 +3,4 @@ mod TypeLemmas
 mod ListLemmas
 mod ChoiceLemmas
 mod TypesOnly
+mod TypeAnswers

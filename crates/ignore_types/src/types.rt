@@ -4,6 +4,7 @@ mod chosen;
 mod definition;
 mod definitions;
 mod fields;
+pub mod laws;
 mod matcher;
 mod name;
 mod selection;

@@ -1,9 +1,11 @@
 //! Laws of parsing globs, each as the contract of a function that does nothing.
-ghost use Rattle.std.specs.Prelude.{◌≡◌, ◌⊎◌, ◌↔◌, ◌+◌, ◌*◌, ◌≤◌, ℕ, Bool, List, Result, [], Ok, Err, length, map};
+ghost use Rattle.std.specs.Prelude.{◌≡◌, ◌⊎◌, ◌↔◌, ◌+◌, ◌*◌, ◌≤◌, ℕ, Bool, List, Result, [], Ok, Err, length, map, IsTrue};
 ghost use Rattle.ignore_glob.specs.Lexing.{Lexeme, Lexed};
 ghost use Rattle.ignore_glob.specs.Glob.{Tokens};
 ghost use Rattle.ignore_glob.specs.Matches.{glob_matches};
 ghost use Rattle.ignore_glob.specs.Positions.{first, the_end, Entry, table, positions, IsMarked, HasNoDuplicates, CountsMarks};
+ghost use Rattle.ignore_glob.specs.DoesMatch.{does_match};
+ghost use Rattle.ignore_glob.specs.Reading.{Reading, Matches};
 ghost use Rattle.ignore_glob.specs.Row.{Reads, IsFaulty};
 ghost use Rattle.ignore_glob.specs.declared.glob.options.Options.{Options};
 ghost use Rattle.ignore_glob.specs.declared.glob.fault.GlobFault.{GlobFault};
@@ -21,6 +23,11 @@ pub fn one_reading()
     ensures one { (o : Options) (text : List ℕ) (ts us : Tokens) → Reads o text ts → Reads o text us → ts ≡ us }
     ensures one_fault { (o : Options) (text : List ℕ) (f g : GlobFault) → IsFaulty o text f → IsFaulty o text g → f ≡ g }
     ensures never_both { (o : Options) (text : List ℕ) (ts : Tokens) (f : GlobFault) → Reads o text ts → IsFaulty o text f → ⊥ }
+{}
+
+/// The test of matching is true exactly where a pattern matches the text.
+pub fn matching_is_decided()
+    ensures { (reading : Reading) (text : List ℕ) → IsTrue (does_match reading text) ↔ Matches reading text }
 {}
 
 /// A glob matches a text exactly where its end is marked at the end of the text.

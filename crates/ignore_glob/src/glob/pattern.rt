@@ -2,6 +2,7 @@
 ghost use Rattle.std.specs.Prelude.{◌≡◌, ◌-◌, ◌^◌, ◌↔◌, ℕ, IsTrue, IfOk, IfErr, length, min};
 ghost use Rattle.std.specs.Coded.{Coded-set, coded_list};
 ghost use Rattle.std.specs.Str.{chars};
+ghost use Rattle.ignore_glob.specs.DoesMatch.{does_match};
 ghost use Rattle.ignore_glob.specs.Forms.{key_form, form_of};
 ghost use Rattle.ignore_glob.specs.Positions.{CountsMarks, positions};
 ghost use Rattle.ignore_glob.specs.NodeLists.{glob_nodes, node_code, nodes_view};
@@ -92,6 +93,7 @@ impl Pattern {
     pub fn matches(&self, text: &str) -> Result<bool, Error>
         ensures out_of_memory { IfErr result (λ e. problem_of e ≡ memory) }
         ensures value { IfOk result (λ yes. IsTrue yes ↔ Matches self.now (chars text.now)) }
+        ensures decided { IfOk result (λ yes. yes ≡ does_match self.now (chars text.now)) }
     {
         match self.matches_counted(text) {
             Ok((yes, _)) => Ok(yes),

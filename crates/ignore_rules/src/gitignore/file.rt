@@ -1,13 +1,14 @@
 //! Adding files of rules to a builder.
 ghost use Rattle.std.specs.Prelude.{◌≡◌, ◌⊎◌, ◌++◌, ◌∷◌, [], ◌<◌, ◌≤◌, ◌+◌, length, take, drop, map, None, Some, Ok, Err, IfOk, IfErr, OnOk, OnErr, option_map, List, Result};
+ghost use Rattle.std.specs.Option.{option_copied};
 ghost use Rattle.std.specs.Str.Lines.{strip_carriage_return};
 ghost use Rattle.ignore_files.specs.declared.types.Contents.{Contents};
 ghost use Rattle.ignore_files.specs.declared.types.Refusal.{Refusal};
 ghost use Rattle.ignore_files.specs.Gives.{IsHonest};
 ghost use Rattle.ignore_files.specs.Tree.{Tree};
-ghost use Rattle.ignore_base.specs.Problem.{problem_of, memory, at_path, io, Problem};
+ghost use Rattle.ignore_base.specs.Problem.{problem_of, memory, io, Problem};
 ghost use Rattle.ignore_rules.specs.Rules.{AddsLine, Refuses};
-ghost use Rattle.ignore_rules.specs.RuleFile.{AddsFile, AddsAnswer, AddsContents, AddsLines, lines_read, at_line_of, in_file, is_memory, line_content, unmarked};
+ghost use Rattle.ignore_rules.specs.RuleFile.{AddsFile, AddsAnswer, AddsContents, AddsLines, first_line, lines_read, at_line_of, in_file, is_memory, line_content, unmarked};
 ghost use Rattle.ignore_rules.specs.RuleSteps.{IsOneSegment, IsLineRead, IsLastLineRead, IsLineAt, AddsOrReports, Keeps};
 
 use crate::gitignore::builder::GitignoreBuilder;
@@ -53,7 +54,7 @@ impl GitignoreBuilder {
         match files.contents(self.allocator(), path) {
             Ok(contents) => self.add_contents(path, &contents),
             Err(Refusal::Fault(fault)) => {
-                let error = at_path(self.allocator(), path, Error::from(fault))?;
+                let error = Error::from(fault).with_path(self.allocator(), path)?;
                 Ok(Some(error))
             }
             Err(Refusal::Memory) => Err(Error::Memory),
@@ -144,6 +145,22 @@ impl GitignoreBuilder {
     }
 }
 
+/// For dependents: the first line of what was read of a file, as lines are read in a file of rules;
+/// none where there is no line. A U+FEFF stays.
+///
+/// # Errors
+/// The fault that keeps the line from being read whole.
+pub fn first_line(contents: &Contents) -> Result<Option<&str>, Fault>
+    ensures value { IfOk result (λ line. first_line contents.now ≡ Ok (option_copied line)) }
+    ensures fault { IfErr result (λ fault. first_line contents.now ≡ Err fault) }
+{
+    match line_at(contents.bytes.as_slice(), 0, contents.fault) {
+        Line::Text(text, _) => Ok(Some(text)),
+        Line::Fault(fault) => Err(fault),
+        Line::End => Ok(None),
+    }
+}
+
 fn line_at(bytes: &[u8], at: usize, fault: Option<Fault>) -> Line<'_>
     requires { at ≤ length bytes.now }
     ensures { IsLineAt bytes.now fault at result }
@@ -214,14 +231,6 @@ fn at_line(alloc: Global, path: &str, line: u64, err: Error) -> Result<Error, Al
     if path.is_empty() {
         Ok(error)
     } else {
-        at_path(alloc, path, error)
+        error.with_path(alloc, path)
     }
-}
-
-fn at_path(alloc: Global, path: &str, err: Error) -> Result<Error, AllocError>
-    ensures { IfOk result (λ e. problem_of e ≡ at_path path.now (problem_of err)) }
-{
-    let path = String::from_str(alloc, path)?;
-    let err = Box::new(alloc, err)?;
-    Ok(Error::WithPath { path, err })
 }

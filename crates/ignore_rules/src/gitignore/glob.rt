@@ -6,7 +6,7 @@ ghost use Rattle.ignore_base.specs.Match.{match_map};
 ghost use Rattle.ignore_base.specs.Problem.{problem_of, memory};
 ghost use Rattle.ignore_rules.specs.Answer.{does_apply, decision_of};
 ghost use Rattle.ignore_rules.specs.Rules.{read_rule};
-ghost use Rattle.ignore_rules.specs.DoesMatch.{does_match};
+ghost use Rattle.ignore_glob.specs.DoesMatch.{does_match};
 
 use crate::gitignore::line::ParsedLine;
 use ignore_base::{Error, Match};
@@ -117,10 +117,7 @@ impl Glob {
         ensures out_of_memory { IfErr result (λ e. problem_of e ≡ memory) }
         ensures value { IfOk result (λ yes. yes ≡ does_match self.now.reading (chars text.now)) }
     {
-        match self.pattern.matches(text) {
-            Ok(yes) => Ok(yes),
-            Err(e) => Err(e),
-        }
+        self.pattern.matches(text)
     }
 
     pub(crate) fn decision(&self) -> Match<&Glob>

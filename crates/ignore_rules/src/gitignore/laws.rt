@@ -1,20 +1,17 @@
 //! Laws of the definitions, as calls that do nothing: each contract is the law.
-ghost use Rattle.std.specs.Prelude.{◌↔◌, IsTrue, ℕ, List};
-ghost use Rattle.ignore_glob.specs.Reading.{Reading, Matches};
-ghost use Rattle.ignore_rules.specs.Answer.{AnswersByTheLast};
-ghost use Rattle.ignore_rules.specs.RuleFile.{GivesOneResult};
-ghost use Rattle.ignore_rules.specs.DoesMatch.{does_match};
+ghost use Rattle.ignore_rules.specs.Answer.{AnswersByOffset, AnswersByTheLast};
+ghost use Rattle.ignore_rules.specs.RuleFile.{AddsOneThing, AddsSomething, GivesOneResult, KeepsTheRoot};
 
-/// The test of matching is true exactly where a pattern matches the text.
-pub fn matching_is_decided()
-    ensures { (reading : Reading) (text : List ℕ) → IsTrue (does_match reading text) ↔ Matches reading text }
-{}
+use ignore_base::text::offset_law;
+use ignore_glob::glob::laws::matching_is_decided;
 
 /// The answer of a list of rules is that of its last rule that applies: the one with the greatest
 /// index that matches the text and applies to the kind.
 pub fn the_last_rule_decides()
     ensures { AnswersByTheLast }
-{}
+{
+    matching_is_decided();
+}
 
 /// Reading a file of rules gives one result: whatever was read, there is one list of rules and one
 /// problem, or none, such that adding it to any builder with the same options appends these rules
@@ -23,3 +20,20 @@ pub fn the_last_rule_decides()
 pub fn a_file_gives_one_result()
     ensures { GivesOneResult }
 {}
+
+/// Whatever was read of a file, adding it to a builder leads somewhere, to one builder with one
+/// problem, or none, and keeps the root and the options of the builder.
+pub fn a_file_adds_one_thing()
+    ensures some { AddsSomething }
+    ensures one { AddsOneThing }
+    ensures kept { KeepsTheRoot }
+{}
+
+/// A matcher relative to a directory below a clean root needn't strip it from each path: `matched`
+/// of a path below the directory is `answer` of what follows the offset of the directory
+/// (`text::offset_below`), which is found once.
+pub fn an_offset_strips()
+    ensures { AnswersByOffset }
+{
+    offset_law();
+}

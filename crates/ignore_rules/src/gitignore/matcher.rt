@@ -111,8 +111,20 @@ impl Gitignore {
         if self.is_empty() {
             return Ok(Match::None);
         }
-        let path = strip(self.root.as_str(), path);
-        last_answer(&self.globs, path, is_dir)
+        self.answer(strip(self.root.as_str(), path), is_dir)
+    }
+
+    /// For dependents: as `matched`, of what is left of a path below the root when the root is
+    /// stripped. Nothing is stripped here, so that a walk, which knows where in a path the names
+    /// below a directory begin (`text::offset_below`), asks about slices of one path.
+    ///
+    /// # Errors
+    /// `Error::Memory` alone.
+    pub fn answer(&self, stripped: &str, is_dir: bool) -> Result<Match<&Glob>, Error>
+        ensures answered { IfOk result (λ m. match_map (λ g. g.now) m ≡ list_answer self.now.rules (chars stripped.now) is_dir) }
+        ensures out_of_memory { IfErr result (λ e. problem_of e ≡ memory) }
+    {
+        last_answer(&self.globs, stripped, is_dir)
     }
 }
 

@@ -5,7 +5,7 @@ ghost use Rattle.ignore_files.specs.declared.types.Refusal.{Refusal};
 ghost use Rattle.ignore_files.specs.Gives.{IsHonest};
 ghost use Rattle.ignore_files.specs.Tree.{Tree};
 ghost use Rattle.ignore_base.specs.Problem.{problem_of, memory};
-ghost use Rattle.ignore_rules.specs.Matchers.{IsMatcherOf, BuildsFile, BuildsAnswer, folder_of, without_fault};
+ghost use Rattle.ignore_rules.specs.Matchers.{IsMatcherOf, BuildsFile, BuildsAnswer, folder_of};
 ghost use Rattle.ignore_rules.specs.Rules.{begun};
 
 use crate::gitignore::builder::GitignoreBuilder;
@@ -56,7 +56,7 @@ impl GitignoreBuilder {
         ensures out_of_memory { IfErr result (λ e. problem_of e ≡ memory) }
     {
         let error = self.add(files, path)?;
-        Ok((self.into_gitignore(), without_fault(error)))
+        Ok((self.into_gitignore(), Error::without_fault(error)))
     }
 }
 
@@ -68,15 +68,5 @@ fn folder_of(path: &str) -> &str
         None => "",
         Some(0) => "/",
         Some(slash) => &path[..slash],
-    }
-}
-
-/// The error, unless it is a fault.
-pub(crate) fn without_fault(error: Option<Error>) -> Option<Error>
-    ensures { option_map problem_of result ≡ without_fault (option_map problem_of error) }
-{
-    match error {
-        None => None,
-        Some(error) => { if error.is_io() { None } else { Some(error) } }
     }
 }

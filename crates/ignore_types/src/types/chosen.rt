@@ -1,10 +1,12 @@
 //! A chosen type of a matcher.
-ghost use Rattle.std.specs.Prelude.{◌≡◌, ◌⊎◌, ◌↔◌, ℕ, IsTrue, IfOk, IfErr, MatchOption, map, not, string_bytes, Some};
+ghost use Rattle.std.specs.Prelude.{◌≡◌, ◌⊎◌, ℕ, IfOk, IfErr, MatchOption, map, not, string_bytes, Some};
 ghost use Rattle.std.specs.List.{AllZip, list_any};
 ghost use Rattle.std.specs.Str.{chars};
 ghost use Rattle.ignore_base.specs.Problem.{problem_of, memory, glob as glob_problem};
+ghost use Rattle.ignore_glob.specs.DoesMatch.{does_match};
 ghost use Rattle.ignore_glob.specs.GlobFaults.{glob_fault_text};
-ghost use Rattle.ignore_types.specs.TypeMatch.{SomeMatches, NoneMatches, IsDeciding};
+ghost use Rattle.ignore_types.specs.TypeMatch.{choices_answer, does_choice_match, verdict_of};
+ghost use Rattle.ignore_base.specs.declared.match_result.Match.TheVariants.{None};
 ghost use Rattle.ignore_types.specs.Building.{plain, IsReadAs, FirstBad, IsGlobProblem};
 
 use crate::types::definition::FileTypeDef;
@@ -59,7 +61,7 @@ impl ChosenType {
     /// Whether some glob of the type matches the name.
     pub(super) fn matches(&self, name: &str) -> Result<bool, Error>
         ensures out_of_memory { IfErr result (λ e. problem_of e ≡ memory) }
-        ensures value { IfOk result (λ yes. IsTrue yes ↔ SomeMatches (chars name.now) self.now.readings) }
+        ensures value { IfOk result (λ yes. yes ≡ does_choice_match (chars name.now) self.now) }
     {
         some_matches(&self.patterns, name)
     }
@@ -83,37 +85,28 @@ impl Clone for ChosenType {
 
 fn some_matches(patterns: &[Pattern], name: &str) -> Result<bool, Error>
     ensures out_of_memory { IfErr result (λ e. problem_of e ≡ memory) }
-    ensures value { IfOk result (λ yes. IsTrue yes ↔ SomeMatches (chars name.now) patterns.now) }
+    ensures value { IfOk result (λ yes. yes ≡ list_any (λ r. does_match r (chars name.now)) patterns.now) }
 {
     for pattern in patterns {
-        let matches = match pattern.matches(name) {
-            Ok(yes) => yes,
-            Err(e) => return Err(e),
-        };
-        if matches {
+        if pattern.matches(name)? {
             return Ok(true);
         }
     }
     Ok(false)
 }
 
-/// The choice of the last glob that matches the name.
-pub(super) fn deciding<'a>(
+/// The last choice that matches the name.
+pub(super) fn last_choice<'a>(
     choices: &'a [ChosenType],
     name: &str,
 ) -> Result<Option<&'a ChosenType>, Error>
     ensures out_of_memory { IfErr result (λ e. problem_of e ≡ memory) }
-    ensures value { IfOk result (λ found. MatchOption found (NoneMatches (chars name.now) choices.now) (λ c. IsDeciding (chars name.now) choices.now c.now)) }
+    ensures value { IfOk result (λ found. MatchOption found (choices_answer choices.now (chars name.now) ≡ None) (λ c. choices_answer choices.now (chars name.now) ≡ verdict_of c.now)) }
 {
-    let mut i = choices.len();
-    while i > 0 {
-        i -= 1;
-        let matches = match choices[i].matches(name) {
-            Ok(yes) => yes,
-            Err(e) => return Err(e),
-        };
-        if matches {
-            return Ok(Some(&choices[i]));
+    for i in (0..choices.len()).rev() {
+        let choice = &choices[i];
+        if choice.matches(name)? {
+            return Ok(Some(choice));
         }
     }
     Ok(None)

@@ -2,11 +2,12 @@
 ghost use Rattle.std.specs.Prelude.{◌≡◌, ◌==◌, [], length, IfOk, IfErr};
 ghost use Rattle.std.specs.Option.{option_copied};
 ghost use Rattle.std.specs.Str.{chars};
+ghost use Rattle.ignore_base.specs.Match.{match_or};
 ghost use Rattle.ignore_base.specs.Problem.{problem_of, memory};
 ghost use Rattle.ignore_base.specs.Paths.{file_name_of};
-ghost use Rattle.ignore_types.specs.TypeMatch.{verdict_of, unmatched, IsNameAnswer, IsTypeAnswer};
+ghost use Rattle.ignore_types.specs.TypeMatch.{choices_answer, type_answer, unmatched, verdict_of};
 
-use crate::types::chosen::{ChosenType, deciding, some_selected};
+use crate::types::chosen::{ChosenType, last_choice, some_selected};
 use crate::types::definition::FileTypeDef;
 use ignore_base::text::file_name;
 use ignore_base::{Error, Match};
@@ -123,7 +124,7 @@ impl Types {
     /// # Errors
     /// `Error::Memory` alone.
     pub fn matched(&self, path: &str, is_dir: bool) -> Result<Match<Glob<'_>>, Error>
-        ensures decided { IfOk result (IsTypeAnswer self.now.choices is_dir (file_name_of path.now)) }
+        ensures answered { IfOk result (λ m. m ≡ type_answer self.now.choices is_dir (file_name_of path.now)) }
         ensures out_of_memory { IfErr result (λ e. problem_of e ≡ memory) }
     {
         if is_dir {
@@ -153,12 +154,11 @@ impl Clone for Types {
 
 fn matched_name<'a>(choices: &'a [ChosenType], name: &str) -> Result<Match<Glob<'a>>, Error>
     ensures out_of_memory { IfErr result (λ e. problem_of e ≡ memory) }
-    ensures decided { IfOk result (IsNameAnswer choices.now (chars name.now)) }
+    ensures answered { IfOk result (λ m. m ≡ match_or (choices_answer choices.now (chars name.now)) (unmatched choices.now)) }
 {
-    match deciding(choices, name) {
-        Ok(Some(choice)) => Ok(verdict(choice)),
-        Ok(None) => Ok(unmatched(choices)),
-        Err(e) => Err(e),
+    match last_choice(choices, name)? {
+        Some(choice) => Ok(verdict(choice)),
+        None => Ok(unmatched(choices)),
     }
 }
 

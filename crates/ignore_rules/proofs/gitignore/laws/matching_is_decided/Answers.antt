@@ -1,5 +1,0 @@
-use Rattle.ignore_rules.proofs.DoesMatchLemmas.{matching_decided}
-use Rattle.ignore_rules.proofs.gitignore.laws.matching_is_decided.Goals as goal
-
-pub returns : goal.returns
-returns c reading text = matching_decided reading text
