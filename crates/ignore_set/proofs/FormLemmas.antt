@@ -153,7 +153,7 @@ not_done rest text e some is = some (emptied (ap literals (sym is) ∙ e))
 star_not_done : (rest : Tokens) → then star rest ≢ done
 star_not_done rest e = cc
 
-slash_byte : encodes (47 ∷ []) ≡ 47 ∷ []
+pub slash_byte : encodes (47 ∷ []) ≡ 47 ∷ []
 unfolding encode_utf8
 slash_byte = refl
 

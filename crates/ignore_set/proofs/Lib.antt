@@ -1,4 +1,5 @@
 pub mod FormLemmas
 pub mod EndLemmas
-pub mod SetLemmas
+pub mod IndexLemmas
+pub mod SlotLemmas
 mod WorkedForms

@@ -1,32 +1,42 @@
 //! An index over patterns that their owner keeps.
-ghost use Rattle.std.specs.Prelude.{◌≡◌, ◌≤◌, [], IfOk, IfErr, map};
+ghost use Rattle.std.specs.Prelude.{◌≡◌, ◌⊎◌, ◌+◌, ◌<◌, ◌≤◌, ◌^◌, ◌++◌, ◌∷◌, [], ℕ, IfOk, IfErr, List, length, map, slice_get, Some};
 ghost use Rattle.std.specs.Str.{chars};
-ghost use Rattle.ignore_glob.specs.Forms.{form_of, key_form};
 ghost use Rattle.ignore_base.specs.Problem.{problem_of, memory};
-ghost use Rattle.ignore_set.specs.Index.{IsIndexOf};
-ghost use Rattle.ignore_set.specs.Sets.{IsLastMatch, pass_bound};
+ghost use Rattle.ignore_glob.specs.Forms.{form_of, key_form};
+ghost use Rattle.ignore_set.specs.Index.{IsIndexOf, IsExactOf, IsFoundFrom};
+ghost use Rattle.ignore_set.specs.Sets.{Member, Applies, IsLastMatch, pass_bound};
 
 use crate::candidate::applies;
 use crate::has_pattern::HasPattern;
+use crate::table::Table;
+use crate::text::Ending;
 use ignore_base::Error;
 use ignore_glob::glob::Key;
 use std::alloc::{AllocError, Global};
 
 /// For dependents that keep values with patterns in a list of their own: what is needed to find the
 /// last of them that matches a text.
+///
+/// A pattern of literals, alone or after `**/` or `**/*`, stands in a table under its text; only the
+/// others are tried one by one.
 #[derive(Debug, Drop)]
 pub struct Index {
-    keys: Vec<Key>,
+    whole: Table,
+    names: Table,
+    ends: Table,
+    others: Vec<usize>,
 }
 
 impl Index {
     /// The index of no patterns.
-    #[tactic(auto, unfolding(crate::specs::Index::IsIndexOf))]
     pub fn empty(alloc: Global) -> Index
         ensures { IsIndexOf result [] }
     {
         Index {
-            keys: Vec::new(alloc),
+            whole: Table::new(alloc),
+            names: Table::new(alloc),
+            ends: Table::new(alloc),
+            others: Vec::new(alloc),
         }
     }
 
@@ -34,13 +44,12 @@ impl Index {
     ///
     /// # Errors
     /// `Error::Memory` alone.
-    #[tactic(auto, unfolding(crate::specs::Index::IsIndexOf))]
     pub fn new<M: HasPattern>(alloc: Global, members: &[M]) -> Result<Index, Error>
         ensures value { IfOk result (λ index. IsIndexOf index (map M.member members.now)) }
         ensures out_of_memory { IfErr result (λ e. problem_of e ≡ memory) }
     {
-        match keys_of(alloc, members) {
-            Ok(keys) => Ok(Index { keys }),
+        match index_of(alloc, members) {
+            Ok(index) => Ok(index),
             Err(_) => Err(Error::Memory),
         }
     }
@@ -71,7 +80,6 @@ impl Index {
     ///
     /// # Errors
     /// `Error::Memory` alone.
-    #[tactic(auto, unfolding(crate::specs::Index::IsIndexOf))]
     pub fn last_match_counted<M: HasPattern>(
         &self,
         members: &[M],
@@ -83,42 +91,80 @@ impl Index {
         ensures count { IfOk result (λ r. r.1 ≤ pass_bound (map M.member members.now)) }
         ensures out_of_memory { IfErr result (λ e. problem_of e ≡ memory) }
     {
-        last_in(members, &self.keys, text, is_dir)
+        let exact = self.last_exact(text, is_dir);
+        match last_other(members, &self.others, exact, text, is_dir) {
+            Ok((after, passes)) => Ok((after.checked_sub(1), passes)),
+            Err(error) => Err(error),
+        }
+    }
+
+    /// One more than the greatest index that the tables have for the text.
+    fn last_exact(&self, text: &str, is_dir: bool) -> usize
+        ensures { (ms : List Member) → IsIndexOf self.now ms → IsExactOf text.now is_dir ms result }
+    {
+        let whole = self.whole.under(text, is_dir);
+        let name = self.names.under_ends(Ending::Name, text, is_dir);
+        let end = self.ends.under_ends(Ending::End, text, is_dir);
+        whole.max(name).max(end)
+    }
+
+    /// Adds the pattern that follows those that the index has.
+    fn add(&mut self, key: Key, index: usize, only_dir: bool) -> Result<(), AllocError>
+        requires { index + 1 < 2 ^ 64 }
+        ensures { IfOk result (λ _. (ms : List Member) (m : Member) → IsIndexOf self.old ms → length ms ≡ index → form_of m.reading ≡ key_form key → m.only_dir ≡ only_dir → IsIndexOf self.new (ms ++ m ∷ [])) }
+    {
+        match key {
+            Key::Whole(text) => self.whole.put(text, index, only_dir),
+            Key::Name(text) => self.names.put(text, index, only_dir),
+            Key::End(text) => self.ends.put(text, index, only_dir),
+            Key::Other => {
+                self.others.push(index)?;
+                Ok(())
+            }
+        }
     }
 }
 
-fn last_in<M: HasPattern>(
+fn index_of<M: HasPattern>(alloc: Global, members: &[M]) -> Result<Index, AllocError>
+    ensures { IfOk result (λ index. IsIndexOf index (map M.member members.now)) }
+{
+    let mut index = Index::empty(alloc);
+    for (i, member) in members.iter().enumerate() {
+        index.add(member.pattern().key()?, i, member.is_only_dir())?;
+    }
+    Ok(index)
+}
+
+/// One more than the greatest index among these, and `best`, that applies, and how many passes
+/// over positions that took.
+fn last_other<M: HasPattern>(
     members: &[M],
-    keys: &[Key],
+    others: &[usize],
+    best: usize,
     text: &str,
     is_dir: bool,
-) -> Result<(Option<usize>, u64), Error>
-    requires { map key_form keys.now ≡ map (λ m. form_of m.reading) (map M.member members.now) }
-    ensures value { IfOk result (λ r. IsLastMatch (chars text.now) is_dir (map M.member members.now) r.0) }
-    ensures count { IfOk result (λ r. r.1 ≤ pass_bound (map M.member members.now)) }
+) -> Result<(usize, u64), Error>
+    requires within { (j a : ℕ) → slice_get others.now j ≡ Some a → a < length members.now }
+    requires rising { (j k a b : ℕ) → j < k → slice_get others.now j ≡ Some a → slice_get others.now k ≡ Some b → a < b }
+    ensures value { IfOk result (λ r. IsFoundFrom (chars text.now) is_dir (map M.member members.now) others.now best r.0) }
+    ensures count { IfOk result (λ r. r.1 ≤ length others.now) }
     ensures out_of_memory { IfErr result (λ e. problem_of e ≡ memory) }
 {
     let mut passes = 0u64;
-    for i in (0..members.len()).rev() {
-        match applies(&members[i], &keys[i], text, is_dir) {
+    for j in (0..others.len()).rev() {
+        let i = others[j];
+        if i < best {
+            return Ok((best, passes));
+        }
+        match applies(&members[i], text, is_dir) {
             Ok((yes, count)) => {
                 passes = passes.saturating_add(count);
                 if yes {
-                    return Ok((Some(i), passes));
+                    return Ok((i + 1, passes));
                 }
             }
             Err(error) => return Err(error),
         }
     }
-    Ok((None, passes))
-}
-
-fn keys_of<M: HasPattern>(alloc: Global, members: &[M]) -> Result<Vec<Key>, AllocError>
-    ensures { IfOk result (λ keys. map key_form keys.items ≡ map (λ m. form_of m.reading) (map M.member members.now)) }
-{
-    let mut keys = Vec::new(alloc);
-    for member in members {
-        keys.push(member.pattern().key()?)?;
-    }
-    Ok(keys)
+    Ok((best, passes))
 }

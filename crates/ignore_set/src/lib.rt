@@ -6,6 +6,7 @@ mod entry;
 mod has_pattern;
 mod index;
 mod set;
+mod table;
 mod text;
 
 pub use has_pattern::HasPattern;

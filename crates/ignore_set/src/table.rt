@@ -1,0 +1,126 @@
+//! Patterns of one form, by the text under which each stands.
+ghost use Rattle.std.specs.Prelude.{◌≡◌, ◌+◌, ◌<◌, ◌≤◌, ◌^◌, ℕ, IfOk, List, length, cond, string_bytes};
+ghost use Rattle.std.specs.List.{IsAmong};
+ghost use Rattle.std.specs.Str.{IsUtf8, bytes_eq};
+ghost use Rattle.ignore_set.specs.Index.{Fits, StandsUnderEnd, after, slot_at, slot_with};
+
+use crate::text::{Ending, end_of, fits};
+use std::alloc::{AllocError, Global};
+use std::collections::BTreeMap;
+
+/// One more than the greatest index of a pattern, for files and for directories; 0 where there is
+/// none.
+#[derive(Clone, Copy, Debug)]
+pub(crate) struct Slot {
+    file: usize,
+    dir: usize,
+}
+
+/// The last pattern under each text, and the lengths that the texts have.
+#[derive(Debug, Drop)]
+pub(crate) struct Table {
+    slots: BTreeMap<String, Slot>,
+    lengths: Vec<usize>,
+}
+
+impl Slot {
+    fn with(self, index: usize, only_dir: bool) -> Slot
+        requires { index + 1 < 2 ^ 64 }
+        ensures { result ≡ slot_with index only_dir self }
+    {
+        let after = index + 1;
+        Slot {
+            file: if only_dir { self.file } else { after },
+            dir: after,
+        }
+    }
+
+    fn after(self, is_dir: bool) -> usize
+        ensures { result ≡ after is_dir self }
+    {
+        if is_dir { self.dir } else { self.file }
+    }
+}
+
+impl Table {
+    pub(crate) fn new(alloc: Global) -> Table
+        ensures { (text : List ℕ) → slot_at result text ≡ record { file = 0; dir = 0 } }
+    {
+        Table {
+            slots: BTreeMap::new(alloc),
+            lengths: Vec::new(alloc),
+        }
+    }
+
+    /// Puts the pattern of an index, greater than those before, under a text.
+    pub(crate) fn put(
+        &mut self,
+        text: String,
+        index: usize,
+        only_dir: bool,
+    ) -> Result<(), AllocError>
+        requires { index + 1 < 2 ^ 64 }
+        ensures slots { IfOk result (λ _. (q : List ℕ) → slot_at self.new q ≡ cond (bytes_eq (string_bytes text) q) (slot_with index only_dir (slot_at self.old q)) (slot_at self.old q)) }
+        ensures length { IfOk result (λ _. IsUtf8 (string_bytes text) × IsAmong self.new.lengths.items (length (string_bytes text))) }
+        ensures lengths { IfOk result (λ _. (n : ℕ) → IsAmong self.old.lengths.items n → IsAmong self.new.lengths.items n) }
+    {
+        let slot = self.slot(text.as_str()).with(index, only_dir);
+        note(&mut self.lengths, text.as_str().len())?;
+        self.slots.insert(text, slot)?;
+        Ok(())
+    }
+
+    fn slot(&self, text: &str) -> Slot
+        ensures { result ≡ slot_at self.now text.now }
+    {
+        match self.slots.get(text) {
+            Some(slot) => *slot,
+            None => Slot { file: 0, dir: 0 },
+        }
+    }
+
+    /// One more than the index of the last pattern under a text.
+    pub(crate) fn under(&self, text: &str, is_dir: bool) -> usize
+        ensures { result ≡ after is_dir (slot_at self.now text.now) }
+    {
+        self.slot(text).after(is_dir)
+    }
+
+    /// One more than the greatest index of a pattern under an end of the text.
+    pub(crate) fn under_ends(&self, ending: Ending, text: &str, is_dir: bool) -> usize
+        ensures found { StandsUnderEnd ending self.now is_dir text.now result }
+        ensures greatest { (end : List ℕ) → Fits ending end text.now → IsUtf8 end → IsAmong self.now.lengths.items (length end) → after is_dir (slot_at self.now end) ≤ result }
+    {
+        let mut best = 0usize;
+        for size in &self.lengths {
+            best = best.max(self.under_end(ending, text, *size, is_dir));
+        }
+        best
+    }
+
+    fn under_end(&self, ending: Ending, text: &str, size: usize, is_dir: bool) -> usize
+        ensures found { StandsUnderEnd ending self.now is_dir text.now result }
+        ensures greatest { (end : List ℕ) → Fits ending end text.now → IsUtf8 end → length end ≡ size → after is_dir (slot_at self.now end) ≤ result }
+    {
+        match end_of(text, size) {
+            None => 0,
+            Some(end) => {
+                if fits(ending, text, end) {
+                    self.under(end, is_dir)
+                } else {
+                    0
+                }
+            }
+        }
+    }
+}
+
+fn note(lengths: &mut Vec<usize>, size: usize) -> Result<(), AllocError>
+    ensures length { IfOk result (λ _. IsAmong lengths.new.items size) }
+    ensures kept { IfOk result (λ _. (n : ℕ) → IsAmong lengths.old.items n → IsAmong lengths.new.items n) }
+{
+    if !lengths.contains(&size) {
+        lengths.push(size)?;
+    }
+    Ok(())
+}
