@@ -1,0 +1,53 @@
+//! Whether all that is timed answers the same, on a small part of the stored data.
+
+use crate::globs::{Row, braced};
+use crate::input::{first_lines, matcher_of, pattern_of, patterns_of};
+use crate::matcher::{Matcher, OneByOne, count};
+use crate::rules::set_of;
+use ignore_base::Error;
+use std::fs;
+
+/// How many texts are taken, and how many paths and rules.
+const TEXTS: usize = 400;
+
+const RULES: usize = 100;
+
+/// Prints for each glob how many texts are matched by each matcher, and for the first rules how
+/// many paths are matched by each way of asking them.
+pub fn check(rt: &HostRuntime) -> Result<(), Error> {
+    let text = fs::read_to_string(rt, "texts")?;
+    let texts = first_lines(rt.alloc(), text.as_str(), TEXTS)?;
+    let globs = fs::read_to_string(rt, "globs")?;
+    for line in globs.lines() {
+        check_row(rt, Row::of(line), texts.as_slice())?;
+    }
+    let paths = fs::read_to_string(rt, "ignored")?;
+    let rules = fs::read_to_string(rt, "rules")?;
+    check_rules(rt, rules.as_str(), paths.as_str())
+}
+
+fn check_row(rt: &HostRuntime, row: Row<'_>, texts: &[&str]) -> Result<(), Error> {
+    let plain = counted(row.plain(rt.alloc())?, texts)?;
+    let pattern = counted(pattern_of(rt.alloc(), row.glob)?, texts)?;
+    let braced = counted(braced(rt.alloc(), row.glob)?, texts)?;
+    let glob = row.glob;
+    println!(rt; "{glob}: plain {plain}, pattern {pattern}, in braces {braced}")?;
+    Ok(())
+}
+
+fn check_rules(rt: &HostRuntime, rules: &str, paths: &str) -> Result<(), Error> {
+    let alloc = rt.alloc();
+    let paths = first_lines(alloc, paths, RULES)?;
+    let matcher = matcher_of(alloc, rules, RULES)?;
+    let set = counted(set_of(alloc, &matcher)?, paths.as_slice())?;
+    let list = counted(OneByOne(patterns_of(alloc, &matcher)?), paths.as_slice())?;
+    let rules = matcher.len();
+    let matcher = counted(matcher, paths.as_slice())?;
+    println!(rt; "{rules} rules: set {set}, matcher {matcher}, one by one {list}")?;
+    Ok(())
+}
+
+/// How many of the texts a matcher matches.
+fn counted<M: Matcher + Drop>(mut matcher: M, texts: &[&str]) -> Result<u64, Error> {
+    count(&mut matcher, texts)
+}

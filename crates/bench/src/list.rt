@@ -1,0 +1,37 @@
+//! The paths that rules ignore, as `git check-ignore --stdin` lists them.
+
+use crate::input::matcher_of;
+use ignore_base::Error;
+use ignore_rules::gitignore::Gitignore;
+use std::fs;
+use std::io::{BufWriter, Write};
+
+/// Prints those of the paths in a file, none of a directory, that the rules of another file ignore,
+/// or a directory above.
+pub fn list(rt: &HostRuntime, rules: &str, paths: &str) -> Result<(), Error> {
+    let rules = fs::read_to_string(rt, rules)?;
+    let paths = fs::read_to_string(rt, paths)?;
+    let matcher = matcher_of(rt.alloc(), rules.as_str(), usize::MAX)?;
+    let mut out = BufWriter::new(rt.alloc(), rt.stdout())?;
+    for path in paths.lines() {
+        if is_ignored(&matcher, path)? {
+            writeln!(out, "{path}")?;
+        }
+    }
+    out.flush()?;
+    Ok(())
+}
+
+/// Whether the path, not of a directory, or a directory above it is ignored. One that isn't under
+/// the root is not.
+fn is_ignored(matcher: &Gitignore, path: &str) -> Result<bool, Error> {
+    if matcher.is_under_root(path) {
+        Ok(
+            matcher
+                .matched_path_or_any_parents(path, false)?
+                .is_ignore(),
+        )
+    } else {
+        Ok(false)
+    }
+}
