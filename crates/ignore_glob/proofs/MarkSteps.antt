@@ -16,18 +16,23 @@ flags_of nodes S T flags len same closed = record {
 }
 
 module _ (fold : Bool) (nodes : List Node) (text : List ℕ) where
-  -- the marks at the next offset
+  -- the marks at the next offset, as any set; as flags
+  pub marked_past : (S N : ℕ → Type 0) (i c : ℕ) → ((q : ℕ) → S q ↔ Marked fold nodes text i q) → slice_get text i ≡ Some c
+      → ((q : ℕ) → N q ↔ Reached nodes (SteppedTo fold nodes S c) q) → (q : ℕ) → N q ↔ Marked fold nodes text (suc i) q
+  marked_past S N i c now at past q =
+      let from : ℕ → Type 0 = SteppedTo fold nodes S c in
+      let T : ℕ → Type 0 = λ k. (d : ℕ) × (slice_get text i ≡ Some d) × SteppedTo fold nodes (Marked fold nodes text i) d k in
+      let to : (k : ℕ) → from k → T k = λ k s. (c, at, (s.0, s.1, (now s.0).0 s.2, s.3, s.4)) in
+      let back : (k : ℕ) → T k → from k = λ k t. (let same : t.0 ≡ c = cc (at, t.1) in
+      let P : ℕ → Type 0 = λ d. StepsBy fold t.2.1 d t.2.0 k in
+      (t.2.0, t.2.1, (now t.2.0).1 t.2.2, t.2.3, subst P same t.2.4)) in
+      ((λ f. Reached-mono nodes from T to q ((past q).0 f)), (λ r. (past q).1 (Reached-mono nodes T from back q r)))
+
   pub marked_next : (flags next : List Bool) (i c : ℕ) → AreFlags nodes (Marked fold nodes text i) flags → slice_get text i ≡ Some c
       → length next ≡ length nodes + 1 → ((q : ℕ) → IsFlagged next q ↔ Reached nodes (SteppedTo fold nodes (IsFlagged flags) c) q)
       → AreFlags nodes (Marked fold nodes text (suc i)) next
   marked_next flags next i c now at len past =
-      let S : ℕ → Type 0 = SteppedTo fold nodes (IsFlagged flags) c in
-      let T : ℕ → Type 0 = λ q. (d : ℕ) × (slice_get text i ≡ Some d) × SteppedTo fold nodes (Marked fold nodes text i) d q in
-      let to : (q : ℕ) → S q → T q = λ q s. (c, at, (s.0, s.1, (now.flagged s.0).0 s.2, s.3, s.4)) in
-      let back : (q : ℕ) → T q → S q = λ q t. (let same : t.0 ≡ c = cc (at, t.1) in
-      let P : ℕ → Type 0 = λ d. StepsBy fold t.2.1 d t.2.0 q in
-      (t.2.0, t.2.1, (now.flagged t.2.0).1 t.2.2, t.2.3, subst P same t.2.4)) in
-      flags_of nodes S T next len (λ q. (to q, back q)) past
+      record { len = len; flagged = marked_past (IsFlagged flags) (IsFlagged next) i c now.flagged at past }
 
   -- the marks up to the next offset
   pub count_next : (next : List Bool) (i n : ℕ) → Count fold nodes text i n → AreFlags nodes (Marked fold nodes text (suc i)) next

@@ -14,3 +14,4 @@ pub mod Codes
 pub mod Reading
 pub mod DoesMatch
 pub mod Forms
+pub mod Words

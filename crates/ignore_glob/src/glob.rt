@@ -13,9 +13,11 @@ mod member;
 mod node;
 mod nodes;
 mod options;
+mod pass;
 mod pattern;
 mod read;
 mod token;
+mod word;
 
 pub use fault::{GlobFault, PatternError};
 pub use key::Key;

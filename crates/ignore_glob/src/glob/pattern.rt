@@ -1,6 +1,6 @@
 //! A parsed glob, and the texts that it matches.
-ghost use Rattle.std.specs.Prelude.{◌≡◌, ◌-◌, ◌^◌, ◌↔◌, ℕ, IsTrue, IfOk, IfErr, length, min};
-ghost use Rattle.std.specs.Coded.{Coded-set, coded_list};
+ghost use Rattle.std.specs.Prelude.{◌≡◌, ◌+◌, ◌-◌, ◌*◌, ◌^◌, ◌≤◌, ◌↔◌, ℕ, false, IsTrue, IsOk, IfOk, IfErr, length, min};
+ghost use Rattle.std.specs.Coded.{Coded-set, coded_list, coded_option};
 ghost use Rattle.std.specs.Str.{chars};
 ghost use Rattle.ignore_glob.specs.DoesMatch.{does_match};
 ghost use Rattle.ignore_glob.specs.Forms.{key_form, form_of};
@@ -11,16 +11,18 @@ ghost use Rattle.ignore_base.specs.Problem.{problem_of, memory};
 ghost use Rattle.ignore_glob.specs.Reading.{Matches};
 ghost use Rattle.ignore_glob.specs.Row.{Reads, IsFaulty};
 ghost use Rattle.ignore_glob.specs.View.{tokens_view};
+ghost use Rattle.ignore_glob.specs.Words.{has_braces, masks_code, word_of};
 
 use crate::glob::copies::copied;
 use crate::glob::fault::PatternError;
 use crate::glob::key::{Key, key_of};
-use crate::glob::marks;
 use crate::glob::node::Node;
 use crate::glob::nodes::nodes_of;
 use crate::glob::options::Options;
+use crate::glob::pass;
 use crate::glob::read::read;
 use crate::glob::token::Token;
+use crate::glob::word::{Masks, word_of};
 use ignore_base::Error;
 use std::alloc::{AllocError, Global};
 use std::marker::Model;
@@ -33,8 +35,10 @@ use std::marker::Model;
 pub struct Pattern {
     tokens: Vec<Token>,
     nodes: Vec<Node>,
+    masks: Option<Masks>,
     case_insensitive: bool,
     ghost compiled: { nodes_view nodes.items ≡ glob_nodes (tokens_view tokens.items) } by { Coded-set (coded_list node_code) _ _ },
+    ghost masked: { masks ≡ word_of (nodes_view nodes.items) } by { Coded-set (coded_option masks_code) _ _ },
 }
 
 impl Model for Pattern {
@@ -59,14 +63,16 @@ impl Pattern {
         ensures { IfOk result (λ p. p ≡ record { tokens = tokens_view tokens.items; case_insensitive = case_insensitive }) }
     {
         let nodes = nodes_of(*tokens.allocator(), &tokens)?;
+        let masks = word_of(&nodes);
         Ok(Pattern {
             tokens,
             nodes,
+            masks,
             case_insensitive,
         })
     }
 
-    /// Parses a glob.
+    /// Parses a glob, which has at most as many positions as characters.
     ///
     /// # Errors
     /// `PatternError::Fault` with the leftmost parse error, exactly where the glob is invalid, or
@@ -74,50 +80,47 @@ impl Pattern {
     pub fn parse(alloc: Global, glob: &str, options: Options) -> Result<Pattern, PatternError>
         ensures reading { IfOk result (λ p. Reads options (chars glob.now) p.tokens) }
         ensures case { IfOk result (λ p. p.case_insensitive ≡ options.case_insensitive) }
+        ensures bounded { IfOk result (λ p. positions p.tokens ≤ length (chars glob.now)) }
         ensures fault { IfErr result (λ e. IfFault e (λ f. IsFaulty options (chars glob.now) f)) }
     {
-        match read(alloc, glob, options) {
-            Ok(tokens) => match Pattern::from_tokens(tokens, options.case_insensitive) {
-                Ok(pattern) => Ok(pattern),
-                Err(_) => Err(PatternError::Memory),
-            },
-            Err(error) => Err(error),
-        }
+        let tokens = read(alloc, glob, options)?;
+        Ok(Pattern::from_tokens(tokens, options.case_insensitive)?)
     }
 
     /// Whether the glob matches the whole text.
     ///
     /// # Errors
     /// `Error::Memory` alone, since the positions that are reached are kept for the time of the
-    /// call.
+    /// call. Without braces and with at most 62 positions there is no error: no memory is requested.
     pub fn matches(&self, text: &str) -> Result<bool, Error>
         ensures out_of_memory { IfErr result (λ e. problem_of e ≡ memory) }
         ensures value { IfOk result (λ yes. IsTrue yes ↔ Matches self.now (chars text.now)) }
         ensures decided { IfOk result (λ yes. yes ≡ does_match self.now (chars text.now)) }
+        ensures succeeds { has_braces self.now.tokens ≡ false → positions self.now.tokens ≤ 62 → IsOk result }
     {
-        match self.matches_counted(text) {
-            Ok((yes, _)) => Ok(yes),
-            Err(e) => Err(e),
-        }
+        let alloc = *self.nodes.allocator();
+        Ok(pass::matches(alloc, self.case_insensitive, &self.nodes, self.masks, text)?)
     }
 
     /// As `matches`, with the number of marks: the pairs of a position of the glob and an offset in
     /// the text that are reached from its first position at the start of the text, by the steps of
     /// the glob and the characters of the text. No pair is reached twice, so this bounds the work.
+    /// The number stops at `u64::MAX`.
     ///
     /// # Errors
-    /// `Error::Memory` alone.
+    /// `Error::Memory` alone, and none where `matches` has none.
     pub fn matches_counted(&self, text: &str) -> Result<(bool, u64), Error>
         ensures out_of_memory { IfErr result (λ e. problem_of e ≡ memory) }
         ensures value { IfOk result (λ found. IsTrue found.0 ↔ Matches self.now (chars text.now)) }
         ensures counted { IfOk result (λ found. (n : ℕ) × CountsMarks self.now.case_insensitive self.now.tokens (chars text.now) n
             × (found.1 ≡ min n (2 ^ 64 - 1))) }
+        ensures least { IfOk result (λ found. 1 ≤ found.1) }
+        ensures matched { IfOk result (λ found. IsTrue found.0 → min (length (chars text.now) + 1) (2 ^ 64 - 1) ≤ found.1) }
+        ensures most { IfOk result (λ found. found.1 ≤ (positions self.now.tokens + 1) * (length (chars text.now) + 1)) }
+        ensures succeeds { has_braces self.now.tokens ≡ false → positions self.now.tokens ≤ 62 → IsOk result }
     {
         let alloc = *self.nodes.allocator();
-        match marks::matches_counted(alloc, self.case_insensitive, &self.nodes, text) {
-            Ok(found) => Ok(found),
-            Err(_) => Err(Error::Memory),
-        }
+        Ok(pass::matches_counted(alloc, self.case_insensitive, &self.nodes, self.masks, text)?)
     }
 
     /// How many positions the glob has: one for each token, inside branches too, and a second one

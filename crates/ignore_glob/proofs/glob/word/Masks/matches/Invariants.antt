@@ -1,0 +1,12 @@
+use Rattle.std.proofs.Common.{◌↔◌, ℕ, length}
+use Rattle.std.specs.Str.{chars}
+use Rattle.ignore_glob.specs.Nodes.{Marked}
+use Rattle.ignore_glob.specs.NodeLists.{nodes_view}
+use Rattle.ignore_glob.specs.Words.{Has}
+use Rattle.ignore_glob.proofs.glob.word.Masks.matches.Given as goal
+
+abbrev pub invariant-loop-c : goal.invariant-loop-c
+invariant-loop-c l = record {
+  continues : (goal.iterator-loop-c).can_next l.c-iterator × (goal.iterator-loop-c).is_finite l.c-iterator;
+  marks : (q : ℕ) → Has l.here q ↔ Marked l.fold (nodes_view l.nodes) (chars l.text) (length l.yielded) q;
+}
