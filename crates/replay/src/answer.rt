@@ -3,7 +3,65 @@
 
 use serde_json::{Map, Value};
 use std::alloc::{AllocError, Global};
-use vectors::{Outcome, Trouble};
+
+/// What an answer can hold.
+pub trait Written {
+    /// It as a value.
+    fn written(self, alloc: Global) -> Result<Value, AllocError>;
+}
+
+impl Written for &str {
+    fn written(self, alloc: Global) -> Result<Value, AllocError> {
+        Value::try_from_str(alloc, self)
+    }
+}
+
+impl Written for &String {
+    fn written(self, alloc: Global) -> Result<Value, AllocError> {
+        Value::try_from_str(alloc, self.as_str())
+    }
+}
+
+impl Written for bool {
+    fn written(self, _alloc: Global) -> Result<Value, AllocError> {
+        Ok(Value::Bool(self))
+    }
+}
+
+impl Written for u64 {
+    fn written(self, _alloc: Global) -> Result<Value, AllocError> {
+        Ok(Value::from(self))
+    }
+}
+
+impl Written for usize {
+    fn written(self, _alloc: Global) -> Result<Value, AllocError> {
+        Ok(Value::from(self))
+    }
+}
+
+/// `null` where there is none.
+impl<T: Written> Written for Option<T> {
+    fn written(self, alloc: Global) -> Result<Value, AllocError> {
+        match self {
+            Some(value) => value.written(alloc),
+            None => Ok(Value::Null),
+        }
+    }
+}
+
+impl<'a, T> Written for &'a [T]
+where
+    &'a T: Written,
+{
+    fn written(self, alloc: Global) -> Result<Value, AllocError> {
+        let mut items = Items::new(alloc);
+        for item in self {
+            items.put(item);
+        }
+        items.value()
+    }
+}
 
 /// The fields of an answer.
 #[derive(Drop)]
@@ -23,39 +81,23 @@ impl Answer {
         }
     }
 
-    /// Gives the field of this name a value.
-    pub fn put_value(&mut self, name: &str, value: Value) {
-        if let Err(_) = serde_json::put(&mut self.members, self.alloc, name, value) {
-            self.is_refused = true;
-        }
+    /// Gives the field of this name what is written of a thing.
+    pub fn put<T: Written>(&mut self, name: &str, written: T) {
+        self.put_value(name, written.written(self.alloc));
     }
 
-    /// Gives the field of this name a value that took memory to make.
-    pub fn put(&mut self, name: &str, value: Result<Value, AllocError>) {
+    /// Gives the field of this name a value, unless there was no memory to make it.
+    pub fn put_value(&mut self, name: &str, value: Result<Value, AllocError>) {
         match value {
-            Ok(value) => self.put_value(name, value),
+            Ok(value) => self.put_made(name, value),
             Err(_) => self.is_refused = true,
         }
     }
 
-    /// Gives the field of this name a text.
-    pub fn put_text(&mut self, name: &str, text: &str) {
-        self.put(name, text_value(self.alloc, text));
-    }
-
-    /// Gives the field of this name a text, or `null` where there is none.
-    pub fn put_text_or_null(&mut self, name: &str, text: Option<&str>) {
-        self.put(name, text_or_null(self.alloc, text));
-    }
-
-    /// Gives the field of this name a truth value.
-    pub fn put_flag(&mut self, name: &str, yes: bool) {
-        self.put_value(name, Value::Bool(yes));
-    }
-
-    /// Gives the field of this name a number.
-    pub fn put_number(&mut self, name: &str, number: u64) {
-        self.put_value(name, Value::from(number));
+    fn put_made(&mut self, name: &str, value: Value) {
+        if let Err(_) = serde_json::put(&mut self.members, self.alloc, name, value) {
+            self.is_refused = true;
+        }
     }
 
     /// The answer as a value, unless out of memory.
@@ -64,15 +106,6 @@ impl Answer {
             Err(AllocError)
         } else {
             Ok(Value::Object(self.members))
-        }
-    }
-
-    /// The answer as that of a kind, unless out of memory.
-    pub fn outcome(self) -> Result<Outcome, Trouble> {
-        if self.is_refused {
-            Err(Trouble::Memory)
-        } else {
-            Ok(Outcome::Answer(Value::Object(self.members)))
         }
     }
 }
@@ -95,39 +128,23 @@ impl Items {
         }
     }
 
-    /// Puts a value at the end.
-    pub fn put_value(&mut self, value: Value) {
-        if let Err(_) = self.items.push(value) {
-            self.is_refused = true;
-        }
+    /// Appends what is written of a thing.
+    pub fn put<T: Written>(&mut self, written: T) {
+        self.put_value(written.written(self.alloc));
     }
 
-    /// Puts a value at the end that took memory to make.
-    pub fn put(&mut self, value: Result<Value, AllocError>) {
+    /// Appends a value, unless there was no memory to make it.
+    pub fn put_value(&mut self, value: Result<Value, AllocError>) {
         match value {
-            Ok(value) => self.put_value(value),
+            Ok(value) => self.put_made(value),
             Err(_) => self.is_refused = true,
         }
     }
 
-    /// Puts a text at the end.
-    pub fn put_text(&mut self, text: &str) {
-        self.put(text_value(self.alloc, text));
-    }
-
-    /// Puts a text at the end, or `null` where there is none.
-    pub fn put_text_or_null(&mut self, text: Option<&str>) {
-        self.put(text_or_null(self.alloc, text));
-    }
-
-    /// Puts a truth value at the end.
-    pub fn put_flag(&mut self, yes: bool) {
-        self.put_value(Value::Bool(yes));
-    }
-
-    /// Puts a number at the end.
-    pub fn put_number(&mut self, number: u64) {
-        self.put_value(Value::from(number));
+    fn put_made(&mut self, value: Value) {
+        if let Err(_) = self.items.push(value) {
+            self.is_refused = true;
+        }
     }
 
     /// The list as a value, unless out of memory.
@@ -137,18 +154,5 @@ impl Items {
         } else {
             Ok(Value::Array(self.items))
         }
-    }
-}
-
-/// A text as a value.
-pub fn text_value(alloc: Global, text: &str) -> Result<Value, AllocError> {
-    Value::try_from_str(alloc, text)
-}
-
-/// A text as a value, or `null` where there is none.
-pub fn text_or_null(alloc: Global, text: Option<&str>) -> Result<Value, AllocError> {
-    match text {
-        Some(text) => Value::try_from_str(alloc, text),
-        None => Ok(Value::Null),
     }
 }

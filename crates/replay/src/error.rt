@@ -1,25 +1,19 @@
 //! Errors in the shape in which vectors write them: a list of the name of the variant and what it
 //! holds.
 
-use crate::answer::{Answer, Items, text_value};
+use crate::answer::{Answer, Items, Written};
 use ignore_base::{Error, Fault};
 use serde_json::Value;
 use std::alloc::{AllocError, Global};
 use vectors::Trouble;
 
 /// An error's text and its shape.
-pub fn reported(alloc: Global, error: &Error) -> Result<Value, AllocError> {
-    let mut answer = Answer::new(alloc);
-    answer.put("text", printed(alloc, error));
-    answer.put("shape", shape(alloc, error));
-    answer.value()
-}
-
-/// An error's text and its shape, or `null` where there is none.
-pub fn reported_or_null(alloc: Global, error: Option<&Error>) -> Result<Value, AllocError> {
-    match error {
-        Some(error) => reported(alloc, error),
-        None => Ok(Value::Null),
+impl Written for &Error {
+    fn written(self, alloc: Global) -> Result<Value, AllocError> {
+        let mut answer = Answer::new(alloc);
+        answer.put_value("text", printed(alloc, self));
+        answer.put_value("shape", shape(alloc, self));
+        answer.value()
     }
 }
 
@@ -34,84 +28,60 @@ pub fn shape(alloc: Global, error: &Error) -> Result<Value, AllocError> {
         Error::Partial(errors) => {
             let mut members = Items::new(alloc);
             for error in errors {
-                members.put(shape(alloc, error));
+                members.put_value(shape(alloc, error));
             }
-            tag_shape(alloc, "Partial", members.value())
+            pair(alloc, "Partial", members.value())
         }
         Error::WithLineNumber { line, err } => {
-            let line = Ok(Value::from(*line));
-            tagged_shape(alloc, "WithLineNumber", line, shape(alloc, err))
+            triple(alloc, "WithLineNumber", *line, shape(alloc, err))
         }
-        Error::WithPath { path, err } => {
-            let path = text_value(alloc, path.as_str());
-            tagged_shape(alloc, "WithPath", path, shape(alloc, err))
-        }
-        Error::WithDepth { depth, err } => {
-            let depth = Ok(Value::from(*depth));
-            tagged_shape(alloc, "WithDepth", depth, shape(alloc, err))
-        }
-        Error::Loop { ancestor, child } => {
-            texts_shape(alloc, "Loop", Some(ancestor.as_str()), child.as_str())
-        }
-        Error::Io(fault) => name_shape(alloc, "Io", fault_name(*fault)),
-        Error::Glob { glob, err } => texts_shape(alloc, "Glob", glob.as_deref(), err.as_str()),
+        Error::WithPath { path, err } => triple(alloc, "WithPath", path, shape(alloc, err)),
+        Error::WithDepth { depth, err } => triple(alloc, "WithDepth", *depth, shape(alloc, err)),
+        Error::Loop { ancestor, child } => triple(alloc, "Loop", ancestor, child.written(alloc)),
+        Error::Io(fault) => pair(alloc, "Io", fault.written(alloc)),
+        Error::Glob { glob, err } => triple(alloc, "Glob", glob.as_ref(), err.written(alloc)),
         Error::UnrecognizedFileType(name) => {
-            name_shape(alloc, "UnrecognizedFileType", name.as_str())
+            pair(alloc, "UnrecognizedFileType", name.written(alloc))
         }
-        Error::InvalidDefinition => bare_shape(alloc, "InvalidDefinition"),
-        Error::Memory => bare_shape(alloc, "Memory"),
+        Error::InvalidDefinition => alone(alloc, "InvalidDefinition"),
+        Error::Memory => alone(alloc, "Memory"),
     }
 }
 
-fn tagged_shape(
-    alloc: Global,
-    name: &str,
-    tag: Result<Value, AllocError>,
-    inner: Result<Value, AllocError>,
-) -> Result<Value, AllocError> {
-    let mut parts = Items::new(alloc);
-    parts.put_text(name);
-    parts.put(tag);
-    parts.put(inner);
-    parts.value()
+fn alone(alloc: Global, name: &str) -> Result<Value, AllocError> {
+    let mut items = Items::new(alloc);
+    items.put(name);
+    items.value()
 }
 
-fn texts_shape(
-    alloc: Global,
-    name: &str,
-    first: Option<&str>,
-    second: &str,
-) -> Result<Value, AllocError> {
-    let mut parts = Items::new(alloc);
-    parts.put_text(name);
-    parts.put_text_or_null(first);
-    parts.put_text(second);
-    parts.value()
+fn pair(alloc: Global, name: &str, held: Result<Value, AllocError>) -> Result<Value, AllocError> {
+    let mut items = Items::new(alloc);
+    items.put(name);
+    items.put_value(held);
+    items.value()
 }
 
-fn name_shape(alloc: Global, name: &str, held: &str) -> Result<Value, AllocError> {
-    tag_shape(alloc, name, text_value(alloc, held))
-}
-
-fn tag_shape(
+fn triple<T: Written>(
     alloc: Global,
     name: &str,
+    tag: T,
     held: Result<Value, AllocError>,
 ) -> Result<Value, AllocError> {
-    let mut parts = Items::new(alloc);
-    parts.put_text(name);
-    parts.put(held);
-    parts.value()
+    let mut items = Items::new(alloc);
+    items.put(name);
+    items.put(tag);
+    items.put_value(held);
+    items.value()
 }
 
-fn bare_shape(alloc: Global, name: &str) -> Result<Value, AllocError> {
-    let mut parts = Items::new(alloc);
-    parts.put_text(name);
-    parts.value()
+/// Its name.
+impl Written for Fault {
+    fn written(self, alloc: Global) -> Result<Value, AllocError> {
+        fault_name(self).written(alloc)
+    }
 }
 
-/// The name of a fault.
-pub fn fault_name(fault: Fault) -> &'static str {
+fn fault_name(fault: Fault) -> &'static str {
     match fault {
         Fault::NotFound => "NotFound",
         Fault::PermissionDenied => "PermissionDenied",

@@ -1,6 +1,8 @@
 //! Bytes as vectors write them: two hex digits each.
 
+use crate::answer::Written;
 use hex::FromHexError;
+use ignore_files::Bytes;
 use serde_json::Value;
 use std::alloc::{AllocError, Global};
 use vectors::Trouble;
@@ -14,7 +16,8 @@ pub fn bytes_of(alloc: Global, text: &str, name: &'static str) -> Result<Vec<u8>
     }
 }
 
-/// The hex text of bytes, as a value.
-pub fn hex_value(alloc: Global, bytes: &[u8]) -> Result<Value, AllocError> {
-    Ok(Value::String(hex::encode(alloc, bytes)?))
+impl Written for &Bytes {
+    fn written(self, alloc: Global) -> Result<Value, AllocError> {
+        Ok(Value::String(hex::encode(alloc, self.as_slice())?))
+    }
 }

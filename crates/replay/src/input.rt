@@ -12,7 +12,7 @@ const STDIN: &str = "stdin";
 /// Why a run ends before its end.
 #[derive(Clone, Copy, Drop)]
 enum Stop<'n> {
-    /// Memory was refused twice.
+    /// An allocation failed twice.
     Memory,
     /// What has this name can't be read.
     Read(&'n str),

@@ -18,7 +18,7 @@ mod types;
 
 use serde_json::Value;
 use std::alloc::Global;
-use vectors::{Kinds, Outcome, Trouble};
+use vectors::{Kinds, Trouble};
 
 /// The library, asked by the kinds.
 #[derive(Clone, Copy)]
@@ -27,7 +27,7 @@ pub struct Library;
 impl Kinds for Library {
     ghost waits = { λ _ kind names. names ≡ waiting_fields kind };
 
-    fn answer(&self, alloc: Global, kind: &str, input: &Value) -> Option<Result<Outcome, Trouble>> {
+    fn answer(&self, alloc: Global, kind: &str, input: &Value) -> Option<Result<Value, Trouble>> {
         match kind {
             "error" => Some(error::answer(alloc, input)),
             "excludes" => Some(excludes::answer(alloc, input)),

@@ -1,7 +1,6 @@
 //! The program `replay`: asks the library what vectors ask, and compares whole answers.
 #![tactic(auto)]
 
-mod again;
 mod answer;
 mod clones;
 mod environment;
@@ -9,6 +8,7 @@ mod error;
 mod hex_digits;
 mod input;
 mod kinds;
+mod operations;
 mod refusing;
 mod rules;
 mod tree_calls;

@@ -1,6 +1,6 @@
 //! Trees in memory, of which one call is refused.
 
-use crate::error::{fault_of, reported};
+use crate::error::fault_of;
 use ignore_base::Error;
 use ignore_files::{
     Contents, Fault, Files, Identity, Listing, MemoryTree, Metadata, Name, Refusal,
@@ -46,18 +46,17 @@ impl<'t> Refusing<'t> {
         if turn == 1 { Err(self.refusal) } else { Ok(()) }
     }
 
-    /// What is reported of a call that ran out of memory: its error, where the tree refused it
-    /// memory.
-    pub fn reported(&self, alloc: Global, error: &Error) -> Result<Value, Trouble> {
-        if self.refused_memory() {
-            Ok(reported(alloc, error)?)
+    /// The error of a call that was out of memory, where it was the tree that reported this.
+    pub fn reported<'e>(&self, error: &'e Error) -> Result<&'e Error, Trouble> {
+        if self.reported_memory() {
+            Ok(error)
         } else {
             Err(Trouble::Memory)
         }
     }
 
-    /// Whether the call that is refused was made, and refused memory.
-    pub fn refused_memory(&self) -> bool {
+    /// Whether the call that is refused was made, and reported out of memory.
+    pub fn reported_memory(&self) -> bool {
         self.turn.get() == 0 && self.refusal == Refusal::Memory
     }
 }

@@ -1,17 +1,13 @@
 //! Builders of gitignore rules, as vectors describe them, and their answers.
 
-use crate::again::{add_line, build, builder};
-use crate::answer::{Answer, Items};
+use crate::answer::{Answer, Items, Written};
 use crate::clones::asked;
-use crate::error::{printed, reported_or_null};
+use crate::operations::{Changed, OPS, apply_all, but_for_memory, problem};
 use ignore_base::{Error, Match};
 use ignore_rules::gitignore::{Gitignore, GitignoreBuilder, Glob};
 use serde_json::Value;
 use std::alloc::{AllocError, Global};
 use vectors::{Trouble, flag_at, list, text, text_at};
-
-/// The name of the field that holds the operations.
-const OPS: &str = "ops";
 
 /// The name of the field that holds the lines of a builder whose root is `/r`.
 pub const LINES: &str = "lines";
@@ -19,7 +15,7 @@ pub const LINES: &str = "lines";
 /// The builder at `/r` with the lines of a vector, if it has any. What is wrong with them isn't
 /// reported.
 pub fn builder_of_lines(alloc: Global, input: &Value) -> Result<GitignoreBuilder, Trouble> {
-    let mut builder = builder(alloc, "/r")?;
+    let mut builder = but_for_memory(GitignoreBuilder::new(alloc, "/r"))?;
     if input.get(LINES).is_some() {
         for line in list(input, LINES)? {
             add_text(&mut builder, line)?;
@@ -28,116 +24,73 @@ pub fn builder_of_lines(alloc: Global, input: &Value) -> Result<GitignoreBuilder
     asked(input, builder)
 }
 
-fn add_text(builder: &mut GitignoreBuilder, line: &Value) -> Result<(), Trouble> {
-    match line.as_str() {
-        Some(line) => {
-            add_line(builder, line)?;
-            Ok(())
-        }
-        None => Err(Trouble::Field(LINES)),
+/// Adds a line, and again where it is out of memory.
+fn add_text(builder: &mut GitignoreBuilder, line: &Value) -> Result<Option<Error>, Trouble> {
+    let Some(line) = line.as_str() else {
+        return Err(Trouble::Field(LINES));
+    };
+    match problem(builder.add_line(None, line)) {
+        Err(_) => problem(builder.add_line(None, line)),
+        added => added,
     }
 }
 
-/// A builder after a vector's operations, and what it refused: the number of the operation and the
-/// text of the error.
+/// A matcher after a vector's operations, and what was refused of them.
 #[derive(Drop)]
 pub struct Built {
-    pub builder: GitignoreBuilder,
+    pub matcher: Gitignore,
     pub refused: Items,
 }
 
-/// The builder of a vector, after its operations.
+/// The matcher of a vector, after its operations.
 pub fn after_operations(alloc: Global, input: &Value) -> Result<Built, Trouble> {
-    let mut built = Built {
-        builder: builder(alloc, text(input, "root")?)?,
-        refused: Items::new(alloc),
-    };
-    apply_all(alloc, &mut built, list(input, OPS)?)?;
-    Ok(built)
+    let mut builder = but_for_memory(GitignoreBuilder::new(alloc, text(input, "root")?))?;
+    let refused = apply_all(alloc, &mut builder, input)?;
+    let matcher = matcher_of(input, builder)?;
+    Ok(Built { matcher, refused })
 }
 
-/// The matcher of a builder.
-pub fn matcher_of(input: &Value, builder: GitignoreBuilder) -> Result<Gitignore, Trouble> {
+fn matcher_of(input: &Value, builder: GitignoreBuilder) -> Result<Gitignore, Trouble> {
     let builder = asked(input, builder)?;
-    asked_matcher(input, &builder)
+    asked(input, but_for_memory(builder.build())?)
 }
 
-fn asked_matcher(input: &Value, builder: &GitignoreBuilder) -> Result<Gitignore, Trouble> {
-    let matcher = build(builder)?;
-    asked(input, matcher)
-}
-
-fn apply_all(alloc: Global, built: &mut Built, ops: &[Value]) -> Result<(), Trouble> {
-    let mut number = 0u64;
-    for op in ops {
-        if let Some(error) = apply(&mut built.builder, op)? {
-            built.refused.put(refusal(alloc, number, error));
+impl Changed for GitignoreBuilder {
+    fn apply(&mut self, op: &Value) -> Result<Option<Error>, Trouble> {
+        match text_at(op, 0, OPS)? {
+            "line" => problem(self.add_line(None, text_at(op, 1, OPS)?)),
+            "ci" => problem(self.case_insensitive(flag_at(op, 1, OPS)?)),
+            "auc" => {
+                self.allow_unclosed_class(flag_at(op, 1, OPS)?);
+                Ok(None)
+            }
+            "gts" => {
+                self.git_trailing_spaces(flag_at(op, 1, OPS)?);
+                Ok(None)
+            }
+            _ => Err(Trouble::Field(OPS)),
         }
-        number = number.saturating_add(1);
     }
-    Ok(())
-}
-
-/// Does an operation; the answer is what is wrong with its line.
-fn apply(builder: &mut GitignoreBuilder, op: &Value) -> Result<Option<Error>, Trouble> {
-    match text_at(op, 0, OPS)? {
-        "line" => add_line(builder, text_at(op, 1, OPS)?),
-        "ci" => set_case_insensitive(builder, flag_at(op, 1, OPS)?),
-        "auc" => {
-            builder.allow_unclosed_class(flag_at(op, 1, OPS)?);
-            Ok(None)
-        }
-        "gts" => {
-            builder.git_trailing_spaces(flag_at(op, 1, OPS)?);
-            Ok(None)
-        }
-        _ => Err(Trouble::Field(OPS)),
-    }
-}
-
-fn set_case_insensitive(
-    builder: &mut GitignoreBuilder,
-    yes: bool,
-) -> Result<Option<Error>, Trouble> {
-    match builder.case_insensitive(yes) {
-        Ok(_) => Ok(None),
-        Err(_) => Err(Trouble::Memory),
-    }
-}
-
-/// The number of an operation that was refused, and the text of its error.
-pub fn refusal(alloc: Global, number: u64, error: Error) -> Result<Value, AllocError> {
-    let mut parts = Items::new(alloc);
-    parts.put_number(number);
-    parts.put(printed(alloc, &error));
-    parts.value()
 }
 
 /// Puts the root and the rules of a matcher, and what is reported of its file.
-pub fn put_read(answer: &mut Answer, alloc: Global, matcher: &Gitignore, error: &Option<Error>) {
-    answer.put_text("root", matcher.path());
-    answer.put("rules", rules_value(alloc, matcher));
-    answer.put("error", reported_or_null(alloc, error.as_ref()));
-}
-
-/// The rules of a matcher, each with all that can be read of it.
-pub fn rules_value(alloc: Global, matcher: &Gitignore) -> Result<Value, AllocError> {
-    let mut rules = Items::new(alloc);
-    for rule in matcher.rules() {
-        rules.put(rule_value(alloc, rule));
-    }
-    rules.value()
+pub fn put_read(answer: &mut Answer, matcher: &Gitignore, error: &Option<Error>) {
+    answer.put("root", matcher.path());
+    answer.put("rules", matcher.rules());
+    answer.put("error", error.as_ref());
 }
 
 /// All that can be read of a rule.
-fn rule_value(alloc: Global, rule: &Glob) -> Result<Value, AllocError> {
-    let mut parts = Items::new(alloc);
-    parts.put_text(rule.original());
-    parts.put_text(rule.actual());
-    parts.put_flag(rule.is_whitelist());
-    parts.put_flag(rule.is_only_dir());
-    parts.put_text_or_null(rule.from());
-    parts.value()
+impl Written for &Glob {
+    fn written(self, alloc: Global) -> Result<Value, AllocError> {
+        let mut items = Items::new(alloc);
+        items.put(self.original());
+        items.put(self.actual());
+        items.put(self.is_whitelist());
+        items.put(self.is_only_dir());
+        items.put(self.from());
+        items.value()
+    }
 }
 
 /// What a matcher answered: the kind of the match, and the texts and the place of the rule that
@@ -147,40 +100,29 @@ pub fn match_value(
     matcher: &Gitignore,
     answer: Match<&Glob>,
 ) -> Result<Value, AllocError> {
+    let mut items = Items::new(alloc);
     match answer {
-        Match::None => kind_value(alloc),
-        Match::Ignore(rule) => decided_value(alloc, "ignore", matcher, rule),
-        Match::Whitelist(rule) => decided_value(alloc, "whitelist", matcher, rule),
+        Match::None => items.put("none"),
+        Match::Ignore(rule) => put_decided(&mut items, "ignore", matcher, rule),
+        Match::Whitelist(rule) => put_decided(&mut items, "whitelist", matcher, rule),
     }
+    items.value()
 }
 
-fn kind_value(alloc: Global) -> Result<Value, AllocError> {
-    let mut parts = Items::new(alloc);
-    parts.put_text("none");
-    parts.value()
+fn put_decided(items: &mut Items, kind: &str, matcher: &Gitignore, rule: &Glob) {
+    items.put(kind);
+    items.put(rule.original());
+    items.put(rule.actual());
+    items.put(place(matcher, rule));
 }
 
-fn decided_value(
-    alloc: Global,
-    kind: &str,
-    matcher: &Gitignore,
-    rule: &Glob,
-) -> Result<Value, AllocError> {
-    let mut parts = Items::new(alloc);
-    parts.put_text(kind);
-    parts.put_text(rule.original());
-    parts.put_text(rule.actual());
-    parts.put_value(place_value(matcher, rule));
-    parts.value()
-}
-
-/// The place of the last rule of which the same can be read, or `null`.
-fn place_value(matcher: &Gitignore, rule: &Glob) -> Value {
-    let mut place = Value::Null;
+/// The place of the last rule of which the same can be read, if there is one.
+fn place(matcher: &Gitignore, rule: &Glob) -> Option<u64> {
+    let mut place = None;
     let mut number = 0u64;
     for other in matcher.rules() {
         if reads_same(rule, other) {
-            place = Value::from(number);
+            place = Some(number);
         }
         number = number.saturating_add(1);
     }

@@ -5,8 +5,7 @@ use Rattle.std.specs.Prelude.{IsSome}
 use Rattle.serde_json.specs.Data.{null, boolean, Members, no_members, member}
 use Rattle.serde_json.specs.Find.{get_member}
 use Rattle.vectors.specs.Agrees.{EachMember, Stands}
-use Rattle.vectors.specs.Tallies.{nothing, with_passed, with_failed, with_skipped, skipped, together}
-use Rattle.vectors.specs.declared.outcome.Reason.TheVariants.{GitTrailingSpaces, TooManySplits}
+use Rattle.vectors.specs.Tallies.{nothing, with_passed, with_failed, together}
 use Rattle.vectors.specs.Vectors.{wrong_field}
 use Rattle.vectors.specs.Lines.{lines_left}
 
@@ -23,11 +22,8 @@ other_field_is_extra h = false≢true h.0
 no_object_lacks_its_name : wrong_field null ≡ Some (codes "id")
 no_object_lacks_its_name = refl
 
-counted_once : with_failed (with_passed nothing) ≡ record { passed = 1; failed = 1; git_trailing_spaces = 0; too_many_splits = 0; unread = 0 }
+counted_once : with_failed (with_passed nothing) ≡ record { passed = 1; failed = 1; unread = 0 }
 counted_once = refl
-
-both_reasons : skipped (with_skipped TooManySplits (with_skipped GitTrailingSpaces nothing)) ≡ 2
-both_reasons = refl
 
 full : together 18446744073709551615 1 ≡ 18446744073709551615
 full = refl

@@ -1,3 +1,4 @@
+pub mod Text
 pub mod Agrees
 pub mod Vectors
 pub mod Tallies

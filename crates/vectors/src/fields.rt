@@ -5,7 +5,7 @@ ghost use Rattle.serde_json.specs.Find.{get, at, as_bool, as_str, as_array, as_o
 ghost use Rattle.serde_json.specs.View.{view, items_view, members_view};
 ghost use Rattle.vectors.specs.Vectors.{named_field, text_in, object_in};
 
-use crate::outcome::Trouble;
+use crate::trouble::Trouble;
 use serde_json::{Map, Value};
 
 /// The member of this name.

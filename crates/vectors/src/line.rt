@@ -5,7 +5,7 @@ ghost use Rattle.serde_json.specs.View.{view};
 ghost use Rattle.vectors.specs.Lines.{Answers, Comes};
 
 use crate::kinds::Kinds;
-use crate::outcome::{Outcome, Trouble};
+use crate::trouble::Trouble;
 use crate::vector::Vector;
 use crate::verdict::Verdict;
 use serde_json::{Category, Error, Value};
@@ -44,8 +44,8 @@ fn judge<K: Kinds>(alloc: Global, kinds: &K, line: &[u8]) -> Result<Verdict, Fla
     ensures { IfOk result (Comes (K.gives kinds.now) (K.waits kinds.now) line.now) }
 {
     let value = read(alloc, line)?;
-    let (outcome, waiting) = answer(alloc, kinds, &value)?;
-    Ok(Verdict::of(value, outcome, waiting)?)
+    let (answer, waiting) = answer(alloc, kinds, &value)?;
+    Ok(Verdict::of(value, answer, waiting)?)
 }
 
 fn read(alloc: Global, line: &[u8]) -> Result<Value, Flaw>
@@ -65,18 +65,18 @@ fn flaw_of(error: Error) -> Flaw {
     }
 }
 
-/// The outcome of a kind for the vector that a value is, and the fields that may be missing.
+/// The answer of a kind to the vector that a value is, and the fields that may be missing.
 fn answer<K: Kinds>(
     alloc: Global,
     kinds: &K,
     value: &Value,
-) -> Result<(Outcome, &'static [&'static str]), Flaw>
+) -> Result<(Value, &'static [&'static str]), Flaw>
     ensures { IfOk result
         (λ r. Answers (K.gives kinds.now) (K.waits kinds.now) (view value.now) r.0 (map (λ w. w.now) r.1.now)) }
 {
     let vector = Vector::of(value)?;
     match kinds.answer(alloc, vector.kind, vector.input) {
-        Some(Ok(outcome)) => Ok((outcome, kinds.waiting(vector.kind))),
+        Some(Ok(answer)) => Ok((answer, kinds.waiting(vector.kind))),
         Some(Err(trouble)) => Err(Flaw::from(trouble)),
         None => Err(Flaw::UnknownKind),
     }

@@ -1,18 +1,15 @@
 //! Counting the verdicts of vectors.
 ghost use Rattle.std.specs.Prelude.{◌≡◌, ◌≤◌, ◌↔◌, Some};
-ghost use Rattle.vectors.specs.Tallies.{nothing, with_passed, with_failed, with_unread, with_skipped, skipped, tally_text};
+ghost use Rattle.vectors.specs.Tallies.{nothing, with_passed, with_failed, with_unread, tally_text};
 
-use crate::outcome::Reason;
 use std::fmt;
 use std::marker::Model;
 
-/// How many vectors passed, failed and were skipped, and how many lines were no vectors.
+/// How many vectors passed and failed, and how many lines were no vectors.
 #[derive(Drop)]
 pub struct Tally {
     passed: u64,
     failed: u64,
-    git_trailing_spaces: u64,
-    too_many_splits: u64,
     unread: u64,
 }
 
@@ -24,8 +21,6 @@ impl Model for Tally {
     ghost view = { λ t. record {
       passed = t.passed;
       failed = t.failed;
-      git_trailing_spaces = t.git_trailing_spaces;
-      too_many_splits = t.too_many_splits;
       unread = t.unread;
     } };
 }
@@ -38,8 +33,6 @@ impl Tally {
         Tally {
             passed: 0,
             failed: 0,
-            git_trailing_spaces: 0,
-            too_many_splits: 0,
             unread: 0,
         }
     }
@@ -65,27 +58,6 @@ impl Tally {
         self.unread = self.unread.saturating_add(1);
     }
 
-    /// Counts a vector that was skipped.
-    pub fn skip(&mut self, reason: Reason)
-        ensures { self.new ≡ with_skipped reason self.old }
-    {
-        match reason {
-            Reason::GitTrailingSpaces => {
-                self.git_trailing_spaces = self.git_trailing_spaces.saturating_add(1);
-            }
-            Reason::TooManySplits => {
-                self.too_many_splits = self.too_many_splits.saturating_add(1);
-            }
-        }
-    }
-
-    fn skipped(&self) -> u64
-        ensures { result ≡ skipped self.now }
-    {
-        self.git_trailing_spaces
-            .saturating_add(self.too_many_splits)
-    }
-
     /// The status of a completed run: 0, or 1 where a vector failed or a line was no vector.
     pub fn status(&self) -> u8
         ensures good { (result ≡ 0) ↔ ((self.now.failed ≡ 0) × (self.now.unread ≡ 0)) }
@@ -99,23 +71,13 @@ impl Tally {
     }
 }
 
-/// The text of the counts, without reasons for which no vector was skipped.
+/// The text of the counts, without that of the lines that are no vectors.
 impl fmt::Display for Tally {
     ghost output = { λ t. Some (tally_text t) };
 
     fn fmt<W: fmt::Write>(&self, f: &mut fmt::Formatter<W>) -> fmt::Result {
         let passed = self.passed;
         let failed = self.failed;
-        let skipped = self.skipped();
-        write!(f, "{passed} passed, {failed} failed, {skipped} skipped")?;
-        if self.git_trailing_spaces > 0 {
-            let count = self.git_trailing_spaces;
-            write!(f, ", git_trailing_spaces {count}")?;
-        }
-        if self.too_many_splits > 0 {
-            let count = self.too_many_splits;
-            write!(f, ", too_many_splits {count}")?;
-        }
-        Ok(())
+        write!(f, "{passed} passed, {failed} failed")
     }
 }

@@ -5,7 +5,7 @@ ghost use Rattle.serde_json.specs.View.{view, members_view};
 ghost use Rattle.vectors.specs.Vectors.{IsVector, named_field, wrong_field};
 
 use crate::fields::{members, object, text};
-use crate::outcome::Trouble;
+use crate::trouble::Trouble;
 use serde_json::{Map, Value};
 
 /// A vector: a question, and the wanted answer.

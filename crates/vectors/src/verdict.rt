@@ -6,8 +6,8 @@ ghost use Rattle.vectors.specs.Vectors.{named_field, wrong_field};
 ghost use Rattle.vectors.specs.Verdicts.{Judges, IsBare, counted};
 
 use crate::agree::agrees;
-use crate::outcome::{Outcome, Reason, Trouble};
 use crate::tally::Tally;
+use crate::trouble::Trouble;
 use crate::vector::Vector;
 use serde_json::Value;
 use std::io::{self, Write};
@@ -19,32 +19,20 @@ pub enum Verdict {
     Passed,
     /// The answer is another one: the vector and the answer.
     Failed(Value, Value),
-    /// The vector was skipped.
-    Skipped(Reason),
 }
 
 impl Verdict {
-    /// The verdict of a vector with this outcome, where these fields wait for their calls.
-    pub fn of(value: Value, outcome: Outcome, waiting: &[&str]) -> Result<Verdict, Trouble>
-        ensures judges { IfOk result (Judges (view value) outcome (map (λ w. w.now) waiting.now)) }
+    /// The verdict of a vector with this answer, where these fields may be missing.
+    pub fn of(value: Value, answer: Value, waiting: &[&str]) -> Result<Verdict, Trouble>
+        ensures judges { IfOk result (Judges (view value) (view answer) (map (λ w. w.now) waiting.now)) }
         ensures reported { IfErr result (λ t. named_field t ≡ wrong_field (view value)) }
     {
-        match outcome {
-            Outcome::Skipped(reason) => Ok(Verdict::Skipped(reason)),
-            Outcome::Answer(answer) => compared(value, answer, waiting),
+        let vector = Vector::of(&value)?;
+        if agrees(vector.wanted, &answer, waiting) {
+            return Ok(Verdict::Passed);
         }
+        Ok(Verdict::Failed(value, answer))
     }
-}
-
-fn compared(value: Value, answer: Value, waiting: &[&str]) -> Result<Verdict, Trouble>
-    ensures judges { IfOk result (Judges (view value) (Outcome.Answer answer) (map (λ w. w.now) waiting.now)) }
-    ensures reported { IfErr result (λ t. named_field t ≡ wrong_field (view value)) }
-{
-    let vector = Vector::of(&value)?;
-    if agrees(vector.wanted, &answer, waiting) {
-        return Ok(Verdict::Passed);
-    }
-    Ok(Verdict::Failed(value, answer))
 }
 
 impl Tally {
@@ -56,7 +44,6 @@ impl Tally {
     {
         match verdict {
             Verdict::Passed => self.pass(),
-            Verdict::Skipped(reason) => self.skip(reason),
             Verdict::Failed(value, answer) => {
                 self.fail();
                 report_difference(&value, &answer, out)?;

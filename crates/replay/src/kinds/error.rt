@@ -1,57 +1,33 @@
 //! What an error says of itself.
 
 use crate::answer::Answer;
-use crate::error::{fault_name, fault_of, printed, shape};
-use ignore_base::{Error, Fault};
+use crate::error::{fault_of, printed, shape};
+use ignore_base::Error;
 use serde_json::Value;
 use std::alloc::{AllocError, Global};
-use vectors::{Outcome, Trouble, field};
+use vectors::{Trouble, field};
 
 /// The name of the field that holds the shape.
 const SHAPE: &str = "shape";
 
 /// Answers the calls of the error of a `shape`.
-pub fn answer(alloc: Global, input: &Value) -> Result<Outcome, Trouble> {
+pub fn answer(alloc: Global, input: &Value) -> Result<Value, Trouble> {
     let error = error_of(alloc, field(input, SHAPE)?)?;
     let mut answer = Answer::new(alloc);
-    answer.put("text", printed(alloc, &error));
-    answer.put_flag("is_partial", error.is_partial());
-    answer.put_flag("is_io", error.is_io());
-    put_fault(&mut answer, "io_error", error.io_error().copied());
-    put_depth(&mut answer, error.depth());
-    answer.put("clone", copied_shape(alloc, &error));
-    put_fault(&mut answer, "into_io_error", error.into_io_error());
-    answer.outcome()
-}
-
-fn put_fault(answer: &mut Answer, name: &str, fault: Option<Fault>) {
-    match fault {
-        Some(fault) => answer.put_text(name, fault_name(fault)),
-        None => answer.put_value(name, Value::Null),
-    }
-}
-
-fn put_depth(answer: &mut Answer, depth: Option<usize>) {
-    match depth {
-        Some(depth) => answer.put_number("depth", depth as u64),
-        None => answer.put_value("depth", Value::Null),
-    }
+    answer.put_value("text", printed(alloc, &error));
+    answer.put("is_partial", error.is_partial());
+    answer.put("is_io", error.is_io());
+    answer.put("io_error", error.io_error().copied());
+    answer.put("depth", error.depth());
+    answer.put_value("clone", copied_shape(alloc, &error));
+    answer.put("into_io_error", error.into_io_error());
+    Ok(answer.value()?)
 }
 
 /// The shape of a clone of an error.
 fn copied_shape(alloc: Global, error: &Error) -> Result<Value, AllocError> {
-    match copy(error) {
-        Ok(copy) => shape(alloc, &copy),
-        Err(error) => Err(error),
-    }
-}
-
-/// A clone of an error, retried once where it is out of memory.
-fn copy(error: &Error) -> Result<Error, AllocError> {
-    match error.clone() {
-        Ok(copy) => Ok(copy),
-        Err(_) => error.clone(),
-    }
+    let copy = error.clone()?;
+    shape(alloc, &copy)
 }
 
 /// The error of a shape.

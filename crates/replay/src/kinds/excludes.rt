@@ -1,15 +1,15 @@
 //! The value of a configuration: the path of its excludes file.
 
-use crate::again::but_for_memory;
 use crate::answer::Answer;
 use crate::environment::{name_of, variable};
 use crate::hex_digits::bytes_of;
-use crate::tree_calls::{add_file, empty_tree, unrefused};
+use crate::operations::but_for_memory;
+use crate::tree_calls::unrefused;
 use ignore_files::{Env, MemoryTree, Name};
 use ignore_rules::gitignore::gitconfig_excludes_path;
 use serde_json::Value;
 use std::alloc::{AllocError, Global};
-use vectors::{Outcome, Trouble, text};
+use vectors::{Trouble, text};
 
 /// The path of the configuration.
 const CONFIGURATION: &str = "/g";
@@ -18,17 +18,17 @@ const CONFIGURATION: &str = "/g";
 const BYTES: &str = "hex";
 
 /// Answers `value`: the path that the configuration names, with `home` in it, or `null`.
-pub fn answer(alloc: Global, input: &Value) -> Result<Outcome, Trouble> {
+pub fn answer(alloc: Global, input: &Value) -> Result<Value, Trouble> {
     let tree = tree_of(alloc, input)?;
     asked(alloc, input, &tree)
 }
 
-fn asked(alloc: Global, input: &Value, tree: &MemoryTree) -> Result<Outcome, Trouble> {
+fn asked(alloc: Global, input: &Value, tree: &MemoryTree) -> Result<Value, Trouble> {
     let home = variable(alloc, input, "home")?;
     let value = value_of(alloc, tree, home)?;
     let mut answer = Answer::new(alloc);
-    answer.put_text_or_null("value", value.as_deref());
-    answer.outcome()
+    answer.put("value", value.as_deref());
+    Ok(answer.value()?)
 }
 
 /// The tree with the configuration alone.
@@ -38,8 +38,8 @@ fn tree_of(alloc: Global, input: &Value) -> Result<MemoryTree, Trouble> {
 }
 
 fn tree_with(alloc: Global, bytes: &[u8]) -> Result<MemoryTree, Trouble> {
-    let mut tree = unrefused(empty_tree(alloc, "/"), BYTES)?;
-    unrefused(add_file(&mut tree, CONFIGURATION, bytes), BYTES)?;
+    let mut tree = unrefused(MemoryTree::new(alloc, "/"), BYTES)?;
+    unrefused(tree.add_file(CONFIGURATION, bytes), BYTES)?;
     Ok(tree)
 }
 

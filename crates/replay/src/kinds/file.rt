@@ -7,25 +7,25 @@ use crate::tree_calls::{CALLS, tree_of_calls};
 use ignore_rules::gitignore::Gitignore;
 use serde_json::Value;
 use std::alloc::Global;
-use vectors::{Outcome, Trouble, list, text};
+use vectors::{Trouble, list, text};
 
 /// Answers `root`, `rules`, `is_empty` and `len` of the matcher, and the `error` of its file; of a
 /// call that ran out of memory its `error` alone.
-pub fn answer(alloc: Global, input: &Value) -> Result<Outcome, Trouble> {
+pub fn answer(alloc: Global, input: &Value) -> Result<Value, Trouble> {
     let path = text(input, "path")?;
     let tree = tree_of_calls(alloc, text(input, "cwd")?, list(input, CALLS)?)?;
     read(alloc, &Refusing::of(&tree, input)?, path)
 }
 
-fn read(alloc: Global, files: &Refusing<'_>, path: &str) -> Result<Outcome, Trouble> {
+fn read(alloc: Global, files: &Refusing<'_>, path: &str) -> Result<Value, Trouble> {
     let mut answer = Answer::new(alloc);
     match Gitignore::new(alloc, files, path) {
         Ok((matcher, error)) => {
-            put_read(&mut answer, alloc, &matcher, &error);
-            answer.put_flag("is_empty", matcher.is_empty());
-            answer.put_number("len", matcher.len() as u64);
+            put_read(&mut answer, &matcher, &error);
+            answer.put("is_empty", matcher.is_empty());
+            answer.put("len", matcher.len());
         }
-        Err(error) => answer.put_value("error", files.reported(alloc, &error)?),
+        Err(error) => answer.put("error", files.reported(&error)?),
     }
-    answer.outcome()
+    Ok(answer.value()?)
 }

@@ -10,28 +10,23 @@ use ignore_files::{Env, MemoryTree};
 use ignore_rules::gitignore::{Gitignore, gitconfig_excludes_path};
 use serde_json::Value;
 use std::alloc::Global;
-use vectors::{Outcome, Trouble, field, list, text};
+use vectors::{Trouble, field, list, text};
 
 /// Answers `path`, the path of the excludes file, and of the matcher its `root`, its `rules` and
 /// the `error` of its file. The matcher is that of a builder with the lines, or that of the
 /// working directory where there is no field of lines. Of a call that ran out of memory there is
 /// its error alone, as `path` or as `error`.
-pub fn answer(alloc: Global, input: &Value) -> Result<Outcome, Trouble> {
+pub fn answer(alloc: Global, input: &Value) -> Result<Value, Trouble> {
     let tree = tree_of_calls(alloc, text(input, "cwd")?, list(input, CALLS)?)?;
     let env = environment(alloc, field(input, "env")?)?;
     reported(alloc, input, &tree, &env)
 }
 
-fn reported(
-    alloc: Global,
-    input: &Value,
-    tree: &MemoryTree,
-    env: &Env,
-) -> Result<Outcome, Trouble> {
+fn reported(alloc: Global, input: &Value, tree: &MemoryTree, env: &Env) -> Result<Value, Trouble> {
     let mut answer = Answer::new(alloc);
     put_path(&mut answer, alloc, &Refusing::of(tree, input)?, env)?;
     put_matcher(&mut answer, alloc, input, &Refusing::of(tree, input)?, env)?;
-    answer.outcome()
+    Ok(answer.value()?)
 }
 
 fn put_path(
@@ -41,8 +36,8 @@ fn put_path(
     env: &Env,
 ) -> Result<(), Trouble> {
     match gitconfig_excludes_path(alloc, files, env) {
-        Ok(path) => answer.put_text_or_null("path", path.as_deref()),
-        Err(error) => answer.put_value("path", files.reported(alloc, &error)?),
+        Ok(path) => answer.put("path", path.as_deref()),
+        Err(error) => answer.put("path", files.reported(&error)?),
     }
     Ok(())
 }
@@ -55,8 +50,8 @@ fn put_matcher(
     env: &Env,
 ) -> Result<(), Trouble> {
     match matcher(alloc, input, files, env)? {
-        Ok((matcher, error)) => put_read(answer, alloc, &matcher, &error),
-        Err(error) => answer.put_value("error", files.reported(alloc, &error)?),
+        Ok((matcher, error)) => put_read(answer, &matcher, &error),
+        Err(error) => answer.put("error", files.reported(&error)?),
     }
     Ok(())
 }

@@ -1,18 +1,18 @@
 //! The rules of a file, and its errors.
 
-use crate::again::{build, but_for_memory};
 use crate::answer::Answer;
-use crate::error::{fault_of, reported_or_null};
+use crate::error::fault_of;
 use crate::hex_digits::bytes_of;
+use crate::operations::{but_for_memory, problem};
 use crate::refusing::Refusing;
-use crate::rules::{builder_of_lines, rules_value};
-use crate::tree_calls::{add_dir, add_file, empty_tree, unrefused};
+use crate::rules::builder_of_lines;
+use crate::tree_calls::unrefused;
 use ignore_base::Error;
 use ignore_files::MemoryTree;
 use ignore_rules::gitignore::GitignoreBuilder;
 use serde_json::Value;
 use std::alloc::Global;
-use vectors::{Outcome, Trouble, field, flag, item, text, text_at};
+use vectors::{Trouble, field, flag, item, text, text_at};
 
 /// The directory of the file, and the root of the rules.
 const ROOT: &str = "/r";
@@ -25,7 +25,7 @@ const CUT: &str = "cut";
 
 /// Answers `rules`, and the `error` of `add` with what it says of itself. Where there are lines,
 /// they stand before the rules of the file.
-pub fn answer(alloc: Global, input: &Value) -> Result<Outcome, Trouble> {
+pub fn answer(alloc: Global, input: &Value) -> Result<Value, Trouble> {
     let path = text(input, "path")?;
     let tree = tree_of(alloc, path, input)?;
     let mut builder = builder_of_options(alloc, input)?;
@@ -37,7 +37,7 @@ fn asked(
     files: &Refusing<'_>,
     path: &str,
     builder: &mut GitignoreBuilder,
-) -> Result<Outcome, Trouble> {
+) -> Result<Value, Trouble> {
     let error = added(builder, files, path)?;
     reported(alloc, builder, &error)
 }
@@ -45,7 +45,7 @@ fn asked(
 /// A builder with the lines and then the options of a vector.
 fn builder_of_options(alloc: Global, input: &Value) -> Result<GitignoreBuilder, Trouble> {
     let mut builder = builder_of_lines(alloc, input)?;
-    set_case(&mut builder, flag(input, "ci")?)?;
+    problem(builder.case_insensitive(flag(input, "ci")?))?;
     builder.git_trailing_spaces(flag(input, "gts")?);
     Ok(builder)
 }
@@ -54,14 +54,14 @@ fn reported(
     alloc: Global,
     builder: &GitignoreBuilder,
     error: &Option<Error>,
-) -> Result<Outcome, Trouble> {
-    let matcher = build(builder)?;
+) -> Result<Value, Trouble> {
+    let matcher = but_for_memory(builder.build())?;
     let mut answer = Answer::new(alloc);
-    answer.put("rules", rules_value(alloc, &matcher));
-    answer.put("error", reported_or_null(alloc, error.as_ref()));
-    answer.put_flag("is_io", is_io(error));
-    answer.put_flag("is_partial", is_partial(error));
-    answer.outcome()
+    answer.put("rules", matcher.rules());
+    answer.put("error", error.as_ref());
+    answer.put("is_io", is_io(error));
+    answer.put("is_partial", is_partial(error));
+    Ok(answer.value()?)
 }
 
 fn is_io(error: &Option<Error>) -> bool {
@@ -78,13 +78,6 @@ fn is_partial(error: &Option<Error>) -> bool {
     }
 }
 
-fn set_case(builder: &mut GitignoreBuilder, yes: bool) -> Result<(), Trouble> {
-    match builder.case_insensitive(yes) {
-        Ok(_) => Ok(()),
-        Err(_) => Err(Trouble::Memory),
-    }
-}
-
 /// Adds a file to a builder, and again where it is out of memory, but not where the files are.
 fn added(
     builder: &mut GitignoreBuilder,
@@ -93,7 +86,7 @@ fn added(
 ) -> Result<Option<Error>, Trouble> {
     match builder.add(files, path) {
         Ok(error) => Ok(error),
-        Err(error) if files.refused_memory() => Ok(Some(error)),
+        Err(error) if files.reported_memory() => Ok(Some(error)),
         Err(_) => added_again(builder, files, path),
     }
 }
@@ -117,8 +110,8 @@ fn tree_of(alloc: Global, path: &str, input: &Value) -> Result<MemoryTree, Troub
 
 /// The tree with the directory alone.
 fn directory(alloc: Global) -> Result<MemoryTree, Trouble> {
-    let mut tree = unrefused(empty_tree(alloc, "/"), BYTES)?;
-    unrefused(add_dir(&mut tree, ROOT), BYTES)?;
+    let mut tree = unrefused(MemoryTree::new(alloc, "/"), BYTES)?;
+    unrefused(tree.add_dir(ROOT), BYTES)?;
     Ok(tree)
 }
 
@@ -129,7 +122,7 @@ fn put_file(
     input: &Value,
 ) -> Result<(), Trouble> {
     let bytes = bytes_of(alloc, text(input, BYTES)?, BYTES)?;
-    unrefused(add_file(tree, path, bytes.as_slice()), BYTES)?;
+    unrefused(tree.add_file(path, bytes.as_slice()), BYTES)?;
     cut(tree, path, field(input, CUT)?)
 }
 

@@ -1,27 +1,24 @@
 //! The last pattern of a set that matches a text and allows its kind.
 
-use crate::again::but_for_memory;
 use crate::answer::Answer;
+use crate::operations::but_for_memory;
 use ignore_glob::glob::{Options, Pattern};
 use ignore_set::PatternSet;
 use serde_json::Value;
 use std::alloc::Global;
-use vectors::{Outcome, Trouble, flag, flag_at, list, text, text_at};
+use vectors::{Trouble, flag, flag_at, list, text, text_at};
 
 /// The name of the field that holds the patterns: each a glob, whether it folds case, and whether
 /// it is for directories only.
 const PAIRS: &str = "pairs";
 
 /// Answers `last`, an index or `null`.
-pub fn answer(alloc: Global, input: &Value) -> Result<Outcome, Trouble> {
+pub fn answer(alloc: Global, input: &Value) -> Result<Value, Trouble> {
     let set = set(alloc, list(input, PAIRS)?)?;
-    let last = last(&set, text(input, "text")?, flag(input, "is_dir")?)?;
+    let last = but_for_memory(set.last_match(text(input, "text")?, flag(input, "is_dir")?))?;
     let mut answer = Answer::new(alloc);
-    match last {
-        Some(index) => answer.put_number("last", index as u64),
-        None => answer.put_value("last", Value::Null),
-    }
-    answer.outcome()
+    answer.put("last", last);
+    Ok(answer.value()?)
 }
 
 fn set(alloc: Global, pairs: &[Value]) -> Result<PatternSet, Trouble> {
@@ -42,13 +39,5 @@ fn pattern(alloc: Global, pair: &Value) -> Result<Pattern, Trouble> {
     match Pattern::parse(alloc, text_at(pair, 0, PAIRS)?, options) {
         Ok(pattern) => Ok(pattern),
         Err(_) => Err(Trouble::Field(PAIRS)),
-    }
-}
-
-/// What a set answers, asked twice where it runs out of memory.
-fn last(set: &PatternSet, asked: &str, is_dir: bool) -> Result<Option<usize>, Trouble> {
-    match set.last_match(asked, is_dir) {
-        Ok(last) => Ok(last),
-        Err(_) => but_for_memory(set.last_match(asked, is_dir)),
     }
 }

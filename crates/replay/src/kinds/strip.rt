@@ -1,45 +1,29 @@
 //! What the calls on paths as texts answer.
 
-use crate::again::but_for_memory;
 use crate::answer::Answer;
+use crate::operations::but_for_memory;
 use ignore_base::text as paths;
 use serde_json::Value;
 use std::alloc::Global;
-use vectors::{Outcome, Trouble, text};
+use vectors::{Trouble, text};
 
 /// Answers each call of a root and a path.
-pub fn answer(alloc: Global, input: &Value) -> Result<Outcome, Trouble> {
+pub fn answer(alloc: Global, input: &Value) -> Result<Value, Trouble> {
     let root = text(input, "root")?;
     let path = text(input, "path")?;
-    let joined = join(alloc, root, path)?;
+    let joined = but_for_memory(paths::join(alloc, root, path))?;
     let mut answer = Answer::new(alloc);
-    put_path(&mut answer, path);
-    put_root(&mut answer, root);
-    put_stripped(&mut answer, root, path);
-    answer.put_text("join", joined.as_str());
-    answer.outcome()
+    put_readings(&mut answer, root, path);
+    answer.put("join", &joined);
+    Ok(answer.value()?)
 }
 
-fn put_path(answer: &mut Answer, path: &str) {
-    answer.put_text_or_null("file_name", paths::file_name(path));
-    answer.put_flag("is_clean_path", paths::is_clean_path(path));
-    answer.put_flag("is_hidden", paths::is_hidden(path));
-}
-
-fn put_root(answer: &mut Answer, root: &str) {
-    answer.put_text("builder_root", paths::trim_root(root));
-    answer.put_flag("is_clean_root", paths::is_clean_root(root));
-}
-
-fn put_stripped(answer: &mut Answer, root: &str, path: &str) {
-    answer.put_text("strip", paths::strip(root, path));
-    answer.put_text_or_null("strip_prefix", paths::strip_prefix(root, path));
-}
-
-/// A path joined to a root, retried once where it is out of memory.
-fn join(alloc: Global, root: &str, path: &str) -> Result<String, Trouble> {
-    match paths::join(alloc, root, path) {
-        Ok(joined) => Ok(joined),
-        Err(_) => but_for_memory(paths::join(alloc, root, path)),
-    }
+fn put_readings(answer: &mut Answer, root: &str, path: &str) {
+    answer.put("file_name", paths::file_name(path));
+    answer.put("is_clean_path", paths::is_clean_path(path));
+    answer.put("is_hidden", paths::is_hidden(path));
+    answer.put("builder_root", paths::trim_root(root));
+    answer.put("is_clean_root", paths::is_clean_root(root));
+    answer.put("strip", paths::strip(root, path));
+    answer.put("strip_prefix", paths::strip_prefix(root, path));
 }

@@ -1,24 +1,21 @@
 //! What a tree in memory answers, and which changes of it are refused.
 
-use crate::again::but_for_memory;
-use crate::answer::{Answer, Items, text_value};
-use crate::error::fault_name;
-use crate::hex_digits::hex_value;
-use crate::tree_calls::{CALLS, empty_tree, make_call};
+use crate::answer::{Answer, Items, Written};
+use crate::tree_calls::{CALLS, make_call};
 use ignore_files::{
-    Contents, Fault, FileType, Files, Identity, Listed, Listing, MemoryTree, Metadata, Name,
-    Refusal, TreeError,
+    Contents, FileType, Files, Identity, Listed, Listing, MemoryTree, Metadata, Name, Refusal,
+    TreeError,
 };
 use serde_json::Value;
 use std::alloc::{AllocError, Global};
-use vectors::{Outcome, Trouble, flag_at, list, text, text_at};
+use vectors::{Trouble, flag_at, list, text, text_at};
 
 /// The name of the field that holds what is asked.
 const ASKS: &str = "asks";
 
 /// Answers `results`, the refusals of `new` and of the calls, and `answers`.
-pub fn answer(alloc: Global, input: &Value) -> Result<Outcome, Trouble> {
-    match empty_tree(alloc, text(input, "cwd")?) {
+pub fn answer(alloc: Global, input: &Value) -> Result<Value, Trouble> {
+    match MemoryTree::new(alloc, text(input, "cwd")?) {
         Err(TreeError::Memory) => Err(Trouble::Memory),
         Err(error) => refused_tree(alloc, error),
         Ok(tree) => reported_tree(alloc, tree, list(input, CALLS)?, list(input, ASKS)?),
@@ -26,10 +23,10 @@ pub fn answer(alloc: Global, input: &Value) -> Result<Outcome, Trouble> {
 }
 
 /// The answer where the tree itself is refused.
-fn refused_tree(alloc: Global, error: TreeError) -> Result<Outcome, Trouble> {
+fn refused_tree(alloc: Global, error: TreeError) -> Result<Value, Trouble> {
     let mut results = Items::new(alloc);
-    results.put_value(refusal_value(Some(error)));
-    reported(alloc, results, Items::new(alloc))
+    results.put(error);
+    Ok(reported(alloc, results, Items::new(alloc))?)
 }
 
 /// The answer where a tree is there, which the calls change before it is asked.
@@ -38,46 +35,40 @@ fn reported_tree(
     mut tree: MemoryTree,
     calls: &[Value],
     asks: &[Value],
-) -> Result<Outcome, Trouble> {
-    let mut results = Items::new(alloc);
-    results.put_value(Value::Null);
-    make_calls(alloc, &mut tree, calls, &mut results)?;
+) -> Result<Value, Trouble> {
+    let results = make_calls(alloc, &mut tree, calls)?;
     let answers = ask_all(alloc, &tree, asks)?;
-    reported(alloc, results, answers)
+    Ok(reported(alloc, results, answers)?)
 }
 
-fn reported(alloc: Global, results: Items, answers: Items) -> Result<Outcome, Trouble> {
+fn reported(alloc: Global, results: Items, answers: Items) -> Result<Value, AllocError> {
     let mut answer = Answer::new(alloc);
-    answer.put("results", results.value());
-    answer.put("answers", answers.value());
-    answer.outcome()
+    answer.put_value("results", results.value());
+    answer.put_value("answers", answers.value());
+    answer.value()
 }
 
-fn make_calls(
-    alloc: Global,
-    tree: &mut MemoryTree,
-    calls: &[Value],
-    results: &mut Items,
-) -> Result<(), Trouble> {
+/// The refusals of `new`, which is none, and of the calls.
+fn make_calls(alloc: Global, tree: &mut MemoryTree, calls: &[Value]) -> Result<Items, Trouble> {
+    let mut results = Items::new(alloc);
+    results.put_value(Ok(Value::Null));
     for call in calls {
-        let refusal = make_call(alloc, tree, call)?;
-        results.put_value(refusal_value(refusal));
+        results.put(make_call(alloc, tree, call)?);
     }
-    Ok(())
+    Ok(results)
 }
 
-/// The number of a refusal, or `null`.
-fn refusal_value(refusal: Option<TreeError>) -> Value {
-    match refusal {
-        Some(error) => Value::from(error as u8),
-        None => Value::Null,
+/// The number of a refusal.
+impl Written for TreeError {
+    fn written(self, _alloc: Global) -> Result<Value, AllocError> {
+        Ok(Value::from(self as u8))
     }
 }
 
 fn ask_all(alloc: Global, tree: &MemoryTree, asks: &[Value]) -> Result<Items, Trouble> {
     let mut answers = Items::new(alloc);
     for ask in asks {
-        answers.put_value(asked(alloc, tree, ask)?);
+        answers.put_value(Ok(asked(alloc, tree, ask)?));
     }
     Ok(answers)
 }
@@ -86,188 +77,105 @@ fn ask_all(alloc: Global, tree: &MemoryTree, asks: &[Value]) -> Result<Items, Tr
 fn asked(alloc: Global, tree: &MemoryTree, ask: &Value) -> Result<Value, Trouble> {
     let path = text_at(ask, 1, ASKS)?;
     match text_at(ask, 0, ASKS)? {
-        "stat" => asked_stat(alloc, tree, path, flag_at(ask, 2, ASKS)?),
-        "list" => asked_list(alloc, tree, path),
-        "contents" => asked_contents(alloc, tree, path),
-        "canonical" => asked_canonical(alloc, tree, path),
-        "identity" => asked_identity(alloc, tree, path, flag_at(ask, 2, ASKS)?),
+        "stat" => fields_of(alloc, tree.stat(alloc, path, flag_at(ask, 2, ASKS)?)),
+        "list" => fields_of(alloc, tree.list(alloc, path)),
+        "contents" => fields_of(alloc, tree.contents(alloc, path)),
+        "canonical" => fields_of(alloc, tree.canonical(alloc, path)),
+        "identity" => fields_of(alloc, tree.identity(alloc, path, flag_at(ask, 2, ASKS)?)),
         _ => Err(Trouble::Field(ASKS)),
     }
 }
 
-fn asked_stat(
+/// What a tree answers, as the fields of an object.
+trait Shown {
+    /// Puts the fields.
+    fn put(&self, answer: &mut Answer);
+}
+
+/// The fields of what a tree answers, or its fault alone.
+fn fields_of<T: Shown + Drop>(
     alloc: Global,
-    tree: &MemoryTree,
-    path: &str,
-    follow: bool,
+    answered: Result<T, Refusal>,
 ) -> Result<Value, Trouble> {
-    match stat(alloc, tree, path, follow) {
-        Ok(metadata) => but_for_memory(metadata_value(alloc, metadata)),
-        Err(refusal) => refused(alloc, refusal),
-    }
-}
-
-fn asked_list(alloc: Global, tree: &MemoryTree, path: &str) -> Result<Value, Trouble> {
-    match listing(alloc, tree, path) {
-        Ok(listing) => but_for_memory(listing_value(alloc, &listing)),
-        Err(refusal) => refused(alloc, refusal),
-    }
-}
-
-fn asked_contents(alloc: Global, tree: &MemoryTree, path: &str) -> Result<Value, Trouble> {
-    match contents(alloc, tree, path) {
-        Ok(contents) => but_for_memory(contents_value(alloc, &contents)),
-        Err(refusal) => refused(alloc, refusal),
-    }
-}
-
-fn asked_canonical(alloc: Global, tree: &MemoryTree, path: &str) -> Result<Value, Trouble> {
-    match canonical(alloc, tree, path) {
-        Ok(name) => but_for_memory(alone(alloc, "value", text_value(alloc, name.as_str()))),
-        Err(refusal) => refused(alloc, refusal),
-    }
-}
-
-fn asked_identity(
-    alloc: Global,
-    tree: &MemoryTree,
-    path: &str,
-    follow: bool,
-) -> Result<Value, Trouble> {
-    match identity(alloc, tree, path, follow) {
-        Ok(identity) => but_for_memory(alone(alloc, "identity", identity_value(alloc, identity))),
-        Err(refusal) => refused(alloc, refusal),
-    }
-}
-
-/// The fault of an error.
-fn refused(alloc: Global, refusal: Refusal) -> Result<Value, Trouble> {
-    match refusal {
-        Refusal::Fault(fault) => but_for_memory(alone(alloc, "fault", fault_value(alloc, fault))),
-        Refusal::Memory => Err(Trouble::Memory),
-    }
-}
-
-fn stat(alloc: Global, tree: &MemoryTree, path: &str, follow: bool) -> Result<Metadata, Refusal> {
-    match tree.stat(alloc, path, follow) {
-        Err(Refusal::Memory) => tree.stat(alloc, path, follow),
-        answer => answer,
-    }
-}
-
-fn listing(alloc: Global, tree: &MemoryTree, path: &str) -> Result<Listing, Refusal> {
-    match tree.list(alloc, path) {
-        Err(Refusal::Memory) => tree.list(alloc, path),
-        answer => answer,
-    }
-}
-
-fn contents(alloc: Global, tree: &MemoryTree, path: &str) -> Result<Contents, Refusal> {
-    match tree.contents(alloc, path) {
-        Err(Refusal::Memory) => tree.contents(alloc, path),
-        answer => answer,
-    }
-}
-
-fn canonical(alloc: Global, tree: &MemoryTree, path: &str) -> Result<Name, Refusal> {
-    match tree.canonical(alloc, path) {
-        Err(Refusal::Memory) => tree.canonical(alloc, path),
-        answer => answer,
-    }
-}
-
-fn identity(
-    alloc: Global,
-    tree: &MemoryTree,
-    path: &str,
-    follow: bool,
-) -> Result<Option<Identity>, Refusal> {
-    match tree.identity(alloc, path, follow) {
-        Err(Refusal::Memory) => tree.identity(alloc, path, follow),
-        answer => answer,
-    }
-}
-
-/// An object of one field.
-fn alone(alloc: Global, name: &str, value: Result<Value, AllocError>) -> Result<Value, AllocError> {
     let mut answer = Answer::new(alloc);
-    answer.put(name, value);
-    answer.value()
-}
-
-fn metadata_value(alloc: Global, metadata: Metadata) -> Result<Value, AllocError> {
-    let mut answer = Answer::new(alloc);
-    answer.put_text("kind", kind_name(metadata.file_type()));
-    answer.put_number("len", metadata.len());
-    answer.value()
-}
-
-fn contents_value(alloc: Global, contents: &Contents) -> Result<Value, AllocError> {
-    let mut answer = Answer::new(alloc);
-    answer.put("hex", hex_value(alloc, contents.bytes.as_slice()));
-    answer.put("read_fault", fault_or_null(alloc, contents.fault));
-    answer.value()
-}
-
-fn listing_value(alloc: Global, listing: &Listing) -> Result<Value, AllocError> {
-    let mut entries = Items::new(alloc);
-    for listed in listing.as_slice() {
-        entries.put(listed_value(alloc, listed));
+    match answered {
+        Ok(shown) => shown.put(&mut answer),
+        Err(Refusal::Fault(fault)) => answer.put("fault", fault),
+        Err(Refusal::Memory) => return Err(Trouble::Memory),
     }
-    alone(alloc, "value", entries.value())
+    Ok(answer.value()?)
+}
+
+impl Shown for Metadata {
+    fn put(&self, answer: &mut Answer) {
+        answer.put("kind", self.file_type());
+        answer.put("len", self.len());
+    }
+}
+
+impl Shown for Listing {
+    fn put(&self, answer: &mut Answer) {
+        answer.put("value", self.as_slice());
+    }
+}
+
+impl Shown for Contents {
+    fn put(&self, answer: &mut Answer) {
+        answer.put("hex", &self.bytes);
+        answer.put("read_fault", self.fault);
+    }
+}
+
+impl Shown for Name {
+    fn put(&self, answer: &mut Answer) {
+        answer.put("value", self.as_str());
+    }
+}
+
+impl Shown for Option<Identity> {
+    fn put(&self, answer: &mut Answer) {
+        answer.put("identity", *self);
+    }
 }
 
 /// What is listed: `["entry", "a", "Dir"]`, or `["fault", "BadName"]`.
-fn listed_value(alloc: Global, listed: &Listed) -> Result<Value, AllocError> {
-    match listed {
-        Listed::Entry { name, file_type } => entry_value(alloc, name.as_str(), *file_type),
-        Listed::Fault(fault) => listed_fault(alloc, *fault),
-    }
-}
-
-fn entry_value(alloc: Global, name: &str, file_type: FileType) -> Result<Value, AllocError> {
-    let mut parts = Items::new(alloc);
-    parts.put_text("entry");
-    parts.put_text(name);
-    parts.put_text(kind_name(file_type));
-    parts.value()
-}
-
-fn listed_fault(alloc: Global, fault: Fault) -> Result<Value, AllocError> {
-    let mut parts = Items::new(alloc);
-    parts.put_text("fault");
-    parts.put_text(fault_name(fault));
-    parts.value()
-}
-
-fn identity_value(alloc: Global, identity: Option<Identity>) -> Result<Value, AllocError> {
-    match identity {
-        Some(identity) => {
-            let mut parts = Items::new(alloc);
-            parts.put_number(identity.device);
-            parts.put_number(identity.inode);
-            parts.value()
+impl Written for &Listed {
+    fn written(self, alloc: Global) -> Result<Value, AllocError> {
+        let mut items = Items::new(alloc);
+        match self {
+            Listed::Entry { name, file_type } => put_entry(&mut items, name.as_str(), *file_type),
+            Listed::Fault(fault) => {
+                items.put("fault");
+                items.put(*fault);
+            }
         }
-        None => Ok(Value::Null),
+        items.value()
     }
 }
 
-fn fault_value(alloc: Global, fault: Fault) -> Result<Value, AllocError> {
-    text_value(alloc, fault_name(fault))
+fn put_entry(items: &mut Items, name: &str, file_type: FileType) {
+    items.put("entry");
+    items.put(name);
+    items.put(file_type);
 }
 
-fn fault_or_null(alloc: Global, fault: Option<Fault>) -> Result<Value, AllocError> {
-    match fault {
-        Some(fault) => fault_value(alloc, fault),
-        None => Ok(Value::Null),
+impl Written for Identity {
+    fn written(self, alloc: Global) -> Result<Value, AllocError> {
+        let mut items = Items::new(alloc);
+        items.put(self.device);
+        items.put(self.inode);
+        items.value()
     }
 }
 
-fn kind_name(file_type: FileType) -> &'static str {
-    match file_type {
-        FileType::File => "File",
-        FileType::Dir => "Dir",
-        FileType::Symlink => "Symlink",
-        FileType::Other => "Other",
+impl Written for FileType {
+    fn written(self, alloc: Global) -> Result<Value, AllocError> {
+        let name = match self {
+            FileType::File => "File",
+            FileType::Dir => "Dir",
+            FileType::Symlink => "Symlink",
+            FileType::Other => "Other",
+        };
+        name.written(alloc)
     }
 }

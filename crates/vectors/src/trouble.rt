@@ -1,27 +1,8 @@
-//! The outcome of a kind for a vector.
+//! Why a vector gets no answer.
 ghost use Rattle.std.specs.Prelude.{◌≡◌};
-ghost use Rattle.vectors.specs.declared.outcome.Trouble.TheVariants.{Memory};
+ghost use Rattle.vectors.specs.declared.trouble.Trouble.TheVariants.{Memory};
 
-use serde_json::Value;
 use std::alloc::{AllocError, AllocFailed};
-
-/// The outcome of a kind.
-#[derive(Drop)]
-pub enum Outcome {
-    /// The answer, in the shape of the vector's `out`.
-    Answer(Value),
-    /// The vector is skipped.
-    Skipped(Reason),
-}
-
-/// Why a vector is skipped.
-#[derive(Clone, Copy, Drop)]
-pub enum Reason {
-    /// It needs a mode that treats trailing spaces as git does, which doesn't exist.
-    GitTrailingSpaces,
-    /// The plain matcher would try too many ways to cut its text.
-    TooManySplits,
-}
 
 /// Why a kind gives no answer.
 #[derive(Clone, Copy, Drop)]
