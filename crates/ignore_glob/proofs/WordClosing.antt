@@ -1,5 +1,5 @@
 -- Closing a word by masks is closing the set by steps without a character, and the number of its bits is that of the marks.
-use Rattle.std.proofs.Common.{◌≡◌, ◌<◌, ◌≤◌, ◌+◌, ◌-◌, ◌*◌, ◌%◌, ◌^◌, ◌↔◌, inl, inr, ℕ, zero, suc, Bool, List, length, arith, sym, subst, slice_get, Some}
+use Rattle.std.proofs.Common.{◌≡◌, ◌<◌, ◌≤◌, ◌+◌, ◌-◌, ◌*◌, ◌%◌, ◌^◌, ◌↔◌, inl, inr, ℕ, zero, suc, Bool, List, length, arith, sym, subst, slice_get, Some, ◌⊎◌}
 use Rattle.std.specs.Prelude.{bit_and, bit_or, count_ones}
 use Rattle.std.proofs.lemmas.Bool.{cases_eq}
 use Rattle.std.proofs.lemmas.Nat.{le_or_l}
@@ -14,23 +14,33 @@ use Rattle.ignore_glob.proofs.Closing.{Reached-mono}
 use Rattle.ignore_glob.proofs.WordBits.{has_or, has_and, has_shift, and_small, flags_of, flags_of-length, flag_has, has_flag, ones_flags}
 use Rattle.ignore_glob.proofs.WordLemmas.{fits, nothing_to, free_kind, start_kind}
 
--- one round more
-abbrev pub more : Masks → ℕ → ℕ
-more m set = bit_or (bit_or set (bit_and set m.free * 2 ^ 1 % 2 ^ 64)) (bit_and set m.starts * 2 ^ 2 % 2 ^ 64)
+-- a set with what follows its free positions without a gap
+pub record IsSpread (m : Masks) (set spread : ℕ) : Type 0 where
+  pub first : Has spread 0 ↔ Has set 0
+  pub next : (p : ℕ) → Has spread (suc p) ↔ (Has set (suc p) ⊎ (Has spread p × Has m.free p))
 
-module _ (m : Masks) (free : m.free < 2 ^ 62) (starts : m.starts < 2 ^ 62) (first set : ℕ) where
-  pub more_sound : ((q : ℕ) → Has set q → Closed m first q) → (q : ℕ) → Has (more m set) q → Closed m first q
-  more_sound sound q h =
+pub spread_kept : (m : Masks) (set spread : ℕ) → IsSpread m set spread → (q : ℕ) → Has set q → Has spread q
+spread_kept m set spread is zero h = is.first.1 h
+spread_kept m set spread is (suc q) h = (is.next q).1 (inl h)
+
+pub spread_sound : (m : Masks) (first set spread : ℕ) → IsSpread m set spread → ((q : ℕ) → Has set q → Closed m first q) → (q : ℕ)
+    → Has spread q → Closed m first q
+spread_sound m first set spread is sound zero h = sound zero (is.first.0 h)
+spread_sound m first set spread is sound (suc q) h = elim ((is.next q).0 h) [
+  | inl old ↦ sound (suc q) old
+  | inr new ↦ to_next q (spread_sound m first set spread is sound q new.0) new.1
+]
+
+-- what follows a start is put too
+abbrev pub skipped : Masks → ℕ → ℕ
+skipped m set = bit_or set (bit_and set m.starts * 2 ^ 2 % 2 ^ 64)
+
+module _ (m : Masks) (starts : m.starts < 2 ^ 62) (first set : ℕ) where
+  pub skip_sound : ((q : ℕ) → Has set q → Closed m first q) → (q : ℕ) → Has (skipped m set) q → Closed m first q
+  skip_sound sound q h =
       let P : ℕ → Type 0 = λ k. Closed m first k in
-      elim ((has_or (bit_or set (bit_and set m.free * 2 ^ 1 % 2 ^ 64)) (bit_and set m.starts * 2 ^ 2 % 2 ^ 64) q).0 h) [
-        | inl a ↦ elim ((has_or set (bit_and set m.free * 2 ^ 1 % 2 ^ 64) q).0 a) [
-          | inl old ↦ sound q old
-          | inr n ↦
-              let from = (has_shift (bit_and set m.free) 1 q (and_small set m.free free) (omega arith)).0 n in
-              let both = (has_and set m.free from.0).0 from.2 in
-              let e : suc from.0 ≡ q = let f : q ≡ from.0 + 1 = from.1 in omega (arith, f) in
-              subst P e (to_next from.0 (sound from.0 both.0) both.1)
-        ]
+      elim ((has_or set (bit_and set m.starts * 2 ^ 2 % 2 ^ 64) q).0 h) [
+        | inl old ↦ sound q old
         | inr n ↦
             let from = (has_shift (bit_and set m.starts) 2 q (and_small set m.starts starts) (omega arith)).0 n in
             let both = (has_and set m.starts from.0).0 from.2 in
@@ -38,31 +48,25 @@ module _ (m : Masks) (free : m.free < 2 ^ 62) (starts : m.starts < 2 ^ 62) (firs
             subst P e (past_next from.0 (sound from.0 both.0) both.1)
       ]
 
-  pub more_kept : (q : ℕ) → Has set q → Has (more m set) q
-  more_kept q h =
-      (has_or (bit_or set (bit_and set m.free * 2 ^ 1 % 2 ^ 64)) (bit_and set m.starts * 2 ^ 2 % 2 ^ 64) q).1
-      (inl ((has_or set (bit_and set m.free * 2 ^ 1 % 2 ^ 64) q).1 (inl h)))
+  pub skip_kept : (q : ℕ) → Has set q → Has (skipped m set) q
+  skip_kept q h = (has_or set (bit_and set m.starts * 2 ^ 2 % 2 ^ 64) q).1 (inl h)
 
-  pub more_less : set < 2 ^ 64 → (more m set ≡ set → ⊥) → 2 ^ 64 - more m set < 2 ^ 64 - set
-  more_less fits apart =
-      let a = le_or_l set (bit_and set m.free * 2 ^ 1 % 2 ^ 64) in
-      let b = le_or_l (bit_or set (bit_and set m.free * 2 ^ 1 % 2 ^ 64)) (bit_and set m.starts * 2 ^ 2 % 2 ^ 64) in
-      let c : set < more m set = elim (cases_eq (more m set) set) [ inl same ↦ absurd (apart same) | inr other ↦ omega (arith, a, b, other) ] in
-      omega (arith, c, fits)
+  pub skip_less : (spread : ℕ) → skipped m set ≤ spread → spread < 2 ^ 64 → (skipped m set ≡ set → ⊥) → 2 ^ 64 - spread < 2 ^ 64 - set
+  skip_less spread greater fits apart =
+      let a = le_or_l set (bit_and set m.starts * 2 ^ 2 % 2 ^ 64) in
+      let c : set < skipped m set = elim (cases_eq (skipped m set) set) [ inl same ↦ absurd (apart same) | inr other ↦ omega (arith, a, other) ] in
+      omega (arith, c, greater, fits)
 
-  -- where a round adds nothing, the set is closed
-  pub more_closed : more m set ≡ set → ((q : ℕ) → Has first q → Has set q) → (q : ℕ) → Closed m first q → Has set q
-  more_closed same kept q (known p h) = kept p h
-  more_closed same kept q (to_next p c f) =
-      let before = more_closed same kept p c in
-      let shifted = (has_shift (bit_and set m.free) 1 (suc p) (and_small set m.free free) (omega arith)).1 (p, omega arith, (has_and set m.free p).1 (before, f)) in
-      subst (λ (w : ℕ). Has w (suc p)) same ((has_or (bit_or set (bit_and set m.free * 2 ^ 1 % 2 ^ 64)) (bit_and set m.starts * 2 ^ 2 % 2 ^ 64) (suc p)).1
-      (inl ((has_or set (bit_and set m.free * 2 ^ 1 % 2 ^ 64) (suc p)).1 (inr shifted))))
-  more_closed same kept q (past_next p c f) =
-      let before = more_closed same kept p c in
-      let shifted = (has_shift (bit_and set m.starts) 2 (suc (suc p)) (and_small set m.starts starts) (omega arith)).1 (p, omega arith, (has_and set m.starts p).1 (before, f)) in
-      subst (λ (w : ℕ). Has w (suc (suc p))) same
-      ((has_or (bit_or set (bit_and set m.free * 2 ^ 1 % 2 ^ 64)) (bit_and set m.starts * 2 ^ 2 % 2 ^ 64) (suc (suc p))).1 (inr shifted))
+  -- where no start puts more, a spread set is closed
+  pub skip_closed : skipped m set ≡ set → ((p : ℕ) → Has set p → Has m.free p → Has set (suc p))
+      → ((q : ℕ) → Has first q → Has set q) → (q : ℕ) → Closed m first q → Has set q
+  skip_closed same onward kept q (known p h) = kept p h
+  skip_closed same onward kept q (to_next p c f) = onward p (skip_closed same onward kept p c) f
+  skip_closed same onward kept q (past_next p c f) =
+      let before = skip_closed same onward kept p c in
+      let shifted = (has_shift (bit_and set m.starts) 2 (suc (suc p)) (and_small set m.starts starts) (omega arith)).1
+      (p, omega arith, (has_and set m.starts p).1 (before, f)) in
+      subst (λ (w : ℕ). Has w (suc (suc p))) same ((has_or set (bit_and set m.starts * 2 ^ 2 % 2 ^ 64) (suc (suc p))).1 (inr shifted))
 
 module _ (nodes : List Node) (m : Masks) (is : word_of nodes ≡ Some m) where
   -- closing by the masks reaches what the nodes do

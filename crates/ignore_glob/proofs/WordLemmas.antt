@@ -319,3 +319,12 @@ module _ (nodes : List Node) (m : Masks) (is : word_of nodes ≡ Some m) where
 
   pub start_small : m.starts < 2 ^ 62
   start_small = subst (λ (x : Masks). x.starts < 2 ^ 62) known_fits.same (mask_small is_start nodes known_fits.short)
+
+-- an inside that is free is that of an end, or of a start that is the whole glob
+pub inside_end : (node : Node) → is_inside node ≡ true → is_free node ≡ true → (next : ℕ) × (node ≡ until_end next)
+inside_end (until_end next) a b = (next, refl)
+inside_end (until_slash next) a b = absurd (cc b)
+inside_end node a b = absurd (cc a)
+
+pub next_end : (p next : ℕ) → leads_next (until_end next) p ≡ true → next ≡ p + 1
+next_end p next l = eqb-true next (p + 1) l

@@ -40,8 +40,10 @@ pub fn matching_is_a_mark()
 pub fn marks_are_bounded()
     ensures one { (fold : Bool) (ts : Tokens) (text : List ℕ) (n m : ℕ) → CountsMarks fold ts text n → CountsMarks fold ts text m → n ≡ m }
     ensures least { (fold : Bool) (ts : Tokens) (text : List ℕ) (n : ℕ) → CountsMarks fold ts text n → 1 ≤ n }
-    ensures matched { (fold : Bool) (ts : Tokens) (text : List ℕ) (n : ℕ) → CountsMarks fold ts text n → glob_matches fold ts text → length text + 1 ≤ n }
-    ensures most { (fold : Bool) (ts : Tokens) (text : List ℕ) (n : ℕ) → CountsMarks fold ts text n → n ≤ (positions ts + 1) * (length text + 1) }
+    ensures matched { (fold : Bool) (ts : Tokens) (text : List ℕ) (n : ℕ) → CountsMarks fold ts text n → glob_matches fold ts text
+        → length text + 1 ≤ n }
+    ensures most { (fold : Bool) (ts : Tokens) (text : List ℕ) (n : ℕ) → CountsMarks fold ts text n
+        → n ≤ (positions ts + 1) * (length text + 1) }
 {}
 
 /// The positions of a glob differ from each other, and are at most as many as its characters.

@@ -1,5 +1,5 @@
 //! The pass over sets of positions that are one machine word each: for short globs without braces.
-ghost use Rattle.std.specs.Prelude.{◌≡◌, ◌<◌, ◌≤◌, ◌+◌, ◌*◌, ◌-◌, ◌^◌, ◌↔◌, ◌∷◌, [], ℕ, IsTrue, Some, length, min};
+ghost use Rattle.std.specs.Prelude.{◌≡◌, ◌<◌, ◌≤◌, ◌+◌, ◌*◌, ◌-◌, ◌^◌, ◌↔◌, ◌⊎◌, ◌∷◌, [], ℕ, suc, IsTrue, Some, length, min};
 ghost use Rattle.std.specs.Str.{chars};
 ghost use Rattle.ignore_glob.specs.Nodes.{Reached, SteppedTo, Marked};
 ghost use Rattle.ignore_glob.specs.Flags.{AllLeadOn, Count};
@@ -178,13 +178,13 @@ impl Masks {
         requires starts { self.starts < 2 ^ 62 }
         ensures { (q : ℕ) → Has result q ↔ Closed self set q }
     {
-        let mut set = set;
+        let mut set = spread(set, self.free);
         loop {
-            let more = set | (set & self.free) << 1 | (set & self.starts) << 2;
+            let more = set | (set & self.starts) << 2;
             if more == set {
                 return set;
             }
-            set = more;
+            set = spread(more, self.free);
         }
     }
 
@@ -210,16 +210,31 @@ impl Masks {
         self.close(self.step(fold, nodes, set, c))
     }
 
+    /// The last position, if it is an inside from which each text leads to the end.
+    fn matches_all(self, end: usize) -> u64
+        requires { end ≤ 62 }
+        ensures { (p : ℕ) → Has result p → Has self.insides p × Has self.free p × (p + 1 ≡ end) }
+    {
+        if end == 0 {
+            return 0;
+        }
+        self.insides & self.free & 1 << (end - 1)
+    }
+
     /// Whether the text is matched.
     pub fn matches(self, fold: bool, nodes: &[Node], text: &str) -> bool
         requires word { word_of (nodes_view nodes.now) ≡ Some self }
         ensures { IsTrue result
             ↔ Marked fold (nodes_view nodes.now) (chars text.now) (length (chars text.now)) (length nodes.now) }
     {
+        let all = self.matches_all(nodes.len());
         let mut here = self.close(1);
         for c in text.chars() {
             if here == 0 {
                 return false;
+            }
+            if here & all != 0 {
+                return true;
             }
             here = self.advance(fold, nodes, here, c);
         }
@@ -246,6 +261,16 @@ impl Masks {
         }
         (has(here, nodes.len()), count)
     }
+}
+
+/// The set, and what follows each of its free positions without a gap: a sum carries past them.
+fn spread(set: u64, free: u64) -> u64
+    requires { free < 2 ^ 62 }
+    ensures first { Has result 0 ↔ Has set 0 }
+    ensures next { (p : ℕ) → Has result (suc p) ↔ (Has set (suc p) ⊎ (Has result p × Has free p)) }
+    ensures greater { set ≤ result }
+{
+    set | ((set & free) + free) ^ free
 }
 
 /// Whether the set has the position.

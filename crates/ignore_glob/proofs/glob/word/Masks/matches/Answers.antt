@@ -1,15 +1,17 @@
-use Rattle.std.proofs.Common.{◌≡◌, ◌-◌, ◌++◌, ◌∷◌, [], ◌↔◌, ℕ, suc, arith, refl, sym, subst, length}
+use Rattle.std.proofs.Common.{rules, ◌≡◌, ◌<◌, ◌^◌, ◌-◌, ◌++◌, ◌∷◌, [], ◌↔◌, ℕ, suc, arith, refl, sym, subst, length}
 use Rattle.std.proofs.lemmas.Iterator.{YieldsList-from_chars}
 use Rattle.std.proofs.lemmas.Iterator.Consumers.{YieldsList-turn, YieldsList-end}
-use Rattle.std.proofs.lemmas.List.{length_push}
+use Rattle.std.proofs.lemmas.List.{length_push, length-map}
+use Rattle.std.specs.Prelude.{bit_and}
 use Rattle.std.proofs.lemmas.Option.{slice_get_read}
 use Rattle.std.specs.Str.{chars}
 use Rattle.ignore_glob.specs.Nodes.{Marked}
-use Rattle.ignore_glob.specs.NodeLists.{nodes_view}
+use Rattle.ignore_glob.specs.NodeLists.{node_view, nodes_view}
 use Rattle.ignore_glob.specs.Words.{Has}
 use Rattle.ignore_glob.proofs.MarkSteps.{marked_past, later, later-sum, none_later}
-use Rattle.ignore_glob.proofs.WordBits.{has_none}
-use Rattle.ignore_glob.proofs.WordLemmas.{free_small, start_small}
+use Rattle.ignore_glob.proofs.WordBits.{has_none, has_and, lowest, lowest_there}
+use Rattle.ignore_glob.proofs.WordLemmas.{fits, free_small, start_small}
+use Rattle.ignore_glob.proofs.WordCertain.{certain}
 use Rattle.ignore_glob.proofs.WordClosing.{first_marks}
 use Rattle.ignore_glob.proofs.glob.word.Masks.matches.Goals as goal
 
@@ -63,3 +65,25 @@ returns-then-here-eq0 c =
     let last = length c.args.nodes.now in
     let P : ℕ → Type 0 = λ o. Marked fold nodes text o last in
     (λ t. absurd (cc t), λ m. absurd (none_later fold nodes text k i none last (subst P (sym end) m)))
+
+pub matches_all-all-requires : goal.matches_all-all-requires
+matches_all-all-requires c =
+    let short = (fits (nodes_view c.args.nodes.now) c.args.self c.requires.word).short in
+    omega (arith, short, length-map c.args.nodes.now node_view)
+
+pub returns-then-here-all-ne0 : goal.returns-then-here-all-ne0
+returns-then-here-all-ne0 c =
+    let nodes = nodes_view c.args.nodes.now in
+    let m = c.args.self in
+    let text = chars c.args.text.now in
+    let i = length c.loop-c.yielded in
+    let turn = YieldsList-turn (YieldsList-from_chars c.args.text.now c.utf8.text cc) c.loop-c.yielded _ c.loop-c.yielded_by _ _ c.in-Some.c c.in-Some.is c.next.ensures.steps in
+    let both : ℕ = bit_and c.loop-c.here c.matches_all-all.result in
+    let p = lowest both in
+    let fits : both < 2 ^ 64 = search rules in
+    let there = (has_and c.loop-c.here c.matches_all-all.result p).0 (lowest_there both (omega (arith, c.if-here-all-ne0.true)) fits) in
+    let known = c.matches_all-all.ensures p there.1 in
+    let long = length-map c.args.nodes.now node_view in
+    let last = certain c.args.fold nodes text m c.requires.word p i known.0 known.1 (omega (arith, known.2, long)) (omega (arith, turn.0))
+    ((c.loop-c.invariant.marks p).0 there.0) in
+    ((λ _. subst (λ (q : ℕ). Marked c.args.fold nodes text (length text) q) long last), (λ _. refl))
