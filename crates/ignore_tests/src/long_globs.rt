@@ -1,4 +1,5 @@
-//! Long globs, matched with an ordinary stack: each is parsed, cloned, matched, counted and dropped.
+//! Long globs, matched with an ordinary stack: each is parsed, cloned, matched, counted and
+//! dropped.
 use ignore_glob::glob::{Options, Pattern, PatternError};
 use std::alloc::{AllocError, Global};
 use std::test::Fail;

@@ -21,8 +21,8 @@ deciding_rule rules path is_dir = inner (answer rules.root rules.rules path is_d
 abbrev pub is_packed : Ruleset → List ℕ → Bool
 is_packed rules path = is_under_root rules path && not (is_ignore (answer_with_parents rules.root rules.rules path false))
 
--- whether a linter looks at a file: as the globs of the command line answer, or else unless its types
--- skip it
+-- whether a linter looks at a file: as the globs of the command line answer, or else unless its
+-- types skip it
 abbrev pub is_linted : Match (Option Rule) → Bool → Bool
 is_linted overridden is_skipped = is_whitelist overridden || (is_none overridden && not is_skipped)
 

@@ -60,7 +60,9 @@ pub fn rules_of_buffer(
     path: &str,
     text: &str,
 ) -> Result<(Gitignore, Option<Error>), Error>
-    ensures read { IfOk result (λ r. BuildsAnswer path.now (Ok (record { bytes = text.now; fault = None })) (begun (folder_of path.now)) r.0 (option_map problem_of r.1)) }
+    ensures read { IfOk result (λ r.
+        BuildsAnswer path.now (Ok (record { bytes = text.now; fault = None })) (begun (folder_of path.now)) r.0
+        (option_map problem_of r.1)) }
     ensures out_of_memory { IfErr result (λ e. problem_of e ≡ memory) }
 {
     let buffer = Buffer { text };

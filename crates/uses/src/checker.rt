@@ -25,8 +25,13 @@ pub fn is_ignored<F: Files>(
     gitignore: &str,
     path: &str,
 ) -> Result<(bool, Option<Error>), Error>
-    ensures read { (tree : Tree) → IsHonest F.Files files.now tree → IfOk result (λ r. (rules : Ruleset) × IsMatcherOf tree gitignore.now rules (option_map problem_of r.1) × (r.0 ≡ ignores rules path.now)) }
-    ensures answered { IfOk result (λ r. (rules : Ruleset) × (answer : Result Contents Refusal) × F.contents_gives files.now gitignore.now answer × BuildsAnswer gitignore.now answer (begun (folder_of gitignore.now)) rules (option_map problem_of r.1) × (r.0 ≡ ignores rules path.now)) }
+    ensures read { (tree : Tree) → IsHonest F.Files files.now tree
+        → IfOk result (λ r. (rules : Ruleset) × IsMatcherOf tree gitignore.now rules (option_map problem_of r.1)
+        × (r.0 ≡ ignores rules path.now)) }
+    ensures answered { IfOk result (λ r. (rules : Ruleset) × (answer : Result Contents Refusal)
+        × F.contents_gives files.now gitignore.now answer
+        × BuildsAnswer gitignore.now answer (begun (folder_of gitignore.now)) rules (option_map problem_of r.1)
+        × (r.0 ≡ ignores rules path.now)) }
     ensures out_of_memory { IfErr result (λ e. problem_of e ≡ memory) }
 {
     let (rules, problem) = Gitignore::new(alloc, files, gitignore)?;

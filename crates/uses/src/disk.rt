@@ -1,5 +1,5 @@
-//! The checker over a disk: its answer is that of the tree on the disk, wherever the machine answers
-//! truly.
+//! The checker over a disk: its answer is that of the tree on the disk, wherever the machine
+//! answers truly.
 ghost use Rattle.std.specs.Prelude.{◌≡◌, IfOk, IfErr, option_map};
 ghost use Rattle.ignore_files.specs.Disk.{tree_on};
 ghost use Rattle.ignore_files.specs.Machine.{Disk, IsTruthful};
@@ -23,7 +23,9 @@ pub fn is_ignored_on_disk<R: Machine>(
     gitignore: &str,
     path: &str,
 ) -> Result<(bool, Option<Error>), Error>
-    ensures read { (disk : Disk) → IsTruthful R.Machine R.Dir.next_gives machine.now disk → IfOk result (λ r. (rules : Ruleset) × IsMatcherOf (tree_on disk) gitignore.now rules (option_map problem_of r.1) × (r.0 ≡ ignores rules path.now)) }
+    ensures read { (disk : Disk) → IsTruthful R.Machine R.Dir.next_gives machine.now disk
+        → IfOk result (λ r. (rules : Ruleset) × IsMatcherOf (tree_on disk) gitignore.now rules (option_map problem_of r.1)
+        × (r.0 ≡ ignores rules path.now)) }
     ensures out_of_memory { IfErr result (λ e. problem_of e ≡ memory) }
 {
     let files = DiskFiles::new(machine);

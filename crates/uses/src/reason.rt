@@ -44,7 +44,8 @@ pub fn deciding_file<'m>(
     path: &str,
     is_dir: bool,
 ) -> Result<Option<&'m str>, Error>
-    ensures file { IfOk result (λ file. option_copied file ≡ option_and_then (λ rule. rule.from) (deciding_rule rules.now path.now is_dir)) }
+    ensures file { IfOk result (λ file.
+        option_copied file ≡ option_and_then (λ rule. rule.from) (deciding_rule rules.now path.now is_dir)) }
     ensures out_of_memory { IfErr result (λ e. problem_of e ≡ memory) }
 {
     match deciding_rule(rules, path, is_dir)? {
