@@ -1,17 +1,25 @@
 -- Choices answer by the last one that matches.
-use Rattle.std.proofs.Common.{◌≡◌, ℕ, zero, suc, ◌+◌, ◌<◌, Bool, true, false, ◌||◌, List, [], ◌∷◌, length, get_or, drop, drop-cons, add-one, Decides, Option, refl, sym, ap, ◌∙◌, inl, inr, ◌⊎◌, cond, arith}
+use Rattle.std.proofs.Common.{◌≡◌, ℕ, zero, suc, ◌+◌, ◌<◌, Bool, true, false, ◌||◌, List, [], ◌∷◌, length, get_or, map, drop, drop-cons, add-one, All, Decides, Option, refl, sym, ap, subst, ◌∙◌, inl, inr, ◌⊎◌, cond, arith}
 use Rattle.std.specs.Prelude as option
 use Rattle.std.specs.List.{list_any}
 use Rattle.std.specs.Str.{chars}
-use Rattle.std.proofs.lemmas.Bool.{cond-false}
+use Rattle.std.specs.Option.{option_map, is_some}
+use Rattle.std.proofs.lemmas.Bool.{false_from_ne_true, or_from, or_left, or_right}
+use Rattle.std.proofs.lemmas.List.{length-map}
+use Rattle.std.proofs.lemmas.Option.{slice_get-map, slice_get-get_or, slice_get_within}
 use Rattle.std.proofs.lemmas.Bool.Decides.{Decides-or, not_from_Decides}
 use Rattle.ignore_base.specs.declared.match_result.Match.{Match}
 use Rattle.ignore_base.specs.declared.match_result.Match.TheVariants.{None, Ignore, Whitelist}
 use Rattle.ignore_glob.specs.DoesMatch.{does_match}
 use Rattle.ignore_base.specs.Match.{match_or}
 use Rattle.ignore_glob.specs.Reading.{Reading, Matches}
+use Rattle.ignore_set.specs.Sets.{Member, Applies, IsLastMatch}
+use Rattle.ignore_types.specs.TypeIndex.{name_member}
 use Rattle.ignore_types.specs.TypeMatch.{Chosen, does_choice_match, verdict_of, choice_answer, choices_answer, unmatched, type_answer, SomeMatches, NoneMatches, IsDeciding, IsNameAnswer, AnswersByTheLastChoice}
 use Rattle.ignore_types.specs.Types.{Definition}
+
+some_one : {A : Type 0} (a b : A) → option.Some a ≡ option.Some b → a ≡ b
+some_one a b e = cc
 
 verdict-some : (c : Chosen) (flag : Bool) → cond flag (Ignore (option.Some c.definition)) (Whitelist (option.Some c.definition)) ≡ None → ⊥
 verdict-some c true e = cc
@@ -57,19 +65,36 @@ pub passed : (cs : List Chosen) (name : List ℕ) (i : ℕ) (c : Chosen) → i <
     → choices_answer (drop (i + 1) cs) name ≡ None → does_choice_match name c ≡ false → choices_answer (drop i cs) name ≡ None
 passed cs name i c fits is none e = at_choice cs name i c fits is none ∙ ap (λ b. cond b (verdict_of c) None) e
 
--- one glob of a list
-pub any_at : (p : Reading → Bool) (rs : List Reading) (i : ℕ) (r : Reading) → i < length rs → r ≡ get_or rs i r
-    → list_any p (drop i rs) ≡ (p r || list_any p (drop (i + 1) rs))
-any_at p rs i r fits is =
-    let place : drop i rs ≡ r ∷ drop (i + 1) rs = rw add-one (drop-cons rs i r fits ∙ ap (λ q. q ∷ drop (suc i) rs) (sym is)) in
-    ap (list_any p) place
-
 -- The law that the test of matching decides matching is handed in.
 module _ (decides : (reading : Reading) (text : List ℕ) → Decides (does_match reading text) (Matches reading text)) where
   some_decided : (name : List ℕ) (rs : List Reading) → Decides (list_any (λ r. does_match r name) rs) (SomeMatches name rs)
   some_decided name [] = (λ e. cc, λ h. absurd h)
   some_decided name (r ∷ rs) =
       Decides-or (does_match r name) (list_any (λ q. does_match q name) rs) (decides r name) (some_decided name rs)
+
+  -- the last match of the globs of a choice, if there is one
+  pub some_found : (name : List ℕ) (rs : List Reading) (found : Option ℕ) → IsLastMatch name false (map name_member rs) found
+      → is_some found ≡ list_any (λ r. does_match r name) rs
+  some_found name rs option.None none = sym (no_match rs none)
+    where
+      no_match : (qs : List Reading) → All (λ m. Applies name false m → ⊥) (map name_member qs) → list_any (λ r. does_match r name) qs ≡ false
+      no_match [] h = refl
+      no_match (r ∷ qs) h =
+          or_from (does_match r name) (list_any (λ q. does_match q name) qs)
+          (false_from_ne_true _ (λ e. h zero (name_member r) (omega arith) (inl refl, (decides r name).0 e)))
+          (no_match qs (λ k d l. h (suc k) d (omega (arith, l))))
+  some_found name rs (option.Some i) (m, here, applies, later) =
+      let fits : i < length rs = subst (λ n. i < n) (length-map rs name_member) (slice_get_within (map name_member rs) i m here) in
+      let same : m ≡ name_member (get_or rs i m.reading) = some_one _ _ (sym here ∙ slice_get-map name_member rs i
+      ∙ ap (option_map name_member) (slice_get-get_or rs i m.reading fits)) in
+      sym (any_at rs i m.reading fits (subst (λ (x : Member). Matches x.reading name) same applies.1))
+    where
+      any_at : (qs : List Reading) (k : ℕ) (d : Reading) → k < length qs → Matches (get_or qs k d) name
+          → list_any (λ r. does_match r name) qs ≡ true
+      any_at [] k d l h = absurd (omega (arith, l))
+      any_at (r ∷ qs) zero d l h = or_left (does_match r name) (list_any (λ q. does_match q name) qs) ((decides r name).1 h)
+      any_at (r ∷ qs) (suc k) d l h =
+          or_right (does_match r name) (list_any (λ q. does_match q name) qs) (any_at qs k d (omega (arith, l)) h)
 
   -- the last choice that matches, or none
   last_of : (cs : List Chosen) (name : List ℕ)

@@ -4,5 +4,6 @@ pub mod PlaceSteps
 pub mod Refusals
 pub mod Defaults
 pub mod TypeMatch
+pub mod TypeIndex
 pub mod TypeCodes
 pub mod Building

@@ -5,7 +5,7 @@ ghost use Rattle.ignore_base.specs.Problem.{problem_of, memory, unrecognized};
 ghost use Rattle.ignore_types.specs.Types.{Draft, IsSortedCopy, IsAscending, one_glob, included, request_of, request_of_fields, after_request, Becomes, with_chosen, without};
 ghost use Rattle.ignore_types.specs.Building.{IsBuilt, IsChosen, IsChoiceProblem, IsRefusedWith, FirstBad};
 ghost use Rattle.ignore_types.specs.Refusals.{IsRefusal};
-ghost use Rattle.ignore_types.specs.Defaults.{with_rows};
+ghost use Rattle.ignore_types.specs.Defaults.{with_defaults};
 
 use crate::default_types::DEFAULT_TYPES;
 use crate::types::chosen::{ChosenType, read_globs};
@@ -87,7 +87,8 @@ impl TypesBuilder {
     }
 
     fn add_fields(&mut self, fields: &[&str]) -> Result<(), Error>
-        ensures added { OnOk result (Becomes self.old (after_request (request_of_fields (map (λ p. p.now) fields.now)) self.old.definitions) self.new) }
+        ensures added { OnOk result (Becomes self.old
+            (after_request (request_of_fields (map (λ p. p.now) fields.now)) self.old.definitions) self.new) }
         ensures refused { IfErr result (IsRefusal (after_request (request_of_fields (map (λ p. p.now) fields.now)) self.old.definitions)) }
         ensures unchanged { OnErr result (self.new ≡ self.old) }
     {
@@ -117,8 +118,10 @@ impl TypesBuilder {
     }
 
     fn include(&mut self, name: &str, sources: &str) -> Result<(), Error>
-        ensures added { OnOk result (Becomes self.old (after_request (included name.now (slice_split (λ b. b == 44) sources.now)) self.old.definitions) self.new) }
-        ensures refused { IfErr result (IsRefusal (after_request (included name.now (slice_split (λ b. b == 44) sources.now)) self.old.definitions)) }
+        ensures added { OnOk result (Becomes self.old
+            (after_request (included name.now (slice_split (λ b. b == 44) sources.now)) self.old.definitions) self.new) }
+        ensures refused { IfErr result
+            (IsRefusal (after_request (included name.now (slice_split (λ b. b == 44) sources.now)) self.old.definitions)) }
         ensures unchanged { OnErr result (self.new ≡ self.old) }
     {
         if !is_allowed(name) {
@@ -237,7 +240,8 @@ impl TypesBuilder {
     /// `push_defaults`, which does the work, and not of this call.
     pub fn add_defaults(&mut self) -> Result<&mut Self, Error>
         ensures same_reference { IfOk result (λ b. b.ghost_name ≡ self.entry.ghost_name) }
-        ensures added { IfOk result (λ b. b.now ≡ record { definitions = with_rows (map (λ r. (map (λ n. n.now) r.0.now, map (λ g. g.now) r.1.now)) DEFAULT_TYPES) self.old.definitions; choices = self.old.choices }) }
+        ensures added { IfOk result (λ b. b.now
+            ≡ with_defaults (map (λ r. (map (λ n. n.now) r.0.now, map (λ g. g.now) r.1.now)) DEFAULT_TYPES) self.old) }
         ensures out_of_memory { IfErr result (λ e. problem_of e ≡ memory) }
     {
         self.push_defaults()?;
@@ -246,7 +250,8 @@ impl TypesBuilder {
 
     /// For dependents: as `add_defaults`, without the builder in the result.
     pub fn push_defaults(&mut self) -> Result<(), Error>
-        ensures added { OnOk result (self.new ≡ record { definitions = with_rows (map (λ r. (map (λ n. n.now) r.0.now, map (λ g. g.now) r.1.now)) DEFAULT_TYPES) self.old.definitions; choices = self.old.choices }) }
+        ensures added { OnOk result (self.new
+            ≡ with_defaults (map (λ r. (map (λ n. n.now) r.0.now, map (λ g. g.now) r.1.now)) DEFAULT_TYPES) self.old) }
         ensures out_of_memory { IfErr result (λ e. problem_of e ≡ memory) }
         ensures unchanged { OnErr result (self.new ≡ self.old) }
     {
@@ -261,7 +266,8 @@ fn chosen_types(
     selections: &[Selection],
 ) -> Result<Vec<ChosenType>, Error>
     ensures built { IfOk result (λ all. AllZip (IsChosen types.now) selections.now all.items) }
-    ensures refused { IfErr result (λ e. (problem_of e ≡ memory) ⊎ FirstBad (IsChosen types.now) (IsChoiceProblem types.now (problem_of e)) selections.now) }
+    ensures refused { IfErr result (λ e. (problem_of e ≡ memory)
+        ⊎ FirstBad (IsChosen types.now) (IsChoiceProblem types.now (problem_of e)) selections.now) }
 {
     let mut all = Vec::new(alloc);
     for selection in selections {
@@ -288,9 +294,9 @@ fn chosen_type(
     let Some(definition) = types.get(selection.name()) else {
         return Err(unrecognized(alloc, selection.name()));
     };
-    let patterns = read_globs(alloc, definition.globs())?;
+    let globs = read_globs(alloc, definition.globs())?;
     let copy = definition.clone()?;
-    Ok(ChosenType::new(copy, patterns, selection.is_negated()))
+    Ok(ChosenType::new(copy, globs, selection.is_negated())?)
 }
 
 /// The error of a choice whose name no type has, or `Error::Memory`.

@@ -3,7 +3,6 @@ ghost use Rattle.std.specs.Prelude.{◌≡◌, ◌⊎◌, ℕ, IfOk, IfErr, Matc
 ghost use Rattle.std.specs.List.{AllZip, list_any};
 ghost use Rattle.std.specs.Str.{chars};
 ghost use Rattle.ignore_base.specs.Problem.{problem_of, memory, glob as glob_problem};
-ghost use Rattle.ignore_glob.specs.DoesMatch.{does_match};
 ghost use Rattle.ignore_glob.specs.GlobFaults.{glob_fault_text};
 ghost use Rattle.ignore_types.specs.TypeMatch.{choices_answer, does_choice_match, verdict_of};
 ghost use Rattle.ignore_base.specs.declared.match_result.Match.TheVariants.{None};
@@ -11,16 +10,61 @@ ghost use Rattle.ignore_types.specs.Building.{plain, IsReadAs, FirstBad, IsGlobP
 
 use crate::types::definition::FileTypeDef;
 use ignore_base::Error;
+use ignore_glob::glob::laws::matching_is_decided;
 use ignore_glob::glob::{GlobFault, Options, Pattern, PatternError};
+use ignore_set::{HasPattern, Index};
 use std::alloc::{AllocError, Global};
 use std::marker::Model;
+
+/// A parsed glob of a type, which is matched against the names of files.
+#[derive(Debug, Drop)]
+pub(super) struct NameGlob {
+    pattern: Pattern,
+}
+
+impl Model for NameGlob {
+    ghost use Rattle.ignore_glob.specs.Reading.{Reading};
+    ghost use Rattle.ignore_glob.specs.Codes.{reading_code};
+
+    ghost Value = { Reading };
+
+    ghost coded = { reading_code };
+
+    ghost view = { λ g. g.pattern };
+}
+
+impl HasPattern for NameGlob {
+    ghost use Rattle.ignore_types.specs.TypeIndex.{name_member};
+
+    ghost member = { name_member };
+
+    fn pattern(&self) -> &Pattern {
+        &self.pattern
+    }
+
+    fn is_only_dir(&self) -> bool {
+        false
+    }
+}
+
+impl Clone for NameGlob {
+    ghost use Rattle.std.specs.Prelude.{◌≡◌};
+
+    ghost is_clone = { λ g copy. copy ≡ g };
+
+    fn clone(&self) -> Result<NameGlob, AllocError> {
+        let pattern = self.pattern.clone()?;
+        Ok(NameGlob { pattern })
+    }
+}
 
 /// A chosen type of a matcher: its definition, its parsed globs, and whether it
 /// was negated.
 #[derive(Debug, Drop)]
 pub(super) struct ChosenType {
     definition: FileTypeDef,
-    patterns: Vec<Pattern>,
+    globs: Vec<NameGlob>,
+    index: Index,
     negated: bool,
 }
 
@@ -32,18 +76,31 @@ impl Model for ChosenType {
 
     ghost coded = { chosen_code };
 
-    ghost view = { λ c. record { definition = c.definition; readings = c.patterns.items; negated = c.negated } };
+    ghost use Rattle.std.specs.Prelude.{map};
+    ghost use Rattle.ignore_set.specs.Index.{IsIndexOf};
+    ghost use Rattle.ignore_types.specs.TypeIndex.{name_member};
+
+    ghost view = { λ c. record { definition = c.definition; readings = c.globs.items; negated = c.negated } };
+
+    ghost invariant = { λ c. IsIndexOf c.index (map name_member c.globs.items) };
 }
 
 impl ChosenType {
-    pub(super) fn new(definition: FileTypeDef, patterns: Vec<Pattern>, negated: bool) -> ChosenType
-        ensures { result ≡ record { definition = definition; readings = patterns.items; negated = negated } }
+    pub(super) fn new(
+        definition: FileTypeDef,
+        globs: Vec<NameGlob>,
+        negated: bool,
+    ) -> Result<ChosenType, Error>
+        ensures value { IfOk result (λ c. c ≡ record { definition = definition; readings = globs.items; negated = negated }) }
+        ensures out_of_memory { IfErr result (λ e. problem_of e ≡ memory) }
     {
-        ChosenType {
+        let index = Index::new(*globs.allocator(), &globs)?;
+        Ok(ChosenType {
             definition,
-            patterns,
+            globs,
+            index,
             negated,
-        }
+        })
     }
 
     pub(super) fn definition(&self) -> &FileTypeDef
@@ -63,7 +120,8 @@ impl ChosenType {
         ensures out_of_memory { IfErr result (λ e. problem_of e ≡ memory) }
         ensures value { IfOk result (λ yes. yes ≡ does_choice_match (chars name.now) self.now) }
     {
-        some_matches(&self.patterns, name)
+        matching_is_decided();
+        Ok(self.index.last_match(&self.globs, name, false)?.is_some())
     }
 }
 
@@ -74,25 +132,12 @@ impl Clone for ChosenType {
 
     fn clone(&self) -> Result<ChosenType, AllocError> {
         let definition = self.definition.clone()?;
-        let patterns = self.patterns.clone()?;
-        Ok(ChosenType {
-            definition,
-            patterns,
-            negated: self.negated,
-        })
-    }
-}
-
-fn some_matches(patterns: &[Pattern], name: &str) -> Result<bool, Error>
-    ensures out_of_memory { IfErr result (λ e. problem_of e ≡ memory) }
-    ensures value { IfOk result (λ yes. yes ≡ list_any (λ r. does_match r (chars name.now)) patterns.now) }
-{
-    for pattern in patterns {
-        if pattern.matches(name)? {
-            return Ok(true);
+        let globs = self.globs.clone()?;
+        match ChosenType::new(definition, globs, self.negated) {
+            Ok(copy) => Ok(copy),
+            Err(_) => Err(AllocError),
         }
     }
-    Ok(false)
 }
 
 /// The last choice that matches the name.
@@ -101,7 +146,8 @@ pub(super) fn last_choice<'a>(
     name: &str,
 ) -> Result<Option<&'a ChosenType>, Error>
     ensures out_of_memory { IfErr result (λ e. problem_of e ≡ memory) }
-    ensures value { IfOk result (λ found. MatchOption found (choices_answer choices.now (chars name.now) ≡ None) (λ c. choices_answer choices.now (chars name.now) ≡ verdict_of c.now)) }
+    ensures value { IfOk result (λ found. MatchOption found (choices_answer choices.now (chars name.now) ≡ None)
+        (λ c. choices_answer choices.now (chars name.now) ≡ verdict_of c.now)) }
 {
     for i in (0..choices.len()).rev() {
         let choice = &choices[i];
@@ -120,7 +166,7 @@ pub(super) fn some_selected(choices: &[ChosenType]) -> bool
 }
 
 /// The parsed globs of a type, or the error of the first invalid one.
-pub(super) fn read_globs(alloc: Global, globs: &[String]) -> Result<Vec<Pattern>, Error>
+pub(super) fn read_globs(alloc: Global, globs: &[String]) -> Result<Vec<NameGlob>, Error>
     ensures read { IfOk result (λ all. AllZip IsReadAs (map string_bytes globs.now) all.items) }
     ensures refused { IfErr result (λ e. (problem_of e ≡ memory)
         ⊎ FirstBad IsReadAs (IsGlobProblem (problem_of e)) (map string_bytes globs.now)) }
@@ -128,8 +174,8 @@ pub(super) fn read_globs(alloc: Global, globs: &[String]) -> Result<Vec<Pattern>
     let mut all = Vec::new(alloc);
     for glob in globs {
         match read_glob(alloc, glob.as_str()) {
-            Ok(pattern) => {
-                if let Err(_) = all.push(pattern) {
+            Ok(glob) => {
+                if let Err(_) = all.push(glob) {
                     return Err(Error::Memory);
                 }
             }
@@ -139,7 +185,7 @@ pub(super) fn read_globs(alloc: Global, globs: &[String]) -> Result<Vec<Pattern>
     Ok(all)
 }
 
-fn read_glob(alloc: Global, glob: &str) -> Result<Pattern, Error>
+fn read_glob(alloc: Global, glob: &str) -> Result<NameGlob, Error>
     ensures read { IfOk result (IsReadAs glob.now) }
     ensures refused { IfErr result (λ e. (problem_of e ≡ memory) ⊎ IsGlobProblem (problem_of e) glob.now) }
 {
@@ -148,7 +194,7 @@ fn read_glob(alloc: Global, glob: &str) -> Result<Pattern, Error>
         allow_unclosed_class: false,
     };
     match Pattern::parse(alloc, glob, options) {
-        Ok(pattern) => Ok(pattern),
+        Ok(pattern) => Ok(NameGlob { pattern }),
         Err(PatternError::Fault(fault)) => Err(glob_error(alloc, glob, fault)),
         Err(PatternError::Memory) => Err(Error::Memory),
     }

@@ -28,10 +28,10 @@ loop-glob-preserved c =
     let more : map string_bytes (take (i + 1) c.args.globs.now)
     ≡ map string_bytes (take i c.args.globs.now)
     ++ string_bytes item ∷ [] = map-take-push string_bytes c.args.globs.now i item c.loop-glob-test.true c.glob-item.is in
-    let read : IsReadAs (string_bytes item) c.in-Ok.pattern = subst
-    (λ t. IsReadAs t c.in-Ok.pattern) c.as_str.ensures.value c.in-Ok.ensures.read in
-    let items : c.push.new.self.items ≡ c.loop-glob.all.items ++ c.in-Ok.pattern ∷ [] = c.in_default.ensures.items in
+    let read : IsReadAs (string_bytes item) c.in-Ok.glob = subst
+    (λ t. IsReadAs t c.in-Ok.glob) c.as_str.ensures.value c.in-Ok.ensures.read in
+    let items : c.push.new.self.items ≡ c.loop-glob.all.items ++ c.in-Ok.glob ∷ [] = c.in_default.ensures.items in
     subst (λ l. AllZip IsReadAs l c.push.new.self.items) (sym more)
     (subst (λ l. AllZip IsReadAs (map string_bytes (take i c.args.globs.now) ++ string_bytes item ∷ []) l) (sym items)
     (AllZip-push IsReadAs (map string_bytes (take i c.args.globs.now)) c.loop-glob.all.items
-    (string_bytes item) c.in-Ok.pattern c.loop-glob.invariant read))
+    (string_bytes item) c.in-Ok.glob c.loop-glob.invariant read))
