@@ -1,0 +1,4 @@
+pub mod Exclude
+pub mod Places
+pub mod Load
+pub mod Soft

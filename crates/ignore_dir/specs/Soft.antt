@@ -1,0 +1,39 @@
+-- Problems that are nowhere out of memory: whatever the files answer, an error that is reported
+-- beside a result is such a problem.
+use Rattle.std.specs.Prelude.{◌≡◌, Bool, true, false, ◌||◌, List, [], ◌∷◌, Option, None, Some, Ok, Err}
+use Rattle.ignore_base.specs.Problem.{Problem, several, at_line, at_path, at_depth, loop, io, glob, unrecognized, invalid_definition, memory, Problems, no_problems, problem}
+use Rattle.ignore_dir.specs.Exclude.{Place}
+
+abbrev mutual
+  -- the problem is out of memory, or one inside it is, at any depth
+  pub holds_memory : Problem → Bool
+  holds_memory (several ps) = some_holds ps
+  holds_memory (at_line line p) = holds_memory p
+  holds_memory (at_path path p) = holds_memory p
+  holds_memory (at_depth depth p) = holds_memory p
+  holds_memory (loop ancestor child) = false
+  holds_memory (io fault) = false
+  holds_memory (glob pattern err) = false
+  holds_memory (unrecognized name) = false
+  holds_memory invalid_definition = false
+  holds_memory memory = true
+
+  -- one of the problems is so
+  pub some_holds : Problems → Bool
+  some_holds no_problems = false
+  some_holds (problem p ps) = holds_memory p || some_holds ps
+
+-- no problem, or one that is nowhere out of memory
+abbrev pub IsSoft : Option Problem → Type 0
+IsSoft None = Unit {0}
+IsSoft (Some p) = holds_memory p ≡ false
+
+-- all of them are so
+abbrev pub AllSoft : List Problem → Type 0
+AllSoft [] = Unit {0}
+AllSoft (p ∷ ps) = (holds_memory p ≡ false) × AllSoft ps
+
+-- a problem on the way to a place is so
+abbrev pub IsSoftPlace : Place → Type 0
+IsSoftPlace (Ok found) = Unit {0}
+IsSoftPlace (Err p) = holds_memory p ≡ false

@@ -1,0 +1,114 @@
+//! The way to the exclude file of a directory's repository.
+ghost use Rattle.std.specs.Prelude.{◌≡◌, IfOk, IfErr, MatchResult, string_bytes, codes};
+ghost use Rattle.ignore_files.specs.Gives.{IsHonest};
+ghost use Rattle.ignore_files.specs.Tree.{Tree};
+ghost use Rattle.ignore_base.specs.Paths.{join_of};
+ghost use Rattle.ignore_base.specs.Problem.{problem_of, memory};
+ghost use Rattle.ignore_dir.specs.Exclude.{common_folder, excludes_in, by_commondir, by_gitdir, by_git_file, failed_at};
+ghost use Rattle.ignore_dir.specs.Places.{place_of};
+ghost use Rattle.ignore_dir.specs.Soft.{IsSoftPlace};
+
+use ignore_base::Error;
+use ignore_base::text::join;
+use ignore_files::{Fault, Files, Refusal};
+use ignore_rules::gitignore::first_line;
+use std::alloc::Global;
+
+/// Where an exclude file may be, or why the way to it ended.
+#[derive(Debug, Drop)]
+pub enum ExcludePlace {
+    /// The file may be at this path.
+    At(String),
+    /// There is no such file.
+    Nowhere,
+    /// The way ended with this error.
+    Failed(Error),
+}
+
+/// The way ended with a fault at a path.
+fn failed_at(alloc: Global, path: &str, fault: Fault) -> Result<ExcludePlace, Error>
+    ensures value { IfOk result (λ place. place_of place ≡ failed_at path.now fault) }
+    ensures soft { IfOk result (λ place. IsSoftPlace (place_of place)) }
+    ensures out_of_memory { IfErr result (λ e. problem_of e ≡ memory) }
+{
+    let error = Error::Io(fault).with_path(alloc, path)?;
+    Ok(ExcludePlace::Failed(error))
+}
+
+/// The exclude file in the folder of a repository.
+pub(crate) fn excludes_in(alloc: Global, folder: &str) -> Result<ExcludePlace, Error>
+    ensures value { IfOk result (λ place. place_of place ≡ excludes_in folder.now) }
+    ensures soft { IfOk result (λ place. IsSoftPlace (place_of place)) }
+    ensures out_of_memory { IfErr result (λ e. problem_of e ≡ memory) }
+{
+    Ok(ExcludePlace::At(join(alloc, folder, "info/exclude")?))
+}
+
+/// The common folder that the line of `commondir` in a folder names.
+fn common_folder(alloc: Global, folder: &str, line: &str) -> Result<String, Error>
+    ensures value { IfOk result (λ path. string_bytes path ≡ common_folder folder.now line.now) }
+    ensures out_of_memory { IfErr result (λ e. problem_of e ≡ memory) }
+{
+    if line.starts_with(".") {
+        join(alloc, folder, line)
+    } else {
+        Ok(String::from_str(alloc, line)?)
+    }
+}
+
+/// From the folder that a `.git` file names, by its `commondir`.
+fn by_commondir<F: Files>(alloc: Global, files: &F, folder: &str) -> Result<ExcludePlace, Error>
+    ensures value { (tree : Tree) → IsHonest F.Files files.now tree
+        → IfOk result (λ place. place_of place ≡ by_commondir folder.now (tree.contents (join_of folder.now (codes "commondir")))) }
+    ensures soft { IfOk result (λ place. IsSoftPlace (place_of place)) }
+    ensures out_of_memory { IfErr result (λ e. problem_of e ≡ memory) }
+{
+    let path = join(alloc, folder, "commondir")?;
+    match files.contents(alloc, path.as_str()) {
+        Ok(contents) => match first_line(&contents) {
+            Ok(Some(line)) => {
+                let common = common_folder(alloc, folder, line)?;
+                excludes_in(alloc, common.as_str())
+            }
+            Ok(None) => Ok(ExcludePlace::Nowhere),
+            Err(fault) => failed_at(alloc, path.as_str(), fault),
+        },
+        Err(Refusal::Fault(_)) => Ok(ExcludePlace::Nowhere),
+        Err(Refusal::Memory) => Err(Error::Memory),
+    }
+}
+
+/// By the first line of a `.git` file.
+fn by_gitdir<F: Files>(alloc: Global, files: &F, line: &str) -> Result<ExcludePlace, Error>
+    ensures value { (tree : Tree) → IsHonest F.Files files.now tree
+        → IfOk result (λ place. place_of place ≡ by_gitdir tree line.now) }
+    ensures soft { IfOk result (λ place. IsSoftPlace (place_of place)) }
+    ensures out_of_memory { IfErr result (λ e. problem_of e ≡ memory) }
+{
+    match line.strip_prefix("gitdir: ") {
+        Some(folder) => by_commondir(alloc, files, folder),
+        None => Ok(ExcludePlace::Nowhere),
+    }
+}
+
+/// By a `.git` that is a file.
+pub(crate) fn by_git_file<F: Files>(
+    alloc: Global,
+    files: &F,
+    git: &str,
+) -> Result<ExcludePlace, Error>
+    ensures value { (tree : Tree) → IsHonest F.Files files.now tree
+        → IfOk result (λ place. place_of place ≡ by_git_file tree git.now (tree.contents git.now)) }
+    ensures soft { IfOk result (λ place. IsSoftPlace (place_of place)) }
+    ensures out_of_memory { IfErr result (λ e. problem_of e ≡ memory) }
+{
+    match files.contents(alloc, git) {
+        Ok(contents) => match first_line(&contents) {
+            Ok(Some(line)) => by_gitdir(alloc, files, line),
+            Ok(None) => Ok(ExcludePlace::Nowhere),
+            Err(fault) => failed_at(alloc, git, fault),
+        },
+        Err(Refusal::Fault(fault)) => failed_at(alloc, git, fault),
+        Err(Refusal::Memory) => Err(Error::Memory),
+    }
+}

@@ -1,0 +1,219 @@
+//! The load of one directory.
+ghost use Rattle.std.specs.Prelude.{◌≡◌, [], ◌∷◌, codes, true, IfOk, IfErr, None, Ok, option_map, if◌then◌else◌};
+ghost use Rattle.ignore_files.specs.Gives.{IsHonest};
+ghost use Rattle.ignore_files.specs.Tree.{Tree};
+ghost use Rattle.ignore_base.specs.Paths.{join_of};
+ghost use Rattle.ignore_base.specs.Problem.{problem_of, memory};
+ghost use Rattle.ignore_rules.specs.Matchers.{is_file_there};
+ghost use Rattle.ignore_dir.specs.Exclude.{exclude_place, exclude_by};
+ghost use Rattle.ignore_dir.specs.Load.{Loads, IsExclude, is_marked, is_there, joined_some, needs_marks};
+ghost use Rattle.ignore_dir.specs.Places.{place_of};
+ghost use Rattle.ignore_dir.specs.Soft.{IsSoft, IsSoftPlace};
+
+use crate::dir::Dir;
+use crate::exclude::{ExcludePlace, by_git_file, excludes_in};
+use crate::rule_files::{is_there, push_some, rules_if, rules_of_file, rules_of_names};
+use crate::settings::Settings;
+use ignore_base::Error;
+use ignore_base::text::join;
+use ignore_files::{Files, Refusal};
+use ignore_rules::gitignore::Gitignore;
+use std::alloc::Global;
+
+/// What a directory holds for the rules, by these settings, and what is wrong with its files.
+///
+/// A file of rules is read where its filter is on and a followed `stat` answers; a fault of the
+/// file system ends its rules and isn't reported. The other errors of each of the four lists are
+/// joined, and those of the lists are joined in the order custom, `.ignore`, `.gitignore`, exclude.
+/// The last is also the place of a fault on the way to the exclude file, where `.git` is a file.
+///
+/// # Errors
+/// `Error::Memory` alone.
+pub fn load_directory<F: Files>(
+    alloc: Global,
+    files: &F,
+    settings: &Settings,
+    dir: &str,
+) -> Result<(Dir, Option<Error>), Error>
+    ensures read { (tree : Tree) → IsHonest F.Files files.now tree
+        → IfOk result (λ r. Loads tree settings.now dir.now r.0 (option_map problem_of r.1)) }
+    ensures soft { IfOk result (λ r. IsSoft (option_map problem_of r.1)) }
+    ensures out_of_memory { IfErr result (λ e. problem_of e ≡ memory) }
+{
+    let (custom, of_custom) = rules_of_names(
+        alloc,
+        files,
+        settings,
+        dir,
+        settings.custom.as_slice(),
+    )?;
+    let (ignore, of_ignore) = rules_if(alloc, files, settings, dir, settings.ignore, ".ignore")?;
+    let on = settings.git_ignore;
+    let (gitignore, of_gitignore) = rules_if(alloc, files, settings, dir, on, ".gitignore")?;
+    let repository = repository_of(alloc, files, settings, dir)?;
+    let (exclude, of_exclude) = exclude_rules(alloc, files, settings, dir, repository.exclude)?;
+    let loaded = Dir {
+        custom,
+        ignore,
+        gitignore,
+        exclude,
+        mark: repository.mark,
+    };
+    let error = joined_four(alloc, of_custom, of_ignore, of_gitignore, of_exclude)?;
+    Ok((loaded, error))
+}
+
+/// What a directory's `.git` and `.jj` say of a repository.
+#[derive(Drop)]
+struct Repository {
+    mark: bool,
+    exclude: ExcludePlace,
+}
+
+/// What the `.git` and the `.jj` of a directory say, as far as that is asked for. `.git` is asked
+/// once, for the mark and for the exclude file.
+fn repository_of<F: Files>(
+    alloc: Global,
+    files: &F,
+    settings: &Settings,
+    dir: &str,
+) -> Result<Repository, Error>
+    ensures mark { (tree : Tree) → IsHonest F.Files files.now tree
+        → IfOk result (λ r. r.mark ≡ is_marked tree settings.now dir.now) }
+    ensures exclude { (tree : Tree) → IsHonest F.Files files.now tree
+        → IfOk result (λ r. place_of r.exclude ≡ exclude_place tree settings.now dir.now) }
+    ensures soft { IfOk result (λ r. IsSoftPlace (place_of r.exclude)) }
+    ensures out_of_memory { IfErr result (λ e. problem_of e ≡ memory) }
+{
+    if !settings.git_exclude && !needs_marks(settings) {
+        return Ok(Repository {
+            mark: false,
+            exclude: ExcludePlace::Nowhere,
+        });
+    }
+    let git = join(alloc, dir, ".git")?;
+    let path = git.as_str();
+    let kind = kind_of(alloc, files, path)?;
+    let exclude = exclude_place(alloc, files, settings, path, kind.is_file)?;
+    let mark = is_marked(alloc, files, settings, dir, kind.is_there)?;
+    Ok(Repository { mark, exclude })
+}
+
+/// Whether marks of repositories matter.
+fn needs_marks(settings: &Settings) -> bool
+    ensures { result ≡ needs_marks settings.now }
+{
+    settings.require_git && (settings.git_ignore || settings.git_exclude)
+}
+
+/// What a followed `stat` says of a path.
+#[derive(Clone, Copy)]
+struct Kind {
+    is_there: bool,
+    is_file: bool,
+}
+
+/// What a followed `stat` says of a path.
+fn kind_of<F: Files>(alloc: Global, files: &F, path: &str) -> Result<Kind, Error>
+    ensures there { (tree : Tree) → IsHonest F.Files files.now tree → IfOk result (λ k. k.is_there ≡ is_there tree path.now) }
+    ensures file { (tree : Tree) → IsHonest F.Files files.now tree
+        → IfOk result (λ k. k.is_file ≡ is_file_there (tree.stat path.now true)) }
+    ensures out_of_memory { IfErr result (λ e. problem_of e ≡ memory) }
+{
+    match files.stat(alloc, path, true) {
+        Ok(metadata) => Ok(Kind {
+            is_there: true,
+            is_file: metadata.is_file(),
+        }),
+        Err(Refusal::Fault(_)) => Ok(Kind {
+            is_there: false,
+            is_file: false,
+        }),
+        Err(Refusal::Memory) => Err(Error::Memory),
+    }
+}
+
+/// Where the exclude file of the repository with this `.git` is, where that filter is on.
+fn exclude_place<F: Files>(
+    alloc: Global,
+    files: &F,
+    settings: &Settings,
+    git: &str,
+    is_file: bool,
+) -> Result<ExcludePlace, Error>
+    ensures value { (tree : Tree) → IsHonest F.Files files.now tree → is_file ≡ is_file_there (tree.stat git.now true)
+        → IfOk result (λ place. place_of place ≡ (if settings.now.git_exclude then exclude_by tree git.now else Ok None)) }
+    ensures soft { IfOk result (λ place. IsSoftPlace (place_of place)) }
+    ensures out_of_memory { IfErr result (λ e. problem_of e ≡ memory) }
+{
+    if !settings.git_exclude {
+        return Ok(ExcludePlace::Nowhere);
+    }
+    if is_file {
+        by_git_file(alloc, files, git)
+    } else {
+        excludes_in(alloc, git)
+    }
+}
+
+/// Whether a repository begins at the directory, where marks matter.
+fn is_marked<F: Files>(
+    alloc: Global,
+    files: &F,
+    settings: &Settings,
+    dir: &str,
+    has_git: bool,
+) -> Result<bool, Error>
+    ensures value { (tree : Tree) → IsHonest F.Files files.now tree → has_git ≡ is_there tree (join_of dir.now (codes ".git"))
+        → IfOk result (λ yes. yes ≡ is_marked tree settings.now dir.now) }
+    ensures out_of_memory { IfErr result (λ e. problem_of e ≡ memory) }
+{
+    if !needs_marks(settings) {
+        return Ok(false);
+    }
+    if has_git {
+        return Ok(true);
+    }
+    let jj = join(alloc, dir, ".jj")?;
+    is_there(alloc, files, jj.as_str())
+}
+
+/// The rules of the exclude file, if there is one, and its error or that of the way there.
+fn exclude_rules<F: Files>(
+    alloc: Global,
+    files: &F,
+    settings: &Settings,
+    dir: &str,
+    place: ExcludePlace,
+) -> Result<(Gitignore, Option<Error>), Error>
+    ensures read { (tree : Tree) → IsHonest F.Files files.now tree
+        → IfOk result (λ r. IsExclude tree settings.now dir.now (place_of place) r.0 (option_map problem_of r.1)) }
+    ensures soft { IsSoftPlace (place_of place) → IfOk result (λ r. IsSoft (option_map problem_of r.1)) }
+    ensures out_of_memory { IfErr result (λ e. problem_of e ≡ memory) }
+{
+    match place {
+        ExcludePlace::At(path) => rules_of_file(alloc, files, settings, dir, path.as_str()),
+        ExcludePlace::Nowhere => Ok((Gitignore::empty(alloc), None)),
+        ExcludePlace::Failed(error) => Ok((Gitignore::empty(alloc), Some(error))),
+    }
+}
+
+/// The errors that there are, as one.
+fn joined_four(
+    alloc: Global,
+    first: Option<Error>,
+    second: Option<Error>,
+    third: Option<Error>,
+    fourth: Option<Error>,
+) -> Result<Option<Error>, Error>
+    ensures value { IfOk result (λ error. option_map problem_of error ≡ joined_some (option_map problem_of first
+        ∷ (option_map problem_of second ∷ (option_map problem_of third ∷ (option_map problem_of fourth ∷ []))))) }
+    ensures out_of_memory { IfErr result (λ e. problem_of e ≡ memory) }
+{
+    let mut errors = Vec::new(alloc);
+    push_some(&mut errors, first)?;
+    push_some(&mut errors, second)?;
+    push_some(&mut errors, third)?;
+    push_some(&mut errors, fourth)?;
+    Ok(Error::joined(errors))
+}

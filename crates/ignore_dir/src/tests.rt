@@ -1,0 +1,95 @@
+//! What one directory holds, with ample memory.
+use crate::load::load_directory;
+use crate::{Dir, Names, Settings};
+use ignore_base::Error;
+use ignore_files::MemoryTree;
+use std::alloc::Global;
+
+fn settings(alloc: Global) -> Settings {
+    Settings {
+        custom: Names::new(Vec::new(alloc)),
+        hidden: true,
+        parents: true,
+        ignore: true,
+        git_global: true,
+        git_ignore: true,
+        git_exclude: true,
+        require_git: true,
+        case_insensitive: false,
+        git_trailing_spaces: false,
+        follow_links: false,
+        min_depth: None,
+        max_depth: None,
+        max_filesize: None,
+    }
+}
+
+/// A tree of lines: a path alone is a directory, and `PATH=CONTENTS` a file.
+fn tree_of(alloc: Global, lines: &[&str]) -> anyhow::Result<MemoryTree> {
+    let mut tree = MemoryTree::new(alloc, "/")?;
+    for line in lines {
+        match line.split_once('=') {
+            Some((path, contents)) => tree.add_file(path, contents.as_bytes())?,
+            None => tree.add_dir(*line)?,
+        }
+    }
+    Ok(tree)
+}
+
+/// How many rules each list of a directory has, `m` where it has a mark, and its error.
+fn loaded(alloc: Global, lines: &[&str], dir: &str) -> anyhow::Result<String> {
+    let tree = tree_of(alloc, lines)?;
+    let (loaded, error) = load_directory(alloc, &tree, &settings(alloc), dir)?;
+    shown(alloc, &loaded, error)
+}
+
+fn shown(alloc: Global, dir: &Dir, error: Option<Error>) -> anyhow::Result<String> {
+    let (ignore, gitignore) = (dir.ignore.len(), dir.gitignore.len());
+    let (exclude, mark) = (dir.exclude.len(), if dir.mark { " m" } else { "" });
+    match error {
+        None => Ok(format!(in alloc; "{ignore} {gitignore} {exclude}{mark}")?),
+        Some(error) => Ok(format!(in alloc; "{ignore} {gitignore} {exclude}{mark}: {error}")?),
+    }
+}
+
+#[test]
+fn a_repository(rt: HostRuntime) -> anyhow::Result<()> {
+    let text = loaded(
+        rt.alloc(),
+        &[
+            "/t",
+            "/t/.git",
+            "/t/.git/info",
+            "/t/.gitignore=!foo\n",
+            "/t/.ignore=!bar\n{\n",
+            "/t/.git/info/exclude=foo\nbar\nbaz\n",
+        ],
+        "/t",
+    )?;
+    assert_eq!(rt;
+        text.as_str(),
+        "1 1 3 m: /t/.ignore: line 2: error parsing glob '{': unclosed alternates"
+    );
+    Ok(())
+}
+
+#[test]
+fn a_worktree_with_a_relative_folder(rt: HostRuntime) -> anyhow::Result<()> {
+    let text = loaded(
+        rt.alloc(),
+        &[
+            "/p",
+            "/p/.git=gitdir: /g/.git/worktrees/w\n",
+            "/g",
+            "/g/.git",
+            "/g/.git/info",
+            "/g/.git/worktrees",
+            "/g/.git/worktrees/w",
+            "/g/.git/worktrees/w/commondir=../..\n",
+            "/g/.git/info/exclude=z\n",
+        ],
+        "/p",
+    )?;
+    assert_eq!(rt; text.as_str(), "0 0 1 m");
+    Ok(())
+}
