@@ -148,7 +148,8 @@ StripsDirectories = (root : List ℕ) (names : List (List ℕ)) (name : List ℕ
 -- for each root, each directory below it and a path of names below that directory: the path joined
 -- to the directory is all the names joined to the root
 abbrev pub JoinsNames : Type 0
-JoinsNames = (root : List ℕ) (names : List (List ℕ)) (name : List ℕ) (more : List (List ℕ)) → All IsName names → IsName name → All IsName more
+JoinsNames = (root : List ℕ) (names : List (List ℕ)) (name : List ℕ) (more : List (List ℕ))
+    → All IsName names → IsName name → All IsName more
     → join_of (directory_of root names) (joined (name ∷ more)) ≡ join_of root (joined (names ++ (name ∷ more)))
 
 -- the same for one name: it leads to the directory with one name more

@@ -4,6 +4,7 @@ pub mod CutLemmas
 pub mod FileLemmas
 pub mod FolderLemmas
 pub mod MarkLemmas
+pub mod IndexLemmas
 pub mod OffsetLemmas
 pub mod ParentLemmas
 pub mod TextLemmas

@@ -1,16 +1,15 @@
 -- The answer of the globs of a command line.
-use Rattle.std.specs.Prelude.{ℕ, Bool, not, ◌&&◌, List, Option, if◌then◌else◌}
+use Rattle.std.specs.Prelude.{Bool, not, nat_lt, ◌&&◌, List, Option, if◌then◌else◌}
 use Rattle.std.specs.Prelude.{None as Nothing, Some as Only}
-use Rattle.std.specs.List.{list_any}
 use Rattle.ignore_base.specs.Text.{Path}
 use Rattle.ignore_base.specs.declared.match_result.Match.{Match}
 use Rattle.ignore_base.specs.declared.match_result.Match.TheVariants.{None, Ignore, Whitelist}
 use Rattle.ignore_rules.specs.Answer.{answer}
-use Rattle.ignore_rules.specs.Rules.{Rule, Ruleset}
+use Rattle.ignore_rules.specs.Rules.{Rule, Ruleset, ignore_count}
 
--- some glob whitelists
+-- some glob whitelists: some line has no leading `!`
 abbrev pub has_whitelist : List Rule → Bool
-has_whitelist rules = list_any (λ rule. not rule.is_whitelist) rules
+has_whitelist rules = nat_lt 0 (ignore_count rules)
 
 -- the match of the rules, inverted: a glob that matches whitelists, and one with a leading `!`
 -- ignores. Where no glob matches, the path is ignored if the flag says so

@@ -114,12 +114,14 @@ Gives path read options rules problem =
 -- whatever was read, and by whatever options, it gives one list of rules and one problem, if any
 abbrev pub GivesOneResult : Type 0
 GivesOneResult =
-    (path : List ℕ) (read : Result Contents Fault) (options : LineOptions) → (rules : List Rule) × (problem : Option Problem) × Gives path read options rules problem
+    (path : List ℕ) (read : Result Contents Fault) (options : LineOptions)
+    → (rules : List Rule) × (problem : Option Problem) × Gives path read options rules problem
 
 -- whatever was read at a path, it can be added to any builder
 abbrev pub AddsSomething : Type 0
 AddsSomething =
-    (path : List ℕ) (read : Result Contents Fault) (old : Building) → (new : Building) × (problem : Option Problem) × AddsContents path read old new problem
+    (path : List ℕ) (read : Result Contents Fault) (old : Building)
+    → (new : Building) × (problem : Option Problem) × AddsContents path read old new problem
 
 -- adding it leads to one builder, with one problem, if any
 abbrev pub AddsOneThing : Type 0

@@ -18,7 +18,8 @@ IsLineRead line next (Text text place) = (decoded line ≡ Ok text.now) × (plac
 IsLineRead line next (Fault fault) = decoded line ≡ Err fault
 IsLineRead line next End = ⊥
 
--- the last line was read so
+-- what a reader returns at the end of a file: the text after its last newline, with the end as its
+-- place, if there is any; else the fault that cut the file, or the end
 abbrev pub IsLastLineRead : List ℕ → Option FileFault → ℕ → Line → Type 0
 IsLastLineRead rest fault end (Text text place) =
     (lines_read rest fault ≡ Ok text.now ∷ lines_read [] fault) × (place ≡ end) × (0 < length rest)

@@ -101,6 +101,7 @@ with_case_insensitive b on =
       git_trailing_spaces = b.options.git_trailing_spaces;
     })
 
+-- the builder of which later lines have, or have not, unclosed classes allowed
 abbrev pub with_unclosed_class : Building → Bool → Building
 with_unclosed_class b on =
     with_options b (record {

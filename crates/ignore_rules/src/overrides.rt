@@ -4,7 +4,7 @@
 //! with a leading `!` ignores it.
 ghost use Rattle.std.specs.Prelude.{◌≡◌, ◌⊎◌, ◌==◌, None, false, IfOk, IfErr, IsOk, OnOk, OnErr, length};
 ghost use Rattle.ignore_base.specs.Problem.{problem_of, memory};
-ghost use Rattle.ignore_rules.specs.Overrides.{has_whitelist, override_answer};
+ghost use Rattle.ignore_rules.specs.Overrides.{override_answer};
 ghost use Rattle.ignore_rules.specs.Rules.{begun, empty, built, AddsLine, Refuses, ignore_count, whitelist_count, with_case_insensitive, with_unclosed_class};
 
 use crate::gitignore;
@@ -110,18 +110,11 @@ impl Override {
         ensures out_of_memory { IfErr result (λ e. problem_of e ≡ memory) }
     {
         let matched = self.globs.matched(path, is_dir)?;
-        if matched.is_none() && !is_dir && has_whitelist(&self.globs) {
+        if matched.is_none() && !is_dir && self.num_whitelists() > 0 {
             return Ok(Match::Ignore(Glob { rule: None }));
         }
         Ok(matched.invert().map(|rule| Glob { rule: Some(rule) }))
     }
-}
-
-/// Whether some glob whitelists what it matches.
-fn has_whitelist(globs: &Gitignore) -> bool
-    ensures { result ≡ has_whitelist globs.now.rules }
-{
-    globs.rules().iter().any(|rule| !rule.is_whitelist())
 }
 
 /// Builds the globs of a command line, in order.

@@ -18,7 +18,7 @@ member_code =
 abbrev pub members : List (Reading × Bool) → List Member
 members pairs = map (λ p. record { reading = p.0; only_dir = p.1 }) pairs
 
--- a pattern for directories only is asked about one
+-- a pattern for directories only allows a directory alone, and every other pattern allows all
 abbrev pub Allows : Bool → Member → Type 0
 Allows is_dir m = (m.only_dir ≡ false) ⊎ (is_dir ≡ true)
 

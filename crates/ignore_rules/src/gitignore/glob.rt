@@ -11,6 +11,7 @@ ghost use Rattle.ignore_glob.specs.DoesMatch.{does_match};
 use crate::gitignore::line::ParsedLine;
 use ignore_base::{Error, Match};
 use ignore_glob::glob::Pattern;
+use ignore_set::HasPattern;
 use std::alloc::AllocError;
 use std::marker::Model;
 
@@ -128,6 +129,20 @@ impl Glob {
         } else {
             Match::Ignore(self)
         }
+    }
+}
+
+impl HasPattern for Glob {
+    ghost use Rattle.ignore_rules.specs.RuleIndex.{rule_member};
+
+    ghost member = { rule_member };
+
+    fn pattern(&self) -> &Pattern {
+        &self.pattern
+    }
+
+    fn is_only_dir(&self) -> bool {
+        self.is_only_dir
     }
 }
 

@@ -1,14 +1,19 @@
 //! A matcher of rules.
-ghost use Rattle.std.specs.Prelude.{◌≡◌, ◌+◌, ◌==◌, IfOk, IfErr, length, string_bytes};
+ghost use Rattle.std.specs.Prelude.{◌≡◌, ◌+◌, ◌==◌, IfOk, IfErr, length, map, string_bytes};
+ghost use Rattle.std.specs.Option.{ForSome};
 ghost use Rattle.std.specs.Str.{chars};
 ghost use Rattle.ignore_base.specs.Match.{match_map};
 ghost use Rattle.ignore_base.specs.Problem.{problem_of, memory};
+ghost use Rattle.ignore_set.specs.Index.{IsIndexOf};
 ghost use Rattle.ignore_rules.specs.Answer.{answer, list_answer};
+ghost use Rattle.ignore_rules.specs.RuleIndex.{rule_member};
 ghost use Rattle.ignore_rules.specs.Rules.{empty, ignore_count, whitelist_count};
 
 use crate::gitignore::glob::Glob;
 use ignore_base::text::strip;
 use ignore_base::{Error, Match};
+use ignore_glob::glob::laws::matching_is_decided;
+use ignore_set::Index;
 use std::alloc::{AllocError, Global};
 use std::marker::Model;
 
@@ -17,18 +22,24 @@ use std::marker::Model;
 pub struct Gitignore {
     root: String,
     globs: Vec<Glob>,
+    /// None where there was no memory for it: the rules are asked one by one then.
+    index: Option<Index>,
+    whitelists: usize,
 }
 
 impl Model for Gitignore {
     ghost use Rattle.std.specs.Prelude.{string_bytes};
     ghost use Rattle.ignore_rules.specs.Rules.{Ruleset};
     ghost use Rattle.ignore_rules.specs.RuleCodes.{ruleset_code};
+    ghost use Rattle.ignore_rules.specs.RuleIndex.{IsIndexed};
 
     ghost Value = { Ruleset };
 
     ghost coded = { ruleset_code };
 
     ghost view = { λ g. record { root = string_bytes g.root; rules = g.globs.items } };
+
+    ghost invariant = { λ g. IsIndexed g.globs.items g.index g.whitelists };
 }
 
 impl Gitignore {
@@ -39,13 +50,22 @@ impl Gitignore {
         Gitignore {
             root: String::new(alloc),
             globs: Vec::new(alloc),
+            index: None,
+            whitelists: 0,
         }
     }
 
     pub(crate) fn from_parts(root: String, globs: Vec<Glob>) -> Gitignore
         ensures { result ≡ record { root = string_bytes root; rules = globs.items } }
     {
-        Gitignore { root, globs }
+        let whitelists = whitelist_count(&globs);
+        let index = index_of(*globs.allocator(), &globs);
+        Gitignore {
+            root,
+            globs,
+            index,
+            whitelists,
+        }
     }
 
     /// The root: the directory that paths are matched relative to.
@@ -77,21 +97,18 @@ impl Gitignore {
         self.globs.len()
     }
 
-    /// How many rules ignore what they match.
+    /// How many rules ignore what they match. They are counted when the matcher is built.
     pub fn num_ignores(&self) -> u64
         ensures { result ≡ ignore_count self.now.rules }
     {
-        self.globs
-            .iter()
-            .filter(|glob| !glob.is_whitelist())
-            .count() as u64
+        (self.globs.len() - self.whitelists) as u64
     }
 
-    /// How many rules whitelist what they match.
+    /// How many rules whitelist what they match. They are counted when the matcher is built.
     pub fn num_whitelists(&self) -> u64
         ensures { result ≡ whitelist_count self.now.rules }
     {
-        self.globs.iter().filter(|glob| glob.is_whitelist()).count() as u64
+        self.whitelists as u64
     }
 
     /// The answer of the rules for a path, with the rule that decided: the last one that matches
@@ -124,15 +141,43 @@ impl Gitignore {
         ensures answered { IfOk result (λ m. match_map (λ g. g.now) m ≡ list_answer self.now.rules (chars stripped.now) is_dir) }
         ensures out_of_memory { IfErr result (λ e. problem_of e ≡ memory) }
     {
-        last_answer(&self.globs, stripped, is_dir)
+        match &self.index {
+            Some(index) => indexed_answer(index, &self.globs, stripped, is_dir),
+            None => last_answer(&self.globs, stripped, is_dir),
+        }
     }
 }
 
-pub(crate) fn last_answer<'g>(
+/// An index of the rules, where there is memory for it.
+fn index_of(alloc: Global, globs: &[Glob]) -> Option<Index>
+    ensures { ForSome result (λ index. IsIndexOf index (map rule_member globs.now)) }
+{
+    match Index::new(alloc, globs) {
+        Ok(index) => Some(index),
+        Err(_) => None,
+    }
+}
+
+/// The answer of the rule that the index finds.
+fn indexed_answer<'g>(
+    index: &Index,
     globs: &'g [Glob],
     text: &str,
     is_dir: bool,
 ) -> Result<Match<&'g Glob>, Error>
+    requires { IsIndexOf index.now (map rule_member globs.now) }
+    ensures out_of_memory { IfErr result (λ e. problem_of e ≡ memory) }
+    ensures answered { IfOk result (λ m. match_map (λ g. g.now) m ≡ list_answer globs.now (chars text.now) is_dir) }
+{
+    matching_is_decided();
+    match index.last_match(globs, text, is_dir)? {
+        Some(i) => Ok(globs[i].decision()),
+        None => Ok(Match::None),
+    }
+}
+
+/// The answer of the rules asked one by one, from the last.
+fn last_answer<'g>(globs: &'g [Glob], text: &str, is_dir: bool) -> Result<Match<&'g Glob>, Error>
     ensures out_of_memory { IfErr result (λ e. problem_of e ≡ memory) }
     ensures answered { IfOk result (λ m. match_map (λ g. g.now) m ≡ list_answer globs.now (chars text.now) is_dir) }
 {
@@ -149,6 +194,12 @@ pub(crate) fn last_answer<'g>(
     Ok(Match::None)
 }
 
+fn whitelist_count(globs: &[Glob]) -> usize
+    ensures { result ≡ whitelist_count globs.now }
+{
+    globs.iter().filter(|glob| glob.is_whitelist()).count()
+}
+
 /// For the rest of the crate.
 impl Gitignore {
     pub(crate) fn allocator(&self) -> Global {
@@ -162,9 +213,8 @@ impl Clone for Gitignore {
     ghost is_clone = { λ g h. h ≡ g };
 
     fn clone(&self) -> Result<Gitignore, AllocError> {
-        Ok(Gitignore {
-            root: self.root.clone()?,
-            globs: self.globs.clone()?,
-        })
+        let root = self.root.clone()?;
+        let globs = self.globs.clone()?;
+        Ok(Gitignore::from_parts(root, globs))
     }
 }

@@ -6,7 +6,7 @@ ghost use Rattle.ignore_base.specs.Problem.{problem_of, memory};
 ghost use Rattle.ignore_rules.specs.Parents.{answer_with_parents, directories_answer, is_under_root, nearest_answer, parents};
 
 use crate::gitignore::glob::Glob;
-use crate::gitignore::matcher::{Gitignore, last_answer};
+use crate::gitignore::matcher::Gitignore;
 use ignore_base::text::strip;
 use ignore_base::{Error, Match};
 use memchr::memrchr;
@@ -42,38 +42,36 @@ impl Gitignore {
             return Ok(Match::None);
         }
         let path = strip(self.path(), path);
-        nearest_answer(self.rules(), path, is_dir)
+        nearest_answer(self, path, is_dir)
     }
 }
 
-fn nearest_answer<'g>(globs: &'g [Glob], text: &str, is_dir: bool) -> Result<Match<&'g Glob>, Error>
+fn nearest_answer<'g>(
+    matcher: &'g Gitignore,
+    text: &str,
+    is_dir: bool,
+) -> Result<Match<&'g Glob>, Error>
     requires { slice_index text.now 0 ≢ 47 }
     ensures out_of_memory { IfErr result (λ e. problem_of e ≡ memory) }
-    ensures answered { IfOk result (λ m. match_map (λ g. g.now) m ≡ nearest_answer globs.now (chars text.now) is_dir) }
+    ensures answered { IfOk result (λ m. match_map (λ g. g.now) m ≡ nearest_answer matcher.now.rules (chars text.now) is_dir) }
 {
-    let answer = match last_answer(globs, text, is_dir) {
-        Ok(answer) => answer,
-        Err(e) => return Err(e),
-    };
+    let answer = matcher.answer(text, is_dir)?;
     if answer.is_none() {
-        nearest_parent_answer(globs, text)
+        nearest_parent_answer(matcher, text)
     } else {
         Ok(answer)
     }
 }
 
-fn nearest_parent_answer<'g>(globs: &'g [Glob], text: &str) -> Result<Match<&'g Glob>, Error>
+fn nearest_parent_answer<'g>(matcher: &'g Gitignore, text: &str) -> Result<Match<&'g Glob>, Error>
     requires { slice_index text.now 0 ≢ 47 }
     ensures out_of_memory { IfErr result (λ e. problem_of e ≡ memory) }
-    ensures answered { IfOk result (λ m. match_map (λ g. g.now) m ≡ directories_answer globs.now (parents (chars text.now))) }
+    ensures answered { IfOk result (λ m. match_map (λ g. g.now) m ≡ directories_answer matcher.now.rules (parents (chars text.now))) }
 {
     let mut rest = text;
     while !rest.is_empty() {
         rest = parent(rest);
-        let answer = match last_answer(globs, rest, true) {
-            Ok(answer) => answer,
-            Err(e) => return Err(e),
-        };
+        let answer = matcher.answer(rest, true)?;
         if !answer.is_none() {
             return Ok(answer);
         }

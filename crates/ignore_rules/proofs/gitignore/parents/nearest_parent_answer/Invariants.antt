@@ -8,7 +8,7 @@ abbrev pub invariant-loop-rest : goal.invariant-loop-rest
 invariant-loop-rest l = record {
   utf8 : IsUtf8 l.rest;
   first : get_or l.rest 0 0 ≢ 47;
-  left : directories_answer l.globs (parents (chars l.text)) ≡ directories_answer l.globs (parents (chars l.rest));
+  left : directories_answer l.matcher.rules (parents (chars l.text)) ≡ directories_answer l.matcher.rules (parents (chars l.rest));
 }
 
 abbrev pub decreases-loop-rest : goal.decreases-loop-rest
