@@ -1,0 +1,10 @@
+use Rattle.std.proofs.Common.{subst, sym}
+use Rattle.ignore_dir.specs.Soft.{IsSoft}
+use Rattle.ignore_dir.proofs.SoftLemmas.{joined_four-soft}
+use Rattle.ignore_dir.proofs.load.load_directory.Goals as goal
+
+pub returns-clause-soft : goal.returns-clause-soft
+returns-clause-soft g c =
+    subst IsSoft (sym c.in_ok-error.ensures.value)
+    (joined_four-soft _ _ _ _ c.in_ok-custom.ensures.soft c.in_ok-ignore.ensures.soft c.in_ok-gitignore.ensures.soft
+    (c.in_ok-exclude.ensures.soft c.in_ok-repository.ensures.soft))
