@@ -1,3 +1,4 @@
 pub mod LoadLemmas
 pub mod LoadsOnly
+pub mod RankLemmas
 pub mod SoftLemmas

@@ -1,15 +1,21 @@
-//! The rules that the directories of a tree hold: what is read of each directory, and what is wrong
-//! with its files.
+//! The rules that the directories of a tree hold: what is read of each directory, what is wrong
+//! with its files, and which of the rules decides.
 #![tactic(auto)]
 
 mod dir;
 pub mod exclude;
 pub mod laws;
+mod link;
 pub mod load;
+mod outside;
+pub mod ranks;
 mod rule_files;
 mod settings;
 #[cfg(test)]
 mod tests;
+pub mod verdict;
 
 pub use dir::{Dir, Rank};
+pub use link::{Link, Placed};
+pub use outside::{Matchers, Outside};
 pub use settings::{Names, Settings};
