@@ -1,7 +1,9 @@
+pub mod Above
+pub mod Chains
 pub mod Exclude
+pub mod Lists
 pub mod Places
 pub mod Load
 pub mod Soft
-pub mod Lists
 pub mod Ranks
 pub mod Verdict

@@ -1,7 +1,8 @@
 //! The rules that the directories of a tree hold: what is read of each directory, what is wrong
-//! with its files, and which of the rules decides.
+//! with its files, which directories above a root count, and which of the rules decides.
 #![tactic(auto)]
 
+pub mod above;
 mod dir;
 pub mod exclude;
 pub mod laws;

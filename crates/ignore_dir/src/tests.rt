@@ -1,4 +1,5 @@
-//! What one directory holds, with ample memory.
+//! What one directory holds, and what is above a root, with ample memory.
+use crate::above::{Above, load_above};
 use crate::load::load_directory;
 use crate::{Dir, Names, Settings};
 use ignore_base::Error;
@@ -91,5 +92,50 @@ fn a_worktree_with_a_relative_folder(rt: HostRuntime) -> anyhow::Result<()> {
         "/p",
     )?;
     assert_eq!(rt; text.as_str(), "0 0 1 m");
+    Ok(())
+}
+
+/// The text of what is above `/w/a/d`, and then, for each directory, its offset and what it holds.
+fn above(alloc: Global, settings: &Settings, lines: &[&str]) -> anyhow::Result<String> {
+    let tree = tree_of(alloc, lines)?;
+    let above = load_above(alloc, &tree, settings, "/w/a/d")?;
+    shown_above(alloc, &above)
+}
+
+fn shown_above(alloc: Global, above: &Above) -> anyhow::Result<String> {
+    let mut text = String::from_str(alloc, above.base.as_str())?;
+    for placed in above.dirs.as_slice() {
+        let dir = shown(alloc, &placed.dir, None)?;
+        let line = format!(in alloc; "; {}: {dir}", placed.offset)?;
+        text.push_str(line.as_str())?;
+    }
+    Ok(text)
+}
+
+/// A repository with a directory in it that has rules, too.
+const REPOSITORY: &[&str] = &[
+    "/w",
+    "/w/.git",
+    "/w/.gitignore=foo\nbar\n",
+    "/w/a",
+    "/w/a/.ignore=baz\n",
+    "/w/a/d",
+];
+
+#[test]
+fn above_a_root(rt: HostRuntime) -> anyhow::Result<()> {
+    let alloc = rt.alloc();
+    let text = above(alloc, &settings(alloc), REPOSITORY)?;
+    assert_eq!(rt; text.as_str(), "/w/a/d/; 1: 0 0 0; 3: 0 2 0 m; 5: 1 0 0");
+    Ok(())
+}
+
+#[test]
+fn above_a_root_with_parents_off(rt: HostRuntime) -> anyhow::Result<()> {
+    let alloc = rt.alloc();
+    let mut settings = settings(alloc);
+    settings.parents = false;
+    let text = above(alloc, &settings, REPOSITORY)?;
+    assert_eq!(rt; text.as_str(), "/w/a/d/; 1: 0 0 0; 3: 0 0 0 m; 5: 0 0 0");
     Ok(())
 }
