@@ -2,7 +2,7 @@
 
 use ignore_rules::gitignore::Gitignore;
 use ignore_rules::overrides::Override;
-use ignore_rules::types::Types;
+use ignore_types::types::Types;
 use std::marker::Model;
 
 /// Matchers in the order in which they were added, which contracts see as a list.

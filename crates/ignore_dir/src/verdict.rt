@@ -13,7 +13,7 @@ use crate::ranks::ranks_answer;
 use crate::settings::Settings;
 use ignore_base::text::{is_hidden, trim_root};
 use ignore_base::{Error, Match};
-use ignore_rules::types::Types;
+use ignore_types::types::Types;
 
 /// What becomes of a path.
 #[derive(Clone, Copy, Debug, PartialEq, Eq)]

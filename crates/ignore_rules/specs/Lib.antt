@@ -8,13 +8,5 @@ pub mod RuleFile
 pub mod RuleSteps
 pub mod Matchers
 pub mod Parents
-pub use Rattle.ignore_types.specs.TypeNames
-pub use Rattle.ignore_types.specs.Types
-pub use Rattle.ignore_types.specs.PlaceSteps
-pub use Rattle.ignore_types.specs.Refusals
-pub use Rattle.ignore_types.specs.Defaults
-pub use Rattle.ignore_types.specs.TypeMatch
-pub use Rattle.ignore_types.specs.TypeCodes
-pub use Rattle.ignore_types.specs.Building
 pub use Rattle.ignore_excludes.specs.Excludes
 pub use Rattle.ignore_excludes.specs.ExcludesSearch

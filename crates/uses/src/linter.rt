@@ -4,12 +4,12 @@ ghost use Rattle.ignore_base.specs.Match.{is_ignore};
 ghost use Rattle.ignore_base.specs.Paths.{file_name_of};
 ghost use Rattle.ignore_base.specs.Problem.{problem_of, memory};
 ghost use Rattle.ignore_rules.specs.Overrides.{override_answer};
-ghost use Rattle.ignore_rules.specs.TypeMatch.{type_answer};
+ghost use Rattle.ignore_types.specs.TypeMatch.{type_answer};
 ghost use Rattle.uses.specs.Questions.{is_linted};
 
 use ignore_base::{Error, Match};
 use ignore_rules::overrides::Override;
-use ignore_rules::types::Types;
+use ignore_types::types::Types;
 
 /// Whether a file is looked at: a glob of the command line that says so or denies it decides; else
 /// its types do.

@@ -11,7 +11,7 @@ use ignore_base::Error;
 use ignore_files::{Bytes, Identity, MemoryTree, Row, TableMachine, TreeError};
 use ignore_rules::gitignore::{Gitignore, GitignoreBuilder};
 use ignore_rules::overrides::{Override, OverrideBuilder};
-use ignore_rules::types::{Types, TypesBuilder};
+use ignore_types::types::{Types, TypesBuilder};
 use std::alloc::Global;
 use std::collections::BTreeMap;
 use std::test::Fail;

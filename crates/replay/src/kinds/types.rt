@@ -4,7 +4,7 @@ use crate::answer::{Answer, Items, Written};
 use crate::clones::asked;
 use crate::operations::{Changed, OPS, apply_all, but_for_memory, problem};
 use ignore_base::{Error, Match};
-use ignore_rules::types::{FileTypeDef, Glob, Types, TypesBuilder};
+use ignore_types::types::{FileTypeDef, Glob, Types, TypesBuilder};
 use serde_json::Value;
 use std::alloc::{AllocError, Global};
 use vectors::{Trouble, flag_at, list, text_at};
