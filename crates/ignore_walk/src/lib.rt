@@ -1,0 +1,8 @@
+//! Walks of trees of files, filtered by the rules of their directories.
+#![tactic(auto)]
+
+mod entry;
+#[cfg(test)]
+mod tests;
+
+pub use entry::{DirEntry, Item};
