@@ -3,6 +3,7 @@
 use ignore_rules::gitignore::Gitignore;
 use ignore_rules::overrides::Override;
 use ignore_types::types::Types;
+use std::alloc::AllocError;
 use std::marker::Model;
 
 /// Matchers in the order in which they were added, which contracts see as a list.
@@ -25,7 +26,7 @@ impl Model for Matchers {
 }
 
 impl Matchers {
-    ghost use Rattle.std.specs.Prelude.{◌≡◌};
+    ghost use Rattle.std.specs.Prelude.{◌≡◌, ◌++◌, ◌∷◌, [], OnOk, OnErr};
 
     /// These matchers. It allocates nothing.
     pub fn new(items: Vec<Gitignore>) -> Matchers
@@ -40,6 +41,30 @@ impl Matchers {
     {
         self.items.as_slice()
     }
+
+    /// Appends a matcher.
+    ///
+    /// # Errors
+    /// Out of memory, and then the matchers are as before.
+    pub fn push(&mut self, matcher: Gitignore) -> Result<(), AllocError>
+        ensures added { OnOk result (self.new ≡ self.old ++ matcher ∷ []) }
+        ensures unchanged { OnErr result (self.new ≡ self.old) }
+    {
+        self.items.push(matcher)?;
+        Ok(())
+    }
+}
+
+impl Clone for Matchers {
+    ghost use Rattle.std.specs.Prelude.{◌≡◌};
+
+    ghost is_clone = { λ s c. c ≡ s };
+
+    fn clone(&self) -> Result<Matchers, AllocError> {
+        Ok(Matchers {
+            items: self.items.clone()?,
+        })
+    }
 }
 
 /// The rules that come from outside of the directories, as they were read.
@@ -53,4 +78,19 @@ pub struct Outside {
     pub global: Gitignore,
     /// The rules of files that were added by name.
     pub explicit: Matchers,
+}
+
+impl Clone for Outside {
+    ghost use Rattle.std.specs.Prelude.{◌≡◌};
+
+    ghost is_clone = { λ s c. c ≡ s };
+
+    fn clone(&self) -> Result<Outside, AllocError> {
+        Ok(Outside {
+            overrides: self.overrides.clone()?,
+            types: self.types.clone()?,
+            global: self.global.clone()?,
+            explicit: self.explicit.clone()?,
+        })
+    }
 }

@@ -1,7 +1,8 @@
 //! The settings by which directories are loaded and paths are matched.
-ghost use Rattle.std.specs.Prelude.{◌≡◌, ℕ, List};
+ghost use Rattle.std.specs.Prelude.{◌≡◌, ◌++◌, ◌∷◌, [], ℕ, List, IfOk, OnOk, OnErr, map, length};
 
 use ignore_files::Name;
+use std::alloc::AllocError;
 use std::marker::Model;
 
 /// Names of files, in the order in which they were given, which contracts see as a list.
@@ -29,6 +30,34 @@ impl Names {
         ensures { result.now ≡ self.now }
     {
         self.items.as_slice()
+    }
+
+    /// Appends a name.
+    ///
+    /// # Errors
+    /// Out of memory, and then the names are as before.
+    pub fn push(&mut self, name: &str) -> Result<(), AllocError>
+        ensures added { OnOk result (self.new ≡ self.old ++ name.now ∷ []) }
+        ensures unchanged { OnErr result (self.new ≡ self.old) }
+    {
+        let name = Name::new(String::from_str(*self.items.allocator(), name)?);
+        self.items.push(name)?;
+        Ok(())
+    }
+}
+
+impl Clone for Names {
+    ghost use Rattle.std.specs.Prelude.{◌≡◌};
+
+    ghost is_clone = { λ s c. c ≡ s };
+
+    fn clone(&self) -> Result<Names, AllocError> {
+        let items = self.as_slice();
+        let mut names = Names::new(Vec::new(*self.items.allocator()));
+        for name in items {
+            names.push(name.as_str())?;
+        }
+        Ok(names)
     }
 }
 
@@ -63,4 +92,29 @@ pub struct Settings {
     pub max_depth: Option<usize>,
     /// The size in bytes above which a file is ignored.
     pub max_filesize: Option<u64>,
+}
+
+impl Clone for Settings {
+    ghost use Rattle.std.specs.Prelude.{◌≡◌};
+
+    ghost is_clone = { λ s c. c ≡ s };
+
+    fn clone(&self) -> Result<Settings, AllocError> {
+        Ok(Settings {
+            custom: self.custom.clone()?,
+            hidden: self.hidden,
+            parents: self.parents,
+            ignore: self.ignore,
+            git_global: self.git_global,
+            git_ignore: self.git_ignore,
+            git_exclude: self.git_exclude,
+            require_git: self.require_git,
+            case_insensitive: self.case_insensitive,
+            git_trailing_spaces: self.git_trailing_spaces,
+            follow_links: self.follow_links,
+            min_depth: self.min_depth,
+            max_depth: self.max_depth,
+            max_filesize: self.max_filesize,
+        })
+    }
 }
