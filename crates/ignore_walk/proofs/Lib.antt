@@ -1,0 +1,4 @@
+pub mod Worked
+pub mod Arranged
+pub mod Given
+pub mod OneList

@@ -1,1 +1,6 @@
 pub mod Entry
+pub mod Scene
+pub mod Branch
+pub mod Child
+pub mod Walked
+pub mod Whole
