@@ -62,10 +62,10 @@ fn add_or_report<E: Write>(
 {
     match builder.push_line(None, line) {
         Ok(()) => Ok(false),
-        Err(error) => match report_refusal(err, number, error) {
-            Ok(()) => Ok(true),
-            Err(stop) => Err(stop),
-        },
+        Err(error) => {
+            report_refusal(err, number, error)?;
+            Ok(true)
+        }
     }
 }
 
