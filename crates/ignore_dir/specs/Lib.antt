@@ -1,9 +1,12 @@
 pub mod Above
 pub mod Chains
 pub mod Exclude
+pub mod Limits
 pub mod Lists
 pub mod Places
 pub mod Load
+pub mod Query
+pub mod Scene
 pub mod Soft
 pub mod Ranks
 pub mod Verdict

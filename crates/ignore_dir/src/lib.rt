@@ -5,6 +5,7 @@
 pub mod above;
 mod dir;
 pub mod exclude;
+pub mod incremental;
 pub mod laws;
 mod link;
 pub mod load;
@@ -17,6 +18,7 @@ mod tests;
 pub mod verdict;
 
 pub use dir::{Dir, Rank};
+pub use incremental::IncrementalMatch;
 pub use link::{Link, Placed};
 pub use outside::{Matchers, Outside};
 pub use settings::{Names, Settings};
