@@ -46,12 +46,15 @@ fn make(rt: &HostRuntime, thing: &str) -> io::Result<()> {
     }
 }
 
+/// The path of a folder in this one, for the process with this number.
+fn numbered(alloc: Global, temp: &str, id: u32) -> Result<String, AllocError> {
+    format!(in alloc; "{temp}/ignore_tests-{id}")
+}
+
 /// The path of a folder of this process alone. (Each test is a process.)
 fn own_folder(rt: &HostRuntime) -> io::Result<String> {
     let temp = env::temp_dir(rt)?;
-    let id = process::id(rt.process());
-    let folder = format!(in rt.alloc(); "{}/ignore_tests-{id}", temp.as_str())?;
-    Ok(folder)
+    Ok(numbered(rt.alloc(), temp.as_str(), process::id(rt.process()))?)
 }
 
 /// Makes a folder, and works in it from now on.
@@ -73,19 +76,32 @@ fn leave(rt: &HostRuntime, folder: &str) -> io::Result<()> {
     fs::remove_dir_all(rt, folder)
 }
 
+/// Adds to a tree a thing of this directory.
+fn add_in(alloc: Global, tree: &mut MemoryTree, cwd: &str, thing: &str) -> Result<(), TreeError> {
+    let path = format!(in alloc; "{cwd}/{thing}")?;
+    add(tree, &path)
+}
+
+/// Makes a thing on the machine, and adds it to a tree.
+fn make_both(rt: &HostRuntime, tree: &mut MemoryTree, cwd: &str, thing: &str) -> Result<(), Fail> {
+    make(rt, thing)?;
+    Ok(add_in(rt.alloc(), tree, cwd, thing)?)
+}
+
+/// The same as `made`, with the path of the working directory.
+fn made_in(rt: &HostRuntime, cwd: &str, things: &str) -> Result<MemoryTree, Fail> {
+    let mut tree = tree_at(rt.alloc(), cwd)?;
+    for thing in things.split('|') {
+        make_both(rt, &mut tree, cwd, thing)?;
+    }
+    Ok(tree)
+}
+
 /// Makes things, separated by bars, in the working directory of the machine, and returns a tree
 /// with the same things.
 fn made(rt: &HostRuntime, things: &str) -> Result<MemoryTree, Fail> {
     let cwd = env::current_dir(rt)?;
-    let mut tree = tree_at(rt.alloc(), cwd.as_str())?;
-    for thing in things.split('|') {
-        make(rt, thing)?;
-        add(
-            &mut tree,
-            &format!(in rt.alloc(); "{}/{thing}", cwd.as_str())?,
-        )?;
-    }
-    Ok(tree)
+    made_in(rt, cwd.as_str(), things)
 }
 
 /// The size of a directory is the system's own.
@@ -118,21 +134,53 @@ fn reported<F: Files>(alloc: Global, files: &F, path: &str) -> Result<String, Al
     format!(in alloc; "{followed:?} {own:?} {listing:?} {contents:?} {canonical:?} {is_one}")
 }
 
+/// Appends what was answered for a path, where it differs.
+fn push_difference(
+    text: &mut String,
+    path: &str,
+    on_disk: &str,
+    in_memory: &str,
+) -> Result<(), AllocError> {
+    if on_disk != in_memory {
+        write!(text, "{path}: {on_disk}, and not {in_memory}\n")?;
+    }
+    Ok(())
+}
+
+/// Appends what the machine and a tree answer for a path, where they differ.
+fn compare(
+    rt: &HostRuntime,
+    tree: &MemoryTree,
+    path: &str,
+    text: &mut String,
+) -> Result<(), AllocError> {
+    let on_disk = reported(rt.alloc(), &DiskFiles::new(rt), path)?;
+    let in_memory = reported(rt.alloc(), tree, path)?;
+    push_difference(text, path, &on_disk, &in_memory)
+}
+
+/// Where the machine and a tree answer differently for the paths of a text, separated by bars.
+fn compared(rt: &HostRuntime, tree: &MemoryTree, paths: &str) -> Result<String, AllocError> {
+    let mut text = String::new(rt.alloc());
+    for path in paths.split('|') {
+        compare(rt, tree, path, &mut text)?;
+    }
+    Ok(text)
+}
+
+/// The same as `differences`, in the working directory.
+fn differences_here(rt: &HostRuntime, things: &str, paths: &str) -> Result<String, Fail> {
+    let tree = made(rt, things)?;
+    Ok(compared(rt, &tree, paths)?)
+}
+
 /// Queries the machine and a tree, with the same things in them, for the paths of a text, separated
 /// by bars, and returns where their answers differ.
 fn differences(rt: &HostRuntime, things: &str, paths: &str) -> Result<String, Fail> {
     let folder = enter(rt)?;
-    let tree = made(rt, things)?;
-    let mut text = String::new(rt.alloc());
-    for path in paths.split('|') {
-        let on_disk = reported(rt.alloc(), &DiskFiles::new(rt), path)?;
-        let in_memory = reported(rt.alloc(), &tree, path)?;
-        if on_disk != in_memory {
-            write!(text, "{path}: {on_disk}, and not {in_memory}\n")?;
-        }
-    }
+    let differences = differences_here(rt, things, paths)?;
     leave(rt, &folder)?;
-    Ok(text)
+    Ok(differences)
 }
 
 #[test]
@@ -188,15 +236,27 @@ fn identity(rt: &HostRuntime, path: &str, follow: bool) -> Result<Option<Identit
     DiskFiles::new(rt).identity(rt.alloc(), path, follow)
 }
 
+/// Whether a thing on the machine has the identity of `file`.
+fn is_file(rt: &HostRuntime, path: &str, follow: bool) -> Result<bool, Refusal> {
+    Ok(identity(rt, path, follow)? == identity(rt, "file", true)?)
+}
+
+/// Whether a link to `file`, the link itself, and another file have its identity.
+fn identities(rt: &HostRuntime) -> Result<[bool; 3], Fail> {
+    let _ = made(rt, "file=a|other=a|link>file")?;
+    Ok([
+        is_file(rt, "link", true)?,
+        is_file(rt, "link", false)?,
+        is_file(rt, "other", true)?,
+    ])
+}
+
 #[test]
 fn a_thing_has_one_identity(rt: HostRuntime) -> Result<(), Fail> {
     let folder = enter(&rt)?;
-    let _ = made(&rt, "file=a|other=a|link>file")?;
-    let file = identity(&rt, "file", true)?;
-    assert_eq!(rt; identity(&rt, "link", true)?, file);
-    assert_ne!(rt; identity(&rt, "link", false)?, file);
-    assert_ne!(rt; identity(&rt, "other", true)?, file);
+    let identities = identities(&rt)?;
     leave(&rt, &folder)?;
+    assert_eq!(rt; identities, [true, false, false]);
     Ok(())
 }
 
@@ -210,31 +270,46 @@ fn is_roots(rt: &HostRuntime, path: &str) -> io::Result<bool> {
     Ok(fs::metadata(rt, path)?.uid() == 0)
 }
 
-/// What the five calls answer where the way to a path is shut.
+/// What the listing of a folder that nobody may use is, and what the five calls answer for a file
+/// in it.
 const DENIED: &str =
-    "Err(Fault(PermissionDenied)) Err(Fault(PermissionDenied)) Err(Fault(PermissionDenied)) Err(Fault(PermissionDenied)) Err(Fault(PermissionDenied)) true";
+    "Err(Fault(PermissionDenied)); Err(Fault(PermissionDenied)) Err(Fault(PermissionDenied)) Err(Fault(PermissionDenied)) Err(Fault(PermissionDenied)) Err(Fault(PermissionDenied)) true";
 
-/// What the machine lists of the folder `dir`, and answers for the file in it, while nobody may use
-/// the folder.
-fn shut(rt: &HostRuntime) -> Result<(Result<Vec<String>, Refusal>, String), Fail> {
-    let disk = DiskFiles::new(rt);
+/// What the machine lists of the folder `dir`, and then a text.
+fn listing_and(rt: &HostRuntime, file: &str) -> Result<String, AllocError> {
+    let listing = sorted(rt.alloc(), DiskFiles::new(rt).list(rt.alloc(), "dir"));
+    format!(in rt.alloc(); "{listing:?}; {file}")
+}
+
+/// What the machine lists of the folder `dir`, and answers for the file in it.
+fn answers(rt: &HostRuntime) -> Result<String, AllocError> {
+    let file = reported(rt.alloc(), &DiskFiles::new(rt), "dir/file")?;
+    listing_and(rt, &file)
+}
+
+/// The same while nobody may use the folder.
+fn shut(rt: &HostRuntime) -> Result<String, Fail> {
     permit(rt, "dir", 0)?;
-    let listing = sorted(rt.alloc(), disk.list(rt.alloc(), "dir"));
-    let file = reported(rt.alloc(), &disk, "dir/file")?;
+    let answers = answers(rt)?;
     permit(rt, "dir", 0o755)?;
-    Ok((listing, file))
+    Ok(answers)
+}
+
+/// The same for a folder that is made for it, unless it is root's.
+fn denied(rt: &HostRuntime) -> Result<Option<String>, Fail> {
+    let _ = made(rt, "dir/|dir/file=a")?;
+    if is_roots(rt, "dir")? {
+        return Ok(None);
+    }
+    Ok(Some(shut(rt)?))
 }
 
 #[test]
 fn what_may_not_be_read_is_reported(rt: HostRuntime) -> Result<(), Fail> {
     let folder = enter(&rt)?;
-    let _ = made(&rt, "dir/|dir/file=a")?;
-    let (listing, file) = shut(&rt)?;
-    if !is_roots(&rt, "dir")? {
-        assert_eq!(rt; listing, Err(Refusal::Fault(Fault::PermissionDenied)));
-        assert_eq!(rt; file.as_str(), DENIED);
-    }
+    let denied = denied(&rt)?;
     leave(&rt, &folder)?;
+    assert_eq!(rt; denied.as_deref().unwrap_or(DENIED), DENIED);
     Ok(())
 }
 

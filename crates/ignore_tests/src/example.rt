@@ -1,17 +1,28 @@
-//! The example of the README.
+//! Lines of rules, added one by one.
 
 use ignore_base::Error;
-use ignore_rules::gitignore::GitignoreBuilder;
+use ignore_rules::gitignore::{Gitignore, GitignoreBuilder};
 use std::alloc::Global;
 use std::test::Fail;
 
-/// Whether the lines of a gitignore file in `root` ignore a file.
-fn is_ignored(alloc: Global, root: &str, lines: &str, file: &str) -> Result<bool, Error> {
-    let mut builder = GitignoreBuilder::new(alloc, root)?;
+/// Adds lines.
+fn add_all(builder: &mut GitignoreBuilder, lines: &str) -> Result<(), Error> {
     for line in lines.lines() {
         builder.add_line(None, line)?;
     }
-    let matcher = builder.build()?;
+    Ok(())
+}
+
+/// The matcher of the lines of a gitignore file in `root`.
+fn matcher_of(alloc: Global, root: &str, lines: &str) -> Result<Gitignore, Error> {
+    let mut builder = GitignoreBuilder::new(alloc, root)?;
+    add_all(&mut builder, lines)?;
+    builder.build()
+}
+
+/// Whether the lines of a gitignore file in `root` ignore a file.
+fn is_ignored(alloc: Global, root: &str, lines: &str, file: &str) -> Result<bool, Error> {
+    let matcher = matcher_of(alloc, root, lines)?;
     Ok(matcher.matched(file, false)?.is_ignore())
 }
 

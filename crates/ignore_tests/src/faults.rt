@@ -71,11 +71,15 @@ fn searched(alloc: Global, fault: Fault) -> Result<Option<String>, Error> {
     gitconfig_excludes_path(alloc, &Faulty(fault), &at_home(alloc)?)
 }
 
+/// Whether that is the place where the file is without any configuration.
+fn is_default(alloc: Global, fault: Fault) -> Result<bool, Error> {
+    Ok(searched(alloc, fault)?.as_deref() == Some("/h/.config/git/ignore"))
+}
+
 #[test]
 fn a_configuration_with_any_fault_gives_nothing(rt: HostRuntime) -> Result<(), Fail> {
     for fault in FAULTS {
-        let found = searched(rt.alloc(), fault)?;
-        assert_eq!(rt; found.as_deref(), Some("/h/.config/git/ignore"));
+        assert!(rt; is_default(rt.alloc(), fault)?, "{fault}");
     }
     Ok(())
 }
@@ -90,10 +94,14 @@ fn of_file(alloc: Global, fault: Fault) -> Result<(usize, bool), Error> {
     Ok(outcome(Gitignore::new(alloc, &Faulty(fault), "/e")?))
 }
 
+/// The matcher of the global file, in an environment.
+fn global_in(alloc: Global, fault: Fault, env: &Env) -> Result<(usize, bool), Error> {
+    Ok(outcome(Gitignore::global(alloc, &Faulty(fault), env)?))
+}
+
 /// The matcher of the global file.
 fn global(alloc: Global, fault: Fault) -> Result<(usize, bool), Error> {
-    let env = at_home(alloc)?;
-    Ok(outcome(Gitignore::global(alloc, &Faulty(fault), &env)?))
+    global_in(alloc, fault, &at_home(alloc)?)
 }
 
 #[test]

@@ -1,6 +1,6 @@
 //! A tree of many nodes and a file of many rules.
 use ignore_base::Error;
-use ignore_files::{Files, MemoryTree, TreeError};
+use ignore_files::{Files, MemoryTree, Refusal, TreeError};
 use ignore_rules::gitignore::{Gitignore, GitignoreBuilder};
 use std::alloc::{AllocError, Global};
 use std::test::Fail;
@@ -20,31 +20,45 @@ fn add_wide(alloc: Global, tree: &mut MemoryTree, count: u32) -> Result<(), Tree
     Ok(())
 }
 
-/// A tree of such a directory.
-fn wide(alloc: Global, count: u32) -> Result<MemoryTree, TreeError> {
-    let mut tree = MemoryTree::new(alloc, "/")?;
+/// The tree with such a directory.
+fn with_wide(alloc: Global, mut tree: MemoryTree, count: u32) -> Result<MemoryTree, TreeError> {
     add_wide(alloc, &mut tree, count)?;
     Ok(tree)
+}
+
+/// A tree of such a directory alone.
+fn wide(alloc: Global, count: u32) -> Result<MemoryTree, TreeError> {
+    with_wide(alloc, MemoryTree::new(alloc, "/")?, count)
+}
+
+/// How many directories a tree has, how many entries are listed of that one, and whether its last
+/// file and the one after that are there.
+fn found(alloc: Global, tree: &MemoryTree) -> Result<(usize, usize, bool, bool), Refusal> {
+    let listed = tree.list(alloc, "/wide")?.len();
+    let is_last = tree.stat(alloc, "wide/19999", true)?.is_file();
+    let is_after = tree.stat(alloc, "wide/20000", true).is_ok();
+    Ok((tree.dir_count(), listed, is_last, is_after))
 }
 
 #[test]
 fn many_files_are_listed(rt: HostRuntime) -> Result<(), Fail> {
     let tree = wide(rt.alloc(), 20_000)?;
-    assert_eq!(rt; tree.dir_count(), 2);
-    assert_eq!(rt; tree.list(rt.alloc(), "/wide")?.len(), 20_000);
-    assert!(rt; tree.stat(rt.alloc(), "wide/19999", true)?.is_file());
-    assert!(rt; tree.stat(rt.alloc(), "wide/20000", true).is_err());
+    assert_eq!(rt; found(rt.alloc(), &tree)?, (2, 20_000, true, false));
     Ok(())
 }
 
 /// Six lines of 41 bytes, which are three rules that ignore and one that whitelists.
 const LINES: &str = "*.o\n!keep.o\n# comment\n\n/target/\nsrc/**/x\n";
 
+/// The text with this line at its end.
+fn with_line(mut text: String, line: &str) -> Result<String, AllocError> {
+    text.push_str(line)?;
+    Ok(text)
+}
+
 /// A file of a megabyte: the lines 25,600 times, and one more line.
 fn rules(alloc: Global, last: &str) -> Result<String, AllocError> {
-    let mut text = LINES.repeat(alloc, 25_600)?;
-    text.push_str(last)?;
-    Ok(text)
+    with_line(LINES.repeat(alloc, 25_600)?, last)
 }
 
 /// A tree with that file.
@@ -55,25 +69,20 @@ fn with_rules(alloc: Global, last: &str) -> Result<MemoryTree, TreeError> {
     Ok(tree)
 }
 
-/// The rules of that file, and what is wrong with it.
-fn added(alloc: Global, last: &str) -> Result<(Gitignore, Option<Error>), Fail> {
-    let tree = with_rules(alloc, last)?;
-    let mut builder = GitignoreBuilder::new(alloc, "/")?;
-    let error = builder.add(&tree, "/rules")?;
+/// The rules that are added of that file, and what is wrong with it.
+fn added_to(
+    mut builder: GitignoreBuilder,
+    tree: &MemoryTree,
+) -> Result<(Gitignore, Option<Error>), Error> {
+    let error = builder.add(tree, "/rules")?;
     Ok((builder.build()?, error))
 }
 
-#[test]
-fn each_rule_of_a_megabyte_counts(rt: HostRuntime) -> Result<(), Fail> {
-    let (rules, error) = added(rt.alloc(), "")?;
-    assert!(rt; error.is_none());
-    assert_eq!(rt; rules.len(), 102_400);
-    assert_eq!(rt; rules.num_ignores(), 76_800);
-    assert_eq!(rt; rules.num_whitelists(), 25_600);
-    Ok(())
+/// The rules of that file, and what is wrong with it.
+fn added(alloc: Global, last: &str) -> Result<(Gitignore, Option<Error>), Fail> {
+    let tree = with_rules(alloc, last)?;
+    Ok(added_to(GitignoreBuilder::new(alloc, "/")?, &tree)?)
 }
-
-const UNCLOSED: &str = "/rules: line 153601: error parsing glob '{': unclosed alternates";
 
 /// The text of an error, if there is one.
 fn text_of(alloc: Global, error: &Option<Error>) -> Result<String, AllocError> {
@@ -83,16 +92,41 @@ fn text_of(alloc: Global, error: &Option<Error>) -> Result<String, AllocError> {
     }
 }
 
-/// The number of the rules of that file, and the text of what is wrong with it.
-fn reported(alloc: Global, last: &str) -> Result<(usize, String), Fail> {
+/// How many rules there are, how many of them ignore and whitelist, and the text of an error.
+fn counts(
+    alloc: Global,
+    rules: &Gitignore,
+    error: &Option<Error>,
+) -> Result<(usize, u64, u64, String), AllocError> {
+    let text = text_of(alloc, error)?;
+    Ok((
+        rules.len(),
+        rules.num_ignores(),
+        rules.num_whitelists(),
+        text,
+    ))
+}
+
+/// The same of that file.
+fn reported(alloc: Global, last: &str) -> Result<(usize, u64, u64, String), Fail> {
     let (rules, error) = added(alloc, last)?;
-    Ok((rules.len(), text_of(alloc, &error)?))
+    Ok(counts(alloc, &rules, &error)?)
 }
 
 #[test]
+fn each_rule_of_a_megabyte_counts(rt: HostRuntime) -> Result<(), Fail> {
+    let (count, ignores, whitelists, error) = reported(rt.alloc(), "")?;
+    assert_eq!(rt; error.as_str(), "");
+    assert_eq!(rt; (count, ignores, whitelists), (102_400, 76_800, 25_600));
+    Ok(())
+}
+
+const UNCLOSED: &str = "/rules: line 153601: error parsing glob '{': unclosed alternates";
+
+#[test]
 fn the_last_line_of_a_megabyte_is_reported(rt: HostRuntime) -> Result<(), Fail> {
-    let (count, error) = reported(rt.alloc(), "{")?;
-    assert_eq!(rt; count, 102_400);
+    let (count, _, _, error) = reported(rt.alloc(), "{")?;
     assert_eq!(rt; error.as_str(), UNCLOSED);
+    assert_eq!(rt; count, 102_400);
     Ok(())
 }

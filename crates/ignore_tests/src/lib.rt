@@ -1,5 +1,5 @@
-//! Tests that need code: the example of the README, the machine's files beside a tree in memory,
-//! and very long globs and files.
+//! Tests that need code: lines added one by one, the machine's files beside a tree in memory, the
+//! environment of a process, and very long globs and files.
 #![tactic(auto)]
 
 #[cfg(test)]
@@ -8,6 +8,8 @@ mod brackets;
 mod deep;
 #[cfg(test)]
 mod disk;
+#[cfg(test)]
+mod environment;
 #[cfg(test)]
 mod example;
 #[cfg(test)]

@@ -1,7 +1,8 @@
 //! The machine's files over machines that interrupt, refuse, lie and list strange names.
 use ignore_files::{DiskFiles, Fault, Files, Identity, Machine, Refusal};
-use std::alloc::Global;
+use std::alloc::{AllocError, Global};
 use std::cell::Cell;
+use std::fmt::Debug;
 use std::os::fd::AsRawFd;
 use std::os::unix::fs::MetadataExt;
 use std::path::PathBuf;
@@ -173,24 +174,42 @@ impl Machine for Fake {
     }
 }
 
-/// What the five calls answer, as a text.
-fn answers(alloc: Global, machine: &Fake, path: &str) -> Result<String, Fail> {
+/// Appends what a call answers, and a bar.
+fn push<T: Debug + Drop>(text: &mut String, answer: T) -> Result<(), AllocError> {
+    write!(text, "{answer:?}|")?;
+    Ok(())
+}
+
+/// Appends what three of the five calls answer.
+fn push_entries(text: &mut String, machine: &Fake, path: &str) -> Result<(), AllocError> {
     let disk = DiskFiles::new(machine);
-    let stat = disk.stat(alloc, path, true);
-    let identity = disk.identity(alloc, path, false);
-    let list = disk.list(alloc, path);
-    let contents = disk.contents(alloc, path);
-    let canonical = disk.canonical(alloc, path);
-    Ok(format!(in alloc; "{stat:?}|{identity:?}|{list:?}|{contents:?}|{canonical:?}")?)
+    push(text, disk.stat(machine.alloc, path, true))?;
+    push(text, disk.identity(machine.alloc, path, false))?;
+    push(text, disk.list(machine.alloc, path))
+}
+
+/// Appends what the other two answer.
+fn push_bytes(text: &mut String, machine: &Fake, path: &str) -> Result<(), AllocError> {
+    let disk = DiskFiles::new(machine);
+    push(text, disk.contents(machine.alloc, path))?;
+    push(text, disk.canonical(machine.alloc, path))
+}
+
+/// What the five calls answer, as a text.
+fn answers(machine: &Fake, path: &str) -> Result<String, AllocError> {
+    let mut text = String::new(machine.alloc);
+    push_entries(&mut text, machine, path)?;
+    push_bytes(&mut text, machine, path)?;
+    Ok(text)
 }
 
 /// What a machine of directories answers, where this question is refused and this step is
 /// interrupted.
-fn answers_of(rt: &HostRuntime, refused: u32, interrupted: u32) -> Result<String, Fail> {
+fn answers_of(rt: &HostRuntime, refused: u32, interrupted: u32) -> Result<String, AllocError> {
     let mut machine = Fake::new(rt.alloc(), directory(), 2, "a");
     machine.refused = refused;
     machine.interrupted = interrupted;
-    answers(rt.alloc(), &machine, "path")
+    answers(&machine, "path")
 }
 
 /// The type of a directory.
@@ -200,7 +219,7 @@ fn directory() -> fs::FileType {
 
 /// What it answers where nothing is refused.
 const ANSWERS: &str =
-    "Ok(Metadata { file_type: Dir, len: 3 })|Ok(Some(Identity { device: 7, inode: 8 }))|Ok(Listing { items: [Entry { name: Name { text: \"a\" }, file_type: Dir }, Entry { name: Name { text: \"a\" }, file_type: Dir }] })|Ok(Contents { bytes: Bytes { bytes: [97] }, fault: Some(PermissionDenied) })|Ok(Name { text: \"path\" })";
+    "Ok(Metadata { file_type: Dir, len: 3 })|Ok(Some(Identity { device: 7, inode: 8 }))|Ok(Listing { items: [Entry { name: Name { text: \"a\" }, file_type: Dir }, Entry { name: Name { text: \"a\" }, file_type: Dir }] })|Ok(Contents { bytes: Bytes { bytes: [97] }, fault: Some(PermissionDenied) })|Ok(Name { text: \"path\" })|";
 
 #[test]
 fn interrupted_questions_are_asked_again(rt: HostRuntime) -> Result<(), Fail> {
@@ -211,11 +230,11 @@ fn interrupted_questions_are_asked_again(rt: HostRuntime) -> Result<(), Fail> {
     Ok(())
 }
 
-/// How many of the five answers are that permission was denied.
-fn denied(answers: &str) -> usize {
+/// How many of the answers are this one.
+fn count(answers: &str, wanted: &str) -> usize {
     answers
         .split('|')
-        .filter(|answer| *answer == "Err(Fault(PermissionDenied))")
+        .filter(|answer| *answer == wanted)
         .count()
 }
 
@@ -223,7 +242,7 @@ fn denied(answers: &str) -> usize {
 fn each_refused_question_ends_its_call_alone(rt: HostRuntime) -> Result<(), Fail> {
     for refused in 1..7 {
         let text = answers_of(&rt, refused, 0)?;
-        assert_eq!(rt; denied(&text), 1);
+        assert_eq!(rt; count(&text, "Err(Fault(PermissionDenied))"), 1);
     }
     Ok(())
 }
@@ -280,13 +299,8 @@ fn a_hundred_thousand_names_are_listed(rt: HostRuntime) -> Result<(), Fail> {
 #[test]
 fn a_path_with_a_nul_is_not_found_and_not_asked(rt: HostRuntime) -> Result<(), Fail> {
     let machine = Fake::new(rt.alloc(), directory(), 1, "a");
-    let text = answers(rt.alloc(), &machine, "a\0b")?;
-    assert_eq!(rt;
-        text.split('|')
-            .filter(|answer| *answer == "Err(Fault(NotFound))")
-            .count(),
-        5
-    );
+    let text = answers(&machine, "a\0b")?;
+    assert_eq!(rt; count(&text, "Err(Fault(NotFound))"), 5);
     assert_eq!(rt; machine.asked.get(), 0);
     Ok(())
 }

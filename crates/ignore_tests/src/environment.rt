@@ -1,0 +1,80 @@
+//! The environment of a process, through a runtime whose variables are known.
+ghost use Rattle.std.specs.Io.{WritesAtMost};
+
+use ignore_files::Env;
+use std::env::FillError;
+use std::test::Fail;
+use std::{io, rt};
+
+/// A runtime in which the value of each variable is its name, unless that begins with this text,
+/// and the working directory is `/here`.
+#[derive(Clone, Copy)]
+struct Named {
+    unset: &'static str,
+}
+
+/// Copies a text to the start of a buffer, and returns its length.
+fn fill(text: &str, buf: &mut [u8]) -> Result<usize, FillError>
+    ensures bound { WritesAtMost result buf.new }
+{
+    let len = text.len();
+    if len > buf.len() {
+        return Err(FillError::TooLong);
+    }
+    buf[..len].copy_from_slice(text.as_bytes());
+    Ok(len)
+}
+
+impl rt::Env for Named {
+    fn arg(&self, _i: usize, _buf: &mut [u8]) -> Result<usize, FillError> {
+        Err(FillError::NotPresent)
+    }
+
+    fn var(&self, name: &str, buf: &mut [u8]) -> Result<usize, FillError> {
+        if name.starts_with(self.unset) {
+            return Err(FillError::NotPresent);
+        }
+        fill(name, buf)
+    }
+
+    fn var_at(&self, _i: usize, _buf: &mut [u8]) -> Result<usize, FillError> {
+        Err(FillError::NotPresent)
+    }
+
+    fn current_dir(&self, buf: &mut [u8]) -> io::Result<usize> {
+        match fill("/here", buf) {
+            Ok(len) => Ok(len),
+            Err(_) => Err(io::Error::from(io::ErrorKind::NotFound)),
+        }
+    }
+}
+
+/// The environment as a text.
+fn reported(rt: &HostRuntime, unset: &'static str) -> Result<String, Fail> {
+    let env = Env::of_process(&(Named { unset }, rt.alloc()))?;
+    Ok(format!(in rt.alloc(); "{env:?}")?)
+}
+
+#[test]
+fn each_field_is_of_its_own_variable(rt: HostRuntime) -> Result<(), Fail> {
+    let text = reported(&rt, "no such name")?;
+    assert_eq!(rt;
+        text.as_str(),
+        "Env { current_dir: Some(Name { text: \"/here\" }), home: Some(Name { text: \"HOME\" }), \
+        xdg_config_home: Some(Name { text: \"XDG_CONFIG_HOME\" }), \
+        git_config_global: Some(Name { text: \"GIT_CONFIG_GLOBAL\" }), \
+        git_config_system: Some(Name { text: \"GIT_CONFIG_SYSTEM\" }) }"
+    );
+    Ok(())
+}
+
+#[test]
+fn a_variable_that_is_not_set_is_none(rt: HostRuntime) -> Result<(), Fail> {
+    let text = reported(&rt, "")?;
+    assert_eq!(rt;
+        text.as_str(),
+        "Env { current_dir: Some(Name { text: \"/here\" }), home: None, xdg_config_home: None, \
+        git_config_global: None, git_config_system: None }"
+    );
+    Ok(())
+}
