@@ -1,0 +1,67 @@
+//! Limits: how deep, how large, how many steps, which links and devices.
+ghost use Rattle.std.specs.Prelude.{◌≡◌};
+ghost use Rattle.ignore.specs.Builder.{with_max_depth, with_min_depth, with_max_filesize, with_limit, with_follow_links, with_same_file_system};
+
+use crate::builder::WalkBuilder;
+
+impl WalkBuilder {
+    /// How many names below a root an entry may be. `None`, as at first, is no limit. Where it is
+    /// below a least depth that is set, it becomes that one.
+    pub fn max_depth(&mut self, depth: Option<usize>) -> &mut Self
+        ensures same_reference { result.ghost_name ≡ self.entry.ghost_name }
+        ensures value { result.now ≡ with_max_depth self.old depth }
+    {
+        self.settings.set_max_depth(depth);
+        self
+    }
+
+    /// How many names below a root an entry must be. `None`, as at first, is no limit. Where it is
+    /// above a greatest depth that is set, it becomes that one.
+    pub fn min_depth(&mut self, depth: Option<usize>) -> &mut Self
+        ensures same_reference { result.ghost_name ≡ self.entry.ghost_name }
+        ensures value { result.now ≡ with_min_depth self.old depth }
+    {
+        self.settings.set_min_depth(depth);
+        self
+    }
+
+    /// The size in bytes above which a file is ignored. `None`, as at first, is no limit.
+    pub fn max_filesize(&mut self, size: Option<u64>) -> &mut Self
+        ensures same_reference { result.ghost_name ≡ self.entry.ghost_name }
+        ensures value { result.now ≡ with_max_filesize self.old size }
+    {
+        let settings = &mut self.settings;
+        settings.inner.max_filesize = size;
+        self
+    }
+
+    /// How many steps a walk may take: one for each root, for each child of a directory, and for
+    /// each directory that is left. At first it is the greatest number.
+    pub fn limit(&mut self, steps: u64) -> &mut Self
+        ensures same_reference { result.ghost_name ≡ self.entry.ghost_name }
+        ensures value { result.now ≡ with_limit self.old steps }
+    {
+        self.limit = steps;
+        self
+    }
+
+    /// Whether symbolic links are followed. It is off at first.
+    pub fn follow_links(&mut self, yes: bool) -> &mut Self
+        ensures same_reference { result.ghost_name ≡ self.entry.ghost_name }
+        ensures value { result.now ≡ with_follow_links self.old yes }
+    {
+        let settings = &mut self.settings;
+        settings.inner.follow_links = yes;
+        self
+    }
+
+    /// Whether a walk stays on the device of each root: a directory on another one is yielded and
+    /// not listed. It is off at first.
+    pub fn same_file_system(&mut self, yes: bool) -> &mut Self
+        ensures same_reference { result.ghost_name ≡ self.entry.ghost_name }
+        ensures value { result.now ≡ with_same_file_system self.old yes }
+    {
+        self.same_file_system = yes;
+        self
+    }
+}
