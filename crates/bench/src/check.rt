@@ -14,7 +14,7 @@ const RULES: usize = 100;
 
 /// Prints for each glob how many texts are matched by each matcher, and for the first rules how
 /// many paths are matched by each way of asking them.
-pub fn check(rt: &HostRuntime) -> Result<(), Error> {
+pub(crate) fn check(rt: &HostRuntime) -> Result<(), Error> {
     let text = fs::read_to_string(rt, "texts")?;
     let texts = first_lines(rt.alloc(), text.as_str(), TEXTS)?;
     let globs = fs::read_to_string(rt, "globs")?;

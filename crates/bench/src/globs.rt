@@ -10,15 +10,15 @@ use std::fs;
 
 /// A row of a file of globs: a glob, and the globs without braces that match the same together.
 #[derive(Clone, Copy)]
-pub struct Row<'r> {
-    pub glob: &'r str,
+pub(crate) struct Row<'r> {
+    pub(crate) glob: &'r str,
     expanded: &'r str,
 }
 
 impl<'r> Row<'r> {
     /// The row of a line: words, the first of which is the glob. A glob without braces stands
     /// alone.
-    pub fn of(line: &'r str) -> Row<'r> {
+    pub(crate) fn of(line: &'r str) -> Row<'r> {
         match line.split_once(' ') {
             Some((glob, expanded)) => Row { glob, expanded },
             None => Row {
@@ -29,13 +29,18 @@ impl<'r> Row<'r> {
     }
 
     /// The plain matcher of the glob.
-    pub fn plain(&self, alloc: Global) -> Result<Plain, Error> {
+    pub(crate) fn plain(&self, alloc: Global) -> Result<Plain, Error> {
         Ok(Plain::new(alloc, self.expanded)?)
     }
 }
 
 /// Prints for each glob of a file what it costs to match each line of another, in so many rounds.
-pub fn time_globs(rt: &HostRuntime, globs: &str, texts: &str, rounds: usize) -> Result<(), Error> {
+pub(crate) fn time_globs(
+    rt: &HostRuntime,
+    globs: &str,
+    texts: &str,
+    rounds: usize,
+) -> Result<(), Error> {
     let globs = fs::read_to_string(rt, globs)?;
     let text = fs::read_to_string(rt, texts)?;
     let texts = first_lines(rt.alloc(), text.as_str(), usize::MAX)?;
@@ -63,7 +68,7 @@ fn time_row(rt: &HostRuntime, row: Row<'_>, texts: &[&str], rounds: usize) -> Re
 }
 
 /// The pattern of a glob in braces, which the library matches by flags.
-pub fn braced(alloc: Global, glob: &str) -> Result<Pattern, Error> {
+pub(crate) fn braced(alloc: Global, glob: &str) -> Result<Pattern, Error> {
     let braced = format!(in alloc; "{{{glob}}}")?;
     pattern_of(alloc, braced.as_str())
 }

@@ -8,7 +8,7 @@ use std::rt::Env;
 use std::{env, io};
 
 /// The words after the program's name.
-pub fn words(rt: &(impl Env + AllocGlobal)) -> io::Result<Vec<String>> {
+pub(crate) fn words(rt: &(impl Env + AllocGlobal)) -> io::Result<Vec<String>> {
     let mut words = Vec::new(rt.alloc());
     for word in env::args(rt)?.skip(1) {
         words.push(word)?;
@@ -17,12 +17,16 @@ pub fn words(rt: &(impl Env + AllocGlobal)) -> io::Result<Vec<String>> {
 }
 
 /// The first lines of a text, so many at most.
-pub fn first_lines(alloc: Global, text: &str, count: usize) -> Result<Vec<&str>, AllocError> {
+pub(crate) fn first_lines(
+    alloc: Global,
+    text: &str,
+    count: usize,
+) -> Result<Vec<&str>, AllocError> {
     text.lines().take(count).collect(alloc)
 }
 
 /// The matcher of the first lines of a text, so many at most, for paths relative to its root.
-pub fn matcher_of(alloc: Global, text: &str, count: usize) -> Result<Gitignore, Error> {
+pub(crate) fn matcher_of(alloc: Global, text: &str, count: usize) -> Result<Gitignore, Error> {
     let mut builder = GitignoreBuilder::new(alloc, "")?;
     for line in text.lines().take(count) {
         builder.push_line(None, line)?;
@@ -31,7 +35,7 @@ pub fn matcher_of(alloc: Global, text: &str, count: usize) -> Result<Gitignore, 
 }
 
 /// The pattern of a glob in which an unclosed class is literal, as in a rule.
-pub fn pattern_of(alloc: Global, glob: &str) -> Result<Pattern, Error> {
+pub(crate) fn pattern_of(alloc: Global, glob: &str) -> Result<Pattern, Error> {
     let options = Options {
         case_insensitive: false,
         allow_unclosed_class: true,
@@ -46,7 +50,7 @@ pub fn pattern_of(alloc: Global, glob: &str) -> Result<Pattern, Error> {
 }
 
 /// The patterns of a matcher's rules, each with whether it is for directories only.
-pub fn patterns_of(alloc: Global, rules: &Gitignore) -> Result<Vec<(Pattern, bool)>, Error> {
+pub(crate) fn patterns_of(alloc: Global, rules: &Gitignore) -> Result<Vec<(Pattern, bool)>, Error> {
     let mut patterns = Vec::new(alloc);
     for rule in rules.rules() {
         let pattern = pattern_of(alloc, rule.actual())?;

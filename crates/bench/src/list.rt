@@ -8,7 +8,7 @@ use std::io::{BufWriter, Write};
 
 /// Prints those of the paths in a file, none of a directory, that the rules of another file ignore,
 /// or a directory above.
-pub fn list(rt: &HostRuntime, rules: &str, paths: &str) -> Result<(), Error> {
+pub(crate) fn list(rt: &HostRuntime, rules: &str, paths: &str) -> Result<(), Error> {
     let rules = fs::read_to_string(rt, rules)?;
     let paths = fs::read_to_string(rt, paths)?;
     let matcher = matcher_of(rt.alloc(), rules.as_str(), usize::MAX)?;

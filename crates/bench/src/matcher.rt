@@ -8,7 +8,7 @@ use ignore_set::PatternSet;
 use std::time::{CpuClock, Duration};
 
 /// Something that matches texts or doesn't.
-pub trait Matcher {
+pub(crate) trait Matcher {
     /// Whether the text is matched.
     fn is_match(&mut self, text: &str) -> Result<bool, Error>;
 }
@@ -39,7 +39,7 @@ impl Matcher for Gitignore {
 
 /// Patterns that are asked one by one, from the last to the first.
 #[derive(Drop)]
-pub struct OneByOne(pub Vec<(Pattern, bool)>);
+pub(crate) struct OneByOne(pub(crate) Vec<(Pattern, bool)>);
 
 impl Matcher for OneByOne {
     fn is_match(&mut self, text: &str) -> Result<bool, Error> {
@@ -54,7 +54,7 @@ impl Matcher for OneByOne {
 }
 
 /// How many of the texts are matched.
-pub fn count<M: Matcher>(matcher: &mut M, texts: &[&str]) -> Result<u64, Error> {
+pub(crate) fn count<M: Matcher>(matcher: &mut M, texts: &[&str]) -> Result<u64, Error> {
     let mut matched = 0u64;
     for text in texts {
         if matcher.is_match(text)? {
@@ -66,7 +66,7 @@ pub fn count<M: Matcher>(matcher: &mut M, texts: &[&str]) -> Result<u64, Error> 
 
 /// Asks about each text once, and prints under the name how many nanoseconds of the processor that
 /// took and how many of the texts are matched.
-pub fn time<M: Matcher>(
+pub(crate) fn time<M: Matcher>(
     rt: &(impl Print + CpuClock),
     name: &str,
     matcher: &mut M,

@@ -18,7 +18,7 @@ struct State {
 
 /// Globs without braces, one of which is to match.
 #[derive(Drop)]
-pub struct Plain {
+pub(crate) struct Plain {
     globs: Vec<Vec<Token>>,
     /// The characters of the text that was asked about last.
     text: Vec<char>,
@@ -28,7 +28,7 @@ pub struct Plain {
 
 impl Plain {
     /// The matcher of globs without braces and backslashes, with a space between two.
-    pub fn new(alloc: Global, globs: &str) -> Result<Plain, AllocError> {
+    pub(crate) fn new(alloc: Global, globs: &str) -> Result<Plain, AllocError> {
         let mut parsed = Vec::new(alloc);
         for glob in globs.split(' ') {
             parsed.push(tokens_of(alloc, glob)?)?;
@@ -41,7 +41,7 @@ impl Plain {
     }
 
     /// Whether one of the globs matches the whole text.
-    pub fn matches(&mut self, text: &str) -> Result<bool, Error> {
+    pub(crate) fn matches(&mut self, text: &str) -> Result<bool, Error> {
         self.text.clear();
         for c in text.chars() {
             self.text.push(c)?;

@@ -9,12 +9,12 @@ use std::alloc::Global;
 use std::fs;
 
 /// The set of a matcher's rules.
-pub fn set_of(alloc: Global, rules: &Gitignore) -> Result<PatternSet, Error> {
+pub(crate) fn set_of(alloc: Global, rules: &Gitignore) -> Result<PatternSet, Error> {
     PatternSet::new(patterns_of(alloc, rules)?)
 }
 
 /// How many patterns the set tries by a pass over positions, for all these texts.
-pub fn passes(set: &PatternSet, texts: &[&str]) -> Result<u64, Error> {
+pub(crate) fn passes(set: &PatternSet, texts: &[&str]) -> Result<u64, Error> {
     let mut passes = 0u64;
     for text in texts {
         let (_, tried) = set.last_match_counted(text, false)?;
@@ -26,7 +26,7 @@ pub fn passes(set: &PatternSet, texts: &[&str]) -> Result<u64, Error> {
 /// Prints what it costs to ask the first rules of a file, so many, about each line of another: the
 /// passes over positions of a set in all, and in so many rounds the times of the set, of the
 /// matcher and of the rules one by one.
-pub fn time_rules(
+pub(crate) fn time_rules(
     rt: &HostRuntime,
     rules: &str,
     texts: &str,

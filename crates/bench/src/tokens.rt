@@ -4,7 +4,7 @@ use std::alloc::{AllocError, Global};
 
 /// A token of a glob. `/**/` is a slash and then `Dirs`, and `/**` a slash and then `All`.
 #[derive(Drop)]
-pub enum Token {
+pub(crate) enum Token {
     Literal(char),
     /// One character but a slash.
     Any,
@@ -22,7 +22,7 @@ pub enum Token {
 }
 
 /// The tokens of a glob without braces and backslashes.
-pub fn tokens_of(alloc: Global, glob: &str) -> Result<Vec<Token>, AllocError> {
+pub(crate) fn tokens_of(alloc: Global, glob: &str) -> Result<Vec<Token>, AllocError> {
     let mut tokens = Vec::new(alloc);
     let mut rest = glob;
     for _ in 0..glob.len() {
