@@ -20,7 +20,7 @@ struct State {
 #[derive(Drop)]
 pub(crate) struct Plain {
     globs: Vec<Vec<Token>>,
-    /// The characters of the text that was asked about last.
+    /// The characters of the text that was matched last.
     text: Vec<char>,
     /// What is left to try.
     states: Vec<State>,

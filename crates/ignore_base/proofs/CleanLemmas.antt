@@ -1,12 +1,15 @@
 -- Names, and the components of a clean path.
-use Rattle.std.proofs.Common.{◌≡◌, ◌≢◌, ℕ, zero, suc, ◌==◌, ◌||◌, ◌&&◌, not, true, false, List, [], ◌∷◌, ◌++◌, length, codes, refl, sym, ap, subst, ◌∙◌, arith, ⊎_elim, eq-eqb, eqb-true, Contains, All, Decides}
+use Rattle.std.proofs.Common.{◌≡◌, ◌≢◌, ℕ, zero, suc, ◌==◌, ◌||◌, ◌&&◌, not, true, false, List, [], ◌∷◌, ◌++◌, length, codes, refl, sym, ap}
+use Rattle.std.proofs.Common.{subst, ◌∙◌, arith, ⊎_elim, eq-eqb, eqb-true, Contains, All, Decides}
 use Rattle.std.specs.Str.{bytes_eq}
 use Rattle.std.specs.List.{list_all, onto_first, AllByRecursion}
-use Rattle.std.proofs.lemmas.Bool.{cond-true, cond-false, cases_Bool, false_from_ne_true, both_ways, and_parts, and_from, not-true, not_from_false, ne_eqb, or_cases, or_left, or_right, eqb-false}
+use Rattle.std.proofs.lemmas.Bool.{cond-true, cond-false, cases_Bool, false_from_ne_true, both_ways, and_parts, and_from, not-true}
+use Rattle.std.proofs.lemmas.Bool.{not_from_false, ne_eqb, or_cases, or_left, or_right, eqb-false}
 use Rattle.std.proofs.lemmas.List.{get_or_default, nil_from_length}
 use Rattle.std.proofs.lemmas.List.Splits.{slice_split_none}
 use Rattle.std.proofs.lemmas.Slice.Eq.{bytes_eq-Decides}
-use Rattle.ignore_base.specs.Paths.{is_slash, components, joined, has_slash, is_proper, IsName, IsCleanPath}
+use Rattle.ignore_base.specs.Text.{is_slash}
+use Rattle.ignore_base.specs.Paths.{components, joined, has_slash, is_proper, IsName, IsCleanPath}
 use Rattle.ignore_base.proofs.ComponentLemmas.{first_component, others, components-first_component, components-slash, joined-components}
 use Rattle.ignore_base.proofs.PathLemmas.{has_slash-none, has_slash-at}
 

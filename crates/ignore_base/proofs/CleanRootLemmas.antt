@@ -1,13 +1,17 @@
 -- The test of a root, and the grammar of clean roots.
-use Rattle.std.proofs.Common.{◌≡◌, ◌≢◌, ℕ, zero, suc, ◌+◌, true, false, cond, nat_eq, List, [], ◌∷◌, ◌++◌, drop, codes, refl, sym, ap, subst, ◌∙◌, arith, inl, inr, ⊎_elim, append_assoc, eqb-true, Contains, All, Decides}
+use Rattle.std.proofs.Common.{◌≡◌, ◌≢◌, ℕ, zero, suc, ◌+◌, true, false, cond, nat_eq, List, [], ◌∷◌, ◌++◌, drop, codes, refl, sym, ap}
+use Rattle.std.proofs.Common.{subst, ◌∙◌, arith, inl, inr, ⊎_elim, append_assoc, eqb-true, Contains, All, Decides}
 use Rattle.std.specs.List.{list_all, starts_with, prefix_len, AllByRecursion}
 use Rattle.std.proofs.lemmas.Bool.{cond-true, cond-false, cases_Bool, false_from_ne_true}
 use Rattle.std.proofs.lemmas.Bool.Decides.{Decides-eqb}
 use Rattle.std.proofs.lemmas.List.{append-nil, same_from_push}
 use Rattle.std.proofs.lemmas.Slice.Eq.{starts_is, bytes_eq-Decides}
-use Rattle.ignore_base.specs.Paths.{is_slash, components, joined, last_component, is_absolute, trim_of, without_slash, is_proper, IsName, IsEnd, IsLead, IsCleanRoot, dot, dot_slash, slash, named, above}
+use Rattle.ignore_base.specs.Text.{is_slash}
+use Rattle.ignore_base.specs.Paths.{components, joined, last_component, is_absolute, trim_of, without_slash, is_proper, IsName}
+use Rattle.ignore_base.specs.Paths.{IsEnd, IsLead, IsCleanRoot, dot, dot_slash, slash, named, above}
 use Rattle.ignore_base.specs.RootSteps.{IsWithoutEnd, is_up, rises, is_rooted}
-use Rattle.ignore_base.proofs.ComponentLemmas.{first_component, others, components-first_component, components-slash, joined-components, last_component-snoc}
+use Rattle.ignore_base.proofs.ComponentLemmas.{first_component, others, components-first_component, components-slash, joined-components}
+use Rattle.ignore_base.proofs.ComponentLemmas.{last_component-snoc}
 use Rattle.ignore_base.proofs.FirstComponentLemmas.{first_component-joined, first_component-absolute}
 use Rattle.ignore_base.proofs.CleanLemmas.{clear, names_each, names-components, first_name, other_names, proper_each, components-whole}
 use Rattle.ignore_base.proofs.RootLemmas.{cons_nil, ups_whole}
@@ -18,7 +22,8 @@ rises-skips [] = refl
 rises-skips (p ∷ ps) =
     elim (is_up p) as (λ v. list_all is_proper (drop (cond v (1 + prefix_len is_up ps) 0) (p ∷ ps))
     ≡ cond v (rises ps) (list_all is_proper (p ∷ ps))) [
-      | true ↦ let one : 1 + prefix_len is_up ps ≡ suc (prefix_len is_up ps) = omega arith in ap (λ n. list_all is_proper (drop n (p ∷ ps))) one ∙ rises-skips ps
+      | true ↦ let one : 1 + prefix_len is_up ps ≡ suc (prefix_len is_up ps) = omega arith in
+          ap (λ n. list_all is_proper (drop n (p ∷ ps))) one ∙ rises-skips ps
       | false ↦ refl
     ]
 
@@ -87,15 +92,15 @@ sound root body without other e =
     (cond (is_absolute body) (list_all is_proper (components (without_slash body))) (rises (components body))) s) ∙ e))
     (cases_Bool (starts_with nat_eq body (codes "./")))
   where
-    behind : (b : List ℕ) → is_absolute b ≡ true → b ≡ 47 ∷ without_slash b
-    behind [] a = cc
-    behind (x ∷ xs) a = ap (λ y. y ∷ xs) (eqb-true x 47 a) ∙ ap (λ r. 47 ∷ r) (sym (cond-true (is_slash x) xs (x ∷ xs) a))
+    after_slash : (b : List ℕ) → is_absolute b ≡ true → b ≡ 47 ∷ without_slash b
+    after_slash [] a = cc
+    after_slash (x ∷ xs) a = ap (λ y. y ∷ xs) (eqb-true x 47 a) ∙ ap (λ r. 47 ∷ r) (sym (cond-true (is_slash x) xs (x ∷ xs) a))
 
     further : cond (is_absolute body) (list_all is_proper (components (without_slash body))) (rises (components body)) ≡ true
         → IsCleanRoot root
     further f =
         ⊎_elim
-        (λ a. lead_named root body (codes "/") (without_slash body) without (inr (inl refl)) (behind body a)
+        (λ a. lead_named root body (codes "/") (without_slash body) without (inr (inl refl)) (after_slash body a)
         (sym (cond-true (is_absolute body) (list_all is_proper (components (without_slash body))) (rises (components body)) a)
         ∙ f) other)
         (λ a. let w = split_ups (components body) (clear body)

@@ -1,11 +1,13 @@
--- Pieces of a path: what a slash between two texts does, and the first and the last of them.
-use Rattle.std.proofs.Common.{◌≡◌, ◌≢◌, ℕ, ◌+◌, ◌<◌, ◌≤◌, true, false, cond, List, [], ◌∷◌, ◌++◌, length, take, drop, get_or, refl, sym, ap, ◌∙◌, arith}
+-- Components of a path: what a slash between two texts does, and the first and the last of them.
+use Rattle.std.proofs.Common.{◌≡◌, ◌≢◌, ℕ, ◌+◌, ◌<◌, ◌≤◌, true, false, cond, List, [], ◌∷◌, ◌++◌, length, take, drop, get_or, refl, sym, ap}
+use Rattle.std.proofs.Common.{◌∙◌, arith}
 use Rattle.std.specs.List.{All, onto_first}
 use Rattle.std.proofs.lemmas.List.Splits.{slice_split_none, join_with_byte-slice_split}
 use Rattle.std.proofs.Common.{inl, inr, ⊎_elim, ◌⊎◌}
 use Rattle.std.proofs.lemmas.Bool.{false_from_ne_true, eqb-true, cases_eq, cond-false}
 use Rattle.std.proofs.lemmas.List.{drop_more, take-append-drop, get_or_default, get_or-drop, length-drop, same_from_push}
-use Rattle.ignore_base.specs.Paths.{is_slash, components, joined, last_component, whole_components}
+use Rattle.ignore_base.specs.Text.{is_slash}
+use Rattle.ignore_base.specs.Paths.{components, joined, last_component, whole_components}
 
 -- the first component, and the others
 abbrev pub first_component : List ℕ → List ℕ
@@ -32,7 +34,8 @@ components-slash (x ∷ xs) ys =
     elim (is_slash x) as (λ v. cond v ([] ∷ components (xs ++ 47 ∷ ys)) (onto_first x (components (xs ++ 47 ∷ ys)))
     ≡ cond v ([] ∷ components xs) (onto_first x (components xs)) ++ components ys) [
       | true ↦ ap (λ l. [] ∷ l) (components-slash xs ys)
-      | false ↦ ap (onto_first x) (components-slash xs ys ∙ ap (λ l. l ++ components ys) (components-first_component xs)) ∙ sym (ap (λ l. onto_first x l ++ components ys) (components-first_component xs))
+      | false ↦ ap (onto_first x) (components-slash xs ys ∙ ap (λ l. l ++ components ys) (components-first_component xs))
+          ∙ sym (ap (λ l. onto_first x l ++ components ys) (components-first_component xs))
     ]
 
 pub first_component-slash : (xs ys : List ℕ) → first_component (xs ++ 47 ∷ ys) ≡ first_component xs
@@ -107,7 +110,8 @@ whole_components-same (x ∷ (y ∷ xs)) some open_end =
     elim (is_slash x) as (λ v. whole_components (cond v ([] ∷ components (y ∷ xs)) (onto_first x (components (y ∷ xs))))
     ≡ cond v ([] ∷ components (y ∷ xs)) (onto_first x (components (y ∷ xs)))) [
       | true ↦ ap (λ l. whole_components ([] ∷ l)) at ∙ ap (λ l. [] ∷ l) ih' ∙ sym (ap (λ l. [] ∷ l) at)
-      | false ↦ ap (λ l. whole_components (onto_first x l)) at ∙ whole_components-onto x (first_component (y ∷ xs)) (others (y ∷ xs)) ih' ∙ sym (ap (onto_first x) at)
+      | false ↦ ap (λ l. whole_components (onto_first x l)) at ∙ whole_components-onto x (first_component (y ∷ xs)) (others (y ∷ xs)) ih'
+          ∙ sym (ap (onto_first x) at)
     ]
   where
     nil_cons : y ∷ xs ≡ [] → ⊥

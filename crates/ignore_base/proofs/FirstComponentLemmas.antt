@@ -1,8 +1,10 @@
 -- The first component of names that are joined.
-use Rattle.std.proofs.Common.{◌≡◌, ℕ, zero, suc, true, false, List, [], ◌∷◌, ◌++◌, refl, sym, ap, ◌∙◌, arith, inl, inr, append_assoc, eqb-true, Contains}
+use Rattle.std.proofs.Common.{◌≡◌, ℕ, zero, suc, true, false, List, [], ◌∷◌, ◌++◌, refl, sym, ap, ◌∙◌, arith, inl, inr, append_assoc}
+use Rattle.std.proofs.Common.{eqb-true, Contains}
 use Rattle.std.proofs.lemmas.Bool.{cond-true, cond-false, false_from_ne_true}
 use Rattle.std.proofs.lemmas.List.{append-nil}
-use Rattle.ignore_base.specs.Paths.{is_slash, joined, is_absolute, IsEnd}
+use Rattle.ignore_base.specs.Text.{is_slash}
+use Rattle.ignore_base.specs.Paths.{joined, is_absolute, IsEnd}
 use Rattle.ignore_base.proofs.ComponentLemmas.{first_component, first_component-slash}
 
 pub first_component-whole : (xs : List ℕ) → ¬ Contains xs 47 → first_component xs ≡ xs

@@ -1,10 +1,12 @@
 -- Names joined to a directory below a root, and the offset at which they begin.
-use Rattle.std.proofs.Common.{◌≡◌, ◌≢◌, ℕ, ◌+◌, ◌-◌, ◌==◌, ◌||◌, true, false, List, [], ◌∷◌, ◌++◌, length, take, drop, All, Contains, refl, sym, ap, ◌∙◌, append_assoc, arith, eqb, subst, ⊎_elim, eq-eqb, eqb-true}
+use Rattle.std.proofs.Common.{◌≡◌, ◌≢◌, ℕ, ◌+◌, ◌-◌, ◌==◌, ◌||◌, true, false, List, [], ◌∷◌, ◌++◌, length, take, drop, All, Contains, refl}
+use Rattle.std.proofs.Common.{sym, ap, ◌∙◌, append_assoc, arith, eqb, subst, ⊎_elim, eq-eqb, eqb-true}
 use Rattle.std.specs.List.{AllByRecursion}
 use Rattle.std.proofs.lemmas.Bool.{cond-true, cond-false, false_from_ne_true, or_right, or_from, ne_eqb}
 use Rattle.std.proofs.lemmas.List.{append-nil, drop_at, get_or_at, length-append, nil_from_length}
 use Rattle.std.proofs.Math.Seq.{drop-length}
-use Rattle.ignore_base.specs.Paths.{components, joined, whole_components, filled, is_absolute, ends_with_slash, join_of, directory_of, offset_below, IsName, JoinsName, JoinsNames, LeavesThePath, StripsByOffset}
+use Rattle.ignore_base.specs.Paths.{components, joined, whole_components, filled, is_absolute, ends_with_slash, join_of, directory_of}
+use Rattle.ignore_base.specs.Paths.{offset_below, IsName, JoinsName, JoinsNames, LeavesThePath, StripsByOffset}
 use Rattle.ignore_base.proofs.CleanLemmas.{clear, first_name, other_names, components-whole}
 use Rattle.ignore_base.proofs.ComponentLemmas.{components-slash, cut_at, ending}
 use Rattle.ignore_base.proofs.JoinLemmas.{relative, join_of-nil, join_of-closed, join_of-open}

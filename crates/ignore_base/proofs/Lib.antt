@@ -1,6 +1,7 @@
 pub mod Joined
 pub mod Texts
 pub mod ComponentLemmas
+pub mod FolderLemmas
 pub mod JoinLemmas
 pub mod JoinLaws
 pub mod PathLemmas

@@ -1,15 +1,19 @@
 -- What the words on paths come to, case by case.
-use Rattle.std.proofs.Common.{◌≡◌, ◌≢◌, ℕ, zero, suc, ◌<◌, ◌||◌, ◌&&◌, not, true, false, cond, List, [], ◌∷◌, ◌++◌, length, drop, get_or, Option, Some, None, unwrap_or, codes, refl, sym, ap, ◌∙◌, arith, inl, inr, ◌⊎◌}
+use Rattle.std.proofs.Common.{◌≡◌, ◌≢◌, ℕ, zero, suc, ◌<◌, ◌||◌, ◌&&◌, not, true, false, cond, List, [], ◌∷◌, ◌++◌, length, drop, get_or}
+use Rattle.std.proofs.Common.{Option, Some, None, unwrap_or, codes, refl, sym, ap, ◌∙◌, arith, inl, inr, ◌⊎◌}
 use Rattle.std.specs.Option.{option_map, is_some}
 use Rattle.std.specs.Str.{bytes_eq}
 use Rattle.std.specs.List.{starts_with}
 use Rattle.std.proofs.Common.{nat_eq, Bor, MatchOption, eqb-true}
-use Rattle.std.proofs.lemmas.Bool.{cond-true, cond-false, false_from_ne_true, and_left, or_left, or_right, or_from, not_from_false, not_from_true}
+use Rattle.std.proofs.lemmas.Bool.{cond-true, cond-false, false_from_ne_true, and_left, or_left, or_right, or_from, not_from_false}
+use Rattle.std.proofs.lemmas.Bool.{not_from_true}
 use Rattle.std.proofs.lemmas.Bool.Decides.{Decides-eqb}
 use Rattle.std.proofs.lemmas.List.{drop_at}
 use Rattle.std.proofs.lemmas.Slice.Eq.{starts_is}
 use Rattle.memchr.specs.Find.{IsFirstByte, is_byte}
-use Rattle.ignore_base.specs.Paths.{is_slash, components, last_component, name_in, file_name_of, at_bound, strip_prefix_of, has_slash, is_dot, below, without_slash}
+use Rattle.ignore_base.specs.Text.{is_slash}
+use Rattle.ignore_base.specs.Paths.{components, last_component, name_in, file_name_of, at_bound, strip_prefix_of, has_slash}
+use Rattle.ignore_base.specs.Paths.{is_dot, below, without_slash}
 
 pub file_name_of-nil : file_name_of [] ≡ None
 unfolding file_name_of

@@ -1,5 +1,7 @@
 -- Roots, the directories below them, and what is left of a path below such a directory.
-use Rattle.std.proofs.Common.{◌≡◌, ◌≢◌, ℕ, zero, suc, ◌-◌, ◌==◌, ◌||◌, Bool, true, false, List, [], ◌∷◌, ◌++◌, length, drop, get_or, Some, None, unwrap_or, nat_eq, refl, sym, ap, ◌∙◌, arith, ⊎_elim, inl, inr, ◌⊎◌, append_assoc, eq-eqb, eqb-true, Contains}
+use Rattle.std.proofs.Common.{◌≡◌, ◌≢◌, ℕ, zero, suc, ◌-◌, ◌==◌, ◌||◌, Bool, true, false, List, [], ◌∷◌, ◌++◌, length, drop, get_or, Some}
+use Rattle.std.proofs.Common.{None, unwrap_or, nat_eq, refl, sym, ap, ◌∙◌, arith, ⊎_elim, inl, inr, ◌⊎◌, append_assoc, eq-eqb, eqb-true}
+use Rattle.std.proofs.Common.{Contains}
 use Rattle.std.specs.Option.{option_map}
 use Rattle.std.specs.Str.{bytes_eq}
 use Rattle.std.specs.List.{list_all, starts_with}
@@ -7,7 +9,8 @@ use Rattle.std.proofs.lemmas.Bool.{cond-true, cond-false, cases_Bool, false_from
 use Rattle.std.proofs.lemmas.Bool.Decides.{Decides-eqb}
 use Rattle.std.proofs.lemmas.List.{append-nil, get_or_at, length-append, same_from_push}
 use Rattle.std.proofs.lemmas.Slice.Eq.{starts_is, bytes_eq-Decides}
-use Rattle.ignore_base.specs.Paths.{components, joined, is_absolute, at_bound, trim_of, without_slash, has_slash, is_dot, below, strip_of, join_of, IsName, IsCleanRoot, dot, dot_slash, slash, named, above, StripsDirectories}
+use Rattle.ignore_base.specs.Paths.{components, joined, is_absolute, at_bound, trim_of, without_slash, has_slash, is_dot, below, strip_of}
+use Rattle.ignore_base.specs.Paths.{join_of, IsName, IsCleanRoot, dot, dot_slash, slash, named, above, StripsDirectories}
 use Rattle.ignore_base.proofs.ComponentLemmas.{first_component, others, components-first_component, first_component-slash, ending}
 use Rattle.ignore_base.proofs.FirstComponentLemmas.{first_component-joined, first_component-absolute, joined-append}
 use Rattle.ignore_base.proofs.JoinLemmas.{join_of-closed, join_of-open}

@@ -5,7 +5,8 @@ use Rattle.std.specs.List.{join_with_byte}
 use Rattle.ignore_base.specs.Text.{Bytes}
 use Rattle.ignore_base.specs.Faults.{fault_text}
 use Rattle.ignore_base.specs.declared.fault.Fault.{Fault}
-use Rattle.ignore_base.specs.Problem.{Problem, several, at_line, at_path, at_depth, loop, io, glob, unrecognized, invalid_definition, memory, Problems, no_problems, problem}
+use Rattle.ignore_base.specs.Problem.{Problem, several, at_line, at_path, at_depth, loop, io, glob, unrecognized, invalid_definition}
+use Rattle.ignore_base.specs.Problem.{memory, Problems, no_problems, problem}
 
 -- the problem is several, maybe at a line, a path or a depth
 abbrev pub is_partial : Problem → Bool

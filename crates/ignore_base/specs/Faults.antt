@@ -2,7 +2,8 @@
 use Rattle.std.specs.Prelude.{codes}
 use Rattle.ignore_base.specs.Text.{Bytes}
 use Rattle.ignore_base.specs.declared.fault.Fault.{Fault}
-use Rattle.ignore_base.specs.declared.fault.Fault.TheVariants.{NotFound, PermissionDenied, NotADirectory, IsADirectory, InvalidData, BadName, LinkLimit, NoIdentity, NoCurrentDir, StepLimit, NoMetadata, Other}
+use Rattle.ignore_base.specs.declared.fault.Fault.TheVariants.{NotFound, PermissionDenied, NotADirectory, IsADirectory, InvalidData}
+use Rattle.ignore_base.specs.declared.fault.Fault.TheVariants.{BadName, LinkLimit, NoIdentity, NoCurrentDir, StepLimit, NoMetadata, Other}
 
 -- what a fault prints
 abbrev pub fault_text : Fault → Bytes

@@ -1,13 +1,10 @@
 -- Paths as lists of components: joining, stripping, file names, and clean paths and roots.
-use Rattle.std.specs.Prelude.{◌≡◌, ◌≢◌, ℕ, ◌-◌, ◌+◌, slice_index, Bool, false, ◌||◌, ◌&&◌, not, ◌==◌, nat_eq, List, [], ◌∷◌, ◌++◌, length, drop, Option, Some, None, unwrap_or, Contains, All, codes, if◌then◌else◌, ◌⊎◌}
+use Rattle.std.specs.Prelude.{◌≡◌, ◌≢◌, ℕ, ◌-◌, ◌+◌, slice_index, Bool, false, ◌||◌, ◌&&◌, not, ◌==◌, nat_eq, List, [], ◌∷◌, ◌++◌, length}
+use Rattle.std.specs.Prelude.{drop, Option, Some, None, unwrap_or, Contains, All, codes, if◌then◌else◌, ◌⊎◌}
 use Rattle.std.specs.List.{slice_split, join_with_byte, starts_with, list_all, list_any}
 use Rattle.std.specs.Option.{option_map}
 use Rattle.std.specs.Str.{bytes_eq}
-use Rattle.ignore_base.specs.Text.{Bytes, Path}
-
--- the test that a byte is a slash
-abbrev pub is_slash : ℕ → Bool
-is_slash b = b == 47
+use Rattle.ignore_base.specs.Text.{Bytes, Path, is_slash}
 
 -- the components of a path: the texts between its slashes, empty ones included
 abbrev pub components : Path → List Bytes
@@ -23,6 +20,12 @@ last_component [] = []
 last_component (component ∷ []) = component
 last_component (component ∷ (next ∷ more)) = last_component (next ∷ more)
 
+-- the components but the last
+abbrev pub but_last : List Bytes → List Bytes
+but_last [] = []
+but_last (component ∷ []) = []
+but_last (component ∷ (next ∷ more)) = component ∷ but_last (next ∷ more)
+
 -- the component alone, or nothing where it is empty
 abbrev pub filled : Bytes → List Bytes
 filled [] = []
@@ -36,11 +39,16 @@ whole_components (component ∷ (next ∷ more)) = component ∷ whole_component
 
 -- the path begins with a slash
 abbrev pub is_absolute : Path → Bool
-is_absolute path = slice_index path 0 == 47
+is_absolute path = is_slash (slice_index path 0)
 
 -- the path ends with a slash
 abbrev pub ends_with_slash : Path → Bool
-ends_with_slash path = slice_index path (length path - 1) == 47
+ends_with_slash path = is_slash (slice_index path (length path - 1))
+
+-- the directory of a path: what precedes its last slash. It is `/` for a path directly below `/`,
+-- and empty for a path without a slash
+abbrev pub folder_of : Path → Path
+folder_of path = let folder = joined (but_last (components path)) in if is_absolute path && length folder == 0 then codes "/" else folder
 
 -- the second path where it begins with a slash; else the components of the first, without an empty
 -- last one, and then those of the second
@@ -58,7 +66,7 @@ file_name_of (b ∷ bs) = name_in (last_component (components (b ∷ bs)))
 
 -- its file name begins with a dot
 abbrev pub IsHidden : Path → Type 0
-IsHidden path = (rest : List ℕ) × (file_name_of path ≡ Some (46 ∷ rest))
+IsHidden path = (rest : Bytes) × (file_name_of path ≡ Some (46 ∷ rest))
 
 -- a prefix ends at a component: it is empty or ends with a slash, or the rest is empty or begins
 -- with one
@@ -112,7 +120,7 @@ is_proper component = not (length component == 0) && not (bytes_eq component (co
 
 -- a clean path: names joined by single slashes (no names are the empty path)
 abbrev pub IsCleanPath : Path → Type 0
-IsCleanPath path = (names : List (List ℕ)) × All IsName names × (path ≡ joined names)
+IsCleanPath path = (names : List Bytes) × All IsName names × (path ≡ joined names)
 
 -- what may stand before the names of a root: nothing, a slash, or a dot and a slash
 abbrev pub IsLead : Bytes → Type 0
@@ -141,20 +149,20 @@ directory_of root (name ∷ names) = join_of root (joined (name ∷ names))
 -- for each clean root and each directory below it: the trimmed directory, stripped from a path
 -- below the directory, leaves the names after it
 abbrev pub StripsDirectories : Type 0
-StripsDirectories = (root : List ℕ) (names : List (List ℕ)) (name : List ℕ) (more : List (List ℕ))
+StripsDirectories = (root : Path) (names : List Bytes) (name : Bytes) (more : List Bytes)
     → IsCleanRoot root → All IsName names → IsName name → All IsName more
     → strip_of (trim_of (directory_of root names)) (join_of root (joined (names ++ (name ∷ more)))) ≡ joined (name ∷ more)
 
 -- for each root, each directory below it and a path of names below that directory: the path joined
 -- to the directory is all the names joined to the root
 abbrev pub JoinsNames : Type 0
-JoinsNames = (root : List ℕ) (names : List (List ℕ)) (name : List ℕ) (more : List (List ℕ))
+JoinsNames = (root : Path) (names : List Bytes) (name : Bytes) (more : List Bytes)
     → All IsName names → IsName name → All IsName more
     → join_of (directory_of root names) (joined (name ∷ more)) ≡ join_of root (joined (names ++ (name ∷ more)))
 
 -- the same for one name: it leads to the directory with one name more
 abbrev pub JoinsName : Type 0
-JoinsName = (root : List ℕ) (names : List (List ℕ)) (name : List ℕ) → All IsName names → IsName name
+JoinsName = (root : Path) (names : List Bytes) (name : Bytes) → All IsName names → IsName name
     → join_of (directory_of root names) name ≡ directory_of root (names ++ name ∷ [])
 
 -- where what is joined to a directory begins: after the directory, and after one slash unless the
@@ -165,12 +173,12 @@ offset_below dir = if length dir == 0 || ends_with_slash dir then length dir els
 -- for each directory and each relative path: what follows the offset of the directory in the two
 -- joined is the path
 abbrev pub LeavesThePath : Type 0
-LeavesThePath = (dir path : List ℕ) → is_absolute path ≡ false → drop (offset_below dir) (join_of dir path) ≡ path
+LeavesThePath = (dir path : Path) → is_absolute path ≡ false → drop (offset_below dir) (join_of dir path) ≡ path
 
 -- for each clean root and each directory below it: the trimmed directory, stripped from a path
 -- below the directory, leaves what follows the offset of the directory
 abbrev pub StripsByOffset : Type 0
-StripsByOffset = (root : List ℕ) (names : List (List ℕ)) (name : List ℕ) (more : List (List ℕ))
+StripsByOffset = (root : Path) (names : List Bytes) (name : Bytes) (more : List Bytes)
     → IsCleanRoot root → All IsName names → IsName name → All IsName more
     → strip_of (trim_of (directory_of root names)) (join_of root (joined (names ++ (name ∷ more))))
     ≡ drop (offset_below (directory_of root names)) (join_of root (joined (names ++ (name ∷ more))))

@@ -4,7 +4,8 @@ use Rattle.std.specs.Prelude.{ℕ, List, [], ◌∷◌, Option, Some, None, opti
 use Rattle.ignore_base.specs.Text.{Bytes, Path}
 use Rattle.ignore_base.specs.declared.fault.Fault.{Fault}
 use Rattle.ignore_base.specs.declared.error.Error.{Error}
-use Rattle.ignore_base.specs.declared.error.Error.TheOpen.{Error-F, Partial, WithLineNumber, WithPath, WithDepth, Loop, Io, Glob, UnrecognizedFileType, InvalidDefinition, Memory}
+use Rattle.ignore_base.specs.declared.error.Error.TheOpen.{Error-F, Partial, WithLineNumber, WithPath, WithDepth, Loop, Io, Glob}
+use Rattle.ignore_base.specs.declared.error.Error.TheOpen.{UnrecognizedFileType, InvalidDefinition, Memory}
 use Rattle.ignore_base.specs.declared.error.Error.TheFolds.{fold-Error}
 
 mutual

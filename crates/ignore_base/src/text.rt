@@ -1,7 +1,7 @@
 //! Paths as texts: joining, file names, prefixes, and which paths are clean.
 ghost use Rattle.std.specs.Prelude.{◌≡◌, ◌↔◌, IfOk, IfErr, IsTrue, string_bytes};
 ghost use Rattle.std.specs.Option.{option_copied};
-ghost use Rattle.ignore_base.specs.Paths.{components, last_component, join_of, file_name_of, IsHidden};
+ghost use Rattle.ignore_base.specs.Paths.{components, folder_of, last_component, join_of, file_name_of, IsHidden};
 ghost use Rattle.ignore_base.specs.Problem.{problem_of, memory};
 
 mod clean;
@@ -58,6 +58,19 @@ pub fn is_hidden(path: &str) -> bool
     match file_name(path) {
         Some(name) => name.starts_with('.'),
         None => false,
+    }
+}
+
+/// The directory of a path, which is what precedes its last `/`: the empty text without a `/`, and
+/// `/` for a path directly below it.
+/// For dependents.
+pub fn folder_of(path: &str) -> &str
+    ensures { result.now ≡ folder_of path.now }
+{
+    match memrchr(b'/', path.as_bytes()) {
+        None => "",
+        Some(0) => "/",
+        Some(slash) => &path[..slash],
     }
 }
 

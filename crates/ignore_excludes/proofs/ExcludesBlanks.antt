@@ -1,5 +1,6 @@
 -- Leading white space is stripped from a text in one way.
-use Rattle.std.proofs.Common.{◌≡◌, inl, inr, ℕ, Bool, false, List, [], ◌∷◌, ◌++◌, if◌then◌else◌, refl, sym, ap, ◌∙◌, subst}
+use Rattle.std.proofs.Common.{◌≡◌, inl, inr, ℕ, suc, Bool, false, List, [], ◌∷◌, ◌++◌, All, if◌then◌else◌, refl, sym, ap, ◌∙◌, subst, arith}
+use Rattle.std.specs.List.{AllByRecursion}
 use Rattle.std.proofs.lemmas.List.{append_assoc}
 use Rattle.std.proofs.lemmas.Bool.{cases_Bool, both_ways}
 use Rattle.ignore_excludes.specs.Excludes.{is_space, IsBlank, Then, EndsLine, trimmed_start}
@@ -79,3 +80,8 @@ EndsLine-more b bs other ([], rest, e, blank, inr end) =
     let first : b ∷ bs ≡ 10 ∷ end.0 = e ∙ end.1 in
     absurd (other (cc))
 EndsLine-more b bs other (c ∷ cs, rest, e, blank, end) = let same : bs ≡ cs ++ rest = cc in (cs, rest, same, blank.1, end)
+
+-- what holds of each byte holds of one after another
+pub one_by_one : (P : ℕ → Type 0) (xs : List ℕ) → All P xs → AllByRecursion P xs
+one_by_one P [] h = tt
+one_by_one P (x ∷ xs) h = (h 0 x (omega arith), one_by_one P xs (λ k d l. h (suc k) d (omega (arith, l))))

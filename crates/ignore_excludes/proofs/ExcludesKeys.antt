@@ -1,9 +1,11 @@
 -- What a key gives: the value after its equals sign, with an opening `"` taken for the quote first.
-use Rattle.std.proofs.Common.{◌≡◌, inl, inr, ℕ, Bool, true, false, List, [], ◌∷◌, Option, None, Some, length, take, drop, refl, sym, ap, ◌∙◌, subst, arith}
+use Rattle.std.proofs.Common.{◌≡◌, inl, inr, ℕ, Bool, true, false, List, [], ◌∷◌, Option, None, Some, length, take, drop, refl, sym, ap}
+use Rattle.std.proofs.Common.{◌∙◌, subst, arith}
 use Rattle.std.specs.Char.{to_ascii_lowercase}
 use Rattle.std.proofs.lemmas.List.{take-append-drop, take_at, drop_at, length-map}
 use Rattle.std.proofs.lemmas.Grind.{common_steps}
-use Rattle.ignore_excludes.specs.Excludes.{is_space, IsBlank, Then, IsQuote, IsKey, IsEquals, HasValue, Assigns, SetsKey, IsShortest, IsPreferred, trimmed_start}
+use Rattle.ignore_excludes.specs.Excludes.{is_space, IsBlank, Then, IsQuote, IsKey, IsEquals, HasValue, Assigns, SetsKey, IsShortest}
+use Rattle.ignore_excludes.specs.Excludes.{IsPreferred, trimmed_start}
 use Rattle.ignore_excludes.proofs.ExcludesBlanks.{StartsSolid, trimmed_start-append, prefix_of, after_blank, before_blank}
 use Rattle.ignore_excludes.proofs.ExcludesValues.{HasValue-solid}
 

@@ -1,11 +1,14 @@
 -- Line by line: the first key of a text is that of its first line that has one, and other readings
 -- lie after the next newline.
-use Rattle.std.proofs.Common.{◌≡◌, ◌≢◌, ◌⊎◌, inl, inr, ℕ, suc, ◌+◌, ◌<◌, Bool, List, [], ◌∷◌, ◌++◌, Option, None, Some, length, length-append, take, drop, get_or, refl, sym, ap, ◌∙◌, subst, arith}
-use Rattle.std.proofs.lemmas.List.{append_assoc, append_cancel_right, nil_from_length, get_or_at, take-append-drop, drop_more, length-take-le, get_or-take}
+use Rattle.std.proofs.Common.{◌≡◌, ◌≢◌, ◌⊎◌, inl, inr, ℕ, suc, ◌+◌, ◌<◌, Bool, List, [], ◌∷◌, ◌++◌, Option, None, Some, length}
+use Rattle.std.proofs.Common.{length-append, take, drop, get_or, refl, sym, ap, ◌∙◌, subst, arith}
+use Rattle.std.proofs.lemmas.List.{append_assoc, append_cancel_right, nil_from_length, get_or_at, take-append-drop, drop_more}
+use Rattle.std.proofs.lemmas.List.{length-take-le, get_or-take}
 use Rattle.std.proofs.lemmas.Bool.{eqb-true, eq-eqb}
 use Rattle.memchr.specs.Find.{IsFirstByte, is_byte}
 use Rattle.ignore_excludes.specs.Excludes.{IsBlank, IsLineStart, SetsKey, Reads, IsPreferred, IsChosen, trimmed_start}
-use Rattle.ignore_excludes.proofs.ExcludesBlanks.{StartsSolid, StartsSolid-trimmed_start, trimmed_start-append, trimmed_start-solid, prefix_of}
+use Rattle.ignore_excludes.proofs.ExcludesBlanks.{StartsSolid, StartsSolid-trimmed_start, trimmed_start-append, trimmed_start-solid}
+use Rattle.ignore_excludes.proofs.ExcludesBlanks.{prefix_of}
 use Rattle.ignore_excludes.proofs.ExcludesKeys.{IsPreferred-iff, SetsKey-solid}
 
 -- no newline in the text
@@ -228,9 +231,9 @@ first_line text end h =
     let inside : end < length text = h.0.high in
     let at : get_or text end 0 ≡ 10 = eqb-true (get_or text end 0) 10 h.1 in
     let cut : drop end text ≡ get_or text end 0 ∷ drop (end + 1) text = drop_more text end 0 inside in
-    let behind : drop end text ≡ 10 ∷ drop (end + 1) text = cut ∙ ap (λ b. b ∷ drop (end + 1) text) at in
+    let newline : drop end text ≡ 10 ∷ drop (end + 1) text = cut ∙ ap (λ b. b ∷ drop (end + 1) text) at in
     let len : length (take end text) ≡ end = length-take-le end text (omega arith) in (
-      sym (take-append-drop end text) ∙ ap (λ t. take end text ++ t) behind,
+      sym (take-append-drop end text) ∙ ap (λ t. take end text ++ t) newline,
       inside,
       λ k low is. (let below : k < end = omega arith in h.0.before k (omega arith) below
           (eq-eqb (get_or text k 0) 10 (sym (get_or-take end text k 0 below) ∙ is))),

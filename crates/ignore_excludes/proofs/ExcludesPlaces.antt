@@ -1,5 +1,6 @@
 -- The first configuration that gives a value, one place at a time.
-use Rattle.std.proofs.Common.{◌≡◌, refl, inl, inr, ℕ, List, [], ◌∷◌, Option, None, Some, Result, Ok, Err, is_some, codes, IfOk, false, sym, ap, ◌∙◌, subst}
+use Rattle.std.proofs.Common.{◌≡◌, refl, inl, inr, ℕ, List, [], ◌∷◌, Option, None, Some, Result, Ok, Err, is_some, codes, IfOk, false, sym}
+use Rattle.std.proofs.Common.{ap, ◌∙◌, subst}
 use Rattle.std.proofs.lemmas.Bool.{true≢false}
 use Rattle.ignore_base.specs.declared.fault.Fault.{Fault}
 use Rattle.ignore_files.specs.Tree.{Tree}
@@ -12,7 +13,9 @@ use Rattle.ignore_files.specs.declared.types.Refusal.TheVariants.{Memory}
 use Rattle.ignore_files.specs.declared.types.Refusal.TheVariants.{Fault as Refused}
 use Rattle.ignore_excludes.specs.Excludes.{IsValue}
 use Rattle.ignore_excludes.proofs.ExcludesOnly.{IsValue-one}
-use Rattle.ignore_excludes.specs.ExcludesSearch.{ReadGives, ContentsGive, TreeGives, AnswerGives, FilesGive, Gives, IsFirstValue, LeadsTo, filled, below, or_else, xdg_folder, configurations, path_of, expanded, IsFirstPath, IsExcludesPath}
+use Rattle.ignore_excludes.specs.ExcludesSearch.{ReadGives, ContentsGive, TreeGives, AnswerGives, FilesGive, Gives, IsFirstValue, LeadsTo}
+use Rattle.ignore_excludes.specs.ExcludesSearch.{filled, below, or_else, xdg_folder, configurations, path_of, expanded, IsFirstPath}
+use Rattle.ignore_excludes.specs.ExcludesSearch.{IsExcludesPath}
 use Rattle.ignore_files.specs.declared.env.Env.{Env}
 
 -- what was read whole gives its value

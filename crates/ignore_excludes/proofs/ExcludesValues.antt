@@ -1,9 +1,12 @@
 -- Which values stand first in a text: its first word, or that word without a `"` at its end.
-use Rattle.std.proofs.Common.{◌≡◌, ◌≢◌, ◌⊎◌, inl, inr, ℕ, true, false, List, [], ◌∷◌, ◌++◌, None, Some, length, length-append, refl, sym, ap, ◌∙◌, subst, arith}
+use Rattle.std.proofs.Common.{◌≡◌, ◌≢◌, ◌⊎◌, inl, inr, ℕ, true, false, List, [], ◌∷◌, ◌++◌, None, Some, length, length-append, refl, sym}
+use Rattle.std.proofs.Common.{ap, ◌∙◌, subst, arith}
 use Rattle.std.proofs.lemmas.List.{append_cancel_right, append_assoc}
 use Rattle.std.proofs.lemmas.Bool.{both_ways}
-use Rattle.ignore_excludes.specs.Excludes.{is_space, IsSolid, EndsLine, Closes, HasValue, IsShortest, trimmed_start, StartsBlank, IsUnquoted}
-use Rattle.ignore_excludes.proofs.ExcludesBlanks.{StartsSolid, trimmed_start-append, trimmed_start-solid, prefix_of, EndsLine-solid, EndsLine-append}
+use Rattle.ignore_excludes.specs.Excludes.{is_space, IsSolid, EndsLine, Closes, HasValue, IsShortest, trimmed_start, StartsBlank}
+use Rattle.ignore_excludes.specs.Excludes.{IsUnquoted}
+use Rattle.ignore_excludes.proofs.ExcludesBlanks.{StartsSolid, trimmed_start-append, trimmed_start-solid, prefix_of, EndsLine-solid}
+use Rattle.ignore_excludes.proofs.ExcludesBlanks.{EndsLine-append}
 
 -- a byte that is no white space and closes the line is a `"`
 closing : (x : ℕ) (w rest after : List ℕ) → rest ≡ x ∷ (w ++ after) → is_space x ≡ false → IsSolid w → Closes rest

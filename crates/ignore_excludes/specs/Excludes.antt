@@ -1,6 +1,7 @@
 -- The value of `excludesfile` in a configuration of git: a choice among all ways to parse its
 -- bytes. 9 tab  10 newline  13 carriage return  32 space  34 `"`  61 `=`
-use Rattle.std.specs.Prelude.{◌≡◌, ◌≢◌, ◌<◌, ◌≤◌, ◌⊎◌, ◌||◌, ◌&&◌, ◌==◌, ℕ, Bool, true, false, nat_le, [], ◌∷◌, ◌++◌, map, length, codes, if◌then◌else◌, Option, None, Some, ⊤}
+use Rattle.std.specs.Prelude.{◌≡◌, ◌≢◌, ◌<◌, ◌≤◌, ◌⊎◌, ◌||◌, ◌&&◌, ◌==◌, ℕ, Bool, true, false, nat_le, [], ◌∷◌, ◌++◌, map, length, codes}
+use Rattle.std.specs.Prelude.{if◌then◌else◌, Option, None, Some, ⊤}
 use Rattle.std.specs.List.{AllByRecursion}
 use Rattle.std.specs.Char.{to_ascii_lowercase}
 use Rattle.std.specs.Str.{IsUtf8}

@@ -5,7 +5,8 @@ ghost use Rattle.ignore_base.specs.Text.{Path};
 ghost use Rattle.ignore_base.specs.Problem.{problem_of, memory};
 ghost use Rattle.ignore_files.specs.Tree.{Tree};
 ghost use Rattle.ignore_files.specs.Gives.{IsHonest};
-ghost use Rattle.ignore_excludes.specs.ExcludesSearch.{filled, below, or_else, xdg_folder, expanded, FilesGive, GivesPath, IsFirstPath, LeadsTo, IsExcludesPath};
+ghost use Rattle.ignore_excludes.specs.ExcludesSearch.{filled, below, or_else, xdg_folder, expanded, FilesGive, GivesPath, IsFirstPath};
+ghost use Rattle.ignore_excludes.specs.ExcludesSearch.{LeadsTo, IsExcludesPath};
 
 use crate::excludes::excludes_value;
 use ignore_base::Error;

@@ -2,7 +2,8 @@
 ghost use Rattle.std.specs.Prelude.{◌≡◌, ◌↔◌, ◌≤◌, ◌++◌, ℕ, List, Option, length, drop, IsTrue};
 ghost use Rattle.std.specs.Option.{option_copied};
 ghost use Rattle.ignore_base.specs.Text.{Bytes};
-ghost use Rattle.ignore_excludes.specs.Excludes.{is_space, trimmed_start, IsSolid, EndsLine, HasValue, Assigns, SetsKey, IsShortest, IsPreferred, IsChosen, IsValue, StartsBlank, Closes, IsUnquoted};
+ghost use Rattle.ignore_excludes.specs.Excludes.{is_space, trimmed_start, IsSolid, EndsLine, HasValue, Assigns, SetsKey, IsShortest};
+ghost use Rattle.ignore_excludes.specs.Excludes.{IsPreferred, IsChosen, IsValue, StartsBlank, Closes, IsUnquoted};
 
 use memchr::memchr;
 use std::str;
@@ -34,12 +35,11 @@ fn split_word(text: &[u8]) -> (&[u8], &[u8])
     ensures word { IsSolid result.0.now }
     ensures after { StartsBlank result.1.now }
 {
-    for (i, byte) in text.iter().enumerate() {
-        if is_space(*byte) {
-            return text.split_at(i);
-        }
-    }
-    text.split_at(text.len())
+    let end = text
+        .iter()
+        .position(|byte| is_space(*byte))
+        .unwrap_or(text.len());
+    text.split_at(end)
 }
 
 fn trim(text: &[u8]) -> &[u8]

@@ -1,15 +1,14 @@
 -- The components of a text that is split at a slash.
-use Rattle.std.proofs.Common.{◌≡◌, ◌≢◌, ℕ, ◌+◌, ◌<◌, Bool, true, false, cond, eqb, List, [], ◌∷◌, ◌++◌, length, get_or, Some, None, refl, ap, sym, ◌∙◌, arith, Bor, lit<, ◌≤◌, ◌&&◌, ◌||◌, take, drop}
+use Rattle.std.proofs.Common.{◌≡◌, ◌≢◌, ℕ, ◌+◌, ◌<◌, Bool, true, false, cond, eqb, List, [], ◌∷◌, ◌++◌, length, get_or, Some, None, refl}
+use Rattle.std.proofs.Common.{ap, sym, subst, ◌∙◌, arith, Bor, lit<, ◌&&◌, ◌||◌, inl, inr, ◌⊎◌}
 use Rattle.std.specs.List.{onto_first}
 use Rattle.std.proofs.lemmas.List.{get_or_default, length-append}
 use Rattle.std.proofs.lemmas.List.Splits.{slice_split_none}
 use Rattle.std.proofs.lemmas.Bool.Decides.{nat_tests}
 use Rattle.std.specs.List.{list_all}
-use Rattle.std.specs.Str.Pattern.{RFindsChar}
-use Rattle.std.proofs.lemmas.List.{take-append-drop}
-use Rattle.std.proofs.lemmas.Str.Pattern.{IsSplitOnceResult, split_parts, drop_at_char, NoCharPasses-char}
-use Rattle.ignore_base.specs.Paths.{components, last_component, is_proper}
-use Rattle.ignore_files.specs.Memory.{but_last, is_empty, is_canonical_path}
+use Rattle.std.proofs.lemmas.Str.Pattern.{IsSplitOnceResult, split_parts}
+use Rattle.ignore_base.specs.Paths.{but_last, components, last_component, is_proper}
+use Rattle.ignore_files.specs.Memory.{is_empty, is_canonical_path}
 
 no_slash : (b : ℕ) → b ≢ 47 → eqb b 47 ≡ false
 no_slash b h = grind (arith, nat_tests)
@@ -58,25 +57,34 @@ components_split bs x h =
 pub components_whole : (bs : List ℕ) → IsSplitOnceResult 47 bs None → components bs ≡ bs ∷ []
 components_whole bs h = components_one bs (split_parts 47 bs None h (lit< tt))
 
--- what `rsplit_once` gives at a slash
-abbrev pub IsCutLast : List ℕ → Bor (List ℕ) × Bor (List ℕ) → Type 0
-IsCutLast bs x =
-    (i : ℕ) × (j : ℕ) × RFindsChar 47 bs (Some (i, j)) × (x.0.now ≡ take i bs) × (x.1.now ≡ drop j bs) × (i ≤ j) × (length x.0.now ≡ i)
-    × (length x.1.now + j ≡ length bs)
+-- the components but the last are none, or those of some text
+abbrev pub AreNoneOrOf : List (List ℕ) → Type 0
+AreNoneOrOf ps = (ps ≡ []) ⊎ ((front : List ℕ) × (ps ≡ components front))
 
-pub components_cut_last : (bs : List ℕ) (x : Bor (List ℕ) × Bor (List ℕ)) → IsCutLast bs x
-    → components bs ≡ components x.0.now ++ x.1.now ∷ []
-components_cut_last bs x (i, j, found, before, after, order, front_len, back_len) =
-    let whole : bs ≡ take i bs ++ 47 ∷ drop j bs = sym (take-append-drop i bs)
-    ∙ ap (λ r. take i bs ++ r) (drop_at_char 47 bs i j found.1 (lit< tt)) in
-    let one = components_one (drop j bs) (λ k l. NoCharPasses-char 47 (drop j bs) k found.0 (lit< tt) l) in
-    ap components whole ∙ components_cut (take i bs) (drop j bs) ∙ ap (λ ps. components (take i bs) ++ ps) one
-    ∙ ap (λ r. components r ++ drop j bs ∷ []) (sym before) ∙ ap (λ r. components x.0.now ++ r ∷ []) (sym after)
-
-pub but_last_push : (ps : List (List ℕ)) (p : List ℕ) → but_last (ps ++ p ∷ []) ≡ ps
-but_last_push [] p = refl
-but_last_push (q ∷ []) p = refl
-but_last_push (q ∷ r ∷ ps) p = ap (λ qs. q ∷ qs) (but_last_push (r ∷ ps) p)
+pub but_last_components : (bs : List ℕ) → AreNoneOrOf (but_last (components bs))
+but_last_components [] = inl refl
+but_last_components (b ∷ bs) =
+    let s = components_some bs in
+    subst (λ ps. AreNoneOrOf (but_last (cond (eqb b 47) ([] ∷ ps) (onto_first b ps)))) (sym s.2)
+    (onto (eqb b 47) refl s.0 s.1 s.2 (but_last_components bs))
+  where
+    onto : (is : Bool) → eqb b 47 ≡ is → (p : List ℕ) (ps : List (List ℕ)) → components bs ≡ p ∷ ps
+        → AreNoneOrOf (but_last (components bs)) → AreNoneOrOf (but_last (cond is ([] ∷ p ∷ ps) (onto_first b (p ∷ ps))))
+    onto true e p ps s (inl none) = inr ([], ap (λ qs. [] ∷ qs) (ap but_last (sym s) ∙ none))
+    onto true e p ps s (inr some) =
+        inr (
+          b ∷ some.0,
+          ap (λ qs. [] ∷ qs) (ap but_last (sym s) ∙ some.1)
+              ∙ sym (ap (λ v. cond v ([] ∷ components some.0) (onto_first b (components some.0))) e),
+        )
+    onto false e p [] s h = inl refl
+    onto false e p (q ∷ qs) s (inl none) = cc (none, ap but_last s)
+    onto false e p (q ∷ qs) s (inr some) =
+        inr (
+          b ∷ some.0,
+          ap (onto_first b) (ap but_last (sym s) ∙ some.1)
+              ∙ sym (ap (λ v. cond v ([] ∷ components some.0) (onto_first b (components some.0))) e),
+        )
 
 -- whether a path is canonical, by what follows its first slash
 pub canonical_none : (bs : List ℕ) → ((rest : List ℕ) → bs ≢ 47 ∷ rest) → false ≡ is_canonical_path bs
@@ -88,9 +96,6 @@ pub canonical_rest : (bs rest : List ℕ) → bs ≡ 47 ∷ rest → eqb (length
     → list_all is_proper (components rest) ≡ is_canonical_path bs
 canonical_rest bs [] e h = cc
 canonical_rest bs (x ∷ rest) e h = ap is_canonical_path (sym e)
-
-pub components_uncut : (bs : List ℕ) → RFindsChar 47 bs None → components bs ≡ bs ∷ []
-components_uncut bs h = components_one bs (λ i l. NoCharPasses-char 47 bs i h (lit< tt) l)
 
 pub but_last_then_last : (p : List ℕ) (ps : List (List ℕ)) → but_last (p ∷ ps) ++ last_component (p ∷ ps) ∷ [] ≡ p ∷ ps
 but_last_then_last p [] = refl

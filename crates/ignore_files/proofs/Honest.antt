@@ -7,7 +7,8 @@ use Rattle.ignore_base.specs.declared.fault.Fault.TheVariants as fault
 use Rattle.ignore_files.specs.Tree.{Answers}
 use Rattle.ignore_files.specs.Memory.{and_then}
 use Rattle.ignore_files.specs.Machine.{Disk, IsTruthful, MayRead}
-use Rattle.ignore_files.specs.Disk.{GivesStat, GivesIdentity, GivesOf, GivesAt, GivesContents, metadata_of, identity_of, contents_at, tree_on}
+use Rattle.ignore_files.specs.Disk.{GivesStat, GivesIdentity, GivesOf, GivesAt, GivesContents, metadata_of, identity_of, contents_at}
+use Rattle.ignore_files.specs.Disk.{tree_on}
 use Rattle.ignore_files.specs.declared.machine.Machine.{Ghosts}
 use Rattle.ignore_files.specs.declared.stat.Stat.{Stat}
 use Rattle.ignore_files.specs.declared.types.Refusal.{Refusal}

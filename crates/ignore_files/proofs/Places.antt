@@ -1,11 +1,16 @@
 -- Names followed from a place.
-use Rattle.std.proofs.Common.{◌≡◌, ℕ, Bool, true, false, cond, List, [], ◌∷◌, ◌++◌, Option, Some, None, Result, Ok, Err, option_and_then, slice_get, refl, ap, sym, ◌∙◌}
-use Rattle.ignore_base.specs.Paths.{components, last_component}
-use Rattle.ignore_files.specs.Memory.{and_then, is_empty, child, below, place_of, is_directory, is_at, is_canonical_path, passing, sought, folder_sought, vacant, parent_for, entry_under, but_last}
+use Rattle.std.proofs.Common.{◌≡◌, ℕ, Bool, true, false, cond, List, [], ◌∷◌, ◌++◌, Option, Some, None, Result, Ok, Err, option_and_then}
+use Rattle.std.proofs.Common.{slice_get, refl, ap, sym, ◌∙◌, ◌&&◌, codes, eqb, inl, inr, length}
+use Rattle.std.proofs.lemmas.Bool.{eqb-true}
+use Rattle.std.proofs.lemmas.List.{nil_from_length}
+use Rattle.std.proofs.lemmas.List.Splits.{join_with_byte-slice_split}
+use Rattle.ignore_base.specs.Paths.{but_last, components, folder_of, is_absolute, joined, last_component}
+use Rattle.ignore_files.specs.Memory.{and_then, is_empty, child, below, place_of, is_directory, is_at, is_canonical_path, passing, sought}
+use Rattle.ignore_files.specs.Memory.{folder_sought, vacant, parent_for, entry_under}
 use Rattle.std.specs.Option.{option_map_or}
 use Rattle.ignore_files.specs.declared.tree_error.TreeError.{TreeError}
 use Rattle.ignore_files.specs.declared.tree_error.TreeError.TheVariants as refusal
-use Rattle.ignore_files.proofs.Components.{components_some, but_last_then_last}
+use Rattle.ignore_files.proofs.Components.{AreNoneOrOf, but_last_components, components_some, but_last_then_last}
 use Rattle.ignore_files.specs.declared.memory.node.Node.{Node}
 use Rattle.ignore_files.specs.declared.memory.node.Kind.{Kind}
 
@@ -96,3 +101,24 @@ module _ (nodes : List Node) (here : ℕ) (text component after : List ℕ) (cut
 
   pub below_none : None ≡ below nodes here (component ∷ []) → None ≡ below nodes here (components text)
   below_none e = sym (below_turn ∙ ap (option_and_then (λ i. below nodes i (components after))) (sym e))
+
+-- the directory of a path is where its components but the last lead
+pub place_of_folder : (nodes : List Node) (path : List ℕ) → place_of nodes (folder_of path) ≡ below nodes 0 (but_last (components path))
+place_of_folder nodes path = at (is_absolute path) (but_last (components path)) (but_last_components path)
+  where
+    rooted : (absolute empty : Bool) (front : List ℕ) → (empty ≡ true → front ≡ [])
+        → place_of nodes (cond (absolute && empty) (codes "/") front) ≡ place_of nodes front
+    rooted true true front h = sym (ap (place_of nodes) (h refl))
+    rooted true false front h = refl
+    rooted false empty front h = refl
+
+    whole : (absolute : Bool) (front : List ℕ)
+        → place_of nodes (cond (absolute && eqb (length front) 0) (codes "/") front) ≡ place_of nodes front
+    whole absolute front = rooted absolute (eqb (length front) 0) front (λ e. nil_from_length front (eqb-true (length front) 0 e))
+
+    at : (absolute : Bool) (ps : List (List ℕ)) → AreNoneOrOf ps
+        → place_of nodes (cond (absolute && eqb (length (joined ps)) 0) (codes "/") (joined ps)) ≡ below nodes 0 ps
+    at absolute ps (inl none) = rw none (whole absolute [])
+    at absolute ps (inr some) =
+        rw some.1 (ap (λ t. place_of nodes (cond (absolute && eqb (length t) 0) (codes "/") t)) (join_with_byte-slice_split 47 some.0)
+        ∙ whole absolute some.0)

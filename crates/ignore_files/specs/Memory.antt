@@ -1,7 +1,8 @@
 -- Trees in memory: their nodes, and the nodes to which canonical paths lead.
-use Rattle.std.specs.Prelude.{ℕ, ◌+◌, Bool, true, false, List, [], ◌∷◌, Option, Some, None, option_and_then, Result, Ok, Err, slice_get, ◌==◌, ◌||◌, ◌&&◌, cond, count_by}
+use Rattle.std.specs.Prelude.{ℕ, ◌+◌, Bool, true, false, List, [], ◌∷◌, Option, Some, None, option_and_then, Result, Ok, Err, slice_get}
+use Rattle.std.specs.Prelude.{◌==◌, ◌||◌, ◌&&◌, cond, count_by}
 use Rattle.std.specs.List.{list_all}
-use Rattle.ignore_base.specs.Paths.{components, is_proper}
+use Rattle.ignore_base.specs.Paths.{but_last, components, is_proper}
 use Rattle.std.specs.Option.{option_map_or}
 use Rattle.ignore_base.specs.Text.{Bytes, Path}
 use Rattle.ignore_files.specs.Entries.{named}
@@ -85,12 +86,6 @@ place_of nodes path = below nodes 0 (components path)
 abbrev pub is_canonical_path : Path → Bool
 is_canonical_path [] = false
 is_canonical_path (b ∷ rest) = (b == 47) && (is_empty rest || list_all is_proper (components rest))
-
--- the components but the last
-abbrev pub but_last : List Bytes → List Bytes
-but_last [] = []
-but_last (component ∷ []) = []
-but_last (component ∷ next ∷ rest) = component ∷ but_last (next ∷ rest)
 
 -- the place, if it has a node whose kind passes; else the error
 abbrev pub passing : (Kind → Bool) → TreeError → List Node → Option ℕ → Result ℕ TreeError

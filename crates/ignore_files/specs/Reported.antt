@@ -2,7 +2,8 @@
 use Rattle.std.specs.Prelude.{◌≡◌, ℕ, ℤ, Option, Some, None, Result, Ok, Err}
 use Rattle.std.specs.declared.io.Error.{Error}
 use Rattle.std.specs.declared.io.ErrorKind.{ErrorKind}
-use Rattle.std.specs.declared.io.ErrorKind.TheVariants.{NotFound, PermissionDenied, NotADirectory, IsADirectory, InvalidData, InvalidFilename, FilesystemLoop, OutOfMemory, Interrupted}
+use Rattle.std.specs.declared.io.ErrorKind.TheVariants.{NotFound, PermissionDenied, NotADirectory, IsADirectory, InvalidData}
+use Rattle.std.specs.declared.io.ErrorKind.TheVariants.{InvalidFilename, FilesystemLoop, OutOfMemory, Interrupted}
 use Rattle.std.specs.IoError.{error_kind, raw_os_error}
 use Rattle.std.specs.Fs.{IsDir, IsFile, IsSymlink}
 use Rattle.std.specs.declared.fs.FileType.{FileType as MachineType}

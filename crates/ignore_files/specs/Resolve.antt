@@ -1,5 +1,6 @@
 -- Resolving a path in a tree in memory.
-use Rattle.std.specs.Prelude.{ℕ, zero, suc, Bool, true, List, [], ◌∷◌, ◌++◌, Option, Some, None, Result, Ok, Err, ok_or, slice_get, ◌||◌, bytes_eq, codes, cond}
+use Rattle.std.specs.Prelude.{ℕ, zero, suc, Bool, true, List, [], ◌∷◌, ◌++◌, Option, Some, None, Result, Ok, Err, ok_or, slice_get, ◌||◌}
+use Rattle.std.specs.Prelude.{bytes_eq, codes, cond}
 use Rattle.ignore_base.specs.Text.{Bytes, Path}
 use Rattle.ignore_base.specs.declared.fault.Fault.{Fault}
 use Rattle.ignore_base.specs.declared.fault.Fault.TheVariants.{NotFound, NotADirectory, LinkLimit}

@@ -3,7 +3,8 @@ ghost use Rattle.std.specs.Prelude.{◌≡◌, Ok, Err, MatchResult, MatchOption
 ghost use Rattle.std.specs.Path.{path_buf_bytes};
 ghost use Rattle.std.specs.Iterator.{IsFinite};
 ghost use Rattle.ignore_files.specs.Reported.{IsEntryOf};
-ghost use Rattle.ignore_files.specs.Machine.{metadata_gives, IsStatOf, IsReported, IsListingOf, IsReadOf, IsTruthful, Disk, MayStat, MayList, MayRead, MayCanonicalize};
+ghost use Rattle.ignore_files.specs.Machine.{metadata_gives, IsStatOf, IsReported, IsListingOf, IsReadOf, IsTruthful, Disk, MayStat};
+ghost use Rattle.ignore_files.specs.Machine.{MayList, MayRead, MayCanonicalize};
 ghost use Rattle.ignore_files.specs.declared.types.Refusal.TheVariants.{Memory};
 
 use crate::ask::{ask, ask_at, fault_of, is_interrupted, kind_of};

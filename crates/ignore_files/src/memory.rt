@@ -1,7 +1,8 @@
 //! A tree of files that is all in memory.
 ghost use Rattle.std.specs.Prelude.{◌≡◌};
 ghost use Rattle.ignore_files.specs.Memory.{dir_count};
-ghost use Rattle.ignore_files.specs.Changes.{made, MakesIfRoom, Leaves, LeavesIfRoom, dir_added, file_added, link_added, nameless_added, size_set, identity_set, stat_faulted, list_faulted, contents_cut};
+ghost use Rattle.ignore_files.specs.Changes.{made, MakesIfRoom, Leaves, LeavesIfRoom, dir_added, file_added, link_added, nameless_added};
+ghost use Rattle.ignore_files.specs.Changes.{size_set, identity_set, stat_faulted, list_faulted, contents_cut};
 
 mod add;
 mod answers;

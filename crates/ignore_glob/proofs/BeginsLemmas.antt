@@ -1,12 +1,15 @@
 -- The rows of the tables, at values that are known by equations.
-use Rattle.std.proofs.Common.{◌≡◌, ◌+◌, ◌-◌, ◌<◌, ◌≤◌, ℕ, zero, suc, Bool, true, false, ◌&&◌, List, [], ◌∷◌, ◌++◌, replicate, Err, Result, refl, sym, ap, ◌∙◌, subst, add-one, arith}
+use Rattle.std.proofs.Common.{◌≡◌, ◌+◌, ◌-◌, ◌<◌, ◌≤◌, ℕ, zero, suc, Bool, true, false, ◌&&◌, List, [], ◌∷◌, ◌++◌, replicate, Err, Result}
+use Rattle.std.proofs.Common.{refl, sym, ap, ◌∙◌, subst, add-one, arith}
 use Rattle.ignore_glob.specs.declared.glob.options.Options.{Options}
 use Rattle.ignore_glob.specs.declared.glob.fault.GlobFault.{GlobFault}
 use Rattle.ignore_glob.specs.declared.glob.fault.GlobFault.TheVariants.{UnopenedAlternates, UnclosedAlternates, InvalidRange, UnclosedClass}
 use Rattle.ignore_glob.specs.declared.glob.fault.PatternError.{PatternError}
 use Rattle.ignore_glob.specs.declared.glob.fault.PatternError.TheVariants as Why
 use Rattle.ignore_glob.specs.GlobFaults.{IfFault}
-use Rattle.ignore_glob.specs.Lexing.{Lexeme, char, run, class, comma, closing, opening, lexeme, fault, ended, NoStarFirst, Closes, Items, are_in_order, ranges, is_negated, after_sign, Bracket, whole, disordered, literal, unclosed, Begins, ordinary, stars, bracket, opens, separates, closes, unopened, end, Lexed, stops}
+use Rattle.ignore_glob.specs.Lexing.{Lexeme, char, run, class, comma, closing, opening, lexeme, fault, ended, NoStarFirst, Closes, Items}
+use Rattle.ignore_glob.specs.Lexing.{are_in_order, ranges, is_negated, after_sign, Bracket, whole, disordered, literal, unclosed, Begins}
+use Rattle.ignore_glob.specs.Lexing.{ordinary, stars, bracket, opens, separates, closes, unopened, end, Lexed, stops}
 use Rattle.ignore_glob.specs.Lexing as P
 use Rattle.ignore_glob.proofs.LexemeLemmas.{put_all, put_all-err}
 

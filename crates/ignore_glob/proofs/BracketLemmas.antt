@@ -1,9 +1,11 @@
 -- What a `[` begins: exactly one step.
-use Rattle.std.proofs.Common.{◌≡◌, ◌≢◌, ◌⊎◌, inl, inr, ◌≤◌, ℕ, zero, suc, Bool, true, false, List, [], ◌∷◌, ◌++◌, length, length-append, ◌<◌, ◌==◌, ◌||◌, if◌then◌else◌, refl, sym, ap, ◌∙◌, subst, append_assoc, arith}
+use Rattle.std.proofs.Common.{◌≡◌, ◌≢◌, ◌⊎◌, inl, inr, ◌≤◌, ℕ, zero, suc, Bool, true, false, List, [], ◌∷◌, ◌++◌, length, length-append}
+use Rattle.std.proofs.Common.{◌<◌, ◌==◌, ◌||◌, if◌then◌else◌, refl, sym, ap, ◌∙◌, subst, append_assoc, arith}
 use Rattle.std.specs.List.{AllByRecursion}
 use Rattle.std.proofs.lemmas.Bool.{cases_eq}
 use Rattle.ignore_glob.specs.declared.glob.options.Options.{Options}
-use Rattle.ignore_glob.specs.Lexing.{class, lexeme, fault, ended, Step, Closes, turns, NoTurn, Items, are_in_order, after_sign, is_negated, ranges, Bracket, whole, disordered, literal, unclosed}
+use Rattle.ignore_glob.specs.Lexing.{class, lexeme, fault, ended, Step, Closes, turns, NoTurn, Items, are_in_order, after_sign, is_negated}
+use Rattle.ignore_glob.specs.Lexing.{ranges, Bracket, whole, disordered, literal, unclosed}
 
 -- the first `]` cuts a text in one way
 first_closing : (m k r s : List ℕ) → AllByRecursion (λ c. c ≢ 93) m → AllByRecursion (λ c. c ≢ 93) k → m ++ 93 ∷ r ≡ k ++ 93 ∷ s

@@ -2,7 +2,8 @@
 use Rattle.std.proofs.Common.{◌≡◌, ◌<◌, ◌≤◌, ◌+◌, ◌⊎◌, ◌↔◌, inl, inr, ℕ, Bool, List, length, arith, slice_get, Some, below_more}
 use Rattle.std.proofs.lemmas.Option.{slice_get_within}
 use Rattle.std.proofs.lemmas.List.Elements.{All-contains}
-use Rattle.ignore_glob.specs.Nodes.{Node, literal_at, any_at, star_at, start_at, middle_at, end_at, until_slash, until_end, class_at, fork_at, StepsByNothing, StepsBy, Reached, here, on, SteppedTo}
+use Rattle.ignore_glob.specs.Nodes.{Node, literal_at, any_at, star_at, start_at, middle_at, end_at, until_slash, until_end, class_at}
+use Rattle.ignore_glob.specs.Nodes.{fork_at, StepsByNothing, StepsBy, Reached, here, on, SteppedTo}
 use Rattle.ignore_glob.specs.Flags.{LeadsOn, AllLeadOn}
 
 -- only what is reached is in the new set, what was in the old one still is, and the new one is

@@ -1,12 +1,16 @@
 -- The test of matching decides matching.
-use Rattle.std.proofs.Common.{◌≡◌, ◌⊎◌, ℕ, Bool, true, false, not, eqb, ◌&&◌, ◌||◌, List, [], ◌∷◌, ◌++◌, All, Decides, refl, sym, ap, subst, inl, inr}
+use Rattle.std.proofs.Common.{◌≡◌, ◌⊎◌, ℕ, Bool, true, false, not, eqb, ◌&&◌, ◌||◌, List, [], ◌∷◌, ◌++◌, All, Decides, refl, sym, ap, subst}
+use Rattle.std.proofs.Common.{inl, inr}
 use Rattle.std.specs.List.{list_all}
 use Rattle.std.proofs.lemmas.Bool.{false≢true}
 use Rattle.std.proofs.lemmas.Bool.Decides.{Decides-eqb, Decides-or, Decides-and, Decides-not, Decides-like, Decides-by_and}
-use Rattle.ignore_glob.specs.Glob.{Token, literal, any, star, start, middle, end, class, alternates, Tokens, done, then, Branches, no_branch, branch}
-use Rattle.ignore_glob.specs.Matches.{slash, other_case, is_listed, IsCaseOf, IsMember, BeginsWithSlash, EndsWithSlash, token_matches, tokens_match, branch_matches}
+use Rattle.ignore_glob.specs.Glob.{Token, literal, any, star, start, middle, end, class, alternates, Tokens, done, then, Branches}
+use Rattle.ignore_glob.specs.Glob.{no_branch, branch}
+use Rattle.ignore_glob.specs.Matches.{slash, other_case, is_listed, IsCaseOf, IsMember, BeginsWithSlash, EndsWithSlash, token_matches}
+use Rattle.ignore_glob.specs.Matches.{tokens_match, branch_matches}
 use Rattle.ignore_glob.specs.Reading.{Reading, Matches}
-use Rattle.ignore_glob.specs.DoesMatch.{some_split, is_one, is_empty, begins_with_slash, ends_with_slash, is_case_of, is_member, has_no_branch, does_token_match, do_tokens_match, does_branch_match, is_lone_start, does_match}
+use Rattle.ignore_glob.specs.DoesMatch.{some_split, is_one, is_empty, begins_with_slash, ends_with_slash, is_case_of, is_member}
+use Rattle.ignore_glob.specs.DoesMatch.{has_no_branch, does_token_match, do_tokens_match, does_branch_match, is_lone_start, does_match}
 
 never : {P : Type 0} → (P → ⊥) → Decides false P
 never wrong = (λ e. absurd (false≢true e), λ h. absurd (wrong h))

@@ -1,5 +1,6 @@
 -- How many flags are set before a place.
-use Rattle.std.proofs.Common.{◌≡◌, ◌<◌, ◌≤◌, ◌+◌, ℕ, zero, suc, Bool, true, false, List, [], ◌∷◌, take, arith, refl, ap, sym, ◌∙◌, count_by, cond}
+use Rattle.std.proofs.Common.{◌≡◌, ◌<◌, ◌≤◌, ◌+◌, ℕ, zero, suc, Bool, true, false, List, [], ◌∷◌, take, arith, refl, ap, sym, ◌∙◌, count_by}
+use Rattle.std.proofs.Common.{cond}
 use Rattle.std.proofs.lemmas.List.Sums.{sum_by-cons}
 use Rattle.ignore_glob.specs.Flags.{IsFlagged}
 

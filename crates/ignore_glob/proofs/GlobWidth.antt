@@ -1,13 +1,17 @@
 -- A glob has at most as many positions as characters.
-use Rattle.std.proofs.Common.{◌≡◌, inl, inr, ◌+◌, ◌*◌, ◌≤◌, ℕ, zero, suc, List, [], ◌∷◌, length, replicate, Ok, Err, Result, refl, ap, arith, length-append}
+use Rattle.std.proofs.Common.{◌≡◌, inl, inr, ◌+◌, ◌*◌, ◌≤◌, ℕ, zero, suc, List, [], ◌∷◌, length, replicate, Ok, Err, Result, refl, ap}
+use Rattle.std.proofs.Common.{arith, length-append}
 use Rattle.std.proofs.lemmas.List.{length-replicate}
 use Rattle.ignore_glob.specs.declared.glob.options.Options.{Options}
 use Rattle.ignore_glob.specs.declared.glob.fault.GlobFault.{GlobFault}
 use Rattle.ignore_glob.specs.Glob as G
 use Rattle.ignore_glob.specs.Glob.{Token, Tokens, done, then, Branches, no_branch, branch}
 use Rattle.ignore_glob.specs.Lexing as P
-use Rattle.ignore_glob.specs.Lexing.{Lexeme, char, escaped, any, run, class, opening, comma, closing, Step, Begins, put_first, Bracket, Lexed}
-use Rattle.ignore_glob.specs.Row.{IsSlash, chain, Left, Meaning, gives, braces, ended, Means, character, escape, question, bracket, stars, slash, middle, end, start, start_to_end, alone, opens, ends, times, add_branch, Row, nothing, further, nested, Inner, last_branch, further_branch, Reads}
+use Rattle.ignore_glob.specs.Lexing.{Lexeme, char, escaped, any, run, class, opening, comma, closing, Step, Begins, put_first, Bracket}
+use Rattle.ignore_glob.specs.Lexing.{Lexed}
+use Rattle.ignore_glob.specs.Row.{IsSlash, chain, Left, Meaning, gives, braces, ended, Means, character, escape, question, bracket, stars}
+use Rattle.ignore_glob.specs.Row.{slash, middle, end, start, start_to_end, alone, opens, ends, times, add_branch, Row, nothing, further}
+use Rattle.ignore_glob.specs.Row.{nested, Inner, last_branch, further_branch, Reads}
 use Rattle.ignore_glob.specs.Nodes.{width, branches_width}
 use Rattle.ignore_glob.specs.Positions.{positions}
 use Rattle.ignore_glob.proofs.BracketLemmas.{IsRest-shorter, Bracket-rest}
@@ -40,7 +44,7 @@ stars_width : (n : ℕ) (ts : Tokens) → width (times n G.star ts) ≡ n + widt
 stars_width zero ts = omega arith
 stars_width (suc n) ts = let e = stars_width n ts in omega (arith, e)
 
--- what a meaning gives is no wider than what it takes of the row
+-- what a meaning gives is no wider than what it consumes of the row
 abbrev IsNarrow : List Lexeme → Meaning → Type 0
 IsNarrow ls (gives n t mid) = (ts : Tokens) → width (times n t ts) + row_weight mid ≤ row_weight ls + width ts
 IsNarrow ls (braces mid) = 1 + row_weight mid ≤ row_weight ls
@@ -66,7 +70,8 @@ add_width done bs = omega arith
 add_width (then t ts) bs = refl
 
 mutual
-  row_width : (p : Left) (ls : List Lexeme) (ts : Tokens) (rest : List Lexeme) → Row p ls ts rest → width ts + row_weight rest ≤ row_weight ls
+  row_width : (p : Left) (ls : List Lexeme) (ts : Tokens) (rest : List Lexeme) → Row p ls ts rest
+      → width ts + row_weight rest ≤ row_weight ls
   row_width p ls ts rest (nothing q l m) = omega arith
   row_width p ls ts rest (further q l mid r n t us m more) =
       let a = Means-narrow q l (gives n t mid) m us in
@@ -78,7 +83,8 @@ mutual
       let c = row_width _ after us r more in
       omega (arith, a, b, c)
 
-  inner_width : (ls : List Lexeme) (bs : Branches) (rest : List Lexeme) → Inner ls bs rest → branches_width bs + row_weight rest + 1 ≤ row_weight ls
+  inner_width : (ls : List Lexeme) (bs : Branches) (rest : List Lexeme) → Inner ls bs rest
+      → branches_width bs + row_weight rest + 1 ≤ row_weight ls
   inner_width ls bs rest (last_branch l r ts row) =
       let a = row_width _ l ts (closing ∷ r) row in
       let b = add_width ts no_branch in
@@ -96,7 +102,8 @@ IsLight text (P.fault f) = Unit {0}
 IsLight text P.ended = Unit {0}
 
 Bracket-light : (o : Options) (depth : ℕ) (text : List ℕ) (s : Step) → Bracket o depth text s → IsLight (91 ∷ text) s
-Bracket-light o depth text s (P.whole body rest items c i a) = let l = IsRest-shorter (91 ∷ text) rest (Bracket-rest o depth text _ (P.whole body rest items c i a)) in omega (arith, l)
+Bracket-light o depth text s (P.whole body rest items c i a) = let l =
+    IsRest-shorter (91 ∷ text) rest (Bracket-rest o depth text _ (P.whole body rest items c i a)) in omega (arith, l)
 Bracket-light o depth text s (P.disordered body rest items c i a) = tt
 Bracket-light o depth text s (P.literal none allowed) = omega arith
 Bracket-light o depth text s (P.unclosed none refused) = tt
@@ -123,14 +130,16 @@ abbrev IsLightRow : List ℕ → Result (List Lexeme) GlobFault → Type 0
 IsLightRow text (Ok row) = row_weight row ≤ length text
 IsLightRow text (Err f) = Unit {0}
 
-put_light : (text rest : List ℕ) (l : Lexeme) (out : Result (List Lexeme) GlobFault) → weight l + length rest ≤ length text → IsLightRow rest out → IsLightRow text (put_first l out)
+put_light : (text rest : List ℕ) (l : Lexeme) (out : Result (List Lexeme) GlobFault) → weight l + length rest ≤ length text
+    → IsLightRow rest out → IsLightRow text (put_first l out)
 put_light text rest l (Ok row) a b = omega (arith, a, b)
 put_light text rest l (Err f) a b = tt
 
 Lexed-light : (o : Options) (d : ℕ) (text : List ℕ) (out : Result (List Lexeme) GlobFault) → Lexed o d text out → IsLightRow text out
 Lexed-light o d text out (P.ends d' t b) = omega arith
 Lexed-light o d text out (P.stops d' t f b) = tt
-Lexed-light o d text out (P.continues d' e t rest l more b lexed) = put_light t rest l more (Begins-light o d' t (P.lexeme l rest e) b) (Lexed-light o e rest more lexed)
+Lexed-light o d text out (P.continues d' e t rest l more b lexed) =
+    put_light t rest l more (Begins-light o d' t (P.lexeme l rest e) b) (Lexed-light o e rest more lexed)
 
 pub reads_bound : (o : Options) (text : List ℕ) (ts : Tokens) → Reads o text ts → positions ts ≤ length text
 reads_bound o text ts (row, lexed, means) =

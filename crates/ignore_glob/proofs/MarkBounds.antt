@@ -1,12 +1,14 @@
 -- Matching is a mark at the end, and how many marks there are at least and at most.
-use Rattle.std.proofs.Common.{◌≡◌, ◌≤◌, ◌+◌, ◌*◌, ◌↔◌, inl, inr, ℕ, zero, suc, Bool, List, [], ◌∷◌, ◌++◌, length, map, arith, refl, sym, ap, subst, length-append}
+use Rattle.std.proofs.Common.{◌≡◌, ◌≤◌, ◌+◌, ◌*◌, ◌↔◌, inl, inr, ℕ, zero, suc, Bool, List, [], ◌∷◌, ◌++◌, length, map, arith, refl, sym, ap}
+use Rattle.std.proofs.Common.{subst, length-append}
 use Rattle.std.specs.Prelude.{Contains}
 use Rattle.std.proofs.lemmas.List.{length-map}
 use Rattle.std.proofs.lemmas.List.Elements.{Contains-append_left, Contains-append_right}
 use Rattle.std.proofs.Math.Nat.{eq-or-lt_of_le, mul-suc}
 use Rattle.ignore_glob.specs.Glob.{Tokens}
 use Rattle.ignore_glob.specs.Matches.{glob_matches}
-use Rattle.ignore_glob.specs.Positions.{first, Position, the_end, entrance, positions, IsMarked, begins, by_nothing, by_character, HasNoDuplicates, CountsMarks}
+use Rattle.ignore_glob.specs.Positions.{first, Position, the_end, entrance, positions, IsMarked, begins, by_nothing, by_character}
+use Rattle.ignore_glob.specs.Positions.{HasNoDuplicates, CountsMarks}
 use Rattle.ignore_glob.specs.NodeLists.{glob_nodes}
 use Rattle.ignore_glob.proofs.MatchingMarks.{matching_mark}
 use Rattle.ignore_glob.proofs.NodeListLemmas.{glob_nodes-are}
@@ -38,7 +40,8 @@ grid_has ps zero o p has h =
     subst P e (contains_map (λ (x : Position). (x, 0)) ps p has)
 grid_has ps (suc l) o p has h = elim (eq-or-lt_of_le h) [
   | inl e ↦ let P : ℕ → Type 0 = λ n. Contains (grid ps (suc l)) (p, n) in
-      subst P (sym e) (Contains-append_left (map (λ (x : Position). (x, suc l)) ps) (grid ps l) (p, suc l) (contains_map (λ (x : Position). (x, suc l)) ps p has))
+      subst P (sym e) (Contains-append_left (map (λ (x : Position). (x, suc l)) ps) (grid ps l) (p, suc l)
+      (contains_map (λ (x : Position). (x, suc l)) ps p has))
   | inr k ↦ Contains-append_right (map (λ (x : Position). (x, suc l)) ps) (grid ps l) (p, o) (grid_has ps l o p has (omega (arith, k)))
 ]
 
@@ -99,7 +102,9 @@ module _ (fold : Bool) (ts : Tokens) (text : List ℕ) where
     pub number : length marks ≡ o + 1
 
   -- a mark more, at an offset within the same bound
-  more_each : (l o : ℕ) (p : Position) (ms : List (Position × ℕ)) → o ≤ l → IsMarked fold ts text p o → ((x : Position × ℕ) → Contains ms x → (x.1 ≤ l) × IsMarked fold ts text x.0 x.1) → (x : Position × ℕ) → Contains ((p, o) ∷ ms) x → (x.1 ≤ l) × IsMarked fold ts text x.0 x.1
+  more_each : (l o : ℕ) (p : Position) (ms : List (Position × ℕ)) → o ≤ l → IsMarked fold ts text p o
+      → ((x : Position × ℕ) → Contains ms x → (x.1 ≤ l) × IsMarked fold ts text x.0 x.1) → (x : Position × ℕ) → Contains ((p, o) ∷ ms) x
+      → (x.1 ≤ l) × IsMarked fold ts text x.0 x.1
   more_each l o p ms h m each x (zero, lt, e) =
       let P : Position × ℕ → Type 0 = λ y. (y.1 ≤ l) × IsMarked fold ts text y.0 y.1 in
       subst P e (h, m)
@@ -117,7 +122,8 @@ module _ (fold : Bool) (ts : Tokens) (text : List ℕ) where
       let more = trail o before.0 before.1 in
       record {
         marks = (p, suc o) ∷ more.marks;
-        each = λ x has. more_each (suc o) (suc o) p more.marks (omega arith) m (λ y h. let both = more.each y h in let l : y.1 ≤ o = both.0 in (omega (arith, l), both.1)) x has;
+        each = λ x has. more_each (suc o) (suc o) p more.marks (omega arith) m
+            (λ y h. let both = more.each y h in let l : y.1 ≤ o = both.0 in (omega (arith, l), both.1)) x has;
         once = ((λ h. let both = more.each (p, suc o) h in let l : suc o ≤ o = both.0 in absurd (omega (arith, l))), more.once);
         number = let e = more.number in omega (arith, e);
       }

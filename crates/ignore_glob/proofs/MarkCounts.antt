@@ -1,5 +1,6 @@
 -- The number of marks that flags count is the length of a list that has each mark once.
-use Rattle.std.proofs.Common.{◌≡◌, ◌≤◌, ◌+◌, ◌↔◌, inl, inr, ℕ, zero, suc, Bool, true, false, List, [], ◌∷◌, ◌++◌, length, map, arith, slice_get, Some, refl, sym, ◌∙◌, ap, subst, count_by, length-append}
+use Rattle.std.proofs.Common.{◌≡◌, ◌≤◌, ◌+◌, ◌↔◌, inl, inr, ℕ, zero, suc, Bool, true, false, List, [], ◌∷◌, ◌++◌, length, map, arith}
+use Rattle.std.proofs.Common.{slice_get, Some, refl, sym, ◌∙◌, ap, subst, count_by, length-append}
 use Rattle.std.specs.Prelude.{Contains, cond}
 use Rattle.std.proofs.lemmas.List.{length-map}
 use Rattle.std.proofs.lemmas.List.Sums.{sum_by-cons}
@@ -9,7 +10,8 @@ use Rattle.std.proofs.Math.Nat.{eq-or-lt_of_le}
 use Rattle.ignore_glob.specs.Glob.{Tokens}
 use Rattle.ignore_glob.specs.Nodes.{Node, AreGlobNodes}
 use Rattle.ignore_glob.specs.Flags.{CountAt, Count}
-use Rattle.ignore_glob.specs.Positions.{first, Position, the_end, Entry, table, positions, IsMarked, begins, by_nothing, by_character, HasNoDuplicates, CountsMarks}
+use Rattle.ignore_glob.specs.Positions.{first, Position, the_end, Entry, table, positions, IsMarked, begins, by_nothing, by_character}
+use Rattle.ignore_glob.specs.Positions.{HasNoDuplicates, CountsMarks}
 use Rattle.ignore_glob.proofs.Once.{contains_at, at_contains, append_once, map_contains, contains_map, map_once}
 use Rattle.ignore_glob.proofs.Places.{own, all, all_once}
 use Rattle.ignore_glob.proofs.Numbering.{positions_length}

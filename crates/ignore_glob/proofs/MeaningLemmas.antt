@@ -1,8 +1,11 @@
 -- The rows of the table of meanings, at values that are known by equations.
-use Rattle.std.proofs.Common.{◌≡◌, ◌⊎◌, inl, inr, ◌↔◌, ◌+◌, ◌<◌, ◌≤◌, ℕ, zero, suc, Bool, IsTrue, List, [], ◌∷◌, refl, sym, ap, ◌∙◌, subst, add-one, arith}
+use Rattle.std.proofs.Common.{◌≡◌, ◌⊎◌, inl, inr, ◌↔◌, ◌+◌, ◌<◌, ◌≤◌, ℕ, zero, suc, Bool, IsTrue, List, [], ◌∷◌, refl, sym, ap, ◌∙◌, subst}
+use Rattle.std.proofs.Common.{add-one, arith}
 use Rattle.ignore_glob.specs.Glob as G
 use Rattle.ignore_glob.specs.Lexing.{Lexeme, char, run, comma, closing}
-use Rattle.ignore_glob.specs.Row.{IsSlash, Ends, of_glob, at_comma, at_closing, chain, BeforeSlash, AtEnd, Left, glob_start, branch_start, lexeme, IsStart, IsRecursive, Meaning, gives, Means, slash, middle, end, stars, start, start_to_end, alone}
+use Rattle.ignore_glob.specs.Row.{IsSlash, Ends, of_glob, at_comma, at_closing, chain, BeforeSlash, AtEnd, Left, glob_start, branch_start}
+use Rattle.ignore_glob.specs.Row.{lexeme, IsStart, IsRecursive, Meaning, gives, Means, slash, middle, end, stars, start, start_to_end}
+use Rattle.ignore_glob.specs.Row.{alone}
 
 chain-suc : (n : ℕ) (ls : List Lexeme) → chain n (run 2 ∷ char 47 ∷ ls) ≡ chain (suc n) ls
 chain-suc zero ls = refl

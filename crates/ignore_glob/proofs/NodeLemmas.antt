@@ -4,8 +4,11 @@ use Rattle.std.specs.Prelude.{All}
 use Rattle.std.proofs.lemmas.Bool.{cases_order}
 use Rattle.std.proofs.lemmas.Option.{slice_get_within}
 use Rattle.std.proofs.lemmas.List.Elements.{All-cons}
-use Rattle.ignore_glob.specs.Glob.{Token, literal, any, star, start, middle, end, class, alternates, Tokens, done, then, Branches, no_branch, branch}
-use Rattle.ignore_glob.specs.Nodes.{Node, literal_at, any_at, star_at, start_at, middle_at, end_at, until_slash, until_end, class_at, fork_at, token_width, width, branches_width, entry, entries, fork, TokenAt, TokensAt, BranchesAt, AreGlobNodes}
+use Rattle.ignore_glob.specs.Glob.{Token, literal, any, star, start, middle, end, class, alternates, Tokens, done, then, Branches}
+use Rattle.ignore_glob.specs.Glob.{no_branch, branch}
+use Rattle.ignore_glob.specs.Nodes.{Node, literal_at, any_at, star_at, start_at, middle_at, end_at, until_slash, until_end, class_at}
+use Rattle.ignore_glob.specs.Nodes.{fork_at, token_width, width, branches_width, entry, entries, fork, TokenAt, TokensAt, BranchesAt}
+use Rattle.ignore_glob.specs.Nodes.{AreGlobNodes}
 use Rattle.ignore_glob.specs.Flags.{LeadsOn, AllLeadOn}
 
 -- tokens that stand from b up to e begin there
@@ -61,7 +64,8 @@ module _ (nodes : List Node) where
     token_leads (class negated ranges) b e k node at w l low high here =
         same_leads k b node (class_at negated ranges e) (omega arith) here at l
     token_leads (alternates bs) b e k node at w l low high here = elim (cases_order k b) [
-      | inl same ↦ same_leads k b node (fork_at (fork bs (b + 1) e)) same here at.0 (fork_between bs b e (length nodes) (omega (arith, w)) l)
+      | inl same ↦ same_leads k b node (fork_at (fork bs (b + 1) e)) same here at.0
+          (fork_between bs b e (length nodes) (omega (arith, w)) l)
       | inr apart ↦ elim apart [
         | inl before ↦ absurd (omega arith)
         | inr after ↦ branches_lead bs (b + 1) e k node at.1 (omega (arith, w)) l (omega arith) (omega (arith, high)) here

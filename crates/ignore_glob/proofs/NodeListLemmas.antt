@@ -1,8 +1,11 @@
 -- The list of a glob's nodes: how long it is, where its nodes stand, and that they lead on.
-use Rattle.std.proofs.Common.{◌≡◌, ◌+◌, ◌++◌, ◌∷◌, [], inl, inr, ℕ, List, length, arith, slice_get, Some, refl, sym, ◌∙◌, ap, append_assoc, length-append}
+use Rattle.std.proofs.Common.{◌≡◌, ◌+◌, ◌++◌, ◌∷◌, [], inl, inr, ℕ, List, length, arith, slice_get, Some, refl, sym, ◌∙◌, ap, append_assoc}
+use Rattle.std.proofs.Common.{length-append}
 use Rattle.std.proofs.lemmas.List.{append-nil}
-use Rattle.ignore_glob.specs.Glob.{Token, literal, any, star, start, middle, end, class, alternates, Tokens, done, then, Branches, no_branch, branch}
-use Rattle.ignore_glob.specs.Nodes.{Node, fork_at, token_width, width, branches_width, entry, fork, TokenAt, TokensAt, BranchesAt, AreNodes, AreGlobNodes}
+use Rattle.ignore_glob.specs.Glob.{Token, literal, any, star, start, middle, end, class, alternates, Tokens, done, then, Branches}
+use Rattle.ignore_glob.specs.Glob.{no_branch, branch}
+use Rattle.ignore_glob.specs.Nodes.{Node, fork_at, token_width, width, branches_width, entry, fork, TokenAt, TokensAt, BranchesAt, AreNodes}
+use Rattle.ignore_glob.specs.Nodes.{AreGlobNodes}
 use Rattle.ignore_glob.specs.NodeLists.{token_nodes, tokens_nodes, branches_nodes, glob_nodes}
 
 mutual

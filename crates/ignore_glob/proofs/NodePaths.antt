@@ -1,12 +1,16 @@
 -- What tokens match leads from their first position to the next, and only that.
-use Rattle.std.proofs.Common.{◌≡◌, ◌≢◌, ◌+◌, ◌⊎◌, ◌↔◌, inl, inr, ℕ, zero, suc, Bool, List, [], ◌∷◌, ◌++◌, length, arith, slice_get, Some, refl, sym, ◌∙◌, ap, subst, append_assoc}
+use Rattle.std.proofs.Common.{◌≡◌, ◌≢◌, ◌+◌, ◌⊎◌, ◌↔◌, inl, inr, ℕ, zero, suc, Bool, List, [], ◌∷◌, ◌++◌, length, arith, slice_get, Some}
+use Rattle.std.proofs.Common.{refl, sym, ◌∙◌, ap, subst, append_assoc}
 use Rattle.std.specs.Prelude.{All, Contains}
 use Rattle.std.proofs.lemmas.List.{append-nil}
 use Rattle.std.proofs.lemmas.Option.{slice_get_within}
 use Rattle.std.proofs.lemmas.List.Elements.{All-head, All-tail, All-cons}
-use Rattle.ignore_glob.specs.Glob.{Token, literal, any, star, start, middle, end, class, alternates, Tokens, done, then, Branches, no_branch, branch}
+use Rattle.ignore_glob.specs.Glob.{Token, literal, any, star, start, middle, end, class, alternates, Tokens, done, then, Branches}
+use Rattle.ignore_glob.specs.Glob.{no_branch, branch}
 use Rattle.ignore_glob.specs.Matches.{slash, token_matches, tokens_match, branch_matches}
-use Rattle.ignore_glob.specs.Nodes.{Node, literal_at, any_at, star_at, start_at, middle_at, end_at, until_slash, until_end, class_at, fork_at, StepsByNothing, StepsBy, token_width, width, entry, entries, fork, TokenAt, TokensAt, BranchesAt, AreNodes}
+use Rattle.ignore_glob.specs.Nodes.{Node, literal_at, any_at, star_at, start_at, middle_at, end_at, until_slash, until_end, class_at}
+use Rattle.ignore_glob.specs.Nodes.{fork_at, StepsByNothing, StepsBy, token_width, width, entry, entries, fork, TokenAt, TokensAt}
+use Rattle.ignore_glob.specs.Nodes.{BranchesAt, AreNodes}
 
 -- from the position, some steps by this text lead to the end
 pub data Path (fold : Bool) (nodes : List Node) : ℕ → List ℕ → Type 0 where
@@ -71,7 +75,8 @@ module _ (fold : Bool) (nodes : List Node) where
     token_path star b e a v at h p = past_star b e a v at h p
     token_path start b e a v at h p = elim h [
       | inl none ↦ rw none (nothing b e v (start_at e) at.0 (inr refl) p)
-      | inr some ↦ rw (some.1, append_assoc) (nothing b (b + 1) (some.0 ++ slash ∷ v) (start_at e) at.0 (inl refl) (past_slash (b + 1) e some.0 v at.1 p))
+      | inr some ↦ rw (some.1, append_assoc)
+          (nothing b (b + 1) (some.0 ++ slash ∷ v) (start_at e) at.0 (inl refl) (past_slash (b + 1) e some.0 v at.1 p))
     ]
     token_path middle b e a v at h p =
         let same : h.1.0 ++ slash ∷ [] ≡ slash ∷ h.0.0 = sym h.1.1 ∙ h.0.1 in rw h.1.1 (past_middle b e h.1.0 h.0.0 v at.0 at.1 same p)
@@ -92,7 +97,8 @@ module _ (fold : Bool) (nodes : List Node) where
     branches_path no_branch b e a v at h p = absurd h
     branches_path (branch ts bs) b e a v at h p = elim h [
       | inl here ↦ (entry ts b e, Contains-head (entry ts b e) (entries bs (b + width ts) e), tokens_path ts b e a v at.0 here p)
-      | inr later ↦ let more = branches_path bs (b + width ts) e a v at.1 later p in (more.0, Contains-tail (entry ts b e) more.0 (entries bs (b + width ts) e) more.1, more.2)
+      | inr later ↦ let more = branches_path bs (b + width ts) e a v at.1 later p in
+          (more.0, Contains-tail (entry ts b e) more.0 (entries bs (b + width ts) e) more.1, more.2)
     ]
 
   -- the way back: a path from a token's first position is what it matches, and then a path from the
@@ -193,7 +199,8 @@ module _ (fold : Bool) (nodes : List Node) where
     token_back star b e w at r = star_back b w r b e refl at
     token_back start b e w at r = elim (step_from b w r (start_at e) at.0) [
       | inl s ↦ elim s.1 [
-        | inl in' ↦ let more = slash_back s.0 w s.2 (b + 1) e in' at.1 in (more.0 ++ slash ∷ [], more.1, more.2 ∙ sym (append_assoc more.0 (slash ∷ []) more.1), inr (more.0, refl), more.3)
+        | inl in' ↦ let more = slash_back s.0 w s.2 (b + 1) e in' at.1 in
+            (more.0 ++ slash ∷ [], more.1, more.2 ∙ sym (append_assoc more.0 (slash ∷ []) more.1), inr (more.0, refl), more.3)
         | inr go ↦ ([], w, refl, inl refl, moved s.0 e w go s.2)
       ]
       | inr s ↦ absurd s.4
@@ -245,7 +252,8 @@ module _ (fold : Bool) (nodes : List Node) where
         → Splits (branch_matches fold bs) e w
     branches_back no_branch b e q w at has r = absurd (omega (arith, has.1))
     branches_back (branch ts bs) b e q w at has r = elim (Contains-cases (entry ts b e) q (entries bs (b + width ts) e) has) [
-      | inl here ↦ let found = tokens_back ts b e w at.0 (moved q (entry ts b e) w here r) in (found.0, found.1, found.2, inl found.3, found.4)
+      | inl here ↦ let found = tokens_back ts b e w at.0 (moved q (entry ts b e) w here r) in
+          (found.0, found.1, found.2, inl found.3, found.4)
       | inr later ↦ let found = branches_back bs (b + width ts) e q w at.1 later r in (found.0, found.1, found.2, inr found.3, found.4)
     ]
 

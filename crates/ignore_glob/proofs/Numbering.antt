@@ -1,9 +1,14 @@
 -- The nodes of a glob, number by number, are what stands at its positions in the order of writing.
-use Rattle.std.proofs.Common.{◌≡◌, ◌≢◌, ◌+◌, ◌⊎◌, inl, inr, ℕ, zero, suc, List, [], ◌∷◌, ◌++◌, length, arith, slice_get, Some, refl, sym, ◌∙◌, ap, subst, append_assoc, length-append}
+use Rattle.std.proofs.Common.{◌≡◌, ◌≢◌, ◌+◌, ◌⊎◌, inl, inr, ℕ, zero, suc, List, [], ◌∷◌, ◌++◌, length, arith, slice_get, Some, refl, sym}
+use Rattle.std.proofs.Common.{◌∙◌, ap, subst, append_assoc, length-append}
 use Rattle.std.proofs.lemmas.List.{length-map}
-use Rattle.ignore_glob.specs.Glob.{Token, literal, any, star, start, middle, end, class, alternates, Tokens, done, then, Branches, no_branch, branch}
-use Rattle.ignore_glob.specs.Nodes.{Node, literal_at, any_at, star_at, start_at, middle_at, end_at, until_slash, until_end, class_at, fork_at, token_width, width, branches_width, entry, entries, fork, TokenAt, TokensAt, BranchesAt, AreGlobNodes}
-use Rattle.ignore_glob.specs.Positions.{Place, first, after, in_branch, Position, before, inside, the_end, entrance, entrances, Entry, table, token_table, branch_table, positions}
+use Rattle.ignore_glob.specs.Glob.{Token, literal, any, star, start, middle, end, class, alternates, Tokens, done, then, Branches}
+use Rattle.ignore_glob.specs.Glob.{no_branch, branch}
+use Rattle.ignore_glob.specs.Nodes.{Node, literal_at, any_at, star_at, start_at, middle_at, end_at, until_slash, until_end, class_at}
+use Rattle.ignore_glob.specs.Nodes.{fork_at, token_width, width, branches_width, entry, entries, fork, TokenAt, TokensAt, BranchesAt}
+use Rattle.ignore_glob.specs.Nodes.{AreGlobNodes}
+use Rattle.ignore_glob.specs.Positions.{Place, first, after, in_branch, Position, before, inside, the_end, entrance, entrances, Entry}
+use Rattle.ignore_glob.specs.Positions.{table, token_table, branch_table, positions}
 use Rattle.ignore_glob.proofs.Once.{get_seam}
 use Rattle.ignore_glob.proofs.Places.{own, all}
 

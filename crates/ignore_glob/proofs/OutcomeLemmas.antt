@@ -1,11 +1,14 @@
 -- A text has exactly one outcome: its row of lexemes or its leftmost error.
-use Rattle.std.proofs.Common.{◌≡◌, ◌≢◌, ◌⊎◌, inl, inr, ◌≤◌, ◌<◌, ℕ, zero, suc, true, false, ◌==◌, if◌then◌else◌, nat_lt, List, [], ◌∷◌, ◌++◌, length, replicate, Result, Ok, Err, refl, sym, ap, ◌∙◌, subst, arith}
+use Rattle.std.proofs.Common.{◌≡◌, ◌≢◌, ◌⊎◌, inl, inr, ◌≤◌, ◌<◌, ℕ, zero, suc, true, false, ◌==◌, if◌then◌else◌, nat_lt, List, [], ◌∷◌}
+use Rattle.std.proofs.Common.{◌++◌, length, replicate, Result, Ok, Err, refl, sym, ap, ◌∙◌, subst, arith}
 use Rattle.std.proofs.lemmas.Bool.{cases_eq, ne_eqb}
 use Rattle.std.proofs.lemmas.Bool.Decides.{nat_tests}
 use Rattle.ignore_glob.specs.declared.glob.options.Options.{Options}
 use Rattle.ignore_glob.specs.declared.glob.fault.GlobFault.{GlobFault}
 use Rattle.ignore_glob.specs.declared.glob.fault.GlobFault.TheVariants.{UnopenedAlternates, UnclosedAlternates, DanglingEscape, TooDeep}
-use Rattle.ignore_glob.specs.Lexing.{Lexeme, char, escaped, any, run, opening, comma, closing, Step, lexeme, fault, ended, is_special, NoStarFirst, Begins, ordinary, escape, dangling, question, stars, bracket, opens, too_deep, separates, closes, unopened, left_open, end, put_first, Lexed, ends, stops, continues}
+use Rattle.ignore_glob.specs.Lexing.{Lexeme, char, escaped, any, run, opening, comma, closing, Step, lexeme, fault, ended, is_special}
+use Rattle.ignore_glob.specs.Lexing.{NoStarFirst, Begins, ordinary, escape, dangling, question, stars, bracket, opens, too_deep, separates}
+use Rattle.ignore_glob.specs.Lexing.{closes, unopened, left_open, end, put_first, Lexed, ends, stops, continues}
 use Rattle.ignore_glob.proofs.BracketLemmas.{Bracket-same, find_bracket, IsRest-shorter, LeavesRest, Bracket-rest}
 
 abbrev past_stars : List ℕ → ℕ × List ℕ

@@ -3,8 +3,10 @@ use Rattle.std.proofs.Common.{◌≡◌, ◌<◌, ◌≤◌, ◌⊎◌, inl, inr
 use Rattle.std.specs.Prelude.{Contains}
 use Rattle.std.proofs.lemmas.List.{map-append}
 use Rattle.std.proofs.lemmas.List.Elements.{Contains-append_cases}
-use Rattle.ignore_glob.specs.Glob.{Token, literal, any, star, start, middle, end, class, alternates, Tokens, done, then, Branches, no_branch, branch}
-use Rattle.ignore_glob.specs.Positions.{Place, first, after, in_branch, Position, before, inside, the_end, Entry, table, token_table, branch_table, HasNoDuplicates}
+use Rattle.ignore_glob.specs.Glob.{Token, literal, any, star, start, middle, end, class, alternates, Tokens, done, then, Branches}
+use Rattle.ignore_glob.specs.Glob.{no_branch, branch}
+use Rattle.ignore_glob.specs.Positions.{Place, first, after, in_branch, Position, before, inside, the_end, Entry, table, token_table}
+use Rattle.ignore_glob.specs.Positions.{branch_table, HasNoDuplicates}
 use Rattle.ignore_glob.proofs.Once.{append_once}
 
 -- how many steps lead from the first place to this one

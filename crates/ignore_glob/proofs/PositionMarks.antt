@@ -1,10 +1,16 @@
 -- The marks of the nodes, by their numbers, are the marks of the positions.
-use Rattle.std.proofs.Common.{◌≡◌, ◌<◌, ◌+◌, ◌↔◌, inl, inr, ℕ, zero, suc, Bool, List, [], ◌∷◌, length, arith, slice_get, get_or, Some, refl, sym, subst}
+use Rattle.std.proofs.Common.{◌≡◌, ◌<◌, ◌+◌, ◌↔◌, inl, inr, ℕ, zero, suc, Bool, List, [], ◌∷◌, length, arith, slice_get, get_or, Some, refl}
+use Rattle.std.proofs.Common.{sym, subst}
 use Rattle.std.specs.Prelude.{Contains}
 use Rattle.std.proofs.lemmas.Option.{slice_get_within, slice_get-map, slice_get-get_or}
-use Rattle.ignore_glob.specs.Glob.{Token, literal, any, star, start, middle, end, class, alternates, Tokens, done, then, Branches, no_branch, branch}
-use Rattle.ignore_glob.specs.Nodes.{Node, literal_at, any_at, star_at, start_at, middle_at, end_at, until_slash, until_end, class_at, fork_at, StepsByNothing, StepsBy, AreGlobNodes, Reached, here, on, SteppedTo, Marked}
-use Rattle.ignore_glob.specs.Positions.{Place, first, Position, before, inside, the_end, entrance, entrances, Entry, table, Stands, EmptyStep, past_star, into_start, past_start, past_end, past_lone_start, into_branch, past_braces, CharacterStep, by_literal, by_any, by_class, at_star, stays, out_of_start, out_of_middle, past_middle, into_middle, into_end, IsMarked, begins, by_nothing, by_character}
+use Rattle.ignore_glob.specs.Glob.{Token, literal, any, star, start, middle, end, class, alternates, Tokens, done, then, Branches}
+use Rattle.ignore_glob.specs.Glob.{no_branch, branch}
+use Rattle.ignore_glob.specs.Nodes.{Node, literal_at, any_at, star_at, start_at, middle_at, end_at, until_slash, until_end, class_at}
+use Rattle.ignore_glob.specs.Nodes.{fork_at, StepsByNothing, StepsBy, AreGlobNodes, Reached, here, on, SteppedTo, Marked}
+use Rattle.ignore_glob.specs.Positions.{Place, first, Position, before, inside, the_end, entrance, entrances, Entry, table, Stands}
+use Rattle.ignore_glob.specs.Positions.{EmptyStep, past_star, into_start, past_start, past_end, past_lone_start, into_branch, past_braces}
+use Rattle.ignore_glob.specs.Positions.{CharacterStep, by_literal, by_any, by_class, at_star, stays, out_of_start, out_of_middle}
+use Rattle.ignore_glob.specs.Positions.{past_middle, into_middle, into_end, IsMarked, begins, by_nothing, by_character}
 use Rattle.ignore_glob.proofs.MatchingMarks.{marked_on}
 use Rattle.ignore_glob.proofs.Once.{contains_at, at_contains, get_front, unique_at}
 use Rattle.ignore_glob.proofs.Places.{own, all, all_once}
@@ -271,7 +277,12 @@ module _ (whole : Tokens) (nodes : List Node) (at : AreGlobNodes nodes whole) wh
     back_character o k c position r is m there (out_of_start p n st e) = let f = known k (inside p) start n is st in
         elim f.2 [
           | inl plain ↦ (f.0, f.1, stepped_on o k f.0 c (until_slash f.0) m there plain.1 (inr (e, refl)))
-          | inr lone ↦ (f.0, f.1, marked_on fold nodes text (suc o) k f.0 (until_end f.0) (stepped_on o k k c (until_end f.0) m there lone.1 refl) lone.1 refl)
+          | inr lone ↦ (
+            f.0,
+            f.1,
+            marked_on fold nodes text (suc o) k f.0 (until_end f.0)
+                (stepped_on o k k c (until_end f.0) m there lone.1 refl) lone.1 refl,
+          )
         ]
     back_character o k c position r is m there (out_of_middle p n st e) =
         let f = known k (inside p) middle n is st in (f.0, f.1, stepped_on o k f.0 c (until_slash f.0) m there f.2 (inr (e, refl)))

@@ -1,5 +1,6 @@
 -- A row whose braces are balanced has tokens.
-use Rattle.std.proofs.Common.{◌≡◌, ◌⊎◌, inl, inr, ◌+◌, ◌*◌, ◌≤◌, ◌<◌, ℕ, zero, suc, List, [], ◌∷◌, length, Ok, Err, Result, refl, sym, ap, subst, arith}
+use Rattle.std.proofs.Common.{◌≡◌, ◌⊎◌, inl, inr, ◌+◌, ◌*◌, ◌≤◌, ◌<◌, ℕ, zero, suc, List, [], ◌∷◌, length, Ok, Err, Result, refl, sym, ap}
+use Rattle.std.proofs.Common.{subst, arith}
 use Rattle.std.proofs.lemmas.Bool.{cases_eq}
 use Rattle.ignore_glob.specs.declared.glob.options.Options.{Options}
 use Rattle.ignore_glob.specs.declared.glob.fault.GlobFault.{GlobFault}
@@ -7,7 +8,10 @@ use Rattle.ignore_glob.specs.Glob as G
 use Rattle.ignore_glob.specs.Glob.{Token, Tokens, done, Branches, no_branch, branch}
 use Rattle.ignore_glob.specs.Lexing as P
 use Rattle.ignore_glob.specs.Lexing.{Lexeme, char, escaped, any, run, class, opening, comma, closing, Step, Begins, put_first, Lexed}
-use Rattle.ignore_glob.specs.Row.{IsSlash, Ends, of_glob, at_comma, at_closing, chain, BeforeSlash, AtEnd, Left, glob_start, branch_start, lexeme, IsStart, Meaning, gives, braces, ended, Means, character, escape, question, bracket, stars, slash, middle, end, start, start_to_end, alone, opens, ends, times, add_branch, Row, nothing, further, nested, Inner, last_branch, further_branch, Reads}
+use Rattle.ignore_glob.specs.Row.{IsSlash, Ends, of_glob, at_comma, at_closing, chain, BeforeSlash, AtEnd, Left, glob_start, branch_start}
+use Rattle.ignore_glob.specs.Row.{lexeme, IsStart, Meaning, gives, braces, ended, Means, character, escape, question, bracket, stars, slash}
+use Rattle.ignore_glob.specs.Row.{middle, end, start, start_to_end, alone, opens, ends, times, add_branch, Row, nothing, further, nested}
+use Rattle.ignore_glob.specs.Row.{Inner, last_branch, further_branch, Reads}
 use Rattle.ignore_glob.specs.ParserSteps.{Balanced}
 use Rattle.ignore_glob.proofs.OutcomeLemmas.{find_outcome}
 
@@ -201,18 +205,42 @@ by_meaning p ls d ended m l b rows inners =
     record { tokens = done; rest = ls; row = nothing p ls m; end_here = l; balance = b; shorter = omega arith }
 by_meaning p ls d (gives n t mid) m l b rows inners =
     let r = rows mid l.0 (l.1 d b) in
-    record { tokens = times n t r.tokens; rest = r.rest; row = further p ls mid r.rest n t r.tokens m r.row; end_here = r.end_here; balance = r.balance; shorter = omega (arith, l.0, r.shorter) }
+    record {
+      tokens = times n t r.tokens;
+      rest = r.rest;
+      row = further p ls mid r.rest n t r.tokens m r.row;
+      end_here =
+          r.end_here;
+      balance = r.balance;
+      shorter = omega (arith, l.0, r.shorter);
+    }
 by_meaning p ls d (braces mid) m l b rows inners =
     let i = inners mid l.0 (l.1 d b) in
     let r = rows i.rest (omega (arith, l.0, i.shorter)) i.balance in
-    record { tokens = G.then (G.alternates i.branches) r.tokens; rest = r.rest; row = nested p ls mid i.rest r.rest i.branches r.tokens m i.inner r.row; end_here = r.end_here; balance = r.balance; shorter = omega (arith, l.0, i.shorter, r.shorter) }
+    record {
+      tokens = G.then (G.alternates i.branches) r.tokens;
+      rest = r.rest;
+      row =
+          nested p ls mid i.rest r.rest i.branches r.tokens m i.inner r.row;
+      end_here = r.end_here;
+      balance = r.balance;
+      shorter =
+          omega (arith, l.0, i.shorter, r.shorter);
+    }
 
 by_branch : (ls : List Lexeme) (d : ℕ) (ts : Tokens) (rest : List Lexeme) → Row branch_start ls ts rest → Ends rest → Balanced rest (suc d)
     → length rest ≤ length ls → ((mid : List Lexeme) → length mid < length ls → Balanced mid (suc d) → HasInner mid d) → HasInner ls d
 by_branch ls d ts rest r of_glob b s inners = absurd b
 by_branch ls d ts rest r (at_comma mid) b s inners =
     let i = inners mid (omega arith) b in
-    record { branches = add_branch ts i.branches; rest = i.rest; inner = further_branch ls mid i.rest ts i.branches r i.inner; balance = i.balance; shorter = omega (arith, i.shorter) }
+    record {
+      branches = add_branch ts i.branches;
+      rest = i.rest;
+      inner = further_branch ls mid i.rest ts i.branches r i.inner;
+      balance =
+          i.balance;
+      shorter = omega (arith, i.shorter);
+    }
 by_branch ls d ts rest r (at_closing mid) b s inners =
     record { branches = add_branch ts no_branch; rest = mid; inner = last_branch ls mid ts r; balance = b; shorter = omega arith }
 

@@ -1,12 +1,16 @@
 -- A row of lexemes has one list of tokens at most.
-use Rattle.std.proofs.Common.{◌≡◌, inl, inr, ℕ, zero, suc, Bool, true, false, ◌==◌, ◌&&◌, if◌then◌else◌, List, [], ◌∷◌, Ok, Err, Result, refl, sym, ap, ◌∙◌, subst}
+use Rattle.std.proofs.Common.{◌≡◌, inl, inr, ℕ, zero, suc, Bool, true, false, ◌==◌, ◌&&◌, if◌then◌else◌, List, [], ◌∷◌, Ok, Err, Result}
+use Rattle.std.proofs.Common.{refl, sym, ap, ◌∙◌, subst}
 use Rattle.std.proofs.lemmas.Bool.{cases_eq, ne_eqb}
 use Rattle.ignore_glob.specs.declared.glob.options.Options.{Options}
 use Rattle.ignore_glob.specs.declared.glob.fault.GlobFault.{GlobFault}
 use Rattle.ignore_glob.specs.Glob as G
 use Rattle.ignore_glob.specs.Glob.{Token, Tokens, done, then, Branches, no_branch, branch}
 use Rattle.ignore_glob.specs.Lexing.{Lexeme, char, escaped, any, run, class, opening, comma, closing}
-use Rattle.ignore_glob.specs.Row.{IsSlash, Ends, of_glob, at_comma, at_closing, chain, BeforeSlash, AtEnd, Left, glob_start, branch_start, lexeme, IsStart, IsRecursive, Meaning, gives, braces, ended, Means, character, escape, question, bracket, stars, slash, middle, end, start, start_to_end, alone, opens, ends, times, add_branch, Row, nothing, further, nested, Inner, last_branch, further_branch, Reads, IsFaulty}
+use Rattle.ignore_glob.specs.Row.{IsSlash, Ends, of_glob, at_comma, at_closing, chain, BeforeSlash, AtEnd, Left, glob_start, branch_start}
+use Rattle.ignore_glob.specs.Row.{lexeme, IsStart, IsRecursive, Meaning, gives, braces, ended, Means, character, escape, question, bracket}
+use Rattle.ignore_glob.specs.Row.{stars, slash, middle, end, start, start_to_end, alone, opens, ends, times, add_branch, Row, nothing}
+use Rattle.ignore_glob.specs.Row.{further, nested, Inner, last_branch, further_branch, Reads, IsFaulty}
 use Rattle.ignore_glob.proofs.OutcomeLemmas.{Lexed-same}
 
 -- how many times the row goes on with `**/`, and what follows

@@ -1,6 +1,7 @@
 -- How large tokens are, by which their compilation ends.
 use Rattle.std.proofs.Common.{ℕ, ◌+◌}
-use Rattle.ignore_glob.specs.Glob.{Token, literal, any, star, start, middle, end, class, alternates, Tokens, done, then, Branches, no_branch, branch}
+use Rattle.ignore_glob.specs.Glob.{Token, literal, any, star, start, middle, end, class, alternates, Tokens, done, then, Branches}
+use Rattle.ignore_glob.specs.Glob.{no_branch, branch}
 
 -- how many tokens and branches there are, at all depths
 abbrev mutual

@@ -1,12 +1,16 @@
 -- Bits of words: what the operations on them do to the sets that they stand for.
-use Rattle.std.proofs.Common.{◌≡◌, ◌<◌, ◌≤◌, ◌+◌, ◌-◌, ◌*◌, ◌/◌, ◌%◌, ◌^◌, ◌⊎◌, ◌↔◌, inl, inr, ℕ, zero, suc, Bool, true, List, [], ◌∷◌, length, arith, refl, sym, ap, subst, ◌∙◌, slice_get, Some, cond, count_by, pow_pos, w64, eq-eqb, ne_eqb, eqb-true}
+use Rattle.std.proofs.Common.{◌≡◌, ◌<◌, ◌≤◌, ◌+◌, ◌-◌, ◌*◌, ◌/◌, ◌%◌, ◌^◌, ◌⊎◌, ◌↔◌, inl, inr, ℕ, zero, suc, Bool, true, List, [], ◌∷◌}
+use Rattle.std.proofs.Common.{length, arith, refl, sym, ap, subst, ◌∙◌, slice_get, Some, cond, count_by, pow_pos, w64, eq-eqb, ne_eqb}
+use Rattle.std.proofs.Common.{eqb-true}
 use Rattle.std.specs.Prelude.{bit_and, bit_or, nat_eq, count_ones}
 use Rattle.std.specs.Int.{bit_at, bit_not, trailing_zeros}
 use Rattle.std.specs.Simd.Lanes.{mask_l}
 use Rattle.std.proofs.lemmas.Bool.{cases_eq, cases_lt}
 use Rattle.std.proofs.lemmas.List.{map-id}
 use Rattle.std.proofs.lemmas.Nat.{shl_whole, and_le_l, and_le_r}
-use Rattle.std.proofs.lemmas.Nat.Bits.{bit_at_or, bit_at_and, bit_at-lt, bit_at-zero, bit_at-suc, bit_at_lowest, bit_at_cat_low, bit_at_cat_high, bit_at_above, bit_at-trailing_zeros, bit_at_set_same, bit_at_set_other, bit_at_clear_same, bit_at_clear_other, same_from_bits}
+use Rattle.std.proofs.lemmas.Nat.Bits.{bit_at_or, bit_at_and, bit_at-lt, bit_at-zero, bit_at-suc, bit_at_lowest, bit_at_cat_low}
+use Rattle.std.proofs.lemmas.Nat.Bits.{bit_at_cat_high, bit_at_above, bit_at-trailing_zeros, bit_at_set_same, bit_at_set_other}
+use Rattle.std.proofs.lemmas.Nat.Bits.{bit_at_clear_same, bit_at_clear_other, same_from_bits}
 use Rattle.std.proofs.lemmas.Simd.{ones-mask_l}
 use Rattle.ignore_glob.specs.Words.{Has}
 
@@ -60,7 +64,8 @@ has_none p h = let z = bit_at-zero p in omega (arith, h, z)
 
 -- a position of a word is below 64
 pub below_64 : (word p : ℕ) → word < 2 ^ 64 → Has word p → p < 64
-below_64 word p small h = elim (cases_lt p 64) [ inl l ↦ l | inr past ↦ absurd (let z = bit_at_above word 64 p small past in omega (arith, h, z)) ]
+below_64 word p small h =
+    elim (cases_lt p 64) [ inl l ↦ l | inr past ↦ absurd (let z = bit_at_above word 64 p small past in omega (arith, h, z)) ]
 
 -- a word without its lowest position
 abbrev pub lowest : ℕ → ℕ
@@ -85,7 +90,8 @@ module _ (left : ℕ) (some : 0 < left) (fits : left < 2 ^ 64) where
       let le = and_le_l left (bit_not w64 (1 * 2 ^ lowest left % 2 ^ 64)) in
       let there = place.1 in
       elim (cases_eq (dropped left) left) [
-        | inl same ↦ absurd (let both : bit_at (dropped left) (lowest left) ≡ bit_at left (lowest left) = ap (λ x. bit_at x (lowest left)) same in
+        | inl same ↦ absurd (let both : bit_at (dropped left) (lowest left) ≡ bit_at left (lowest left) =
+            ap (λ x. bit_at x (lowest left)) same in
             omega (arith, both, gone, there))
         | inr other ↦ omega (arith, le, other)
       ]
@@ -94,7 +100,8 @@ module _ (left : ℕ) (some : 0 < left) (fits : left < 2 ^ 64) where
   dropped_old p h = ((has_and left (bit_not w64 (1 * 2 ^ lowest left % 2 ^ 64)) p).0 h).0
 
   dropped_lowest : Has (dropped left) (lowest left) → ⊥
-  dropped_lowest h = let gone : bit_at (dropped left) (lowest left) ≡ 0 = bit_at_clear_same w64 left (lowest left) place.0 in omega (arith, h, gone)
+  dropped_lowest h = let gone : bit_at (dropped left) (lowest left) ≡ 0 = bit_at_clear_same w64 left (lowest left) place.0 in
+      omega (arith, h, gone)
 
   old_dropped : (p : ℕ) → (p ≡ lowest left → ⊥) → Has left p → Has (dropped left) p
   old_dropped p apart h = bit_at_clear_other w64 left (lowest left) place.0 p (below_64 left p fits h) apart ∙ h

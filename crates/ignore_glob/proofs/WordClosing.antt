@@ -1,12 +1,15 @@
--- Closing a word by masks is closing the set by steps without a character, and the number of its bits is that of the marks.
-use Rattle.std.proofs.Common.{◌≡◌, ◌<◌, ◌≤◌, ◌+◌, ◌-◌, ◌*◌, ◌%◌, ◌^◌, ◌↔◌, inl, inr, ℕ, zero, suc, Bool, List, length, arith, sym, subst, slice_get, Some, ◌⊎◌}
+-- Closing a word by masks is closing the set by steps without a character, and the number of its
+-- bits is that of the marks.
+use Rattle.std.proofs.Common.{◌≡◌, ◌<◌, ◌≤◌, ◌+◌, ◌-◌, ◌*◌, ◌%◌, ◌^◌, ◌↔◌, inl, inr, ℕ, zero, suc, Bool, List, length, arith, sym, subst}
+use Rattle.std.proofs.Common.{slice_get, Some, ◌⊎◌}
 use Rattle.std.specs.Prelude.{bit_and, bit_or, count_ones}
 use Rattle.std.proofs.lemmas.Bool.{cases_eq}
 use Rattle.std.proofs.lemmas.Nat.{le_or_l}
 use Rattle.std.proofs.lemmas.Nat.Bits.{bit_at-pow_same, bit_at-pow_other}
 use Rattle.std.proofs.lemmas.List.Elements.{All-contains}
 use Rattle.std.proofs.lemmas.Option.{slice_get_within}
-use Rattle.ignore_glob.specs.Nodes.{Node, literal_at, any_at, star_at, start_at, middle_at, end_at, until_slash, until_end, class_at, fork_at, StepsByNothing, StepsBy, Reached, here, on, SteppedTo, Marked}
+use Rattle.ignore_glob.specs.Nodes.{Node, literal_at, any_at, star_at, start_at, middle_at, end_at, until_slash, until_end, class_at}
+use Rattle.ignore_glob.specs.Nodes.{fork_at, StepsByNothing, StepsBy, Reached, here, on, SteppedTo, Marked}
 use Rattle.ignore_glob.specs.Flags.{CountAt, LeadsOn, AllLeadOn}
 use Rattle.ignore_glob.specs.Words.{Has, Closed, known, to_next, past_next, word_of}
 use Rattle.ignore_glob.specs.declared.glob.word.Masks.{Masks}
@@ -54,7 +57,8 @@ module _ (m : Masks) (starts : m.starts < 2 ^ 62) (first set : ℕ) where
   pub skip_less : (spread : ℕ) → skipped m set ≤ spread → spread < 2 ^ 64 → (skipped m set ≡ set → ⊥) → 2 ^ 64 - spread < 2 ^ 64 - set
   skip_less spread greater fits apart =
       let a = le_or_l set (bit_and set m.starts * 2 ^ 2 % 2 ^ 64) in
-      let c : set < skipped m set = elim (cases_eq (skipped m set) set) [ inl same ↦ absurd (apart same) | inr other ↦ omega (arith, a, other) ] in
+      let c : set < skipped m set =
+      elim (cases_eq (skipped m set) set) [ inl same ↦ absurd (apart same) | inr other ↦ omega (arith, a, other) ] in
       omega (arith, c, greater, fits)
 
   -- where no start puts more, a spread set is closed
@@ -74,10 +78,12 @@ module _ (nodes : List Node) (m : Masks) (is : word_of nodes ≡ Some m) where
   closed_reached set q (known p h) = here p h
   closed_reached set q (to_next p c f) =
       let k = (free_kind nodes m is p).0 f in
-      on p (suc p) k.0 (closed_reached set p c) k.1 ((nothing_to k.0 p (suc p) ((fits nodes m is).line p k.0 k.1)).1 (inl (k.2, omega arith)))
+      on p (suc p) k.0 (closed_reached set p c) k.1
+      ((nothing_to k.0 p (suc p) ((fits nodes m is).line p k.0 k.1)).1 (inl (k.2, omega arith)))
   closed_reached set q (past_next p c f) =
       let k = (start_kind nodes m is p).0 f in
-      on p (suc (suc p)) k.0 (closed_reached set p c) k.1 ((nothing_to k.0 p (suc (suc p)) ((fits nodes m is).line p k.0 k.1)).1 (inr (k.2, omega arith)))
+      on p (suc (suc p)) k.0 (closed_reached set p c) k.1
+      ((nothing_to k.0 p (suc (suc p)) ((fits nodes m is).line p k.0 k.1)).1 (inr (k.2, omega arith)))
 
   pub reached_closed : (set q : ℕ) → Reached nodes (Has set) q → Closed m set q
   reached_closed set q (here p h) = known p h
@@ -85,14 +91,17 @@ module _ (nodes : List Node) (m : Masks) (is : word_of nodes ≡ Some m) where
       let before = reached_closed set p c in
       let P : ℕ → Type 0 = λ k. Closed m set k in
       elim ((nothing_to node p r ((fits nodes m is).line p node at)).0 s) [
-        | inl f ↦ subst P (let e : r ≡ p + 1 = f.1 in let g : suc p ≡ r = omega (arith, e) in g) (to_next p before ((free_kind nodes m is p).1 (node, at, f.0)))
-        | inr f ↦ subst P (let e : r ≡ p + 2 = f.1 in let g : suc (suc p) ≡ r = omega (arith, e) in g) (past_next p before ((start_kind nodes m is p).1 (node, at, f.0)))
+        | inl f ↦ subst P (let e : r ≡ p + 1 = f.1 in let g : suc p ≡ r = omega (arith, e) in g)
+            (to_next p before ((free_kind nodes m is p).1 (node, at, f.0)))
+        | inr f ↦ subst P (let e : r ≡ p + 2 = f.1 in let g : suc (suc p) ≡ r = omega (arith, e) in g)
+            (past_next p before ((start_kind nodes m is p).1 (node, at, f.0)))
       ]
 
 -- a node leads to positions up to the end
 steps_within : (node : Node) (p q end : ℕ) → LeadsOn node p end → StepsByNothing node p q → q ≤ end
 steps_within (star_at next) p q end h s = let l = h.1 in omega (arith, l, s)
-steps_within (start_at next) p q end h s = elim s [ inl e ↦ (let l = h.1 in omega (arith, l, e)) | inr e ↦ (let l = h.2 in omega (arith, l, e)) ]
+steps_within (start_at next) p q end h s =
+    elim s [ inl e ↦ (let l = h.1 in omega (arith, l, e)) | inr e ↦ (let l = h.2 in omega (arith, l, e)) ]
 steps_within (until_end next) p q end h s = let l = h.1 in omega (arith, l, s)
 steps_within (fork_at firsts) p q end h s = (All-contains (λ r. (p < r) × (r ≤ end)) firsts q h s).1
 steps_within (literal_at k next) p q end h s = absurd s
@@ -107,9 +116,11 @@ steps_by_within fold (literal_at k next) c p q end l h s = let e = s.1 in omega 
 steps_by_within fold (any_at next) c p q end l h s = let e = s.1 in omega (arith, h, e)
 steps_by_within fold (star_at next) c p q end l h s = let e = s.1 in omega (arith, l, e)
 steps_by_within fold (start_at next) c p q end l h s = absurd s
-steps_by_within fold (middle_at next) c p q end l h s = elim s.1 [ inl e ↦ (let k = h.0 in omega (arith, k, e)) | inr e ↦ (let k = h.1 in omega (arith, k, e)) ]
+steps_by_within fold (middle_at next) c p q end l h s =
+    elim s.1 [ inl e ↦ (let k = h.0 in omega (arith, k, e)) | inr e ↦ (let k = h.1 in omega (arith, k, e)) ]
 steps_by_within fold (end_at next) c p q end l h s = let e = s.1 in omega (arith, l, e)
-steps_by_within fold (until_slash next) c p q end l h s = elim s [ inl e ↦ omega (arith, l, e) | inr t ↦ (let e = t.1 in omega (arith, h, e)) ]
+steps_by_within fold (until_slash next) c p q end l h s =
+    elim s [ inl e ↦ omega (arith, l, e) | inr t ↦ (let e = t.1 in omega (arith, h, e)) ]
 steps_by_within fold (until_end next) c p q end l h s = omega (arith, l, s)
 steps_by_within fold (class_at negated ranges next) c p q end l h s = let e = s.1 in omega (arith, h, e)
 steps_by_within fold (fork_at firsts) c p q end l h s = absurd s

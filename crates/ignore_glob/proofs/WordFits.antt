@@ -1,5 +1,6 @@
 -- A glob without braces and with at most 62 positions fits a word.
-use Rattle.std.proofs.Common.{◌≡◌, ◌≤◌, ◌+◌, ◌++◌, ℕ, suc, true, false, List, length, arith, refl, ap, subst, ◌∙◌, Some, None, cond, eq-eqb, le-leb}
+use Rattle.std.proofs.Common.{◌≡◌, ◌≤◌, ◌+◌, ◌++◌, ℕ, suc, true, false, List, length, arith, refl, ap, subst, ◌∙◌, Some, None, cond, eq-eqb}
+use Rattle.std.proofs.Common.{le-leb}
 use Rattle.std.specs.Prelude.{◌&&◌, nat_le, nat_eq, Option}
 use Rattle.std.proofs.lemmas.Bool.{and_from}
 use Rattle.ignore_glob.specs.Glob.{Token, literal, any, star, start, middle, end, class, alternates, Tokens, done, then}
@@ -66,7 +67,8 @@ glob_line (then start done) plain = refl
 glob_line (then start (then t ts)) plain = tokens_line (then start (then t ts)) 0 (width (then start (then t ts))) plain (omega arith)
 glob_line (then middle ts) plain = tokens_line (then middle ts) 0 (width (then middle ts)) plain (omega arith)
 glob_line (then end ts) plain = tokens_line (then end ts) 0 (width (then end ts)) plain (omega arith)
-glob_line (then (class negated ranges) ts) plain = tokens_line (then (class negated ranges) ts) 0 (width (then (class negated ranges) ts)) plain (omega arith)
+glob_line (then (class negated ranges) ts) plain =
+    tokens_line (then (class negated ranges) ts) 0 (width (then (class negated ranges) ts)) plain (omega arith)
 glob_line (then (alternates bs) ts) plain = absurd (cc plain)
 
 pub plain_fits : (ts : Tokens) → has_braces ts ≡ false → positions ts ≤ 62 → word_of (glob_nodes ts) ≡ Some (masks (glob_nodes ts))
@@ -74,7 +76,8 @@ plain_fits ts plain short =
     let long = glob_nodes-length ts in
     let known = positions_width ts in
     let small : length (glob_nodes ts) ≤ 62 = omega (arith, short, long, known) in
-    let both : (nat_le (length (glob_nodes ts)) 62 && is_line (glob_nodes ts) 0) ≡ true = and_from _ _ (le-leb _ _ small) (glob_line ts plain) in
+    let both : (nat_le (length (glob_nodes ts)) 62 && is_line (glob_nodes ts) 0) ≡ true =
+    and_from _ _ (le-leb _ _ small) (glob_line ts plain) in
     ap (λ b. cond b (Some (masks (glob_nodes ts))) None) both
 
 -- so it is never without its masks

@@ -1,5 +1,7 @@
 -- What the masks of a short glob without braces say of its nodes.
-use Rattle.std.proofs.Common.{◌≡◌, ◌<◌, ◌≤◌, ◌+◌, ◌-◌, ◌*◌, ◌^◌, ◌⊎◌, ◌↔◌, inl, inr, ℕ, zero, suc, Bool, true, false, List, [], ◌∷◌, length, map, drop, arith, refl, sym, ap, subst, ◌∙◌, slice_get, Some, None, cond, get_or, leb-true, eqb-true, pow_mono, drop-cons}
+use Rattle.std.proofs.Common.{◌≡◌, ◌<◌, ◌≤◌, ◌+◌, ◌-◌, ◌*◌, ◌^◌, ◌⊎◌, ◌↔◌, inl, inr, ℕ, zero, suc, Bool, true, false, List, [], ◌∷◌, length}
+use Rattle.std.proofs.Common.{map, drop, arith, refl, sym, ap, subst, ◌∙◌, slice_get, Some, None, cond, get_or, leb-true, eqb-true}
+use Rattle.std.proofs.Common.{pow_mono, drop-cons}
 use Rattle.std.specs.Prelude.{◌≢◌, ◌&&◌, nat_le}
 use Rattle.std.specs.Simd.Lanes.{mask_l}
 use Rattle.std.proofs.lemmas.Bool.{and_parts}
@@ -8,9 +10,11 @@ use Rattle.std.proofs.lemmas.Option.{slice_get-map, slice_get_read}
 use Rattle.std.specs.Option.{option_map}
 use Rattle.std.proofs.lemmas.Simd.{bit_mask_l, mask_l-lt}
 use Rattle.ignore_glob.specs.Matches.{slash}
-use Rattle.ignore_glob.specs.Nodes.{Node, literal_at, any_at, star_at, start_at, middle_at, end_at, until_slash, until_end, class_at, fork_at, StepsByNothing, StepsBy}
+use Rattle.ignore_glob.specs.Nodes.{Node, literal_at, any_at, star_at, start_at, middle_at, end_at, until_slash, until_end, class_at}
+use Rattle.ignore_glob.specs.Nodes.{fork_at, StepsByNothing, StepsBy}
 use Rattle.ignore_glob.specs.NodeLists.{node_view, nodes_view}
-use Rattle.ignore_glob.specs.Words.{Has, is_tested, Tests, is_star, is_inside, is_by_slash, is_middle, is_free, is_start, masks, leads_next, is_line, word_of}
+use Rattle.ignore_glob.specs.Words.{Has, is_tested, Tests, is_star, is_inside, is_by_slash, is_middle, is_free, is_start, masks, leads_next}
+use Rattle.ignore_glob.specs.Words.{is_line, word_of}
 use Rattle.ignore_glob.specs.declared.glob.node.Node.{Node as CodeNode}
 use Rattle.ignore_glob.specs.declared.glob.word.Masks.{Masks}
 
@@ -47,7 +51,8 @@ mask_small kind nodes short =
     let c = pow_mono {i = length (map kind nodes)} {j = 62} (omega (arith, b, short)) in
     omega (arith, a, c)
 
-line_at : (nodes : List Node) (b p : ℕ) (node : Node) → is_line nodes b ≡ true → slice_get nodes p ≡ Some node → leads_next node (b + p) ≡ true
+line_at : (nodes : List Node) (b p : ℕ) (node : Node) → is_line nodes b ≡ true → slice_get nodes p ≡ Some node
+    → leads_next node (b + p) ≡ true
 line_at [] b zero node l at = absurd (cc at)
 line_at [] b (suc p) node l at = absurd (cc at)
 line_at (n ∷ ns) b zero node l at =
@@ -107,14 +112,16 @@ small_bit : (b : Bool) → cond b 1 0 + 2 * 0 < 2
 small_bit true = omega arith
 small_bit false = omega arith
 
-pub mask_pair : (kind : Node → Bool) (node : Node) (nodes : List Node) (a b : ℕ) → a ≡ mask_l (map kind (node ∷ [])) → b ≡ mask_l (map kind nodes)
+pub mask_pair : (kind : Node → Bool) (node : Node) (nodes : List Node) (a b : ℕ) → a ≡ mask_l (map kind (node ∷ []))
+    → b ≡ mask_l (map kind nodes)
     → length nodes ≤ 62 → (a < 2) × (b < 2 ^ 62)
 mask_pair kind node nodes a b e f short =
     let one = small_bit (kind node) in
     let more = mask_small kind nodes short in
     (omega (arith, e, one), omega (arith, f, more))
 
-mask_more : (kind : Node → Bool) (node : Node) (nodes : List Node) → mask_l (map kind (node ∷ [])) + 2 * mask_l (map kind nodes) ≡ mask_l (map kind (node ∷ nodes))
+mask_more : (kind : Node → Bool) (node : Node) (nodes : List Node)
+    → mask_l (map kind (node ∷ [])) + 2 * mask_l (map kind nodes) ≡ mask_l (map kind (node ∷ nodes))
 mask_more kind node nodes = omega arith
 
 abbrev pub sum : Masks → Masks → Masks
@@ -152,7 +159,8 @@ fits nodes m is =
     let found = some_of (nat_le (length nodes) 62 && is_line nodes 0) (masks nodes) m is in
     let both = and_parts (nat_le (length nodes) 62) (is_line nodes 0) found.0 in record {
       short = leb-true (length nodes) 62 both.0;
-      line = λ p node at. let e : 0 + p ≡ p = omega arith in subst (λ (k : ℕ). leads_next node k ≡ true) e (line_at nodes 0 p node both.1 at);
+      line = λ p node at. let e : 0 + p ≡ p = omega arith in
+          subst (λ (k : ℕ). leads_next node k ≡ true) e (line_at nodes 0 p node both.1 at);
       same = found.1;
     }
 
@@ -195,7 +203,8 @@ LeadsTo fold node c p q = ((q ≡ p) × Stays node c) ⊎ (((q ≡ p + 1) × Goe
 
 -- no kind but the tested ones
 no_other : {A B : Type 0} → (q p : ℕ) (node : Node) (c : ℕ) → is_inside node ≡ false → is_star node ≡ false → is_by_slash node ≡ false
-    → is_middle node ≡ false → (A → B) → (((q ≡ p) × Stays node c) ⊎ (((q ≡ p + 1) × (A ⊎ ((is_by_slash node ≡ true) × (c ≡ slash)))) ⊎ ((q ≡ p + 2) × Skips node c)))
+    → is_middle node ≡ false → (A → B)
+    → (((q ≡ p) × Stays node c) ⊎ (((q ≡ p + 1) × (A ⊎ ((is_by_slash node ≡ true) × (c ≡ slash)))) ⊎ ((q ≡ p + 2) × Skips node c)))
     → B × (q ≡ p + 1)
 no_other q p node c a b d e f t = elim t [
   | inl s ↦ elim s.1 [ inl x ↦ absurd (cc (a, x)) | inr y ↦ absurd (cc (b, y.0)) ]
@@ -209,7 +218,8 @@ pub by_to : (fold : Bool) (node : Node) (c p q : ℕ) → leads_next node p ≡ 
 by_to fold (literal_at k next) c p q l =
     let n = eqb-true next (p + 1) l in (
       (λ s. inr (inl ((let e = s.1 in omega (arith, n, e)), inl s.0))),
-      (λ t. let both = no_other q p (literal_at k next) c refl refl refl refl (λ x. x) t in (both.0, (let e = both.1 in omega (arith, n, e)))),
+      (λ t. let both = no_other q p (literal_at k next) c refl refl refl refl (λ x. x) t in
+          (both.0, (let e = both.1 in omega (arith, n, e)))),
     )
 by_to fold (any_at next) c p q l =
     let n = eqb-true next (p + 1) l in (
@@ -219,7 +229,8 @@ by_to fold (any_at next) c p q l =
 by_to fold (class_at negated ranges next) c p q l =
     let n = eqb-true next (p + 1) l in (
       (λ s. inr (inl ((let e = s.1 in omega (arith, n, e)), inl s.0))),
-      (λ t. let both = no_other q p (class_at negated ranges next) c refl refl refl refl (λ x. x) t in (both.0, (let e = both.1 in omega (arith, n, e)))),
+      (λ t. let both = no_other q p (class_at negated ranges next) c refl refl refl refl (λ x. x) t in
+          (both.0, (let e = both.1 in omega (arith, n, e)))),
     )
 by_to fold (star_at next) c p q l = (
   (λ s. inl (s.1, inr (refl, s.0))),

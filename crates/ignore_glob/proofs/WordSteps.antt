@@ -1,4 +1,5 @@
--- The step of a word by a character is the step of the set, and the number of its bits that of the marks.
+-- The step of a word by a character is the step of the set, and the number of its bits that of the
+-- marks.
 use Rattle.std.proofs.Common.{◌≡◌, ◌<◌, ◌+◌, ◌*◌, ◌%◌, ◌^◌, ◌↔◌, inl, inr, ℕ, Bool, List, length, arith, refl, sym, subst, slice_get, Some}
 use Rattle.std.specs.Prelude.{bit_and, bit_or}
 use Rattle.std.proofs.lemmas.Nat.{or_lt}
@@ -8,7 +9,8 @@ use Rattle.ignore_glob.specs.Nodes.{Node, StepsBy, SteppedTo}
 use Rattle.ignore_glob.specs.Words.{Has, Tests, TestsAt, word_of}
 use Rattle.ignore_glob.specs.declared.glob.word.Masks.{Masks}
 use Rattle.ignore_glob.proofs.WordBits.{has_or, has_and, has_shift, within_le, and_small}
-use Rattle.ignore_glob.proofs.WordLemmas.{fits, LeadsTo, by_to, tests_tested, tested_kind, star_kind, inside_kind, slash_kind, middle_kind, tested_small, slash_small, middle_small}
+use Rattle.ignore_glob.proofs.WordLemmas.{fits, LeadsTo, by_to, tests_tested, tested_kind, star_kind, inside_kind, slash_kind, middle_kind}
+use Rattle.ignore_glob.proofs.WordLemmas.{tested_small, slash_small, middle_small}
 
 module _ (nodes : List Node) (m : Masks) (is : word_of nodes ≡ Some m) where
   -- a position that is tested is one of the nodes
@@ -28,7 +30,8 @@ module _ (nodes : List Node) (m : Masks) (is : word_of nodes ≡ Some m) where
     -- by a slash
     abbrev by_slash : ℕ
     by_slash =
-        bit_or (bit_or (bit_and set m.insides) (bit_or tested (bit_and set m.by_slash) * 2 ^ 1 % 2 ^ 64)) (bit_and set m.middles * 2 ^ 2 % 2 ^ 64)
+        bit_or (bit_or (bit_and set m.insides) (bit_or tested (bit_and set m.by_slash) * 2 ^ 1 % 2 ^ 64))
+        (bit_and set m.middles * 2 ^ 2 % 2 ^ 64)
 
     next_small : bit_or tested (bit_and set m.by_slash) < 2 ^ 62
     next_small = or_lt 62 tested (bit_and set m.by_slash) small (and_small set m.by_slash (slash_small nodes m is))
@@ -76,7 +79,8 @@ module _ (nodes : List Node) (m : Masks) (is : word_of nodes ≡ Some m) where
         let b : ℕ = bit_or tested (bit_and set m.by_slash) * 2 ^ 1 % 2 ^ 64 in
         let d : ℕ = bit_and set m.middles * 2 ^ 2 % 2 ^ 64 in
         let shifted : q ≡ p + 1 → Has (bit_or tested (bit_and set m.by_slash)) p → Has by_slash q = λ n t.
-        (has_or (bit_or a b) d q).1 (inl ((has_or a b q).1 (inr ((has_shift (bit_or tested (bit_and set m.by_slash)) 1 q next_small (omega arith)).1 (p, n, t))))) in
+        (has_or (bit_or a b) d q).1
+        (inl ((has_or a b q).1 (inr ((has_shift (bit_or tested (bit_and set m.by_slash)) 1 q next_small (omega arith)).1 (p, n, t))))) in
         elim ((leads p node at q).0 s) [
           | inl stay ↦ elim stay.1 [
             | inl k ↦
@@ -87,10 +91,13 @@ module _ (nodes : List Node) (m : Masks) (is : word_of nodes ≡ Some m) where
           | inr moved ↦ elim moved [
             | inl next ↦ elim next.1 [
               | inl t ↦ shifted next.0 ((has_or tested (bit_and set m.by_slash) p).1 (inl (tested_on p node h at t)))
-              | inr k ↦ shifted next.0 ((has_or tested (bit_and set m.by_slash) p).1 (inr ((has_and set m.by_slash p).1 (h, (slash_kind nodes m is p).1 (node, at, k.0)))))
+              | inr k ↦ shifted next.0
+                  ((has_or tested (bit_and set m.by_slash) p).1
+                  (inr ((has_and set m.by_slash p).1 (h, (slash_kind nodes m is p).1 (node, at, k.0)))))
             ]
             | inr skip ↦
-                (has_or (bit_or a b) d q).1 (inr ((has_shift (bit_and set m.middles) 2 q (and_small set m.middles (middle_small nodes m is)) (omega arith)).1
+                (has_or (bit_or a b) d q).1
+                (inr ((has_shift (bit_and set m.middles) 2 q (and_small set m.middles (middle_small nodes m is)) (omega arith)).1
                 (p, skip.0, (has_and set m.middles p).1 (h, (middle_kind nodes m is p).1 (node, at, skip.1.0)))))
           ]
         ]
@@ -138,7 +145,8 @@ module _ (nodes : List Node) (m : Masks) (is : word_of nodes ≡ Some m) where
           ]
           | inr moved ↦ elim moved [
             | inl next ↦ elim next.1 [
-              | inl t ↦ (has_or (bit_or a b) d q).1 (inr ((has_shift tested 1 q small (omega arith)).1 (p, next.0, tested_on p node h at t)))
+              | inl t ↦ (has_or (bit_or a b) d q).1
+                  (inr ((has_shift tested 1 q small (omega arith)).1 (p, next.0, tested_on p node h at t)))
               | inr k ↦ absurd (e k.1)
             ]
             | inr skip ↦ absurd (e skip.1.1)

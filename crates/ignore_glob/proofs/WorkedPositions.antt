@@ -2,7 +2,8 @@
 use Rattle.std.proofs.Common.{◌≡◌, false, [], ◌∷◌, arith, refl}
 use Rattle.ignore_glob.specs.Glob.{literal, star, middle, alternates, done, then, no_branch, branch}
 use Rattle.ignore_glob.specs.Matches.{slash}
-use Rattle.ignore_glob.specs.Positions.{first, after, in_branch, before, the_end, table, positions, Stands, IsMarked, begins, by_nothing, by_character, past_star, at_star}
+use Rattle.ignore_glob.specs.Positions.{first, after, in_branch, before, the_end, table, positions, Stands, IsMarked, begins, by_nothing}
+use Rattle.ignore_glob.specs.Positions.{by_character, past_star, at_star}
 
 -- the four positions of a**/b, where a middle has two
 middle_positions : positions (then (literal 97) (then middle (then (literal 98) done))) ≡ 4

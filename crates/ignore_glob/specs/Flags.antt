@@ -1,6 +1,8 @@
 -- Sets of positions as flags, one for each node and one for the end, and how many flags are set.
 use Rattle.std.specs.Prelude.{◌≡◌, ◌<◌, ◌≤◌, ◌+◌, ◌↔◌, ℕ, zero, suc, Bool, true, List, length, Some, slice_get, count_by, All}
-use Rattle.ignore_glob.specs.Nodes.{Node, literal_at, any_at, star_at, start_at, middle_at, end_at, until_slash, until_end, class_at, fork_at, StepsByNothing, StepsBy, Marked}
+use Rattle.ignore_base.specs.Text.{Chars}
+use Rattle.ignore_glob.specs.Nodes.{Node, literal_at, any_at, star_at, start_at, middle_at, end_at, until_slash, until_end, class_at}
+use Rattle.ignore_glob.specs.Nodes.{fork_at, StepsByNothing, StepsBy, Marked}
 
 abbrev pub IsFlagged : List Bool → ℕ → Type 0
 IsFlagged flags p = slice_get flags p ≡ Some true
@@ -11,11 +13,11 @@ pub record AreFlags (nodes : List Node) (set : ℕ → Type 0) (flags : List Boo
   pub flagged : (p : ℕ) → IsFlagged flags p ↔ set p
 
 -- how many positions are marked at this offset
-abbrev pub CountAt : Bool → List Node → List ℕ → ℕ → ℕ → Type 0
+abbrev pub CountAt : Bool → List Node → Chars → ℕ → ℕ → Type 0
 CountAt fold nodes text o n = (flags : List Bool) × AreFlags nodes (Marked fold nodes text o) flags × (n ≡ count_by (λ b. b) flags)
 
 -- how many pairs of a position and an offset up to this one are marked
-abbrev pub Count : Bool → List Node → List ℕ → ℕ → ℕ → Type 0
+abbrev pub Count : Bool → List Node → Chars → ℕ → ℕ → Type 0
 Count fold nodes text zero n = CountAt fold nodes text zero n
 Count fold nodes text (suc o) n =
     (before here : ℕ) × Count fold nodes text o before × CountAt fold nodes text (suc o) here × (n ≡ before + here)

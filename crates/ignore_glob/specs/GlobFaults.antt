@@ -2,7 +2,8 @@
 use Rattle.std.specs.Prelude.{ℕ, codes}
 use Rattle.ignore_base.specs.Text.{Bytes}
 use Rattle.ignore_glob.specs.declared.glob.fault.GlobFault.{GlobFault}
-use Rattle.ignore_glob.specs.declared.glob.fault.GlobFault.TheVariants.{UnclosedClass, InvalidRange, UnopenedAlternates, UnclosedAlternates, DanglingEscape, TooDeep}
+use Rattle.ignore_glob.specs.declared.glob.fault.GlobFault.TheVariants.{UnclosedClass, InvalidRange, UnopenedAlternates, UnclosedAlternates}
+use Rattle.ignore_glob.specs.declared.glob.fault.GlobFault.TheVariants.{DanglingEscape, TooDeep}
 use Rattle.ignore_glob.specs.declared.glob.fault.PatternError.{PatternError}
 use Rattle.ignore_glob.specs.declared.glob.fault.PatternError.TheVariants as Why
 

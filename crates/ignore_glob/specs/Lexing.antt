@@ -1,11 +1,13 @@
 -- Lexing a glob: its lexemes from the left, or the leftmost error. Row has the meaning of lexemes.
 -- 42 `*`  63 `?`  92 `\`  91 `[`  93 `]`  33 `!`  94 `^`  45 `-`  123 `{`  44 `,`  125 `}`
-use Rattle.std.specs.Prelude.{◌≡◌, ◌≢◌, ◌<◌, ◌≤◌, ℕ, zero, suc, Bool, true, false, ◌&&◌, ◌||◌, ◌==◌, if◌then◌else◌, nat_le, List, [], ◌∷◌, ◌++◌, map, replicate, Result, Ok, Err}
+use Rattle.std.specs.Prelude.{◌≡◌, ◌≢◌, ◌<◌, ◌≤◌, ℕ, zero, suc, Bool, true, false, ◌&&◌, ◌||◌, ◌==◌, if◌then◌else◌, nat_le, List, [], ◌∷◌}
+use Rattle.std.specs.Prelude.{◌++◌, map, replicate, Result, Ok, Err}
 use Rattle.std.specs.List.{AllByRecursion, list_all}
 use Rattle.ignore_base.specs.Text.{Chars}
 use Rattle.ignore_glob.specs.declared.glob.options.Options.{Options}
 use Rattle.ignore_glob.specs.declared.glob.fault.GlobFault.{GlobFault}
-use Rattle.ignore_glob.specs.declared.glob.fault.GlobFault.TheVariants.{UnclosedClass, InvalidRange, UnopenedAlternates, UnclosedAlternates, DanglingEscape, TooDeep}
+use Rattle.ignore_glob.specs.declared.glob.fault.GlobFault.TheVariants.{UnclosedClass, InvalidRange, UnopenedAlternates, UnclosedAlternates}
+use Rattle.ignore_glob.specs.declared.glob.fault.GlobFault.TheVariants.{DanglingEscape, TooDeep}
 
 -- one lexeme
 pub data Lexeme : Type 0 where
@@ -35,7 +37,7 @@ is_special d c = c == 63 || c == 42 || c == 92 || c == 91 || c == 123 || c == 12
 
 -- the text doesn't begin with a star
 abbrev pub NoStarFirst : Chars → Type 0
-NoStarFirst text = (more : List ℕ) → text ≡ 42 ∷ more → ⊥
+NoStarFirst text = (more : Chars) → text ≡ 42 ∷ more → ⊥
 
 -- one `!` or `^` after the `[` negates: `[!a]` and `[^a]`, and `[!!]` matches all but `!`
 abbrev pub is_negated : Chars → Bool
@@ -51,7 +53,7 @@ after_sign (c ∷ cs) = if c == 33 || c == 94 then cs else c ∷ cs
 -- class: `[]a]` has the body `]a`.
 abbrev pub Closes : Chars → Chars → Chars → Type 0
 Closes text body rest =
-    (first : ℕ) × (more : List ℕ) × (body ≡ first ∷ more) × AllByRecursion (λ c. c ≢ 93) more × (text ≡ first ∷ (more ++ 93 ∷ rest))
+    (first : ℕ) × (more : Chars) × (body ≡ first ∷ more) × AllByRecursion (λ c. c ≢ 93) more × (text ≡ first ∷ (more ++ 93 ∷ rest))
 
 -- the text of the ends of a range: a `-` and a character for each, so `-b-d` for b and d
 abbrev pub turns : Chars → Chars
@@ -60,13 +62,13 @@ turns (e ∷ ends) = 45 ∷ e ∷ turns ends
 
 -- the text doesn't begin with a `-` and a further character
 abbrev pub NoTurn : Chars → Type 0
-NoTurn text = (e : ℕ) (more : List ℕ) → text ≡ 45 ∷ e ∷ more → ⊥
+NoTurn text = (e : ℕ) (more : Chars) → text ≡ 45 ∷ e ∷ more → ⊥
 
 -- The body of a class is a row of items: a character, and all ends that follow it.
 -- `a-c-ex` is the item a with the ends c and e, and the item x; `a-` is two items.
 abbrev pub Items : Chars → List (ℕ × Chars) → Type 0
 Items body [] = body ≡ []
-Items body (item ∷ items) = (rest : List ℕ) × (body ≡ item.0 ∷ (turns item.1 ++ rest)) × NoTurn rest × Items rest items
+Items body (item ∷ items) = (rest : Chars) × (body ≡ item.0 ∷ (turns item.1 ++ rest)) × NoTurn rest × Items rest items
 
 -- no end is below the first character of its item: `a-c-b` is in order, `c-d-a` is not
 abbrev pub are_in_order : List (ℕ × Chars) → Bool

@@ -3,19 +3,17 @@ use Rattle.std.specs.Prelude.{◌≡◌, ◌≢◌, ◌⊎◌, ℕ, Bool, true, 
 use Rattle.std.specs.List.{list_any}
 use Rattle.std.specs.Char.{is_ascii_lowercase, to_ascii_uppercase, to_ascii_lowercase}
 use Rattle.ignore_base.specs.Text.{Chars}
-use Rattle.ignore_glob.specs.Glob.{Token, literal, any, star, start, middle, end, class, alternates, Tokens, done, then, Branches, no_branch, branch}
-
--- the character `/`
-abbrev pub slash : ℕ
-slash = 47
+pub use Rattle.ignore_base.specs.Text.{slash}
+use Rattle.ignore_glob.specs.Glob.{Token, literal, any, star, start, middle, end, class, alternates, Tokens, done, then, Branches}
+use Rattle.ignore_glob.specs.Glob.{no_branch, branch}
 
 -- the text begins with a slash
 abbrev pub BeginsWithSlash : Chars → Type 0
-BeginsWithSlash w = (b : List ℕ) × (w ≡ slash ∷ b)
+BeginsWithSlash w = (b : Chars) × (w ≡ slash ∷ b)
 
 -- the text ends with a slash
 abbrev pub EndsWithSlash : Chars → Type 0
-EndsWithSlash w = (a : List ℕ) × (w ≡ a ++ slash ∷ [])
+EndsWithSlash w = (a : Chars) × (w ≡ a ++ slash ∷ [])
 
 -- the other ASCII case of a letter, and any other character itself: a for A, é for é
 abbrev pub other_case : ℕ → ℕ
@@ -56,7 +54,7 @@ abbrev mutual
 
   pub tokens_match : Bool → Tokens → Chars → Type 0
   tokens_match fold done w = w ≡ []
-  tokens_match fold (then t ts) w = (a b : List ℕ) × (w ≡ a ++ b) × token_matches fold t a × tokens_match fold ts b
+  tokens_match fold (then t ts) w = (a b : Chars) × (w ≡ a ++ b) × token_matches fold t a × tokens_match fold ts b
 
   pub branch_matches : Bool → Branches → Chars → Type 0
   branch_matches fold no_branch w = ⊥

@@ -1,8 +1,10 @@
 -- The nodes of tokens as a whole list, and the nodes that the program's nodes stand for.
 use Rattle.std.specs.Prelude.{◌≡◌, ◌+◌, ℕ, zero, suc, Bool, true, false, List, [], ◌∷◌, ◌++◌, map, refl, cond}
 use Rattle.std.specs.Coded.{Coded, code_by, coded×, coded_ℕ, coded_bool, coded_list}
-use Rattle.ignore_glob.specs.Glob.{Token, literal, any, star, start, middle, end, class, alternates, Tokens, done, then, Branches, no_branch, branch}
-use Rattle.ignore_glob.specs.Nodes.{Node, literal_at, any_at, star_at, start_at, middle_at, end_at, until_slash, until_end, class_at, fork_at, token_width, width, entry, fork}
+use Rattle.ignore_glob.specs.Glob.{Token, literal, any, star, start, middle, end, class, alternates, Tokens, done, then, Branches}
+use Rattle.ignore_glob.specs.Glob.{no_branch, branch}
+use Rattle.ignore_glob.specs.Nodes.{Node, literal_at, any_at, star_at, start_at, middle_at, end_at, until_slash, until_end, class_at}
+use Rattle.ignore_glob.specs.Nodes.{fork_at, token_width, width, entry, fork}
 use Rattle.ignore_glob.specs.declared.glob.node.Node.{Node as CodeNode}
 use Rattle.ignore_glob.specs.declared.glob.node.Node.TheVariants as Code
 
@@ -58,7 +60,7 @@ node_view (Code.Fork firsts) = fork_at firsts.items
 abbrev pub nodes_view : List CodeNode → List Node
 nodes_view = map node_view
 
--- proofs tell two nodes apart by their kind and their parts
+-- proofs distinguish two nodes by their kind and their parts
 abbrev pub Parts : Type 0
 Parts = ℕ × (ℕ × (ℕ × (Bool × (List (ℕ × ℕ) × List ℕ))))
 

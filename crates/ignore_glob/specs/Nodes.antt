@@ -1,7 +1,9 @@
 -- The nodes of tokens: a list in which each position is a number, with what stands there and where
 -- it leads. Marks in their plain form, on the tokens themselves, stand in Positions.
 use Rattle.std.specs.Prelude.{◌≡◌, ◌≢◌, ◌+◌, ◌⊎◌, ℕ, zero, suc, Bool, List, [], ◌∷◌, length, Some, slice_get, Contains}
-use Rattle.ignore_glob.specs.Glob.{Token, literal, any, star, start, middle, end, class, alternates, Tokens, done, then, Branches, no_branch, branch}
+use Rattle.ignore_base.specs.Text.{Chars}
+use Rattle.ignore_glob.specs.Glob.{Token, literal, any, star, start, middle, end, class, alternates, Tokens, done, then, Branches}
+use Rattle.ignore_glob.specs.Glob.{no_branch, branch}
 use Rattle.ignore_glob.specs.Matches.{slash, IsCaseOf, IsMember}
 
 -- what stands at a position, with the position that comes next
@@ -121,7 +123,7 @@ abbrev pub SteppedTo : Bool → List Node → (ℕ → Type 0) → ℕ → ℕ �
 SteppedTo fold nodes from c q = (p : ℕ) × (node : Node) × from p × (slice_get nodes p ≡ Some node) × StepsBy fold node c p q
 
 -- The position is marked at this offset of the text, offset by offset from the first position at 0.
-abbrev pub Marked : Bool → List Node → List ℕ → ℕ → ℕ → Type 0
+abbrev pub Marked : Bool → List Node → Chars → ℕ → ℕ → Type 0
 Marked fold nodes text zero = Reached nodes (λ q. q ≡ 0)
 Marked fold nodes text (suc o) =
     Reached nodes (λ q. (c : ℕ) × (slice_get text o ≡ Some c) × SteppedTo fold nodes (Marked fold nodes text o) c q)

@@ -1,6 +1,7 @@
 -- Steps: what inner functions of the parser promise to one another.
 use Rattle.std.specs.Prelude.{◌≡◌, ◌≤◌, ℕ, zero, suc, List, [], ◌∷◌, ◌++◌, length, Vec}
 use Rattle.std.specs.declared.alloc.Global.{Global}
+use Rattle.ignore_base.specs.Text.{Chars}
 use Rattle.ignore_glob.specs.Lexing.{Lexeme, opening, comma, closing}
 use Rattle.ignore_glob.specs.Glob.{Tokens, then, Branches, branch}
 use Rattle.ignore_glob.specs.View.{view, tokens_view}
@@ -28,5 +29,5 @@ put_branches [] cs = cs
 put_branches (b ∷ bs) cs = branch (tokens_view b.items) (put_branches bs cs)
 
 -- at least n characters follow each `]` of the text
-abbrev pub ClosesBefore : ℕ → List ℕ → Type 0
-ClosesBefore n text = (m r : List ℕ) → text ≡ m ++ 93 ∷ r → n ≤ length r
+abbrev pub ClosesBefore : ℕ → Chars → Type 0
+ClosesBefore n text = (m r : Chars) → text ≡ m ++ 93 ∷ r → n ≤ length r

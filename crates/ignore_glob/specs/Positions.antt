@@ -1,7 +1,9 @@
 -- Positions of a glob, the steps between them, and the marks that a text leaves: the states,
 -- transitions and reachable sets of its automaton, on the tokens themselves.
 use Rattle.std.specs.Prelude.{◌≡◌, ◌≢◌, ◌↔◌, ℕ, suc, Bool, List, [], ◌∷◌, ◌++◌, length, Some, slice_get, Contains}
-use Rattle.ignore_glob.specs.Glob.{Token, literal, any, star, start, middle, end, class, alternates, Tokens, done, then, Branches, no_branch, branch}
+use Rattle.ignore_base.specs.Text.{Chars}
+use Rattle.ignore_glob.specs.Glob.{Token, literal, any, star, start, middle, end, class, alternates, Tokens, done, then, Branches}
+use Rattle.ignore_glob.specs.Glob.{no_branch, branch}
 use Rattle.ignore_glob.specs.Matches.{slash, IsCaseOf, IsMember}
 
 -- the place of a token: the first; the one after a place; the first in a numbered branch of the
@@ -95,7 +97,7 @@ pub data CharacterStep (fold : Bool) (ts : Tokens) (c : ℕ) : Position → Posi
 -- The marks of a text: the least set of pairs of a position and an offset in characters that has
 -- the first position at offset 0 and is closed under the steps, those by no character and those by
 -- the character at the offset.
-pub data IsMarked (fold : Bool) (ts : Tokens) (text : List ℕ) : Position → ℕ → Type 0 where
+pub data IsMarked (fold : Bool) (ts : Tokens) (text : Chars) : Position → ℕ → Type 0 where
   begins : IsMarked fold ts text (entrance ts first the_end) 0
   by_nothing : (p q : Position) (o : ℕ) → IsMarked fold ts text p o → EmptyStep ts p q → IsMarked fold ts text q o
   by_character : (p q : Position) (o c : ℕ) → IsMarked fold ts text p o → slice_get text o ≡ Some c →
@@ -108,7 +110,7 @@ HasNoDuplicates (x ∷ xs) = (Contains xs x → ⊥) × HasNoDuplicates xs
 
 -- n is the number of marks: the length of a list that has each of them, nothing else, and nothing
 -- twice
-pub record CountsMarks (fold : Bool) (ts : Tokens) (text : List ℕ) (n : ℕ) : Type 0 where
+pub record CountsMarks (fold : Bool) (ts : Tokens) (text : Chars) (n : ℕ) : Type 0 where
   pub marks : List (Position × ℕ)
   pub each : (p : Position) (o : ℕ) → Contains marks (p, o) ↔ IsMarked fold ts text p o
   pub once : HasNoDuplicates marks

@@ -1,7 +1,8 @@
 -- Views: the tokens that the program's tokens stand for.
 use Rattle.std.specs.Prelude.{List, [], ◌∷◌, map, Vec}
 use Rattle.std.specs.declared.alloc.Global.{Global}
-use Rattle.ignore_glob.specs.Glob.{Token, literal, any, star, start, middle, end, class, alternates, Tokens, done, then, Branches, no_branch, branch}
+use Rattle.ignore_glob.specs.Glob.{Token, literal, any, star, start, middle, end, class, alternates, Tokens, done, then, Branches}
+use Rattle.ignore_glob.specs.Glob.{no_branch, branch}
 use Rattle.ignore_glob.specs.declared.glob.token.Token.{Token as CodeToken, fold-Token}
 use Rattle.ignore_glob.specs.declared.glob.token.Token.TheOpen.{Token-F}
 

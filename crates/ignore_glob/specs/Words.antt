@@ -1,12 +1,14 @@
 -- Sets of positions as machine words with a bit for each position, for short globs without braces:
 -- each node of such a glob leads to the position after it, or after its inside.
-use Rattle.std.specs.Prelude.{◌≡◌, ◌≢◌, ◌+◌, ℕ, suc, Bool, true, false, List, [], ◌∷◌, length, map, Option, None, Some, slice_get, cond, nat_le, nat_eq, ◌&&◌, refl}
+use Rattle.std.specs.Prelude.{◌≡◌, ◌≢◌, ◌+◌, ℕ, suc, Bool, true, false, List, [], ◌∷◌, length, map, Option, None, Some, slice_get, cond}
+use Rattle.std.specs.Prelude.{nat_le, nat_eq, ◌&&◌, refl}
 use Rattle.std.specs.Coded.{Coded, code_by, coded×, coded_ℕ}
 use Rattle.std.specs.Int.{bit_at}
 use Rattle.std.specs.Simd.Lanes.{mask_l}
 use Rattle.ignore_glob.specs.Glob.{Tokens, done, then, alternates}
 use Rattle.ignore_glob.specs.Matches.{slash, IsCaseOf, IsMember}
-use Rattle.ignore_glob.specs.Nodes.{Node, literal_at, any_at, star_at, start_at, middle_at, end_at, until_slash, until_end, class_at, fork_at}
+use Rattle.ignore_glob.specs.Nodes.{Node, literal_at, any_at, star_at, start_at, middle_at, end_at, until_slash, until_end, class_at}
+use Rattle.ignore_glob.specs.Nodes.{fork_at}
 use Rattle.ignore_glob.specs.declared.glob.word.Masks.{Masks}
 
 -- the position is in the set
@@ -112,7 +114,7 @@ pub data Closed (m : Masks) (word : ℕ) : ℕ → Type 0 where
 abbrev pub TestsAt : Bool → List Node → ℕ → ℕ → ℕ → Type 0
 TestsAt fold nodes word c p = (node : Node) × Has word p × (slice_get nodes p ≡ Some node) × Tests fold node c
 
--- code: proofs tell masks apart by their seven numbers
+-- code: proofs distinguish masks by their seven numbers
 abbrev pub masks_code : Coded Masks
 masks_code =
     code_by (ℕ × (ℕ × (ℕ × (ℕ × (ℕ × (ℕ × ℕ))))))

@@ -1,5 +1,6 @@
 -- A list of rules answers by its last rule that applies.
-use Rattle.std.proofs.Common.{◌≡◌, ◌⊎◌, ℕ, zero, suc, ◌+◌, ◌<◌, Bool, true, false, not, ◌||◌, List, [], ◌∷◌, length, get_or, drop, drop-cons, add-one, Decides, refl, sym, ap, ◌∙◌, inl, inr, cond, arith}
+use Rattle.std.proofs.Common.{◌≡◌, ◌⊎◌, ℕ, zero, suc, ◌+◌, ◌<◌, Bool, true, false, not, ◌||◌, List, [], ◌∷◌, length, get_or, drop}
+use Rattle.std.proofs.Common.{drop-cons, add-one, Decides, refl, sym, ap, ◌∙◌, inl, inr, cond, arith}
 use Rattle.std.proofs.lemmas.Bool.{false≢true}
 use Rattle.std.proofs.lemmas.Bool.Decides.{Decides-and, not_from_Decides}
 use Rattle.std.proofs.lemmas.List.Elements.{All-cons, All-nil}

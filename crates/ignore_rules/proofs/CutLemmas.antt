@@ -1,5 +1,6 @@
 -- Bytes cut into lines, a line at a time.
-use Rattle.std.proofs.Common.{◌≡◌, ℕ, zero, suc, ◌+◌, ◌<◌, Bool, true, false, eqb, List, [], ◌∷◌, ◌++◌, length, take, drop, map, get_or, Option, Some, None, Result, Ok, Err, refl, sym, ap, subst, ◌∙◌, cond, arith, add-one}
+use Rattle.std.proofs.Common.{◌≡◌, ℕ, zero, suc, ◌+◌, ◌<◌, Bool, true, false, eqb, List, [], ◌∷◌, ◌++◌, length, take, drop, map, get_or}
+use Rattle.std.proofs.Common.{Option, Some, None, Result, Ok, Err, refl, sym, ap, subst, ◌∙◌, cond, arith, add-one}
 use Rattle.std.specs.List.{slice_split, onto_first}
 use Rattle.std.specs.Str.{IsUtf8}
 use Rattle.std.proofs.lemmas.Str.{IsUtf8-from_is_utf8, is_utf8-from_IsUtf8}
@@ -63,11 +64,11 @@ pub ended_line : (bytes line rest : List ℕ) (fault : Option Fault)
     → lines_read bytes fault ≡ decoded (strip_carriage_return line) ∷ lines_read rest fault
 ended_line bytes line rest fault e =
     let first = first_segment rest in
-    let behind : lines_read_of fault (first.0 ∷ first.1)
+    let further : lines_read_of fault (first.0 ∷ first.1)
     ≡ lines_read rest fault = sym (lines_read-segments rest fault ∙ ap (lines_read_of fault) first.2) in
     lines_read-segments bytes fault
     ∙ (ap (lines_read_of fault) (e ∙ ap (λ segments. line ∷ segments) first.2)
-    ∙ (line_before line first.0 first.1 fault ∙ ap (λ l. decoded (strip_carriage_return line) ∷ l) behind))
+    ∙ (line_before line first.0 first.1 fault ∙ ap (λ l. decoded (strip_carriage_return line) ∷ l) further))
 
 -- a byte that is the first of its kind is the end of the first line
 pub line_before_newline : (bytes : List ℕ) (k : ℕ) (fault : Option Fault) → k < length bytes → Passes (is_byte 10) bytes k

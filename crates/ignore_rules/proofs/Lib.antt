@@ -2,7 +2,6 @@ pub mod AnswerLemmas
 pub mod BuilderLemmas
 pub mod CutLemmas
 pub mod FileLemmas
-pub mod FolderLemmas
 pub mod MarkLemmas
 pub mod IndexLemmas
 pub mod OffsetLemmas

@@ -1,5 +1,6 @@
 -- Prefixes, suffixes and slashes of a text, as the calls that search for them report them.
-use Rattle.std.proofs.Common.{◌≡◌, ◌-◌, ℕ, true, false, List, length, take, drop, Option, Some, None, MatchOption, Bor, sym, ◌∙◌, ap, subst, arith, cond}
+use Rattle.std.proofs.Common.{◌≡◌, ◌-◌, ℕ, true, false, List, length, take, drop, Option, Some, None, MatchOption, Bor, sym, ◌∙◌, ap, subst}
+use Rattle.std.proofs.Common.{arith, cond}
 use Rattle.std.specs.Option.{unwrap_or}
 use Rattle.std.specs.Str.{IsCharBoundary}
 use Rattle.std.specs.Str.Pattern.{FindsTextPrefix, FindsTextSuffix, StripsPrefix, StripsSuffix}

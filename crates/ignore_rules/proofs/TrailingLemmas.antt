@@ -1,5 +1,6 @@
 -- The spaces at the end of a line: git's rule, which reads the line from its end, as two counts.
-use Rattle.std.proofs.Common.{◌≡◌, ◌⊎◌, ℕ, zero, suc, ◌+◌, ◌-◌, ◌%◌, ◌<◌, ◌≤◌, Bool, true, false, not, ◌&&◌, eqb, List, [], ◌∷◌, ◌++◌, length, reverse, take, drop, get_or, cond, refl, sym, ap, ◌∙◌, inl, inr, eq-eqb, arith, length-drop}
+use Rattle.std.proofs.Common.{◌≡◌, ◌⊎◌, ℕ, zero, suc, ◌+◌, ◌-◌, ◌%◌, ◌<◌, ◌≤◌, Bool, true, false, not, ◌&&◌, eqb, List, [], ◌∷◌, ◌++◌}
+use Rattle.std.proofs.Common.{length, reverse, take, drop, get_or, cond, refl, sym, ap, ◌∙◌, inl, inr, eq-eqb, arith, length-drop}
 use Rattle.std.specs.List.{prefix_len, suffix_len}
 use Rattle.std.proofs.lemmas.Bool.{false≢true, eqb-true}
 use Rattle.std.proofs.lemmas.List.{get_or-reverse, reverse-reverse, reverse-append, length-reverse, take-append-drop}

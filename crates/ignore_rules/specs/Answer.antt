@@ -1,7 +1,7 @@
 -- The answer of a list of rules.
-use Rattle.std.specs.Prelude.{◌≡◌, ◌⊎◌, ℕ, Bool, true, false, not, ◌&&◌, ◌||◌, List, [], ◌∷◌, ◌++◌, drop, All, if◌then◌else◌}
+use Rattle.std.specs.Prelude.{◌≡◌, ◌⊎◌, Bool, true, false, not, ◌&&◌, ◌||◌, List, [], ◌∷◌, ◌++◌, drop, All, if◌then◌else◌}
 use Rattle.std.specs.Str.{chars}
-use Rattle.ignore_base.specs.Text.{Chars, Path}
+use Rattle.ignore_base.specs.Text.{Chars, Path, Bytes}
 use Rattle.ignore_base.specs.declared.match_result.Match.{Match}
 use Rattle.ignore_base.specs.declared.match_result.Match.TheVariants.{None, Ignore, Whitelist}
 use Rattle.ignore_glob.specs.DoesMatch.{does_match}
@@ -35,7 +35,7 @@ answer root rules path is_dir = list_answer rules (chars (strip_of root path)) i
 -- directory is that of its rules for what follows the offset of the directory
 abbrev pub AnswersByOffset : Type 0
 AnswersByOffset =
-    (root : List ℕ) (names : List (List ℕ)) (name : List ℕ) (more : List (List ℕ)) (builder : Building) (is_dir : Bool)
+    (root : Path) (names : List Bytes) (name : Bytes) (more : List Bytes) (builder : Building) (is_dir : Bool)
     → IsCleanRoot root → All IsName names → IsName name → All IsName more → builder.root ≡ trim_of (directory_of root names)
     → let path = join_of root (joined (names ++ (name ∷ more))) in
     answer (built builder).root (built builder).rules path is_dir
@@ -63,4 +63,4 @@ IsAnswer rules text is_dir (Whitelist rule) = IsLast rules text is_dir rule × (
 
 -- for all rules, texts and kinds, the answer is that of the last rule that applies
 abbrev pub AnswersByTheLast : Type 0
-AnswersByTheLast = (rules : List Rule) (text : List ℕ) (is_dir : Bool) → IsAnswer rules text is_dir (list_answer rules text is_dir)
+AnswersByTheLast = (rules : List Rule) (text : Chars) (is_dir : Bool) → IsAnswer rules text is_dir (list_answer rules text is_dir)

@@ -1,6 +1,7 @@
 -- Parsing a line of a gitignore file to its parts, before its glob is parsed. A text is a list of
 -- bytes.
-use Rattle.std.specs.Prelude.{◌==◌, ◌-◌, Bool, false, not, ◌&&◌, ◌||◌, if◌then◌else◌, [], ◌∷◌, ◌++◌, length, take, drop, reverse, codes, nat_eq, Option, None, Some}
+use Rattle.std.specs.Prelude.{◌==◌, ◌-◌, Bool, false, not, ◌&&◌, ◌||◌, if◌then◌else◌, [], ◌∷◌, ◌++◌, length, take, drop, reverse, codes}
+use Rattle.std.specs.Prelude.{nat_eq, Option, None, Some}
 use Rattle.std.specs.List.{starts_with, ends_with}
 use Rattle.std.specs.Str.{trim_end, bytes_eq}
 use Rattle.ignore_base.specs.Text.{Bytes}

@@ -1,26 +1,20 @@
 -- Matchers that are built from files: from one file, and from the global file.
-use Rattle.std.specs.Prelude.{◌≡◌, ◌⊎◌, ◌==◌, ◌&&◌, ℕ, Bool, true, false, List, length, codes, Option, None, Some, Result, Ok, Err, if◌then◌else◌}
+use Rattle.std.specs.Prelude.{◌≡◌, ◌⊎◌, Bool, true, false, Option, None, Some, Result, Ok, Err, if◌then◌else◌}
 use Rattle.ignore_base.specs.Text.{Path}
 use Rattle.ignore_base.specs.declared.fault.Fault.{Fault}
 use Rattle.ignore_base.specs.declared.fault.Fault.TheVariants.{NoCurrentDir}
 use Rattle.ignore_base.specs.Errors.{without_fault}
-use Rattle.ignore_base.specs.Paths.{is_absolute, joined, components}
+use Rattle.ignore_base.specs.Paths.{folder_of}
 use Rattle.ignore_base.specs.Problem.{Problem, io}
 use Rattle.ignore_files.specs.declared.env.Env.{Env}
 use Rattle.ignore_files.specs.declared.types.Contents.{Contents}
 use Rattle.ignore_files.specs.declared.types.Metadata.{Metadata}
 use Rattle.ignore_files.specs.declared.types.Refusal.{Refusal}
 use Rattle.ignore_files.specs.Kinds.{is_file}
-use Rattle.ignore_files.specs.Memory.{but_last}
 use Rattle.ignore_files.specs.Tree.{Tree}
 use Rattle.ignore_rules.specs.Rules.{Building, Ruleset, begun, built, empty}
 use Rattle.ignore_excludes.specs.ExcludesSearch.{IsExcludesPath}
 use Rattle.ignore_rules.specs.RuleFile.{AddsFile, AddsAnswer}
-
--- the directory of a path: what precedes its last slash. It is `/` for a path directly below `/`,
--- and empty for a path without a slash
-abbrev pub folder_of : Path → Path
-folder_of path = let folder = joined (but_last (components path)) in if is_absolute path && length folder == 0 then codes "/" else folder
 
 -- the matcher of the builder after the file was added, and the problem that is reported
 abbrev pub BuildsFile : Tree → Path → Building → Ruleset → Option Problem → Type 0
@@ -38,7 +32,7 @@ BuildsAnswer path answer builder matcher reported =
 abbrev pub BuildsAnyAnswer : (Path → Result Contents Refusal → Type 0) → Building → Ruleset → Option Problem → Type 0
 BuildsAnyAnswer Gives builder matcher reported =
     ((matcher ≡ empty) × (reported ≡ None))
-    ⊎ ((path : List ℕ) × (answer : Result Contents Refusal) × Gives path answer × BuildsAnswer path answer builder matcher reported)
+    ⊎ ((path : Path) × (answer : Result Contents Refusal) × Gives path answer × BuildsAnswer path answer builder matcher reported)
 
 -- the matcher of one file, relative to the directory of the file
 abbrev pub IsMatcherOf : Tree → Path → Ruleset → Option Problem → Type 0
@@ -62,7 +56,7 @@ BuildsWith tree (Some path) builder matcher reported = BuildsFile tree path buil
 -- the same for the global file that git's configuration names
 abbrev pub BuildsGlobal : Tree → Env → Building → Ruleset → Option Problem → Type 0
 BuildsGlobal tree env builder matcher reported =
-    (found : Option (List ℕ)) × IsExcludesPath tree env found × BuildsWith tree (global_file tree found) builder matcher reported
+    (found : Option Path) × IsExcludesPath tree env found × BuildsWith tree (global_file tree found) builder matcher reported
 
 -- the matcher of the global file, relative to the working directory, if that is known
 abbrev pub IsGlobalIn : Tree → Env → Option Path → Ruleset → Option Problem → Type 0

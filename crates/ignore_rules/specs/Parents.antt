@@ -1,7 +1,7 @@
 -- The parents of a path, and the answer of rules for a path together with its parents.
 use Rattle.std.specs.Prelude.{ℕ, ◌==◌, Bool, true, not, ◌||◌, List, [], ◌∷◌, length, map, reverse, if◌then◌else◌}
 use Rattle.std.specs.Str.{chars}
-use Rattle.ignore_base.specs.Text.{Chars, Path}
+use Rattle.ignore_base.specs.Text.{Chars, Path, is_slash}
 use Rattle.ignore_base.specs.declared.match_result.Match.{Match}
 use Rattle.ignore_base.specs.declared.match_result.Match.TheVariants.{None}
 use Rattle.ignore_base.specs.Match.{match_or}
@@ -12,7 +12,7 @@ use Rattle.ignore_rules.specs.Answer.{list_answer}
 -- the prefixes of a path with first character c, given those of the rest
 abbrev pub slash_prefixes_from : ℕ → List Chars → List Chars
 slash_prefixes_from c slash_prefixes =
-    if c == 47 then [] ∷ map (λ prefix. c ∷ prefix) slash_prefixes else map (λ prefix. c ∷ prefix) slash_prefixes
+    if is_slash c then [] ∷ map (λ prefix. c ∷ prefix) slash_prefixes else map (λ prefix. c ∷ prefix) slash_prefixes
 
 -- the prefixes of a path before each of its slashes, the shortest first
 abbrev pub slash_prefixes : Chars → List Chars

@@ -1,5 +1,6 @@
 -- Rules, matchers and builders, and the rule or problem of a line that is added to a builder.
-use Rattle.std.specs.Prelude.{◌≡◌, ℕ, Bool, true, false, List, [], ◌∷◌, ◌++◌, Option, None, Some, not, count_by, if◌then◌else◌, length, ◌==◌}
+use Rattle.std.specs.Prelude.{◌≡◌, ℕ, Bool, true, false, List, [], ◌∷◌, ◌++◌, Option, None, Some, not, count_by, if◌then◌else◌, length}
+use Rattle.std.specs.Prelude.{◌==◌}
 use Rattle.std.specs.Str.{chars}
 use Rattle.ignore_base.specs.Text.{Bytes, Path}
 use Rattle.ignore_glob.specs.declared.glob.options.Options.{Options}

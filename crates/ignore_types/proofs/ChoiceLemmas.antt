@@ -1,5 +1,6 @@
 -- Lists of choices and globs, one at a time.
-use Rattle.std.proofs.Common.{◌≡◌, ℕ, zero, suc, ◌+◌, ◌<◌, List, [], ◌∷◌, ◌++◌, length, get_or, take, drop, map, sym, ap, inl, inr, arith, add-one}
+use Rattle.std.proofs.Common.{◌≡◌, ℕ, zero, suc, ◌+◌, ◌<◌, List, [], ◌∷◌, ◌++◌, length, get_or, take, drop, map, sym, ap, inl, inr, arith}
+use Rattle.std.proofs.Common.{add-one}
 use Rattle.std.specs.List.{AllZip}
 
 -- a list is what stands before an element, the element and what stands after it

@@ -1,5 +1,6 @@
 -- Choices answer by the last one that matches.
-use Rattle.std.proofs.Common.{◌≡◌, ℕ, zero, suc, ◌+◌, ◌<◌, Bool, true, false, ◌||◌, List, [], ◌∷◌, length, get_or, map, drop, drop-cons, add-one, All, Decides, Option, refl, sym, ap, subst, ◌∙◌, inl, inr, ◌⊎◌, cond, arith}
+use Rattle.std.proofs.Common.{◌≡◌, ℕ, zero, suc, ◌+◌, ◌<◌, Bool, true, false, ◌||◌, List, [], ◌∷◌, length, get_or, map, drop, drop-cons}
+use Rattle.std.proofs.Common.{add-one, All, Decides, Option, refl, sym, ap, subst, ◌∙◌, inl, inr, ◌⊎◌, cond, arith}
 use Rattle.std.specs.Prelude as option
 use Rattle.std.specs.List.{list_any}
 use Rattle.std.specs.Str.{chars}
@@ -15,7 +16,8 @@ use Rattle.ignore_base.specs.Match.{match_or}
 use Rattle.ignore_glob.specs.Reading.{Reading, Matches}
 use Rattle.ignore_set.specs.Sets.{Member, Applies, IsLastMatch}
 use Rattle.ignore_types.specs.TypeIndex.{name_member}
-use Rattle.ignore_types.specs.TypeMatch.{Chosen, does_choice_match, verdict_of, choice_answer, choices_answer, unmatched, type_answer, SomeMatches, NoneMatches, IsDeciding, IsNameAnswer, AnswersByTheLastChoice}
+use Rattle.ignore_types.specs.TypeMatch.{Chosen, does_choice_match, verdict_of, choice_answer, choices_answer, unmatched, type_answer}
+use Rattle.ignore_types.specs.TypeMatch.{SomeMatches, NoneMatches, IsDeciding, IsNameAnswer, AnswersByTheLastChoice}
 use Rattle.ignore_types.specs.Types.{Definition}
 
 some_one : {A : Type 0} (a b : A) → option.Some a ≡ option.Some b → a ≡ b
@@ -77,7 +79,8 @@ module _ (decides : (reading : Reading) (text : List ℕ) → Decides (does_matc
       → is_some found ≡ list_any (λ r. does_match r name) rs
   some_found name rs option.None none = sym (no_match rs none)
     where
-      no_match : (qs : List Reading) → All (λ m. Applies name false m → ⊥) (map name_member qs) → list_any (λ r. does_match r name) qs ≡ false
+      no_match : (qs : List Reading) → All (λ m. Applies name false m → ⊥) (map name_member qs)
+          → list_any (λ r. does_match r name) qs ≡ false
       no_match [] h = refl
       no_match (r ∷ qs) h =
           or_from (does_match r name) (list_any (λ q. does_match q name) qs)

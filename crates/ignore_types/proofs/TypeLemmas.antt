@@ -1,5 +1,6 @@
 -- What adding, finding and dropping do to types in text order.
-use Rattle.std.proofs.Common.{◌≡◌, ℕ, zero, suc, ◌<◌, ◌≤◌, Bool, true, false, cond, not, List, [], ◌∷◌, ◌++◌, Some, None, Result, Ok, Err, length, get_or, set, take, drop, refl, sym, ap, ◌∙◌, subst, arith, add-one}
+use Rattle.std.proofs.Common.{◌≡◌, ℕ, zero, suc, ◌<◌, ◌≤◌, Bool, true, false, cond, not, List, [], ◌∷◌, ◌++◌, Some, None, Result, Ok, Err}
+use Rattle.std.proofs.Common.{length, get_or, set, take, drop, refl, sym, ap, ◌∙◌, subst, arith, add-one}
 use Rattle.std.specs.Str.{bytes_eq}
 use Rattle.std.specs.List.{AllWithin, AllZip, insert, remove}
 use Rattle.std.proofs.lemmas.List.{take-append-drop}
@@ -11,7 +12,8 @@ use Rattle.std.proofs.lemmas.Slice.Eq.{bytes_eq-Decides}
 use Rattle.std.proofs.lemmas.List.Sorted.{searchable_from_sorted}
 use Rattle.ignore_types.specs.Types.{Definition, text_cmp, AllAfter, IsAscending, definition_of, placed, with_glob, without, IsSortedCopy}
 use Rattle.ignore_types.specs.PlaceSteps.{AllBefore, IsAt, IsGap, IsPlace}
-use Rattle.ignore_types.proofs.TextOrder.{order, same_from_equal, equal_from_same, differ_from_less, differ_from_less_back, greater_from_less, less_from_greater}
+use Rattle.ignore_types.proofs.TextOrder.{order, same_from_equal, equal_from_same, differ_from_less, differ_from_less_back}
+use Rattle.ignore_types.proofs.TextOrder.{greater_from_less, less_from_greater}
 
 -- ---- edits at a place
 

@@ -1,6 +1,7 @@
 -- A path has one answer of types. A draft is built with one list of choices, or is rejected with
 -- one problem; the text of a definition changes a draft in one way, or is rejected.
-use Rattle.std.proofs.Common.{◌≡◌, ◌⊎◌, ℕ, Bool, true, false, List, [], ◌∷◌, ◌++◌, map, Option, Some, None, refl, sym, ap, ◌∙◌, subst, inl, inr}
+use Rattle.std.proofs.Common.{◌≡◌, ◌⊎◌, ℕ, Bool, true, false, List, [], ◌∷◌, ◌++◌, map, Option, Some, None, refl, sym, ap, ◌∙◌, subst, inl}
+use Rattle.std.proofs.Common.{inr}
 use Rattle.std.specs.List.{AllZip}
 use Rattle.std.specs.Str.{chars}
 use Rattle.ignore_glob.specs.Glob.{Tokens}
@@ -126,7 +127,7 @@ FirstBad-one Good Bad xs p q never one h k =
     one_bad Good (Bad p) (Bad q) (p ≡ q) h.before k.before h.bad k.bad h.after k.after h.goods k.goods (never p) (never q) one
     (sym h.split ∙ k.split) h.good k.good h.fails k.fails
 
--- What refuses.
+-- What rejects.
 
 IsGlobProblem-never : (p : Problem) (text : List ℕ) (reading : Reading) → IsReadAs text reading → IsGlobProblem p text → ⊥
 IsGlobProblem-never p text reading h k = never_both plain (chars text) reading.tokens k.0 h.reads k.1

@@ -1,10 +1,11 @@
 -- Adding the rows of a table of default types.
-use Rattle.std.specs.Prelude.{ℕ, List, [], ◌∷◌}
+use Rattle.std.specs.Prelude.{List, [], ◌∷◌}
+use Rattle.ignore_base.specs.Text.{Bytes}
 use Rattle.ignore_types.specs.Types.{Definition, Draft, with_names}
 
 -- a row of the table: some names, and the globs of each
 abbrev pub Row : Type 0
-Row = List (List ℕ) × List (List ℕ)
+Row = List Bytes × List Bytes
 
 -- the definitions with the globs of each row, in turn, for each of its names
 abbrev pub with_rows : List Row → List Definition → List Definition

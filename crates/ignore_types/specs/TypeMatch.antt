@@ -1,5 +1,5 @@
 -- The answer of a matcher of file types for a path.
-use Rattle.std.specs.Prelude.{◌≡◌, ◌⊎◌, ℕ, Bool, true, false, not, List, [], ◌∷◌, ◌++◌, Option, if◌then◌else◌}
+use Rattle.std.specs.Prelude.{◌≡◌, ◌⊎◌, Bool, true, false, not, List, [], ◌∷◌, ◌++◌, Option, if◌then◌else◌}
 use Rattle.std.specs.Prelude as std
 use Rattle.std.specs.List.{list_any}
 use Rattle.std.specs.Str.{chars}
@@ -86,4 +86,4 @@ IsTypeAnswer choices false (std.Some name) m = IsNameAnswer choices (chars name)
 -- for all choices, kinds and names, the answer is that of the last choice that matches
 abbrev pub AnswersByTheLastChoice : Type 0
 AnswersByTheLastChoice =
-    (choices : List Chosen) (is_dir : Bool) (name : Option (List ℕ)) → IsTypeAnswer choices is_dir name (type_answer choices is_dir name)
+    (choices : List Chosen) (is_dir : Bool) (name : Option Bytes) → IsTypeAnswer choices is_dir name (type_answer choices is_dir name)

@@ -1,5 +1,6 @@
 -- File types as plain data: what a builder collects.
-use Rattle.std.specs.Prelude.{◌≡◌, ℕ, Bool, List, [], ◌∷◌, ◌++◌, Option, Some, None, is_some, map, filter, find, not, ◌==◌, ◌&&◌, length, codes, IsPermutation, IsSorted, if◌then◌else◌}
+use Rattle.std.specs.Prelude.{◌≡◌, ℕ, Bool, List, [], ◌∷◌, ◌++◌, Option, Some, None, is_some, map, filter, find, not, ◌==◌, ◌&&◌, length}
+use Rattle.std.specs.Prelude.{codes, IsPermutation, IsSorted, if◌then◌else◌}
 use Rattle.std.specs.List.{slice_split, list_all}
 use Rattle.std.specs.Option.{option_map_or}
 use Rattle.std.specs.Str.{bytes_eq}

@@ -3,7 +3,8 @@
 use Rattle.std.specs.Prelude.{◌≡◌, ◌≢◌, List, [], ◌∷◌, ◌++◌, codes, ⊤}
 use Rattle.std.specs.Str.Lines.{lines}
 use Rattle.ignore_base.specs.Text.{Bytes, Path}
-use Rattle.ignore_base.specs.Problem.{Problem, several, at_line, at_path, at_depth, loop, io, glob, unrecognized, invalid_definition, memory}
+use Rattle.ignore_base.specs.Problem.{Problem, several, at_line, at_path, at_depth, loop, io, glob, unrecognized, invalid_definition}
+use Rattle.ignore_base.specs.Problem.{memory}
 use Rattle.ignore_rules.specs.Rules.{Building, LineOptions, Refuses}
 use Rattle.igwalk.specs.declared.run.Stop.{Stop}
 use Rattle.igwalk.specs.declared.run.Stop.TheVariants.{Usage, Memory, Write, Silence}

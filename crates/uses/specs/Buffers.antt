@@ -1,10 +1,11 @@
 -- What a buffer answers where it stands for a file.
-use Rattle.std.specs.Prelude.{◌≡◌, ℕ, List, None, Result, Ok, Err}
+use Rattle.std.specs.Prelude.{◌≡◌, None, Result, Ok, Err}
+use Rattle.ignore_base.specs.Text.{Bytes}
 use Rattle.ignore_files.specs.declared.types.Contents.{Contents}
 use Rattle.ignore_files.specs.declared.types.Refusal.{Refusal}
 use Rattle.ignore_files.specs.declared.types.Refusal.TheVariants.{Memory}
 
 -- all of the text, or that memory ran out
-abbrev pub IsText : List ℕ → Result Contents Refusal → Type 0
+abbrev pub IsText : Bytes → Result Contents Refusal → Type 0
 IsText text (Ok contents) = contents ≡ record { bytes = text; fault = None }
 IsText text (Err refusal) = refusal ≡ Memory

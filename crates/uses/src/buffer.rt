@@ -1,7 +1,8 @@
 //! An editor: rules that stand in a buffer and not yet in a file. A `Files` of the caller's own.
 ghost use Rattle.std.specs.Prelude.{◌≡◌, IfOk, IfErr, None, Ok, option_map};
 ghost use Rattle.ignore_base.specs.Problem.{problem_of, memory};
-ghost use Rattle.ignore_rules.specs.Matchers.{BuildsAnswer, folder_of};
+ghost use Rattle.ignore_base.specs.Paths.{folder_of};
+ghost use Rattle.ignore_rules.specs.Matchers.{BuildsAnswer};
 ghost use Rattle.ignore_rules.specs.Rules.{begun};
 
 use ignore_base::Error;

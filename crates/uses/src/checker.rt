@@ -5,7 +5,8 @@ ghost use Rattle.ignore_files.specs.declared.types.Refusal.{Refusal};
 ghost use Rattle.ignore_files.specs.Gives.{IsHonest};
 ghost use Rattle.ignore_files.specs.Tree.{Tree};
 ghost use Rattle.ignore_base.specs.Problem.{problem_of, memory, Problem};
-ghost use Rattle.ignore_rules.specs.Matchers.{BuildsAnswer, IsMatcherOf, folder_of};
+ghost use Rattle.ignore_base.specs.Paths.{folder_of};
+ghost use Rattle.ignore_rules.specs.Matchers.{BuildsAnswer, IsMatcherOf};
 ghost use Rattle.ignore_rules.specs.Rules.{Ruleset, begun};
 ghost use Rattle.uses.specs.Questions.{ignores};
 

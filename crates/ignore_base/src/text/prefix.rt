@@ -1,7 +1,8 @@
 //! Stripping a root from the paths below it.
 ghost use Rattle.std.specs.Prelude.{◌≡◌};
 ghost use Rattle.std.specs.Option.{option_copied};
-ghost use Rattle.ignore_base.specs.Paths.{strip_prefix_of, strip_of, trim_of, without_slash, is_absolute, is_dot, at_bound, has_slash, offset_below};
+ghost use Rattle.ignore_base.specs.Paths.{strip_prefix_of, strip_of, trim_of, without_slash, is_absolute, is_dot, at_bound, has_slash};
+ghost use Rattle.ignore_base.specs.Paths.{offset_below};
 
 use memchr::memchr;
 

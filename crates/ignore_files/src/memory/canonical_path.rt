@@ -1,13 +1,13 @@
 //! The canonical paths of nodes: from `/`, by names alone.
-ghost use Rattle.std.specs.Prelude.{◌≡◌, ◌∷◌, [], List, count_by};
-ghost use Rattle.ignore_base.specs.Paths.{components};
-ghost use Rattle.ignore_files.specs.Memory.{is_canonical_path, child, place_of, any_kind, is_file, is_directory, sought, folder_sought, parent_for, below, but_last};
+ghost use Rattle.std.specs.Prelude.{◌≡◌, ◌∷◌, [], count_by};
+ghost use Rattle.ignore_files.specs.Memory.{is_canonical_path, child, place_of, any_kind, is_file, is_directory, sought, folder_sought};
+ghost use Rattle.ignore_files.specs.Memory.{parent_for, below};
 ghost use Rattle.ignore_files.specs.declared.memory.node.Node.{Node};
 
 use crate::memory::node::{Kind, Node};
 use crate::memory::resolve::is_dir;
 use crate::tree_error::TreeError;
-use ignore_base::text::is_proper;
+use ignore_base::text::{folder_of, is_proper};
 
 /// Whether the path is `/`, or `/` and names joined by single slashes.
 pub fn is_canonical_path(path: &str) -> bool
@@ -56,17 +56,8 @@ pub fn place_of(nodes: &[Node], path: &str) -> Option<usize>
     component_below(nodes, here, rest)
 }
 
-/// What precedes the last slash of a path.
-fn folder_of(path: &str) -> &str
-    ensures { (nodes : List Node) → place_of nodes result.now ≡ below nodes 0 (but_last (components path.now)) }
-{
-    match path.rsplit_once('/') {
-        Some((folder, _)) => folder,
-        None => "",
-    }
-}
-
 /// The place of the directory that a path is in.
+#[tactic(auto, using(crate::proofs::Places::place_of_folder))]
 pub fn folder_place(nodes: &[Node], path: &str) -> Result<usize, TreeError>
     ensures { result ≡ folder_sought nodes.now path.now }
 {

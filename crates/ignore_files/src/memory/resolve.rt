@@ -149,11 +149,6 @@ pub fn find_node<'a>(
     ensures { MatchResult result (λ n. node_found cwd.now nodes.now path.now follow ≡ Ok n.now)
         (λ e. node_found cwd.now nodes.now path.now follow ≡ Err e) }
 {
-    match resolve(nodes, cwd, path, follow) {
-        Err(fault) => Err(fault),
-        Ok(place) => match nodes.get(place) {
-            Some(node) => Ok(node),
-            None => Err(Fault::NotFound),
-        },
-    }
+    let place = resolve(nodes, cwd, path, follow)?;
+    nodes.get(place).ok_or(Fault::NotFound)
 }

@@ -1,6 +1,8 @@
 //! Classes of characters.
-ghost use Rattle.std.specs.Prelude.{◌≡◌, ◌≢◌, ◌+◌, ◌<◌, ◌≤◌, ◌++◌, ◌∷◌, [], ℕ, List, Bool, true, false, take, drop, length, nat_le, IfOk, IfSome, IfNone, Ok, Err};
+ghost use Rattle.std.specs.Prelude.{◌≡◌, ◌≢◌, ◌+◌, ◌<◌, ◌++◌, ◌∷◌, ℕ, List, true, false, take, drop, length, nat_le, IfOk};
+ghost use Rattle.std.specs.Prelude.{IfSome, IfNone, Ok};
 ghost use Rattle.std.specs.List.{AllByRecursion, list_all};
+ghost use Rattle.ignore_base.specs.Text.{Chars};
 ghost use Rattle.ignore_glob.specs.Lexing.{Closes, turns, NoTurn, Items, last_end, ranges, are_in_order, is_negated, after_sign};
 ghost use Rattle.ignore_glob.specs.ParserSteps.{ClosesBefore};
 
@@ -36,7 +38,7 @@ fn closing(text: &[char], after_last: usize) -> Option<usize>
     ensures within { IfSome result (λ n. n < length text.now) }
     ensures before { IfSome result (λ n. AllByRecursion (λ c. c ≢ 93) (take n text.now)) }
     ensures found { IfSome result (λ n. text.now ≡ take n text.now ++ 93 ∷ drop (n + 1) text.now) }
-    ensures none { IfNone result ((m r : List ℕ) → text.now ≡ m ++ 93 ∷ r → ⊥) }
+    ensures none { IfNone result ((m r : Chars) → text.now ≡ m ++ 93 ∷ r → ⊥) }
 {
     if text.len() <= after_last {
         return None;
@@ -53,7 +55,7 @@ fn closing(text: &[char], after_last: usize) -> Option<usize>
 pub fn body(inside: &[char], after_last: usize) -> Option<(&[char], &[char])>
     requires { ClosesBefore after_last inside.now }
     ensures some { IfSome result (λ found. Closes inside.now found.0.now found.1.now) }
-    ensures none { IfNone result ((b r : List ℕ) → Closes inside.now b r → ⊥) }
+    ensures none { IfNone result ((b r : Chars) → Closes inside.now b r → ⊥) }
 {
     let (_, more) = inside.split_first()?;
     let n = closing(more, after_last)?;
@@ -76,7 +78,7 @@ fn turn(text: &[char]) -> Option<(char, &[char])>
 /// The first item of a body, whether its ends are in order, and what follows.
 fn item(body: &[char]) -> ((char, char), bool, &[char])
     requires { 0 < length body.now }
-    ensures { (ends : List ℕ) × (body.now ≡ result.0.0 ∷ (turns ends ++ result.2.now)) × NoTurn result.2.now
+    ensures { (ends : Chars) × (body.now ≡ result.0.0 ∷ (turns ends ++ result.2.now)) × NoTurn result.2.now
         × (result.0.1 ≡ last_end result.0.0 ends) × (result.1 ≡ list_all (nat_le result.0.0) ends) }
 {
     let Some((low, more)) = body.split_first() else {
@@ -96,8 +98,8 @@ fn item(body: &[char]) -> ((char, char), bool, &[char])
 /// The ranges of a body, if all are in order.
 pub fn ranges_of(alloc: Global, body: &[char]) -> Result<Option<Vec<(char, char)>>, AllocError>
     ensures some { IfOk result (λ found. IfSome found
-        (λ all. (items : List (ℕ × List ℕ)) × Items body.now items × (are_in_order items ≡ true) × (all.items ≡ ranges items))) }
-    ensures none { IfOk result (λ found. IfNone found ((items : List (ℕ × List ℕ)) × Items body.now items × (are_in_order items ≡ false))) }
+        (λ all. (items : List (ℕ × Chars)) × Items body.now items × (are_in_order items ≡ true) × (all.items ≡ ranges items))) }
+    ensures none { IfOk result (λ found. IfNone found ((items : List (ℕ × Chars)) × Items body.now items × (are_in_order items ≡ false))) }
 {
     let mut all = Vec::new(alloc);
     let mut rest = body;

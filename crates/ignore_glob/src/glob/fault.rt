@@ -1,8 +1,10 @@
 //! Parse errors of globs.
-ghost use Rattle.std.specs.Prelude.{◌≡◌, Some};
+ghost use Rattle.std.specs.Prelude.{◌≡◌, ◌⊎◌, Some, string_bytes};
+ghost use Rattle.ignore_base.specs.Problem.{problem_of, memory, glob};
 ghost use Rattle.ignore_glob.specs.GlobFaults.{glob_fault_text, glob_fault_number, pattern_error_text};
 
-use std::alloc::{AllocError, AllocFailed};
+use ignore_base::Error;
+use std::alloc::{AllocError, AllocFailed, Global};
 use std::{error, fmt};
 
 /// A parse error of a glob: the leftmost one.
@@ -37,6 +39,19 @@ impl GlobFault {
             GlobFault::UnclosedAlternates => 4,
             GlobFault::DanglingEscape => 5,
             GlobFault::TooDeep => 6,
+        }
+    }
+
+    /// For dependents: the error that reports this text and its parse error, or `Error::Memory`.
+    pub fn error_of(self, alloc: Global, text: String) -> Error
+        ensures { (problem_of result ≡ memory) ⊎ (problem_of result ≡ glob (Some (string_bytes text)) (glob_fault_text self)) }
+    {
+        match format!(in alloc; "{self}") {
+            Ok(err) => Error::Glob {
+                glob: Some(text),
+                err,
+            },
+            Err(_) => Error::Memory,
         }
     }
 }

@@ -1,8 +1,9 @@
 //! The text by which a pattern can be looked up: where it is literals, alone or after `**/` or
 //! `**/*`.
-ghost use Rattle.std.specs.Prelude.{◌≡◌, IfOk, string_bytes};
+ghost use Rattle.std.specs.Prelude.{◌≡◌, IfOk, IfSome, IfNone, string_bytes};
+ghost use Rattle.ignore_base.specs.Text.{Bytes};
 ghost use Rattle.std.specs.Option.{option_map};
-ghost use Rattle.ignore_glob.specs.Forms.{literal_of, is_start, is_star, literals, keyed, whole, name, ending, below_form, tokens_form, key_form};
+ghost use Rattle.ignore_glob.specs.Forms.{Form, other, literal_of, is_start, is_star, literals, keyed, below_form, tokens_form, key_form};
 ghost use Rattle.ignore_glob.specs.View.{view, tokens_view};
 
 use crate::glob::token::Token;
@@ -31,7 +32,10 @@ pub(crate) fn key_of(alloc: Global, tokens: &[Token]) -> Result<Key, AllocError>
             if is_start(first) {
                 key_below(alloc, rest)
             } else {
-                whole_key(alloc, tokens)
+                match some_text(alloc, tokens)? {
+                    Some(text) => Ok(Key::Whole(text)),
+                    None => Ok(Key::Other),
+                }
             }
         }
     }
@@ -44,54 +48,33 @@ fn key_below(alloc: Global, tokens: &[Token]) -> Result<Key, AllocError>
         [] => Ok(Key::Other),
         [first, rest @ ..] => {
             if is_star(first) {
-                end_key(alloc, rest)
+                match some_text(alloc, rest)? {
+                    Some(text) => Ok(Key::End(text)),
+                    None => Ok(Key::Other),
+                }
             } else {
-                name_key(alloc, tokens)
+                match some_text(alloc, tokens)? {
+                    Some(text) => Ok(Key::Name(text)),
+                    None => Ok(Key::Other),
+                }
             }
         }
     }
 }
 
-fn whole_key(alloc: Global, tokens: &[Token]) -> Result<Key, AllocError>
-    ensures { IfOk result (λ key. key_form key ≡ keyed whole (literals (tokens_view tokens.now))) }
+/// The text of tokens that are literals alone, unless it is empty.
+fn some_text(alloc: Global, tokens: &[Token]) -> Result<Option<String>, AllocError>
+    ensures some { IfOk result (λ found. IfSome found (λ text. (form : Bytes → Form)
+        → form (string_bytes text) ≡ keyed form (literals (tokens_view tokens.now)))) }
+    ensures none { IfOk result (λ found. IfNone found ((form : Bytes → Form) → other ≡ keyed form (literals (tokens_view tokens.now)))) }
 {
     match literal_text(alloc, tokens)? {
-        None => Ok(Key::Other),
+        None => Ok(None),
         Some(text) => {
             if text.is_empty() {
-                Ok(Key::Other)
+                Ok(None)
             } else {
-                Ok(Key::Whole(text))
-            }
-        }
-    }
-}
-
-fn name_key(alloc: Global, tokens: &[Token]) -> Result<Key, AllocError>
-    ensures { IfOk result (λ key. key_form key ≡ keyed name (literals (tokens_view tokens.now))) }
-{
-    match literal_text(alloc, tokens)? {
-        None => Ok(Key::Other),
-        Some(text) => {
-            if text.is_empty() {
-                Ok(Key::Other)
-            } else {
-                Ok(Key::Name(text))
-            }
-        }
-    }
-}
-
-fn end_key(alloc: Global, tokens: &[Token]) -> Result<Key, AllocError>
-    ensures { IfOk result (λ key. key_form key ≡ keyed ending (literals (tokens_view tokens.now))) }
-{
-    match literal_text(alloc, tokens)? {
-        None => Ok(Key::Other),
-        Some(text) => {
-            if text.is_empty() {
-                Ok(Key::Other)
-            } else {
-                Ok(Key::End(text))
+                Ok(Some(text))
             }
         }
     }

@@ -91,7 +91,8 @@ impl Pattern {
     ///
     /// # Errors
     /// `Error::Memory` alone, since the positions that are reached are kept for the time of the
-    /// call. Without braces and with at most 62 positions there is no error: no memory is requested.
+    /// call. Without braces and with at most 62 positions there is no error: no memory is
+    /// requested.
     pub fn matches(&self, text: &str) -> Result<bool, Error>
         ensures out_of_memory { IfErr result (λ e. problem_of e ≡ memory) }
         ensures value { IfOk result (λ yes. IsTrue yes ↔ Matches self.now (chars text.now)) }

@@ -1,8 +1,10 @@
 //! Lines added to rules.
-ghost use Rattle.std.specs.Prelude.{◌≡◌, ◌⊎◌, ◌++◌, ◌∷◌, [], None, Some, IfOk, IfErr, OnOk, OnErr, IsOk, option_map, string_bytes, length, take};
+ghost use Rattle.std.specs.Prelude.{◌≡◌, ◌⊎◌, ◌++◌, ◌∷◌, [], None, Some, IfOk, IfErr, OnOk, OnErr, IsOk, option_map, string_bytes, length};
+ghost use Rattle.std.specs.Prelude.{take};
 ghost use Rattle.ignore_base.specs.Problem.{problem_of, memory};
 ghost use Rattle.ignore_rules.specs.Line.{parsed_line};
-ghost use Rattle.ignore_rules.specs.Rules.{begun, AddsLine, Refuses, AddsParsed, GivesProblem, built, with_rule, with_case_insensitive, with_git_trailing_spaces, with_unclosed_class};
+ghost use Rattle.ignore_rules.specs.Rules.{begun, AddsLine, Refuses, AddsParsed, GivesProblem, built, with_rule, with_case_insensitive};
+ghost use Rattle.ignore_rules.specs.Rules.{with_git_trailing_spaces, with_unclosed_class};
 
 use crate::gitignore::glob::Glob;
 use crate::gitignore::line::ParsedLine;

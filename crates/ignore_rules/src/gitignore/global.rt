@@ -1,5 +1,6 @@
 //! Matchers of the global file, which git's configuration names.
-ghost use Rattle.std.specs.Prelude.{◌≡◌, ℕ, List, Option, None, Some, true, IfOk, IfErr, IsOkAnd, option_map, string_bytes};
+ghost use Rattle.std.specs.Prelude.{◌≡◌, Option, None, Some, true, IfOk, IfErr, IsOkAnd, option_map, string_bytes};
+ghost use Rattle.ignore_base.specs.Text.{Path};
 ghost use Rattle.ignore_files.specs.Gives.{IsHonest};
 ghost use Rattle.ignore_files.specs.Tree.{Tree};
 ghost use Rattle.ignore_base.specs.declared.fault.Fault.TheVariants.{NoCurrentDir};
@@ -57,7 +58,7 @@ impl Gitignore {
     ) -> Result<(Gitignore, Option<Error>), Error>
         ensures read { (tree : Tree) → IsHonest F.Files files.now tree
             → IfOk result (λ r. IsGlobalMatcher tree env.now r.0 (option_map problem_of r.1)) }
-        ensures answered { (dir : List ℕ) → env.now.current_dir ≡ Some dir
+        ensures answered { (dir : Path) → env.now.current_dir ≡ Some dir
             → IfOk result (λ r. BuildsAnyAnswer (F.contents_gives files.now) (begun dir) r.0 (option_map problem_of r.1)) }
         ensures unknown { env.now.current_dir ≡ None
             → IsOkAnd result (λ r. (r.0 ≡ empty) × (option_map problem_of r.1 ≡ Some (io NoCurrentDir))) }
@@ -79,7 +80,7 @@ impl Gitignore {
 /// The path of the global file, if a file is there.
 fn global_file<F: Files>(alloc: Global, files: &F, env: &Env) -> Result<Option<String>, Error>
     ensures found { (tree : Tree) → IsHonest F.Files files.now tree
-        → IfOk result (λ path. (found : Option (List ℕ)) × IsExcludesPath tree env.now found
+        → IfOk result (λ path. (found : Option Path) × IsExcludesPath tree env.now found
         × (option_map string_bytes path ≡ global_file tree found)) }
     ensures out_of_memory { IfErr result (λ e. problem_of e ≡ memory) }
 {

@@ -3,7 +3,8 @@ ghost use Rattle.std.specs.Prelude.{◌≡◌, ◌≤◌, ◌==◌, ◌⊎◌, I
 ghost use Rattle.std.specs.List.{suffix_len};
 ghost use Rattle.ignore_glob.specs.GlobFaults.{glob_fault_text};
 ghost use Rattle.ignore_base.specs.Problem.{problem_of, memory, glob};
-ghost use Rattle.ignore_rules.specs.Line.{has_prefix, has_suffix, without_prefix, without_suffix, default_trimmed, git_trimmed, trimmed, is_escaped, is_anchored, body, pattern, is_floating, placed, actual, parsed_line};
+ghost use Rattle.ignore_rules.specs.Line.{has_prefix, has_suffix, without_prefix, without_suffix, default_trimmed, git_trimmed, trimmed};
+ghost use Rattle.ignore_rules.specs.Line.{is_escaped, is_anchored, body, pattern, is_floating, placed, actual, parsed_line};
 
 use ignore_base::Error;
 use ignore_base::text::has_slash;
@@ -64,13 +65,7 @@ impl ParsedLine {
     pub fn refused(self, alloc: Global, fault: GlobFault) -> Error
         ensures { (problem_of result ≡ memory) ⊎ (problem_of result ≡ glob (Some self.original) (glob_fault_text fault)) }
     {
-        match format!(in alloc; "{fault}") {
-            Ok(err) => Error::Glob {
-                glob: Some(self.original),
-                err,
-            },
-            Err(_) => Error::Memory,
-        }
+        fault.error_of(alloc, self.original)
     }
 }
 

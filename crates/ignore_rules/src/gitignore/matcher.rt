@@ -183,11 +183,7 @@ fn last_answer<'g>(globs: &'g [Glob], text: &str, is_dir: bool) -> Result<Match<
 {
     for i in (0..globs.len()).rev() {
         let glob = &globs[i];
-        let applies = match glob.applies(text, is_dir) {
-            Ok(yes) => yes,
-            Err(e) => return Err(e),
-        };
-        if applies {
+        if glob.applies(text, is_dir)? {
             return Ok(glob.decision());
         }
     }

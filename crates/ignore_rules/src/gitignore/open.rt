@@ -5,14 +5,15 @@ ghost use Rattle.ignore_files.specs.declared.types.Refusal.{Refusal};
 ghost use Rattle.ignore_files.specs.Gives.{IsHonest};
 ghost use Rattle.ignore_files.specs.Tree.{Tree};
 ghost use Rattle.ignore_base.specs.Problem.{problem_of, memory};
-ghost use Rattle.ignore_rules.specs.Matchers.{IsMatcherOf, BuildsFile, BuildsAnswer, folder_of};
+ghost use Rattle.ignore_base.specs.Paths.{folder_of};
+ghost use Rattle.ignore_rules.specs.Matchers.{IsMatcherOf, BuildsFile, BuildsAnswer};
 ghost use Rattle.ignore_rules.specs.Rules.{begun};
 
 use crate::gitignore::builder::GitignoreBuilder;
 use crate::gitignore::matcher::Gitignore;
 use ignore_base::Error;
+use ignore_base::text::folder_of;
 use ignore_files::Files;
-use memchr::memrchr;
 use std::alloc::Global;
 
 impl Gitignore {
@@ -57,16 +58,5 @@ impl GitignoreBuilder {
     {
         let error = self.add(files, path)?;
         Ok((self.into_gitignore(), Error::without_fault(error)))
-    }
-}
-
-/// What precedes the last slash.
-fn folder_of(path: &str) -> &str
-    ensures { result.now ≡ folder_of path.now }
-{
-    match memrchr(b'/', path.as_bytes()) {
-        None => "",
-        Some(0) => "/",
-        Some(slash) => &path[..slash],
     }
 }

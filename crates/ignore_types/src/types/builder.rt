@@ -2,7 +2,8 @@
 ghost use Rattle.std.specs.Prelude.{◌≡◌, ◌⊎◌, ◌==◌, [], true, false, map, OnOk, OnErr, IfOk, IfErr};
 ghost use Rattle.std.specs.List.{AllZip, slice_split};
 ghost use Rattle.ignore_base.specs.Problem.{problem_of, memory, unrecognized};
-ghost use Rattle.ignore_types.specs.Types.{Draft, IsSortedCopy, IsAscending, one_glob, included, request_of, request_of_fields, after_request, Becomes, with_chosen, without};
+ghost use Rattle.ignore_types.specs.Types.{Draft, IsSortedCopy, IsAscending, one_glob, included, request_of, request_of_fields};
+ghost use Rattle.ignore_types.specs.Types.{after_request, Becomes, with_chosen, without};
 ghost use Rattle.ignore_types.specs.Building.{IsBuilt, IsChosen, IsChoiceProblem, IsRefusedWith, FirstBad};
 ghost use Rattle.ignore_types.specs.Refusals.{IsRefusal};
 ghost use Rattle.ignore_types.specs.Defaults.{with_defaults};
@@ -271,14 +272,8 @@ fn chosen_types(
 {
     let mut all = Vec::new(alloc);
     for selection in selections {
-        match chosen_type(alloc, types, selection) {
-            Ok(choice) => {
-                if let Err(_) = all.push(choice) {
-                    return Err(Error::Memory);
-                }
-            }
-            Err(e) => return Err(e),
-        }
+        let choice = chosen_type(alloc, types, selection)?;
+        all.push(choice)?;
     }
     Ok(all)
 }

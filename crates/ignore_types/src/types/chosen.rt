@@ -173,14 +173,8 @@ pub(super) fn read_globs(alloc: Global, globs: &[String]) -> Result<Vec<NameGlob
 {
     let mut all = Vec::new(alloc);
     for glob in globs {
-        match read_glob(alloc, glob.as_str()) {
-            Ok(glob) => {
-                if let Err(_) = all.push(glob) {
-                    return Err(Error::Memory);
-                }
-            }
-            Err(e) => return Err(e),
-        }
+        let glob = read_glob(alloc, glob.as_str())?;
+        all.push(glob)?;
     }
     Ok(all)
 }
@@ -204,14 +198,8 @@ fn read_glob(alloc: Global, glob: &str) -> Result<NameGlob, Error>
 fn glob_error(alloc: Global, glob: &str, fault: GlobFault) -> Error
     ensures { (problem_of result ≡ memory) ⊎ (problem_of result ≡ glob_problem (Some glob.now) (glob_fault_text fault)) }
 {
-    let Ok(text) = format!(in alloc; "{fault}") else {
-        return Error::Memory;
-    };
     match String::from_str(alloc, glob) {
-        Ok(glob) => Error::Glob {
-            glob: Some(glob),
-            err: text,
-        },
+        Ok(glob) => fault.error_of(alloc, glob),
         Err(_) => Error::Memory,
     }
 }

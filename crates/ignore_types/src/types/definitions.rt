@@ -1,7 +1,8 @@
 //! File types in text order of their names.
 ghost use Rattle.std.specs.Prelude.{◌≡◌, [], OnOk, OnErr, IfOk, map, string_bytes};
 ghost use Rattle.std.specs.Option.{option_copied};
-ghost use Rattle.ignore_types.specs.Types.{IsAscending, definition_of, globs_of, with_glob, with_globs, with_types, with_names, has_all, without, IsSortedCopy};
+ghost use Rattle.ignore_types.specs.Types.{IsAscending, definition_of, globs_of, with_glob, with_globs, with_types, with_names, has_all};
+ghost use Rattle.ignore_types.specs.Types.{without, IsSortedCopy};
 ghost use Rattle.std.specs.List.{AllZip};
 ghost use Rattle.ignore_types.specs.PlaceSteps.{IsPlace};
 ghost use Rattle.ignore_types.specs.Defaults.{with_rows};

@@ -6,7 +6,8 @@ use Rattle.std.proofs.lemmas.Str.Pattern.{starts_char, ends_char}
 use Rattle.ignore_base.specs.Paths.{is_absolute, join_of}
 use Rattle.ignore_base.proofs.JoinLemmas.{join_of-absolute, join_of-nil, join_of-added, join_of-kept}
 use Rattle.ignore_base.proofs.text.join.Goals as goal
-use Rattle.ignore_base.proofs.text.join.Goals.{then-starts_with-via-then-starts_with, then-starts_with-via-else-starts_with+then-is_empty, then-not-ends_with+in_ok-push, else-not-ends_with}
+use Rattle.ignore_base.proofs.text.join.Goals.{then-starts_with-via-then-starts_with, then-starts_with-via-else-starts_with+then-is_empty}
+use Rattle.ignore_base.proofs.text.join.Goals.{then-not-ends_with+in_ok-push, else-not-ends_with}
 
 pub returns-then-starts_with-clause-joins : goal.returns-then-starts_with-clause-joins
 returns-then-starts_with-clause-joins c =

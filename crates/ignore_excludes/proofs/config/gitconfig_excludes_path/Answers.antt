@@ -2,7 +2,8 @@
 use Rattle.std.proofs.Common.{◌≡◌, ℕ, List, [], ◌∷◌, Option, None, Some, Global, String, codes, option_map, string_bytes, ◌∙◌, ap, subst}
 use Rattle.std.specs.Option.{option_copied}
 use Rattle.ignore_excludes.specs.ExcludesSearch.{below, xdg_folder, configurations, FilesGive, IsFirstPath, LeadsTo, IsExcludesPath}
-use Rattle.ignore_excludes.proofs.ExcludesPlaces.{configurations-same, LeadsTo-some, LeadsTo-none, IsExcludesPath-answered, IsExcludesPath-one, IfOk-map}
+use Rattle.ignore_excludes.proofs.ExcludesPlaces.{configurations-same, LeadsTo-some, LeadsTo-none, IsExcludesPath-answered}
+use Rattle.ignore_excludes.proofs.ExcludesPlaces.{IsExcludesPath-one, IfOk-map}
 use Rattle.ignore_excludes.proofs.config.gitconfig_excludes_path.Goals as goal
 
 pub returns-clause-answered : goal.returns-clause-answered

@@ -5,4 +5,6 @@ use Rattle.ignore_glob.specs.View.{tokens_view}
 use Rattle.ignore_glob.proofs.glob.key.literal_text.Given as goal
 
 abbrev pub invariant-loop-token : goal.invariant-loop-token
-invariant-loop-token l = literals (tokens_view l.tokens) ≡ option_map (λ bytes. string_bytes l.text ++ bytes) (literals (tokens_view (drop l.token-index l.tokens)))
+invariant-loop-token l =
+    literals (tokens_view l.tokens)
+    ≡ option_map (λ bytes. string_bytes l.text ++ bytes) (literals (tokens_view (drop l.token-index l.tokens)))

@@ -10,7 +10,8 @@ returns-in-63-clause-lexeme c = rw c.in-63.is (question c.args.depth c.args.text
 
 pub returns-in-42-clause-lexeme : goal.returns-in-42-clause-lexeme
 returns-in-42-clause-lexeme c =
-    rw (c.in-42.is, take_rest) (stars_at c.args.options c.args.depth c.run_length-n.result c.args.text.now _ c.run_length-n.ensures.stars c.run_length-n.ensures.whole)
+    rw (c.in-42.is, take_rest)
+    (stars_at c.args.options c.args.depth c.run_length-n.result c.args.text.now _ c.run_length-n.ensures.stars c.run_length-n.ensures.whole)
 
 pub returns-in-92-clause-lexeme : goal.returns-in-92-clause-lexeme
 returns-in-92-clause-lexeme c = rw c.in-92.is (c.escape.ensures.lexeme c.args.options)

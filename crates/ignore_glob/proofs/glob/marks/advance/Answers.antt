@@ -13,4 +13,5 @@ returns-clause-flagged c =
     let len : length c.close.new.flags.all.items ≡ length nodes + 1 = omega
     (arith, long, c.close.ensures.len, c.step.ensures.len, c.clear.ensures.len, c.requires.len) in
     (flags_of nodes (IsFlagged c.step.new.flags.all.items)
-    (SteppedTo c.args.fold nodes (IsFlagged c.args.from.now.all.items) c.args.c) c.close.new.flags.all.items len c.step.ensures.flagged c.close.ensures.flagged).flagged
+    (SteppedTo c.args.fold nodes
+    (IsFlagged c.args.from.now.all.items) c.args.c) c.close.new.flags.all.items len c.step.ensures.flagged c.close.ensures.flagged).flagged

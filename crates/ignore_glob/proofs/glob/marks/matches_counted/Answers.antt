@@ -16,7 +16,9 @@ loop-c-preserved c =
     let text = chars c.args.text.now in
     let fold = c.args.fold in
     let i = length c.loop-c.yielded in
-    let turn = YieldsList-turn (YieldsList-from_chars c.args.text.now c.utf8.text cc) c.loop-c.yielded _ c.loop-c.yielded_by _ _ c.in-Some.c c.in-Some.is c.next.ensures.steps in
+    let turn = YieldsList-turn
+    (YieldsList-from_chars c.args.text.now c.utf8.text cc) c.loop-c.yielded _ c.loop-c.yielded_by _ _ c.in-Some.c c.in-Some.is
+    c.next.ensures.steps in
     let at = slice_get_read text (length text) i _ refl turn.0 turn.1 in
     let next = c.advance.new.flags.all.items in
     let long = length-map c.args.nodes.now node_view in
@@ -42,7 +44,8 @@ pub returns-clause-matched : goal.returns-clause-matched
 returns-clause-matched c =
     let nodes = nodes_view c.args.nodes.now in
     let text = chars c.args.text.now in
-    let ended = YieldsList-end (YieldsList-from_chars c.args.text.now c.utf8.text cc) c.loop-c.yielded _ c.loop-c.yielded_by _ _ c.in-None.is c.next.ensures.steps in
+    let ended = YieldsList-end
+    (YieldsList-from_chars c.args.text.now c.utf8.text cc) c.loop-c.yielded _ c.loop-c.yielded_by _ _ c.in-None.is c.next.ensures.steps in
     let P : ℕ → Type 0 = λ o. AreFlags nodes (Marked c.args.fold nodes text o) c.loop-c.here.all.items in
     let flags = subst P ended.1 c.loop-c.invariant.flags in
     let both = flags.flagged (length c.args.nodes.now) in
@@ -52,7 +55,8 @@ pub returns-clause-count : goal.returns-clause-count
 returns-clause-count c =
     let nodes = nodes_view c.args.nodes.now in
     let text = chars c.args.text.now in
-    let ended = YieldsList-end (YieldsList-from_chars c.args.text.now c.utf8.text cc) c.loop-c.yielded _ c.loop-c.yielded_by _ _ c.in-None.is c.next.ensures.steps in
+    let ended = YieldsList-end
+    (YieldsList-from_chars c.args.text.now c.utf8.text cc) c.loop-c.yielded _ c.loop-c.yielded_by _ _ c.in-None.is c.next.ensures.steps in
     let n = c.loop-c.invariant.count.0 in
     let Q : ℕ → Type 0 = λ o. Count c.args.fold nodes text o n in
     (n, subst Q ended.1 c.loop-c.invariant.count.1, c.loop-c.invariant.count.2)
@@ -64,7 +68,9 @@ returns-then-is_clear-clause-matched c =
     let fold = c.args.fold in
     let i = length c.loop-c.yielded in
     let k = length text - i in
-    let turn = YieldsList-turn (YieldsList-from_chars c.args.text.now c.utf8.text cc) c.loop-c.yielded _ c.loop-c.yielded_by _ _ c.in-Some.c c.in-Some.is c.next.ensures.steps in
+    let turn = YieldsList-turn
+    (YieldsList-from_chars c.args.text.now c.utf8.text cc) c.loop-c.yielded _ c.loop-c.yielded_by _ _ c.in-Some.c c.in-Some.is
+    c.next.ensures.steps in
     let end : later fold nodes text k i ≡ length text = omega (arith, later-sum fold nodes text k i, turn.0) in
     let none : (q : ℕ) → Marked fold nodes text i q → ⊥ = λ q m. c.if-is_clear.ensures refl q ((c.loop-c.invariant.flags.flagged q).1 m) in
     let last = length c.args.nodes.now in
@@ -78,7 +84,9 @@ returns-then-is_clear-clause-count c =
     let fold = c.args.fold in
     let i = length c.loop-c.yielded in
     let k = length text - i in
-    let turn = YieldsList-turn (YieldsList-from_chars c.args.text.now c.utf8.text cc) c.loop-c.yielded _ c.loop-c.yielded_by _ _ c.in-Some.c c.in-Some.is c.next.ensures.steps in
+    let turn = YieldsList-turn
+    (YieldsList-from_chars c.args.text.now c.utf8.text cc) c.loop-c.yielded _ c.loop-c.yielded_by _ _ c.in-Some.c c.in-Some.is
+    c.next.ensures.steps in
     let end : later fold nodes text k i ≡ length text = omega (arith, later-sum fold nodes text k i, turn.0) in
     let flags = c.loop-c.invariant.flags in
     let clear : (q : ℕ) → IsFlagged c.loop-c.here.all.items q → ⊥ = λ q f. c.if-is_clear.ensures refl q f in

@@ -17,5 +17,6 @@ loop-p-preserved c =
     let nodes = c.args.nodes.now in
     let node = c.index-nodes-p.result in
     let leads : leads_next (node_view node) c.loop-p.p ≡ true = cc (c.leads_next.ensures, c.if-not-leads_next.false) in
-    line_more (nodes_view nodes) c.loop-p.p _ (node_view node) (nodes_drop nodes c.loop-p.p node c.loop-p-test.true c.index-nodes-p.is) leads
+    line_more (nodes_view nodes) c.loop-p.p _ (node_view node)
+    (nodes_drop nodes c.loop-p.p node c.loop-p-test.true c.index-nodes-p.is) leads
     (omega arith) c.loop-p.invariant

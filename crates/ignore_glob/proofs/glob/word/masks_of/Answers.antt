@@ -8,37 +8,44 @@ use Rattle.ignore_glob.proofs.glob.word.masks_of.Goals as goal
 pub after-masks-requires-clause-tested : goal.after-masks-requires-clause-tested
 after-masks-requires-clause-tested c =
     mask_pair is_tested (node_view c.index-nodes-p.result) (drop c.loop-p.p (nodes_view c.args.nodes.now)) _ _
-    (ap (λ (m : Masks). m.tested) c.of.ensures) (ap (λ (m : Masks). m.tested) c.loop-p.invariant.rest) (drop_short c.args.nodes.now c.loop-p.p c.requires)
+    (ap (λ (m : Masks). m.tested) c.of.ensures) (ap (λ (m : Masks). m.tested) c.loop-p.invariant.rest)
+    (drop_short c.args.nodes.now c.loop-p.p c.requires)
 
 pub after-masks-requires-clause-stars : goal.after-masks-requires-clause-stars
 after-masks-requires-clause-stars c =
     mask_pair is_star (node_view c.index-nodes-p.result) (drop c.loop-p.p (nodes_view c.args.nodes.now)) _ _
-    (ap (λ (m : Masks). m.stars) c.of.ensures) (ap (λ (m : Masks). m.stars) c.loop-p.invariant.rest) (drop_short c.args.nodes.now c.loop-p.p c.requires)
+    (ap (λ (m : Masks). m.stars) c.of.ensures) (ap (λ (m : Masks). m.stars) c.loop-p.invariant.rest)
+    (drop_short c.args.nodes.now c.loop-p.p c.requires)
 
 pub after-masks-requires-clause-insides : goal.after-masks-requires-clause-insides
 after-masks-requires-clause-insides c =
     mask_pair is_inside (node_view c.index-nodes-p.result) (drop c.loop-p.p (nodes_view c.args.nodes.now)) _ _
-    (ap (λ (m : Masks). m.insides) c.of.ensures) (ap (λ (m : Masks). m.insides) c.loop-p.invariant.rest) (drop_short c.args.nodes.now c.loop-p.p c.requires)
+    (ap (λ (m : Masks). m.insides) c.of.ensures) (ap (λ (m : Masks). m.insides) c.loop-p.invariant.rest)
+    (drop_short c.args.nodes.now c.loop-p.p c.requires)
 
 pub after-masks-requires-clause-by_slash : goal.after-masks-requires-clause-by_slash
 after-masks-requires-clause-by_slash c =
     mask_pair is_by_slash (node_view c.index-nodes-p.result) (drop c.loop-p.p (nodes_view c.args.nodes.now)) _ _
-    (ap (λ (m : Masks). m.by_slash) c.of.ensures) (ap (λ (m : Masks). m.by_slash) c.loop-p.invariant.rest) (drop_short c.args.nodes.now c.loop-p.p c.requires)
+    (ap (λ (m : Masks). m.by_slash) c.of.ensures) (ap (λ (m : Masks). m.by_slash) c.loop-p.invariant.rest)
+    (drop_short c.args.nodes.now c.loop-p.p c.requires)
 
 pub after-masks-requires-clause-middles : goal.after-masks-requires-clause-middles
 after-masks-requires-clause-middles c =
     mask_pair is_middle (node_view c.index-nodes-p.result) (drop c.loop-p.p (nodes_view c.args.nodes.now)) _ _
-    (ap (λ (m : Masks). m.middles) c.of.ensures) (ap (λ (m : Masks). m.middles) c.loop-p.invariant.rest) (drop_short c.args.nodes.now c.loop-p.p c.requires)
+    (ap (λ (m : Masks). m.middles) c.of.ensures) (ap (λ (m : Masks). m.middles) c.loop-p.invariant.rest)
+    (drop_short c.args.nodes.now c.loop-p.p c.requires)
 
 pub after-masks-requires-clause-free : goal.after-masks-requires-clause-free
 after-masks-requires-clause-free c =
     mask_pair is_free (node_view c.index-nodes-p.result) (drop c.loop-p.p (nodes_view c.args.nodes.now)) _ _
-    (ap (λ (m : Masks). m.free) c.of.ensures) (ap (λ (m : Masks). m.free) c.loop-p.invariant.rest) (drop_short c.args.nodes.now c.loop-p.p c.requires)
+    (ap (λ (m : Masks). m.free) c.of.ensures) (ap (λ (m : Masks). m.free) c.loop-p.invariant.rest)
+    (drop_short c.args.nodes.now c.loop-p.p c.requires)
 
 pub after-masks-requires-clause-starts : goal.after-masks-requires-clause-starts
 after-masks-requires-clause-starts c =
     mask_pair is_start (node_view c.index-nodes-p.result) (drop c.loop-p.p (nodes_view c.args.nodes.now)) _ _
-    (ap (λ (m : Masks). m.starts) c.of.ensures) (ap (λ (m : Masks). m.starts) c.loop-p.invariant.rest) (drop_short c.args.nodes.now c.loop-p.p c.requires)
+    (ap (λ (m : Masks). m.starts) c.of.ensures) (ap (λ (m : Masks). m.starts) c.loop-p.invariant.rest)
+    (drop_short c.args.nodes.now c.loop-p.p c.requires)
 
 pub loop-p-preserved : goal.loop-p-preserved
 loop-p-preserved c =

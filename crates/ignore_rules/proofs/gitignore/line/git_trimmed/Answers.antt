@@ -2,7 +2,8 @@ use Rattle.std.proofs.Common.{◌≡◌, ◌⊎◌, ◌+◌, ◌-◌, ◌%◌, f
 use Rattle.ignore_rules.specs.Line.{git_trimmed}
 use Rattle.ignore_rules.proofs.TrailingLemmas.{all_spaces, all_but_one, cut_at_space}
 use Rattle.ignore_rules.proofs.gitignore.line.git_trimmed.Goals as goal
-use Rattle.ignore_rules.proofs.gitignore.line.git_trimmed.Goals.{else-end-bytes-via-then-end-bytes+else-backslashes-eq1, else-end-bytes-via-else-end-bytes}
+use Rattle.ignore_rules.proofs.gitignore.line.git_trimmed.Goals.{else-end-bytes-via-then-end-bytes+else-backslashes-eq1}
+use Rattle.ignore_rules.proofs.gitignore.line.git_trimmed.Goals.{else-end-bytes-via-else-end-bytes}
 
 pub range-requires-clause-end_boundary : goal.range-requires-clause-end_boundary
 range-requires-clause-end_boundary c =
@@ -20,7 +21,8 @@ returns-then-backslashes-eq1 c =
     let n = c.run_at_end.result in
     let cut : c.range.result.now ≡ take (length bytes - n + 1) c.args.line.now = grind (arith, c.range.ensures.value) in
     let odd = eq-eqb _ 1 c.if-backslashes-eq1.true in
-    let kept = all_but_one bytes n c.run_at_end-backslashes.result c.run_at_end.ensures.run c.run_at_end-backslashes.ensures.run c.if-end-bytes.true odd in
+    let kept = all_but_one bytes n c.run_at_end-backslashes.result c.run_at_end.ensures.run c.run_at_end-backslashes.ensures.run
+    c.if-end-bytes.true odd in
     cut ∙ (ap (take (length bytes - n + 1)) (sym c.as_bytes-bytes.ensures.value)
     ∙ (sym kept ∙ ap git_trimmed c.as_bytes-bytes.ensures.value))
 

@@ -5,9 +5,11 @@ use Rattle.ignore_rules.specs.Answer.{list_answer}
 use Rattle.ignore_rules.proofs.AnswerLemmas.{decided}
 use Rattle.ignore_rules.proofs.gitignore.matcher.last_answer.Goals as goal
 
-pub returns-then-applies : goal.returns-then-applies
-returns-then-applies c =
+pub returns-then-branch-clause-answered : goal.returns-then-branch-clause-answered
+returns-then-branch-clause-answered c =
     let i = c.loop-i.i - 1 in
     let next : c.loop-i.i ≡ i + 1 = omega arith in
     let none = subst (λ n. list_answer (drop n c.args.globs.now) (chars c.args.text.now) c.args.is_dir ≡ None) next c.loop-i.invariant in
-    record { out_of_memory = tt; answered = c.decision.ensures ∙ sym (decided c.args.globs.now (chars c.args.text.now) c.args.is_dir i _ (omega arith) c.index-globs-i.is none (sym c.in-Ok.ensures.value ∙ c.if-applies.true)) }
+    c.decision.ensures ∙ sym
+    (decided c.args.globs.now (chars c.args.text.now) c.args.is_dir i _ (omega arith) c.index-globs-i.is none
+    (sym c.in_ok-applies.ensures.value ∙ c.if-branch.true))

@@ -7,7 +7,8 @@ use Rattle.ignore_rules.proofs.gitignore.parents.nearest_parent_answer.Goals as 
 pub returns-then-not-is_none-clause-answered : goal.returns-then-not-is_none-clause-answered
 returns-then-not-is_none-clause-answered c =
     let found : is_none c.in_ok-answer.answer ≡ false = search rules in
-    decides (λ g. g.now) c.in_ok-answer.answer _ _ _ c.in_ok-answer.ensures.answered found (c.loop-rest.invariant.left ∙ ap (directories_answer c.args.matcher.now.rules) c.parent-rest.ensures.next)
+    decides (λ g. g.now) c.in_ok-answer.answer _ _ _ c.in_ok-answer.ensures.answered found
+    (c.loop-rest.invariant.left ∙ ap (directories_answer c.args.matcher.now.rules) c.parent-rest.ensures.next)
 
 pub loop-rest-preserved : goal.loop-rest-preserved
 loop-rest-preserved c =
@@ -15,7 +16,8 @@ loop-rest-preserved c =
     record {
       utf8 = search rules;
       first = c.parent-rest.ensures.first;
-      left = passes_on (λ g. g.now) c.in_ok-answer.answer _ _ _ c.in_ok-answer.ensures.answered none (c.loop-rest.invariant.left ∙ ap (directories_answer c.args.matcher.now.rules) c.parent-rest.ensures.next);
+      left = passes_on (λ g. g.now) c.in_ok-answer.answer _ _ _ c.in_ok-answer.ensures.answered none
+          (c.loop-rest.invariant.left ∙ ap (directories_answer c.args.matcher.now.rules) c.parent-rest.ensures.next);
     }
 
 pub returns-clause-answered : goal.returns-clause-answered

@@ -19,4 +19,6 @@ returns-in-Some-clause-next c =
 pub returns-in-None-clause-next : goal.returns-in-None-clause-next
 returns-in-None-clause-next c =
     let path = c.as_bytes.result.now in
-    rw (← c.as_bytes.ensures.value) (parents-bare path c.as_bytes.ensures.utf8 (omega (arith, ap length c.as_bytes.ensures.value, c.requires.some)) (λ k l e. c.in-None.ensures k (omega arith) l e))
+    rw (← c.as_bytes.ensures.value)
+    (parents-bare path c.as_bytes.ensures.utf8 (omega (arith, ap length c.as_bytes.ensures.value, c.requires.some))
+    (λ k l e. c.in-None.ensures k (omega arith) l e))

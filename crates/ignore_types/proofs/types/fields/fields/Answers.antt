@@ -5,4 +5,6 @@ use Rattle.ignore_types.proofs.types.fields.fields.Goals as goal
 
 pub returns : goal.returns
 returns c =
-    map_from_collect _ c.collect.ensures.ran (YieldsList-from_str_split c.args.separator c.args.text.now c.requires c.split.ensures.text c.split.ensures.has_more c.split.ensures.pattern)
+    map_from_collect _ c.collect.ensures.ran
+    (YieldsList-from_str_split c.args.separator c.args.text.now c.requires c.split.ensures.text c.split.ensures.has_more
+    c.split.ensures.pattern)

@@ -25,7 +25,8 @@ close-here-requires-clause-starts c = start_small (nodes_view c.args.nodes.now) 
 pub loop-c-init : goal.loop-c-init
 loop-c-init c = record {
   continues = (tt, tt);
-  marks = first_marks c.args.fold (nodes_view c.args.nodes.now) c.args.self (chars c.args.text.now) c.close-here.result c.requires.word c.close-here.ensures;
+  marks = first_marks c.args.fold (nodes_view c.args.nodes.now) c.args.self
+      (chars c.args.text.now) c.close-here.result c.requires.word c.close-here.ensures;
   count =
       let nodes = nodes_view c.args.nodes.now in
       let text = chars c.args.text.now in
@@ -45,11 +46,14 @@ loop-c-preserved c =
     let text = chars c.args.text.now in
     let fold = c.args.fold in
     let i = length c.loop-c.yielded in
-    let turn = YieldsList-turn (YieldsList-from_chars c.args.text.now c.utf8.text cc) c.loop-c.yielded _ c.loop-c.yielded_by _ _ c.in-Some.c c.in-Some.is c.next.ensures.steps in
+    let turn = YieldsList-turn
+    (YieldsList-from_chars c.args.text.now c.utf8.text cc) c.loop-c.yielded _ c.loop-c.yielded_by _ _ c.in-Some.c c.in-Some.is
+    c.next.ensures.steps in
     let at = slice_get_read text (length text) i _ refl turn.0 turn.1 in
     let one_more : suc i ≡ length (c.loop-c.yielded ++ c.in-Some.c ∷ []) = omega (arith, length_push c.loop-c.yielded c.in-Some.c) in
     let next = c.advance-here.result in
-    let past = marked_past fold nodes text (Has c.loop-c.here) (Has next) i c.in-Some.c c.loop-c.invariant.marks at c.advance-here.ensures in
+    let past = marked_past fold nodes text (Has c.loop-c.here)
+    (Has next) i c.in-Some.c c.loop-c.invariant.marks at c.advance-here.ensures in
     let P : ℕ → Type 0 = λ o. (q : ℕ) → Has next q ↔ Marked fold nodes text o q in
     let n = c.loop-c.invariant.count.0 in
     let m = n + count_ones next in
@@ -68,7 +72,8 @@ pub returns-clause-matched : goal.returns-clause-matched
 returns-clause-matched c =
     let nodes = nodes_view c.args.nodes.now in
     let text = chars c.args.text.now in
-    let ended = YieldsList-end (YieldsList-from_chars c.args.text.now c.utf8.text cc) c.loop-c.yielded _ c.loop-c.yielded_by _ _ c.in-None.is c.next.ensures.steps in
+    let ended = YieldsList-end
+    (YieldsList-from_chars c.args.text.now c.utf8.text cc) c.loop-c.yielded _ c.loop-c.yielded_by _ _ c.in-None.is c.next.ensures.steps in
     let P : ℕ → Type 0 = λ o. (q : ℕ) → Has c.loop-c.here q ↔ Marked c.args.fold nodes text o q in
     let marks = subst P ended.1 c.loop-c.invariant.marks in
     let both = marks (length c.args.nodes.now) in
@@ -81,10 +86,13 @@ returns-then-here-eq0-clause-matched c =
     let fold = c.args.fold in
     let i = length c.loop-c.yielded in
     let k = length text - i in
-    let turn = YieldsList-turn (YieldsList-from_chars c.args.text.now c.utf8.text cc) c.loop-c.yielded _ c.loop-c.yielded_by _ _ c.in-Some.c c.in-Some.is c.next.ensures.steps in
+    let turn = YieldsList-turn
+    (YieldsList-from_chars c.args.text.now c.utf8.text cc) c.loop-c.yielded _ c.loop-c.yielded_by _ _ c.in-Some.c c.in-Some.is
+    c.next.ensures.steps in
     let end : later fold nodes text k i ≡ length text = omega (arith, later-sum fold nodes text k i, turn.0) in
     let zero : c.loop-c.here ≡ 0 = c.if-here-eq0.true in
-    let none : (q : ℕ) → Marked fold nodes text i q → ⊥ = λ q m. has_none q (subst (λ (w : ℕ). Has w q) zero ((c.loop-c.invariant.marks q).1 m)) in
+    let none : (q : ℕ) → Marked fold nodes text i q → ⊥ =
+    λ q m. has_none q (subst (λ (w : ℕ). Has w q) zero ((c.loop-c.invariant.marks q).1 m)) in
     let last = length c.args.nodes.now in
     let P : ℕ → Type 0 = λ o. Marked fold nodes text o last in
     (λ t. absurd (cc t), λ m. absurd (none_later fold nodes text k i none last (subst P (sym end) m)))
@@ -93,7 +101,8 @@ pub returns-clause-count : goal.returns-clause-count
 returns-clause-count c =
     let nodes = nodes_view c.args.nodes.now in
     let text = chars c.args.text.now in
-    let ended = YieldsList-end (YieldsList-from_chars c.args.text.now c.utf8.text cc) c.loop-c.yielded _ c.loop-c.yielded_by _ _ c.in-None.is c.next.ensures.steps in
+    let ended = YieldsList-end
+    (YieldsList-from_chars c.args.text.now c.utf8.text cc) c.loop-c.yielded _ c.loop-c.yielded_by _ _ c.in-None.is c.next.ensures.steps in
     let n = c.loop-c.invariant.count.0 in
     let Q : ℕ → Type 0 = λ o. Count c.args.fold nodes text o n in
     (n, subst Q ended.1 c.loop-c.invariant.count.1, c.loop-c.invariant.count.2)
@@ -105,10 +114,13 @@ returns-then-here-eq0-clause-count c =
     let fold = c.args.fold in
     let i = length c.loop-c.yielded in
     let k = length text - i in
-    let turn = YieldsList-turn (YieldsList-from_chars c.args.text.now c.utf8.text cc) c.loop-c.yielded _ c.loop-c.yielded_by _ _ c.in-Some.c c.in-Some.is c.next.ensures.steps in
+    let turn = YieldsList-turn
+    (YieldsList-from_chars c.args.text.now c.utf8.text cc) c.loop-c.yielded _ c.loop-c.yielded_by _ _ c.in-Some.c c.in-Some.is
+    c.next.ensures.steps in
     let end : later fold nodes text k i ≡ length text = omega (arith, later-sum fold nodes text k i, turn.0) in
     let zero : c.loop-c.here ≡ 0 = c.if-here-eq0.true in
-    let none : (q : ℕ) → Marked fold nodes text i q → ⊥ = λ q m. has_none q (subst (λ (w : ℕ). Has w q) zero ((c.loop-c.invariant.marks q).1 m)) in
+    let none : (q : ℕ) → Marked fold nodes text i q → ⊥ =
+    λ q m. has_none q (subst (λ (w : ℕ). Has w q) zero ((c.loop-c.invariant.marks q).1 m)) in
     let flags = flags_of (length nodes + 1) 0 in
     let clear : (q : ℕ) → IsFlagged flags q → ⊥ = λ q f. has_none q (flag_has (length nodes + 1) 0 q f) in
     let n = c.loop-c.invariant.count.0 in

@@ -12,10 +12,12 @@ tested-on-requires c = λ p h.
 
 pub returns-then-c-eq47 : goal.returns-then-c-eq47
 returns-then-c-eq47 c =
-    slash_step (nodes_view c.args.nodes.now) c.args.self c.requires.word c.args.fold c.args.set c.tested-on.result c.args.c c.tested-on.ensures
+    slash_step (nodes_view c.args.nodes.now) c.args.self c.requires.word c.args.fold c.args.set c.tested-on.result c.args.c
+    c.tested-on.ensures
     c.if-c-eq47.true
 
 pub returns-else-c-eq47 : goal.returns-else-c-eq47
 returns-else-c-eq47 c =
-    other_step (nodes_view c.args.nodes.now) c.args.self c.requires.word c.args.fold c.args.set c.tested-on.result c.args.c c.tested-on.ensures
+    other_step (nodes_view c.args.nodes.now) c.args.self c.requires.word c.args.fold c.args.set c.tested-on.result c.args.c
+    c.tested-on.ensures
     (λ e. absurd (omega (arith, e, c.if-c-eq47.false)))

@@ -7,5 +7,6 @@ use Rattle.ignore_rules.proofs.gitignore.builder.GitignoreBuilder.push_parsed.Go
 pub returns-in-Ok-clause-added : goal.returns-in-Ok-clause-added
 returns-in-Ok-clause-added c =
     let same = ap (λ (b : Building). b.options.glob) c.self.view_is in
-    let parsed = gives_rule c.args.self.now.options c.self.inside.options _ c.args.parsed_line c.actual.result.now c.in-Ok.pattern c.new.result same c.actual.ensures c.in-Ok.ensures.reading c.in-Ok.ensures.case c.new.ensures in
+    let parsed = gives_rule c.args.self.now.options c.self.inside.options _ c.args.parsed_line c.actual.result.now c.in-Ok.pattern
+    c.new.result same c.actual.ensures c.in-Ok.ensures.reading c.in-Ok.ensures.case c.new.ensures in
     on_ok_weaker c.push_glob.result (λ e. (Some c.new.result, parsed, e)) c.push_glob.ensures.added

@@ -1,14 +1,18 @@
 -- The directory of a path, by its last slash.
-use Rattle.std.proofs.Common.{◌≡◌, ℕ, zero, suc, ◌+◌, ◌<◌, ◌≤◌, Bool, true, false, ◌&&◌, eqb, List, [], ◌∷◌, ◌++◌, length, take, drop, get_or, refl, sym, ap, ◌∙◌, cond, arith}
+use Rattle.std.proofs.Common.{◌≡◌, ℕ, zero, suc, ◌+◌, ◌<◌, ◌≤◌, Bool, true, false, ◌&&◌, eqb, List, [], ◌∷◌, ◌++◌, length, take, drop}
+use Rattle.std.proofs.Common.{get_or, refl, sym, ap, ◌∙◌, cond, arith}
 use Rattle.std.specs.Prelude.{codes}
 use Rattle.std.proofs.lemmas.Bool.{false_from_ne_true, eqb-true}
 use Rattle.std.proofs.lemmas.List.{length-take-le, length-drop, get_or-drop}
 use Rattle.std.proofs.lemmas.List.Splits.{slice_split_none}
-use Rattle.ignore_base.specs.Paths.{is_slash, components, joined, is_absolute}
+use Rattle.ignore_base.specs.Text.{is_slash}
+use Rattle.ignore_base.specs.Paths.{components, joined, is_absolute, but_last, folder_of}
 use Rattle.ignore_base.proofs.ComponentLemmas.{components-slash, joined-components, no_slash, cut_at}
-use Rattle.ignore_files.specs.Memory.{but_last}
-use Rattle.ignore_files.proofs.Components.{but_last_push}
-use Rattle.ignore_rules.specs.Matchers.{folder_of}
+
+pub but_last_push : (ps : List (List ℕ)) (p : List ℕ) → but_last (ps ++ p ∷ []) ≡ ps
+but_last_push [] p = refl
+but_last_push (q ∷ []) p = refl
+but_last_push (q ∷ (r ∷ ps)) p = ap (λ qs. q ∷ qs) (but_last_push (r ∷ ps) p)
 
 -- the text before the last slash
 before : (path : List ℕ) (k : ℕ) → k < length path → is_slash (get_or path k 0) ≡ true

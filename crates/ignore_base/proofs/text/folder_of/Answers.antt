@@ -1,6 +1,6 @@
 use Rattle.std.proofs.Common.{◌≡◌, ◌<◌, take, ◌∙◌, arith}
-use Rattle.ignore_rules.proofs.FolderLemmas.{folder_none, folder_at_start, folder_before}
-use Rattle.ignore_rules.proofs.gitignore.open.folder_of.Goals as goal
+use Rattle.ignore_base.proofs.FolderLemmas.{folder_none, folder_at_start, folder_before}
+use Rattle.ignore_base.proofs.text.folder_of.Goals as goal
 
 pub returns-in-None : goal.returns-in-None
 returns-in-None c =
