@@ -14,4 +14,5 @@ pub mod Codes
 pub mod Reading
 pub mod DoesMatch
 pub mod Forms
+pub mod Needles
 pub mod Words

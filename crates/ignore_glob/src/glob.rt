@@ -10,6 +10,7 @@ mod lexeme;
 mod marks;
 mod meaning;
 mod member;
+mod needle;
 mod node;
 mod nodes;
 mod options;

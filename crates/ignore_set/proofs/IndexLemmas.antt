@@ -12,7 +12,8 @@ use Rattle.ignore_set.specs.declared.table.Table.{Table}
 use Rattle.ignore_set.specs.declared.text.Ending.{Ending}
 use Rattle.ignore_set.specs.declared.text.Ending.TheVariants.{Name, End}
 use Rattle.ignore_set.specs.Ends.{HasEnd, HasName}
-use Rattle.ignore_set.specs.Index.{Fits, IsAfterLast, IsTableOf, AreOthers, IsIndexOf, IsExactOf, IsFoundFrom, StandsUnderEnd, slot_at, after}
+use Rattle.ignore_set.specs.Index.{Fits, IsAfterLast, IsTableOf, IsIndexOf, IsExactOf, StandsUnderEnd, slot_at, after}
+use Rattle.ignore_set.specs.Others.{IsFoundFrom}
 use Rattle.ignore_set.specs.Sets.{Member, Allows, Applies, IsLastMatch}
 use Rattle.ignore_set.proofs.FormLemmas.{slash_byte, whole_matches, matches_whole, name_matches, matches_name, end_matches, matches_end}
 
@@ -87,14 +88,14 @@ is_other (name key) = inr (λ e. cc)
 is_other (ending key) = inr (λ e. cc)
 is_other other = inl refl
 
-pub all_above : (index : Index) (text : List ℕ) (is_dir : Bool) (ms : List Member) (best n : ℕ) → IsIndexOf index ms → IsExactOf text is_dir ms best → IsFoundFrom (chars text) is_dir ms index.others.items best n → (i : ℕ) (m : Member) → slice_get ms i ≡ Some m → Applies (chars text) is_dir m → i < n
-all_above index text is_dir ms best n is exact found i m g a = elim (is_other (form_of m.reading)) [
-  | inl form ↦ let p = is.others.each i m g form in found.above p.0 i m (slice_get-get_or index.others.items p.0 i p.1.0 ∙ ap Some (sym p.1.1)) g a
+pub all_above : (text : List ℕ) (is_dir : Bool) (ms : List Member) (best n : ℕ) → IsExactOf text is_dir ms best → IsFoundFrom text is_dir ms best n → (i : ℕ) (m : Member) → slice_get ms i ≡ Some m → Applies (chars text) is_dir m → i < n
+all_above text is_dir ms best n exact found i m g a = elim (is_other (form_of m.reading)) [
+  | inl form ↦ found.above i m g form a
   | inr formed ↦ omega (arith, exact.above i m g a formed, found.kept)
 ]
 
-pub all_last : (index : Index) (text : List ℕ) (is_dir : Bool) (ms : List Member) (best n : ℕ) → IsExactOf text is_dir ms best → IsFoundFrom (chars text) is_dir ms index.others.items best n → Stands (chars text) is_dir ms n
-all_last index text is_dir ms best n exact found = elim (found.last) [
+pub all_last : (text : List ℕ) (is_dir : Bool) (ms : List Member) (best n : ℕ) → IsExactOf text is_dir ms best → IsFoundFrom text is_dir ms best n → Stands (chars text) is_dir ms n
+all_last text is_dir ms best n exact found = elim (found.last) [
   | inl e ↦ subst (λ k. Stands (chars text) is_dir ms k) (sym e) exact.last
   | inr f ↦ inr f
 ]
@@ -112,13 +113,7 @@ decided text is_dir ms n (Some x) (some, e) above (inr (i, m, is, g, a)) =
         let here : get_or (drop (x + 1) ms) k d ≡ get_or ms (x + 1 + k) d = get_or-drop (x + 1) ms k d in
         omega (arith, e, is, above (x + 1 + k) (get_or ms (x + 1 + k) d) (slice_get-get_or ms (x + 1 + k) d within) (subst (λ (y : Member). Applies text is_dir y) here b))
 
--- The scan of the others from the last down: at and past j none applies.
-
-abbrev pub NoneFrom : List ℕ → Bool → List Member → List ℕ → ℕ → Type 0
-NoneFrom text is_dir ms others j = (k i : ℕ) (m : Member) → j ≤ k → slice_get others k ≡ Some i → slice_get ms i ≡ Some m → Applies text is_dir m → ⊥
-
-abbrev pub Rises : List ℕ → Type 0
-Rises others = (j k a b : ℕ) → j < k → slice_get others j ≡ Some a → slice_get others k ≡ Some b → a < b
+-- Options and numbers.
 
 pub some_same : {X : Type 0} (a b : X) → Some a ≡ Some b → a ≡ b
 some_same a b e = cc
@@ -128,48 +123,6 @@ none_some a e = cc
 
 pub split : (k j : ℕ) → (k < j) ⊎ (k ≡ j) ⊎ (j + 1 ≤ k)
 split k j = grind arith
-
-pub found_early : (text : List ℕ) (is_dir : Bool) (ms : List Member) (others : List ℕ) (best j i : ℕ) → Rises others → slice_get others j ≡ Some i → i < best → NoneFrom text is_dir ms others (j + 1) → IsFoundFrom text is_dir ms others best best
-found_early text is_dir ms others best j i rising here less none = record {
-  kept = omega arith;
-  above = λ k a m g h b. elim (split k j) [
-    | inl before ↦ omega (arith, less, rising k j a i before g here)
-    | inr (inl same) ↦ omega (arith, less, some_same a i (sym g ∙ (ap (λ n. slice_get others n) same ∙ here)))
-    | inr (inr later) ↦ absurd (none k a m later g h b)
-  ];
-  last = inl refl;
-}
-
-pub found_here : (text : List ℕ) (is_dir : Bool) (ms : List Member) (others : List ℕ) (best j i : ℕ) (m : Member) → Rises others → slice_get others j ≡ Some i → best ≤ i → slice_get ms i ≡ Some m → Applies text is_dir m → NoneFrom text is_dir ms others (j + 1) → IsFoundFrom text is_dir ms others best (i + 1)
-found_here text is_dir ms others best j i m rising here from at applies none = record {
-  kept = omega (arith, from);
-  above = λ k a x g h b. elim (split k j) [
-    | inl before ↦ omega (arith, rising k j a i before g here)
-    | inr (inl same) ↦ omega (arith, some_same a i (sym g ∙ (ap (λ n. slice_get others n) same ∙ here)))
-    | inr (inr later) ↦ absurd (none k a x later g h b)
-  ];
-  last = inr (i, m, refl, at, applies);
-}
-
-pub found_none : (text : List ℕ) (is_dir : Bool) (ms : List Member) (others : List ℕ) (best : ℕ) → NoneFrom text is_dir ms others 0 → IsFoundFrom text is_dir ms others best best
-found_none text is_dir ms others best none = record {
-  kept = omega arith;
-  above = λ k a m g h b. absurd (none k a m (omega arith) g h b);
-  last = inl refl;
-}
-
-pub none_more : (text : List ℕ) (is_dir : Bool) (ms : List Member) (others : List ℕ) (j i : ℕ) (m : Member) → slice_get others j ≡ Some i → slice_get ms i ≡ Some m → (Applies text is_dir m → ⊥) → NoneFrom text is_dir ms others (j + 1) → NoneFrom text is_dir ms others j
-none_more text is_dir ms others j i m here at fails none k a x from g h b = elim (split k j) [
-  | inl before ↦ absurd (omega (arith, from, before))
-  | inr (inl same) ↦ fails (subst (λ (y : Member). Applies text is_dir y) (one a x m (some_same a i (sym g ∙ (ap (λ n. slice_get others n) same ∙ here))) h at) b)
-  | inr (inr later) ↦ none k a x later g h b
-]
-  where
-    some_one : (p q : Member) → Some p ≡ Some q → p ≡ q
-    some_one p q e = cc
-
-    one : (a : ℕ) (p q : Member) → a ≡ i → slice_get ms a ≡ Some p → slice_get ms i ≡ Some q → p ≡ q
-    one a p q e gp gq = some_one p q (sym gp ∙ (ap (λ n. slice_get ms n) e ∙ gq))
 
 -- What stands under the ends of a text.
 

@@ -2,4 +2,7 @@ pub mod FormLemmas
 pub mod EndLemmas
 pub mod IndexLemmas
 pub mod SlotLemmas
+pub mod MaskLemmas
+pub mod OtherLemmas
+pub mod AddLemmas
 mod WorkedForms

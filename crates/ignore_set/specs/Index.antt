@@ -6,7 +6,8 @@ use Rattle.std.specs.Option.{unwrap_or}
 use Rattle.std.specs.Str.{chars, IsUtf8}
 use Rattle.ignore_glob.specs.Forms.{Form, whole, name, ending, other, form_of}
 use Rattle.ignore_set.specs.Ends.{HasEnd, HasName}
-use Rattle.ignore_set.specs.Sets.{Member, Allows, Applies, pass_bound}
+use Rattle.ignore_set.specs.Others.{AreOthers}
+use Rattle.ignore_set.specs.Sets.{Member, Allows, Applies}
 use Rattle.ignore_set.specs.declared.index.Index.{Index}
 use Rattle.ignore_set.specs.declared.table.Slot.{Slot}
 use Rattle.ignore_set.specs.declared.table.Table.{Table}
@@ -35,13 +36,6 @@ pub record IsTableOf (form : List ℕ → Form) (table : Table) (ms : List Membe
   pub slots : (is_dir : Bool) (text : List ℕ) → IsAfterLast (λ m. (form_of m.reading ≡ form text) × Allows is_dir m) ms (after is_dir (slot_at table text))
   pub lengths : (i : ℕ) (m : Member) (text : List ℕ) → slice_get ms i ≡ Some m → form_of m.reading ≡ form text → IsUtf8 text × IsAmong table.lengths.items (length text)
 
--- the indices, from the least up, of the patterns of no form
-pub record AreOthers (others : List ℕ) (ms : List Member) : Type 0 where
-  pub each : (i : ℕ) (m : Member) → slice_get ms i ≡ Some m → form_of m.reading ≡ other → IsAmong others i
-  pub rising : (j k a b : ℕ) → j < k → slice_get others j ≡ Some a → slice_get others k ≡ Some b → a < b
-  pub within : (j a : ℕ) → slice_get others j ≡ Some a → a < length ms
-  pub few : length others ≤ pass_bound ms
-
 -- the index is one of these patterns, in their order
 pub record IsIndexOf (index : Index) (ms : List Member) : Type 0 where
   pub whole : IsTableOf whole index.whole ms
@@ -63,9 +57,3 @@ StandsUnderEnd how table is_dir text n =
 pub record IsExactOf (text : List ℕ) (is_dir : Bool) (ms : List Member) (n : ℕ) : Type 0 where
   pub above : (i : ℕ) (m : Member) → slice_get ms i ≡ Some m → Applies (chars text) is_dir m → (form_of m.reading ≡ other → ⊥) → i < n
   pub last : (n ≡ 0) ⊎ ((i : ℕ) × (m : Member) × (n ≡ i + 1) × (slice_get ms i ≡ Some m) × Applies (chars text) is_dir m)
-
--- n is one more than the greatest of these indices at which a pattern applies, or `best` where that is no less
-pub record IsFoundFrom (text : List ℕ) (is_dir : Bool) (ms : List Member) (others : List ℕ) (best n : ℕ) : Type 0 where
-  pub kept : best ≤ n
-  pub above : (j i : ℕ) (m : Member) → slice_get others j ≡ Some i → slice_get ms i ≡ Some m → Applies text is_dir m → i < n
-  pub last : (n ≡ best) ⊎ ((i : ℕ) × (m : Member) × (n ≡ i + 1) × (slice_get ms i ≡ Some m) × Applies text is_dir m)

@@ -1,30 +1,32 @@
 //! An index over patterns that their owner keeps.
-ghost use Rattle.std.specs.Prelude.{◌≡◌, ◌⊎◌, ◌+◌, ◌<◌, ◌≤◌, ◌^◌, ◌++◌, ◌∷◌, [], ℕ, IfOk, IfErr, List, length, map, slice_get, Some};
+ghost use Rattle.std.specs.Prelude.{◌≡◌, ◌+◌, ◌<◌, ◌≤◌, ◌^◌, ◌++◌, ◌∷◌, [], ℕ, IfOk, IfErr, List, length, map};
 ghost use Rattle.std.specs.Str.{chars};
 ghost use Rattle.ignore_base.specs.Problem.{problem_of, memory};
-ghost use Rattle.ignore_glob.specs.Forms.{form_of, key_form};
-ghost use Rattle.ignore_set.specs.Index.{IsIndexOf, IsExactOf, IsFoundFrom};
+ghost use Rattle.ignore_set.specs.Index.{IsIndexOf, IsExactOf};
+ghost use Rattle.ignore_set.specs.Others.{AreOthers, IsFoundFrom};
 ghost use Rattle.ignore_set.specs.Sets.{Member, Applies, IsLastMatch, pass_bound};
 
 use crate::candidate::applies;
 use crate::has_pattern::HasPattern;
+use crate::needle::{Needle, mask_of, put_needles};
 use crate::table::Table;
 use crate::text::Ending;
 use ignore_base::Error;
-use ignore_glob::glob::Key;
+use ignore_glob::glob::{Key, Pattern};
 use std::alloc::{AllocError, Global};
 
 /// For dependents that keep values with patterns in a list of their own: what is needed to find the
 /// last of them that matches a text.
 ///
-/// A pattern of literals, alone or after `**/` or `**/*`, stands in a table under its text; only the
-/// others are tried one by one.
+/// A pattern of literals, alone or after `**/` or `**/*`, stands in a table under its text. The
+/// others are tried one by one, from the last, where a text is in the queried one without which they
+/// don't match.
 #[derive(Debug, Drop)]
 pub struct Index {
     whole: Table,
     names: Table,
     ends: Table,
-    others: Vec<usize>,
+    others: Vec<Needle>,
 }
 
 impl Index {
@@ -109,18 +111,15 @@ impl Index {
     }
 
     /// Adds the pattern that follows those that the index has.
-    fn add(&mut self, key: Key, index: usize, only_dir: bool) -> Result<(), AllocError>
+    fn add(&mut self, pattern: &Pattern, index: usize, only_dir: bool) -> Result<(), AllocError>
         requires { index + 1 < 2 ^ 64 }
-        ensures { IfOk result (λ _. (ms : List Member) (m : Member) → IsIndexOf self.old ms → length ms ≡ index → form_of m.reading ≡ key_form key → m.only_dir ≡ only_dir → IsIndexOf self.new (ms ++ m ∷ [])) }
+        ensures { IfOk result (λ _. (ms : List Member) (m : Member) → IsIndexOf self.old ms → length ms ≡ index → m.reading ≡ pattern.now → m.only_dir ≡ only_dir → IsIndexOf self.new (ms ++ m ∷ [])) }
     {
-        match key {
+        match pattern.key()? {
             Key::Whole(text) => self.whole.put(text, index, only_dir),
             Key::Name(text) => self.names.put(text, index, only_dir),
             Key::End(text) => self.ends.put(text, index, only_dir),
-            Key::Other => {
-                self.others.push(index)?;
-                Ok(())
-            }
+            Key::Other => put_needles(&mut self.others, pattern.needles()?, index),
         }
     }
 }
@@ -130,34 +129,43 @@ fn index_of<M: HasPattern>(alloc: Global, members: &[M]) -> Result<Index, AllocE
 {
     let mut index = Index::empty(alloc);
     for (i, member) in members.iter().enumerate() {
-        index.add(member.pattern().key()?, i, member.is_only_dir())?;
+        index.add(member.pattern(), i, member.is_only_dir())?;
     }
     Ok(index)
 }
 
-/// One more than the greatest index among these, and `best`, that applies, and how many passes
-/// over positions that took.
+/// One more than the greatest index among the patterns of no form that apply, and `best`, and how
+/// many passes over positions that took.
 fn last_other<M: HasPattern>(
     members: &[M],
-    others: &[usize],
+    others: &[Needle],
     best: usize,
     text: &str,
     is_dir: bool,
 ) -> Result<(usize, u64), Error>
-    requires within { (j a : ℕ) → slice_get others.now j ≡ Some a → a < length members.now }
-    requires rising { (j k a b : ℕ) → j < k → slice_get others.now j ≡ Some a → slice_get others.now k ≡ Some b → a < b }
-    ensures value { IfOk result (λ r. IsFoundFrom (chars text.now) is_dir (map M.member members.now) others.now best r.0) }
-    ensures count { IfOk result (λ r. r.1 ≤ length others.now) }
+    requires { AreOthers others.now (map M.member members.now) }
+    ensures value { IfOk result (λ r. IsFoundFrom text.now is_dir (map M.member members.now) best r.0) }
+    ensures count { IfOk result (λ r. r.1 ≤ pass_bound (map M.member members.now)) }
     ensures out_of_memory { IfErr result (λ e. problem_of e ≡ memory) }
 {
+    let mask = mask_of(text);
     let mut passes = 0u64;
+    let mut tried = members.len();
     for j in (0..others.len()).rev() {
-        let i = others[j];
+        let needle = &others[j];
+        let i = needle.index();
         if i < best {
             return Ok((best, passes));
         }
+        if i == tried {
+            continue;
+        }
+        if !needle.is_in(text, mask) {
+            continue;
+        }
         match applies(&members[i], text, is_dir) {
             Ok((yes, count)) => {
+                tried = i;
                 passes = passes.saturating_add(count);
                 if yes {
                     return Ok((i + 1, passes));

@@ -5,6 +5,7 @@ mod candidate;
 mod entry;
 mod has_pattern;
 mod index;
+mod needle;
 mod set;
 mod table;
 mod text;

@@ -95,7 +95,7 @@ fn literal_text(alloc: Global, tokens: &[Token]) -> Result<Option<String>, Alloc
 }
 
 #[tactic(auto, using(crate::proofs::Views::view_equations))]
-fn literal_of(token: &Token) -> Option<char>
+pub(crate) fn literal_of(token: &Token) -> Option<char>
     ensures { result ≡ literal_of (view token.now) }
 {
     match token {

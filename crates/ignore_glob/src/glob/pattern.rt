@@ -1,10 +1,11 @@
 //! A parsed glob, and the texts that it matches.
-ghost use Rattle.std.specs.Prelude.{◌≡◌, ◌+◌, ◌-◌, ◌*◌, ◌^◌, ◌≤◌, ◌↔◌, ℕ, false, IsTrue, IsOk, IfOk, IfErr, length, min};
+ghost use Rattle.std.specs.Prelude.{◌≡◌, ◌+◌, ◌-◌, ◌*◌, ◌^◌, ◌≤◌, ◌↔◌, ℕ, false, IsTrue, IsOk, IfOk, IfErr, List, length, map, min, string_bytes};
 ghost use Rattle.std.specs.Coded.{Coded-set, coded_list, coded_option};
-ghost use Rattle.std.specs.Str.{chars};
+ghost use Rattle.std.specs.Str.{chars, IsUtf8};
 ghost use Rattle.ignore_glob.specs.DoesMatch.{does_match};
 ghost use Rattle.ignore_glob.specs.Forms.{key_form, form_of};
 ghost use Rattle.ignore_glob.specs.Positions.{CountsMarks, positions};
+ghost use Rattle.ignore_glob.specs.Needles.{HasOneOf};
 ghost use Rattle.ignore_glob.specs.NodeLists.{glob_nodes, node_code, nodes_view};
 ghost use Rattle.ignore_glob.specs.GlobFaults.{IfFault};
 ghost use Rattle.ignore_base.specs.Problem.{problem_of, memory};
@@ -16,6 +17,7 @@ ghost use Rattle.ignore_glob.specs.Words.{has_braces, masks_code, word_of};
 use crate::glob::copies::copied;
 use crate::glob::fault::PatternError;
 use crate::glob::key::{Key, key_of};
+use crate::glob::needle::{anything, needles_of};
 use crate::glob::node::Node;
 use crate::glob::nodes::nodes_of;
 use crate::glob::options::Options;
@@ -140,6 +142,19 @@ impl Pattern {
             Ok(Key::Other)
         } else {
             key_of(*self.tokens.allocator(), &self.tokens)
+        }
+    }
+
+    /// For dependents: texts, one of which is in each text that the pattern matches; where none is
+    /// known, or case is folded, the empty text alone.
+    pub fn needles(&self) -> Result<Vec<String>, AllocError>
+        ensures { IfOk result (λ needles. (text : List ℕ) → IsUtf8 text → Matches self.now (chars text) → HasOneOf (map string_bytes needles.items) text) }
+    {
+        let alloc = *self.tokens.allocator();
+        if self.case_insensitive {
+            anything(alloc)
+        } else {
+            needles_of(alloc, &self.tokens)
         }
     }
 }

@@ -1,10 +1,11 @@
-use Rattle.std.proofs.Common.{◌+◌, ◌≤◌, length, map}
-use Rattle.std.specs.Str.{chars}
-use Rattle.ignore_set.proofs.IndexLemmas.{NoneFrom}
+use Rattle.std.proofs.Common.{◌≤◌, drop, map}
+use Rattle.ignore_set.specs.Sets.{pass_bound}
+use Rattle.ignore_set.proofs.OtherLemmas.{IsTried, NoneFrom}
 use Rattle.ignore_set.proofs.index.last_other.Given as goal
 
 abbrev pub invariant-loop-j : goal.invariant-loop-j
 invariant-loop-j g l = record {
-  none : NoneFrom (chars l.text) l.is_dir (map g.M.HasPattern.member l.members) l.others l.j;
-  few : l.passes + l.j ≤ length l.others;
+  none : NoneFrom l.text l.is_dir (map g.M.HasPattern.member l.members) l.others l.j;
+  tried : IsTried l.text l.is_dir (map g.M.HasPattern.member l.members) l.others l.j l.tried;
+  few : l.passes ≤ pass_bound (drop l.tried (map g.M.HasPattern.member l.members));
 }

@@ -1,7 +1,7 @@
 use Rattle.std.proofs.Common.{Some, ap, ◌∙◌, string_bytes}
 use Rattle.std.proofs.lemmas.Map.Text.{btree_map_updates_text}
 use Rattle.ignore_set.specs.Index.{slot_at, slot_with}
-use Rattle.ignore_set.proofs.SlotLemmas.{put_slots}
+use Rattle.ignore_set.proofs.AddLemmas.{put_slots}
 use Rattle.ignore_set.proofs.table.Table.put.Goals as goal
 
 pub returns-clause-slots : goal.returns-clause-slots

@@ -1,0 +1,108 @@
+-- What an index keeps when a pattern is added after the others.
+use Rattle.std.proofs.Common.{◌≡◌, ◌≢◌, ◌⊎◌, ℕ, zero, suc, ◌+◌, ◌<◌, ◌≤◌, Bool, true, false, cond, List, [], ◌∷◌, ◌++◌, length, slice_get, Result, Ok, Err, IfOk, Some, None, refl, sym, ap, subst, ◌∙◌, inl, inr, arith, Vec, Global}
+use Rattle.std.specs.Bool.{Decides}
+use Rattle.std.specs.BTreeMap.{get_by_text}
+use Rattle.std.specs.List.{IsAmong}
+use Rattle.std.specs.Map.{update}
+use Rattle.std.specs.Option.{unwrap_or}
+use Rattle.std.specs.Str.{IsUtf8, bytes_eq}
+use Rattle.std.proofs.lemmas.Bool.{false≢true, cases_Bool}
+use Rattle.std.proofs.lemmas.List.{length-append, get_or_append_left}
+use Rattle.std.proofs.lemmas.List.Sums.{sum_by-append}
+use Rattle.std.proofs.Math.Seq.{get_or-append_seam}
+use Rattle.std.proofs.lemmas.Option.{slice_get_within}
+use Rattle.std.proofs.lemmas.Slice.Eq.{bytes_eq-Decides}
+use Rattle.ignore_glob.specs.Forms.{Form, whole, name, ending, other, form_of}
+use Rattle.ignore_set.specs.declared.index.Index.{Index}
+use Rattle.ignore_set.specs.declared.table.Slot.{Slot}
+use Rattle.ignore_set.specs.declared.table.Table.{Table}
+use Rattle.ignore_set.specs.Index.{IsAfterLast, IsTableOf, IsIndexOf, slot_at, slot_with, after}
+use Rattle.ignore_set.specs.Others.{IndexedText, AreOthers}
+use Rattle.ignore_set.specs.Sets.{Member, Allows, form_passes, passes_of, pass_bound}
+
+use Rattle.std.specs.Str.{chars}
+use Rattle.ignore_glob.specs.Needles.{HasOneOf}
+use Rattle.ignore_glob.specs.Reading.{Matches}
+use Rattle.ignore_set.proofs.OtherLemmas.{needles_at, others_same, others_put}
+use Rattle.ignore_set.proofs.SlotLemmas.{table_same, table_put}
+
+-- One step of an index.
+
+pub if_ok3 : {T E A B C D : Type 0} (r : Result T E) → IfOk r (λ _. A) → IfOk r (λ _. B) → IfOk r (λ _. C) → (A → B → C → D) → IfOk r (λ _. D)
+if_ok3 (Ok x) a b c f = f a b c
+if_ok3 (Err e) a b c f = tt
+
+pub put_slots : (old new : Table) (text : List ℕ) (w : Slot) (index : ℕ) (only_dir : Bool) (q : List ℕ) → get_by_text new.slots q ≡ update bytes_eq (λ t. get_by_text old.slots t) text (Some w) q → w ≡ slot_with index only_dir (slot_at old text)
+    → slot_at new q ≡ cond (bytes_eq text q) (slot_with index only_dir (slot_at old q)) (slot_at old q)
+put_slots old new text w index only_dir q e is = ap (λ o. unwrap_or o (record { file = 0; dir = 0 })) e ∙ at (bytes_eq text q) (bytes_eq-Decides text q)
+  where
+    at : (same : Bool) → Decides same (text ≡ q) → unwrap_or (cond same (Some w) (get_by_text old.slots q)) (record { file = 0; dir = 0 }) ≡ cond same (slot_with index only_dir (slot_at old q)) (slot_at old q)
+    at true d = is ∙ ap (λ t. slot_with index only_dir (slot_at old t)) (d.0 refl)
+    at false d = refl
+
+whole≢name : (a b : List ℕ) → whole a ≢ name b
+whole≢name a b e = cc
+
+whole≢ending : (a b : List ℕ) → whole a ≢ ending b
+whole≢ending a b e = cc
+
+name≢ending : (a b : List ℕ) → name a ≢ ending b
+name≢ending a b e = cc
+
+whole≢other : (a : List ℕ) → whole a ≢ other
+whole≢other a e = cc
+
+name≢other : (a : List ℕ) → name a ≢ other
+name≢other a e = cc
+
+ending≢other : (a : List ℕ) → ending a ≢ other
+ending≢other a e = cc
+
+one_whole : (a b : List ℕ) → whole a ≡ whole b → a ≡ b
+one_whole a b e = cc
+
+one_name : (a b : List ℕ) → name a ≡ name b → a ≡ b
+one_name a b e = cc
+
+one_ending : (a b : List ℕ) → ending a ≡ ending b → a ≡ b
+one_ending a b e = cc
+
+-- what `put` says of a table and a text
+abbrev pub Puts : Table → Table → ℕ → Bool → List ℕ → Type 0
+Puts old new index only_dir text =
+    ((q : List ℕ) → slot_at new q ≡ cond (bytes_eq text q) (slot_with index only_dir (slot_at old q)) (slot_at old q))
+    × (IsUtf8 text × IsAmong new.lengths.items (length text))
+    × ((n : ℕ) → IsAmong old.lengths.items n → IsAmong new.lengths.items n)
+
+pub add_whole : (old : Index) (new : Table) (text : List ℕ) (index : ℕ) (only_dir : Bool) → Puts old.whole new index only_dir text → (ms : List Member) (m : Member) → IsIndexOf old ms → length ms ≡ index → form_of m.reading ≡ whole text → m.only_dir ≡ only_dir → IsIndexOf (record { whole = new; names = old.names; ends = old.ends; others = old.others }) (ms ++ m ∷ [])
+add_whole old new text index only_dir p ms m was size is only = record {
+  whole = table_put whole old.whole new ms m index text only_dir one_whole was.whole size is only p.0 p.1 p.2;
+  names = table_same name old.names ms m (λ t e. whole≢name text t (sym is ∙ e)) was.names;
+  ends = table_same ending old.ends ms m (λ t e. whole≢ending text t (sym is ∙ e)) was.ends;
+  others = others_same old.others.items ms m (λ e. whole≢other text (sym is ∙ e)) was.others;
+}
+
+pub add_name : (old : Index) (new : Table) (text : List ℕ) (index : ℕ) (only_dir : Bool) → Puts old.names new index only_dir text → (ms : List Member) (m : Member) → IsIndexOf old ms → length ms ≡ index → form_of m.reading ≡ name text → m.only_dir ≡ only_dir → IsIndexOf (record { whole = old.whole; names = new; ends = old.ends; others = old.others }) (ms ++ m ∷ [])
+add_name old new text index only_dir p ms m was size is only = record {
+  whole = table_same whole old.whole ms m (λ t e. whole≢name t text (sym e ∙ is)) was.whole;
+  names = table_put name old.names new ms m index text only_dir one_name was.names size is only p.0 p.1 p.2;
+  ends = table_same ending old.ends ms m (λ t e. name≢ending text t (sym is ∙ e)) was.ends;
+  others = others_same old.others.items ms m (λ e. name≢other text (sym is ∙ e)) was.others;
+}
+
+pub add_end : (old : Index) (new : Table) (text : List ℕ) (index : ℕ) (only_dir : Bool) → Puts old.ends new index only_dir text → (ms : List Member) (m : Member) → IsIndexOf old ms → length ms ≡ index → form_of m.reading ≡ ending text → m.only_dir ≡ only_dir → IsIndexOf (record { whole = old.whole; names = old.names; ends = new; others = old.others }) (ms ++ m ∷ [])
+add_end old new text index only_dir p ms m was size is only = record {
+  whole = table_same whole old.whole ms m (λ t e. whole≢ending t text (sym e ∙ is)) was.whole;
+  names = table_same name old.names ms m (λ t e. name≢ending t text (sym e ∙ is)) was.names;
+  ends = table_put ending old.ends new ms m index text only_dir one_ending was.ends size is only p.0 p.1 p.2;
+  others = others_same old.others.items ms m (λ e. ending≢other text (sym is ∙ e)) was.others;
+}
+
+pub add_other : (old : Index) (new : Vec IndexedText Global) (texts : List (List ℕ)) (index : ℕ) → new.items ≡ old.others.items ++ needles_at index texts → (ms : List Member) (m : Member) → IsIndexOf old ms → length ms ≡ index → form_of m.reading ≡ other
+    → ((text : List ℕ) → IsUtf8 text → Matches m.reading (chars text) → HasOneOf texts text) → IsIndexOf (record { whole = old.whole; names = old.names; ends = old.ends; others = new }) (ms ++ m ∷ [])
+add_other old new texts index o ms m was size is has = record {
+  whole = table_same whole old.whole ms m (λ t h. whole≢other t (sym h ∙ is)) was.whole;
+  names = table_same name old.names ms m (λ t h. name≢other t (sym h ∙ is)) was.names;
+  ends = table_same ending old.ends ms m (λ t h. ending≢other t (sym h ∙ is)) was.ends;
+  others = subst (λ l. AreOthers l (ms ++ m ∷ [])) (ap (λ k. old.others.items ++ needles_at k texts) size ∙ sym o) (others_put old.others.items texts ms m is has was.others);
+}

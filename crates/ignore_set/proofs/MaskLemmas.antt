@@ -1,0 +1,59 @@
+-- A text has the bits of each text in it.
+use Rattle.std.proofs.Common.{◌≡◌, ℕ, ◌+◌, ◌<◌, ◌≤◌, max, Bool, true, false, List, [], ◌∷◌, ◌++◌, length, get_or, drop, drop-cons, add-one, suc, refl, sym, ap, subst, ◌∙◌, arith}
+use Rattle.std.specs.Prelude.{bit_or}
+use Rattle.std.specs.Int.{bit_at}
+use Rattle.std.specs.Str.Iter.{HasSubslice}
+use Rattle.std.proofs.lemmas.Nat.Bits.{bit_at_or, bit_at-zero, same_from_bits}
+use Rattle.ignore_set.specs.Others.{bit_of, first_bit, mask_of}
+
+-- each bit of a is one of b
+abbrev pub Covers : ℕ → ℕ → Type 0
+Covers a b = (i : ℕ) → bit_at a i ≤ bit_at b i
+
+zero_covered : (b : ℕ) → Covers 0 b
+zero_covered b i = omega (arith, bit_at-zero i)
+
+same_covered : (a : ℕ) → Covers a a
+same_covered a i = omega arith
+
+or_covered : (a b c d : ℕ) → Covers a c → Covers b d → Covers (bit_or a b) (bit_or c d)
+or_covered a b c d p q i = omega (arith, bit_at_or a b i, bit_at_or c d i, p i, q i)
+
+first_covered : (a : ℕ) (xs ys : List ℕ) → Covers (first_bit (a ∷ xs)) (first_bit (a ∷ (xs ++ ys)))
+first_covered a [] ys = zero_covered (first_bit (a ∷ ys))
+first_covered a (b ∷ []) ys = zero_covered (first_bit (a ∷ b ∷ ys))
+first_covered a (b ∷ c ∷ xs) ys = same_covered (bit_of a b c)
+
+front_covered : (xs ys : List ℕ) → Covers (mask_of xs) (mask_of (xs ++ ys))
+front_covered [] ys = zero_covered (mask_of ys)
+front_covered (x ∷ xs) ys = or_covered (first_bit (x ∷ xs)) (mask_of xs) (first_bit (x ∷ (xs ++ ys))) (mask_of (xs ++ ys)) (first_covered x xs ys) (front_covered xs ys)
+
+back_covered : (xs ys : List ℕ) → Covers (mask_of ys) (mask_of (xs ++ ys))
+back_covered [] ys i = same_covered (mask_of ys) i
+back_covered (x ∷ xs) ys i = omega (arith, back_covered xs ys i, bit_at_or (first_bit (x ∷ (xs ++ ys))) (mask_of (xs ++ ys)) i)
+
+covered_or : (a b : ℕ) → Covers a b → bit_or a b ≡ b
+covered_or a b p = same_from_bits (bit_or a b) b (λ i. omega (arith, bit_at_or a b i, p i))
+
+pub inside_covered : (text needle : List ℕ) → HasSubslice text needle → bit_or (mask_of needle) (mask_of text) ≡ mask_of text
+inside_covered text needle (a, b, cut) =
+    let all = subst (λ t. Covers (mask_of needle) (mask_of t)) (sym cut)
+        (λ i. omega (arith, front_covered needle b i, back_covered a (needle ++ b) i)) in
+    covered_or (mask_of needle) (mask_of text) all
+
+pub first_three : (bytes : List ℕ) → 3 ≤ length bytes → bit_of (get_or bytes 0 0) (get_or bytes 1 0) (get_or bytes 2 0) ≡ first_bit bytes
+first_three [] long = absurd (omega (arith, long))
+first_three (a ∷ []) long = absurd (omega (arith, long))
+first_three (a ∷ b ∷ []) long = absurd (omega (arith, long))
+first_three (a ∷ b ∷ c ∷ bytes) long = refl
+
+pub no_three : (bytes : List ℕ) → length bytes < 3 → 0 ≡ first_bit bytes
+no_three [] short = refl
+no_three (a ∷ []) short = refl
+no_three (a ∷ b ∷ []) short = refl
+no_three (a ∷ b ∷ c ∷ bytes) short = absurd (omega (arith, short))
+
+pub mask_step : (bytes : List ℕ) (at : ℕ) → at < length bytes → mask_of (drop at bytes) ≡ bit_or (first_bit (drop at bytes)) (mask_of (drop (at + 1) bytes))
+mask_step bytes at fits =
+    let cut = drop-cons bytes at 0 fits in
+    rw add-one (ap mask_of cut ∙ ap (λ l. bit_or (first_bit l) (mask_of (drop (suc at) bytes))) (sym cut))

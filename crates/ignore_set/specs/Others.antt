@@ -1,0 +1,45 @@
+-- Patterns that no table has, and the texts without which they don't match.
+use Rattle.std.specs.Prelude.{◌≡◌, ◌⊎◌, ℕ, ◌+◌, ◌*◌, ◌^◌, ◌%◌, ◌<◌, ◌≤◌, Bool, List, [], ◌∷◌, slice_get, Some, bit_or, refl}
+use Rattle.std.specs.Coded.{Coded, code_by, coded×, coded_list, coded_ℕ}
+use Rattle.std.specs.Str.{chars, IsUtf8}
+use Rattle.std.specs.Str.Iter.{HasSubslice}
+use Rattle.ignore_glob.specs.Forms.{other, form_of}
+use Rattle.ignore_glob.specs.Reading.{Matches}
+use Rattle.ignore_set.specs.Sets.{Member, Applies}
+
+-- the index of a pattern, and a text
+pub record IndexedText : Type 0 where
+  pub index : ℕ
+  pub text : List ℕ
+
+abbrev pub indexed_text_code : Coded IndexedText
+indexed_text_code = code_by (ℕ × List ℕ) (coded× coded_ℕ (coded_list coded_ℕ)) (λ n. (n.index, n.text)) (λ p. record { index = p.0; text = p.1 }) (λ _. refl)
+
+-- one of 64 bits, for three bytes
+abbrev pub bit_of : ℕ → ℕ → ℕ → ℕ
+bit_of a b c = 2 ^ ((a * 37 + b * 101 + c * 5) % 64)
+
+-- the bit of the first three bytes, or none where there are fewer
+abbrev pub first_bit : List ℕ → ℕ
+first_bit [] = 0
+first_bit (a ∷ []) = 0
+first_bit (a ∷ b ∷ []) = 0
+first_bit (a ∷ b ∷ c ∷ text) = bit_of a b c
+
+-- the bits of each three bytes that follow each other
+abbrev pub mask_of : List ℕ → ℕ
+mask_of [] = 0
+mask_of (a ∷ text) = bit_or (first_bit (a ∷ text)) (mask_of text)
+
+-- for each pattern of no form, the texts one of which is in each text that it matches, by rising indices
+pub record AreOthers (others : List IndexedText) (ms : List Member) : Type 0 where
+  pub each : (i : ℕ) (m : Member) → slice_get ms i ≡ Some m → form_of m.reading ≡ other → (text : List ℕ) → IsUtf8 text → Matches m.reading (chars text)
+      → (j : ℕ) × (n : IndexedText) × (slice_get others j ≡ Some n) × (n.index ≡ i) × HasSubslice text n.text
+  pub rising : (j k : ℕ) (a b : IndexedText) → j ≤ k → slice_get others j ≡ Some a → slice_get others k ≡ Some b → a.index ≤ b.index
+  pub formless : (j : ℕ) (n : IndexedText) → slice_get others j ≡ Some n → (m : Member) × (slice_get ms n.index ≡ Some m) × (form_of m.reading ≡ other)
+
+-- n is one more than the greatest index at which a pattern of no form applies, or `best` where that is no less
+pub record IsFoundFrom (text : List ℕ) (is_dir : Bool) (ms : List Member) (best n : ℕ) : Type 0 where
+  pub kept : best ≤ n
+  pub above : (i : ℕ) (m : Member) → slice_get ms i ≡ Some m → form_of m.reading ≡ other → Applies (chars text) is_dir m → i < n
+  pub last : (n ≡ best) ⊎ ((i : ℕ) × (m : Member) × (n ≡ i + 1) × (slice_get ms i ≡ Some m) × Applies (chars text) is_dir m)

@@ -1,0 +1,96 @@
+//! Texts without which patterns don't match.
+ghost use Rattle.std.specs.Prelude.{◌≡◌, ◌↔◌, ◌++◌, ◌*◌, ◌^◌, ◌+◌, ◌<◌, ℕ, IsTrue, IfOk, map, string_bytes};
+ghost use Rattle.std.specs.Str.Iter.{HasSubslice};
+ghost use Rattle.ignore_set.specs.Others.{bit_of, first_bit, mask_of};
+
+use std::alloc::AllocError;
+use std::marker::Model;
+
+/// The index of a pattern, and a text: where the text isn't in another, the pattern doesn't match
+/// that, unless one of its other needles is in it.
+#[derive(Debug, Drop)]
+pub(crate) struct Needle {
+    index: usize,
+    text: String,
+    mask: u64,
+}
+
+impl Model for Needle {
+    ghost use Rattle.std.specs.Prelude.{◌≡◌, string_bytes};
+    ghost use Rattle.ignore_set.specs.Others.{IndexedText, indexed_text_code, mask_of};
+
+    ghost Value = { IndexedText };
+
+    ghost coded = { indexed_text_code };
+
+    ghost view = { λ n. record { index = n.index; text = string_bytes n.text } };
+
+    ghost invariant = { λ n. n.mask ≡ mask_of (string_bytes n.text) };
+}
+
+impl Needle {
+    fn new(index: usize, text: String) -> Needle
+        ensures { result ≡ record { index = index; text = string_bytes text } }
+    {
+        let mask = mask_of(text.as_str());
+        Needle { index, text, mask }
+    }
+
+    pub(crate) fn index(&self) -> usize
+        ensures { result ≡ self.now.index }
+    {
+        self.index
+    }
+
+    /// Whether the needle is in the text, whose mask is given too.
+    pub(crate) fn is_in(&self, text: &str, mask: u64) -> bool
+        requires { mask ≡ mask_of text.now }
+        ensures { IsTrue result ↔ HasSubslice text.now self.now.text }
+    {
+        if self.mask | mask != mask {
+            return false;
+        }
+        text.contains(self.text.as_str())
+    }
+}
+
+/// The bits of each three bytes that follow each other in the text.
+pub(crate) fn mask_of(text: &str) -> u64
+    ensures { result ≡ mask_of text.now }
+{
+    let bytes = text.as_bytes();
+    let mut mask = 0u64;
+    for at in (0..bytes.len()).rev() {
+        mask |= first_bit(&bytes[at..]);
+    }
+    mask
+}
+
+fn first_bit(bytes: &[u8]) -> u64
+    ensures { result ≡ first_bit bytes.now }
+{
+    if bytes.len() < 3 {
+        return 0;
+    }
+    bit_of(bytes[0], bytes[1], bytes[2])
+}
+
+fn bit_of(a: u8, b: u8, c: u8) -> u64
+    ensures { result ≡ bit_of a b c }
+{
+    1u64 << ((usize::from(a) * 37 + usize::from(b) * 101 + usize::from(c) * 5) % 64)
+}
+
+/// Appends these needles of the pattern at an index.
+pub(crate) fn put_needles(
+    needles: &mut Vec<Needle>,
+    texts: Vec<String>,
+    index: usize,
+) -> Result<(), AllocError>
+    ensures { IfOk result (λ _. needles.new.items ≡ needles.old.items ++ map (λ t. record { index = index; text = string_bytes t }) texts.items) }
+{
+    for text in texts {
+        needles.push(Needle::new(index, text))?;
+    }
+    Ok(())
+}
