@@ -90,18 +90,18 @@ known_literal t c run run' needles needles' e step text w known m =
 
 pub known_character : (c : ℕ) (run run' : List ℕ) (needles : List (List ℕ)) → run' ≡ run ++ encode_utf8 c → (text : List ℕ) → EndsAndHas run needles text → EndsAndHas run' needles (text ++ utf8 (c ∷ []))
 known_character c run run' needles grown text ((front, e), has) = (
-      (front, ap (λ l. text ++ l) (utf8-one c) ∙ (ap (λ l. l ++ encode_utf8 c) e ∙ (append_assoc front run (encode_utf8 c) ∙ ap (λ l. front ++ l) (sym grown)))),
-      one_more needles text (utf8 (c ∷ [])) has,
-    )
+  (front, ap (λ l. text ++ l) (utf8-one c) ∙ (ap (λ l. l ++ encode_utf8 c) e ∙ (append_assoc front run (encode_utf8 c) ∙ ap (λ l. front ++ l) (sym grown)))),
+  one_more needles text (utf8 (c ∷ [])) has,
+)
 
 pub known_past : (t : Token) (run none : List ℕ) (needles more chosen : List (List ℕ)) → none ≡ []
     → ((front w : List ℕ) → token_matches false t w → HasOneOf more ((front ++ run) ++ utf8 w))
     → ((text : List ℕ) → HasOneOf needles text → HasOneOf more text → HasOneOf chosen text)
     → (text w : List ℕ) → EndsAndHas run needles text → token_matches false t w → EndsAndHas none chosen (text ++ utf8 w)
 known_past t run none needles more chosen empty extended choice text w ((front, e), has) m = (
-      (text ++ utf8 w, sym (ap (λ l. (text ++ utf8 w) ++ l) empty ∙ append-nil (text ++ utf8 w))),
-      choice (text ++ utf8 w) (one_more needles text (utf8 w) has) (subst (λ l. HasOneOf more (l ++ utf8 w)) (sym e) (extended front w m)),
-    )
+  (text ++ utf8 w, sym (ap (λ l. (text ++ utf8 w) ++ l) empty ∙ append-nil (text ++ utf8 w))),
+  choice (text ++ utf8 w) (one_more needles text (utf8 w) has) (subst (λ l. HasOneOf more (l ++ utf8 w)) (sym e) (extended front w m)),
+)
 
 pub known_last : (run : List ℕ) (needles last chosen : List (List ℕ)) → last ≡ run ∷ []
     → ((text : List ℕ) → HasOneOf needles text → HasOneOf last text → HasOneOf chosen text)

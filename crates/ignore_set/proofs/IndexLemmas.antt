@@ -1,9 +1,9 @@
 -- What the tables and the others of an index say together.
-use Rattle.std.proofs.Common.{◌≡◌, ◌⊎◌, ℕ, zero, suc, ◌+◌, ◌-◌, ◌<◌, ◌≤◌, max, Bool, true, false, List, [], ◌∷◌, ◌++◌, length, map, take, drop, get_or, slice_get, Option, Some, None, SomeIff, refl, sym, ap, subst, ◌∙◌, inl, inr, arith, append_assoc}
+use Rattle.std.proofs.Common.{◌≡◌, ◌⊎◌, ℕ, zero, suc, ◌+◌, ◌-◌, ◌<◌, ◌≤◌, max, Bool, List, [], ◌∷◌, ◌++◌, length, map, take, drop, get_or, slice_get, Option, Some, None, SomeIff, refl, sym, ap, subst, ◌∙◌, inl, inr, arith, append_assoc}
 use Rattle.std.specs.List.{IsAmong}
 use Rattle.std.specs.Str.{chars, IsUtf8}
 use Rattle.std.proofs.lemmas.List.{get_or-drop, get_or-map, length-drop, length-map}
-use Rattle.std.proofs.lemmas.Option.{slice_get-get_or, slice_get_within}
+use Rattle.std.proofs.lemmas.Option.{slice_get-get_or}
 use Rattle.std.proofs.lemmas.Str.{IsCharBoundary-at_seam, IsUtf8-append, IsUtf8-take}
 use Rattle.std.proofs.Math.Seq.{take-append_seam}
 use Rattle.ignore_glob.specs.Forms.{Form, whole, name, ending, other, form_of}
@@ -12,9 +12,9 @@ use Rattle.ignore_set.specs.declared.table.Table.{Table}
 use Rattle.ignore_set.specs.declared.text.Ending.{Ending}
 use Rattle.ignore_set.specs.declared.text.Ending.TheVariants.{Name, End}
 use Rattle.ignore_set.specs.Ends.{HasEnd, HasName}
-use Rattle.ignore_set.specs.Index.{Fits, IsAfterLast, IsTableOf, IsIndexOf, IsExactOf, StandsUnderEnd, slot_at, after}
+use Rattle.ignore_set.specs.Index.{Fits, IsTableOf, IsIndexOf, IsExactOf, StandsUnderEnd, slot_at, after}
 use Rattle.ignore_set.specs.Others.{IsFoundFrom}
-use Rattle.ignore_set.specs.Sets.{Member, Allows, Applies, IsLastMatch}
+use Rattle.ignore_set.specs.Sets.{Member, Applies, IsLastMatch}
 use Rattle.ignore_set.proofs.FormLemmas.{slash_byte, whole_matches, matches_whole, name_matches, matches_name, end_matches, matches_end}
 
 -- Ends of a text.

@@ -1,5 +1,5 @@
 -- A text has the bits of each text in it.
-use Rattle.std.proofs.Common.{◌≡◌, ℕ, ◌+◌, ◌<◌, ◌≤◌, max, Bool, true, false, List, [], ◌∷◌, ◌++◌, length, get_or, drop, drop-cons, add-one, suc, refl, sym, ap, subst, ◌∙◌, arith}
+use Rattle.std.proofs.Common.{◌≡◌, ℕ, ◌+◌, ◌<◌, ◌≤◌, List, [], ◌∷◌, ◌++◌, length, get_or, drop, drop-cons, add-one, suc, refl, sym, ap, subst, ◌∙◌, arith}
 use Rattle.std.specs.Prelude.{bit_or}
 use Rattle.std.specs.Int.{bit_at}
 use Rattle.std.specs.Str.Iter.{HasSubslice}
@@ -38,7 +38,7 @@ covered_or a b p = same_from_bits (bit_or a b) b (λ i. omega (arith, bit_at_or 
 pub inside_covered : (text needle : List ℕ) → HasSubslice text needle → bit_or (mask_of needle) (mask_of text) ≡ mask_of text
 inside_covered text needle (a, b, cut) =
     let all = subst (λ t. Covers (mask_of needle) (mask_of t)) (sym cut)
-        (λ i. omega (arith, front_covered needle b i, back_covered a (needle ++ b) i)) in
+    (λ i. omega (arith, front_covered needle b i, back_covered a (needle ++ b) i)) in
     covered_or (mask_of needle) (mask_of text) all
 
 pub first_three : (bytes : List ℕ) → 3 ≤ length bytes → bit_of (get_or bytes 0 0) (get_or bytes 1 0) (get_or bytes 2 0) ≡ first_bit bytes

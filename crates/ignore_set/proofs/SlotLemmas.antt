@@ -1,23 +1,17 @@
 -- What a table keeps when a pattern is added after the others.
-use Rattle.std.proofs.Common.{◌≡◌, ◌≢◌, ◌⊎◌, ℕ, zero, suc, ◌+◌, ◌<◌, ◌≤◌, Bool, true, false, cond, List, [], ◌∷◌, ◌++◌, length, slice_get, Result, Ok, Err, IfOk, Some, None, refl, sym, ap, subst, ◌∙◌, inl, inr, arith, zero-add}
+use Rattle.std.proofs.Common.{◌≡◌, ◌≢◌, ◌⊎◌, ℕ, zero, suc, ◌+◌, Bool, true, false, cond, List, [], ◌∷◌, ◌++◌, length, slice_get, Some, refl, sym, ap, subst, ◌∙◌, inl, inr, arith}
 use Rattle.std.specs.Bool.{Decides}
-use Rattle.std.specs.BTreeMap.{get_by_text}
 use Rattle.std.specs.List.{IsAmong}
-use Rattle.std.specs.Map.{update}
-use Rattle.std.specs.Option.{unwrap_or}
 use Rattle.std.specs.Str.{IsUtf8, bytes_eq}
-use Rattle.std.proofs.lemmas.Bool.{false≢true, cases_Bool}
+use Rattle.std.proofs.lemmas.Bool.{false≢true}
 use Rattle.std.proofs.lemmas.List.{length-append, get_or_append_left}
-use Rattle.std.proofs.lemmas.List.Sums.{sum_by-append}
 use Rattle.std.proofs.Math.Seq.{get_or-append_seam}
 use Rattle.std.proofs.lemmas.Option.{slice_get_within}
 use Rattle.std.proofs.lemmas.Slice.Eq.{bytes_eq-Decides}
-use Rattle.ignore_glob.specs.Forms.{Form, whole, name, ending, other, form_of}
-use Rattle.ignore_set.specs.declared.index.Index.{Index}
-use Rattle.ignore_set.specs.declared.table.Slot.{Slot}
+use Rattle.ignore_glob.specs.Forms.{Form, form_of}
 use Rattle.ignore_set.specs.declared.table.Table.{Table}
-use Rattle.ignore_set.specs.Index.{IsAfterLast, IsTableOf, IsIndexOf, slot_at, slot_with, after}
-use Rattle.ignore_set.specs.Sets.{Member, Allows, form_passes, passes_of, pass_bound}
+use Rattle.ignore_set.specs.Index.{IsAfterLast, IsTableOf, slot_at, slot_with, after}
+use Rattle.ignore_set.specs.Sets.{Member, Allows}
 
 -- Lists with one more at the end.
 

@@ -1,5 +1,5 @@
 -- What an index keeps of the patterns that it was made of.
-use Rattle.std.specs.Prelude.{◌≡◌, ◌⊎◌, ℕ, ◌+◌, ◌<◌, ◌≤◌, Bool, cond, List, length, slice_get, Some}
+use Rattle.std.specs.Prelude.{◌≡◌, ◌⊎◌, ℕ, ◌+◌, ◌<◌, Bool, cond, List, length, slice_get, Some}
 use Rattle.std.specs.BTreeMap.{get_by_text}
 use Rattle.std.specs.List.{IsAmong}
 use Rattle.std.specs.Option.{unwrap_or}

@@ -13,7 +13,8 @@ pub record IndexedText : Type 0 where
   pub text : List ℕ
 
 abbrev pub indexed_text_code : Coded IndexedText
-indexed_text_code = code_by (ℕ × List ℕ) (coded× coded_ℕ (coded_list coded_ℕ)) (λ n. (n.index, n.text)) (λ p. record { index = p.0; text = p.1 }) (λ _. refl)
+indexed_text_code =
+    code_by (ℕ × List ℕ) (coded× coded_ℕ (coded_list coded_ℕ)) (λ n. (n.index, n.text)) (λ p. record { index = p.0; text = p.1 }) (λ _. refl)
 
 -- one of 64 bits, for three bytes
 abbrev pub bit_of : ℕ → ℕ → ℕ → ℕ
@@ -33,10 +34,12 @@ mask_of (a ∷ text) = bit_or (first_bit (a ∷ text)) (mask_of text)
 
 -- for each pattern of no form, the texts one of which is in each text that it matches, by rising indices
 pub record AreOthers (others : List IndexedText) (ms : List Member) : Type 0 where
-  pub each : (i : ℕ) (m : Member) → slice_get ms i ≡ Some m → form_of m.reading ≡ other → (text : List ℕ) → IsUtf8 text → Matches m.reading (chars text)
+  pub each : (i : ℕ) (m : Member) → slice_get ms i ≡ Some m → form_of m.reading ≡ other
+      → (text : List ℕ) → IsUtf8 text → Matches m.reading (chars text)
       → (j : ℕ) × (n : IndexedText) × (slice_get others j ≡ Some n) × (n.index ≡ i) × HasSubslice text n.text
   pub rising : (j k : ℕ) (a b : IndexedText) → j ≤ k → slice_get others j ≡ Some a → slice_get others k ≡ Some b → a.index ≤ b.index
-  pub formless : (j : ℕ) (n : IndexedText) → slice_get others j ≡ Some n → (m : Member) × (slice_get ms n.index ≡ Some m) × (form_of m.reading ≡ other)
+  pub formless : (j : ℕ) (n : IndexedText) → slice_get others j ≡ Some n
+      → (m : Member) × (slice_get ms n.index ≡ Some m) × (form_of m.reading ≡ other)
 
 -- n is one more than the greatest index at which a pattern of no form applies, or `best` where that is no less
 pub record IsFoundFrom (text : List ℕ) (is_dir : Bool) (ms : List Member) (best n : ℕ) : Type 0 where

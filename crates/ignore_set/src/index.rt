@@ -113,7 +113,8 @@ impl Index {
     /// Adds the pattern that follows those that the index has.
     fn add(&mut self, pattern: &Pattern, index: usize, only_dir: bool) -> Result<(), AllocError>
         requires { index + 1 < 2 ^ 64 }
-        ensures { IfOk result (λ _. (ms : List Member) (m : Member) → IsIndexOf self.old ms → length ms ≡ index → m.reading ≡ pattern.now → m.only_dir ≡ only_dir → IsIndexOf self.new (ms ++ m ∷ [])) }
+        ensures { IfOk result (λ _. (ms : List Member) (m : Member) → IsIndexOf self.old ms → length ms ≡ index
+            → m.reading ≡ pattern.now → m.only_dir ≡ only_dir → IsIndexOf self.new (ms ++ m ∷ [])) }
     {
         match pattern.key()? {
             Key::Whole(text) => self.whole.put(text, index, only_dir),

@@ -87,7 +87,8 @@ pub(crate) fn put_needles(
     texts: Vec<String>,
     index: usize,
 ) -> Result<(), AllocError>
-    ensures { IfOk result (λ _. needles.new.items ≡ needles.old.items ++ map (λ t. record { index = index; text = string_bytes t }) texts.items) }
+    ensures { IfOk result (λ _. needles.new.items ≡ needles.old.items
+        ++ map (λ t. record { index = index; text = string_bytes t }) texts.items) }
 {
     for text in texts {
         needles.push(Needle::new(index, text))?;

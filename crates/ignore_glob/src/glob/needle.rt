@@ -26,7 +26,8 @@ struct Known {
 
 /// Texts, one of which is in each text that these tokens match where case isn't folded.
 pub(crate) fn needles_of(alloc: Global, tokens: &[Token]) -> Result<Vec<String>, AllocError>
-    ensures { IfOk result (λ needles. (w : List ℕ) → glob_matches false (tokens_view tokens.now) w → HasOneOf (map string_bytes needles.items) (utf8 w)) }
+    ensures { IfOk result (λ needles. (w : List ℕ) → glob_matches false (tokens_view tokens.now) w
+        → HasOneOf (map string_bytes needles.items) (utf8 w)) }
 {
     let mut known = Known::nothing(alloc)?;
     for token in tokens {
@@ -55,7 +56,9 @@ impl Known {
 
     /// What is known after one token more.
     fn after(self, alloc: Global, token: &Token) -> Result<Known, AllocError>
-        ensures { IfOk result (λ known. (text w : List ℕ) → EndsAndHas (string_bytes self.run) (map string_bytes self.needles.items) text → token_matches false (view token.now) w → EndsAndHas (string_bytes known.run) (map string_bytes known.needles.items) (text ++ utf8 w)) }
+        ensures { IfOk result (λ known. (text w : List ℕ) → EndsAndHas (string_bytes self.run) (map string_bytes self.needles.items) text
+            → token_matches false (view token.now) w
+            → EndsAndHas (string_bytes known.run) (map string_bytes known.needles.items) (text ++ utf8 w)) }
     {
         match literal_of(token) {
             Some(c) => self.and(c),
@@ -64,15 +67,21 @@ impl Known {
     }
 
     fn and(self, c: char) -> Result<Known, AllocError>
-        ensures { IfOk result (λ known. (text : List ℕ) → EndsAndHas (string_bytes self.run) (map string_bytes self.needles.items) text → EndsAndHas (string_bytes known.run) (map string_bytes known.needles.items) (text ++ utf8 (c ∷ []))) }
+        ensures { IfOk result (λ known. (text : List ℕ) → EndsAndHas (string_bytes self.run) (map string_bytes self.needles.items) text
+            → EndsAndHas (string_bytes known.run) (map string_bytes known.needles.items) (text ++ utf8 (c ∷ []))) }
     {
         let mut run = self.run;
         run.push(c)?;
-        Ok(Known { needles: self.needles, run })
+        Ok(Known {
+            needles: self.needles,
+            run,
+        })
     }
 
     fn past(self, alloc: Global, token: &Token) -> Result<Known, AllocError>
-        ensures { IfOk result (λ known. (text w : List ℕ) → EndsAndHas (string_bytes self.run) (map string_bytes self.needles.items) text → token_matches false (view token.now) w → EndsAndHas (string_bytes known.run) (map string_bytes known.needles.items) (text ++ utf8 w)) }
+        ensures { IfOk result (λ known. (text w : List ℕ) → EndsAndHas (string_bytes self.run) (map string_bytes self.needles.items) text
+            → token_matches false (view token.now) w
+            → EndsAndHas (string_bytes known.run) (map string_bytes known.needles.items) (text ++ utf8 w)) }
     {
         let more = extended(alloc, self.run.as_str(), token)?;
         Ok(Known {
@@ -83,7 +92,8 @@ impl Known {
 
     /// The needles, the last run among what they are chosen from.
     fn needles(self, alloc: Global) -> Result<Vec<String>, AllocError>
-        ensures { IfOk result (λ needles. (text : List ℕ) → EndsAndHas (string_bytes self.run) (map string_bytes self.needles.items) text → HasOneOf (map string_bytes needles.items) text) }
+        ensures { IfOk result (λ needles. (text : List ℕ) → EndsAndHas (string_bytes self.run) (map string_bytes self.needles.items) text
+            → HasOneOf (map string_bytes needles.items) text) }
     {
         let last = alone(alloc, self.run.as_str())?;
         Ok(longer(self.needles, last))
@@ -92,7 +102,8 @@ impl Known {
 
 /// Of two lists the one whose shortest text is longer.
 fn longer(a: Vec<String>, b: Vec<String>) -> Vec<String>
-    ensures { (text : List ℕ) → HasOneOf (map string_bytes a.items) text → HasOneOf (map string_bytes b.items) text → HasOneOf (map string_bytes result.items) text }
+    ensures { (text : List ℕ) → HasOneOf (map string_bytes a.items) text → HasOneOf (map string_bytes b.items) text
+        → HasOneOf (map string_bytes result.items) text }
 {
     if least(&a) < least(&b) { b } else { a }
 }
@@ -118,7 +129,8 @@ fn alone(alloc: Global, text: &str) -> Result<Vec<String>, AllocError>
 /// Texts, one of which is in each that ends with the run and then what the token matches.
 #[tactic(auto, using(crate::proofs::Views::view_equations))]
 fn extended(alloc: Global, run: &str, token: &Token) -> Result<Vec<String>, AllocError>
-    ensures { IfOk result (λ texts. (front w : List ℕ) → token_matches false (view token.now) w → HasOneOf (map string_bytes texts.items) ((front ++ run.now) ++ utf8 w)) }
+    ensures { IfOk result (λ texts. (front w : List ℕ) → token_matches false (view token.now) w
+        → HasOneOf (map string_bytes texts.items) ((front ++ run.now) ++ utf8 w)) }
 {
     if run.len() >= LONG {
         return alone(alloc, run);
@@ -137,7 +149,8 @@ fn extended(alloc: Global, run: &str, token: &Token) -> Result<Vec<String>, Allo
 
 /// The same for a class, by its characters.
 fn by_class(alloc: Global, run: &str, listed: &Class) -> Result<Vec<String>, AllocError>
-    ensures { IfOk result (λ texts. (front w : List ℕ) → token_matches false (class listed.now.negated listed.now.ranges.items) w → HasOneOf (map string_bytes texts.items) ((front ++ run.now) ++ utf8 w)) }
+    ensures { IfOk result (λ texts. (front w : List ℕ) → token_matches false (class listed.now.negated listed.now.ranges.items) w
+        → HasOneOf (map string_bytes texts.items) ((front ++ run.now) ++ utf8 w)) }
 {
     if listed.negated || listed.ranges.len() > MOST_CHOICES {
         return alone(alloc, run);
@@ -162,7 +175,8 @@ fn with_char(alloc: Global, run: &str, c: char) -> Result<String, AllocError>
 
 /// The same for braces, by how their branches begin.
 fn by_branches(alloc: Global, run: &str, branches: &[Vec<Token>]) -> Result<Vec<String>, AllocError>
-    ensures { IfOk result (λ texts. (front w : List ℕ) → token_matches false (alternates (branches_view branches.now)) w → HasOneOf (map string_bytes texts.items) ((front ++ run.now) ++ utf8 w)) }
+    ensures { IfOk result (λ texts. (front w : List ℕ) → token_matches false (alternates (branches_view branches.now)) w
+        → HasOneOf (map string_bytes texts.items) ((front ++ run.now) ++ utf8 w)) }
 {
     if branches.is_empty() || branches.len() > MOST_CHOICES {
         return alone(alloc, run);
@@ -176,7 +190,8 @@ fn by_branches(alloc: Global, run: &str, branches: &[Vec<Token>]) -> Result<Vec<
 
 /// The run, and how each text begins that the tokens match.
 fn spelled(alloc: Global, run: &str, tokens: &[Token]) -> Result<String, AllocError>
-    ensures { IfOk result (λ text. (w : List ℕ) → tokens_match false (tokens_view tokens.now) w → BeginsWith (string_bytes text) (run.now ++ utf8 w)) }
+    ensures { IfOk result (λ text. (w : List ℕ) → tokens_match false (tokens_view tokens.now) w
+        → BeginsWith (string_bytes text) (run.now ++ utf8 w)) }
 {
     let mut text = String::from_str(alloc, run)?;
     for token in tokens {

@@ -148,7 +148,8 @@ impl Pattern {
     /// For dependents: texts, one of which is in each text that the pattern matches; where none is
     /// known, or case is folded, the empty text alone.
     pub fn needles(&self) -> Result<Vec<String>, AllocError>
-        ensures { IfOk result (λ needles. (text : List ℕ) → IsUtf8 text → Matches self.now (chars text) → HasOneOf (map string_bytes needles.items) text) }
+        ensures { IfOk result (λ needles. (text : List ℕ) → IsUtf8 text → Matches self.now (chars text)
+            → HasOneOf (map string_bytes needles.items) text) }
     {
         let alloc = *self.tokens.allocator();
         if self.case_insensitive {

@@ -23,7 +23,7 @@ pub returns-in_ok-needles-in-Other : goal.returns-in_ok-needles-in-Other
 returns-in_ok-needles-in-Other c =
     let texts = c.in_ok-needles-in-Other.field-0.items in
     IfOk-weaker c.put_needles.result _ _ (λ done e ms m was size is only.
-        add_other c.args.self.now c.put_needles.new.needles (map string_bytes texts) c.args.index
-        (e ∙ ap (λ l. c.args.self.now.others.items ++ l) (needles_at-strings c.args.index texts)) ms m was size
-        (ap form_of is ∙ (sym c.in_ok-text.ensures ∙ ap key_form c.in-Other.is))
-        (λ text utf8 h. c.in_ok-needles-in-Other.ensures text utf8 (subst (λ r. Matches r (chars text)) is h))) c.put_needles.ensures
+    add_other c.args.self.now c.put_needles.new.needles (map string_bytes texts) c.args.index
+    (e ∙ ap (λ l. c.args.self.now.others.items ++ l) (needles_at-strings c.args.index texts)) ms m was size
+    (ap form_of is ∙ (sym c.in_ok-text.ensures ∙ ap key_form c.in-Other.is))
+    (λ text utf8 h. c.in_ok-needles-in-Other.ensures text utf8 (subst (λ r. Matches r (chars text)) is h))) c.put_needles.ensures

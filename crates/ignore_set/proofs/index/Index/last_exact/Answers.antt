@@ -1,4 +1,4 @@
-use Rattle.std.proofs.Common.{◌≤◌, max, arith, subst, sym, ap, ◌∙◌}
+use Rattle.std.proofs.Common.{max, arith, subst, sym, ap, ◌∙◌}
 use Rattle.std.specs.Str.{chars}
 use Rattle.ignore_set.specs.Index.{slot_at, after}
 use Rattle.ignore_set.proofs.IndexLemmas.{Stands, exact_above, stands_max, whole_stands, name_stands, end_stands}

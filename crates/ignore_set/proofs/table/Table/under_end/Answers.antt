@@ -1,6 +1,6 @@
-use Rattle.std.proofs.Common.{◌≡◌, ◌≤◌, None, Some, List, ℕ, sym, ap, ◌∙◌, arith}
+use Rattle.std.proofs.Common.{sym, ap, ◌∙◌, arith}
 use Rattle.std.proofs.lemmas.Bool.{false≢true}
-use Rattle.ignore_set.specs.Index.{Fits, after, slot_at}
+use Rattle.ignore_set.specs.Index.{after, slot_at}
 use Rattle.ignore_set.proofs.IndexLemmas.{fits_cut, some_same, none_some, fits_same}
 use Rattle.ignore_set.proofs.table.Table.under_end.Goals as goal
 

@@ -1,4 +1,4 @@
-use Rattle.std.proofs.Common.{◌≡◌, ◌<◌, ◌≤◌, max, length, get_or, subst, sym, ap, ◌∙◌, inl, inr, arith}
+use Rattle.std.proofs.Common.{length, get_or, subst, sym, ap, ◌∙◌, inl, inr, arith}
 use Rattle.ignore_set.specs.Index.{StandsUnderEnd}
 use Rattle.ignore_set.proofs.IndexLemmas.{any_default, under_max, split}
 use Rattle.ignore_set.proofs.table.Table.under_ends.Goals as goal
