@@ -1,4 +1,5 @@
 pub mod AboveLemmas
+pub mod BoundaryLemmas
 pub mod ChainLemmas
 pub mod LoadLemmas
 pub mod LoadsOnly
@@ -6,3 +7,6 @@ pub mod PathLemmas
 pub mod RankLemmas
 pub mod SlashLemmas
 pub mod SoftLemmas
+pub mod StepLemmas
+pub mod WholeLemmas
+pub mod WorkedQueries

@@ -1,5 +1,6 @@
 -- The problems of a file are nowhere out of memory.
-use Rattle.std.proofs.Common.{◌≡◌, ℕ, ◌+◌, Bool, true, false, ◌||◌, List, [], ◌∷◌, ◌++◌, Option, None, Some, Result, Ok, Err, refl, sym, ap, ◌∙◌, subst, cond}
+use Rattle.std.proofs.Common.{◌≡◌, ℕ, ◌+◌, Bool, true, false, ◌||◌, List, [], ◌∷◌, ◌++◌, Option, None, Some, Result, Ok, Err, refl, sym, ap, ◌∙◌, subst, cond, All}
+use Rattle.std.proofs.lemmas.List.Elements.{All-head, All-tail}
 use Rattle.std.specs.List.{filter_map}
 use Rattle.std.specs.Option.{option_to_list, is_some}
 use Rattle.ignore_base.specs.Errors.{io_fault}
@@ -67,3 +68,12 @@ some_soft (Some p) ts h k = (h, k)
 pub joined_four-soft : (a b c d : Option Problem) → IsSoft a → IsSoft b → IsSoft c → IsSoft d → IsSoft (joined_some (a ∷ (b ∷ (c ∷ (d ∷ [])))))
 joined_four-soft a b c d ha hb hc hd =
     joined-soft (filter_map (λ q. q) (a ∷ (b ∷ (c ∷ (d ∷ []))))) (some_soft a (b ∷ (c ∷ (d ∷ []))) ha (some_soft b (c ∷ (d ∷ [])) hb (some_soft c (d ∷ []) hc (some_soft d [] hd tt))))
+
+-- problems one by one, some of which aren't there
+collected_soft : (ts : List (Option Problem)) → All IsSoft ts → AllSoft (filter_map (λ q. q) ts)
+collected_soft [] h = tt
+collected_soft (None ∷ ts) h = collected_soft ts (All-tail IsSoft None ts h)
+collected_soft (Some p ∷ ts) h = (All-head IsSoft (Some p) ts h, collected_soft ts (All-tail IsSoft (Some p) ts h))
+
+pub joined_all-soft : (ts : List (Option Problem)) → All IsSoft ts → AllSoft (option_to_list (joined_some ts))
+joined_all-soft ts h = more_soft [] (joined_some ts) tt (joined-soft (filter_map (λ q. q) ts) (collected_soft ts h))

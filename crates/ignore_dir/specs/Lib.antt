@@ -8,5 +8,6 @@ pub mod Load
 pub mod Query
 pub mod Scene
 pub mod Soft
+pub mod Steps
 pub mod Ranks
 pub mod Verdict

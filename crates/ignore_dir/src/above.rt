@@ -64,14 +64,14 @@ fn kept_above(alloc: Global, settings: &Settings, dir: Dir) -> Dir
 }
 
 /// The components of a path.
-fn components(alloc: Global, path: &str) -> Result<Vec<&str>, AllocError>
+pub(crate) fn components(alloc: Global, path: &str) -> Result<Vec<&str>, AllocError>
     ensures { IfOk result (λ all. map (λ c. c.now) all.items ≡ components path.now) }
 {
     path.split('/').collect(alloc)
 }
 
 /// Whether each component of a path is a name.
-fn are_names(path: &str) -> bool
+pub(crate) fn are_names(path: &str) -> bool
     ensures { result ≡ list_all is_proper (components path.now) }
 {
     path.split('/').all(|component| is_proper(component))

@@ -1,10 +1,13 @@
 //! Laws of the definitions, as calls that do nothing: each contract is the law.
-ghost use Rattle.std.specs.Prelude.{◌≡◌, ℕ, List, Option};
+ghost use Rattle.std.specs.Prelude.{◌≡◌, ◌++◌, [], ◌∷◌, ℕ, Bool, List, Option};
 ghost use Rattle.ignore_files.specs.Tree.{Tree};
 ghost use Rattle.ignore_base.specs.Problem.{Problem};
 ghost use Rattle.ignore_dir.specs.declared.dir.Dir.{Dir};
 ghost use Rattle.ignore_dir.specs.declared.settings.Settings.{Settings};
 ghost use Rattle.ignore_dir.specs.Load.{Loads, Loaded, AreLoads};
+ghost use Rattle.ignore_dir.specs.Query.{problems_below, rules_verdict};
+ghost use Rattle.ignore_dir.specs.Scene.{Scene, path_verdict};
+ghost use Rattle.ignore_dir.specs.Steps.{entered, entry, problems_from, reached_in, verdict_at, verdict_from};
 
 use ignore_rules::gitignore::laws::a_file_adds_one_thing;
 
@@ -16,3 +19,17 @@ pub fn one_load()
 {
     a_file_adds_one_thing();
 }
+
+/// What is said one name at a time is what is said over whole lists: the verdict on an entry of a
+/// directory (`verdict`), what is reached in the directory that an entry is (`entered`), what the
+/// rules say of a path (`rules`), and the problems on the way (`problems`).
+pub fn steps_are_whole()
+    ensures verdict { (g : Scene) (front : List (List ℕ)) (n : List ℕ) (is_dir : Bool)
+        → verdict_at g.settings g.outside (entry (reached_in g front) n) is_dir ≡ path_verdict g (front ++ n ∷ []) is_dir }
+    ensures entered { (g : Scene) (front : List (List ℕ)) (n : List ℕ)
+        → entered g.loads (entry (reached_in g front) n) ≡ reached_in g (front ++ n ∷ []) }
+    ensures rules { (g : Scene) (is_dir : Bool) (n : List ℕ) (ns : List (List ℕ))
+        → rules_verdict g (n ∷ ns) is_dir ≡ verdict_from g.loads g.settings g.outside is_dir (reached_in g []) (n ∷ ns) }
+    ensures problems { (g : Scene) (n : List ℕ) (ns : List (List ℕ))
+        → problems_below g (n ∷ ns) ≡ (g.loads g.root).1 ∷ problems_from g.loads g.settings g.outside (reached_in g []) (n ∷ ns) }
+{}

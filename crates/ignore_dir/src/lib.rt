@@ -3,8 +3,10 @@
 #![tactic(auto)]
 
 pub mod above;
+mod descent;
 mod dir;
 pub mod exclude;
+pub mod fresh;
 pub mod incremental;
 pub mod laws;
 mod link;
