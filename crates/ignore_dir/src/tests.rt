@@ -1,4 +1,6 @@
 //! What one directory holds, and what is above a root, with ample memory.
+mod queries;
+
 use crate::above::{Above, load_above};
 use crate::load::load_directory;
 use crate::{Dir, Names, Settings};
@@ -6,7 +8,7 @@ use ignore_base::Error;
 use ignore_files::MemoryTree;
 use std::alloc::Global;
 
-fn settings(alloc: Global) -> Settings {
+pub(crate) fn settings(alloc: Global) -> Settings {
     Settings {
         custom: Names::new(Vec::new(alloc)),
         hidden: true,
@@ -26,7 +28,7 @@ fn settings(alloc: Global) -> Settings {
 }
 
 /// A tree of lines: a path alone is a directory, and `PATH=CONTENTS` a file.
-fn tree_of(alloc: Global, lines: &[&str]) -> anyhow::Result<MemoryTree> {
+pub(crate) fn tree_of(alloc: Global, lines: &[&str]) -> anyhow::Result<MemoryTree> {
     let mut tree = MemoryTree::new(alloc, "/")?;
     for line in lines {
         match line.split_once('=') {
