@@ -1,0 +1,15 @@
+-- What a matcher asks about.
+use Rattle.std.specs.Prelude.{◌≡◌, string_bytes}
+use Rattle.ignore_base.specs.Text.{Path}
+use Rattle.ignore_dir.specs.Load.{Loaded}
+use Rattle.ignore_dir.specs.Scene.{Scene, scene}
+use Rattle.ignore_files.specs.Tree.{Tree}
+use Rattle.ignore_query.specs.declared.asked.Asked.{Asked}
+
+-- what queries below a root depend on, over a tree and the loads of its directories
+abbrev pub scene_of : Asked → Tree → (Path → Loaded) → Scene
+scene_of a tree loads = scene tree loads a.settings a.outside (string_bytes a.root)
+
+-- these ask about the same: they have the same settings, rules from outside and root
+abbrev pub IsSame : Asked → Asked → Type 0
+IsSame a b = (b.settings ≡ a.settings) × ((b.outside ≡ a.outside) × (string_bytes b.root ≡ string_bytes a.root))
