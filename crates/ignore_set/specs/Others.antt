@@ -14,7 +14,8 @@ pub record IndexedText : Type 0 where
 
 abbrev pub indexed_text_code : Coded IndexedText
 indexed_text_code =
-    code_by (ℕ × List ℕ) (coded× coded_ℕ (coded_list coded_ℕ)) (λ n. (n.index, n.text)) (λ p. record { index = p.0; text = p.1 }) (λ _. refl)
+    code_by (ℕ × List ℕ) (coded× coded_ℕ (coded_list coded_ℕ)) (λ n. (n.index, n.text))
+    (λ p. record { index = p.0; text = p.1 }) (λ _. refl)
 
 -- one of 64 bits, for three bytes
 abbrev pub bit_of : ℕ → ℕ → ℕ → ℕ
