@@ -2,3 +2,4 @@ pub mod Worked
 pub mod Arranged
 pub mod Given
 pub mod OneList
+pub mod ChildLemmas

@@ -37,6 +37,11 @@ abbrev pub item_of : Result DirEntry Error → Item
 item_of (Ok e) = Ok (entry_of e, problem_in e)
 item_of (Err e) = Err (problem_of e)
 
+-- the item of an entry that no problem is known of, or of the problem in its place
+abbrev pub fresh : Result Entry Problem → Item
+fresh (Ok e) = Ok (e, None)
+fresh (Err p) = Err p
+
 -- standard input
 abbrev pub stdin_entry : Entry
 stdin_entry = record { path = codes "<stdin>"; depth = 0; kind = None; followed = false }

@@ -4,3 +4,5 @@ pub mod Branch
 pub mod Child
 pub mod Walked
 pub mod Whole
+pub mod Suits
+pub mod Frames

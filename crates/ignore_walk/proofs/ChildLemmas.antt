@@ -1,0 +1,89 @@
+-- From a listed thing to an entry.
+use Rattle.std.proofs.Common.{◌≡◌, ℕ, ◌+◌, ◌-◌, ◌<◌, List, [], ◌∷◌, get_or, map, length, reverse, slice_get, Option, None, Some, Result, Ok, Err, refl, sym, ◌∙◌, ap, subst, arith}
+use Rattle.std.proofs.lemmas.List.{get_or-map, get_or-reverse, length-map, length-reverse}
+use Rattle.std.proofs.lemmas.Option.{get_or_from_slice_get, slice_get-get_or}
+use Rattle.ignore_base.specs.Paths.{join_of}
+use Rattle.ignore_base.specs.Problem.{Problem, at_depth, io}
+use Rattle.ignore_base.specs.declared.fault.Fault.{Fault}
+use Rattle.ignore_files.specs.Memory.{and_then}
+use Rattle.ignore_files.specs.declared.types.FileType.{FileType}
+use Rattle.ignore_files.specs.declared.types.Listed.TheVariants as thing
+use Rattle.ignore_walk.specs.declared.frame.Frame.{Frame}
+use Rattle.ignore_walk.specs.Branch.{Branch, path_of, entered}
+use Rattle.ignore_walk.specs.Child.{child, found, is_dir_kind, with_device, without_loop}
+use Rattle.ignore_walk.specs.Entry.{Entry, Item, fresh}
+use Rattle.ignore_walk.specs.Scene.{Scene}
+
+pub fresh_err : (p : Problem) (r : Result Entry Problem) → Err p ≡ fresh r → r ≡ Err p
+fresh_err p (Ok e) h = absurd (cc (h))
+fresh_err p (Err q) h = cc (h)
+
+entry_in : Entry → Item → Result Entry Problem
+entry_in e (Ok pair) = Ok pair.0
+entry_in e (Err p) = Ok e
+
+problem_at : Item → Option Problem
+problem_at (Ok pair) = pair.1
+problem_at (Err p) = None
+
+pub fresh_ok : (e : Entry) (o : Option Problem) (r : Result Entry Problem) → Ok (e, o) ≡ fresh r → r ≡ Ok e
+unfolding entry_in
+fresh_ok e o (Ok f) h = ap (λ (r : Item). entry_in e r) (sym h)
+fresh_ok e o (Err q) h = absurd (cc (h))
+
+pub fresh_none : (e : Entry) (o : Option Problem) (r : Result Entry Problem) → Ok (e, o) ≡ fresh r → o ≡ None
+unfolding problem_at
+fresh_none e o (Ok f) h = ap (λ (r : Item). problem_at r) h
+fresh_none e o (Err q) h = absurd (cc (h))
+
+-- the entered directories
+
+pub entered_length : (root : List ℕ) (b : Branch) → length (entered root b) ≡ length b + 1
+entered_length root [] = refl
+entered_length root (name ∷ b) = omega (entered_length root b, arith)
+
+pub frames_length : (fs : List Frame) (root : List ℕ) (b : Branch) → map (λ (f : Frame). f.path) (reverse fs) ≡ entered root b
+    → length fs ≡ length b + 1
+frames_length fs root b h =
+    sym (length-reverse fs) ∙ (sym (length-map (reverse fs) (λ (f : Frame). f.path)) ∙ (ap (λ (ps :
+    List (List ℕ)). length ps) h ∙ entered_length root b))
+
+nearest : (root : List ℕ) (b : Branch) (d : List ℕ) → get_or (entered root b) 0 d ≡ path_of root b
+nearest root [] d = refl
+nearest root (name ∷ b) d = refl
+
+-- the last frame is that of the place
+pub last_frame : (fs : List Frame) (f : Frame) (root : List ℕ) (b : Branch) → map (λ (f : Frame). f.path) (reverse fs) ≡ entered root b
+    → slice_get fs (length fs - 1) ≡ Some f → f.path ≡ path_of root b
+last_frame fs f root b h last =
+    let many : length fs ≡ length b + 1 = frames_length fs root b h in
+    let size : length (reverse fs) ≡ length fs = length-reverse fs in
+    let at : get_or fs (length fs - 1) f ≡ f = get_or_from_slice_get fs (length fs - 1) f f last in
+    let turned : get_or (reverse fs) 0 f ≡ get_or fs (length fs - 1 - 0) f = get_or-reverse fs 0 f (omega arith) in
+    let place : length fs - 1 - 0 ≡ length fs - 1 = omega arith in
+    let first : get_or (reverse fs) 0 f ≡ f = turned ∙ (ap (λ (k : ℕ). get_or fs k f) place ∙ at) in
+    sym (ap (λ (f : Frame). f.path) first) ∙ (sym (get_or-map (λ (f : Frame). f.path) (reverse fs) 0 f f.path (omega arith))
+    ∙ (ap (λ (ps : List (List ℕ)). get_or ps 0 f.path) h ∙ nearest root b f.path))
+
+-- where there is a place, there is a last frame
+pub no_last : (fs : List Frame) (root : List ℕ) (b : Branch) (p : List ℕ) → map (λ (f : Frame). f.path) (reverse fs) ≡ entered root b
+    → slice_get fs (length fs - 1) ≡ None → p ≡ path_of root b
+no_last [] root [] p h last = absurd (cc (h))
+no_last [] root (name ∷ b) p h last = absurd (cc (h))
+no_last (f ∷ fs) root b p h last =
+    let some = slice_get-get_or (f ∷ fs) (length (f ∷ fs) - 1) f (omega arith) in
+    absurd (cc (last, some))
+
+-- what a listed entry is, by the frames
+pub child_is : (g : Scene) (root : List ℕ) (b : Branch) (name : List ℕ) (kind : FileType) (fs : List Frame) (path : List ℕ) (depth : ℕ)
+    → path ≡ join_of (path_of root b) name → depth ≡ length b + 1 → map (λ (f : Frame). f.path) (reverse fs) ≡ entered root b
+    → child g root b (thing.Entry name kind)
+    ≡ and_then (λ (e : Entry). with_device g (is_dir_kind e.kind) e)
+    (and_then (without_loop g.tree (map (λ (f : Frame). f.path) (reverse fs))) (found g path depth kind))
+unfolding child
+child_is g root b name kind fs path depth at deep h = rw (at, deep, h) refl
+
+pub fault_is : (g : Scene) (root : List ℕ) (b : Branch) (fault : Fault)
+    → child g root b (thing.Fault fault) ≡ Err (at_depth (length b + 1) (io fault))
+unfolding child
+fault_is g root b fault = refl

@@ -1,0 +1,24 @@
+use Rattle.std.proofs.Common.{◌≡◌, string_bytes, refl}
+use Rattle.ignore_base.specs.Paths.{join_of}
+use Rattle.ignore_walk.specs.Branch.{path_of}
+use Rattle.ignore_walk.specs.Child.{found}
+use Rattle.ignore_walk.proofs.ChildLemmas.{child_is, fault_is}
+use Rattle.ignore_walk.proofs.child.child.Goals as goal
+
+pub returns-in_ok-item-in-Entry-clause-value : goal.returns-in_ok-item-in-Entry-clause-value
+returns-in_ok-item-in-Entry-clause-value g c = λ s root b honest follow device h.
+    let dir : c.last_path.result.now ≡ path_of root b = c.last_path.ensures root b h in
+    let path : string_bytes c.in_ok-path-in-Entry.path ≡ join_of (path_of root b) c.in-Entry.name =
+    cc (c.in_ok-path-in-Entry.ensures.joins, dir, c.as_str.ensures) in
+    let deep = c.depth_below-depth.ensures root b h in
+    rw (
+      c.in-Entry.is,
+      child_is s root b c.in-Entry.name c.in-Entry.file_type c.args.frames.now
+          (string_bytes c.in_ok-path-in-Entry.path) c.depth_below-depth.result path deep h,
+    )
+    (c.checked.ensures.value s (found s (string_bytes c.in_ok-path-in-Entry.path) c.depth_below-depth.result c.in-Entry.file_type) honest device
+    (c.in_ok-item-in-Entry.ensures.value s honest follow))
+
+pub returns-in_ok-fault_at-in-Fault-clause-value : goal.returns-in_ok-fault_at-in-Fault-clause-value
+returns-in_ok-fault_at-in-Fault-clause-value g c = λ s root b honest follow device h.
+    rw (c.in-Fault.is, fault_is s root b c.in-Fault.fault, c.in_ok-fault_at-in-Fault.ensures, c.depth_below-depth.ensures root b h) refl

@@ -1,0 +1,156 @@
+//! Which entries a walk skips.
+ghost use Rattle.std.specs.Prelude.{◌≡◌, ◌++◌, [], ◌∷◌, All, Some, length, map, reverse, IfOk, IfErr, OnOk};
+ghost use Rattle.std.specs.Str.{IsCharBoundary};
+ghost use Rattle.ignore_base.specs.Problem.{problem_of, memory};
+ghost use Rattle.ignore_dir.specs.Verdict.{placed_verdict, is_ignore};
+ghost use Rattle.ignore_files.specs.Gives.{IsHonest};
+ghost use Rattle.ignore_files.specs.Tree.{Tree};
+ghost use Rattle.ignore_walk.specs.Child.{is_dir_kind};
+ghost use Rattle.ignore_walk.specs.Entry.{entry_of};
+ghost use Rattle.ignore_walk.specs.Frames.{placed_of};
+ghost use Rattle.ignore_walk.specs.Scene.{Scene};
+ghost use Rattle.ignore_walk.specs.Walked.{is_above, is_too_large};
+
+use crate::child::is_dir_kind;
+use crate::entry::DirEntry;
+use crate::frame::Frame;
+use ignore_base::Error;
+use ignore_dir::verdict::judge;
+use ignore_dir::{Dir, Link, Outside, Placed, Settings};
+use ignore_files::{Files, Refusal};
+use std::alloc::Global;
+
+/// Appends a directory, where its offset is in the text.
+fn push_link<'d>(
+    links: &mut Vec<Link<'d>>,
+    dir: &'d Dir,
+    offset: usize,
+    text: &str,
+) -> Result<(), Error>
+    requires { All (λ link. IsCharBoundary text.now link.1) links.now.items }
+    ensures boundaries { All (λ link. IsCharBoundary text.now link.1) links.new.items }
+    ensures pushed { IsCharBoundary text.now offset → OnOk result (links.new.items ≡ links.old.items ++ (dir.now, offset) ∷ []) }
+    ensures out_of_memory { IfErr result (λ e. problem_of e ≡ memory) }
+{
+    if text.is_char_boundary(offset) {
+        links.push(Link { dir, offset })?;
+    }
+    Ok(())
+}
+
+/// Appends the directories that were entered, the nearest first.
+fn push_frames<'d>(links: &mut Vec<Link<'d>>, frames: &'d [Frame], text: &str) -> Result<(), Error>
+    requires { All (λ link. IsCharBoundary text.now link.1) links.now.items }
+    ensures boundaries { All (λ link. IsCharBoundary text.now link.1) links.new.items }
+    ensures pushed { All (λ f. IsCharBoundary text.now (length f.text)) frames.now
+        → OnOk result (links.new.items ≡ links.old.items ++ map placed_of (reverse frames.now)) }
+    ensures out_of_memory { IfErr result (λ e. problem_of e ≡ memory) }
+{
+    for i in (0..frames.len()).rev() {
+        let frame = &frames[i];
+        push_link(links, &frame.dir, frame.text.as_str().len(), text)?;
+    }
+    Ok(())
+}
+
+/// Appends the directories above a root, the nearest first.
+fn push_above<'d>(links: &mut Vec<Link<'d>>, above: &'d [Placed], text: &str) -> Result<(), Error>
+    requires { All (λ link. IsCharBoundary text.now link.1) links.now.items }
+    ensures boundaries { All (λ link. IsCharBoundary text.now link.1) links.new.items }
+    ensures pushed { All (λ p. IsCharBoundary text.now p.1) above.now
+        → OnOk result (links.new.items ≡ links.old.items ++ reverse above.now) }
+    ensures out_of_memory { IfErr result (λ e. problem_of e ≡ memory) }
+{
+    for i in (0..above.len()).rev() {
+        let placed = &above[i];
+        push_link(links, &placed.dir, placed.offset, text)?;
+    }
+    Ok(())
+}
+
+/// The directories that are asked about a text, the nearest first: those that were entered, and
+/// those above the root, each from the end of its own text on.
+fn links_of<'d>(
+    alloc: Global,
+    above: &'d [Placed],
+    frames: &'d [Frame],
+    text: &str,
+) -> Result<Vec<Link<'d>>, Error>
+    ensures boundaries { IfOk result (λ links. All (λ link. IsCharBoundary text.now link.1) links.items) }
+    ensures chain { All (λ f. IsCharBoundary text.now (length f.text)) frames.now → All (λ p. IsCharBoundary text.now p.1) above.now
+        → IfOk result (λ links. links.items ≡ map placed_of (reverse frames.now) ++ reverse above.now) }
+    ensures out_of_memory { IfErr result (λ e. problem_of e ≡ memory) }
+{
+    let mut links = Vec::new(alloc);
+    push_frames(&mut links, frames, text)?;
+    push_above(&mut links, above, text)?;
+    Ok(links)
+}
+
+/// Whether the rules ignore an entry. `text` is its path as the directories see it.
+pub(crate) fn is_ignored(
+    alloc: Global,
+    settings: &Settings,
+    outside: &Outside,
+    above: &[Placed],
+    frames: &[Frame],
+    text: &str,
+    entry: &DirEntry,
+) -> Result<bool, Error>
+    ensures value { All (λ f. IsCharBoundary text.now (length f.text)) frames.now → All (λ p. IsCharBoundary text.now p.1) above.now
+        → IfOk result (λ yes. yes ≡ is_ignore (placed_verdict settings.now outside.now
+        (map placed_of (reverse frames.now) ++ reverse above.now) text.now
+        (entry_of entry.now).path (is_dir_kind (entry_of entry.now).kind))) }
+    ensures out_of_memory { IfErr result (λ e. problem_of e ≡ memory) }
+{
+    let links = links_of(alloc, above, frames, text)?;
+    let is_dir = is_dir_kind(entry.file_type());
+    let verdict = judge(
+        settings,
+        outside,
+        links.as_slice(),
+        text,
+        entry.path(),
+        is_dir,
+    )?;
+    Ok(verdict.is_ignore())
+}
+
+/// Whether an entry that is no directory is larger than the settings allow.
+pub(crate) fn is_too_large<F: Files>(
+    alloc: Global,
+    files: &F,
+    settings: &Settings,
+    entry: &DirEntry,
+) -> Result<bool, Error>
+    ensures value { (g : Scene) → IsHonest F.Files files.now g.tree → g.settings ≡ settings.now
+        → IfOk result (λ yes. yes ≡ is_too_large g (entry_of entry.now)) }
+    ensures out_of_memory { IfErr result (λ e. problem_of e ≡ memory) }
+{
+    if is_dir_kind(entry.file_type()) {
+        return Ok(false);
+    }
+    match settings.max_filesize {
+        None => Ok(false),
+        Some(most) => is_larger(alloc, files, settings.follow_links, most, entry.path()),
+    }
+}
+
+/// Whether the size at a path is known, and above a limit.
+fn is_larger<F: Files>(
+    alloc: Global,
+    files: &F,
+    follow_links: bool,
+    most: u64,
+    path: &str,
+) -> Result<bool, Error>
+    ensures value { (tree : Tree) → IsHonest F.Files files.now tree
+        → IfOk result (λ yes. yes ≡ is_above (Some most) (tree.stat path.now follow_links)) }
+    ensures out_of_memory { IfErr result (λ e. problem_of e ≡ memory) }
+{
+    match files.stat(alloc, path, follow_links) {
+        Ok(metadata) => Ok(most < metadata.len),
+        Err(Refusal::Fault(_)) => Ok(false),
+        Err(Refusal::Memory) => Err(Error::Memory),
+    }
+}
