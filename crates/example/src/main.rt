@@ -1,9 +1,9 @@
 //! Asks the `.gitignore` of the working directory about three files.
 #![tactic(auto)]
 
-use ignore_base::Error;
-use ignore_files::DiskFiles;
-use ignore_rules::gitignore::Gitignore;
+use ignore::Error;
+use ignore::files::DiskFiles;
+use ignore::gitignore::Gitignore;
 
 fn main(rt: HostRuntime) -> Result<(), Error> {
     let files = DiskFiles::new(&rt);

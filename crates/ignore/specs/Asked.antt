@@ -13,7 +13,7 @@ use Rattle.ignore_files.specs.Tree.{Tree}
 use Rattle.ignore_rules.specs.Matchers.{BuildsGlobal}
 use Rattle.ignore_rules.specs.RuleFile.{AddsAnswer, AddsFile}
 use Rattle.ignore_rules.specs.Rules.{Building, Ruleset, begun, built, empty, with_git_trailing_spaces}
-use Rattle.ignore.specs.declared.builder.WalkBuilder.{WalkBuilder}
+use Rattle.ignore.specs.declared.options.WalkOptions.{WalkOptions}
 use Rattle.ignore.specs.Builder.{with_explicit}
 
 -- the first directory, or else the second
@@ -23,11 +23,11 @@ dir_or (Some dir) other = Some dir
 
 -- the directory that the global file and files added by name are relative to: as set, or else the
 -- working directory, if that is known
-abbrev pub base_dir : WalkBuilder → Env → Option Path
+abbrev pub base_dir : WalkOptions → Env → Option Path
 base_dir b env = dir_or b.current_dir env.current_dir
 
 -- a builder for the rules of a file added by name: case sensitive, trailing spaces as set
-abbrev pub explicit_start : WalkBuilder → Path → Building
+abbrev pub explicit_start : WalkOptions → Path → Building
 explicit_start b dir = with_git_trailing_spaces (begun dir) b.settings.git_trailing_spaces
 
 -- the rules of the file at a path, read by a builder, and its problem, if any
@@ -37,39 +37,40 @@ IsFileOf tree path start rules problem = (filled : Building) × AddsFile tree pa
 -- the same by one of the answers for the file
 abbrev pub IsAnswerOf : (Result Contents Refusal → Type 0) → Path → Building → Ruleset → Option Problem → Type 0
 IsAnswerOf Gives path start rules problem =
-    (answer : Result Contents Refusal) × (filled : Building) × Gives answer × AddsAnswer path answer start filled problem × (rules ≡ built filled)
+    (answer : Result Contents Refusal) × (filled : Building) × Gives answer
+    × AddsAnswer path answer start filled problem × (rules ≡ built filled)
 
 -- the rules of the file at a path were added, relative to the directory, and its problem is reported;
 -- where no directory is known, nothing was added, and that is reported
-abbrev pub AddsIgnoreIn : Tree → Path → Option Path → WalkBuilder → WalkBuilder → Option Problem → Type 0
+abbrev pub AddsIgnoreIn : Tree → Path → Option Path → WalkOptions → WalkOptions → Option Problem → Type 0
 AddsIgnoreIn tree path None old new reported = (new ≡ old) × (reported ≡ Some (io NoCurrentDir))
 AddsIgnoreIn tree path (Some dir) old new reported =
     (rules : Ruleset) × IsFileOf tree path (explicit_start old dir) rules reported × (new ≡ with_explicit old rules)
 
 -- the same relative to the directory of the builder in an environment
-abbrev pub AddsIgnore : Tree → Env → Path → WalkBuilder → WalkBuilder → Option Problem → Type 0
+abbrev pub AddsIgnore : Tree → Env → Path → WalkOptions → WalkOptions → Option Problem → Type 0
 AddsIgnore tree env path old new reported = AddsIgnoreIn tree path (base_dir old env) old new reported
 
 -- the same for one of the answers for the file, relative to a directory
-abbrev pub AddsIgnoreBy : (Result Contents Refusal → Type 0) → Path → Path → WalkBuilder → WalkBuilder → Option Problem → Type 0
+abbrev pub AddsIgnoreBy : (Result Contents Refusal → Type 0) → Path → Path → WalkOptions → WalkOptions → Option Problem → Type 0
 AddsIgnoreBy Gives path dir old new reported =
     (rules : Ruleset) × IsAnswerOf Gives path (explicit_start old dir) rules reported × (new ≡ with_explicit old rules)
 
 -- the rules of the global file, if it is asked for and its directory is known; what is wrong with it
 -- isn't reported
-abbrev pub IsGlobalIf : Bool → Tree → Env → WalkBuilder → Option Path → Ruleset → Type 0
+abbrev pub IsGlobalIf : Bool → Tree → Env → WalkOptions → Option Path → Ruleset → Type 0
 IsGlobalIf false tree env b dir rules = rules ≡ empty
 IsGlobalIf true tree env b None rules = rules ≡ empty
 IsGlobalIf true tree env b (Some dir) rules =
     (problem : Option Problem) × BuildsGlobal tree env (started b.settings dir) rules problem
 
 -- the same for a builder: case and trailing spaces as set when it is asked
-abbrev pub IsGlobal : Tree → Env → WalkBuilder → Ruleset → Type 0
+abbrev pub IsGlobal : Tree → Env → WalkOptions → Ruleset → Type 0
 IsGlobal tree env b rules = IsGlobalIf b.settings.git_global tree env b (base_dir b env) rules
 
 -- the rules from outside of the directories: overrides, types and files added by name as the builder
 -- has them, and the global file
-pub record IsOutside (tree : Tree) (env : Env) (b : WalkBuilder) (outside : Outside) : Type 0 where
+pub record IsOutside (tree : Tree) (env : Env) (b : WalkOptions) (outside : Outside) : Type 0 where
   pub overrides : outside.overrides ≡ b.overrides
   pub types : outside.types ≡ b.types
   pub explicit : outside.explicit ≡ b.explicit

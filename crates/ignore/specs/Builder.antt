@@ -2,34 +2,15 @@
 -- before.
 use Rattle.std.specs.Prelude.{ℕ, Bool, true, false, List, [], ◌∷◌, ◌++◌, Option, None, Some}
 use Rattle.ignore_base.specs.Text.{Bytes, Path}
+use Rattle.ignore_dir.specs.Standard.{standard}
 use Rattle.ignore_dir.specs.declared.settings.Settings.{Settings}
 use Rattle.ignore_rules.specs.Rules.{Ruleset, empty}
 use Rattle.ignore_types.specs.TypeMatch.{Matcher}
-use Rattle.ignore.specs.declared.builder.WalkBuilder.{WalkBuilder}
+use Rattle.ignore.specs.declared.options.WalkOptions.{WalkOptions}
 use Rattle.ignore.specs.Depths.{raised, lowered}
 
--- the settings at first: the six standard filters and `require_git` are on, all else is off or none
-abbrev pub standard : Settings
-standard =
-    record {
-      custom = [];
-      hidden = true;
-      parents = true;
-      ignore = true;
-      git_global = true;
-      git_ignore = true;
-      git_exclude = true;
-      require_git = true;
-      case_insensitive = false;
-      git_trailing_spaces = false;
-      follow_links = false;
-      min_depth = None;
-      max_depth = None;
-      max_filesize = None;
-    }
-
 -- a builder without roots: the settings at first, no rules, and no limit but the greatest number
-abbrev pub unset : WalkBuilder
+abbrev pub unset : WalkOptions
 unset =
     record {
       roots = [];
@@ -43,39 +24,39 @@ unset =
     }
 
 -- the builder with one root more, after the others
-abbrev pub with_root : WalkBuilder → Path → WalkBuilder
+abbrev pub with_root : WalkOptions → Path → WalkOptions
 with_root b path = record b { roots = b.roots ++ path ∷ [] }
 
 -- the builder with more roots, after the others
-abbrev pub with_roots : WalkBuilder → List Path → WalkBuilder
+abbrev pub with_roots : WalkOptions → List Path → WalkOptions
 with_roots b paths = record b { roots = b.roots ++ paths }
 
 -- the builder with one name more of custom files, after the others
-abbrev pub with_custom : WalkBuilder → Bytes → WalkBuilder
+abbrev pub with_custom : WalkOptions → Bytes → WalkOptions
 with_custom b name = record b { settings = record b.settings { custom = b.settings.custom ++ name ∷ [] } }
 
 -- the builder with one filter set
-abbrev pub with_hidden : WalkBuilder → Bool → WalkBuilder
+abbrev pub with_hidden : WalkOptions → Bool → WalkOptions
 with_hidden b on = record b { settings = record b.settings { hidden = on } }
 
-abbrev pub with_parents : WalkBuilder → Bool → WalkBuilder
+abbrev pub with_parents : WalkOptions → Bool → WalkOptions
 with_parents b on = record b { settings = record b.settings { parents = on } }
 
-abbrev pub with_ignore : WalkBuilder → Bool → WalkBuilder
+abbrev pub with_ignore : WalkOptions → Bool → WalkOptions
 with_ignore b on = record b { settings = record b.settings { ignore = on } }
 
-abbrev pub with_git_global : WalkBuilder → Bool → WalkBuilder
+abbrev pub with_git_global : WalkOptions → Bool → WalkOptions
 with_git_global b on = record b { settings = record b.settings { git_global = on } }
 
-abbrev pub with_git_ignore : WalkBuilder → Bool → WalkBuilder
+abbrev pub with_git_ignore : WalkOptions → Bool → WalkOptions
 with_git_ignore b on = record b { settings = record b.settings { git_ignore = on } }
 
-abbrev pub with_git_exclude : WalkBuilder → Bool → WalkBuilder
+abbrev pub with_git_exclude : WalkOptions → Bool → WalkOptions
 with_git_exclude b on = record b { settings = record b.settings { git_exclude = on } }
 
 -- the builder with the six standard filters set; `require_git` and the mode of trailing spaces are
 -- none of them
-abbrev pub with_standard_filters : WalkBuilder → Bool → WalkBuilder
+abbrev pub with_standard_filters : WalkOptions → Bool → WalkOptions
 with_standard_filters b on =
     record b {
       settings = record b.settings {
@@ -89,53 +70,53 @@ with_standard_filters b on =
     }
 
 -- the builder of which git's rules apply in a repository alone, or everywhere
-abbrev pub with_require_git : WalkBuilder → Bool → WalkBuilder
+abbrev pub with_require_git : WalkOptions → Bool → WalkOptions
 with_require_git b on = record b { settings = record b.settings { require_git = on } }
 
 -- the builder of which the rules of files match both ASCII cases, or not
-abbrev pub with_case_insensitive : WalkBuilder → Bool → WalkBuilder
+abbrev pub with_case_insensitive : WalkOptions → Bool → WalkOptions
 with_case_insensitive b on = record b { settings = record b.settings { case_insensitive = on } }
 
 -- the builder of which trailing spaces in files are read by git's own rule, or not
-abbrev pub with_git_trailing_spaces : WalkBuilder → Bool → WalkBuilder
+abbrev pub with_git_trailing_spaces : WalkOptions → Bool → WalkOptions
 with_git_trailing_spaces b on = record b { settings = record b.settings { git_trailing_spaces = on } }
 
 -- the builder of which symbolic links are followed, or not
-abbrev pub with_follow_links : WalkBuilder → Bool → WalkBuilder
+abbrev pub with_follow_links : WalkOptions → Bool → WalkOptions
 with_follow_links b on = record b { settings = record b.settings { follow_links = on } }
 
 -- the builder of which walks stay on the device of each root, or not
-abbrev pub with_same_file_system : WalkBuilder → Bool → WalkBuilder
+abbrev pub with_same_file_system : WalkOptions → Bool → WalkOptions
 with_same_file_system b on = record b { same_file_system = on }
 
 -- the builder with this greatest depth, raised to the least one where it is below that
-abbrev pub with_max_depth : WalkBuilder → Option ℕ → WalkBuilder
+abbrev pub with_max_depth : WalkOptions → Option ℕ → WalkOptions
 with_max_depth b depth = record b { settings = record b.settings { max_depth = raised b.settings.min_depth depth } }
 
 -- the builder with this least depth, lowered to the greatest one where it is above that
-abbrev pub with_min_depth : WalkBuilder → Option ℕ → WalkBuilder
+abbrev pub with_min_depth : WalkOptions → Option ℕ → WalkOptions
 with_min_depth b depth = record b { settings = record b.settings { min_depth = lowered b.settings.max_depth depth } }
 
 -- the builder with this size above which a file is ignored
-abbrev pub with_max_filesize : WalkBuilder → Option ℕ → WalkBuilder
+abbrev pub with_max_filesize : WalkOptions → Option ℕ → WalkOptions
 with_max_filesize b size = record b { settings = record b.settings { max_filesize = size } }
 
 -- the builder with this number of steps that a walk may take
-abbrev pub with_limit : WalkBuilder → ℕ → WalkBuilder
+abbrev pub with_limit : WalkOptions → ℕ → WalkOptions
 with_limit b steps = record b { limit = steps }
 
 -- the builder with these globs of a command line in place of others
-abbrev pub with_overrides : WalkBuilder → Ruleset → WalkBuilder
+abbrev pub with_overrides : WalkOptions → Ruleset → WalkOptions
 with_overrides b globs = record b { overrides = globs }
 
 -- the builder with these chosen file types in place of others
-abbrev pub with_types : WalkBuilder → Matcher → WalkBuilder
+abbrev pub with_types : WalkOptions → Matcher → WalkOptions
 with_types b types = record b { types = types }
 
 -- the builder with the rules of one file more that was added by name, after the others
-abbrev pub with_explicit : WalkBuilder → Ruleset → WalkBuilder
+abbrev pub with_explicit : WalkOptions → Ruleset → WalkOptions
 with_explicit b rules = record b { explicit = b.explicit ++ rules ∷ [] }
 
 -- the builder with this directory in place of the working directory
-abbrev pub with_current_dir : WalkBuilder → Path → WalkBuilder
+abbrev pub with_current_dir : WalkOptions → Path → WalkOptions
 with_current_dir b dir = record b { current_dir = Some dir }

@@ -1,3 +1,8 @@
 pub mod Depths
 pub mod Builder
 pub mod Asked
+pub mod Matchers
+pub mod Closures
+pub mod Words
+pub mod FileWords
+pub mod WalkWords

@@ -1,22 +1,23 @@
 //! The builder of walks and matchers.
-ghost use Rattle.std.specs.Prelude.{◌≡◌, ◌∷◌, [], ℕ, List, IfOk, IfErr, OnOk, OnErr, map};
-ghost use denote.Ref.{Bor};
+ghost use Rattle.std.specs.Prelude.{◌≡◌, List, IfOk, IfErr, None, OnOk, OnErr, map};
 ghost use Rattle.std.specs.Iterator.{Drains, IsFinite};
 ghost use Rattle.ignore_base.specs.Problem.{problem_of, memory};
-ghost use Rattle.ignore.specs.Builder.{unset, standard, with_root, with_roots};
+ghost use Rattle.ignore.specs.Builder.{unset, with_root, with_roots};
 ghost use Rattle.ignore.specs.Depths.{AreOrdered};
 
+mod closures;
 mod filters;
 mod limits;
+mod matchers;
 mod rules;
+pub(crate) mod walks;
 
-use crate::limited::Limited;
+use crate::closures::{Filter, Sorter};
+use crate::options::WalkOptions;
 use ignore_base::Error;
-use ignore_dir::{Matchers, Names, Settings};
-use ignore_files::Name;
-use ignore_rules::overrides::Override;
-use ignore_types::types::Types;
+use ignore_dir::{Names, Settings};
 use std::alloc::Global;
+use std::convert::AsStr;
 
 /// Which directories are walked, or asked about, and by what settings. Each setter returns the
 /// builder, so that calls can follow one another; of two values the last one counts.
@@ -24,55 +25,21 @@ use std::alloc::Global;
 /// At first the six standard filters and `require_git` are on, and all else is off or unset.
 #[derive(Drop)]
 pub struct WalkBuilder {
-    roots: Names,
-    settings: Limited,
-    overrides: Override,
-    types: Types,
-    explicit: Matchers,
-    current_dir: Option<Name>,
-    limit: u64,
-    same_file_system: bool,
-}
-
-/// The settings at first.
-fn standard(alloc: Global) -> Limited
-    ensures { result ≡ standard }
-{
-    Limited {
-        inner: Settings {
-            custom: Names::new(Vec::new(alloc)),
-            hidden: true,
-            parents: true,
-            ignore: true,
-            git_global: true,
-            git_ignore: true,
-            git_exclude: true,
-            require_git: true,
-            case_insensitive: false,
-            git_trailing_spaces: false,
-            follow_links: false,
-            min_depth: None,
-            max_depth: None,
-            max_filesize: None,
-        },
-        alloc,
-    }
+    options: WalkOptions,
+    sorter: Option<Sorter>,
+    filter: Option<Filter>,
 }
 
 impl WalkBuilder {
     /// A builder without roots. It allocates nothing.
     pub fn empty(alloc: Global) -> WalkBuilder
-        ensures { result ≡ unset }
+        ensures options { result.options ≡ unset }
+        ensures plain { (result.sorter ≡ None) × (result.filter ≡ None) }
     {
         WalkBuilder {
-            roots: Names::new(Vec::new(alloc)),
-            settings: standard(alloc),
-            overrides: Override::empty(alloc),
-            types: Types::empty(alloc),
-            explicit: Matchers::new(Vec::new(alloc)),
-            current_dir: None,
-            limit: u64::MAX,
-            same_file_system: false,
+            options: WalkOptions::unset(alloc),
+            sorter: None,
+            filter: None,
         }
     }
 
@@ -81,7 +48,8 @@ impl WalkBuilder {
     /// # Errors
     /// `Error::Memory` alone.
     pub fn new(alloc: Global, path: &str) -> Result<WalkBuilder, Error>
-        ensures value { IfOk result (λ b. b ≡ with_root unset path.now) }
+        ensures options { IfOk result (λ b. b.options ≡ with_root unset path.now) }
+        ensures plain { IfOk result (λ b. (b.sorter ≡ None) × (b.filter ≡ None)) }
         ensures out_of_memory { IfErr result (λ e. problem_of e ≡ memory) }
     {
         let mut builder = WalkBuilder::empty(alloc);
@@ -94,18 +62,19 @@ impl WalkBuilder {
     ///
     /// # Errors
     /// `Error::Memory` alone.
-    pub fn from_iter<'p, I: IntoIterator<Item = &'p str>>(
+    pub fn from_iter<P: AsStr + Drop, I: IntoIterator<Item = P>>(
         alloc: Global,
         paths: I,
     ) -> Result<WalkBuilder, Error>
         requires ends { (it : I.IntoIter) → I.into_iter_gives paths it → I.IntoIter.can_next it × IsFinite (I.IntoIter.remaining it) }
-        ensures value { IfOk result (λ b. (it : I.IntoIter) × (all : List (Bor (List ℕ))) × I.into_iter_gives paths it
-            × Drains I.IntoIter.next_gives it all × (b ≡ with_roots unset (map (λ p. p.now) all))) }
+        ensures options { IfOk result (λ b. (it : I.IntoIter) × (all : List P) × I.into_iter_gives paths it
+            × Drains I.IntoIter.next_gives it all × (b.options ≡ with_roots unset (map P.text all))) }
+        ensures plain { IfOk result (λ b. (b.sorter ≡ None) × (b.filter ≡ None)) }
         ensures out_of_memory { IfErr result (λ e. problem_of e ≡ memory) }
     {
         let mut builder = WalkBuilder::empty(alloc);
         for path in paths {
-            builder.push_root(path)?;
+            builder.push_root(path.as_str())?;
         }
         Ok(builder)
     }
@@ -117,7 +86,7 @@ impl WalkBuilder {
     /// which does the work, and not of this call: a caller that needs it as it was uses that one.
     pub fn add(&mut self, path: &str) -> Result<&mut Self, Error>
         ensures same_reference { IfOk result (λ b. b.ghost_name ≡ self.entry.ghost_name) }
-        ensures added { IfOk result (λ b. b.now ≡ with_root self.old path.now) }
+        ensures added { IfOk result (λ b. b.now ≡ record self.old { options = with_root self.old.options path.now }) }
         ensures out_of_memory { IfErr result (λ e. problem_of e ≡ memory) }
     {
         self.push_root(path)?;
@@ -126,27 +95,27 @@ impl WalkBuilder {
 
     /// As `add`, without the builder in what is returned. After an error the builder is as before.
     pub fn push_root(&mut self, path: &str) -> Result<(), Error>
-        ensures added { OnOk result (self.new ≡ with_root self.old path.now) }
+        ensures added { OnOk result (self.new ≡ record self.old { options = with_root self.old.options path.now }) }
         ensures out_of_memory { IfErr result (λ e. problem_of e ≡ memory) }
         ensures unchanged { OnErr result (self.new ≡ self.old) }
     {
-        Ok(self.roots.push(path)?)
+        Ok(self.options.roots.push(path)?)
     }
 
     /// The roots, in the order in which they were added.
     /// For dependents.
     pub fn roots(&self) -> &Names
-        ensures { result.now ≡ self.now.roots }
+        ensures { result.now ≡ self.now.options.roots }
     {
-        &self.roots
+        &self.options.roots
     }
 
     /// The settings of filters and limits. Where both limits of depth are set, they are in order.
     /// For dependents.
     pub fn settings(&self) -> &Settings
-        ensures value { result.now ≡ self.now.settings }
+        ensures value { result.now ≡ self.now.options.settings }
         ensures ordered { AreOrdered result.now.min_depth result.now.max_depth }
     {
-        self.settings.get()
+        self.options.settings.get()
     }
 }

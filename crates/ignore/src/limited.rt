@@ -35,7 +35,7 @@ impl Limited {
     }
 
     /// The allocator that they were made with.
-    pub fn allocator(&self) -> Global {
+    pub(crate) fn allocator(&self) -> Global {
         self.alloc
     }
 

@@ -1,5 +1,5 @@
 -- Offsets after slashes are boundaries of characters.
-use Rattle.std.proofs.Common.{◌≡◌, ℕ, suc, ◌+◌, ◌<◌, ◌≤◌, ◌-◌, List, [], ◌∷◌, ◌++◌, length, reverse, get_or, sym, subst, arith, All}
+use Rattle.std.proofs.Common.{◌≡◌, ℕ, suc, ◌+◌, ◌<◌, ◌≤◌, ◌-◌, List, [], ◌∷◌, length, reverse, get_or, sym, subst, arith, All}
 use Rattle.std.proofs.lemmas.List.{reverse-append}
 use Rattle.std.proofs.lemmas.List.Elements.{All-push, All-weaker}
 use Rattle.std.proofs.lemmas.Str.{IsCharBoundary-after_ascii}
@@ -21,6 +21,7 @@ boundary-after_slash text offset u h =
     let next : (offset - 1) + 1 ≡ offset = omega arith in
     subst (IsCharBoundary text) next (IsCharBoundary-after_ascii text (offset - 1) u (omega arith) (omega arith))
 
-pub boundaries-after_slashes : (text : List ℕ) (chain : List Placed) → IsUtf8 text → All (λ p. IsAfterSlash text p.1) chain → All (λ p. IsCharBoundary text p.1) chain
+pub boundaries-after_slashes : (text : List ℕ) (chain : List Placed) → IsUtf8 text → All (λ p. IsAfterSlash text p.1) chain
+    → All (λ p. IsCharBoundary text p.1) chain
 boundaries-after_slashes text chain u h =
     All-weaker (λ p. IsAfterSlash text p.1) (λ p. IsCharBoundary text p.1) (λ p. boundary-after_slash text p.1 u) chain h

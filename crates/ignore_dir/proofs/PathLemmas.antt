@@ -1,5 +1,6 @@
 -- A path without its leading slash.
-use Rattle.std.proofs.Common.{◌≡◌, ◌≢◌, ℕ, List, [], ◌∷◌, Option, Some, None, unwrap_or, refl, sym, ap, ◌∙◌, Bor, MatchOption, eqb-true, eqb}
+use Rattle.std.proofs.Common.{◌≡◌, ◌≢◌, ℕ, List, [], ◌∷◌, Option, Some, None, unwrap_or, refl, sym, ap, ◌∙◌, Bor}
+use Rattle.std.proofs.Common.{MatchOption, eqb-true, eqb}
 use Rattle.std.proofs.lemmas.Bool.{cond-false, false_from_ne_true}
 use Rattle.ignore_base.specs.Paths.{is_absolute, without_slash}
 

@@ -1,5 +1,6 @@
 -- Lists asked one at a time, from the front and from the back.
-use Rattle.std.proofs.Common.{◌≡◌, ℕ, zero, suc, ◌+◌, ◌<◌, Bool, true, false, List, [], ◌∷◌, ◌++◌, length, get_or, drop, map, reverse, refl, sym, ap, ◌∙◌, add-one}
+use Rattle.std.proofs.Common.{◌≡◌, ℕ, zero, suc, ◌+◌, ◌<◌, Bool, true, false, List, [], ◌∷◌, ◌++◌, length, get_or, drop}
+use Rattle.std.proofs.Common.{map, reverse, refl, sym, ap, ◌∙◌, add-one}
 use Rattle.std.proofs.Math.Seq.{drop-cons}
 use Rattle.std.proofs.lemmas.List.{map-append, reverse-append}
 use Rattle.ignore_base.specs.Match.{match_or, match_map, is_none}
@@ -48,7 +49,8 @@ explicit_kept [] (suc i) path is_dir m e some = e
 explicit_kept (g ∷ gs) zero path is_dir m e some = e
 explicit_kept (g ∷ gs) (suc i) path is_dir m e some =
     explicit-front g gs path is_dir
-    ∙ (ap (λ k. match_or k (rules_answer path is_dir g)) (explicit_kept gs i path is_dir m e some) ∙ first_kept m (rules_answer path is_dir g) some)
+    ∙ (ap (λ k. match_or k (rules_answer path is_dir g)) (explicit_kept gs i path is_dir m e some)
+    ∙ first_kept m (rules_answer path is_dir g) some)
 
 same_none : {T : Type 0} (f : T → Rule) (m : Match T) → is_none m ≡ false → is_none (match_map f m) ≡ false
 same_none f None e = e

@@ -21,5 +21,7 @@ after_slash-end text =
     (omega arith, omega arith, ap (λ k. get_or (text ++ 47 ∷ []) k 0) last ∙ get_or-append_seam text 47 [] 0)
 
 -- directories with a longer text
-pub placed-longer : (text more : List ℕ) (chain : List Placed) → All (λ p. IsAfterSlash text p.1) chain → All (λ p. IsAfterSlash (text ++ more) p.1) chain
-placed-longer text more chain h = All-weaker (λ p. IsAfterSlash text p.1) (λ p. IsAfterSlash (text ++ more) p.1) (λ p. after_slash-longer text more p.1) chain h
+pub placed-longer : (text more : List ℕ) (chain : List Placed) → All (λ p. IsAfterSlash text p.1) chain
+    → All (λ p. IsAfterSlash (text ++ more) p.1) chain
+placed-longer text more chain h = All-weaker (λ p. IsAfterSlash text p.1) (λ p. IsAfterSlash (text ++ more) p.1)
+    (λ p. after_slash-longer text more p.1) chain h

@@ -1,5 +1,6 @@
 -- The problems of a file are nowhere out of memory.
-use Rattle.std.proofs.Common.{◌≡◌, ℕ, ◌+◌, Bool, true, false, ◌||◌, List, [], ◌∷◌, ◌++◌, Option, None, Some, Result, Ok, Err, refl, sym, ap, ◌∙◌, subst, cond, All}
+use Rattle.std.proofs.Common.{◌≡◌, ℕ, ◌+◌, Bool, true, false, ◌||◌, List, [], ◌∷◌, ◌++◌, Option, None, Some, Result, Ok}
+use Rattle.std.proofs.Common.{Err, refl, sym, ap, ◌∙◌, subst, cond, All}
 use Rattle.std.proofs.lemmas.List.Elements.{All-head, All-tail}
 use Rattle.std.specs.List.{filter_map}
 use Rattle.std.specs.Option.{option_to_list, is_some}
@@ -25,12 +26,17 @@ refused-soft : (options : LineOptions) (parsed : Option ParsedLine) (p : Problem
 refused-soft options None p h = absurd h
 refused-soft options (Some w) p h = ap holds_memory h.2
 
-AddsLines-soft : (path : List ℕ) (number : ℕ) (met : List (Result (List ℕ) Fault)) (old new : Building) (ps : List Problem) → AddsLines path number met old new ps → AllSoft ps
+AddsLines-soft : (path : List ℕ) (number : ℕ) (met : List (Result (List ℕ) Fault)) (old new : Building) (ps : List Problem)
+    → AddsLines path number met old new ps → AllSoft ps
 AddsLines-soft path number met old new ps (done n o) = tt
 AddsLines-soft path number met old new ps (stopped n f more o) = (at_line_of-soft path n (io f) refl, tt)
-AddsLines-soft path number met old new ps (added n line more o between end reported h v) = AddsLines-soft path (n + 1) more between end reported v
-AddsLines-soft path number met old new ps (refused n line more o end p reported h v) =
-    (at_line_of-soft path n p (refused-soft o.options (parsed_line o.options.git_trailing_spaces (line_content n line)) p h), AddsLines-soft path (n + 1) more o end reported v)
+AddsLines-soft path number met old new ps (added n line more o between end reported h v) =
+    AddsLines-soft path (n + 1) more between end reported v
+AddsLines-soft path number met old new ps (refused n line more o end p reported h v) = (
+  at_line_of-soft path n p (refused-soft o.options
+      (parsed_line o.options.git_trailing_spaces (line_content n line)) p h),
+  AddsLines-soft path (n + 1) more o end reported v,
+)
 
 any_soft : (ps : List Problem) → AllSoft ps → some_holds (problems_of ps) ≡ false
 any_soft [] h = refl
@@ -50,7 +56,8 @@ without_fault-soft (Some p) h = cases (is_some (io_fault p))
     cases false = h
 
 -- whatever one call answered for a file
-pub AddsAnswer-soft : (path : List ℕ) (answer : Result Contents Refusal) (old new : Building) (problem : Option Problem) → AddsAnswer path answer old new problem → IsSoft problem
+pub AddsAnswer-soft : (path : List ℕ) (answer : Result Contents Refusal) (old new : Building) (problem : Option Problem)
+    → AddsAnswer path answer old new problem → IsSoft problem
 AddsAnswer-soft path (Ok contents) old new problem h =
     subst IsSoft (sym h.2) (joined-soft h.0 (AddsLines-soft path 1 (lines_read contents.bytes contents.fault) old new h.0 h.1))
 AddsAnswer-soft path (Err (Refused fault)) old new problem h = subst IsSoft (sym h.1) refl
@@ -61,13 +68,16 @@ more_soft [] None h k = tt
 more_soft [] (Some p) h k = (k, tt)
 more_soft (q ∷ ps) t h k = (h.0, more_soft ps t h.1 k)
 
-some_soft : (t : Option Problem) (ts : List (Option Problem)) → IsSoft t → AllSoft (filter_map (λ q. q) ts) → AllSoft (filter_map (λ q. q) (t ∷ ts))
+some_soft : (t : Option Problem) (ts : List (Option Problem)) → IsSoft t → AllSoft (filter_map (λ q. q) ts)
+    → AllSoft (filter_map (λ q. q) (t ∷ ts))
 some_soft None ts h k = k
 some_soft (Some p) ts h k = (h, k)
 
-pub joined_four-soft : (a b c d : Option Problem) → IsSoft a → IsSoft b → IsSoft c → IsSoft d → IsSoft (joined_some (a ∷ (b ∷ (c ∷ (d ∷ [])))))
+pub joined_four-soft : (a b c d : Option Problem) → IsSoft a → IsSoft b → IsSoft c → IsSoft d
+    → IsSoft (joined_some (a ∷ (b ∷ (c ∷ (d ∷ [])))))
 joined_four-soft a b c d ha hb hc hd =
-    joined-soft (filter_map (λ q. q) (a ∷ (b ∷ (c ∷ (d ∷ []))))) (some_soft a (b ∷ (c ∷ (d ∷ []))) ha (some_soft b (c ∷ (d ∷ [])) hb (some_soft c (d ∷ []) hc (some_soft d [] hd tt))))
+    joined-soft (filter_map (λ q. q) (a ∷ (b ∷ (c ∷ (d ∷ [])))))
+    (some_soft a (b ∷ (c ∷ (d ∷ []))) ha (some_soft b (c ∷ (d ∷ [])) hb (some_soft c (d ∷ []) hc (some_soft d [] hd tt))))
 
 -- problems one by one, some of which aren't there
 collected_soft : (ts : List (Option Problem)) → All IsSoft ts → AllSoft (filter_map (λ q. q) ts)

@@ -1,8 +1,7 @@
 -- The answer one name at a time.
-use Rattle.std.proofs.Common.{◌≡◌, ℕ, zero, suc, ◌+◌, ◌<◌, ◌≤◌, Bool, true, false, cond, List, [], ◌∷◌, ◌++◌, length, get_or, drop, reverse, refl, sym, ap, ◌∙◌, arith, Option, Result, Ok, Err, OnOk}
+use Rattle.std.proofs.Common.{◌≡◌, ℕ, zero, suc, ◌+◌, ◌<◌, ◌≤◌, Bool, true, cond, List, [], ◌∷◌, ◌++◌, length}
+use Rattle.std.proofs.Common.{get_or, drop, reverse, refl, arith, Result, Ok, Err, OnOk}
 use Rattle.std.proofs.lemmas.List.{reverse-append}
-use Rattle.ignore_base.specs.Problem.{Problem}
-use Rattle.ignore_dir.specs.declared.dir.Dir.{Dir}
 use Rattle.ignore_dir.specs.declared.outside.Outside.{Outside}
 use Rattle.ignore_dir.specs.declared.settings.Settings.{Settings}
 use Rattle.ignore_dir.specs.declared.verdict.Verdict.TheVariants.{None, Ignore}
@@ -33,8 +32,10 @@ more_left (x ∷ xs) (suc i) h = more_left xs i (omega arith)
 
 -- The last name.
 
-pub verdict_last : (loads : List ℕ → Loaded) (s : Settings) (outside : Outside) (is_dir : Bool) (at : Reached) (p : List (List ℕ)) (i : ℕ) (n : List ℕ)
-    → i < length p → n ≡ get_or p i n → i + 1 ≡ length p → verdict_at s outside (entry at n) is_dir ≡ verdict_from loads s outside is_dir at (drop i p)
+pub verdict_last : (loads : List ℕ → Loaded) (s : Settings) (outside : Outside) (is_dir : Bool) (at : Reached)
+    (p : List (List ℕ)) (i : ℕ) (n : List ℕ)
+    → i < length p → n ≡ get_or p i n → i + 1 ≡ length p
+    → verdict_at s outside (entry at n) is_dir ≡ verdict_from loads s outside is_dir at (drop i p)
 unfolding verdict_from
 verdict_last loads s outside is_dir at p i n lt is e = rw (front_of p i n lt is, rest_none p (i + 1) (omega arith)) refl
 
@@ -45,30 +46,37 @@ problems_last loads s outside at p i n lt is e = rw (front_of p i n lt is, rest_
 
 -- A name before the last: the directory is ignored, or loaded.
 
-verdict_cons : (loads : List ℕ → Loaded) (s : Settings) (outside : Outside) (is_dir : Bool) (at : Reached) (n : List ℕ) (ms : List (List ℕ)) → 0 < length ms
+verdict_cons : (loads : List ℕ → Loaded) (s : Settings) (outside : Outside) (is_dir : Bool) (at : Reached) (n : List ℕ)
+    (ms : List (List ℕ)) → 0 < length ms
     → verdict_from loads s outside is_dir at (n ∷ ms)
     ≡ cond (is_ignore (verdict_at s outside (entry at n) true)) Ignore (verdict_from loads s outside is_dir (entered loads (entry at n)) ms)
 unfolding verdict_from
 verdict_cons loads s outside is_dir at n [] h = absurd (omega arith)
 verdict_cons loads s outside is_dir at n (m ∷ ms) h = refl
 
-problems_cons : (loads : List ℕ → Loaded) (s : Settings) (outside : Outside) (at : Reached) (n : List ℕ) (ms : List (List ℕ)) → 0 < length ms
+problems_cons : (loads : List ℕ → Loaded) (s : Settings) (outside : Outside) (at : Reached) (n : List ℕ)
+    (ms : List (List ℕ)) → 0 < length ms
     → problems_from loads s outside at (n ∷ ms)
-    ≡ cond (is_ignore (verdict_at s outside (entry at n) true)) [] ((loads (entry at n).path).1 ∷ problems_from loads s outside (entered loads (entry at n)) ms)
+    ≡ cond (is_ignore (verdict_at s outside (entry at n) true)) []
+    ((loads (entry at n).path).1 ∷ problems_from loads s outside (entered loads (entry at n)) ms)
 unfolding problems_from
 problems_cons loads s outside at n [] h = absurd (omega arith)
 problems_cons loads s outside at n (m ∷ ms) h = refl
 
 -- the step that a name makes, by whether its directory is ignored
-pub verdict_step : (loads : List ℕ → Loaded) (s : Settings) (outside : Outside) (is_dir : Bool) (at : Reached) (p : List (List ℕ)) (i : ℕ) (n : List ℕ) (ignored : Bool)
+pub verdict_step : (loads : List ℕ → Loaded) (s : Settings) (outside : Outside) (is_dir : Bool) (at : Reached)
+    (p : List (List ℕ)) (i : ℕ) (n : List ℕ) (ignored : Bool)
     → i < length p → n ≡ get_or p i n → (i + 1 ≡ length p → ⊥) → is_ignore (verdict_at s outside (entry at n) true) ≡ ignored
-    → verdict_from loads s outside is_dir at (drop i p) ≡ cond ignored Ignore (verdict_from loads s outside is_dir (entered loads (entry at n)) (drop (i + 1) p))
+    → verdict_from loads s outside is_dir at (drop i p)
+    ≡ cond ignored Ignore (verdict_from loads s outside is_dir (entered loads (entry at n)) (drop (i + 1) p))
 verdict_step loads s outside is_dir at p i n ignored lt is ne e =
     rw (front_of p i n lt is, verdict_cons loads s outside is_dir at n (drop (i + 1) p) (more_left p (i + 1) (omega arith)), e) refl
 
-pub problems_step : (loads : List ℕ → Loaded) (s : Settings) (outside : Outside) (at : Reached) (p : List (List ℕ)) (i : ℕ) (n : List ℕ) (ignored : Bool)
+pub problems_step : (loads : List ℕ → Loaded) (s : Settings) (outside : Outside) (at : Reached) (p : List (List ℕ)) (i : ℕ)
+    (n : List ℕ) (ignored : Bool)
     → i < length p → n ≡ get_or p i n → (i + 1 ≡ length p → ⊥) → is_ignore (verdict_at s outside (entry at n) true) ≡ ignored
-    → problems_from loads s outside at (drop i p) ≡ cond ignored [] ((loads (entry at n).path).1 ∷ problems_from loads s outside (entered loads (entry at n)) (drop (i + 1) p))
+    → problems_from loads s outside at (drop i p) ≡ cond ignored []
+    ((loads (entry at n).path).1 ∷ problems_from loads s outside (entered loads (entry at n)) (drop (i + 1) p))
 problems_step loads s outside at p i n ignored lt is ne e =
     rw (front_of p i n lt is, problems_cons loads s outside at n (drop (i + 1) p) (more_left p (i + 1) (omega arith)), e) refl
 

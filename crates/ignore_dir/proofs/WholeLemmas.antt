@@ -1,5 +1,6 @@
 -- The answer one name at a time is the answer over whole chains.
-use Rattle.std.proofs.Common.{◌≡◌, ◌≢◌, ℕ, zero, suc, ◌+◌, ◌<◌, ◌≤◌, Bool, true, false, not, ◌||◌, cond, List, [], ◌∷◌, ◌++◌, length, map, drop, reverse, refl, sym, ap, ◌∙◌, append_assoc, arith, Option}
+use Rattle.std.proofs.Common.{◌≡◌, ◌≢◌, ℕ, zero, suc, ◌+◌, ◌<◌, ◌≤◌, Bool, true, false, not, ◌||◌, cond, List, [], ◌∷◌}
+use Rattle.std.proofs.Common.{◌++◌, length, map, drop, reverse, refl, sym, ap, ◌∙◌, append_assoc, arith, Option}
 use Rattle.std.proofs.Math.Seq.{drop-append-add, drop-nil}
 use Rattle.std.proofs.lemmas.List.{append-nil, length-append, length-map, map-append, reverse-append}
 use Rattle.std.proofs.lemmas.List.Sums.{take_while-cons}
@@ -13,9 +14,8 @@ use Rattle.ignore_dir.specs.declared.verdict.Verdict.TheVariants.{Ignore}
 use Rattle.ignore_dir.specs.Above.{directories_along, dirs_above, kept_above, names_above, path_along, paths_above}
 use Rattle.ignore_dir.specs.Chains.{placed_along, slashed}
 use Rattle.ignore_dir.specs.Lists.{Asked, Placed, asked_in}
-use Rattle.ignore_dir.specs.Load.{Loaded}
 use Rattle.ignore_dir.specs.Query.{ancestors, is_ignored, names_of, problems_below, rules_verdict}
-use Rattle.ignore_dir.specs.Scene.{Scene, asked_along, chain, dirs_at, dirs_to, names_to, path_verdict}
+use Rattle.ignore_dir.specs.Scene.{Scene, asked_along, chain, dirs_at, dirs_to, path_verdict}
 use Rattle.ignore_dir.specs.Steps.{Reached, entered, entry, problems_from, reached_in, verdict_at, verdict_from}
 use Rattle.ignore_dir.specs.Verdict.{is_ignore, placed_verdict, verdict}
 use Rattle.ignore_dir.proofs.AboveLemmas.{directories_along-more, length-directories, path_along-more}
@@ -89,7 +89,8 @@ past_name text offset n m ms e =
     ∙ (ap (drop (length n + 1)) e ∙ drop-append-add n (47 ∷ joined (m ∷ ms)) 1))
 
 -- each directory is asked about what follows its offset
-asked-placed : (text : List ℕ) (offset : ℕ) (dirs : List Dir) (names : List (List ℕ)) → drop offset text ≡ joined names → length dirs ≤ length names
+asked-placed : (text : List ℕ) (offset : ℕ) (dirs : List Dir) (names : List (List ℕ)) → drop offset text ≡ joined names
+    → length dirs ≤ length names
     → asked_in text (placed_along offset dirs names) ≡ asked_along dirs names
 asked-placed text offset [] names e le = refl
 asked-placed text offset (d ∷ dirs) [] e le = absurd (omega arith)
@@ -107,7 +108,8 @@ placed_along-end offset [] [] dir e = ap (λ n. let l : List Placed = (dir, n) �
 placed_along-end offset [] (n ∷ names) dir e = absurd (omega arith)
 placed_along-end offset (d ∷ dirs) [] dir e = absurd (omega arith)
 placed_along-end offset (d ∷ dirs) (n ∷ names) dir e =
-    let size : length (n ++ 47 ∷ slashed names) ≡ length n + (1 + length (slashed names)) = length-append n (47 ∷ slashed names) ∙ omega arith in
+    let size : length (n ++ 47 ∷ slashed names) ≡ length n + (1 + length (slashed names)) =
+    length-append n (47 ∷ slashed names) ∙ omega arith in
     ap (λ (l : List Placed). (d, offset) ∷ l)
     (placed_along-end (offset + length n + 1) dirs names dir (omega arith)
     ∙ ap (λ k. placed_along (offset + length n + 1) dirs names ++ (dir, k) ∷ []) (omega arith))
@@ -134,7 +136,8 @@ chain-asked dirs names name e =
 
 -- the chain with one directory more
 chain-more : (dirs : List Dir) (names : List (List ℕ)) (name : List ℕ) (dir : Dir) → length dirs ≡ length names + 1
-    → reverse (placed_along 1 (dirs ++ dir ∷ []) (names ++ name ∷ [])) ≡ (dir, length (47 ∷ slashed (names ++ name ∷ []))) ∷ reverse (placed_along 1 dirs names)
+    → reverse (placed_along 1 (dirs ++ dir ∷ []) (names ++ name ∷ []))
+    ≡ (dir, length (47 ∷ slashed (names ++ name ∷ []))) ∷ reverse (placed_along 1 dirs names)
 chain-more dirs names name dir e =
     let size : length (names ++ name ∷ []) ≡ length names + 1 = length-append names (name ∷ []) in
     let here = slashed (names ++ name ∷ []) in
@@ -158,14 +161,17 @@ dirs_in g front = above_of g ++ dirs_at g.loads (directories_along g.root front 
 
 length-above : (g : Scene) → length (above_of g) ≡ length (base_of g)
 length-above g =
-    length-map (paths_above g.tree g.settings g.root) (λ path. kept_above g.settings (g.loads path).0) ∙ length-directories (47 ∷ []) (base_of g)
+    length-map (paths_above g.tree g.settings g.root) (λ path. kept_above g.settings (g.loads path).0)
+    ∙ length-directories (47 ∷ []) (base_of g)
 
 length-in : (g : Scene) (front : List (List ℕ)) → length (dirs_in g front) ≡ length (base_of g ++ front) + 1
 length-in g front =
     let paths = directories_along g.root front ++ path_along g.root front ∷ [] in
-    let a : length (dirs_in g front) ≡ length (above_of g) + length (dirs_at g.loads paths) = length-append (above_of g) (dirs_at g.loads paths) in
+    let a : length (dirs_in g front) ≡ length (above_of g) + length (dirs_at g.loads paths) =
+    length-append (above_of g) (dirs_at g.loads paths) in
     let b : length (dirs_at g.loads paths) ≡ length paths = length-map paths (λ path. (g.loads path).0) in
-    let d : length paths ≡ length (directories_along g.root front) + 1 = length-append (directories_along g.root front) (path_along g.root front ∷ []) in
+    let d : length paths ≡ length (directories_along g.root front) + 1 =
+    length-append (directories_along g.root front) (path_along g.root front ∷ []) in
     let e = length-directories g.root front in
     let f : length (base_of g ++ front) ≡ length (base_of g) + length front = length-append (base_of g) front in
     let h = length-above g in
@@ -189,13 +195,15 @@ same_reached : (a b : List Placed) (t u p q : List ℕ) → a ≡ b → t ≡ u 
 same_reached a b t u p q d e f = rw (d, e, f) refl
 
 -- the directory that is entered by a name
-pub entered-in : (g : Scene) (front : List (List ℕ)) (n : List ℕ) → entered g.loads (entry (reached_in g front) n) ≡ reached_in g (front ++ n ∷ [])
+pub entered-in : (g : Scene) (front : List (List ℕ)) (n : List ℕ)
+    → entered g.loads (entry (reached_in g front) n) ≡ reached_in g (front ++ n ∷ [])
 entered-in g front n =
     let names = base_of g ++ front in
     let path = path_along g.root (front ++ n ∷ []) in
     let at : join_of (path_along g.root front) n ≡ path = sym (path_along-more g.root front n) in
     let text : (47 ∷ slashed names) ++ (n ++ 47 ∷ []) ≡ 47 ∷ slashed (names ++ n ∷ []) = ap (λ t. 47 ∷ t) (sym (slashed-more names n)) in
-    let grown : ((47 ∷ slashed names) ++ n) ++ 47 ∷ [] ≡ 47 ∷ slashed (names ++ n ∷ []) = append_assoc (47 ∷ slashed names) n (47 ∷ []) ∙ text in
+    let grown : ((47 ∷ slashed names) ++ n) ++ 47 ∷ [] ≡ 47 ∷ slashed (names ++ n ∷ []) =
+    append_assoc (47 ∷ slashed names) n (47 ∷ []) ∙ text in
     let more : base_of g ++ (front ++ n ∷ []) ≡ names ++ n ∷ [] = sym (append_assoc (base_of g) front (n ∷ [])) in
     let dir = (g.loads path).0 in
     let old = reverse (placed_along 1 (dirs_in g front) names) in
@@ -269,7 +277,8 @@ rules_verdict-is g is_dir n ns =
 abbrev problem_in : Scene → List (List ℕ) → Option Problem
 problem_in g front = (g.loads (path_along g.root front)).1
 
-one_more : (b : Bool) (x : List (List ℕ)) (xs : List (List (List ℕ))) (f : List (List ℕ) → Option Problem) (y : Option Problem) (ys : List (Option Problem))
+one_more : (b : Bool) (x : List (List ℕ)) (xs : List (List (List ℕ))) (f : List (List ℕ)
+    → Option Problem) (y : Option Problem) (ys : List (Option Problem))
     → f x ≡ y → map f xs ≡ ys → map f (cond (not b) (x ∷ xs) []) ≡ cond b [] (y ∷ ys)
 one_more true x xs f y ys h k = refl
 one_more false x xs f y ys h k = ap (λ z. z ∷ map f xs) h ∙ ap (λ l. y ∷ l) k
@@ -284,18 +293,22 @@ problems-from g front n (m ∷ ms) =
     let f = λ (q : List (List ℕ)). problem_in g (front ++ n ∷ q) in
     let p = λ (q : List (List ℕ)). not (is_ignored g (front ++ n ∷ q)) in
     let move : (q : List (List ℕ)) → here ++ m ∷ q ≡ front ++ n ∷ m ∷ q = λ q. append_assoc front (n ∷ []) (m ∷ q) in
-    let below : map f (take_while p (map (λ q. m ∷ q) (ancestors ms))) ≡ problems_from g.loads g.settings g.outside (entered g.loads (entry (reached_in g front) n)) (m ∷ ms) =
+    let below : map f (take_while p (map (λ q. m ∷ q) (ancestors ms)))
+    ≡ problems_from g.loads g.settings g.outside (entered g.loads (entry (reached_in g front) n)) (m ∷ ms) =
     ap (map f) (while-map p (λ q. m ∷ q) (ancestors ms))
     ∙ (map-map f (λ q. m ∷ q) (take_while (λ q. p (m ∷ q)) (ancestors ms))
-    ∙ (ap (map (λ q. f (m ∷ q))) (while-same (λ q. p (m ∷ q)) (λ q. not (is_ignored g (here ++ m ∷ q))) (ancestors ms) (λ q. ap (λ l. not (is_ignored g l)) (sym (move q))))
-    ∙ (map-same (λ q. f (m ∷ q)) (λ q. problem_in g (here ++ m ∷ q)) (take_while (λ q. not (is_ignored g (here ++ m ∷ q))) (ancestors ms)) (λ q. ap (problem_in g) (sym (move q)))
+    ∙ (ap (map (λ q. f (m ∷ q))) (while-same (λ q. p (m ∷ q)) (λ q. not (is_ignored g (here ++ m ∷ q))) (ancestors ms)
+    (λ q. ap (λ l. not (is_ignored g l)) (sym (move q))))
+    ∙ (map-same (λ q. f (m ∷ q)) (λ q. problem_in g (here ++ m ∷ q))
+    (take_while (λ q. not (is_ignored g (here ++ m ∷ q))) (ancestors ms)) (λ q. ap (problem_in g) (sym (move q)))
     ∙ (problems-from g here m ms
     ∙ ap (λ (r : Reached). problems_from g.loads g.settings g.outside r (m ∷ ms)) (sym (entered-in g front n)))))) in
     ap (map f) (take_while-cons p [] (map (λ q. m ∷ q) (ancestors ms)))
     ∙ (one_more (is_ignored g here) [] (take_while p (map (λ q. m ∷ q) (ancestors ms))) f (g.loads (join_of (path_along g.root front) n)).1
     (problems_from g.loads g.settings g.outside (entered g.loads (entry (reached_in g front) n)) (m ∷ ms))
     (ap (λ l. (g.loads l).1) (path_along-more g.root front n)) below
-    ∙ ap (λ b. cond b [] ((g.loads (join_of (path_along g.root front) n)).1 ∷ problems_from g.loads g.settings g.outside (entered g.loads (entry (reached_in g front) n)) (m ∷ ms)))
+    ∙ ap (λ b. cond b [] ((g.loads (join_of (path_along g.root front) n)).1 ∷ problems_from g.loads g.settings g.outside
+    (entered g.loads (entry (reached_in g front) n)) (m ∷ ms)))
     (sym (ignored-in g front n)))
 
 -- the problems on the way are those one name at a time
@@ -304,13 +317,15 @@ pub problems_below-is : (g : Scene) (n : List ℕ) (ns : List (List ℕ))
 unfolding problems_below is_ignored
 problems_below-is g n ns =
     let p = λ (q : List (List ℕ)). not (is_ignored g q) in
-    ap (map (problem_in g)) (take_while-cons p [] (map (λ q. n ∷ q) (ancestors ns)) ∙ ap (λ (l : List (List (List ℕ))). [] ∷ l) (while-map p (λ q. n ∷ q) (ancestors ns)))
+    ap (map (problem_in g)) (take_while-cons p [] (map (λ q. n ∷ q) (ancestors ns))
+    ∙ ap (λ (l : List (List (List ℕ))). [] ∷ l) (while-map p (λ q. n ∷ q) (ancestors ns)))
     ∙ ap (λ (l : List (Option Problem)). (g.loads g.root).1 ∷ l)
     (map-map (problem_in g) (λ q. n ∷ q) (take_while (λ q. p (n ∷ q)) (ancestors ns)) ∙ problems-from g [] n ns)
 
 -- what is reached at the root, where the directories above it were placed
 pub root-reached : (g : Scene) (dirs : List Placed) (text path : List ℕ)
-    → dirs ≡ placed_along 1 (above_of g) (base_of g) ++ ((g.loads g.root).0, length text) ∷ [] → text ≡ 47 ∷ slashed (base_of g) → path ≡ g.root
+    → dirs ≡ placed_along 1 (above_of g) (base_of g) ++ ((g.loads g.root).0, length text) ∷ []
+    → text ≡ 47 ∷ slashed (base_of g) → path ≡ g.root
     → let at : Reached = record { chain = reverse dirs; text = text; path = path } in
     at ≡ reached_in g []
 root-reached g dirs text path placed is at =

@@ -8,6 +8,7 @@ pub mod Load
 pub mod Query
 pub mod Scene
 pub mod Soft
+pub mod Standard
 pub mod Steps
 pub mod Ranks
 pub mod Verdict

@@ -1,7 +1,8 @@
 -- Problems that are nowhere out of memory: whatever the files answer, an error that is reported
 -- beside a result is such a problem.
 use Rattle.std.specs.Prelude.{◌≡◌, Bool, true, false, ◌||◌, List, [], ◌∷◌, Option, None, Some, Ok, Err}
-use Rattle.ignore_base.specs.Problem.{Problem, several, at_line, at_path, at_depth, loop, io, glob, unrecognized, invalid_definition, memory, Problems, no_problems, problem}
+use Rattle.ignore_base.specs.Problem.{Problem, several, at_line, at_path, at_depth, loop, io, glob, unrecognized}
+use Rattle.ignore_base.specs.Problem.{invalid_definition, memory, Problems, no_problems, problem}
 use Rattle.ignore_dir.specs.Exclude.{Place}
 
 abbrev mutual

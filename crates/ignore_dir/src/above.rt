@@ -5,7 +5,8 @@ ghost use Rattle.ignore_files.specs.Gives.{IsHonest};
 ghost use Rattle.ignore_files.specs.Tree.{Tree};
 ghost use Rattle.ignore_base.specs.Paths.{components, is_proper, without_slash};
 ghost use Rattle.ignore_base.specs.Problem.{problem_of, memory};
-ghost use Rattle.ignore_dir.specs.Above.{needs_above, directories_along, canonical_names, names_above, paths_above, kept_above, dirs_above, problems_of_loads, rules_if};
+ghost use Rattle.ignore_dir.specs.Above.{needs_above, directories_along, canonical_names, names_above, paths_above};
+ghost use Rattle.ignore_dir.specs.Above.{kept_above, dirs_above, problems_of_loads, rules_if};
 ghost use Rattle.ignore_dir.specs.Chains.{placed_along, slashed};
 ghost use Rattle.ignore_dir.specs.Lists.{IsAfterSlash};
 ghost use Rattle.ignore_dir.specs.Load.{Loaded, AreLoads};
@@ -135,7 +136,8 @@ fn load_along<F: Files>(
 ) -> Result<Above, Error>
     ensures dirs { (tree : Tree) (loads : List ℕ → Loaded) → IsHonest F.Files files.now tree → AreLoads tree settings.now loads
         → IfOk result (λ a. a.dirs.items
-        ≡ placed_along 1 (dirs_above loads settings.now (directories_along (codes "/") (map (λ n. n.now) names.now))) (map (λ n. n.now) names.now)) }
+        ≡ placed_along 1 (dirs_above loads settings.now (directories_along (codes "/") (map (λ n. n.now) names.now)))
+        (map (λ n. n.now) names.now)) }
     ensures errors { (tree : Tree) (loads : List ℕ → Loaded) → IsHonest F.Files files.now tree → AreLoads tree settings.now loads
         → IfOk result (λ a. map (option_map problem_of) a.errors.items
         ≡ problems_of_loads loads (directories_along (codes "/") (map (λ n. n.now) names.now))) }
@@ -171,7 +173,8 @@ pub fn load_above<F: Files>(
 ) -> Result<Above, Error>
     ensures dirs { (tree : Tree) (loads : List ℕ → Loaded) → IsHonest F.Files files.now tree → AreLoads tree settings.now loads
         → IfOk result (λ a. a.dirs.items
-        ≡ placed_along 1 (dirs_above loads settings.now (paths_above tree settings.now root.now)) (names_above tree settings.now root.now)) }
+        ≡ placed_along 1 (dirs_above loads settings.now (paths_above tree settings.now root.now))
+        (names_above tree settings.now root.now)) }
     ensures errors { (tree : Tree) (loads : List ℕ → Loaded) → IsHonest F.Files files.now tree → AreLoads tree settings.now loads
         → IfOk result (λ a. map (option_map problem_of) a.errors.items ≡ problems_of_loads loads (paths_above tree settings.now root.now)) }
     ensures base { (tree : Tree) → IsHonest F.Files files.now tree

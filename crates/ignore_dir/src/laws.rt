@@ -1,9 +1,12 @@
 //! Laws of the definitions, as calls that do nothing: each contract is the law.
-ghost use Rattle.std.specs.Prelude.{◌≡◌, ◌++◌, [], ◌∷◌, ℕ, Bool, List, Option};
+ghost use Rattle.std.specs.Prelude.{◌≡◌, ◌++◌, [], ◌∷◌, ℕ, Bool, List, Option, length, reverse};
 ghost use Rattle.ignore_files.specs.Tree.{Tree};
 ghost use Rattle.ignore_base.specs.Problem.{Problem};
 ghost use Rattle.ignore_dir.specs.declared.dir.Dir.{Dir};
 ghost use Rattle.ignore_dir.specs.declared.settings.Settings.{Settings};
+ghost use Rattle.ignore_dir.specs.Above.{dirs_above, names_above, paths_above};
+ghost use Rattle.ignore_dir.specs.Chains.{placed_along, slashed};
+ghost use Rattle.ignore_dir.specs.Lists.{Placed};
 ghost use Rattle.ignore_dir.specs.Load.{Loads, Loaded, AreLoads};
 ghost use Rattle.ignore_dir.specs.Query.{problems_below, rules_verdict};
 ghost use Rattle.ignore_dir.specs.Scene.{Scene, path_verdict};
@@ -20,10 +23,16 @@ pub fn one_load()
     a_file_adds_one_thing();
 }
 
-/// What is said one name at a time is what is said over whole lists: the verdict on an entry of a
-/// directory (`verdict`), what is reached in the directory that an entry is (`entered`), what the
-/// rules say of a path (`rules`), and the problems on the way (`problems`).
+/// What is said one name at a time is what is said over whole lists: what is reached at the root
+/// (`root`), the verdict on an entry of a directory (`verdict`), what is reached in the directory
+/// that an entry is (`entered`), what the rules say of a path (`rules`), and the problems on the way
+/// (`problems`).
 pub fn steps_are_whole()
+    ensures root { (g : Scene) (dirs : List Placed) (text path : List ℕ)
+        → dirs ≡ placed_along 1 (dirs_above g.loads g.settings (paths_above g.tree g.settings g.root))
+        (names_above g.tree g.settings g.root) ++ ((g.loads g.root).0, length text) ∷ []
+        → text ≡ 47 ∷ slashed (names_above g.tree g.settings g.root) → path ≡ g.root
+        → record { chain = reverse dirs; text = text; path = path } ≡ reached_in g [] }
     ensures verdict { (g : Scene) (front : List (List ℕ)) (n : List ℕ) (is_dir : Bool)
         → verdict_at g.settings g.outside (entry (reached_in g front) n) is_dir ≡ path_verdict g (front ++ n ∷ []) is_dir }
     ensures entered { (g : Scene) (front : List (List ℕ)) (n : List ℕ)

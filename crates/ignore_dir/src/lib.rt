@@ -15,8 +15,6 @@ mod outside;
 pub mod ranks;
 mod rule_files;
 mod settings;
-#[cfg(test)]
-mod tests;
 pub mod verdict;
 
 pub use dir::{Dir, Rank};

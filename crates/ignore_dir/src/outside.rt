@@ -3,7 +3,7 @@
 use ignore_rules::gitignore::Gitignore;
 use ignore_rules::overrides::Override;
 use ignore_types::types::Types;
-use std::alloc::AllocError;
+use std::alloc::{AllocError, Global};
 use std::marker::Model;
 
 /// Matchers in the order in which they were added, which contracts see as a list.
@@ -78,6 +78,23 @@ pub struct Outside {
     pub global: Gitignore,
     /// The rules of files that were added by name.
     pub explicit: Matchers,
+}
+
+impl Outside {
+    ghost use Rattle.std.specs.Prelude.{◌≡◌};
+    ghost use Rattle.ignore_dir.specs.Standard.{nothing_outside};
+
+    /// No rules from outside. It allocates nothing.
+    pub fn empty(alloc: Global) -> Outside
+        ensures { result ≡ nothing_outside }
+    {
+        Outside {
+            overrides: Override::empty(alloc),
+            types: Types::empty(alloc),
+            global: Gitignore::empty(alloc),
+            explicit: Matchers::new(Vec::new(alloc)),
+        }
+    }
 }
 
 impl Clone for Outside {

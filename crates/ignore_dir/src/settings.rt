@@ -2,7 +2,7 @@
 ghost use Rattle.std.specs.Prelude.{◌≡◌, ◌++◌, ◌∷◌, [], ℕ, List, IfOk, OnOk, OnErr, map, length};
 
 use ignore_files::Name;
-use std::alloc::AllocError;
+use std::alloc::{AllocError, Global};
 use std::marker::Model;
 
 /// Names of files, in the order in which they were given, which contracts see as a list.
@@ -92,6 +92,34 @@ pub struct Settings {
     pub max_depth: Option<usize>,
     /// The size in bytes above which a file is ignored.
     pub max_filesize: Option<u64>,
+}
+
+impl Settings {
+    ghost use Rattle.std.specs.Prelude.{◌≡◌};
+    ghost use Rattle.ignore_dir.specs.Standard.{standard};
+
+    /// The settings of a builder at first: the six standard filters and `require_git` are on, and
+    /// all else is off or unset. It allocates nothing.
+    pub fn standard(alloc: Global) -> Settings
+        ensures { result ≡ standard }
+    {
+        Settings {
+            custom: Names::new(Vec::new(alloc)),
+            hidden: true,
+            parents: true,
+            ignore: true,
+            git_global: true,
+            git_ignore: true,
+            git_exclude: true,
+            require_git: true,
+            case_insensitive: false,
+            git_trailing_spaces: false,
+            follow_links: false,
+            min_depth: None,
+            max_depth: None,
+            max_filesize: None,
+        }
+    }
 }
 
 impl Clone for Settings {

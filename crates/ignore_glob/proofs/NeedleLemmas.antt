@@ -1,12 +1,16 @@
 -- What tokens leave known of the texts that they match.
-use Rattle.std.proofs.Common.{◌≡◌, ◌≢◌, ◌⊎◌, ℕ, ◌+◌, ◌<◌, ◌≤◌, Bool, true, false, IsTrue, List, [], ◌∷◌, ◌++◌, length, take, drop, drop-cons, add-one, get_or, map, Option, None, Some, refl, sym, ap, subst, ◌∙◌, inl, inr, encode_utf8, append_assoc, nat_le, ◌&&◌, ◌||◌, string_bytes, suc, arith, Vec, Global, String}
+use Rattle.std.proofs.Common.{◌≡◌, ◌≢◌, ◌⊎◌, ℕ, ◌+◌, ◌<◌, ◌≤◌, Bool, true, false, IsTrue, List, [], ◌∷◌, ◌++◌, length, take}
+use Rattle.std.proofs.Common.{drop, drop-cons, add-one, get_or, map, Option, None, Some, refl, sym, ap, subst, ◌∙◌, inl}
+use Rattle.std.proofs.Common.{inr, encode_utf8, append_assoc, nat_le, ◌&&◌, ◌||◌, string_bytes, suc, arith, Vec, Global}
+use Rattle.std.proofs.Common.{String}
 use Rattle.std.specs.Str.{chars, IsUtf8}
 use Rattle.std.specs.Str.Iter.{HasSubslice}
 use Rattle.std.proofs.lemmas.List.{append-nil, drop_all, map-append}
 use Rattle.std.proofs.lemmas.Str.{encodes-chars}
 use Rattle.ignore_glob.specs.declared.glob.token.Token.{Token as CodeToken}
 use Rattle.ignore_glob.specs.Forms.{literal_of}
-use Rattle.ignore_glob.specs.Glob.{Token, literal, any, star, start, middle, end, class, alternates, Tokens, done, then, Branches, no_branch, branch}
+use Rattle.ignore_glob.specs.Glob.{Token, literal, any, star, start, middle, end, class, alternates, Tokens, done, then}
+use Rattle.ignore_glob.specs.Glob.{Branches, no_branch, branch}
 use Rattle.ignore_glob.specs.Matches.{token_matches, tokens_match, branch_matches, glob_matches, in_ranges}
 use Rattle.ignore_glob.specs.Needles.{utf8, BeginsWith, HasOneOf, EndsAndHas}
 use Rattle.ignore_glob.specs.View.{view, tokens_view, branches_view}
@@ -88,9 +92,14 @@ pub known_literal : (t : Token) (c : ℕ) (run run' : List ℕ) (needles needles
 known_literal t c run run' needles needles' e step text w known m =
     subst (λ l. EndsAndHas run' needles' (text ++ utf8 l)) (sym (literal_matched t c w e m)) (step text known)
 
-pub known_character : (c : ℕ) (run run' : List ℕ) (needles : List (List ℕ)) → run' ≡ run ++ encode_utf8 c → (text : List ℕ) → EndsAndHas run needles text → EndsAndHas run' needles (text ++ utf8 (c ∷ []))
+pub known_character : (c : ℕ) (run run' : List ℕ) (needles : List (List ℕ)) → run' ≡ run ++ encode_utf8 c → (text : List ℕ)
+    → EndsAndHas run needles text → EndsAndHas run' needles (text ++ utf8 (c ∷ []))
 known_character c run run' needles grown text ((front, e), has) = (
-  (front, ap (λ l. text ++ l) (utf8-one c) ∙ (ap (λ l. l ++ encode_utf8 c) e ∙ (append_assoc front run (encode_utf8 c) ∙ ap (λ l. front ++ l) (sym grown)))),
+  (
+    front,
+    ap (λ l. text ++ l) (utf8-one c) ∙ (ap (λ l. l ++ encode_utf8 c) e
+        ∙ (append_assoc front run (encode_utf8 c) ∙ ap (λ l. front ++ l) (sym grown))),
+  ),
   one_more needles text (utf8 (c ∷ [])) has,
 )
 
@@ -131,9 +140,11 @@ module _ (tokens : List CodeToken) (i : ℕ) (t : CodeToken) (fits : i < length 
 pub leaves_first : (all : Tokens) (run : List ℕ) (needles : List (List ℕ)) → EndsAndHas run needles [] → Leaves all all run needles
 leaves_first all run needles known w m = ([], w, refl, m, known)
 
-pub leaves_more : (tokens : List CodeToken) (i : ℕ) (t : CodeToken) (run run' : List ℕ) (needles needles' : List (List ℕ)) → i < length tokens → t ≡ get_or tokens i t
+pub leaves_more : (tokens : List CodeToken) (i : ℕ) (t : CodeToken) (run run' : List ℕ) (needles needles' : List (List ℕ))
+    → i < length tokens → t ≡ get_or tokens i t
     → ((text w : List ℕ) → EndsAndHas run needles text → token_matches false (view t) w → EndsAndHas run' needles' (text ++ utf8 w))
-    → Leaves (tokens_view tokens) (tokens_view (drop i tokens)) run needles → Leaves (tokens_view tokens) (tokens_view (drop (i + 1) tokens)) run' needles'
+    → Leaves (tokens_view tokens) (tokens_view (drop i tokens)) run needles
+    → Leaves (tokens_view tokens) (tokens_view (drop (i + 1) tokens)) run' needles'
 leaves_more tokens i t run run' needles needles' fits is step leaves w m =
     let l = leaves w m in
     let p = subst (λ ts. tokens_match false (tokens_view ts) l.1) (place tokens i t fits is) l.3 in (
@@ -146,7 +157,8 @@ leaves_more tokens i t run run' needles needles' fits is step leaves w m =
 
 pub leaves_all : (tokens : List CodeToken) (i : ℕ) (run : List ℕ) (needles chosen : List (List ℕ)) → length tokens ≤ i
     → ((text : List ℕ) → EndsAndHas run needles text → HasOneOf chosen text)
-    → Leaves (tokens_view tokens) (tokens_view (drop i tokens)) run needles → (w : List ℕ) → glob_matches false (tokens_view tokens) w → HasOneOf chosen (utf8 w)
+    → Leaves (tokens_view tokens) (tokens_view (drop i tokens)) run needles → (w : List ℕ)
+    → glob_matches false (tokens_view tokens) w → HasOneOf chosen (utf8 w)
 leaves_all tokens i run needles chosen past choice leaves w m = elim m [
   | inl lone ↦ one_of_nothing chosen (utf8 w) (each [] (subst (λ ts. tokens_match false ts []) (sym lone) ([], [], refl, inl refl, refl)))
   | inr matched ↦ each w matched
@@ -162,20 +174,28 @@ leaves_all tokens i run needles chosen past choice leaves w m = elim m [
 -- How the tokens of a branch begin.
 
 abbrev pub Begins : Tokens → Tokens → List ℕ → List ℕ → Type 0
-Begins all rest run text = (w : List ℕ) → tokens_match false all w → (b : List ℕ) × (run ++ utf8 w ≡ text ++ utf8 b) × tokens_match false rest b
+Begins all rest run text = (w : List ℕ) → tokens_match false all w
+    → (b : List ℕ) × (run ++ utf8 w ≡ text ++ utf8 b) × tokens_match false rest b
 
 pub begins_first : (all : Tokens) (run text : List ℕ) → text ≡ run → Begins all all run text
 begins_first all run text e w m = (w, ap (λ l. l ++ utf8 w) (sym e), m)
 
-pub begins_more : (tokens : List CodeToken) (i : ℕ) (t : CodeToken) (c : ℕ) (run text text' : List ℕ) → i < length tokens → t ≡ get_or tokens i t → literal_of (view t) ≡ Some c → text' ≡ text ++ encode_utf8 c
-    → Begins (tokens_view tokens) (tokens_view (drop i tokens)) run text → Begins (tokens_view tokens) (tokens_view (drop (i + 1) tokens)) run text'
+pub begins_more : (tokens : List CodeToken) (i : ℕ) (t : CodeToken) (c : ℕ) (run text text' : List ℕ) → i < length tokens
+    → t ≡ get_or tokens i t → literal_of (view t) ≡ Some c → text' ≡ text ++ encode_utf8 c
+    → Begins (tokens_view tokens) (tokens_view (drop i tokens)) run text
+    → Begins (tokens_view tokens) (tokens_view (drop (i + 1) tokens)) run text'
 begins_more tokens i t c run text text' fits is e grown begins w m =
     let l = begins w m in
     let p = subst (λ ts. tokens_match false (tokens_view ts) l.0) (place tokens i t fits is) l.2 in
-    let one : l.0 ≡ c ∷ p.1 = p.2 ∙ ap (λ x. x ++ p.1) (literal_matched (view t) c p.0 e p.3) in
-    (p.1, l.1 ∙ (ap (λ x. text ++ utf8 x) one ∙ (sym (append_assoc text (encode_utf8 c) (utf8 p.1)) ∙ ap (λ x. x ++ utf8 p.1) (sym grown))), p.4)
+    let one : l.0 ≡ c ∷ p.1 = p.2 ∙ ap (λ x. x ++ p.1) (literal_matched (view t) c p.0 e p.3) in (
+      p.1,
+      l.1 ∙ (ap (λ x. text ++ utf8 x) one ∙ (sym (append_assoc text (encode_utf8 c) (utf8 p.1))
+          ∙ ap (λ x. x ++ utf8 p.1) (sym grown))),
+      p.4,
+    )
 
-pub begins_so : (all rest : Tokens) (run text : List ℕ) → Begins all rest run text → (w : List ℕ) → tokens_match false all w → BeginsWith text (run ++ utf8 w)
+pub begins_so : (all rest : Tokens) (run text : List ℕ) → Begins all rest run text → (w : List ℕ) → tokens_match false all w
+    → BeginsWith text (run ++ utf8 w)
 begins_so all rest run text begins w m = let l = begins w m in (utf8 l.0, l.1)
 
 -- The whole pattern.
@@ -193,7 +213,8 @@ Spelt all rest run texts = (w : List ℕ) → branch_matches false all w → bra
 pub spelt_first : (all : Branches) (run : List ℕ) → Spelt all all run []
 spelt_first all run w m = inl m
 
-pub spelt_more : (all rest : Branches) (ts : Tokens) (run text : List ℕ) (texts : List (List ℕ)) → ((w : List ℕ) → tokens_match false ts w → BeginsWith text (run ++ utf8 w))
+pub spelt_more : (all rest : Branches) (ts : Tokens) (run text : List ℕ) (texts : List (List ℕ))
+    → ((w : List ℕ) → tokens_match false ts w → BeginsWith text (run ++ utf8 w))
     → Spelt all (branch ts rest) run texts → Spelt all rest run (texts ++ text ∷ [])
 spelt_more all rest ts run text texts begins spelt w m = elim (spelt w m) [
   | inl (inl here) ↦ inr (one_last texts text (run ++ utf8 w) (begins w here))
@@ -201,7 +222,8 @@ spelt_more all rest ts run text texts begins spelt w m = elim (spelt w m) [
   | inr had ↦ inr (one_kept texts text (run ++ utf8 w) had)
 ]
 
-pub spelt_all : (bs : Branches) (run : List ℕ) (texts : List (List ℕ)) → bs ≢ no_branch → Spelt bs no_branch run texts → (front w : List ℕ) → token_matches false (alternates bs) w → HasOneOf texts ((front ++ run) ++ utf8 w)
+pub spelt_all : (bs : Branches) (run : List ℕ) (texts : List (List ℕ)) → bs ≢ no_branch → Spelt bs no_branch run texts
+    → (front w : List ℕ) → token_matches false (alternates bs) w → HasOneOf texts ((front ++ run) ++ utf8 w)
 spelt_all bs run texts some spelt front w (inl none) = absurd (some none.0)
 spelt_all bs run texts some spelt front w (inr m) = elim (spelt w m) [
   | inl never ↦ absurd never
@@ -215,7 +237,8 @@ Listed all rest run texts = (c : ℕ) → IsTrue (in_ranges all c) → IsTrue (i
 pub listed_first : (all : List (ℕ × ℕ)) (run : List ℕ) → Listed all all run []
 listed_first all run c m = inl m
 
-pub listed_all : (ranges : List (ℕ × ℕ)) (run : List ℕ) (texts : List (List ℕ)) → Listed ranges [] run texts → (front w : List ℕ) → token_matches false (class false ranges) w → HasOneOf texts ((front ++ run) ++ utf8 w)
+pub listed_all : (ranges : List (ℕ × ℕ)) (run : List ℕ) (texts : List (List ℕ)) → Listed ranges [] run texts
+    → (front w : List ℕ) → token_matches false (class false ranges) w → HasOneOf texts ((front ++ run) ++ utf8 w)
 listed_all ranges run texts listed front w (c, one, m) = elim (listed c m) [
   | inl never ↦ absurd (none never)
   | inr has ↦ subst (λ x. HasOneOf texts ((front ++ run) ++ utf8 x)) (sym one) (after_front texts front run (utf8 (c ∷ [])) has)
@@ -228,11 +251,13 @@ either : (a b : Bool) → IsTrue (a || b) → (a ≡ true) ⊎ IsTrue b
 either true b h = inl refl
 either false b h = inr h
 
-pub listed_more : (all rest : List (ℕ × ℕ)) (from to : ℕ) (run text : List ℕ) (texts : List (List ℕ)) → from ≡ to → text ≡ run ++ encode_utf8 from
+pub listed_more : (all rest : List (ℕ × ℕ)) (from to : ℕ) (run text : List ℕ) (texts : List (List ℕ)) → from ≡ to
+    → text ≡ run ++ encode_utf8 from
     → Listed all ((from, to) ∷ rest) run texts → Listed all rest run (texts ++ text ∷ [])
 listed_more all rest from to run text texts single spelt listed c m = elim (listed c m) [
   | inl first ↦ elim (either (nat_le from c && nat_le c to) (in_ranges rest c) first) [
-    | inl here ↦ inr (one_last texts text (run ++ utf8 (c ∷ [])) ([], (ap (λ l. run ++ l) (utf8-one c) ∙ ap (λ x. run ++ encode_utf8 x) (same here)) ∙ (sym spelt ∙ sym (append-nil text))))
+    | inl here ↦ inr (one_last texts text (run ++ utf8 (c ∷ []))
+        ([], (ap (λ l. run ++ l) (utf8-one c) ∙ ap (λ x. run ++ encode_utf8 x) (same here)) ∙ (sym spelt ∙ sym (append-nil text))))
     | inr later ↦ inl later
   ]
   | inr had ↦ inr (one_kept texts text (run ++ utf8 (c ∷ [])) had)
@@ -243,7 +268,8 @@ listed_more all rest from to run text texts single spelt listed c m = elim (list
 
 -- Branches and ranges of the program.
 
-pub branch_place : (bs : List (Vec CodeToken Global)) (i : ℕ) (b : Vec CodeToken Global) → i < length bs → b ≡ get_or bs i b → branches_view (drop i bs) ≡ branch (tokens_view b.items) (branches_view (drop (i + 1) bs))
+pub branch_place : (bs : List (Vec CodeToken Global)) (i : ℕ) (b : Vec CodeToken Global) → i < length bs → b ≡ get_or bs i b
+    → branches_view (drop i bs) ≡ branch (tokens_view b.items) (branches_view (drop (i + 1) bs))
 branch_place bs i b fits is = rw add-one (ap branches_view (drop-cons bs i b fits ∙ ap (λ x. x ∷ drop (suc i) bs) (sym is)))
 
 pub no_branches : (bs : List (Vec CodeToken Global)) (i : ℕ) → length bs ≤ i → branches_view (drop i bs) ≡ no_branch
@@ -256,5 +282,6 @@ filled (b ∷ bs) some e = cc
 pub range_place : (rs : List (ℕ × ℕ)) (i : ℕ) → i < length rs → drop i rs ≡ get_or rs i (0, 0) ∷ drop (i + 1) rs
 range_place rs i fits = rw add-one (drop-cons rs i (0, 0) fits)
 
-pub pushed_text : (old new : List (String Global)) (text : String Global) → new ≡ old ++ text ∷ [] → map string_bytes new ≡ map string_bytes old ++ string_bytes text ∷ []
+pub pushed_text : (old new : List (String Global)) (text : String Global) → new ≡ old ++ text ∷ []
+    → map string_bytes new ≡ map string_bytes old ++ string_bytes text ∷ []
 pushed_text old new text e = ap (λ l. map string_bytes l) e ∙ map-append string_bytes old (text ∷ [])

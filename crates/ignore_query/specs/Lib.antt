@@ -1,1 +1,4 @@
+pub mod Agrees
+pub mod Forget
 pub mod Reached
+pub mod Reports

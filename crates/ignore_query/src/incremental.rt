@@ -1,44 +1,51 @@
 //! A matcher of single paths below a root.
-ghost use Rattle.std.specs.Prelude.{◌≡◌, ℕ, List, IfOk, IfErr, option_map, string_bytes};
+ghost use Rattle.std.specs.Prelude.{◌≡◌, true, ℕ, List, IfOk, IfErr, option_map, string_bytes};
 ghost use Rattle.ignore_files.specs.Gives.{IsHonest};
 ghost use Rattle.ignore_files.specs.Tree.{Tree};
 ghost use Rattle.ignore_base.specs.Problem.{problem_of, memory};
 ghost use Rattle.ignore_dir.specs.Load.{Loaded, AreLoads};
-ghost use Rattle.ignore_dir.specs.Query.{query};
+ghost use Rattle.ignore_dir.specs.Query as queries;
+ghost use Rattle.ignore_dir.specs.Scene.{Scene};
 ghost use Rattle.ignore_dir.specs.Soft.{IsSoft};
+ghost use Rattle.ignore_query.specs.Agrees.{Agrees};
 ghost use Rattle.ignore_query.specs.Reached.{scene_of};
+ghost use Rattle.ignore_query.specs.Reports.{reported, reported_by_rules};
 
 use crate::asked::Asked;
+use crate::kept::Cache;
 use ignore_base::Error;
-use ignore_dir::fresh::fresh_match;
+use ignore_dir::fresh::{depth_of, is_asked, judge_size};
+use ignore_dir::incremental::is_beyond;
+use ignore_dir::verdict::Verdict;
 use ignore_dir::{IncrementalMatch, Outside, Settings};
 use ignore_files::Files;
-use std::alloc::{AllocError, Global};
+use std::alloc::AllocError;
 
 /// A matcher of single paths below a root: whether a walk from the root would yield them.
+///
+/// It keeps what it loads: the directories above the root, and each proper ancestor of a path that
+/// it was asked about, up to the first ignored one. So a directory is read once, until it is
+/// forgotten.
 #[derive(Debug, Drop)]
 pub struct IncrementalIgnore {
-    asked: Asked,
+    pub(crate) asked: Asked,
+    pub(crate) cache: Cache,
 }
 
 impl IncrementalIgnore {
-    /// A matcher for paths below a root. It allocates nothing.
+    /// A matcher for paths below a root, which keeps nothing yet. It allocates nothing.
     /// For dependents.
-    pub fn new(
-        _alloc: Global,
-        settings: Settings,
-        outside: Outside,
-        root: String,
-    ) -> IncrementalIgnore
+    pub fn new(settings: Settings, outside: Outside, root: String) -> IncrementalIgnore
         ensures asked { result.asked ≡ record { settings = settings; outside = outside; root = root } }
+        ensures fresh { (g : Scene) → Agrees g result.cache }
     {
-        IncrementalIgnore {
-            asked: Asked {
-                settings,
-                outside,
-                root,
-            },
-        }
+        let cache = Cache::new(*root.allocator());
+        let asked = Asked {
+            settings,
+            outside,
+            root,
+        };
+        IncrementalIgnore { asked, cache }
     }
 
     /// The root, as it was given.
@@ -50,15 +57,17 @@ impl IncrementalIgnore {
 
     /// What becomes of the path below the root, which is a directory where `is_dir` is set.
     ///
-    /// - For the root `-`, which stands for standard input, and for a path that isn't clean there is
-    ///   no match.
+    /// - For the root `-`, which stands for standard input, and for a path that isn't clean there
+    ///   is no match.
     /// - What is beyond the limits on depth is ignored.
     /// - For the empty path, and for each path where the root isn't a directory, there is no match.
     /// - Else the path is ignored where a directory on the way from the root is; else the rules
     ///   decide, and then its size.
     ///
+    /// The answer doesn't depend on what was asked before.
+    ///
     /// # Errors
-    /// `Error::Memory` alone.
+    /// `Error::Memory` alone. What was kept stays kept.
     pub fn matched<F: Files>(
         &mut self,
         files: &F,
@@ -66,8 +75,11 @@ impl IncrementalIgnore {
         is_dir: bool,
     ) -> Result<IncrementalMatch, Error>
         ensures value { (tree : Tree) (loads : List ℕ → Loaded) → IsHonest F.Files files.now tree
-            → AreLoads tree self.old.asked.settings loads
-            → IfOk result (λ m. m ≡ (query (scene_of self.old.asked tree loads) path.now is_dir).0) }
+            → AreLoads tree self.old.asked.settings loads → let g = scene_of self.old.asked tree loads in
+            Agrees g self.old.cache → IfOk result (λ m. m ≡ (queries.query g path.now is_dir).0) }
+        ensures agrees { (tree : Tree) (loads : List ℕ → Loaded) → IsHonest F.Files files.now tree
+            → AreLoads tree self.old.asked.settings loads → let g = scene_of self.old.asked tree loads in
+            Agrees g self.old.cache → Agrees g self.new.cache }
         ensures same { self.new.asked ≡ self.old.asked }
         ensures out_of_memory { IfErr result (λ e. problem_of e ≡ memory) }
     {
@@ -75,10 +87,11 @@ impl IncrementalIgnore {
         Ok(answer)
     }
 
-    /// The same, and what is wrong with the files of rules that were read, or with the size.
+    /// The same, and what is wrong with the files of rules that this call read, or with the size.
     ///
     /// # Errors
-    /// `Error::Memory` alone.
+    /// `Error::Memory` alone. What was kept stays kept.
+    #[tactic(auto, unfolding(ignore_dir::specs::Query::query, crate::specs::Reports::reported))]
     pub fn matched_with_errors<F: Files>(
         &mut self,
         files: &F,
@@ -86,27 +99,86 @@ impl IncrementalIgnore {
         is_dir: bool,
     ) -> Result<(IncrementalMatch, Option<Error>), Error>
         ensures value { (tree : Tree) (loads : List ℕ → Loaded) → IsHonest F.Files files.now tree
-            → AreLoads tree self.old.asked.settings loads
-            → IfOk result (λ r. (r.0, option_map problem_of r.1) ≡ query (scene_of self.old.asked tree loads) path.now is_dir) }
+            → AreLoads tree self.old.asked.settings loads → let g = scene_of self.old.asked tree loads in
+            Agrees g self.old.cache → IfOk result (λ r. r.0 ≡ (queries.query g path.now is_dir).0) }
+        ensures reports { (tree : Tree) (loads : List ℕ → Loaded) → IsHonest F.Files files.now tree
+            → AreLoads tree self.old.asked.settings loads → let g = scene_of self.old.asked tree loads in
+            Agrees g self.old.cache → IfOk result (λ r. option_map problem_of r.1 ≡ reported g self.old.cache path.now is_dir) }
+        ensures agrees { (tree : Tree) (loads : List ℕ → Loaded) → IsHonest F.Files files.now tree
+            → AreLoads tree self.old.asked.settings loads → let g = scene_of self.old.asked tree loads in
+            Agrees g self.old.cache → Agrees g self.new.cache }
+        ensures soft { IfOk result (λ r. IsSoft (option_map problem_of r.1)) }
+        ensures same { self.new.asked ≡ self.old.asked }
+        ensures out_of_memory { IfErr result (λ e. problem_of e ≡ memory) }
+    {
+        if !is_asked(self.root(), path) {
+            return Ok((IncrementalMatch::no_match(is_dir), None));
+        }
+        let alloc = *self.asked.root.allocator();
+        let depth = depth_of(path);
+        if is_beyond(&self.asked.settings, depth, is_dir) {
+            return Ok((IncrementalMatch::beyond(), None));
+        }
+        if self.cache.has_rules(alloc, files, &self.asked, path)? {
+            return self.answer_of_rules(files, path, is_dir);
+        }
+        let answer = IncrementalMatch::limited(&self.asked.settings, depth, is_dir, Verdict::None);
+        Ok((answer, None))
+    }
+
+    /// The answer that the rules give, where they decide.
+    fn answer_of_rules<F: Files>(
+        &mut self,
+        files: &F,
+        path: &str,
+        is_dir: bool,
+    ) -> Result<(IncrementalMatch, Option<Error>), Error>
+        ensures value { (tree : Tree) (loads : List ℕ → Loaded) → IsHonest F.Files files.now tree
+            → AreLoads tree self.old.asked.settings loads → let g = scene_of self.old.asked tree loads in
+            Agrees g self.old.cache → queries.is_asked g.root path.now ≡ true → queries.has_rules tree g.root path.now ≡ true
+            → IfOk result (λ r. r.0 ≡ (queries.answer_of_rules g path.now is_dir).0) }
+        ensures reports { (tree : Tree) (loads : List ℕ → Loaded) → IsHonest F.Files files.now tree
+            → AreLoads tree self.old.asked.settings loads → let g = scene_of self.old.asked tree loads in
+            Agrees g self.old.cache → queries.is_asked g.root path.now ≡ true → queries.has_rules tree g.root path.now ≡ true
+            → IfOk result (λ r. option_map problem_of r.1 ≡ reported_by_rules g self.old.cache path.now is_dir) }
+        ensures agrees { (tree : Tree) (loads : List ℕ → Loaded) → IsHonest F.Files files.now tree
+            → AreLoads tree self.old.asked.settings loads → let g = scene_of self.old.asked tree loads in
+            Agrees g self.old.cache → queries.is_asked g.root path.now ≡ true → queries.has_rules tree g.root path.now ≡ true
+            → Agrees g self.new.cache }
         ensures soft { IfOk result (λ r. IsSoft (option_map problem_of r.1)) }
         ensures same { self.new.asked ≡ self.old.asked }
         ensures out_of_memory { IfErr result (λ e. problem_of e ≡ memory) }
     {
         let alloc = *self.asked.root.allocator();
-        let (settings, outside) = (&self.asked.settings, &self.asked.outside);
-        let root = self.root();
-        fresh_match(alloc, files, settings, outside, root, path, is_dir)
+        let (asked, cache) = (&self.asked, &mut self.cache);
+        let mut errors = Vec::new(alloc);
+        cache.keep_above(alloc, files, asked, &mut errors)?;
+        let verdict = cache.rules_verdict(alloc, files, asked, path, is_dir, &mut errors)?;
+        let (settings, root) = (&asked.settings, asked.root.as_str());
+        let verdict = judge_size(
+            alloc,
+            files,
+            settings,
+            root,
+            path,
+            is_dir,
+            verdict,
+            &mut errors,
+        )?;
+        let answer = IncrementalMatch::limited(settings, depth_of(path), is_dir, verdict);
+        Ok((answer, Error::joined(errors)))
     }
 }
 
 impl Clone for IncrementalIgnore {
     ghost use Rattle.ignore_query.specs.Reached.{IsSame};
 
-    ghost is_clone = { λ m copy. IsSame m.asked copy.asked };
+    // The copy keeps nothing.
+    ghost is_clone = { λ m copy. IsSame m.asked copy.asked × ((g : Scene) → Agrees g copy.cache) };
 
     fn clone(&self) -> Result<IncrementalIgnore, AllocError> {
-        Ok(IncrementalIgnore {
-            asked: self.asked.clone()?,
-        })
+        let asked = self.asked.clone()?;
+        let cache = Cache::new(*asked.root.allocator());
+        Ok(IncrementalIgnore { asked, cache })
     }
 }

@@ -2,10 +2,14 @@
 #![tactic(auto)]
 
 mod asked;
+mod chain;
+mod forget;
 mod incremental;
-#[cfg(test)]
-mod tests;
+mod kept;
+mod load;
+mod root;
 
 pub use asked::Asked;
 pub use ignore_dir::IncrementalMatch;
 pub use incremental::IncrementalIgnore;
+pub use kept::{Cache, Kept};

@@ -1,5 +1,6 @@
 -- What an index keeps when a pattern is added after the others.
-use Rattle.std.proofs.Common.{◌≡◌, ◌≢◌, ℕ, Bool, true, false, cond, List, [], ◌∷◌, ◌++◌, length, Result, Ok, Err, IfOk, Some, refl, sym, ap, subst, ◌∙◌, Vec, Global}
+use Rattle.std.proofs.Common.{◌≡◌, ◌≢◌, ℕ, Bool, true, false, cond, List, [], ◌∷◌, ◌++◌, length, Result, Ok, Err, IfOk}
+use Rattle.std.proofs.Common.{Some, refl, sym, ap, subst, ◌∙◌, Vec, Global}
 use Rattle.std.specs.Bool.{Decides}
 use Rattle.std.specs.BTreeMap.{get_by_text}
 use Rattle.std.specs.List.{IsAmong}
@@ -22,15 +23,20 @@ use Rattle.ignore_set.proofs.SlotLemmas.{table_same, table_put}
 
 -- One step of an index.
 
-pub if_ok3 : {T E A B C D : Type 0} (r : Result T E) → IfOk r (λ _. A) → IfOk r (λ _. B) → IfOk r (λ _. C) → (A → B → C → D) → IfOk r (λ _. D)
+pub if_ok3 : {T E A B C D : Type 0} (r : Result T E) → IfOk r (λ _. A) → IfOk r (λ _. B) → IfOk r (λ _. C) → (A → B → C → D)
+    → IfOk r (λ _. D)
 if_ok3 (Ok x) a b c f = f a b c
 if_ok3 (Err e) a b c f = tt
 
-pub put_slots : (old new : Table) (text : List ℕ) (w : Slot) (index : ℕ) (only_dir : Bool) (q : List ℕ) → get_by_text new.slots q ≡ update bytes_eq (λ t. get_by_text old.slots t) text (Some w) q → w ≡ slot_with index only_dir (slot_at old text)
+pub put_slots : (old new : Table) (text : List ℕ) (w : Slot) (index : ℕ) (only_dir : Bool) (q : List ℕ)
+    → get_by_text new.slots q ≡ update bytes_eq (λ t. get_by_text old.slots t) text (Some w) q
+    → w ≡ slot_with index only_dir (slot_at old text)
     → slot_at new q ≡ cond (bytes_eq text q) (slot_with index only_dir (slot_at old q)) (slot_at old q)
-put_slots old new text w index only_dir q e is = ap (λ o. unwrap_or o (record { file = 0; dir = 0 })) e ∙ at (bytes_eq text q) (bytes_eq-Decides text q)
+put_slots old new text w index only_dir q e is = ap (λ o. unwrap_or o (record { file = 0; dir = 0 })) e
+    ∙ at (bytes_eq text q) (bytes_eq-Decides text q)
   where
-    at : (same : Bool) → Decides same (text ≡ q) → unwrap_or (cond same (Some w) (get_by_text old.slots q)) (record { file = 0; dir = 0 }) ≡ cond same (slot_with index only_dir (slot_at old q)) (slot_at old q)
+    at : (same : Bool) → Decides same (text ≡ q) → unwrap_or (cond same (Some w) (get_by_text old.slots q))
+        (record { file = 0; dir = 0 }) ≡ cond same (slot_with index only_dir (slot_at old q)) (slot_at old q)
     at true d = is ∙ ap (λ t. slot_with index only_dir (slot_at old t)) (d.0 refl)
     at false d = refl
 
@@ -68,7 +74,10 @@ Puts old new index only_dir text =
     × (IsUtf8 text × IsAmong new.lengths.items (length text))
     × ((n : ℕ) → IsAmong old.lengths.items n → IsAmong new.lengths.items n)
 
-pub add_whole : (old : Index) (new : Table) (text : List ℕ) (index : ℕ) (only_dir : Bool) → Puts old.whole new index only_dir text → (ms : List Member) (m : Member) → IsIndexOf old ms → length ms ≡ index → form_of m.reading ≡ whole text → m.only_dir ≡ only_dir → IsIndexOf (record { whole = new; names = old.names; ends = old.ends; others = old.others }) (ms ++ m ∷ [])
+pub add_whole : (old : Index) (new : Table) (text : List ℕ) (index : ℕ) (only_dir : Bool)
+    → Puts old.whole new index only_dir text → (ms : List Member) (m : Member) → IsIndexOf old ms → length ms ≡ index
+    → form_of m.reading ≡ whole text → m.only_dir ≡ only_dir
+    → IsIndexOf (record { whole = new; names = old.names; ends = old.ends; others = old.others }) (ms ++ m ∷ [])
 add_whole old new text index only_dir p ms m was size is only = record {
   whole = table_put whole old.whole new ms m index text only_dir one_whole was.whole size is only p.0 p.1 p.2;
   names = table_same name old.names ms m (λ t e. whole≢name text t (sym is ∙ e)) was.names;
@@ -76,7 +85,10 @@ add_whole old new text index only_dir p ms m was size is only = record {
   others = others_same old.others.items ms m (λ e. whole≢other text (sym is ∙ e)) was.others;
 }
 
-pub add_name : (old : Index) (new : Table) (text : List ℕ) (index : ℕ) (only_dir : Bool) → Puts old.names new index only_dir text → (ms : List Member) (m : Member) → IsIndexOf old ms → length ms ≡ index → form_of m.reading ≡ name text → m.only_dir ≡ only_dir → IsIndexOf (record { whole = old.whole; names = new; ends = old.ends; others = old.others }) (ms ++ m ∷ [])
+pub add_name : (old : Index) (new : Table) (text : List ℕ) (index : ℕ) (only_dir : Bool)
+    → Puts old.names new index only_dir text → (ms : List Member) (m : Member) → IsIndexOf old ms → length ms ≡ index
+    → form_of m.reading ≡ name text → m.only_dir ≡ only_dir
+    → IsIndexOf (record { whole = old.whole; names = new; ends = old.ends; others = old.others }) (ms ++ m ∷ [])
 add_name old new text index only_dir p ms m was size is only = record {
   whole = table_same whole old.whole ms m (λ t e. whole≢name t text (sym e ∙ is)) was.whole;
   names = table_put name old.names new ms m index text only_dir one_name was.names size is only p.0 p.1 p.2;
@@ -84,7 +96,10 @@ add_name old new text index only_dir p ms m was size is only = record {
   others = others_same old.others.items ms m (λ e. name≢other text (sym is ∙ e)) was.others;
 }
 
-pub add_end : (old : Index) (new : Table) (text : List ℕ) (index : ℕ) (only_dir : Bool) → Puts old.ends new index only_dir text → (ms : List Member) (m : Member) → IsIndexOf old ms → length ms ≡ index → form_of m.reading ≡ ending text → m.only_dir ≡ only_dir → IsIndexOf (record { whole = old.whole; names = old.names; ends = new; others = old.others }) (ms ++ m ∷ [])
+pub add_end : (old : Index) (new : Table) (text : List ℕ) (index : ℕ) (only_dir : Bool)
+    → Puts old.ends new index only_dir text → (ms : List Member) (m : Member) → IsIndexOf old ms → length ms ≡ index
+    → form_of m.reading ≡ ending text → m.only_dir ≡ only_dir
+    → IsIndexOf (record { whole = old.whole; names = old.names; ends = new; others = old.others }) (ms ++ m ∷ [])
 add_end old new text index only_dir p ms m was size is only = record {
   whole = table_same whole old.whole ms m (λ t e. whole≢ending t text (sym e ∙ is)) was.whole;
   names = table_same name old.names ms m (λ t e. name≢ending t text (sym e ∙ is)) was.names;
@@ -92,11 +107,15 @@ add_end old new text index only_dir p ms m was size is only = record {
   others = others_same old.others.items ms m (λ e. ending≢other text (sym is ∙ e)) was.others;
 }
 
-pub add_other : (old : Index) (new : Vec IndexedText Global) (texts : List (List ℕ)) (index : ℕ) → new.items ≡ old.others.items ++ needles_at index texts → (ms : List Member) (m : Member) → IsIndexOf old ms → length ms ≡ index → form_of m.reading ≡ other
-    → ((text : List ℕ) → IsUtf8 text → Matches m.reading (chars text) → HasOneOf texts text) → IsIndexOf (record { whole = old.whole; names = old.names; ends = old.ends; others = new }) (ms ++ m ∷ [])
+pub add_other : (old : Index) (new : Vec IndexedText Global) (texts : List (List ℕ)) (index : ℕ)
+    → new.items ≡ old.others.items ++ needles_at index texts → (ms : List Member) (m : Member) → IsIndexOf old ms
+    → length ms ≡ index → form_of m.reading ≡ other
+    → ((text : List ℕ) → IsUtf8 text → Matches m.reading (chars text) → HasOneOf texts text)
+    → IsIndexOf (record { whole = old.whole; names = old.names; ends = old.ends; others = new }) (ms ++ m ∷ [])
 add_other old new texts index o ms m was size is has = record {
   whole = table_same whole old.whole ms m (λ t h. whole≢other t (sym h ∙ is)) was.whole;
   names = table_same name old.names ms m (λ t h. name≢other t (sym h ∙ is)) was.names;
   ends = table_same ending old.ends ms m (λ t h. ending≢other t (sym h ∙ is)) was.ends;
-  others = subst (λ l. AreOthers l (ms ++ m ∷ [])) (ap (λ k. old.others.items ++ needles_at k texts) size ∙ sym o) (others_put old.others.items texts ms m is has was.others);
+  others = subst (λ l. AreOthers l (ms ++ m ∷ [])) (ap (λ k. old.others.items ++ needles_at k texts) size ∙ sym o)
+      (others_put old.others.items texts ms m is has was.others);
 }

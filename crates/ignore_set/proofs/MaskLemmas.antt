@@ -1,5 +1,6 @@
 -- A text has the bits of each text in it.
-use Rattle.std.proofs.Common.{◌≡◌, ℕ, ◌+◌, ◌<◌, ◌≤◌, List, [], ◌∷◌, ◌++◌, length, get_or, drop, drop-cons, add-one, suc, refl, sym, ap, subst, ◌∙◌, arith}
+use Rattle.std.proofs.Common.{◌≡◌, ℕ, ◌+◌, ◌<◌, ◌≤◌, List, [], ◌∷◌, ◌++◌, length, get_or, drop, drop-cons, add-one, suc}
+use Rattle.std.proofs.Common.{refl, sym, ap, subst, ◌∙◌, arith}
 use Rattle.std.specs.Prelude.{bit_or}
 use Rattle.std.specs.Int.{bit_at}
 use Rattle.std.specs.Str.Iter.{HasSubslice}
@@ -26,7 +27,8 @@ first_covered a (b ∷ c ∷ xs) ys = same_covered (bit_of a b c)
 
 front_covered : (xs ys : List ℕ) → Covers (mask_of xs) (mask_of (xs ++ ys))
 front_covered [] ys = zero_covered (mask_of ys)
-front_covered (x ∷ xs) ys = or_covered (first_bit (x ∷ xs)) (mask_of xs) (first_bit (x ∷ (xs ++ ys))) (mask_of (xs ++ ys)) (first_covered x xs ys) (front_covered xs ys)
+front_covered (x ∷ xs) ys = or_covered (first_bit (x ∷ xs)) (mask_of xs) (first_bit (x ∷ (xs ++ ys))) (mask_of (xs ++ ys))
+    (first_covered x xs ys) (front_covered xs ys)
 
 back_covered : (xs ys : List ℕ) → Covers (mask_of ys) (mask_of (xs ++ ys))
 back_covered [] ys i = same_covered (mask_of ys) i
@@ -53,7 +55,8 @@ no_three (a ∷ []) short = refl
 no_three (a ∷ b ∷ []) short = refl
 no_three (a ∷ b ∷ c ∷ bytes) short = absurd (omega (arith, short))
 
-pub mask_step : (bytes : List ℕ) (at : ℕ) → at < length bytes → mask_of (drop at bytes) ≡ bit_or (first_bit (drop at bytes)) (mask_of (drop (at + 1) bytes))
+pub mask_step : (bytes : List ℕ) (at : ℕ) → at < length bytes
+    → mask_of (drop at bytes) ≡ bit_or (first_bit (drop at bytes)) (mask_of (drop (at + 1) bytes))
 mask_step bytes at fits =
     let cut = drop-cons bytes at 0 fits in
     rw add-one (ap mask_of cut ∙ ap (λ l. bit_or (first_bit l) (mask_of (drop (suc at) bytes))) (sym cut))

@@ -1,5 +1,6 @@
 -- What a table keeps when a pattern is added after the others.
-use Rattle.std.proofs.Common.{◌≡◌, ◌≢◌, ◌⊎◌, ℕ, zero, suc, ◌+◌, Bool, true, false, cond, List, [], ◌∷◌, ◌++◌, length, slice_get, Some, refl, sym, ap, subst, ◌∙◌, inl, inr, arith}
+use Rattle.std.proofs.Common.{◌≡◌, ◌≢◌, ◌⊎◌, ℕ, zero, suc, ◌+◌, Bool, true, false, cond, List, [], ◌∷◌, ◌++◌, length}
+use Rattle.std.proofs.Common.{slice_get, Some, refl, sym, ap, subst, ◌∙◌, inl, inr, arith}
 use Rattle.std.specs.Bool.{Decides}
 use Rattle.std.specs.List.{IsAmong}
 use Rattle.std.specs.Str.{IsUtf8, bytes_eq}
@@ -15,7 +16,8 @@ use Rattle.ignore_set.specs.Sets.{Member, Allows}
 
 -- Lists with one more at the end.
 
-pub got_append : {X : Type 0} (xs : List X) (y : X) (i : ℕ) (x : X) → slice_get (xs ++ y ∷ []) i ≡ Some x → (slice_get xs i ≡ Some x) ⊎ ((i ≡ length xs) × (x ≡ y))
+pub got_append : {X : Type 0} (xs : List X) (y : X) (i : ℕ) (x : X) → slice_get (xs ++ y ∷ []) i ≡ Some x
+    → (slice_get xs i ≡ Some x) ⊎ ((i ≡ length xs) × (x ≡ y))
 got_append [] y zero x e = inr (refl, cc)
 got_append [] y (suc i) x e = cc
 got_append (z ∷ xs) y zero x e = inl e
@@ -52,21 +54,31 @@ last_miss P ms m n lacks was = record {
 
 -- Tables.
 
-pub table_same : (form : List ℕ → Form) (table : Table) (ms : List Member) (m : Member) → ((text : List ℕ) → form_of m.reading ≢ form text) → IsTableOf form table ms → IsTableOf form table (ms ++ m ∷ [])
+pub table_same : (form : List ℕ → Form) (table : Table) (ms : List Member) (m : Member)
+    → ((text : List ℕ) → form_of m.reading ≢ form text) → IsTableOf form table ms → IsTableOf form table (ms ++ m ∷ [])
 table_same form table ms m differs was = record {
-  slots = λ is_dir text. last_miss (λ x. (form_of x.reading ≡ form text) × Allows is_dir x) ms m (after is_dir (slot_at table text)) (λ h. differs text h.0) (was.slots is_dir text);
-  lengths = λ i x text g is. elim (got_append ms m i x g) [ inl before ↦ was.lengths i x text before is | inr p ↦ absurd (differs text (sym (ap (λ (y : Member). form_of y.reading) p.1) ∙ is)) ];
+  slots = λ is_dir text. last_miss (λ x. (form_of x.reading ≡ form text) × Allows is_dir x) ms m
+      (after is_dir (slot_at table text)) (λ h. differs text h.0) (was.slots is_dir text);
+  lengths = λ i x text g is. elim (got_append ms m i x g) [
+    | inl before ↦ was.lengths i x text before is
+    | inr p ↦ absurd (differs text (sym (ap (λ (y : Member). form_of y.reading) p.1) ∙ is))
+  ];
 }
 
 -- the slot under the new pattern's own text
-put_slot : (form : List ℕ → Form) (table : Table) (ms : List Member) (m : Member) (text : List ℕ) → form_of m.reading ≡ form text → IsTableOf form table ms → (is_dir only_dir : Bool) → m.only_dir ≡ only_dir → IsAfterLast (λ x. (form_of x.reading ≡ form text) × Allows is_dir x) (ms ++ m ∷ []) (after is_dir (slot_with (length ms) only_dir (slot_at table text)))
+put_slot : (form : List ℕ → Form) (table : Table) (ms : List Member) (m : Member) (text : List ℕ)
+    → form_of m.reading ≡ form text → IsTableOf form table ms → (is_dir only_dir : Bool) → m.only_dir ≡ only_dir
+    → IsAfterLast (λ x. (form_of x.reading ≡ form text) × Allows is_dir x) (ms ++ m ∷ [])
+    (after is_dir (slot_with (length ms) only_dir (slot_at table text)))
 put_slot form table ms m text is was true only_dir e = last_hit (λ x. (form_of x.reading ≡ form text) × Allows true x) ms m (is, inr refl)
 put_slot form table ms m text is was false false e = last_hit (λ x. (form_of x.reading ≡ form text) × Allows false x) ms m (is, inl e)
 put_slot form table ms m text is was false true e =
     last_miss (λ x. (form_of x.reading ≡ form text) × Allows false x) ms m (after false (slot_at table text))
     (λ h. elim h.1 [ inl f ↦ false≢true (sym f ∙ e) | inr f ↦ false≢true f ]) (was.slots false text)
 
-pub table_put : (form : List ℕ → Form) (old new : Table) (ms : List Member) (m : Member) (index : ℕ) (text : List ℕ) (only_dir : Bool) → ((a b : List ℕ) → form a ≡ form b → a ≡ b) → IsTableOf form old ms → length ms ≡ index → form_of m.reading ≡ form text → m.only_dir ≡ only_dir
+pub table_put : (form : List ℕ → Form) (old new : Table) (ms : List Member) (m : Member) (index : ℕ) (text : List ℕ)
+    (only_dir : Bool) → ((a b : List ℕ) → form a ≡ form b → a ≡ b) → IsTableOf form old ms → length ms ≡ index
+    → form_of m.reading ≡ form text → m.only_dir ≡ only_dir
     → ((q : List ℕ) → slot_at new q ≡ cond (bytes_eq text q) (slot_with index only_dir (slot_at old q)) (slot_at old q))
     → IsUtf8 text × IsAmong new.lengths.items (length text)
     → ((n : ℕ) → IsAmong old.lengths.items n → IsAmong new.lengths.items n)
@@ -75,14 +87,19 @@ table_put form old new ms m index text only_dir one was size is only slots long 
   slots = λ is_dir q. at is_dir q (bytes_eq text q) (bytes_eq-Decides text q) (slots q);
   lengths = λ i x q g h. elim (got_append ms m i x g) [
     | inl before ↦ ((was.lengths i x q before h).0, kept (length q) (was.lengths i x q before h).1)
-    | inr p ↦ subst (λ t. IsUtf8 t × IsAmong new.lengths.items (length t)) (one text q (sym is ∙ (sym (ap (λ (y : Member). form_of y.reading) p.1) ∙ h))) long
+    | inr p ↦ subst (λ t. IsUtf8 t × IsAmong new.lengths.items (length t))
+        (one text q (sym is ∙ (sym (ap (λ (y : Member). form_of y.reading) p.1) ∙ h))) long
   ];
 }
   where
-    at : (is_dir : Bool) (q : List ℕ) (same : Bool) → Decides same (text ≡ q) → slot_at new q ≡ cond same (slot_with index only_dir (slot_at old q)) (slot_at old q) → IsAfterLast (λ x. (form_of x.reading ≡ form q) × Allows is_dir x) (ms ++ m ∷ []) (after is_dir (slot_at new q))
+    at : (is_dir : Bool) (q : List ℕ) (same : Bool) → Decides same (text ≡ q)
+        → slot_at new q ≡ cond same (slot_with index only_dir (slot_at old q)) (slot_at old q)
+        → IsAfterLast (λ x. (form_of x.reading ≡ form q) × Allows is_dir x) (ms ++ m ∷ []) (after is_dir (slot_at new q))
     at is_dir q true d e =
         subst (λ s. IsAfterLast (λ x. (form_of x.reading ≡ form q) × Allows is_dir x) (ms ++ m ∷ []) (after is_dir s))
-        (ap (λ n. slot_with n only_dir (slot_at old q)) size ∙ sym e) (put_slot form old ms m q (is ∙ ap form (d.0 refl)) was is_dir only_dir only)
+        (ap (λ n. slot_with n only_dir (slot_at old q)) size ∙ sym e)
+        (put_slot form old ms m q (is ∙ ap form (d.0 refl)) was is_dir only_dir only)
     at is_dir q false d e =
         subst (λ s. IsAfterLast (λ x. (form_of x.reading ≡ form q) × Allows is_dir x) (ms ++ m ∷ []) (after is_dir s)) (sym e)
-        (last_miss (λ x. (form_of x.reading ≡ form q) × Allows is_dir x) ms m (after is_dir (slot_at old q)) (λ h. false≢true (d.1 (one text q (sym is ∙ h.0)))) (was.slots is_dir q))
+        (last_miss (λ x. (form_of x.reading ≡ form q) × Allows is_dir x) ms m (after is_dir (slot_at old q))
+        (λ h. false≢true (d.1 (one text q (sym is ∙ h.0)))) (was.slots is_dir q))

@@ -33,8 +33,10 @@ slot_with index only_dir slot = record { file = cond only_dir slot.file (index +
 
 -- the table of the patterns of a form: the last under each text for each kind, and the lengths of the texts
 pub record IsTableOf (form : List ℕ → Form) (table : Table) (ms : List Member) : Type 0 where
-  pub slots : (is_dir : Bool) (text : List ℕ) → IsAfterLast (λ m. (form_of m.reading ≡ form text) × Allows is_dir m) ms (after is_dir (slot_at table text))
-  pub lengths : (i : ℕ) (m : Member) (text : List ℕ) → slice_get ms i ≡ Some m → form_of m.reading ≡ form text → IsUtf8 text × IsAmong table.lengths.items (length text)
+  pub slots : (is_dir : Bool) (text : List ℕ) → IsAfterLast (λ m. (form_of m.reading ≡ form text) × Allows is_dir m) ms
+      (after is_dir (slot_at table text))
+  pub lengths : (i : ℕ) (m : Member) (text : List ℕ) → slice_get ms i ≡ Some m → form_of m.reading ≡ form text
+      → IsUtf8 text × IsAmong table.lengths.items (length text)
 
 -- the index is one of these patterns, in their order
 pub record IsIndexOf (index : Index) (ms : List Member) : Type 0 where

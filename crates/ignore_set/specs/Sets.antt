@@ -12,7 +12,8 @@ pub record Member : Type 0 where
 
 abbrev pub member_code : Coded Member
 member_code =
-    code_by (Reading × Bool) (coded× reading_code coded_bool) (λ m. (m.reading, m.only_dir)) (λ p. record { reading = p.0; only_dir = p.1 }) (λ _. refl)
+    code_by (Reading × Bool) (coded× reading_code coded_bool) (λ m. (m.reading, m.only_dir))
+    (λ p. record { reading = p.0; only_dir = p.1 }) (λ _. refl)
 
 -- patterns with their flags, in order
 abbrev pub members : List (Reading × Bool) → List Member

@@ -21,10 +21,7 @@ pub(crate) fn applies<M: HasPattern>(
     if !allows(candidate, is_dir) {
         return Ok((false, 0));
     }
-    match candidate.pattern().matches(text) {
-        Ok(yes) => Ok((yes, 1)),
-        Err(error) => Err(error),
-    }
+    Ok((candidate.pattern().matches(text)?, 1))
 }
 
 fn allows<M: HasPattern>(candidate: &M, is_dir: bool) -> bool

@@ -71,10 +71,8 @@ impl Index {
         ensures value { IfOk result (λ last. IsLastMatch (chars text.now) is_dir (map M.member members.now) last) }
         ensures out_of_memory { IfErr result (λ e. problem_of e ≡ memory) }
     {
-        match self.last_match_counted(members, text, is_dir) {
-            Ok((last, _)) => Ok(last),
-            Err(error) => Err(error),
-        }
+        let (last, _) = self.last_match_counted(members, text, is_dir)?;
+        Ok(last)
     }
 
     /// As `last_match`, with how many patterns this call tried by a pass over positions: at most
@@ -94,10 +92,8 @@ impl Index {
         ensures out_of_memory { IfErr result (λ e. problem_of e ≡ memory) }
     {
         let exact = self.last_exact(text, is_dir);
-        match last_other(members, &self.others, exact, text, is_dir) {
-            Ok((after, passes)) => Ok((after.checked_sub(1), passes)),
-            Err(error) => Err(error),
-        }
+        let (after, passes) = last_other(members, &self.others, exact, text, is_dir)?;
+        Ok((after.checked_sub(1), passes))
     }
 
     /// One more than the greatest index that the tables have for the text.

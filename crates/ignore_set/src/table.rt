@@ -60,7 +60,9 @@ impl Table {
         only_dir: bool,
     ) -> Result<(), AllocError>
         requires { index + 1 < 2 ^ 64 }
-        ensures slots { IfOk result (λ _. (q : List ℕ) → slot_at self.new q ≡ cond (bytes_eq (string_bytes text) q) (slot_with index only_dir (slot_at self.old q)) (slot_at self.old q)) }
+        ensures slots { IfOk result (λ _. (q : List ℕ)
+            → slot_at self.new q ≡ cond (bytes_eq (string_bytes text) q) (slot_with index only_dir (slot_at self.old q))
+            (slot_at self.old q)) }
         ensures length { IfOk result (λ _. IsUtf8 (string_bytes text) × IsAmong self.new.lengths.items (length (string_bytes text))) }
         ensures lengths { IfOk result (λ _. (n : ℕ) → IsAmong self.old.lengths.items n → IsAmong self.new.lengths.items n) }
     {
@@ -89,7 +91,8 @@ impl Table {
     /// One more than the greatest index of a pattern under an end of the text.
     pub(crate) fn under_ends(&self, ending: Ending, text: &str, is_dir: bool) -> usize
         ensures found { StandsUnderEnd ending self.now is_dir text.now result }
-        ensures greatest { (end : List ℕ) → Fits ending end text.now → IsUtf8 end → IsAmong self.now.lengths.items (length end) → after is_dir (slot_at self.now end) ≤ result }
+        ensures greatest { (end : List ℕ) → Fits ending end text.now → IsUtf8 end
+            → IsAmong self.now.lengths.items (length end) → after is_dir (slot_at self.now end) ≤ result }
     {
         let mut best = 0usize;
         for size in &self.lengths {
@@ -100,7 +103,8 @@ impl Table {
 
     fn under_end(&self, ending: Ending, text: &str, size: usize, is_dir: bool) -> usize
         ensures found { StandsUnderEnd ending self.now is_dir text.now result }
-        ensures greatest { (end : List ℕ) → Fits ending end text.now → IsUtf8 end → length end ≡ size → after is_dir (slot_at self.now end) ≤ result }
+        ensures greatest { (end : List ℕ) → Fits ending end text.now → IsUtf8 end → length end ≡ size
+            → after is_dir (slot_at self.now end) ≤ result }
     {
         match end_of(text, size) {
             None => 0,

@@ -27,7 +27,8 @@ pub(crate) fn fits(ending: Ending, text: &str, end: &str) -> bool
 /// The end of a text, of this size, if a character begins there.
 pub(crate) fn end_of(text: &str, size: usize) -> Option<&str>
     ensures found { IfSome result (λ end. HasEnd end.now text.now × (length end.now ≡ size)) }
-    ensures each { (front end : List ℕ) → text.now ≡ front ++ end → IsUtf8 end → length end ≡ size → option_map (λ e. e.now) result ≡ Some end }
+    ensures each { (front end : List ℕ) → text.now ≡ front ++ end → IsUtf8 end → length end ≡ size
+        → option_map (λ e. e.now) result ≡ Some end }
 {
     let at = text.len().checked_sub(size)?;
     if text.is_char_boundary(at) {

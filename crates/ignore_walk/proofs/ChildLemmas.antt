@@ -1,16 +1,20 @@
 -- From a listed thing to an entry.
-use Rattle.std.proofs.Common.{◌≡◌, ℕ, ◌+◌, ◌-◌, ◌<◌, List, [], ◌∷◌, get_or, map, length, reverse, slice_get, Option, None, Some, Result, Ok, Err, refl, sym, ◌∙◌, ap, subst, arith}
+use Rattle.std.proofs.Common.{◌≡◌, ℕ, ◌+◌, ◌-◌, Bool, true, false, cond, ◌&&◌, List, [], ◌∷◌, get_or, map, length, reverse, slice_get, Option, None, Some, Result, Ok, Err, refl, sym, ◌∙◌, ap, arith}
 use Rattle.std.proofs.lemmas.List.{get_or-map, get_or-reverse, length-map, length-reverse}
 use Rattle.std.proofs.lemmas.Option.{get_or_from_slice_get, slice_get-get_or}
 use Rattle.ignore_base.specs.Paths.{join_of}
 use Rattle.ignore_base.specs.Problem.{Problem, at_depth, io}
 use Rattle.ignore_base.specs.declared.fault.Fault.{Fault}
+use Rattle.ignore_files.specs.Kinds.{is_symlink}
 use Rattle.ignore_files.specs.Memory.{and_then}
+use Rattle.ignore_files.specs.Tree.{Tree}
 use Rattle.ignore_files.specs.declared.types.FileType.{FileType}
+use Rattle.ignore_files.specs.declared.types.Identity.{Identity}
 use Rattle.ignore_files.specs.declared.types.Listed.TheVariants as thing
+use Rattle.ignore_files.specs.declared.types.Metadata.{Metadata}
 use Rattle.ignore_walk.specs.declared.frame.Frame.{Frame}
 use Rattle.ignore_walk.specs.Branch.{Branch, path_of, entered}
-use Rattle.ignore_walk.specs.Child.{child, found, is_dir_kind, with_device, without_loop}
+use Rattle.ignore_walk.specs.Child.{child, followed_link, found, identity_at, is_dir_kind, or_failed, same_among, unlooped, with_device, without_loop}
 use Rattle.ignore_walk.specs.Entry.{Entry, Item, fresh}
 use Rattle.ignore_walk.specs.Scene.{Scene}
 
@@ -87,3 +91,59 @@ pub fault_is : (g : Scene) (root : List ℕ) (b : Branch) (fault : Fault)
     → child g root b (thing.Fault fault) ≡ Err (at_depth (length b + 1) (io fault))
 unfolding child
 fault_is g root b fault = refl
+
+-- What a listed entry is has the path of its place.
+
+value_or : Entry → Result Entry Problem → Entry
+value_or d (Ok e) = e
+value_or d (Err p) = d
+
+abbrev ok : Entry → Result Entry Problem
+ok e = Ok e
+
+ok_equal : (e f : Entry) → ok e ≡ ok f → f ≡ e
+unfolding value_or
+ok_equal e f h = sym (ap (λ (r : Result Entry Problem). value_or e r) h)
+
+and_then-ok : {A B E : Type 0} (f : A → Result B E) (r : Result A E) (y : B) → and_then f r ≡ Ok y → (x : A) × (r ≡ Ok x) × (f x ≡ Ok y)
+and_then-ok f (Ok x) y h = (x, refl, h)
+and_then-ok f (Err e) y h = absurd (cc (h))
+
+found-path : (g : Scene) (path : List ℕ) (depth : ℕ) (kind : FileType) (e : Entry) → found g path depth kind ≡ Ok e → e.path ≡ path
+found-path g path depth kind e h = by (g.settings.follow_links && is_symlink kind) (g.tree.stat path true) h
+  where
+    by : (b : Bool) (r : Result Metadata Fault)
+        → cond b (or_failed path depth (followed_link path depth) r) (Ok (record { path = path; depth = depth; kind = Some kind; followed = false })) ≡ Ok e
+        → e.path ≡ path
+    by true (Ok m) k = ap (λ (x : Entry). x.path) (ok_equal (record { path = path; depth = depth; kind = Some m.file_type; followed = true }) e k)
+    by true (Err f) k = absurd (cc (k))
+    by false r k = ap (λ (x : Entry). x.path) (ok_equal (record { path = path; depth = depth; kind = Some kind; followed = false }) e k)
+
+unlooped-same : (tree : Tree) (ancestors : List (List ℕ)) (e f : Entry) → without_loop tree ancestors e ≡ Ok f → f ≡ e
+unlooped-same tree ancestors e f h =
+    by (e.followed && is_dir_kind e.kind) (and_then (λ id. same_among tree id ancestors) (identity_at tree e.path)) h
+  where
+    by : (b : Bool) (r : Result (Option (List ℕ)) Fault) → cond b (or_failed e.path e.depth (unlooped e) r) (Ok e) ≡ Ok f → f ≡ e
+    by true (Ok None) k = ok_equal e f k
+    by true (Ok (Some a)) k = absurd (cc (k))
+    by true (Err x) k = absurd (cc (k))
+    by false r k = ok_equal e f k
+
+device-same : (g : Scene) (is_dir : Bool) (e f : Entry) → with_device g is_dir e ≡ Ok f → f ≡ e
+device-same g is_dir e f h = by (g.same_file_system && is_dir) (identity_at g.tree e.path) h
+  where
+    by : (b : Bool) (r : Result Identity Fault) → cond b (or_failed e.path e.depth (λ (id : Identity). Ok e) r) (Ok e) ≡ Ok f → f ≡ e
+    by true (Ok id) k = ok_equal e f k
+    by true (Err x) k = absurd (cc (k))
+    by false r k = ok_equal e f k
+
+pub child_path : (g : Scene) (root : List ℕ) (b : Branch) (name : List ℕ) (kind : FileType) (e : Entry)
+    → child g root b (thing.Entry name kind) ≡ Ok e → e.path ≡ path_of root (name ∷ b)
+unfolding child
+child_path g root b name kind e h =
+    let path = path_of root (name ∷ b) in
+    let depth = length b + 1 in
+    let last = and_then-ok (λ (x : Entry). with_device g (is_dir_kind x.kind) x) (and_then (without_loop g.tree (entered root b)) (found g path depth kind)) e h in
+    let loop = and_then-ok (without_loop g.tree (entered root b)) (found g path depth kind) last.0 last.1 in
+    ap (λ (x : Entry). x.path) (device-same g (is_dir_kind last.0.kind) last.0 e last.2)
+    ∙ (ap (λ (x : Entry). x.path) (unlooped-same g.tree (entered root b) loop.0 last.0 loop.2) ∙ found-path g path depth kind loop.0 loop.1)

@@ -1,5 +1,15 @@
 pub mod Worked
 pub mod Arranged
+pub mod Sorting
 pub mod Given
 pub mod OneList
 pub mod ChildLemmas
+pub mod PlaceLemmas
+pub mod TextLemmas
+pub mod GroundLemmas
+pub mod RootLemmas
+pub mod AboveLemmas
+pub mod LeftLemmas
+pub mod StandLemmas
+pub mod VisitLemmas
+pub mod EmptyLemmas

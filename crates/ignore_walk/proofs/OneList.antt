@@ -38,35 +38,35 @@ mutual
       )
 
 -- what is left where the first root is standard input
-record Stdin (g : Scene) (seen roots : List (List ℕ)) (ys : List Item) (n : ℕ) : Type 0 where
-  items : List Item
-  k : ℕ
-  rest : WalkedRoots g seen roots items k
-  are : ys ≡ Ok (stdin_entry, None) ∷ items
-  count : n ≡ suc k
+pub record Stdin (g : Scene) (seen roots : List (List ℕ)) (ys : List Item) (n : ℕ) : Type 0 where
+  pub items : List Item
+  pub k : ℕ
+  pub rest : WalkedRoots g seen roots items k
+  pub are : ys ≡ Ok (stdin_entry, None) ∷ items
+  pub count : n ≡ suc k
 
-roots_stdin : (g : Scene) (seen roots : List (List ℕ)) (r : List ℕ) (ys : List Item) (n : ℕ) → bytes_eq r (codes "-") ≡ true
+pub roots_stdin : (g : Scene) (seen roots : List (List ℕ)) (r : List ℕ) (ys : List Item) (n : ℕ) → bytes_eq r (codes "-") ≡ true
     → WalkedRoots g seen (r ∷ roots) ys n → Stdin g seen roots ys n
 roots_stdin g seen roots r ys n is (stdin w) = record { items = _; k = _; rest = w; are = refl; count = refl }
 roots_stdin g seen roots r ys n is (other h w v) = absurd (cc (is, h))
 
 -- what is left where it is another
-record Root (g : Scene) (seen roots : List (List ℕ)) (r : List ℕ) (ys : List Item) (n : ℕ) : Type 0 where
-  own : List Item
-  items : List Item
-  p : ℕ
-  k : ℕ
-  one : WalkedOne g r [] (root_entry g r) own p
-  rest : WalkedRoots g (seen ++ above_root g r) roots items k
-  are : ys ≡ reported_before g seen r ++ (own ++ items)
-  count : n ≡ suc (p + k)
+pub record Root (g : Scene) (seen roots : List (List ℕ)) (r : List ℕ) (ys : List Item) (n : ℕ) : Type 0 where
+  pub own : List Item
+  pub items : List Item
+  pub p : ℕ
+  pub k : ℕ
+  pub one : WalkedOne g r [] (root_entry g r) own p
+  pub rest : WalkedRoots g (seen ++ above_root g r) roots items k
+  pub are : ys ≡ reported_before g seen r ++ (own ++ items)
+  pub count : n ≡ suc (p + k)
 
-roots_root : (g : Scene) (seen roots : List (List ℕ)) (r : List ℕ) (ys : List Item) (n : ℕ) → bytes_eq r (codes "-") ≡ false
+pub roots_root : (g : Scene) (seen roots : List (List ℕ)) (r : List ℕ) (ys : List Item) (n : ℕ) → bytes_eq r (codes "-") ≡ false
     → WalkedRoots g seen (r ∷ roots) ys n → Root g seen roots r ys n
 roots_root g seen roots r ys n is (stdin w) = absurd (cc (is))
 roots_root g seen roots r ys n is (other h w v) = record { own = _; items = _; p = _; k = _; one = w; rest = v; are = refl; count = refl }
 
-roots_none : (g : Scene) (seen : List (List ℕ)) (ys : List Item) (n : ℕ) → WalkedRoots g seen [] ys n → (ys ≡ []) × (n ≡ 0)
+pub roots_none : (g : Scene) (seen : List (List ℕ)) (ys : List Item) (n : ℕ) → WalkedRoots g seen [] ys n → (ys ≡ []) × (n ≡ 0)
 roots_none g seen ys n no_roots = (refl, refl)
 
 pub one_whole : (g : Scene) (seen roots : List (List ℕ)) (xs ys : List Item) (m n : ℕ)

@@ -11,7 +11,7 @@ use Rattle.ignore_files.specs.declared.types.Listed.TheVariants.{Entry as listed
 use Rattle.ignore_dir.specs.Load.{Loaded}
 use Rattle.ignore_dir.specs.declared.outside.Outside.{Outside}
 use Rattle.ignore_dir.specs.declared.settings.Settings.{Settings}
-use Rattle.ignore_walk.specs.Branch.{Branch, chain}
+use Rattle.ignore_walk.specs.Branch.{Branch}
 use Rattle.ignore_walk.specs.Child.{child}
 use Rattle.ignore_walk.specs.Entry.{Entry, Item}
 use Rattle.ignore_walk.specs.Scene.{Scene}
@@ -66,8 +66,7 @@ scene loads outside = record {
 
 -- the rules ignore nothing
 pub record IsPlain (g : Scene) : Type 0 where
-  pub kept : (root : List ℕ) (b : Branch) (name path : List ℕ) (is_dir : Bool)
-      → ignores g.settings g.outside (chain g root b name) path is_dir ≡ false
+  pub kept : (root : List ℕ) (b : Branch) (is_dir : Bool) → ignores g root b is_dir ≡ false
 
 abbrev pub entry : List ℕ → ℕ → Entry
 entry path depth = record { path = path; depth = depth; kind = Some Dir; followed = false }
@@ -99,7 +98,7 @@ root_entered loads o = refl
 dir_entered : (loads : List ℕ → Loaded) (o : Outside) (b : Branch) (name path : List ℕ) (depth : ℕ) → IsPlain (scene loads o)
     → fate (scene loads o) (codes "/t") (name ∷ b) (entry path depth) ≡ enter
 unfolding fate is_skipped
-dir_entered loads o b name path depth plain = rw (plain.kept (codes "/t") b name path true) refl
+dir_entered loads o b name path depth plain = rw (plain.kept (codes "/t") (name ∷ b) true) refl
 
 -- the loop, in the place of the link
 abbrev pub loop_item : Item

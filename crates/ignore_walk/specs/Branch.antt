@@ -1,10 +1,10 @@
--- Places below a root, and the chain of directories that is asked about an entry.
+-- Places below a root, and the directories around them.
 use Rattle.std.specs.Prelude.{List, [], ◌∷◌, ◌++◌, length, reverse}
 use Rattle.ignore_base.specs.Text.{Bytes, Path}
 use Rattle.ignore_base.specs.Paths.{join_of}
 use Rattle.ignore_dir.specs.Above.{names_above, paths_above, dirs_above}
 use Rattle.ignore_dir.specs.Chains.{slashed, placed_along}
-use Rattle.ignore_dir.specs.Lists.{Asked, Placed, asked_in}
+use Rattle.ignore_dir.specs.Lists.{Placed}
 use Rattle.ignore_walk.specs.Scene.{Scene}
 
 -- the names that lead from a root to a place below it, the last first; the root itself has none
@@ -37,8 +37,3 @@ placed_at g root (name ∷ b) = ((g.loads (path_of root (name ∷ b))).0, length
 abbrev pub placed_above : Scene → Path → List Placed
 placed_above g root =
     reverse (placed_along 1 (dirs_above g.loads g.settings (paths_above g.tree g.settings root)) (names_above g.tree g.settings root))
-
--- the directories that are asked about a name in the directory at a place, the nearest first, each
--- with the path past it
-unfoldable pub chain : Scene → Path → Branch → Bytes → List Asked
-chain g root b name = asked_in (text_at g root b ++ name) (placed_at g root b ++ placed_above g root)

@@ -6,3 +6,9 @@ pub mod Walked
 pub mod Whole
 pub mod Suits
 pub mod Frames
+pub mod Keyed
+pub mod Opens
+pub mod Fates
+pub mod Left
+pub mod Stands
+pub mod Nexts

@@ -3,6 +3,7 @@ use Rattle.std.specs.Prelude.{Bool, Option}
 use Rattle.ignore_base.specs.Text.{Bytes, Path}
 use Rattle.ignore_files.specs.Tree.{Tree}
 use Rattle.ignore_dir.specs.Load.{Loaded}
+use Rattle.ignore_dir.specs.Scene as below
 use Rattle.ignore_dir.specs.declared.outside.Outside.{Outside}
 use Rattle.ignore_dir.specs.declared.settings.Settings.{Settings}
 use Rattle.ignore_walk.specs.Entry.{Entry}
@@ -18,3 +19,7 @@ pub record Scene : Type 0 where
   pub same_file_system : Bool
   pub keep : Entry → Bool
   pub order : Option (Path → Bytes → Bytes → Bool)
+
+-- what queries below a root depend on
+abbrev pub queries : Scene → Path → below.Scene
+queries g root = below.scene g.tree g.loads g.settings g.outside root

@@ -1,5 +1,5 @@
 -- What an entry gives, and all below it.
-use Rattle.std.specs.Prelude.{◌≡◌, ℕ, suc, ◌+◌, Bool, true, false, ◌&&◌, ◌||◌, not, ◌==◌, nat_lt, nat_le, List, [], ◌∷◌, ◌++◌, map, Option, None, Some, Result, Ok, Err, IsPermutation, IsSortedBy, if◌then◌else◌}
+use Rattle.std.specs.Prelude.{◌≡◌, ℕ, suc, ◌+◌, Bool, true, false, ◌&&◌, ◌||◌, not, ◌==◌, nat_lt, nat_le, List, [], ◌∷◌, ◌++◌, map, reverse, Option, None, Some, Result, Ok, Err, IsPermutation, IsSortedBy, if◌then◌else◌}
 use Rattle.std.specs.Cmp.{IsStrictWeakOrder}
 use Rattle.std.specs.List.Sorted.{IsStableBy}
 use Rattle.ignore_base.specs.Text.{Bytes, Path}
@@ -10,14 +10,13 @@ use Rattle.ignore_files.specs.declared.types.Identity.{Identity}
 use Rattle.ignore_files.specs.declared.types.Listed.{Listed}
 use Rattle.ignore_files.specs.declared.types.Listed.TheVariants as thing
 use Rattle.ignore_files.specs.declared.types.Metadata.{Metadata}
-use Rattle.ignore_dir.specs.Lists.{Asked}
-use Rattle.ignore_dir.specs.Verdict.{verdict, is_ignore}
-use Rattle.ignore_dir.specs.declared.outside.Outside.{Outside}
+use Rattle.ignore_dir.specs.Scene.{path_verdict}
+use Rattle.ignore_dir.specs.Verdict.{is_ignore}
 use Rattle.ignore_dir.specs.declared.settings.Settings.{Settings}
-use Rattle.ignore_walk.specs.Branch.{Branch, chain}
+use Rattle.ignore_walk.specs.Branch.{Branch}
 use Rattle.ignore_walk.specs.Child.{is_dir_kind, identity_at, named, below, child}
 use Rattle.ignore_walk.specs.Entry.{Entry, Item, failed_at}
-use Rattle.ignore_walk.specs.Scene.{Scene}
+use Rattle.ignore_walk.specs.Scene.{Scene, queries}
 
 -- a path leads to a directory
 abbrev pub is_dir_found : Result Metadata Fault → Bool
@@ -35,9 +34,9 @@ is_above None size = false
 is_above (Some most) (Ok m) = nat_lt most m.len
 is_above (Some most) (Err fault) = false
 
--- the rules ignore a path
-unfoldable pub ignores : Settings → Outside → List Asked → Path → Bool → Bool
-ignores s outside asked path is_dir = is_ignore (verdict s outside asked path is_dir)
+-- the rules ignore what is at a place below a root
+unfoldable pub ignores : Scene → Path → Branch → Bool → Bool
+ignores g root b is_dir = is_ignore (path_verdict (queries g root) (reverse b) is_dir)
 
 -- an entry that is no directory is too large
 abbrev pub is_too_large : Scene → Entry → Bool
@@ -48,7 +47,7 @@ is_too_large g e = not (is_dir_kind e.kind) && is_above g.settings.max_filesize 
 unfoldable pub is_skipped : Scene → Path → Branch → Entry → Bool
 is_skipped g root [] e = false
 is_skipped g root (name ∷ b) e =
-    ignores g.settings g.outside (chain g root b name) e.path (is_dir_kind e.kind) || (is_too_large g e || not (g.keep e))
+    ignores g root (name ∷ b) (is_dir_kind e.kind) || (is_too_large g e || not (g.keep e))
 
 -- it is at the greatest depth
 abbrev pub is_at_most : Option ℕ → ℕ → Bool

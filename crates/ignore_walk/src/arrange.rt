@@ -1,11 +1,13 @@
 //! The order of what a directory lists.
-ghost use Rattle.std.specs.Prelude.{◌≡◌, ◌≢◌, IfOk, IfErr, OnOk};
+ghost use Rattle.std.specs.Prelude.{◌≡◌, ◌≢◌, IfOk, IfErr, OnOk, List, Option, ℕ, Bool, map, IsPermutation, IsSortedBy};
 ghost use Rattle.std.specs.Cmp.{IsStrictWeakOrder};
+ghost use Rattle.std.specs.List.Sorted.{IsStableBy};
 ghost use Rattle.std.specs.Ordering.{is_lt};
 ghost use Rattle.std.specs.declared.cmp.Ordering.{Ordering};
 ghost use Rattle.ignore_base.specs.Text.{Path};
 ghost use Rattle.ignore_base.specs.Problem.{problem_of, memory};
-ghost use Rattle.ignore_walk.specs.Suits.{order_by};
+ghost use Rattle.ignore_walk.specs.Keyed.{key_of, path_in, comes_first};
+ghost use Rattle.ignore_walk.specs.Suits.{order_by, IsOrderBy};
 ghost use Rattle.ignore_walk.specs.Walked.{comes_before, IsArranged};
 ghost use Rattle.ignore_walk.specs.declared.callbacks.Order.TheVariants.{ByName, ByPath};
 
@@ -34,14 +36,16 @@ fn compare<S: Callbacks>(owner: &S, a: &Listed, b: &Listed) -> Ordering
 }
 
 /// Sorts a listing by name. What ties stays as it was listed.
-fn sort_by_name<S: Callbacks>(owner: &S, listing: &mut Vec<Listed>) -> Result<(), AllocError> {
+fn sort_by_name<S: Callbacks>(owner: &S, listing: &mut Vec<Listed>) -> Result<(), AllocError>
+    ensures arranged { (cmp : Path → Path → Ordering) (dir : List ℕ) → S.compares owner.now cmp → IsStrictWeakOrder (λ a b. is_lt (cmp a b))
+        → OnOk result (IsArranged (order_by ByName cmp) dir listing.old.items listing.new.items) }
+{
     listing.sort_by(
         |a: &Listed, b: &Listed| -> Ordering
             ensures { (cmp : Path → Path → Ordering) → S.compares owner.entry.now cmp
                 → is_lt result ≡ comes_before (λ x y. is_lt (cmp x y)) a.now b.now }
         { compare(owner, a, b) },
-    )?;
-    Ok(())
+    )
 }
 
 /// A listed thing, with its path.
@@ -53,6 +57,7 @@ struct PathListed {
 
 /// The path of a listed thing; a fault has none.
 fn path_of(alloc: Global, dir: &str, listed: &Listed) -> Result<Name, Error>
+    ensures value { IfOk result (λ path. path ≡ path_in dir.now listed.now) }
     ensures out_of_memory { IfErr result (λ e. problem_of e ≡ memory) }
 {
     match listed {
@@ -63,6 +68,7 @@ fn path_of(alloc: Global, dir: &str, listed: &Listed) -> Result<Name, Error>
 
 /// The things of a listing, each with its path.
 fn keyed(alloc: Global, dir: &str, listing: Vec<Listed>) -> Result<Vec<PathListed>, Error>
+    ensures value { IfOk result (λ all. all.items ≡ map (key_of dir.now) listing.items) }
     ensures out_of_memory { IfErr result (λ e. problem_of e ≡ memory) }
 {
     let mut all = Vec::with_capacity(alloc, listing.len())?;
@@ -74,7 +80,9 @@ fn keyed(alloc: Global, dir: &str, listing: Vec<Listed>) -> Result<Vec<PathListe
 }
 
 /// How two of them compare: faults come first, and entries compare as their paths do.
-fn compare_keyed<S: Callbacks>(owner: &S, a: &PathListed, b: &PathListed) -> Ordering {
+fn compare_keyed<S: Callbacks>(owner: &S, a: &PathListed, b: &PathListed) -> Ordering
+    ensures { (cmp : Path → Path → Ordering) → S.compares owner.now cmp → is_lt result ≡ comes_first cmp a.now b.now }
+{
     match a.listed {
         Listed::Fault(_) => match b.listed {
             Listed::Fault(_) => Ordering::Equal,
@@ -87,8 +95,23 @@ fn compare_keyed<S: Callbacks>(owner: &S, a: &PathListed, b: &PathListed) -> Ord
     }
 }
 
+/// Sorts listed things by their paths. What ties stays as it was listed.
+fn sort_by_path<S: Callbacks>(owner: &S, all: &mut Vec<PathListed>) -> Result<(), AllocError>
+    ensures sorted { (cmp : Path → Path → Ordering) → S.compares owner.now cmp → IsStrictWeakOrder (λ a b. is_lt (cmp a b))
+        → OnOk result (IsPermutation all.old.items all.new.items × IsSortedBy (comes_first cmp) all.new.items
+        × IsStableBy (comes_first cmp) all.old.items all.new.items) }
+{
+    all.sort_by(
+        |a: &PathListed, b: &PathListed| -> Ordering
+            ensures { (cmp : Path → Path → Ordering) → S.compares owner.entry.now cmp → is_lt result ≡ comes_first cmp a.now b.now }
+        { compare_keyed(owner, a, b) },
+    )
+}
+
 /// The things alone.
-fn unkeyed(alloc: Global, all: Vec<PathListed>) -> Result<Vec<Listed>, AllocError> {
+fn unkeyed(alloc: Global, all: Vec<PathListed>) -> Result<Vec<Listed>, AllocError>
+    ensures { IfOk result (λ listing. listing.items ≡ map (λ p. p.listed) all.items) }
+{
     let mut listing = Vec::with_capacity(alloc, all.len())?;
     for thing in all {
         listing.push(thing.listed)?;
@@ -103,10 +126,12 @@ fn sorted_by_path<S: Callbacks>(
     dir: &str,
     listing: Vec<Listed>,
 ) -> Result<Vec<Listed>, Error>
+    ensures arranged { (cmp : Path → Path → Ordering) → S.compares owner.now cmp → IsStrictWeakOrder (λ a b. is_lt (cmp a b))
+        → IfOk result (λ sorted. IsArranged (order_by ByPath cmp) dir.now listing.items sorted.items) }
     ensures out_of_memory { IfErr result (λ e. problem_of e ≡ memory) }
 {
     let mut all = keyed(alloc, dir, listing)?;
-    all.sort_by(|a: &PathListed, b: &PathListed| compare_keyed(owner, a, b))?;
+    sort_by_path(owner, &mut all)?;
     Ok(unkeyed(alloc, all)?)
 }
 
@@ -118,6 +143,8 @@ pub(crate) fn arranged<S: Callbacks>(
     dir: &str,
     mut listing: Vec<Listed>,
 ) -> Result<Vec<Listed>, Error>
+    ensures arranged { (chosen : Option (List ℕ → List ℕ → List ℕ → Bool)) → IsOrderBy order (S.compares owner.now) chosen
+        → IfOk result (λ sorted. IsArranged chosen dir.now listing.items sorted.items) }
     ensures out_of_memory { IfErr result (λ e. problem_of e ≡ memory) }
 {
     match order {

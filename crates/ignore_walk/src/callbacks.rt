@@ -8,18 +8,19 @@ use std::cmp::Ordering;
 /// A contract sees, for each call, the functions by which the value may answer: each answer is
 /// that of any such function.
 pub trait Callbacks {
-    ghost use Rattle.std.specs.Prelude.{◌≡◌, Bool};
+    ghost use Rattle.std.specs.Prelude.{◌≡◌, Bool, None};
     ghost use Rattle.std.specs.declared.cmp.Ordering.{Ordering};
     ghost use Rattle.ignore_base.specs.Text.{Path};
-    ghost use Rattle.ignore_walk.specs.Entry.{Entry, entry_of};
+    ghost use Rattle.ignore_walk.specs.Entry.{Entry, entry_of, problem_in};
 
     ghost filters: { Self → (Entry → Bool) → Type 0 };
 
     ghost compares: { Self → (Path → Path → Ordering) → Type 0 };
 
-    /// Whether an entry passes the filter. The entry has no error.
+    /// Whether an entry passes the filter. The answer is that of the function where the entry has
+    /// no error, as each has that a walk shows.
     fn filter(&self, entry: &DirEntry) -> bool
-        ensures { (keep : Entry → Bool) → filters self.now keep → result ≡ keep (entry_of entry.now) };
+        ensures { (keep : Entry → Bool) → filters self.now keep → problem_in entry.now ≡ None → result ≡ keep (entry_of entry.now) };
 
     /// How two paths, or two names, compare.
     fn compare(&self, a: &str, b: &str) -> Ordering

@@ -1,18 +1,19 @@
 //! Walks of trees of files, filtered by the rules of their directories.
 #![tactic(auto)]
 
+mod above;
 mod arrange;
 mod callbacks;
 mod child;
 mod entry;
 mod frame;
+mod ground;
 pub mod laws;
+mod made;
 mod open;
 mod root;
 mod skip;
 mod stack;
-#[cfg(test)]
-mod tests;
 mod walk;
 
 pub use callbacks::{Callbacks, Options, Order};

@@ -1,14 +1,21 @@
 //! A directory that is entered: its load and its listing.
-ghost use Rattle.std.specs.Prelude.{◌≡◌, IfErr};
+ghost use Rattle.std.specs.Prelude.{◌≡◌, ℕ, Bool, List, Option, IfOk, IfErr, option_map};
+ghost use Rattle.std.specs.Result.{result_err};
 ghost use Rattle.ignore_base.specs.Problem.{problem_of, memory};
+ghost use Rattle.ignore_files.specs.Gives.{IsHonest};
+ghost use Rattle.ignore_files.specs.Tree.{Tree};
+ghost use Rattle.ignore_dir.specs.Load.{Loaded, AreLoads};
+ghost use Rattle.ignore_walk.specs.Suits.{IsOrderBy};
+ghost use Rattle.ignore_walk.specs.Walked.{IsArranged, listing_of};
 
 use crate::arrange::arranged;
 use crate::callbacks::{Callbacks, Order};
 use crate::child::all_named;
 use crate::frame::Frame;
 use ignore_base::{Error, Fault};
-use ignore_dir::Settings;
+use ignore_dir::laws::one_load;
 use ignore_dir::load::load_directory;
+use ignore_dir::{Dir, Settings};
 use ignore_files::{Files, Listed, Name, Refusal};
 use std::alloc::Global;
 use std::collections::VecDeque;
@@ -21,12 +28,31 @@ pub(crate) struct Opened {
     pub(crate) fault: Option<Fault>,
 }
 
+/// What a directory holds for the rules, and what is wrong with its files.
+pub(crate) fn loaded<F: Files>(
+    alloc: Global,
+    files: &F,
+    settings: &Settings,
+    path: &str,
+) -> Result<(Dir, Option<Error>), Error>
+    ensures dir { (tree : Tree) (loads : List ℕ → Loaded) → IsHonest F.Files files.now tree → AreLoads tree settings.now loads
+        → IfOk result (λ r. r.0 ≡ (loads path.now).0) }
+    ensures problem { (tree : Tree) (loads : List ℕ → Loaded) → IsHonest F.Files files.now tree → AreLoads tree settings.now loads
+        → IfOk result (λ r. option_map problem_of r.1 ≡ (loads path.now).1) }
+    ensures out_of_memory { IfErr result (λ e. problem_of e ≡ memory) }
+{
+    one_load();
+    load_directory(alloc, files, settings, path)
+}
+
 /// What a directory lists, each name that is none as a fault; or the fault of the listing.
 fn listing_of<F: Files>(
     alloc: Global,
     files: &F,
     path: &str,
 ) -> Result<(Vec<Listed>, Option<Fault>), Error>
+    ensures listing { (tree : Tree) → IsHonest F.Files files.now tree → IfOk result (λ r. r.0.items ≡ listing_of (tree.list path.now)) }
+    ensures fault { (tree : Tree) → IsHonest F.Files files.now tree → IfOk result (λ r. r.1 ≡ result_err (tree.list path.now)) }
     ensures out_of_memory { IfErr result (λ e. problem_of e ≡ memory) }
 {
     match files.list(alloc, path) {
@@ -46,9 +72,19 @@ pub(crate) fn open<F: Files, S: Callbacks>(
     path: Name,
     text: Name,
 ) -> Result<Opened, Error>
+    ensures path { IfOk result (λ o. o.frame.path ≡ path) }
+    ensures text { IfOk result (λ o. o.frame.text ≡ text) }
+    ensures dir { (tree : Tree) (loads : List ℕ → Loaded) → IsHonest F.Files files.now tree → AreLoads tree settings.now loads
+        → IfOk result (λ o. o.frame.dir.value ≡ (loads path).0) }
+    ensures problem { (tree : Tree) (loads : List ℕ → Loaded) → IsHonest F.Files files.now tree → AreLoads tree settings.now loads
+        → IfOk result (λ o. option_map problem_of o.error ≡ (loads path).1) }
+    ensures rest { (tree : Tree) (chosen : Option (List ℕ → List ℕ → List ℕ → Bool)) → IsHonest F.Files files.now tree
+        → IsOrderBy order (S.compares owner.now) chosen
+        → IfOk result (λ o. IsArranged chosen path (listing_of (tree.list path)) o.frame.rest.items) }
+    ensures fault { (tree : Tree) → IsHonest F.Files files.now tree → IfOk result (λ o. o.fault ≡ result_err (tree.list path)) }
     ensures out_of_memory { IfErr result (λ e. problem_of e ≡ memory) }
 {
-    let (dir, error) = load_directory(alloc, files, settings, path.as_str())?;
+    let (dir, error) = loaded(alloc, files, settings, path.as_str())?;
     let (listing, fault) = listing_of(alloc, files, path.as_str())?;
     let listing = arranged(alloc, owner, order, path.as_str(), listing)?;
     let rest = VecDeque::from_vec(listing);

@@ -1,10 +1,11 @@
 //! How a walk begins a root.
-ghost use Rattle.std.specs.Prelude.{◌≡◌, true, false, IfOk, IfErr, None, string_bytes};
-ghost use Rattle.ignore_base.specs.Problem.{problem_of, memory};
+ghost use Rattle.std.specs.Prelude.{◌≡◌, true, false, Result, IfOk, IfErr, None, string_bytes};
+ghost use Rattle.ignore_base.specs.Problem.{Problem, problem_of, memory};
 ghost use Rattle.ignore_files.specs.Gives.{IsHonest};
+ghost use Rattle.ignore_files.specs.Memory.{and_then};
 ghost use Rattle.ignore_files.specs.Tree.{Tree};
-ghost use Rattle.ignore_walk.specs.Child.{or_failed};
-ghost use Rattle.ignore_walk.specs.Entry.{entry_of, item_of, fresh, problem_in};
+ghost use Rattle.ignore_walk.specs.Child.{or_failed, with_device};
+ghost use Rattle.ignore_walk.specs.Entry.{Entry, entry_of, item_of, fresh, problem_in};
 ghost use Rattle.ignore_walk.specs.Scene.{Scene};
 ghost use Rattle.ignore_walk.specs.Walked.{is_dir_found};
 ghost use Rattle.ignore_walk.specs.Whole.{root_by, root_of, root_entry};
@@ -12,8 +13,7 @@ ghost use Rattle.ignore_walk.specs.Whole.{root_by, root_of, root_entry};
 use crate::child::with_device;
 use crate::entry::{DirEntry, Item, failed_at};
 use ignore_base::Error;
-use ignore_dir::Placed;
-use ignore_files::{FileType, Files, Metadata, Name, Refusal};
+use ignore_files::{FileType, Files, Metadata, Refusal};
 use std::alloc::Global;
 
 /// Whether a path leads to a directory.
@@ -79,6 +79,24 @@ fn root_found<F: Files>(
     }
 }
 
+/// The test of the device of a root.
+fn on_device<F: Files>(
+    alloc: Global,
+    files: &F,
+    same_file_system: bool,
+    is_dir: bool,
+    item: Item,
+) -> Result<Item, Error>
+    ensures value { (g : Scene) (r : Result Entry Problem) → IsHonest F.Files files.now g.tree → g.same_file_system ≡ same_file_system
+        → item_of item ≡ fresh r → IfOk result (λ i. item_of i ≡ fresh (and_then (with_device g is_dir) r)) }
+    ensures out_of_memory { IfErr result (λ e. problem_of e ≡ memory) }
+{
+    match item {
+        Ok(entry) => with_device(alloc, files, same_file_system, is_dir, entry),
+        Err(error) => Ok(Err(error)),
+    }
+}
+
 /// The entry of a root, or the error in its place.
 pub(crate) fn root_entry<F: Files>(
     alloc: Global,
@@ -88,58 +106,11 @@ pub(crate) fn root_entry<F: Files>(
     is_dir: bool,
     root: &str,
 ) -> Result<Item, Error>
+    ensures value { (g : Scene) → IsHonest F.Files files.now g.tree → g.settings.follow_links ≡ follow_links
+        → g.same_file_system ≡ same_file_system → is_dir ≡ is_dir_found (g.tree.stat root.now true)
+        → IfOk result (λ item. item_of item ≡ fresh (root_entry g root.now)) }
     ensures out_of_memory { IfErr result (λ e. problem_of e ≡ memory) }
 {
-    match root_found(alloc, files, follow_links, root)? {
-        Ok(entry) => with_device(alloc, files, same_file_system, is_dir, entry),
-        Err(error) => Ok(Err(error)),
-    }
-}
-
-/// Whether a directory is among the first of those that were seen.
-fn is_seen(seen: &[Name], first: usize, dir: &str) -> bool {
-    for other in seen.iter().take(first) {
-        if other.as_str() == dir {
-            return true;
-        }
-    }
-    false
-}
-
-/// The error of the directories above a root that weren't seen, as one. From now on they are.
-pub(crate) fn new_error(
-    alloc: Global,
-    seen: &mut Vec<Name>,
-    base: &str,
-    dirs: &[Placed],
-    errors: Vec<Option<Error>>,
-) -> Result<Option<Error>, Error>
-    ensures out_of_memory { IfErr result (λ e. problem_of e ≡ memory) }
-{
-    let earlier = seen.len();
-    let mut new = Vec::new(alloc);
-    for (i, error) in errors.into_iter().enumerate() {
-        let dir = match dirs.get(i) {
-            Some(placed) => base.get(..placed.offset).unwrap_or(base),
-            None => base,
-        };
-        if !is_seen(seen.as_slice(), earlier, dir) {
-            push_some(&mut new, error)?;
-        }
-        seen.push(Name::new(String::from_str(alloc, dir)?))?;
-    }
-    Ok(Error::joined(new))
-}
-
-/// Appends an error, if there is one.
-fn push_some(errors: &mut Vec<Error>, error: Option<Error>) -> Result<(), Error>
-    ensures out_of_memory { IfErr result (λ e. problem_of e ≡ memory) }
-{
-    match error {
-        None => Ok(()),
-        Some(error) => {
-            errors.push(error)?;
-            Ok(())
-        }
-    }
+    let item = root_found(alloc, files, follow_links, root)?;
+    on_device(alloc, files, same_file_system, is_dir, item)
 }

@@ -1,26 +1,39 @@
 //! Which entries a walk skips.
-ghost use Rattle.std.specs.Prelude.{◌≡◌, ◌++◌, [], ◌∷◌, All, Some, length, map, reverse, IfOk, IfErr, OnOk};
+ghost use Rattle.std.specs.Prelude.{◌≡◌, ◌++◌, [], ◌∷◌, All, ℕ, List, Some, filter, length, map, reverse, IfOk, IfErr, OnOk};
 ghost use Rattle.std.specs.Str.{IsCharBoundary};
 ghost use Rattle.ignore_base.specs.Problem.{problem_of, memory};
 ghost use Rattle.ignore_dir.specs.Verdict.{placed_verdict, is_ignore};
 ghost use Rattle.ignore_files.specs.Gives.{IsHonest};
 ghost use Rattle.ignore_files.specs.Tree.{Tree};
+ghost use Rattle.ignore_walk.specs.Branch.{Branch, path_of, placed_above, placed_at, text_at};
 ghost use Rattle.ignore_walk.specs.Child.{is_dir_kind};
 ghost use Rattle.ignore_walk.specs.Entry.{entry_of};
-ghost use Rattle.ignore_walk.specs.Frames.{placed_of};
+ghost use Rattle.ignore_walk.specs.Frames.{counting, counts, placed_of};
 ghost use Rattle.ignore_walk.specs.Scene.{Scene};
-ghost use Rattle.ignore_walk.specs.Walked.{is_above, is_too_large};
+ghost use Rattle.ignore_walk.specs.Walked.{ignores, is_above, is_too_large};
 
 use crate::child::is_dir_kind;
 use crate::entry::DirEntry;
 use crate::frame::Frame;
 use ignore_base::Error;
+use ignore_dir::laws::steps_are_whole;
 use ignore_dir::verdict::judge;
 use ignore_dir::{Dir, Link, Outside, Placed, Settings};
 use ignore_files::{Files, Refusal};
 use std::alloc::Global;
 
-/// Appends a directory, where its offset is in the text.
+/// Whether a directory counts in a chain: whether it has rules or a mark.
+fn counts(dir: &Dir) -> bool
+    ensures { result ≡ counts dir.now }
+{
+    !dir.custom.is_empty()
+        || !dir.ignore.is_empty()
+        || !dir.gitignore.is_empty()
+        || !dir.exclude.is_empty()
+        || dir.mark
+}
+
+/// Appends a directory that counts, where its offset is in the text.
 fn push_link<'d>(
     links: &mut Vec<Link<'d>>,
     dir: &'d Dir,
@@ -29,10 +42,11 @@ fn push_link<'d>(
 ) -> Result<(), Error>
     requires { All (λ link. IsCharBoundary text.now link.1) links.now.items }
     ensures boundaries { All (λ link. IsCharBoundary text.now link.1) links.new.items }
-    ensures pushed { IsCharBoundary text.now offset → OnOk result (links.new.items ≡ links.old.items ++ (dir.now, offset) ∷ []) }
+    ensures pushed { IsCharBoundary text.now offset
+        → OnOk result (links.new.items ≡ links.old.items ++ filter counting ((dir.now, offset) ∷ [])) }
     ensures out_of_memory { IfErr result (λ e. problem_of e ≡ memory) }
 {
-    if text.is_char_boundary(offset) {
+    if counts(dir) && text.is_char_boundary(offset) {
         links.push(Link { dir, offset })?;
     }
     Ok(())
@@ -43,7 +57,7 @@ fn push_frames<'d>(links: &mut Vec<Link<'d>>, frames: &'d [Frame], text: &str) -
     requires { All (λ link. IsCharBoundary text.now link.1) links.now.items }
     ensures boundaries { All (λ link. IsCharBoundary text.now link.1) links.new.items }
     ensures pushed { All (λ f. IsCharBoundary text.now (length f.text)) frames.now
-        → OnOk result (links.new.items ≡ links.old.items ++ map placed_of (reverse frames.now)) }
+        → OnOk result (links.new.items ≡ links.old.items ++ filter counting (map placed_of (reverse frames.now))) }
     ensures out_of_memory { IfErr result (λ e. problem_of e ≡ memory) }
 {
     for i in (0..frames.len()).rev() {
@@ -58,7 +72,7 @@ fn push_above<'d>(links: &mut Vec<Link<'d>>, above: &'d [Placed], text: &str) ->
     requires { All (λ link. IsCharBoundary text.now link.1) links.now.items }
     ensures boundaries { All (λ link. IsCharBoundary text.now link.1) links.new.items }
     ensures pushed { All (λ p. IsCharBoundary text.now p.1) above.now
-        → OnOk result (links.new.items ≡ links.old.items ++ reverse above.now) }
+        → OnOk result (links.new.items ≡ links.old.items ++ filter counting (reverse above.now)) }
     ensures out_of_memory { IfErr result (λ e. problem_of e ≡ memory) }
 {
     for i in (0..above.len()).rev() {
@@ -78,7 +92,8 @@ fn links_of<'d>(
 ) -> Result<Vec<Link<'d>>, Error>
     ensures boundaries { IfOk result (λ links. All (λ link. IsCharBoundary text.now link.1) links.items) }
     ensures chain { All (λ f. IsCharBoundary text.now (length f.text)) frames.now → All (λ p. IsCharBoundary text.now p.1) above.now
-        → IfOk result (λ links. links.items ≡ map placed_of (reverse frames.now) ++ reverse above.now) }
+        → IfOk result (λ links. links.items
+        ≡ filter counting (map placed_of (reverse frames.now) ++ reverse above.now)) }
     ensures out_of_memory { IfErr result (λ e. problem_of e ≡ memory) }
 {
     let mut links = Vec::new(alloc);
@@ -87,8 +102,8 @@ fn links_of<'d>(
     Ok(links)
 }
 
-/// Whether the rules ignore an entry. `text` is its path as the directories see it.
-pub(crate) fn is_ignored(
+/// Whether the rules of these directories ignore an entry. `text` is its path as they see it.
+fn is_ignored_in(
     alloc: Global,
     settings: &Settings,
     outside: &Outside,
@@ -114,6 +129,26 @@ pub(crate) fn is_ignored(
         is_dir,
     )?;
     Ok(verdict.is_ignore())
+}
+
+/// Whether the rules ignore an entry below the root. `text` is its path as the directories see it.
+pub(crate) fn is_ignored(
+    alloc: Global,
+    settings: &Settings,
+    outside: &Outside,
+    above: &[Placed],
+    frames: &[Frame],
+    text: &str,
+    entry: &DirEntry,
+) -> Result<bool, Error>
+    ensures value { (g : Scene) (root : List ℕ) (b : Branch) (name : List ℕ) → g.settings ≡ settings.now → g.outside ≡ outside.now
+        → map placed_of (reverse frames.now) ≡ placed_at g root b → reverse above.now ≡ placed_above g root
+        → text.now ≡ text_at g root b ++ name → (entry_of entry.now).path ≡ path_of root (name ∷ b)
+        → IfOk result (λ yes. yes ≡ ignores g root (name ∷ b) (is_dir_kind (entry_of entry.now).kind)) }
+    ensures out_of_memory { IfErr result (λ e. problem_of e ≡ memory) }
+{
+    steps_are_whole();
+    is_ignored_in(alloc, settings, outside, above, frames, text, entry)
 }
 
 /// Whether an entry that is no directory is larger than the settings allow.

@@ -1,32 +1,31 @@
 //! What a walk has in hand: directories whose listings are half read, roots, and items.
-ghost use Rattle.std.specs.Prelude.{◌≡◌, ◌+◌, ◌≤◌, IfErr, length};
+ghost use Rattle.std.specs.Prelude.{◌≡◌, ◌+◌, ◌≤◌, ◌<◌, ◌++◌, ◌∷◌, [], ℕ, suc, List, true, false, None, Ok, Err, IfOk, IfErr, OnOk, MatchOption, length, map, reverse, option_map, string_bytes};
+ghost use Rattle.std.specs.Option.{option_to_list};
 ghost use Rattle.ignore_base.specs.Problem.{problem_of, memory};
-ghost use Rattle.ignore_walk.specs.Walked.{is_at_most};
+ghost use Rattle.ignore_walk.specs.Branch.{Branch, path_of, text_at, placed_above};
+ghost use Rattle.ignore_walk.specs.Entry.{Item as Yielded, entry_of, item_of, problem_in};
+ghost use Rattle.ignore_walk.specs.Frames.{AreFrames, AreSeen};
+ghost use Rattle.ignore_walk.specs.Left.{Remains, InHand, IsNext};
+ghost use Rattle.ignore_walk.specs.Opens.{Opens};
+ghost use Rattle.ignore_walk.specs.Scene.{Scene};
+ghost use Rattle.ignore_walk.specs.Stands.{state_of, before_root, name_in, text_below, IsAt, IsIn, Stands, Steps, Takes, Visits, Hands};
+ghost use Rattle.ignore_walk.specs.Suits.{Suits};
+ghost use Rattle.ignore_walk.specs.Walked.{IsOrdered, enter, fate, is_dir_found};
+ghost use Rattle.ignore_walk.specs.Whole.{root_entry, above_root, reported_before};
 
-use crate::callbacks::{Callbacks, Options};
-use crate::child::{child, identity_at, is_dir_kind};
-use crate::entry::{DirEntry, Item, failed_at};
+use crate::callbacks::Callbacks;
+use crate::child::is_dir_kind;
+use crate::entry::{DirEntry, Item};
 use crate::frame::{Frame, take_next};
-use crate::open::{Opened, open};
-use crate::root::{is_dir_found, new_error, root_entry};
-use crate::skip::{is_ignored, is_too_large};
-use ignore_base::{Error, Fault};
-use ignore_dir::above::load_above;
-use ignore_dir::load::load_directory;
-use ignore_dir::{Outside, Placed, Settings};
-use ignore_files::{Files, Listed, Name, Refusal};
+use crate::ground::{Fate, Ground};
+use crate::made::{make, make_error, make_fault};
+use crate::open::Opened;
+use crate::root::is_dir_found;
+use ignore_base::Error;
+use ignore_dir::{Placed, Settings};
+use ignore_files::{Files, Listed, Name};
 use std::alloc::{AllocError, Global};
 use std::collections::VecDeque;
-
-/// What stays the same in a walk.
-#[derive(Drop)]
-pub struct Ground<'a, F: Files, S> {
-    pub files: &'a F,
-    pub owner: &'a S,
-    pub settings: Settings,
-    pub outside: Outside,
-    pub options: Options,
-}
 
 /// What changes in a walk.
 #[derive(Drop)]
@@ -45,201 +44,6 @@ pub struct Stack {
     pub made: VecDeque<Item>,
 }
 
-/// What becomes of an entry that isn't skipped.
-#[derive(Clone, Copy)]
-enum Fate {
-    Yield,
-    Load,
-    Enter,
-}
-
-/// Appends the item of an entry, unless it is above the least depth.
-fn make(
-    made: &mut VecDeque<Item>,
-    min_depth: Option<usize>,
-    entry: DirEntry,
-    error: Option<Error>,
-) -> Result<(), Error>
-    ensures made { length made.new.items ≤ length made.old.items + 1 }
-    ensures out_of_memory { IfErr result (λ e. problem_of e ≡ memory) }
-{
-    if is_above(min_depth, entry.depth()) {
-        return Ok(());
-    }
-    made.push_back(Ok(entry.with_error(error)))?;
-    Ok(())
-}
-
-/// Whether a depth is above the least one.
-fn is_above(min_depth: Option<usize>, depth: usize) -> bool {
-    match min_depth {
-        None => false,
-        Some(least) => depth < least,
-    }
-}
-
-/// Appends an error as an item.
-fn make_error(made: &mut VecDeque<Item>, error: Error) -> Result<(), Error>
-    ensures made { length made.new.items ≤ length made.old.items + 1 }
-    ensures out_of_memory { IfErr result (λ e. problem_of e ≡ memory) }
-{
-    made.push_back(Err(error))?;
-    Ok(())
-}
-
-/// Appends the fault of a listing as an item, if there is one.
-fn make_fault(
-    alloc: Global,
-    made: &mut VecDeque<Item>,
-    path: &str,
-    depth: usize,
-    fault: Option<Fault>,
-) -> Result<(), Error>
-    ensures made { length made.new.items ≤ length made.old.items + 1 }
-    ensures out_of_memory { IfErr result (λ e. problem_of e ≡ memory) }
-{
-    match fault {
-        None => Ok(()),
-        Some(fault) => make_error(made, failed_at(alloc, path, depth, fault)?),
-    }
-}
-
-/// Whether a depth is the greatest, or below it.
-fn is_at_most(max_depth: Option<usize>, depth: usize) -> bool
-    ensures { result ≡ is_at_most max_depth depth }
-{
-    match max_depth {
-        None => false,
-        Some(most) => most <= depth,
-    }
-}
-
-/// Whether two devices are known and differ.
-fn are_apart(a: Option<u64>, b: Option<u64>) -> bool {
-    match a {
-        None => false,
-        Some(a) => match b {
-            None => false,
-            Some(b) => a != b,
-        },
-    }
-}
-
-/// The device of what a path leads to, where it matters and is known.
-fn device_if<F: Files>(
-    alloc: Global,
-    files: &F,
-    matters: bool,
-    path: &str,
-) -> Result<Option<u64>, Error>
-    ensures out_of_memory { IfErr result (λ e. problem_of e ≡ memory) }
-{
-    if !matters {
-        return Ok(None);
-    }
-    match identity_at(alloc, files, path) {
-        Ok(identity) => Ok(Some(identity.device)),
-        Err(Refusal::Fault(_)) => Ok(None),
-        Err(Refusal::Memory) => Err(Error::Memory),
-    }
-}
-
-impl<'a, F: Files, S: Callbacks> Ground<'a, F, S> {
-    /// What becomes of an entry that isn't skipped. `device` is that of its root.
-    fn fate(
-        &self,
-        alloc: Global,
-        device: Option<u64>,
-        entry: &DirEntry,
-        leads_in: bool,
-    ) -> Result<Fate, Error>
-        ensures out_of_memory { IfErr result (λ e. problem_of e ≡ memory) }
-    {
-        if !leads_in || is_at_most(self.settings.max_depth, entry.depth()) {
-            return Ok(Fate::Yield);
-        }
-        let own = device_if(
-            alloc,
-            self.files,
-            self.options.same_file_system,
-            entry.path(),
-        )?;
-        if are_apart(device, own) {
-            return Ok(Fate::Load);
-        }
-        Ok(Fate::Enter)
-    }
-
-    /// What is wrong with the files of rules of a directory.
-    fn load_error(&self, alloc: Global, path: &str) -> Result<Option<Error>, Error>
-        ensures out_of_memory { IfErr result (λ e. problem_of e ≡ memory) }
-    {
-        let (_, error) = load_directory(alloc, self.files, &self.settings, path)?;
-        Ok(error)
-    }
-
-    /// Loads and lists a directory.
-    fn opened(&self, alloc: Global, path: &str, text: Name) -> Result<Opened, Error>
-        ensures out_of_memory { IfErr result (λ e. problem_of e ≡ memory) }
-    {
-        let path = Name::new(String::from_str(alloc, path)?);
-        let order = self.options.order;
-        open(
-            alloc,
-            self.files,
-            self.owner,
-            &self.settings,
-            order,
-            path,
-            text,
-        )
-    }
-
-    /// Whether an entry below a root is skipped.
-    fn is_skipped(
-        &self,
-        alloc: Global,
-        above: &[Placed],
-        frames: &[Frame],
-        text: &str,
-        entry: &DirEntry,
-    ) -> Result<bool, Error>
-        ensures out_of_memory { IfErr result (λ e. problem_of e ≡ memory) }
-    {
-        if is_ignored(
-            alloc,
-            &self.settings,
-            &self.outside,
-            above,
-            frames,
-            text,
-            entry,
-        )? {
-            return Ok(true);
-        }
-        if is_too_large(alloc, self.files, &self.settings, entry)? {
-            return Ok(true);
-        }
-        Ok(!self.owner.filter(entry))
-    }
-
-    /// What a listed thing is, in the directory that was entered last.
-    fn child(&self, alloc: Global, frames: &[Frame], listed: Listed) -> Result<Item, Error>
-        ensures out_of_memory { IfErr result (λ e. problem_of e ≡ memory) }
-    {
-        let (follow, same) = (self.settings.follow_links, self.options.same_file_system);
-        child(alloc, self.files, follow, same, frames, listed)
-    }
-
-    /// The entry of a root, or the error in its place.
-    fn root_entry(&self, alloc: Global, is_dir: bool, root: &str) -> Result<Item, Error>
-        ensures out_of_memory { IfErr result (λ e. problem_of e ≡ memory) }
-    {
-        let (follow, same) = (self.settings.follow_links, self.options.same_file_system);
-        root_entry(alloc, self.files, follow, same, is_dir, root)
-    }
-}
-
 impl Stack {
     /// What an entry gives that isn't skipped: itself, and where it leads into a directory, what
     /// is in it. `text` is its path as the directories around it see it, with a final slash.
@@ -251,19 +55,25 @@ impl Stack {
         leads_in: bool,
         text: Name,
     ) -> Result<(), Error>
+        ensures visited { (g : Scene) (root : List ℕ) (place b : Branch) (seen : List (List ℕ)) (items : List Yielded) (n : ℕ)
+            → Suits F.Files S.Callbacks ground.now.files.now ground.now.owner.now ground.now.settings ground.now.outside
+            ground.now.options g
+            → IsIn g root place seen self.old → Visits g root b self.old (entry_of entry) leads_in text
+            → IsNext b place (state_of self.old root place seen).rests
+            → InHand g (state_of self.old root place seen) b (Ok (entry_of entry)) items n → OnOk result (Stands g self.new items n) }
         ensures made { length self.new.made.items ≤ length self.old.made.items + 2 }
         ensures out_of_memory { IfErr result (λ e. problem_of e ≡ memory) }
     {
-        let least = ground.settings.min_depth;
+        let settings = &ground.settings;
         match ground.fate(alloc, self.device, &entry, leads_in)? {
-            Fate::Yield => make(&mut self.made, least, entry, None),
+            Fate::Yield => make(&mut self.made, settings, entry, None),
             Fate::Load => {
                 let error = ground.load_error(alloc, entry.path())?;
-                make(&mut self.made, least, entry, error)
+                make(&mut self.made, settings, entry, error)
             }
             Fate::Enter => {
                 let opened = ground.opened(alloc, entry.path(), text)?;
-                self.settle(alloc, least, entry, opened)
+                self.settle(alloc, settings, entry, opened)
             }
         }
     }
@@ -272,24 +82,29 @@ impl Stack {
     fn settle(
         &mut self,
         alloc: Global,
-        min_depth: Option<usize>,
+        settings: &Settings,
         entry: DirEntry,
         opened: Opened,
     ) -> Result<(), Error>
+        ensures entered { (g : Scene) (root : List ℕ) (place b : Branch) (seen : List (List ℕ)) (items : List Yielded) (n : ℕ)
+            → IsOrdered g.order → g.settings ≡ settings.now → IsIn g root place seen self.old → IsAt g root self.old
+            → (entry_of entry).path ≡ path_of root b → Opens g (path_of root b) (text_at g root b) opened
+            → fate g root b (entry_of entry) ≡ enter → IsNext b place (state_of self.old root place seen).rests
+            → InHand g (state_of self.old root place seen) b (Ok (entry_of entry)) items n → OnOk result (Stands g self.new items n) }
         ensures made { length self.new.made.items ≤ length self.old.made.items + 2 }
         ensures out_of_memory { IfErr result (λ e. problem_of e ≡ memory) }
     {
         let depth = entry.depth();
-        make(&mut self.made, min_depth, entry, opened.error)?;
-        let frame = opened.frame;
+        make(&mut self.made, settings, entry, opened.error)?;
+        let entered = opened.frame;
         make_fault(
             alloc,
             &mut self.made,
-            frame.path.as_str(),
+            entered.path.as_str(),
             depth,
             opened.fault,
         )?;
-        self.frames.push(frame)?;
+        self.frames.push(entered)?;
         Ok(())
     }
 
@@ -299,10 +114,14 @@ impl Stack {
         alloc: Global,
         ground: &Ground<'_, F, S>,
     ) -> Result<(), Error>
+        ensures stepped { (g : Scene) (items : List Yielded) (n : ℕ)
+            → Suits F.Files S.Callbacks ground.now.files.now ground.now.owner.now ground.now.settings ground.now.outside
+            ground.now.options g
+            → 0 < length self.old.frames.items → Stands g self.old items n → OnOk result (Steps g self.new items n) }
         ensures made { length self.new.made.items ≤ length self.old.made.items + 2 }
         ensures out_of_memory { IfErr result (λ e. problem_of e ≡ memory) }
     {
-        match take_listed(&mut self.frames)? {
+        match self.take_listed()? {
             None => Ok(()),
             Some(listed) => {
                 let text = text_of(alloc, self.frames.as_slice(), &listed)?;
@@ -310,6 +129,24 @@ impl Stack {
                     Err(error) => make_error(&mut self.made, error),
                     Ok(entry) => self.take(alloc, ground, entry, text),
                 }
+            }
+        }
+    }
+
+    /// What is listed next in the directory that was entered last; where nothing is, it is left.
+    fn take_listed(&mut self) -> Result<Option<Listed>, AllocError>
+        ensures made { self.new.made ≡ self.old.made }
+        ensures taken { (g : Scene) (items : List Yielded) (n : ℕ) → 0 < length self.old.frames.items → Stands g self.old items n
+            → IfOk result (λ next. MatchOption next (Steps g self.new items n) (λ x. Takes g self.new x items n)) }
+    {
+        let Some(mut frame) = self.frames.pop() else {
+            return Ok(None);
+        };
+        match take_next(&mut frame.rest) {
+            None => Ok(None),
+            Some(listed) => {
+                self.frames.push(frame)?;
+                Ok(Some(listed))
             }
         }
     }
@@ -322,6 +159,14 @@ impl Stack {
         entry: DirEntry,
         mut text: String,
     ) -> Result<(), Error>
+        ensures taken { (g : Scene) (root : List ℕ) (place : Branch) (name : List ℕ) (seen : List (List ℕ)) (items : List Yielded) (n : ℕ)
+            → Suits F.Files S.Callbacks ground.now.files.now ground.now.owner.now ground.now.settings ground.now.outside
+            ground.now.options g
+            → IsIn g root place seen self.old → AreFrames g root place (reverse self.old.frames.items) → IsAt g root self.old
+            → string_bytes text ≡ text_at g root place ++ name → (entry_of entry).path ≡ path_of root (name ∷ place)
+            → problem_in entry ≡ None
+            → InHand g (state_of self.old root place seen) (name ∷ place) (Ok (entry_of entry)) items n
+            → OnOk result (Stands g self.new items n) }
         ensures made { length self.new.made.items ≤ length self.old.made.items + 2 }
         ensures out_of_memory { IfErr result (λ e. problem_of e ≡ memory) }
     {
@@ -341,12 +186,18 @@ impl Stack {
         ground: &Ground<'_, F, S>,
         root: &str,
     ) -> Result<(), Error>
+        ensures begun { (g : Scene) (last : List ℕ) (place : Branch) (seen : List (List ℕ)) (items : List Yielded) (n : ℕ)
+            → Suits F.Files S.Callbacks ground.now.files.now ground.now.owner.now ground.now.settings ground.now.outside
+            ground.now.options g
+            → self.old.frames.items ≡ [] → AreSeen self.old.seen.items seen
+            → Remains g (before_root self.old last place seen root.now) items n
+            → OnOk result (Steps g self.new items n) }
         ensures made { length self.new.made.items ≤ length self.old.made.items + 3 }
         ensures out_of_memory { IfErr result (λ e. problem_of e ≡ memory) }
     {
         if root == "-" {
-            let entry = DirEntry::stdin(alloc)?;
-            return make(&mut self.made, None, entry, None);
+            self.made.push_back(Ok(DirEntry::stdin(alloc)?))?;
+            return Ok(());
         }
         if is_dir_found(alloc, ground.files, root)? {
             let base = self.look_above(alloc, ground, root)?;
@@ -365,14 +216,21 @@ impl Stack {
         is_dir: bool,
         base: String,
     ) -> Result<(), Error>
+        ensures begun { (g : Scene) (seen : List (List ℕ)) (items : List Yielded) (n : ℕ)
+            → Suits F.Files S.Callbacks ground.now.files.now ground.now.owner.now ground.now.settings ground.now.outside
+            ground.now.options g
+            → self.old.frames.items ≡ [] → AreSeen self.old.seen.items seen → is_dir ≡ is_dir_found (g.tree.stat root.now true)
+            → (is_dir ≡ true → reverse self.old.above.items ≡ placed_above g root.now)
+            → (is_dir ≡ true → string_bytes base ≡ text_at g root.now [])
+            → InHand g (state_of self.old root.now [] seen) [] (root_entry g root.now) items n
+            → OnOk result (Stands g self.new items n) }
         ensures made { length self.new.made.items ≤ length self.old.made.items + 2 }
         ensures out_of_memory { IfErr result (λ e. problem_of e ≡ memory) }
     {
         match ground.root_entry(alloc, is_dir, root)? {
             Err(error) => make_error(&mut self.made, error),
             Ok(entry) => {
-                let matters = ground.options.same_file_system && is_dir;
-                self.device = device_if(alloc, ground.files, matters, root)?;
+                self.device = ground.device(alloc, is_dir, root)?;
                 self.visit(alloc, ground, entry, is_dir, Name::new(base))
             }
         }
@@ -386,26 +244,43 @@ impl Stack {
         ground: &Ground<'_, F, S>,
         root: &str,
     ) -> Result<String, Error>
+        ensures frames { self.new.frames ≡ self.old.frames }
+        ensures roots { self.new.roots ≡ self.old.roots }
+        ensures reported { (g : Scene) (seen : List (List ℕ))
+            → Suits F.Files S.Callbacks ground.now.files.now ground.now.owner.now ground.now.settings ground.now.outside
+            ground.now.options g
+            → AreSeen self.old.seen.items seen → is_dir_found (g.tree.stat root.now true) ≡ true
+            → OnOk result (map item_of self.new.made.items ≡ map item_of self.old.made.items ++ reported_before g seen root.now) }
+        ensures seen { (g : Scene) (seen : List (List ℕ))
+            → Suits F.Files S.Callbacks ground.now.files.now ground.now.owner.now ground.now.settings ground.now.outside
+            ground.now.options g
+            → AreSeen self.old.seen.items seen → is_dir_found (g.tree.stat root.now true) ≡ true
+            → OnOk result (AreSeen self.new.seen.items (seen ++ above_root g root.now)) }
+        ensures above { (g : Scene)
+            → Suits F.Files S.Callbacks ground.now.files.now ground.now.owner.now ground.now.settings ground.now.outside
+            ground.now.options g
+            → OnOk result (reverse self.new.above.items ≡ placed_above g root.now) }
+        ensures base { (g : Scene)
+            → Suits F.Files S.Callbacks ground.now.files.now ground.now.owner.now ground.now.settings ground.now.outside
+            ground.now.options g
+            → IfOk result (λ base. string_bytes base ≡ text_at g root.now []) }
         ensures made { length self.new.made.items ≤ length self.old.made.items + 1 }
         ensures out_of_memory { IfErr result (λ e. problem_of e ≡ memory) }
     {
-        let above = load_above(alloc, ground.files, &ground.settings, root)?;
-        let dirs = above.dirs;
-        let base = above.base;
-        let error = new_error(
-            alloc,
-            &mut self.seen,
-            base.as_str(),
-            dirs.as_slice(),
-            above.errors,
-        )?;
-        self.above = dirs;
-        self.report(error)?;
-        Ok(base)
+        let above = ground.look_above(alloc, &mut self.seen, root)?;
+        self.above = above.dirs;
+        self.report(above.error)?;
+        Ok(above.base)
     }
 
     /// Makes the item of an error, if there is one.
     fn report(&mut self, error: Option<Error>) -> Result<(), Error>
+        ensures value { OnOk result (map item_of self.new.made.items
+            ≡ map item_of self.old.made.items ++ map Err (option_to_list (option_map problem_of error))) }
+        ensures frames { self.new.frames ≡ self.old.frames }
+        ensures roots { self.new.roots ≡ self.old.roots }
+        ensures seen { self.new.seen ≡ self.old.seen }
+        ensures above { self.new.above ≡ self.old.above }
         ensures made { length self.new.made.items ≤ length self.old.made.items + 1 }
         ensures out_of_memory { IfErr result (λ e. problem_of e ≡ memory) }
     {
@@ -420,11 +295,15 @@ impl Stack {
         &mut self,
         ground: &Ground<'_, F, S>,
     ) -> Result<(), Error>
+        ensures advanced { (g : Scene) (items : List Yielded) (n : ℕ)
+            → Suits F.Files S.Callbacks ground.now.files.now ground.now.owner.now ground.now.settings ground.now.outside
+            ground.now.options g
+            → Stands g self.old items n → 0 < n → OnOk result (Steps g self.new items n) }
         ensures made { length self.new.made.items ≤ length self.old.made.items + 3 }
         ensures out_of_memory { IfErr result (λ e. problem_of e ≡ memory) }
     {
         let alloc = *self.frames.allocator();
-        if !self.frames.is_empty() {
+        if !is_outside(self.frames.as_slice()) {
             return self.step(alloc, ground);
         }
         match self.roots.pop_front() {
@@ -434,8 +313,22 @@ impl Stack {
     }
 
     /// Whether no step is left.
-    pub(crate) fn is_done(&self) -> bool {
-        self.frames.is_empty() && self.roots.is_empty()
+    pub(crate) fn is_done(&self) -> bool
+        ensures more { result ≡ false → (g : Scene) (items : List Yielded) (n : ℕ) → Stands g self.now items n → 0 < n }
+        ensures none { result ≡ true → (g : Scene) (items : List Yielded) (n : ℕ) → self.now.made.items ≡ [] → Stands g self.now items n
+            → (items ≡ []) × (n ≡ 0) }
+    {
+        is_outside(self.frames.as_slice()) && are_begun(&self.roots)
+    }
+
+    /// The item that was made first.
+    pub(crate) fn take_made(&mut self) -> Option<Item>
+        ensures length { MatchOption result ((length self.old.made.items ≡ 0) × (self.new.made.items ≡ []))
+            (λ _. length self.old.made.items ≡ suc (length self.new.made.items)) }
+        ensures handed { (g : Scene) (items : List Yielded) (n : ℕ) → Stands g self.old items n
+            → MatchOption result (Stands g self.new items n) (λ item. Hands g self.new (item_of item) items n) }
+    {
+        self.made.pop_front()
     }
 
     /// Drops all that is in hand.
@@ -448,22 +341,33 @@ impl Stack {
     }
 }
 
-/// What is listed next in the directory that was entered last; where nothing is, it is left.
-fn take_listed(frames: &mut Vec<Frame>) -> Result<Option<Listed>, AllocError> {
-    let Some(mut frame) = frames.pop() else {
-        return Ok(None);
-    };
-    match take_next(&mut frame.rest) {
-        None => Ok(None),
-        Some(listed) => {
-            frames.push(frame)?;
-            Ok(Some(listed))
-        }
+/// Whether no directory is entered.
+fn is_outside(frames: &[Frame]) -> bool
+    ensures yes { result ≡ true → frames.now ≡ [] }
+    ensures no { result ≡ false → 0 < length frames.now }
+{
+    match frames.first() {
+        None => true,
+        Some(_) => false,
+    }
+}
+
+/// Whether each root was begun.
+fn are_begun(roots: &VecDeque<Name>) -> bool
+    ensures yes { result ≡ true → roots.now.items ≡ [] }
+    ensures no { result ≡ false → 0 < length roots.now.items }
+{
+    match roots.front() {
+        None => true,
+        Some(_) => false,
     }
 }
 
 /// The path of a listed thing as the directories around it see it.
-fn text_of(alloc: Global, frames: &[Frame], listed: &Listed) -> Result<String, AllocError> {
+fn text_of(alloc: Global, frames: &[Frame], listed: &Listed) -> Result<String, AllocError>
+    ensures { (g : Scene) (root : List ℕ) (place : Branch) → AreFrames g root place (reverse frames.now)
+        → IfOk result (λ text. string_bytes text ≡ text_below g root place listed.now) }
+{
     match frames.last() {
         None => Ok(String::new(alloc)),
         Some(frame) => {
@@ -475,7 +379,9 @@ fn text_of(alloc: Global, frames: &[Frame], listed: &Listed) -> Result<String, A
 }
 
 /// Appends the name of a listed thing; a fault has none.
-fn push_name(text: &mut String, listed: &Listed) -> Result<(), AllocError> {
+fn push_name(text: &mut String, listed: &Listed) -> Result<(), AllocError>
+    ensures { OnOk result (string_bytes text.new ≡ string_bytes text.old ++ name_in listed.now) }
+{
     match listed {
         Listed::Fault(_) => Ok(()),
         Listed::Entry { name, .. } => text.push_str(name.as_str()),

@@ -1,9 +1,17 @@
 //! A walk, as an iterator.
-ghost use Rattle.std.specs.Prelude.{◌≡◌, ◌+◌, ◌*◌, ◌<◌, ◌≤◌, IfSome, IsNone, length, if◌then◌else◌};
+ghost use Rattle.std.specs.Prelude.{◌≡◌, ◌+◌, ◌*◌, ◌<◌, ◌≤◌, ◌⊎◌, [], ℕ, List, true, false, Some, Err, IfSome, IfOk, IfErr, length, map, option_map, if◌then◌else◌};
+ghost use Rattle.ignore_base.specs.declared.fault.Fault.TheVariants.{StepLimit};
+ghost use Rattle.ignore_base.specs.Problem.{Problem, problem_of, io, memory};
+ghost use Rattle.ignore_walk.specs.Entry.{Item as Yielded, item_of};
+ghost use Rattle.ignore_walk.specs.Scene.{Scene};
+ghost use Rattle.ignore_walk.specs.Stands.{Stands};
+ghost use Rattle.ignore_walk.specs.Suits.{Suits};
+ghost use Rattle.ignore_walk.specs.Whole.{Whole};
 
 use crate::callbacks::{Callbacks, Options};
 use crate::entry::Item;
-use crate::stack::{Ground, Stack};
+use crate::ground::Ground;
+use crate::stack::Stack;
 use ignore_base::{Error, Fault};
 use ignore_dir::{Outside, Settings};
 use ignore_files::{Files, Name};
@@ -23,7 +31,16 @@ pub struct Walk<'a, F: Files, S> {
     ended: bool,
 }
 
+/// The error of a walk that may take no more steps.
+fn step_limit() -> Error
+    ensures { problem_of result ≡ io StepLimit }
+{
+    Error::Io(Fault::StepLimit)
+}
+
 impl<'a, F: Files, S: Callbacks> Walk<'a, F, S> {
+    ghost use Rattle.ignore_walk.specs.Nexts.{Remaining, Nexts};
+
     /// A walk of these roots, with this filter and comparator. It allocates nothing.
     /// For dependents.
     pub fn new(
@@ -34,7 +51,12 @@ impl<'a, F: Files, S: Callbacks> Walk<'a, F, S> {
         outside: Outside,
         options: Options,
         roots: Vec<Name>,
-    ) -> Walk<'a, F, S> {
+    ) -> Walk<'a, F, S>
+        ensures whole { (g : Scene) (items : List Yielded) (n : ℕ)
+            → Suits F.Files S.Callbacks files.now owner.now settings outside options g → Whole g roots.items items n
+            → Remaining F.Files S.Callbacks g result items n }
+        ensures limit { result.left ≡ options.limit }
+    {
         let ground = Ground {
             files,
             owner,
@@ -60,8 +82,10 @@ impl<'a, F: Files, S: Callbacks> Walk<'a, F, S> {
 
     /// Ends the walk by an error.
     fn end(&mut self, error: Error) -> Option<Item>
+        ensures item { option_map item_of result ≡ Some (Err (problem_of error)) }
+        ensures ground { self.new.ground ≡ self.old.ground }
         ensures left { self.new.left ≡ self.old.left }
-        ensures ended { self.new.ended ≡ Rattle.std.specs.Prelude.true }
+        ensures ended { self.new.ended ≡ true }
         ensures made { length self.new.stack.made.items ≡ 0 }
     {
         self.stack.clear();
@@ -71,7 +95,10 @@ impl<'a, F: Files, S: Callbacks> Walk<'a, F, S> {
 
     /// Whether no step is left, or the walk was ended.
     fn is_done(&self) -> bool
-        ensures { result ≡ Rattle.std.specs.Prelude.false → self.now.ended ≡ Rattle.std.specs.Prelude.false }
+        ensures goes_on { result ≡ false → self.now.ended ≡ false }
+        ensures more { result ≡ false → (g : Scene) (items : List Yielded) (n : ℕ) → Stands g self.now.stack items n → 0 < n }
+        ensures none { result ≡ true → self.now.ended ≡ false → (g : Scene) (items : List Yielded) (n : ℕ)
+            → self.now.stack.made.items ≡ [] → Stands g self.now.stack items n → (items ≡ []) × (n ≡ 0) }
     {
         self.ended || self.stack.is_done()
     }
@@ -80,19 +107,22 @@ impl<'a, F: Files, S: Callbacks> Walk<'a, F, S> {
     fn advance(&mut self) -> Option<Item>
         ensures fewer { IfSome result (λ _. 4 * self.new.left + (length self.new.stack.made.items + (if self.new.ended then 0 else 1))
             < 4 * self.old.left + (length self.old.stack.made.items + (if self.old.ended then 0 else 1))) }
+        ensures given { (g : Scene) (items : List Yielded) (n : ℕ) → Remaining F.Files S.Callbacks g self.old items n
+            → Nexts F.Files S.Callbacks g self.old (option_map item_of result) self.new items n }
     {
-        if let Some(item) = self.stack.made.pop_front() {
+        if let Some(item) = self.stack.take_made() {
             return Some(item);
         }
         while !self.is_done() {
             if self.left == 0 {
-                return self.end(Error::Io(Fault::StepLimit));
+                return self.end(step_limit());
             }
             self.left -= 1;
-            if self.stack.advance(&self.ground).is_err() {
-                return self.end(Error::Memory);
+            match self.stack.advance(&self.ground) {
+                Ok(()) => {}
+                Err(_) => return self.end(Error::Memory),
             }
-            if let Some(item) = self.stack.made.pop_front() {
+            if let Some(item) = self.stack.take_made() {
                 return Some(item);
             }
         }
@@ -103,8 +133,14 @@ impl<'a, F: Files, S: Callbacks> Walk<'a, F, S> {
 impl<'a, F: Files, S: Callbacks> Iterator for Walk<'a, F, S> {
     type Item = Item;
 
-    ghost use Rattle.std.specs.Prelude.{length, ◌+◌, ◌*◌, if◌then◌else◌};
+    ghost use Rattle.std.specs.Prelude.{ℕ, List, length, ◌+◌, ◌*◌, option_map, if◌then◌else◌};
     ghost use Rattle.std.specs.Iterator.{at_most};
+    ghost use Rattle.ignore_walk.specs.Entry.{Item as Yielded, item_of};
+    ghost use Rattle.ignore_walk.specs.Nexts.{Remaining, Nexts};
+    ghost use Rattle.ignore_walk.specs.Scene.{Scene};
+
+    ghost next_gives = { λ a answer b. (g : Scene) (items : List Yielded) (n : ℕ) → Remaining F.Files S.Callbacks g a items n
+        → Nexts F.Files S.Callbacks g a (option_map item_of answer) b items n };
 
     ghost remaining = { λ a. at_most (4 * a.left + (length a.stack.made.items + (if a.ended then 0 else 1))) };
 
@@ -114,3 +150,38 @@ impl<'a, F: Files, S: Callbacks> Iterator for Walk<'a, F, S> {
 }
 
 impl<'a, F: Files, S: Callbacks> FusedIterator for Walk<'a, F, S> {}
+
+/// The error of an item that ended a walk.
+fn error_of(item: Item) -> Error
+    ensures { (p : Problem) → item_of item ≡ Err p → problem_of result ≡ p }
+{
+    match item {
+        Ok(_) => Error::Memory,
+        Err(error) => error,
+    }
+}
+
+impl<'a, F: Files, S: Callbacks> Walk<'a, F, S> {
+    ghost use Rattle.ignore_walk.specs.Nexts.{Remaining};
+
+    /// All items that the walk still gives, in their order.
+    /// For dependents.
+    ///
+    /// # Errors
+    /// `Error::Memory`; and `Io(StepLimit)` where the walk takes more steps than its limit.
+    pub fn all_items(mut self, alloc: Global) -> Result<Vec<Item>, Error>
+        ensures complete { (g : Scene) (items : List Yielded) (n : ℕ) → Remaining F.Files S.Callbacks g self.entry items n
+            → IfOk result (λ all. map item_of all.items ≡ items) }
+        ensures ended { (g : Scene) (items : List Yielded) (n : ℕ) → Remaining F.Files S.Callbacks g self.entry items n
+            → IfErr result (λ e. (problem_of e ≡ memory) ⊎ ((problem_of e ≡ io StepLimit) × (self.entry.left < n))) }
+    {
+        let mut all = Vec::new(alloc);
+        while let Some(item) = self.advance() {
+            if self.ended {
+                return Err(error_of(item));
+            }
+            all.push(item)?;
+        }
+        Ok(all)
+    }
+}

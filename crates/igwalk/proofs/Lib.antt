@@ -1,3 +1,4 @@
 pub mod LineLemmas
+pub mod ItemLemmas
 pub mod StopLemmas
 mod PrintsOnly

@@ -9,7 +9,7 @@ use Rattle.ignore_rules.proofs.LinesOnly.{AddsLine-one, Refuses-one, AddsLine-ne
 use Rattle.igwalk.specs.Matching.{Adds, no_line, added, refused, refusal, Prints, answer_line, answer_of}
 use Rattle.igwalk.specs.Stops.{EndsLines, EndsAnswer}
 use Rattle.igwalk.specs.Words.{Question}
-use Rattle.igwalk.specs.declared.run.Stop.TheVariants.{Usage, Write, Silence}
+use Rattle.igwalk.specs.declared.stop.Stop.TheVariants.{Usage, Write, Silence}
 
 no_end : {A : Type 0} (xs : List A) (x : A) → [] ≡ xs ++ x ∷ [] → ⊥
 no_end [] x e = cc e

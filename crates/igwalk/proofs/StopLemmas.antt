@@ -6,8 +6,8 @@ use Rattle.std.specs.Prelude.{⊤}
 use Rattle.std.specs.Io.KnownBytes.{Appends}
 use Rattle.std.specs.Str.Lines.{lines}
 use Rattle.ignore_rules.specs.Rules.{Building}
-use Rattle.igwalk.specs.declared.run.Stop.{Stop}
-use Rattle.igwalk.specs.declared.run.Stop.TheVariants.{Usage, Memory, Write, Silence}
+use Rattle.igwalk.specs.declared.stop.Stop.{Stop}
+use Rattle.igwalk.specs.declared.stop.Stop.TheVariants.{Usage, Memory, Write, Silence}
 use Rattle.igwalk.specs.Matching.{AddsAll}
 use Rattle.igwalk.specs.Words.{Question}
 use Rattle.igwalk.specs.Stops.{Ends, EndsAnswer, EndsLine, EndsLines, EndsReported, reason}

@@ -1,3 +1,4 @@
 pub mod Words
 pub mod Matching
+pub mod Listing
 pub mod Stops

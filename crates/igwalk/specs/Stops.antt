@@ -6,8 +6,8 @@ use Rattle.ignore_base.specs.Text.{Bytes, Path}
 use Rattle.ignore_base.specs.Problem.{Problem, several, at_line, at_path, at_depth, loop, io, glob, unrecognized, invalid_definition}
 use Rattle.ignore_base.specs.Problem.{memory}
 use Rattle.ignore_rules.specs.Rules.{Building, LineOptions, Refuses}
-use Rattle.igwalk.specs.declared.run.Stop.{Stop}
-use Rattle.igwalk.specs.declared.run.Stop.TheVariants.{Usage, Memory, Write, Silence}
+use Rattle.igwalk.specs.declared.stop.Stop.{Stop}
+use Rattle.igwalk.specs.declared.stop.Stop.TheVariants.{Usage, Memory, Write, Silence}
 use Rattle.igwalk.specs.Matching.{Adds}
 use Rattle.igwalk.specs.Words.{Question}
 

@@ -29,3 +29,8 @@ question_of _ = None
 -- the question that the program's value stands for
 abbrev pub request_view : Request → Question
 request_view q = record { root = q.root.now; rules = q.rules.now; path = q.path.now; is_dir = q.is_dir }
+
+-- `list ROOT..`, with a root or more
+abbrev pub roots_of : List Bytes → Option (List Path)
+roots_of (command ∷ root ∷ roots) = if bytes_eq command (codes "list") then Some (root ∷ roots) else None
+roots_of _ = None

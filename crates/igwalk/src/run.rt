@@ -7,32 +7,20 @@ ghost use Rattle.ignore_base.specs.Text.{Path};
 ghost use Rattle.ignore_base.specs.Errors.{problem_text};
 ghost use Rattle.ignore_base.specs.Problem.{problem_of, memory};
 ghost use Rattle.ignore_rules.specs.Rules.{begun, built};
-ghost use Rattle.igwalk.specs.Words.{Question, question_of, request_view};
+ghost use Rattle.ignore_walk.specs.Entry.{Item};
+ghost use Rattle.igwalk.specs.Listing.{Lists};
+ghost use Rattle.igwalk.specs.Words.{Question, question_of, request_view, roots_of};
 ghost use Rattle.igwalk.specs.Stops.{Ends, EndsAnswer, EndsLine, EndsLines, EndsReported, line_stop, reason};
 ghost use Rattle.igwalk.specs.Matching.{AddsAll, AddsOne, Prints, answer_line, answer_of, refusal};
 
-use crate::words::{Request, read_words};
+use crate::listing::list;
+use crate::stop::{Stop, report_stop};
+use crate::words::{Request, read_roots, read_words};
 use ignore_base::{Error, Match};
+use ignore_files::{Env, Files};
 use ignore_rules::gitignore::{Gitignore, GitignoreBuilder};
 use std::alloc::Global;
 use std::io::Write;
-
-/// The usage, which is written for wrong arguments. It names three commands, of which only `match`
-/// can be run: `list` and `check` are wrong arguments.
-pub const USAGE: &str = "usage: igwalk match ROOT RULES PATH d|f | list ROOT.. | check ROOT PATH..";
-
-/// Why a run ends early.
-#[derive(Clone, Copy)]
-pub enum Stop {
-    /// The arguments are wrong.
-    Usage,
-    /// Out of memory.
-    Memory,
-    /// The answer can't be written.
-    Write,
-    /// The errors can't be written, so nothing more is reported.
-    Silence,
-}
 
 /// Reports a rejected line, counted from 1. Out of memory ends the run.
 fn report_refusal<E: Write>(err: &mut E, number: u64, error: Error) -> Result<(), Stop>
@@ -134,45 +122,34 @@ fn answer<W: Write, E: Write>(
     Ok(refused)
 }
 
-/// Reports why a run ended, and returns its status, or why it ended where that can't be written.
-pub fn report_stop<E: Write>(err: &mut E, stop: Stop) -> Result<u8, Stop>
-    ensures reports { IfOk result (λ status. (status ≡ 2) × (stop ≢ Stop.Silence)
-        × Appends (E.contents err.old) (E.contents err.new) (reason stop)) }
-    ensures unreported { IfErr result (λ why. why ≡ stop) }
-{
-    let reported = match stop {
-        Stop::Usage => writeln!(err, "{USAGE}"),
-        Stop::Memory => writeln!(err, "igwalk: out of memory"),
-        Stop::Write => writeln!(err, "igwalk: cannot write"),
-        Stop::Silence => return Err(stop),
-    };
-    match reported {
-        Ok(()) => Ok(2),
-        Err(_) => Err(stop),
-    }
-}
-
-/// Runs the command in the words after the program's name. `match ROOT RULES PATH d|f` writes the
-/// answer of the lines of RULES, relative to ROOT, for PATH, a directory (`d`) or not (`f`):
-/// `none`, or `ignore` or `whitelist` and the line that decided. A rejected line is reported on
-/// `err`, and the other lines count.
+/// Runs the command in the words after the program's name.
 ///
-/// It returns the status: 0; 1 where a line was rejected; 2 for wrong arguments, out of memory and
-/// an answer that can't be written, each reported on `err`. Wrong arguments are found before
-/// anything is written to `out`.
+/// - `match ROOT RULES PATH d|f` writes the answer of the lines of RULES, relative to ROOT, for
+///   PATH, a directory (`d`) or not (`f`): `none`, or `ignore` or `whitelist` and the line that
+///   decided. A rejected line is reported on `err`, and the other lines count.
+/// - `list ROOT..` writes the paths of the entries of a walk, each on a line, and reports on `err`
+///   what is wrong with an entry or stands in its place.
+///
+/// It returns the status: 0; 1 where something was reported; 2 for wrong arguments, out of memory
+/// and what can't be written, each reported on `err`. Wrong arguments are found before anything is
+/// written to `out`.
 ///
 /// # Errors
 /// Why the run ended, where that can't be written to `err`. The status is then 2 too.
-pub fn run<W: Write, E: Write>(
+pub fn run<F: Files, W: Write, E: Write>(
     alloc: Global,
+    files: &F,
+    env: &Env,
     words: &[String],
     out: &mut W,
     err: &mut E,
 ) -> Result<u8, Stop>
-    ensures wrong { question_of (map string_bytes words.now) ≡ None → Appends (W.contents out.old) (W.contents out.new) [] }
-    ensures usage { question_of (map string_bytes words.now) ≡ None
+    ensures wrong { question_of (map string_bytes words.now) ≡ None → roots_of (map string_bytes words.now) ≡ None
+        → Appends (W.contents out.old) (W.contents out.new) [] }
+    ensures usage { question_of (map string_bytes words.now) ≡ None → roots_of (map string_bytes words.now) ≡ None
         → IfOk result (λ status. (status ≡ 2) × Appends (E.contents err.old) (E.contents err.new) (reason Stop.Usage)) }
-    ensures usage_unreported { question_of (map string_bytes words.now) ≡ None → IfErr result (λ stop. stop ≡ Stop.Usage) }
+    ensures usage_unreported { question_of (map string_bytes words.now) ≡ None → roots_of (map string_bytes words.now) ≡ None
+        → IfErr result (λ stop. stop ≡ Stop.Usage) }
     ensures prints { (question : Question) → question_of (map string_bytes words.now) ≡ Some question
         → IfOk result (λ status. Prints question status (Appends (W.contents out.old) (W.contents out.new))
         (Appends (E.contents err.old) (E.contents err.new))
@@ -180,9 +157,15 @@ pub fn run<W: Write, E: Write>(
         (Appends (E.contents err.old) (E.contents err.new)))) }
     ensures unreported { (question : Question) → question_of (map string_bytes words.now) ≡ Some question
         → IfErr result (Ends question (Appends (W.contents out.old) (W.contents out.new)) (λ reported. ⊤)) }
+    ensures lists { question_of (map string_bytes words.now) ≡ None → (roots : List Path) → roots_of (map string_bytes words.now) ≡ Some roots
+        → IfOk result (λ status. ((items : List Item) × Lists items status (Appends (W.contents out.old) (W.contents out.new))
+        (Appends (E.contents err.old) (E.contents err.new))) ⊎ (status ≡ 2)) }
     ensures status { IfOk result (λ status. status ≤ 2) }
 {
     let Some(request) = read_words(words) else {
+        if let Some(roots) = read_roots(words) {
+            return list(alloc, files, env, roots, out, err);
+        }
         return report_stop(err, Stop::Usage);
     };
     match answer(alloc, request, out, err) {

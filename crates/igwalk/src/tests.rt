@@ -1,6 +1,9 @@
 //! Runs over memory: each status and each message.
 
 use crate::run::run;
+use crate::stop::Stop;
+use ignore_base::Fault;
+use ignore_files::{Env, MemoryTree};
 use std::alloc::{AllocError, Global};
 use std::io;
 use std::io::Write;
@@ -12,6 +15,30 @@ fn words_of(alloc: Global, texts: &[&str]) -> Result<Vec<String>, AllocError> {
         words.push(String::from_str(alloc, text)?)?;
     }
     Ok(words)
+}
+
+/// An environment in which nothing is known.
+fn env() -> Env {
+    Env {
+        current_dir: None,
+        home: None,
+        xdg_config_home: None,
+        git_config_global: None,
+        git_config_system: None,
+    }
+}
+
+/// A run of `match` or of wrong words, which asks no file.
+fn run_words<W: Write, E: Write>(
+    alloc: Global,
+    words: &[String],
+    out: &mut W,
+    err: &mut E,
+) -> Result<u8, Stop> {
+    match MemoryTree::new(alloc, "/") {
+        Ok(tree) => run(alloc, &tree, &env(), words, out, err),
+        Err(_) => Err(Stop::Memory),
+    }
 }
 
 const USAGE: &str = "usage: igwalk match ROOT RULES PATH d|f | list ROOT.. | check ROOT PATH..\n";
@@ -59,7 +86,7 @@ const RUNS: [(&[&str], &str, &str, u8); 12] = [
     (&["match", ".", "a", "a", "x"], "", USAGE, 2),
     (&["match", ".", "a", "a"], "", USAGE, 2),
     (&["match", ".", "a", "a", "f", "f"], "", USAGE, 2),
-    (&["list", "/t"], "", USAGE, 2),
+    (&["list"], "", USAGE, 2),
     (&["check", "/t", "a"], "", USAGE, 2),
     (&[], "", USAGE, 2),
 ];
@@ -71,7 +98,7 @@ fn runs_over_memory(rt: HostRuntime) -> Result<(), Fail> {
         let words = words_of(alloc, texts)?;
         let mut out: Vec<u8> = Vec::new(alloc);
         let mut err: Vec<u8> = Vec::new(alloc);
-        let got = run(alloc, words.as_slice(), &mut out, &mut err).unwrap_or(2);
+        let got = run_words(alloc, words.as_slice(), &mut out, &mut err).unwrap_or(2);
         assert_eq!(rt; got, status, "{reported}");
         assert_eq!(rt; out.as_slice(), written.as_bytes());
         assert_eq!(rt; err.as_slice(), reported.as_bytes());
@@ -124,7 +151,7 @@ fn with_failing_output(
     let words = words_of(alloc, &["match", "/r", "{\n*.rs", "a.rs", "f"])?;
     let mut out = writer_of(alloc, calls, recovers);
     let mut err: Vec<u8> = Vec::new(alloc);
-    let status = run(alloc, words.as_slice(), &mut out, &mut err).unwrap_or(2);
+    let status = run_words(alloc, words.as_slice(), &mut out, &mut err).unwrap_or(2);
     Ok((status, out.kept, err))
 }
 
@@ -137,7 +164,7 @@ fn with_failing_errors(
     let words = words_of(alloc, &["match", "/r", "{\n*.rs", "a.rs", "f"])?;
     let mut out: Vec<u8> = Vec::new(alloc);
     let mut err = writer_of(alloc, calls, recovers);
-    let status = run(alloc, words.as_slice(), &mut out, &mut err).unwrap_or(2);
+    let status = run_words(alloc, words.as_slice(), &mut out, &mut err).unwrap_or(2);
     Ok((status, out, err.kept))
 }
 
@@ -201,5 +228,60 @@ fn writes_fail_from_the_first_to_none(rt: HostRuntime) -> Result<(), Fail> {
     assert_eq!(rt; status, 1);
     let (status, _, _) = with_failing_output(rt.alloc(), 9, false)?;
     assert_eq!(rt; status, 1);
+    Ok(())
+}
+
+/// A folder with rules, whose directory `d` can't be listed and whose `{` is no glob.
+fn folder(alloc: Global) -> Result<MemoryTree, Fail> {
+    let mut tree = MemoryTree::new(alloc, "/")?;
+    for path in ["/t", "/t/d", "/t/c", "/t/.h"] {
+        tree.add_dir(path)?;
+    }
+    add_files(&mut tree)?;
+    tree.fault_list("/t/d", Fault::PermissionDenied)?;
+    Ok(tree)
+}
+
+fn add_files(tree: &mut MemoryTree) -> Result<(), Fail> {
+    tree.add_file("/t/.ignore", b"*.o\n")?;
+    tree.add_file("/t/c/.ignore", b"{\n")?;
+    for path in ["/t/b.o", "/t/b", "/t/a", "/t/c/x", "/t/.h/y"] {
+        tree.add_file(path, b"")?;
+    }
+    Ok(())
+}
+
+/// What is listed of some roots in that folder: the status, the output and the errors.
+fn listed(alloc: Global, texts: &[&str]) -> Result<(u8, Vec<u8>, Vec<u8>), Fail> {
+    let words = words_of(alloc, texts)?;
+    let tree = folder(alloc)?;
+    let mut out: Vec<u8> = Vec::new(alloc);
+    let mut err: Vec<u8> = Vec::new(alloc);
+    let status = run(alloc, &tree, &env(), words.as_slice(), &mut out, &mut err).unwrap_or(2);
+    Ok((status, out, err))
+}
+
+/// Names come in the order of texts, and errors in their places.
+#[test]
+fn a_folder_is_listed(rt: HostRuntime) -> Result<(), Fail> {
+    let (status, written, reported) = listed(rt.alloc(), &["list", "/t/"])?;
+    assert_eq!(rt; status, 1);
+    assert_eq!(rt; written.as_slice(), LISTED);
+    assert_eq!(rt; reported.as_slice(), WRONG);
+    Ok(())
+}
+
+const LISTED: &[u8] = b"/t\n/t/a\n/t/b\n/t/c\n/t/c/x\n/t/d\n";
+
+const WRONG: &[u8] = b"igwalk: /t/c/.ignore: line 1: error parsing glob '{': unclosed alternates\n\
+    igwalk: /t/d: permission denied\n";
+
+/// A root that isn't there is reported, and the next one is walked.
+#[test]
+fn roots_in_turn(rt: HostRuntime) -> Result<(), Fail> {
+    let (status, written, reported) = listed(rt.alloc(), &["list", "/no-such", "/t/c/x", "//"])?;
+    assert_eq!(rt; status, 1);
+    assert!(rt; written.starts_with(b"/t/c/x\n/\n/t\n"));
+    assert!(rt; reported.starts_with(b"igwalk: /no-such: not found\n"));
     Ok(())
 }

@@ -1,6 +1,6 @@
 //! Parsing the words after the program's name.
 ghost use Rattle.std.specs.Prelude.{◌≡◌, map, option_map, string_bytes};
-ghost use Rattle.igwalk.specs.Words.{question_of, request_view, kind_of};
+ghost use Rattle.igwalk.specs.Words.{question_of, request_view, kind_of, roots_of};
 
 /// A question: the answer of the rules in a text, relative to a root, for a path that is a
 /// directory or not.
@@ -27,6 +27,18 @@ pub fn read_words(words: &[String]) -> Option<Request<'_>>
             })
         }
         _ => None,
+    }
+}
+
+/// The roots in the words; `None` for another command, and without roots.
+pub fn read_roots(words: &[String]) -> Option<&[String]>
+    ensures { option_map (λ roots. map string_bytes roots.now) result ≡ roots_of (map string_bytes words.now) }
+{
+    let (command, roots) = words.split_first()?;
+    if command.as_str() == "list" && !roots.is_empty() {
+        Some(roots)
+    } else {
+        None
     }
 }
 

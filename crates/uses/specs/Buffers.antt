@@ -1,9 +1,7 @@
 -- What a buffer answers where it stands for a file.
 use Rattle.std.specs.Prelude.{◌≡◌, None, Result, Ok, Err}
-use Rattle.ignore_base.specs.Text.{Bytes}
-use Rattle.ignore_files.specs.declared.types.Contents.{Contents}
-use Rattle.ignore_files.specs.declared.types.Refusal.{Refusal}
-use Rattle.ignore_files.specs.declared.types.Refusal.TheVariants.{Memory}
+use Rattle.ignore.specs.Words.{Bytes}
+use Rattle.ignore.specs.FileWords.{Contents, Memory, Refusal}
 
 -- all of the text, or that memory ran out
 abbrev pub IsText : Bytes → Result Contents Refusal → Type 0

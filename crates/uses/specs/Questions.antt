@@ -1,12 +1,7 @@
 -- What callers ask, in the words of the crates below.
 use Rattle.std.specs.Prelude.{◌≡◌, ◌&&◌, ◌||◌, Bool, true, false, not, Option, None}
-use Rattle.ignore_base.specs.Text.{Bytes, Path}
-use Rattle.ignore_base.specs.declared.match_result.Match.{Match}
-use Rattle.ignore_base.specs.Match.{inner, is_ignore, is_none, is_whitelist}
-use Rattle.ignore_base.specs.Problem.{Problem}
-use Rattle.ignore_rules.specs.Answer.{answer}
-use Rattle.ignore_rules.specs.Parents.{answer_with_parents, is_under_root}
-use Rattle.ignore_rules.specs.Rules.{AddsLine, Building, Refuses, Rule, Ruleset}
+use Rattle.ignore.specs.Words.{AddsLine, Building, Bytes, Match, Path, Problem, Refuses, Rule, Ruleset}
+use Rattle.ignore.specs.Words.{answer, answer_with_parents, inner, is_ignore, is_none, is_under_root, is_whitelist}
 
 -- whether rules ignore the file at a path
 abbrev pub ignores : Ruleset → Path → Bool

@@ -1,13 +1,10 @@
 //! An editor: rules that stand in a buffer and not yet in a file. A `Files` of the caller's own.
 ghost use Rattle.std.specs.Prelude.{◌≡◌, IfOk, IfErr, None, Ok, option_map};
-ghost use Rattle.ignore_base.specs.Problem.{problem_of, memory};
-ghost use Rattle.ignore_base.specs.Paths.{folder_of};
-ghost use Rattle.ignore_rules.specs.Matchers.{BuildsAnswer};
-ghost use Rattle.ignore_rules.specs.Rules.{begun};
+ghost use Rattle.ignore.specs.Words.{BuildsAnswer, begun, folder_of, memory, problem_of};
 
-use ignore_base::Error;
-use ignore_files::{Bytes, Contents, Fault, Files, Identity, Listing, Metadata, Name, Refusal};
-use ignore_rules::gitignore::Gitignore;
+use ignore::files::{Bytes, Contents, Files, Identity, Listing, Metadata, Name, Refusal};
+use ignore::gitignore::Gitignore;
+use ignore::{Error, Fault};
 use std::alloc::Global;
 
 /// Files of which each that is read has the text of a buffer, and that answer nothing else.

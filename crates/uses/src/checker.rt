@@ -1,18 +1,12 @@
 //! A checker: asks the file of rules of a folder about a path in it.
 ghost use Rattle.std.specs.Prelude.{◌≡◌, IfOk, IfErr, Result, option_map};
-ghost use Rattle.ignore_files.specs.declared.types.Contents.{Contents};
-ghost use Rattle.ignore_files.specs.declared.types.Refusal.{Refusal};
-ghost use Rattle.ignore_files.specs.Gives.{IsHonest};
-ghost use Rattle.ignore_files.specs.Tree.{Tree};
-ghost use Rattle.ignore_base.specs.Problem.{problem_of, memory, Problem};
-ghost use Rattle.ignore_base.specs.Paths.{folder_of};
-ghost use Rattle.ignore_rules.specs.Matchers.{BuildsAnswer, IsMatcherOf};
-ghost use Rattle.ignore_rules.specs.Rules.{Ruleset, begun};
+ghost use Rattle.ignore.specs.Words.{BuildsAnswer, IsMatcherOf, Problem, Ruleset, begun, folder_of, memory, problem_of};
+ghost use Rattle.ignore.specs.FileWords.{Contents, IsHonest, Refusal, Tree};
 ghost use Rattle.uses.specs.Questions.{ignores};
 
-use ignore_base::Error;
-use ignore_files::Files;
-use ignore_rules::gitignore::Gitignore;
+use ignore::Error;
+use ignore::files::Files;
+use ignore::gitignore::Gitignore;
 use std::alloc::Global;
 
 /// Whether the rules of the file at `gitignore` ignore a file, and what is wrong with their lines.

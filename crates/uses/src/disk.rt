@@ -1,16 +1,13 @@
 //! The checker over a disk: its answer is that of the tree on the disk, wherever the machine
 //! answers truly.
 ghost use Rattle.std.specs.Prelude.{◌≡◌, IfOk, IfErr, option_map};
-ghost use Rattle.ignore_files.specs.Disk.{tree_on};
-ghost use Rattle.ignore_files.specs.Machine.{Disk, IsTruthful};
-ghost use Rattle.ignore_base.specs.Problem.{problem_of, memory};
-ghost use Rattle.ignore_rules.specs.Matchers.{IsMatcherOf};
-ghost use Rattle.ignore_rules.specs.Rules.{Ruleset};
+ghost use Rattle.ignore.specs.Words.{IsMatcherOf, Ruleset, memory, problem_of};
+ghost use Rattle.ignore.specs.FileWords.{Disk, IsTruthful, tree_on};
 ghost use Rattle.uses.specs.Questions.{ignores};
 
 use crate::checker::is_ignored;
-use ignore_base::Error;
-use ignore_files::{DiskFiles, Machine};
+use ignore::Error;
+use ignore::files::{DiskFiles, Machine};
 use std::alloc::Global;
 
 /// As `is_ignored`, over the files of a machine: a program passes its runtime.

@@ -1,11 +1,11 @@
 //! The global file of the process that asks.
 ghost use Rattle.std.specs.Prelude.{◌≡◌, IfErr};
-ghost use Rattle.ignore_base.specs.Problem.{problem_of, memory};
+ghost use Rattle.ignore.specs.Words.{memory, problem_of};
 
 use crate::checker::is_ignored_by;
-use ignore_base::Error;
-use ignore_files::{DiskFiles, Env};
-use ignore_rules::gitignore::Gitignore;
+use ignore::Error;
+use ignore::files::{DiskFiles, Env};
+use ignore::gitignore::Gitignore;
 use std::rt;
 
 /// Whether the global file that git's configuration names ignores a file, by the environment and

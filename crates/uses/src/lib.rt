@@ -1,5 +1,5 @@
 //! What callers of these crates do. Each function has a contract of its own, which is proved from
-//! the public clauses of `ignore_base`, `ignore_files` and `ignore_rules` alone.
+//! the public clauses of `ignore` alone.
 #![tactic(auto)]
 
 pub mod buffer;

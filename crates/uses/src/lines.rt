@@ -1,10 +1,10 @@
 //! Lines that a user types in: the valid ones are added, and an invalid one changes nothing.
 ghost use Rattle.std.specs.Prelude.{◌≡◌, ◌≢◌, IsTrue, IfOk, IfErr, OnErr};
-ghost use Rattle.ignore_base.specs.Problem.{problem_of, memory};
+ghost use Rattle.ignore.specs.Words.{memory, problem_of};
 ghost use Rattle.uses.specs.Questions.{AddsIfValid};
 
-use ignore_base::Error;
-use ignore_rules::gitignore::GitignoreBuilder;
+use ignore::Error;
+use ignore::gitignore::GitignoreBuilder;
 
 /// Whether an error is of a glob.
 fn is_of_glob(error: &Error) -> bool

@@ -1,15 +1,11 @@
 //! A linter: which files it looks at, by the globs of its command line and the types it is for.
 ghost use Rattle.std.specs.Prelude.{◌≡◌, false, IfOk, IfErr};
-ghost use Rattle.ignore_base.specs.Match.{is_ignore};
-ghost use Rattle.ignore_base.specs.Paths.{file_name_of};
-ghost use Rattle.ignore_base.specs.Problem.{problem_of, memory};
-ghost use Rattle.ignore_rules.specs.Overrides.{override_answer};
-ghost use Rattle.ignore_types.specs.TypeMatch.{type_answer};
+ghost use Rattle.ignore.specs.Words.{file_name_of, is_ignore, memory, override_answer, problem_of, type_answer};
 ghost use Rattle.uses.specs.Questions.{is_linted};
 
-use ignore_base::{Error, Match};
-use ignore_rules::overrides::Override;
-use ignore_types::types::Types;
+use ignore::overrides::Override;
+use ignore::types::Types;
+use ignore::{Error, Match};
 
 /// Whether a file is looked at: a glob of the command line that says so or denies it decides; else
 /// its types do.

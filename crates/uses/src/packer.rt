@@ -1,11 +1,11 @@
 //! A packer: which of the paths of a list a package includes.
 ghost use Rattle.std.specs.Prelude.{◌≡◌, IfOk, IfErr, map};
 ghost use Rattle.std.specs.List.{filter};
-ghost use Rattle.ignore_base.specs.Problem.{problem_of, memory};
+ghost use Rattle.ignore.specs.Words.{memory, problem_of};
 ghost use Rattle.uses.specs.Questions.{is_packed};
 
-use ignore_base::Error;
-use ignore_rules::gitignore::Gitignore;
+use ignore::Error;
+use ignore::gitignore::Gitignore;
 use std::alloc::Global;
 
 /// Whether a package includes the file at a path: it lies below the root of the rules, and neither

@@ -1,11 +1,11 @@
 //! Why a path is ignored: the rule that decides, its line, and the file that it comes from.
 ghost use Rattle.std.specs.Prelude.{◌≡◌, IfOk, IfErr, option_map};
 ghost use Rattle.std.specs.Option.{option_and_then, option_copied};
-ghost use Rattle.ignore_base.specs.Problem.{problem_of, memory};
+ghost use Rattle.ignore.specs.Words.{memory, problem_of};
 ghost use Rattle.uses.specs.Questions.{deciding_rule};
 
-use ignore_base::{Error, Match};
-use ignore_rules::gitignore::{Gitignore, Glob};
+use ignore::gitignore::{Gitignore, Glob};
+use ignore::{Error, Match};
 
 /// The rule that decides about a path, if one does.
 pub fn deciding_rule<'m>(

@@ -10,7 +10,7 @@ impl WalkBuilder {
     /// `git_exclude`. All other settings stay, `require_git` and `git_trailing_spaces` among them.
     pub fn standard_filters(&mut self, yes: bool) -> &mut Self
         ensures same_reference { result.ghost_name ≡ self.entry.ghost_name }
-        ensures value { result.now ≡ with_standard_filters self.old yes }
+        ensures value { result.now ≡ record self.old { options = with_standard_filters self.old.options yes } }
     {
         self.hidden(yes)
             .parents(yes)
@@ -23,9 +23,9 @@ impl WalkBuilder {
     /// Whether hidden entries are ignored: those whose name begins with a dot. It is on at first.
     pub fn hidden(&mut self, yes: bool) -> &mut Self
         ensures same_reference { result.ghost_name ≡ self.entry.ghost_name }
-        ensures value { result.now ≡ with_hidden self.old yes }
+        ensures value { result.now ≡ record self.old { options = with_hidden self.old.options yes } }
     {
-        let settings = &mut self.settings;
+        let settings = &mut self.options.settings;
         settings.inner.hidden = yes;
         self
     }
@@ -33,9 +33,9 @@ impl WalkBuilder {
     /// Whether the rules of the directories above a root count. It is on at first.
     pub fn parents(&mut self, yes: bool) -> &mut Self
         ensures same_reference { result.ghost_name ≡ self.entry.ghost_name }
-        ensures value { result.now ≡ with_parents self.old yes }
+        ensures value { result.now ≡ record self.old { options = with_parents self.old.options yes } }
     {
-        let settings = &mut self.settings;
+        let settings = &mut self.options.settings;
         settings.inner.parents = yes;
         self
     }
@@ -44,9 +44,9 @@ impl WalkBuilder {
     /// It is on at first.
     pub fn ignore(&mut self, yes: bool) -> &mut Self
         ensures same_reference { result.ghost_name ≡ self.entry.ghost_name }
-        ensures value { result.now ≡ with_ignore self.old yes }
+        ensures value { result.now ≡ record self.old { options = with_ignore self.old.options yes } }
     {
-        let settings = &mut self.settings;
+        let settings = &mut self.options.settings;
         settings.inner.ignore = yes;
         self
     }
@@ -55,9 +55,9 @@ impl WalkBuilder {
     /// is on at first.
     pub fn git_global(&mut self, yes: bool) -> &mut Self
         ensures same_reference { result.ghost_name ≡ self.entry.ghost_name }
-        ensures value { result.now ≡ with_git_global self.old yes }
+        ensures value { result.now ≡ record self.old { options = with_git_global self.old.options yes } }
     {
-        let settings = &mut self.settings;
+        let settings = &mut self.options.settings;
         settings.inner.git_global = yes;
         self
     }
@@ -65,9 +65,9 @@ impl WalkBuilder {
     /// Whether `.gitignore` files are read, as in gitignore(5). It is on at first.
     pub fn git_ignore(&mut self, yes: bool) -> &mut Self
         ensures same_reference { result.ghost_name ≡ self.entry.ghost_name }
-        ensures value { result.now ≡ with_git_ignore self.old yes }
+        ensures value { result.now ≡ record self.old { options = with_git_ignore self.old.options yes } }
     {
-        let settings = &mut self.settings;
+        let settings = &mut self.options.settings;
         settings.inner.git_ignore = yes;
         self
     }
@@ -75,9 +75,9 @@ impl WalkBuilder {
     /// Whether the exclude files of repositories are read (`.git/info/exclude`). It is on at first.
     pub fn git_exclude(&mut self, yes: bool) -> &mut Self
         ensures same_reference { result.ghost_name ≡ self.entry.ghost_name }
-        ensures value { result.now ≡ with_git_exclude self.old yes }
+        ensures value { result.now ≡ record self.old { options = with_git_exclude self.old.options yes } }
     {
-        let settings = &mut self.settings;
+        let settings = &mut self.options.settings;
         settings.inner.git_exclude = yes;
         self
     }
@@ -86,9 +86,9 @@ impl WalkBuilder {
     /// is on at first.
     pub fn require_git(&mut self, yes: bool) -> &mut Self
         ensures same_reference { result.ghost_name ≡ self.entry.ghost_name }
-        ensures value { result.now ≡ with_require_git self.old yes }
+        ensures value { result.now ≡ record self.old { options = with_require_git self.old.options yes } }
     {
-        let settings = &mut self.settings;
+        let settings = &mut self.options.settings;
         settings.inner.require_git = yes;
         self
     }
@@ -97,9 +97,9 @@ impl WalkBuilder {
     /// of a letter. Files that `add_ignore` adds are always case sensitive. It is off at first.
     pub fn ignore_case_insensitive(&mut self, yes: bool) -> &mut Self
         ensures same_reference { result.ghost_name ≡ self.entry.ghost_name }
-        ensures value { result.now ≡ with_case_insensitive self.old yes }
+        ensures value { result.now ≡ record self.old { options = with_case_insensitive self.old.options yes } }
     {
-        let settings = &mut self.settings;
+        let settings = &mut self.options.settings;
         settings.inner.case_insensitive = yes;
         self
     }
@@ -110,9 +110,9 @@ impl WalkBuilder {
     /// adds as it is set then. It is off at first.
     pub fn git_trailing_spaces(&mut self, yes: bool) -> &mut Self
         ensures same_reference { result.ghost_name ≡ self.entry.ghost_name }
-        ensures value { result.now ≡ with_git_trailing_spaces self.old yes }
+        ensures value { result.now ≡ record self.old { options = with_git_trailing_spaces self.old.options yes } }
     {
-        let settings = &mut self.settings;
+        let settings = &mut self.options.settings;
         settings.inner.git_trailing_spaces = yes;
         self
     }

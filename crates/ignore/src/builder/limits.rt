@@ -1,6 +1,7 @@
 //! Limits: how deep, how large, how many steps, which links and devices.
 ghost use Rattle.std.specs.Prelude.{◌≡◌};
-ghost use Rattle.ignore.specs.Builder.{with_max_depth, with_min_depth, with_max_filesize, with_limit, with_follow_links, with_same_file_system};
+ghost use Rattle.ignore.specs.Builder.{with_max_depth, with_min_depth, with_max_filesize, with_limit};
+ghost use Rattle.ignore.specs.Builder.{with_follow_links, with_same_file_system};
 
 use crate::builder::WalkBuilder;
 
@@ -9,9 +10,9 @@ impl WalkBuilder {
     /// below a least depth that is set, it becomes that one.
     pub fn max_depth(&mut self, depth: Option<usize>) -> &mut Self
         ensures same_reference { result.ghost_name ≡ self.entry.ghost_name }
-        ensures value { result.now ≡ with_max_depth self.old depth }
+        ensures value { result.now ≡ record self.old { options = with_max_depth self.old.options depth } }
     {
-        self.settings.set_max_depth(depth);
+        self.options.settings.set_max_depth(depth);
         self
     }
 
@@ -19,18 +20,18 @@ impl WalkBuilder {
     /// above a greatest depth that is set, it becomes that one.
     pub fn min_depth(&mut self, depth: Option<usize>) -> &mut Self
         ensures same_reference { result.ghost_name ≡ self.entry.ghost_name }
-        ensures value { result.now ≡ with_min_depth self.old depth }
+        ensures value { result.now ≡ record self.old { options = with_min_depth self.old.options depth } }
     {
-        self.settings.set_min_depth(depth);
+        self.options.settings.set_min_depth(depth);
         self
     }
 
     /// The size in bytes above which a file is ignored. `None`, as at first, is no limit.
     pub fn max_filesize(&mut self, size: Option<u64>) -> &mut Self
         ensures same_reference { result.ghost_name ≡ self.entry.ghost_name }
-        ensures value { result.now ≡ with_max_filesize self.old size }
+        ensures value { result.now ≡ record self.old { options = with_max_filesize self.old.options size } }
     {
-        let settings = &mut self.settings;
+        let settings = &mut self.options.settings;
         settings.inner.max_filesize = size;
         self
     }
@@ -39,18 +40,18 @@ impl WalkBuilder {
     /// each directory that is left. At first it is the greatest number.
     pub fn limit(&mut self, steps: u64) -> &mut Self
         ensures same_reference { result.ghost_name ≡ self.entry.ghost_name }
-        ensures value { result.now ≡ with_limit self.old steps }
+        ensures value { result.now ≡ record self.old { options = with_limit self.old.options steps } }
     {
-        self.limit = steps;
+        self.options.limit = steps;
         self
     }
 
     /// Whether symbolic links are followed. It is off at first.
     pub fn follow_links(&mut self, yes: bool) -> &mut Self
         ensures same_reference { result.ghost_name ≡ self.entry.ghost_name }
-        ensures value { result.now ≡ with_follow_links self.old yes }
+        ensures value { result.now ≡ record self.old { options = with_follow_links self.old.options yes } }
     {
-        let settings = &mut self.settings;
+        let settings = &mut self.options.settings;
         settings.inner.follow_links = yes;
         self
     }
@@ -59,9 +60,9 @@ impl WalkBuilder {
     /// not listed. It is off at first.
     pub fn same_file_system(&mut self, yes: bool) -> &mut Self
         ensures same_reference { result.ghost_name ≡ self.entry.ghost_name }
-        ensures value { result.now ≡ with_same_file_system self.old yes }
+        ensures value { result.now ≡ record self.old { options = with_same_file_system self.old.options yes } }
     {
-        self.same_file_system = yes;
+        self.options.same_file_system = yes;
         self
     }
 }

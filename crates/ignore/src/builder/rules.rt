@@ -22,18 +22,18 @@ impl WalkBuilder {
     /// The globs of a command line, which decide before all other rules. At first there are none.
     pub fn overrides(&mut self, overrides: Override) -> &mut Self
         ensures same_reference { result.ghost_name ≡ self.entry.ghost_name }
-        ensures value { result.now ≡ with_overrides self.old overrides }
+        ensures value { result.now ≡ record self.old { options = with_overrides self.old.options overrides } }
     {
-        self.overrides = overrides;
+        self.options.overrides = overrides;
         self
     }
 
     /// The chosen file types. At first none are.
     pub fn types(&mut self, types: Types) -> &mut Self
         ensures same_reference { result.ghost_name ≡ self.entry.ghost_name }
-        ensures value { result.now ≡ with_types self.old types }
+        ensures value { result.now ≡ record self.old { options = with_types self.old.options types } }
     {
-        self.types = types;
+        self.options.types = types;
         self
     }
 
@@ -41,9 +41,9 @@ impl WalkBuilder {
     /// on, in place of the working directory.
     pub fn current_dir(&mut self, dir: String) -> &mut Self
         ensures same_reference { result.ghost_name ≡ self.entry.ghost_name }
-        ensures value { result.now ≡ with_current_dir self.old (string_bytes dir) }
+        ensures value { result.now ≡ record self.old { options = with_current_dir self.old.options (string_bytes dir) } }
     {
-        self.current_dir = Some(Name::new(dir));
+        self.options.current_dir = Some(Name::new(dir));
         self
     }
 
@@ -55,7 +55,7 @@ impl WalkBuilder {
     /// `push_custom_ignore_filename`, which does the work, and not of this call.
     pub fn add_custom_ignore_filename(&mut self, name: &str) -> Result<&mut Self, Error>
         ensures same_reference { IfOk result (λ b. b.ghost_name ≡ self.entry.ghost_name) }
-        ensures added { IfOk result (λ b. b.now ≡ with_custom self.old name.now) }
+        ensures added { IfOk result (λ b. b.now ≡ record self.old { options = with_custom self.old.options name.now }) }
         ensures out_of_memory { IfErr result (λ e. problem_of e ≡ memory) }
     {
         self.push_custom_ignore_filename(name)?;
@@ -65,11 +65,11 @@ impl WalkBuilder {
     /// As `add_custom_ignore_filename`, without the builder in what is returned. After an error the
     /// builder is as before.
     pub fn push_custom_ignore_filename(&mut self, name: &str) -> Result<(), Error>
-        ensures added { OnOk result (self.new ≡ with_custom self.old name.now) }
+        ensures added { OnOk result (self.new ≡ record self.old { options = with_custom self.old.options name.now }) }
         ensures out_of_memory { IfErr result (λ e. problem_of e ≡ memory) }
         ensures unchanged { OnErr result (self.new ≡ self.old) }
     {
-        let settings = &mut self.settings;
+        let settings = &mut self.options.settings;
         settings.inner.custom.push(name)?;
         Ok(())
     }
@@ -92,49 +92,22 @@ impl WalkBuilder {
         path: &str,
     ) -> Result<Option<Error>, Error>
         ensures read { (tree : Tree) → IsHonest F.Files files.now tree
-            → IfOk result (λ e. AddsIgnore tree env.now path.now self.old self.new (option_map problem_of e)) }
-        ensures answered { (dir : List ℕ) → base_dir self.old env.now ≡ Some dir
-            → IfOk result (λ e. AddsIgnoreBy (F.contents_gives files.now path.now) path.now dir self.old self.new (option_map problem_of e)) }
-        ensures unknown { base_dir self.old env.now ≡ None
+            → IfOk result (λ e. AddsIgnore tree env.now path.now self.old.options self.new.options (option_map problem_of e)) }
+        ensures answered { (dir : List ℕ) → base_dir self.old.options env.now ≡ Some dir
+            → IfOk result (λ e. AddsIgnoreBy (F.contents_gives files.now path.now) path.now dir self.old.options self.new.options
+            (option_map problem_of e)) }
+        ensures unknown { base_dir self.old.options env.now ≡ None
             → IsOkAnd result (λ e. (option_map problem_of e ≡ Some (io NoCurrentDir)) × (self.new ≡ self.old)) }
+        ensures rest { self.new ≡ record self.old { options = self.new.options } }
         ensures out_of_memory { IfErr result (λ e. problem_of e ≡ memory) }
         ensures unchanged { OnErr result (self.new ≡ self.old) }
     {
-        let Some(dir) = self.base_dir(env) else {
+        let Some(dir) = self.options.base_dir(env) else {
             return Ok(Some(Error::from(Fault::NoCurrentDir)));
         };
-        let (rules, error) = self.explicit_rules(files, dir, path)?;
-        self.explicit.push(rules)?;
+        let (rules, error) = self.options.explicit_rules(files, dir, path)?;
+        self.options.explicit.push(rules)?;
         Ok(error)
-    }
-
-    /// The rules of a file, relative to a directory, and its error.
-    fn explicit_rules<F: Files>(
-        &self,
-        files: &F,
-        dir: &str,
-        path: &str,
-    ) -> Result<(Gitignore, Option<Error>), Error>
-        ensures read { (tree : Tree) → IsHonest F.Files files.now tree
-            → IfOk result (λ r. IsFileOf tree path.now (explicit_start self.now dir.now) r.0 (option_map problem_of r.1)) }
-        ensures answered { IfOk result (λ r. IsAnswerOf (F.contents_gives files.now path.now) path.now
-            (explicit_start self.now dir.now) r.0 (option_map problem_of r.1)) }
-        ensures out_of_memory { IfErr result (λ e. problem_of e ≡ memory) }
-    {
-        let mut builder = GitignoreBuilder::new(self.settings.allocator(), dir)?;
-        builder.git_trailing_spaces(self.settings.get().git_trailing_spaces);
-        let error = builder.add(files, path)?;
-        Ok((builder.into_gitignore(), error))
-    }
-
-    /// The directory of `current_dir`, or else the working directory, if it is known.
-    fn base_dir<'e>(&'e self, env: &'e Env) -> Option<&'e str>
-        ensures { option_copied result ≡ base_dir self.now env.now }
-    {
-        match &self.current_dir {
-            Some(dir) => Some(dir.as_str()),
-            None => known_dir(env),
-        }
     }
 
     /// The rules from outside of the directories, for a walk or for matchers. The global file is
@@ -147,56 +120,9 @@ impl WalkBuilder {
     /// `Error::Memory` alone.
     pub fn outside<F: Files>(&self, files: &F, env: &Env) -> Result<Outside, Error>
         ensures read { (tree : Tree) → IsHonest F.Files files.now tree
-            → IfOk result (λ o. IsOutside tree env.now self.now o) }
+            → IfOk result (λ o. IsOutside tree env.now self.now.options o) }
         ensures out_of_memory { IfErr result (λ e. problem_of e ≡ memory) }
     {
-        let global = self.global_rules(files, env)?;
-        Ok(Outside {
-            overrides: self.overrides.clone()?,
-            types: self.types.clone()?,
-            global,
-            explicit: self.explicit.clone()?,
-        })
-    }
-
-    /// The rules of the global file.
-    fn global_rules<F: Files>(&self, files: &F, env: &Env) -> Result<Gitignore, Error>
-        ensures read { (tree : Tree) → IsHonest F.Files files.now tree
-            → IfOk result (λ rules. IsGlobal tree env.now self.now rules) }
-        ensures out_of_memory { IfErr result (λ e. problem_of e ≡ memory) }
-    {
-        if !self.settings.get().git_global {
-            return Ok(Gitignore::empty(self.settings.allocator()));
-        }
-        match self.base_dir(env) {
-            None => Ok(Gitignore::empty(self.settings.allocator())),
-            Some(dir) => {
-                let builder = self.global_builder(dir)?;
-                let (rules, _) = builder.build_global(files, env)?;
-                Ok(rules)
-            }
-        }
-    }
-
-    /// A builder for the rules of the global file, relative to a directory.
-    fn global_builder(&self, dir: &str) -> Result<GitignoreBuilder, Error>
-        ensures value { IfOk result (λ b. b ≡ started self.now.settings dir.now) }
-        ensures out_of_memory { IfErr result (λ e. problem_of e ≡ memory) }
-    {
-        let settings = self.settings.get();
-        let mut builder = GitignoreBuilder::new(self.settings.allocator(), dir)?;
-        builder.case_insensitive(settings.case_insensitive)?;
-        builder.git_trailing_spaces(settings.git_trailing_spaces);
-        Ok(builder)
-    }
-}
-
-/// The working directory, if it is known.
-fn known_dir(env: &Env) -> Option<&str>
-    ensures { option_copied result ≡ env.now.current_dir }
-{
-    match &env.current_dir {
-        Some(dir) => Some(dir.as_str()),
-        None => None,
+        self.options.outside(files, env)
     }
 }

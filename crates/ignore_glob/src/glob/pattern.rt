@@ -1,5 +1,6 @@
 //! A parsed glob, and the texts that it matches.
-ghost use Rattle.std.specs.Prelude.{◌≡◌, ◌+◌, ◌-◌, ◌*◌, ◌^◌, ◌≤◌, ◌↔◌, ℕ, false, IsTrue, IsOk, IfOk, IfErr, List, length, map, min, string_bytes};
+ghost use Rattle.std.specs.Prelude.{◌≡◌, ◌+◌, ◌-◌, ◌*◌, ◌^◌, ◌≤◌, ◌↔◌, ℕ, false, IsTrue, IsOk, IfOk, IfErr, List, length};
+ghost use Rattle.std.specs.Prelude.{map, min, string_bytes};
 ghost use Rattle.std.specs.Coded.{Coded-set, coded_list, coded_option};
 ghost use Rattle.std.specs.Str.{chars, IsUtf8};
 ghost use Rattle.ignore_glob.specs.DoesMatch.{does_match};

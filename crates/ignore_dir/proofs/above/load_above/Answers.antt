@@ -12,7 +12,8 @@ returns-in_ok-names-in-Ok-clause-dirs g c = λ tree loads honest are.
     ap (map (λ n. n.now)) c.as_slice.ensures.value ∙ (c.in_ok-names-in-Ok.ensures ∙ ap (λ p. canonical_names (Ok p)) c.as_str.ensures) in
     let names = names_above-is tree s c.args.root.now c.in-Ok.path (map (λ n. n.now) c.as_slice.result.now)
     (sym c.needs_above.ensures ∙ c.if-not-needs_above.false) (honest.canonical c.args.root.now (Ok c.in-Ok.path) c.in-Ok.ensures) is in
-    subst (λ (ns : List (List ℕ)). IfOk c.load_along.result (λ a. a.dirs.items ≡ placed_along 1 (dirs_above loads s (directories_along (codes "/") ns)) ns)) names
+    subst (λ (ns : List (List ℕ)). IfOk c.load_along.result
+    (λ a. a.dirs.items ≡ placed_along 1 (dirs_above loads s (directories_along (codes "/") ns)) ns)) names
     (c.load_along.ensures.dirs tree loads honest are)
 
 pub returns-in_ok-names-in-Ok-clause-errors : goal.returns-in_ok-names-in-Ok-clause-errors
@@ -22,5 +23,6 @@ returns-in_ok-names-in-Ok-clause-errors g c = λ tree loads honest are.
     ap (map (λ n. n.now)) c.as_slice.ensures.value ∙ (c.in_ok-names-in-Ok.ensures ∙ ap (λ p. canonical_names (Ok p)) c.as_str.ensures) in
     let names = names_above-is tree s c.args.root.now c.in-Ok.path (map (λ n. n.now) c.as_slice.result.now)
     (sym c.needs_above.ensures ∙ c.if-not-needs_above.false) (honest.canonical c.args.root.now (Ok c.in-Ok.path) c.in-Ok.ensures) is in
-    subst (λ (ns : List (List ℕ)). IfOk c.load_along.result (λ a. map (option_map problem_of) a.errors.items ≡ problems_of_loads loads (directories_along (codes "/") ns))) names
+    subst (λ (ns : List (List ℕ)). IfOk c.load_along.result
+    (λ a. map (option_map problem_of) a.errors.items ≡ problems_of_loads loads (directories_along (codes "/") ns))) names
     (c.load_along.ensures.errors tree loads honest are)

@@ -1,4 +1,5 @@
-use Rattle.std.proofs.Common.{◌≡◌, ◌++◌, [], ◌∷◌, ◌+◌, take, get_or, map, ℕ, List, codes, sym, ap, ◌∙◌, append_assoc, subst, All, Bor, length}
+use Rattle.std.proofs.Common.{◌≡◌, ◌++◌, [], ◌∷◌, ◌+◌, take, get_or, map, ℕ, List, codes, sym, ap, ◌∙◌, append_assoc, subst}
+use Rattle.std.proofs.Common.{All, Bor, length}
 use Rattle.std.proofs.lemmas.List.{map_more}
 use Rattle.std.proofs.lemmas.List.Elements.{All-push}
 use Rattle.std.specs.Option.{option_map}
@@ -42,17 +43,21 @@ loop-name-preserved g c =
           (All-push (λ p. IsAfterSlash (base ++ (name ++ 47 ∷ [])) p.1) dirs (c.kept_above.result, length base)
           (placed-longer base (name ++ 47 ∷ []) dirs inv.placed) (after_slash-longer base (name ++ 47 ∷ []) (length base) inv.ends)));
       soft = subst (All IsSoft) (sym c.in_ok-push.ensures.errors)
-          (All-push IsSoft (map (option_map problem_of) c.loop-name.above.errors.items) (option_map problem_of c.in_ok-loaded.error) inv.soft c.in_ok-loaded.ensures.soft);
+          (All-push IsSoft (map (option_map problem_of) c.loop-name.above.errors.items)
+          (option_map problem_of c.in_ok-loaded.error) inv.soft c.in_ok-loaded.ensures.soft);
       dirs = λ tree loads honest are.
-          let one = c.one_load.ensures.one tree s path c.in_ok-loaded.loaded (loads path).0 (option_map problem_of c.in_ok-loaded.error) (loads path).1
+          let one = c.one_load.ensures.one tree s path c.in_ok-loaded.loaded (loads path).0
+          (option_map problem_of c.in_ok-loaded.error) (loads path).1
           (c.in_ok-loaded.ensures.read tree honest) (are path) in
           above-more loads s (codes "/") before name path base dirs c.push.new.self.dirs.items at inv.base (inv.dirs tree loads honest are)
           (c.in_ok-push.ensures.dirs ∙ ap (λ d. dirs ++ (d, length base) ∷ []) (c.kept_above.ensures ∙ ap (kept_above s) one.0))
           ∙ ap (λ ns. placed_along 1 (dirs_above loads s (directories_along (codes "/") ns)) ns) (sym more);
       errors = λ tree loads honest are.
-          let one = c.one_load.ensures.one tree s path c.in_ok-loaded.loaded (loads path).0 (option_map problem_of c.in_ok-loaded.error) (loads path).1
+          let one = c.one_load.ensures.one tree s path c.in_ok-loaded.loaded (loads path).0
+          (option_map problem_of c.in_ok-loaded.error) (loads path).1
           (c.in_ok-loaded.ensures.read tree honest) (are path) in
-          problems-more loads (codes "/") before name path (map (option_map problem_of) c.loop-name.above.errors.items) (map (option_map problem_of) c.push.new.self.errors.items)
+          problems-more loads (codes "/") before name path (map (option_map problem_of) c.loop-name.above.errors.items)
+          (map (option_map problem_of) c.push.new.self.errors.items)
           at (inv.errors tree loads honest are)
           (c.in_ok-push.ensures.errors ∙ ap (λ p. map (option_map problem_of) c.loop-name.above.errors.items ++ p ∷ []) one.1)
           ∙ ap (λ ns. problems_of_loads loads (directories_along (codes "/") ns)) (sym more);

@@ -18,7 +18,8 @@ invariant-loop-name g l = record {
   placed : All (λ p. IsAfterSlash (string_bytes l.above.base) p.1) l.above.dirs.items;
   soft : All IsSoft (map (option_map problem_of) l.above.errors.items);
   dirs : (tree : Tree) (loads : List ℕ → Loaded) → IsHonest g.F.Files l.files tree → AreLoads tree l.settings loads
-      → l.above.dirs.items ≡ placed_along 1 (dirs_above loads l.settings (directories_along (codes "/") (map (λ n. n.now) (take l.name-index l.names))))
+      → l.above.dirs.items ≡ placed_along 1 (dirs_above loads l.settings
+      (directories_along (codes "/") (map (λ n. n.now) (take l.name-index l.names))))
       (map (λ n. n.now) (take l.name-index l.names));
   errors : (tree : Tree) (loads : List ℕ → Loaded) → IsHonest g.F.Files l.files tree → AreLoads tree l.settings loads
       → map (option_map problem_of) l.above.errors.items

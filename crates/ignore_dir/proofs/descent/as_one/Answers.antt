@@ -5,7 +5,8 @@ use Rattle.std.specs.Option.{option_map, option_to_list}
 use Rattle.ignore_base.specs.Problem.{Problem, problem_of}
 use Rattle.ignore_dir.proofs.descent.as_one.Goals as goal
 
-collected-more : (ts : List (Option Problem)) (t : Option Problem) → filter_map (λ q. q) (ts ++ t ∷ []) ≡ filter_map (λ q. q) ts ++ option_to_list t
+collected-more : (ts : List (Option Problem)) (t : Option Problem)
+    → filter_map (λ q. q) (ts ++ t ∷ []) ≡ filter_map (λ q. q) ts ++ option_to_list t
 collected-more [] None = refl
 collected-more [] (Some p) = refl
 collected-more (None ∷ ts) t = collected-more ts t
@@ -17,4 +18,5 @@ loop-error-preserved c =
     let more = option_map problem_of c.in-Some.error in
     c.in_ok-push_some.ensures.added
     ∙ (ap (λ (l : List Problem). l ++ option_to_list more) c.loop-error.invariant
-    ∙ (sym (collected-more before more) ∙ ap (filter_map (λ q. q)) (sym (map-append (option_map problem_of) c.loop-error.yielded (c.in-Some.error ∷ [])))))
+    ∙ (sym (collected-more before more) ∙ ap (filter_map (λ q. q))
+    (sym (map-append (option_map problem_of) c.loop-error.yielded (c.in-Some.error ∷ [])))))

@@ -1,4 +1,4 @@
-use Rattle.std.proofs.Common.{◌≡◌, ◌++◌, [], ◌∷◌, map, Some, sym, ap, ◌∙◌, subst, refl}
+use Rattle.std.proofs.Common.{[], ◌∷◌, map, Some, sym, ap, ◌∙◌, subst}
 use Rattle.std.proofs.lemmas.List.{map-append}
 use Rattle.ignore_base.specs.Problem.{problem_of}
 use Rattle.ignore_dir.specs.Soft.{AllSoft, holds_memory}

@@ -1,15 +1,16 @@
-use Rattle.std.proofs.Common.{◌≡◌, ◌++◌, [], ◌∷◌, List, Option, None, Some, map, sym, ap, ◌∙◌, append_assoc, refl}
+use Rattle.std.proofs.Common.{◌≡◌, ◌++◌, ◌∷◌, List, Option, None, Some, map, ap, ◌∙◌, append_assoc, refl}
 use Rattle.std.specs.List.{filter_map}
 use Rattle.std.specs.Option.{option_to_list}
 use Rattle.std.specs.String.{string_bytes}
 use Rattle.ignore_base.specs.Problem.{Problem, problem_of}
-use Rattle.ignore_dir.specs.Query.{names_of, problem_above, problems_below}
+use Rattle.ignore_dir.specs.Query.{problem_above}
 use Rattle.ignore_dir.specs.Scene.{scene}
 use Rattle.ignore_dir.specs.Steps.{problems_from, reached}
 use Rattle.ignore_dir.proofs.WholeLemmas.{problems_steps, root-reached, rules_steps}
 use Rattle.ignore_dir.proofs.fresh.rules_verdict.Goals as goal
 
-first_problem : (p : Option Problem) (ps : List (Option Problem)) → option_to_list p ++ filter_map (λ q. q) ps ≡ filter_map (λ q. q) (p ∷ ps)
+first_problem : (p : Option Problem) (ps : List (Option Problem))
+    → option_to_list p ++ filter_map (λ q. q) ps ≡ filter_map (λ q. q) (p ∷ ps)
 first_problem None ps = refl
 first_problem (Some p) ps = refl
 
@@ -40,4 +41,5 @@ returns-clause-problems g c = λ tree loads honest are.
     ∙ (append_assoc (option_to_list above) (option_to_list root) (filter_map (λ p. p) rest)
     ∙ (ap (λ (l : List Problem). option_to_list above ++ l) (first_problem root rest)
     ∙ (first_problem above (root ∷ rest)
-    ∙ ap (λ (l : List (Option Problem)). filter_map (λ p. p) (above ∷ l)) (problems_steps world (reached d) c.args.path.now all c.requires.named names at))))))
+    ∙ ap (λ (l : List (Option Problem)). filter_map (λ p. p) (above ∷ l))
+    (problems_steps world (reached d) c.args.path.now all c.requires.named names at))))))

@@ -1,5 +1,8 @@
-use Rattle.ignore_dir.proofs.WholeLemmas.{entered-in, problems_below-is, rules_verdict-is, verdict-in}
+use Rattle.ignore_dir.proofs.WholeLemmas.{entered-in, problems_below-is, root-reached, rules_verdict-is, verdict-in}
 use Rattle.ignore_dir.proofs.laws.steps_are_whole.Goals as goal
+
+pub returns-clause-root : goal.returns-clause-root
+returns-clause-root c = root-reached
 
 pub returns-clause-verdict : goal.returns-clause-verdict
 returns-clause-verdict c = verdict-in

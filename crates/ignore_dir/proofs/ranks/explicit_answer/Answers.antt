@@ -11,7 +11,9 @@ returns-then-not-is_none-clause-answered c =
     let next : c.loop-i.i ≡ i + 1 = omega arith in
     let none = subst (λ n. explicit_answer (drop n c.args.explicit.now) c.args.path.now c.args.is_dir ≡ None) next c.loop-i.invariant in
     let found : is_none c.in_ok-answer.answer ≡ false = search rules in
-    explicit_found (λ g. g.now) c.args.explicit.now i c.index-explicit-i.result c.args.path.now c.args.is_dir c.in_ok-answer.answer (omega arith)
+    let answer = c.in_ok-answer.answer in
+    let path = c.args.path.now in
+    explicit_found (λ g. g.now) c.args.explicit.now i c.index-explicit-i.result path c.args.is_dir answer (omega arith)
     c.index-explicit-i.is none c.in_ok-answer.ensures.answered found
 
 pub loop-i-preserved : goal.loop-i-preserved
@@ -20,5 +22,7 @@ loop-i-preserved c =
     let next : c.loop-i.i ≡ i + 1 = omega arith in
     let none = subst (λ n. explicit_answer (drop n c.args.explicit.now) c.args.path.now c.args.is_dir ≡ None) next c.loop-i.invariant in
     let missed : is_none c.in_ok-answer.answer ≡ true = search rules in
-    explicit_missed (λ g. g.now) c.args.explicit.now i c.index-explicit-i.result c.args.path.now c.args.is_dir c.in_ok-answer.answer (omega arith)
+    let answer = c.in_ok-answer.answer in
+    let path = c.args.path.now in
+    explicit_missed (λ g. g.now) c.args.explicit.now i c.index-explicit-i.result path c.args.is_dir answer (omega arith)
     c.index-explicit-i.is none c.in_ok-answer.ensures.answered missed

@@ -8,4 +8,5 @@ use Rattle.ignore_dir.proofs.rule_files.add_present.Goals as goal
 pub returns-clause-soft : goal.returns-clause-soft
 returns-clause-soft g c =
     let a = c.in_ok-error.ensures.answered in
-    subst IsSoft (sym c.without_fault.ensures) (without_fault-soft (option_map problem_of c.in_ok-error.error) (AddsAnswer-soft c.args.path.now a.0 _ _ _ a.2))
+    subst IsSoft (sym c.without_fault.ensures) (without_fault-soft (option_map problem_of c.in_ok-error.error)
+    (AddsAnswer-soft c.args.path.now a.0 _ _ _ a.2))

@@ -9,15 +9,21 @@ use Rattle.ignore_dir.proofs.rule_files.rules_of_names.Goals as goal
 
 pub returns-then-is_empty-clause-read : goal.returns-then-is_empty-clause-read
 returns-then-is_empty-clause-read g c = λ tree h.
-    rw (no_names c.args.names.now (sym c.is_empty.ensures ∙ c.if-is_empty.true)) (rules_of_none tree c.args.settings.now c.args.dir.now c.empty.result c.empty.ensures)
+    rw (no_names c.args.names.now (sym c.is_empty.ensures ∙ c.if-is_empty.true))
+    (rules_of_none tree c.args.settings.now c.args.dir.now c.empty.result c.empty.ensures)
 
 pub loop-name-preserved : goal.loop-name-preserved
 loop-name-preserved g c = record {
   added = λ tree h.
       let path = c.as_str-in-loop-name.ensures.value ∙ (c.in_ok-path.ensures.joins ∙ ap (join_of c.args.dir.now) c.as_str.ensures) in
-      one_name_more tree c.args.settings.now c.args.dir.now c.args.names.now c.loop-name.name-index c.name-item.result _ _ _ _ _ _ c.loop-name-test.true c.name-item.is path (c.loop-name.invariant.added tree h) (c.in_ok-error.ensures.added tree h) c.in_ok-push_some.ensures.added;
-  soft = subst AllSoft (sym c.in_ok-push_some.ensures.added) (more_soft (map problem_of c.loop-name.errors.items) (option_map problem_of c.in_ok-error.error) c.loop-name.invariant.soft c.in_ok-error.ensures.soft);
+      one_name_more tree c.args.settings.now c.args.dir.now c.args.names.now c.loop-name.name-index c.name-item.result
+      _ _ _ _ _ _ c.loop-name-test.true c.name-item.is path (c.loop-name.invariant.added tree h)
+      (c.in_ok-error.ensures.added tree h) c.in_ok-push_some.ensures.added;
+  soft = subst AllSoft (sym c.in_ok-push_some.ensures.added)
+      (more_soft (map problem_of c.loop-name.errors.items)
+      (option_map problem_of c.in_ok-error.error) c.loop-name.invariant.soft c.in_ok-error.ensures.soft);
 }
 
 pub returns-clause-soft : goal.returns-clause-soft
-returns-clause-soft g c = subst IsSoft (sym c.joined.ensures) (joined-soft (map problem_of c.loop-name.errors.items) c.loop-name.invariant.soft)
+returns-clause-soft g c = subst IsSoft (sym c.joined.ensures)
+    (joined-soft (map problem_of c.loop-name.errors.items) c.loop-name.invariant.soft)

@@ -9,6 +9,8 @@ use Rattle.ignore_dir.proofs.rule_files.rules_of_names.Given as goal
 
 abbrev pub invariant-loop-name : goal.invariant-loop-name
 invariant-loop-name g l = record {
-  added : (tree : Tree) → IsHonest g.F.Files l.files tree → AddsFiles tree (map (join_of l.dir) (take l.name-index l.names)) (started l.settings l.dir) l.builder (map problem_of l.errors.items);
+  added : (tree : Tree) → IsHonest g.F.Files l.files tree
+      → AddsFiles tree (map (join_of l.dir) (take l.name-index l.names)) (started l.settings l.dir) l.builder
+      (map problem_of l.errors.items);
   soft : AllSoft (map problem_of l.errors.items);
 }

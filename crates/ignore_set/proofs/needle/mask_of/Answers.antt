@@ -14,4 +14,5 @@ loop-at-preserved c =
     let bit = c.first_bit-mask.ensures ∙ ap first_bit (take_rest bytes at) in
     let mask = c.loop-at.invariant ∙ ap (λ k. mask_of (drop k bytes)) next in
     or_comm c.loop-at.mask c.first_bit-mask.result
-    ∙ (ap (λ b. bit_or b c.loop-at.mask) bit ∙ (ap (λ m. bit_or (first_bit (drop at bytes)) m) mask ∙ sym (mask_step bytes at (omega arith))))
+    ∙ (ap (λ b. bit_or b c.loop-at.mask) bit ∙ (ap (λ m. bit_or (first_bit (drop at bytes)) m) mask
+    ∙ sym (mask_step bytes at (omega arith))))

@@ -10,7 +10,11 @@ returns-then-is_char_boundary-clause-found c =
     let text = c.args.text.now in
     let at = c.in_ok-at.at in
     let boundary = c.is_char_boundary.ensures.test.0 c.if-is_char_boundary.true in (
-      (take at text, IsUtf8-take text at c.utf8.text boundary, sym (ap (λ l. take at text ++ l) c.range_from.ensures.value ∙ take-append-drop at text)),
+      (
+        take at text,
+        IsUtf8-take text at c.utf8.text boundary,
+        sym (ap (λ l. take at text ++ l) c.range_from.ensures.value ∙ take-append-drop at text),
+      ),
       omega (arith, c.range_from.ensures.len, c.in_ok-at.ensures.0, c.in_ok-at.ensures.1),
     )
 

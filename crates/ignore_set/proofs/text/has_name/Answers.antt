@@ -4,7 +4,8 @@ use Rattle.ignore_set.proofs.text.has_name.Goals as goal
 
 pub returns-else-is_empty-clause-yes : goal.returns-else-is_empty-clause-yes
 returns-else-is_empty-clause-yes c =
-    found_name c.args.name.now c.args.text.now c.in-Some.rest.now c.ends_with.result c.in-Some.ensures.cases c.ends_with.ensures.cases c.utf8.text
+    let rest = c.in-Some.rest.now in
+    found_name c.args.name.now c.args.text.now rest c.ends_with.result c.in-Some.ensures.cases c.ends_with.ensures.cases c.utf8.text
 
 pub returns-in-None-clause-same : goal.returns-in-None-clause-same
 returns-in-None-clause-same c = λ e. absurd (c.in-None.ensures.cases [] e)

@@ -1,4 +1,4 @@
-use Rattle.std.proofs.Common.{◌≡◌, sym, ◌∙◌, ap}
+use Rattle.std.proofs.Common.{sym, ◌∙◌, ap}
 use Rattle.std.specs.Option.{option_copied}
 use Rattle.ignore_walk.proofs.ChildLemmas.{last_frame, no_last}
 use Rattle.ignore_walk.proofs.child.last_path.Goals as goal

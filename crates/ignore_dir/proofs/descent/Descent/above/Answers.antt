@@ -7,4 +7,5 @@ use Rattle.ignore_dir.proofs.descent.Descent.above.Goals as goal
 
 pub returns-clause-soft : goal.returns-clause-soft
 returns-clause-soft g c =
-    subst AllSoft (sym c.in_ok-errors.ensures.value) (joined_all-soft (map (option_map problem_of) c.in_ok-dirs.field-0.errors.items) c.in_ok-dirs.ensures.soft)
+    subst AllSoft (sym c.in_ok-errors.ensures.value)
+    (joined_all-soft (map (option_map problem_of) c.in_ok-dirs.field-0.errors.items) c.in_ok-dirs.ensures.soft)

@@ -12,7 +12,8 @@ returns-clause-dirs g c = λ tree loads honest are.
     let path = c.as_str.result.now in
     let text = string_bytes before.text in
     let size : c.len-offset.result ≡ length text = omega (arith, before.text.bytes.ok.0, c.len-offset.ensures) in
-    let one = c.one_load.ensures.one tree c.args.settings.now path c.in_ok-dir.dir (loads path).0 (option_map problem_of c.in_ok-dir.error) (loads path).1
+    let one = c.one_load.ensures.one tree c.args.settings.now path c.in_ok-dir.dir (loads path).0
+    (option_map problem_of c.in_ok-dir.error) (loads path).1
     (c.in_ok-dir.ensures.read tree honest) (are path) in
     c.in_ok-push.ensures.items
     ∙ (ap (λ n. before.dirs.items ++ (c.in_ok-dir.dir, n) ∷ []) size

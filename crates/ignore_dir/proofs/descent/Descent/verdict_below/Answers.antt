@@ -1,4 +1,5 @@
-use Rattle.std.proofs.Common.{◌≡◌, ◌++◌, ℕ, suc, zero, ◌+◌, ◌<◌, ◌≤◌, List, [], ◌∷◌, map, true, false, sym, ◌∙◌, ap, subst, append_assoc, drop, get_or, length, IfOk, Bor, refl, arith, Option, Some, None}
+use Rattle.std.proofs.Common.{◌≡◌, ◌++◌, ℕ, suc, zero, ◌+◌, ◌<◌, ◌≤◌, List, [], ◌∷◌, map, true, false, sym, ◌∙◌, ap, subst}
+use Rattle.std.proofs.Common.{append_assoc, drop, get_or, length, IfOk, Bor, refl, arith, Option, Some, None}
 use Rattle.std.proofs.lemmas.List.{append-nil, length-map}
 use Rattle.std.specs.List.{filter_map}
 use Rattle.std.specs.Option.{option_to_list}
@@ -14,7 +15,8 @@ use Rattle.ignore_dir.proofs.descent.Descent.verdict_below.Goals as goal
 abbrev nothing : Bor (List ℕ)
 nothing = record { ref_ptr = (0, 0); now = [] }
 
-name_at : (xs : List (Bor (List ℕ))) (i : ℕ) (d : Bor (List ℕ)) → i < length xs → (get_or xs i d).now ≡ get_or (map (λ n. n.now) xs) i ((get_or xs i d).now)
+name_at : (xs : List (Bor (List ℕ))) (i : ℕ) (d : Bor (List ℕ)) → i < length xs
+    → (get_or xs i d).now ≡ get_or (map (λ n. n.now) xs) i ((get_or xs i d).now)
 name_at [] i d lt = absurd (omega arith)
 name_at (x ∷ xs) zero d lt = refl
 name_at (x ∷ xs) (suc i) d lt = name_at xs i d (omega arith)
@@ -35,9 +37,11 @@ returns-then-i-names-clause-value g c = λ tree loads honest are.
     let size : length (map (λ n. n.now) names) ≡ length names = length-map names (λ n. n.now) in
     let lt : i < length names = c.loop-i-test.true in
     let name = (get_or names i nothing).now in
-    let last = verdict_last loads s o c.args.is_dir (reached c.loop-i.self) (map (λ n. n.now) names) i name (omega arith) (name_at names i nothing lt)
+    let last = verdict_last loads s o c.args.is_dir (reached c.loop-i.self) (map (λ n. n.now) names) i name (omega arith)
+    (name_at names i nothing lt)
     (c.if-i-names.true ∙ sym size) in
-    subst (λ (w : Verdict). IfOk c.look.result (λ v. v ≡ w)) (last ∙ sym (c.loop-i.invariant.verdict tree loads honest are)) c.look.ensures.value
+    subst (λ (w : Verdict). IfOk c.look.result (λ v. v ≡ w)) (last
+    ∙ sym (c.loop-i.invariant.verdict tree loads honest are)) c.look.ensures.value
 
 pub returns-then-i-names-clause-problems : goal.returns-then-i-names-clause-problems
 returns-then-i-names-clause-problems g c = λ tree loads honest are.
@@ -48,11 +52,13 @@ returns-then-i-names-clause-problems g c = λ tree loads honest are.
     let size : length (map (λ n. n.now) names) ≡ length names = length-map names (λ n. n.now) in
     let lt : i < length names = c.loop-i-test.true in
     let name = (get_or names i nothing).now in
-    let none = problems_last loads s o (reached c.loop-i.self) (map (λ n. n.now) names) i name (omega arith) (name_at names i nothing lt) (c.if-i-names.true ∙ sym size) in
+    let none = problems_last loads s o (reached c.loop-i.self) (map (λ n. n.now) names) i name (omega arith)
+    (name_at names i nothing lt) (c.if-i-names.true ∙ sym size) in
     on_ok c.look.result
     (ap (λ v. map problem_of v.items) c.look.ensures.errors
     ∙ sym (c.loop-i.invariant.problems tree loads honest are
-    ∙ (ap (λ (ps : List (Option Problem)). map problem_of c.loop-i.self.errors.items ++ filter_map (λ p. p) ps) none ∙ append-nil (map problem_of c.loop-i.self.errors.items))))
+    ∙ (ap (λ (ps : List (Option Problem)). map problem_of c.loop-i.self.errors.items ++ filter_map (λ p. p) ps) none
+    ∙ append-nil (map problem_of c.loop-i.self.errors.items))))
 
 pub returns-then-is_ignore-clause-value : goal.returns-then-is_ignore-clause-value
 returns-then-is_ignore-clause-value g c = λ tree loads honest are.
@@ -65,7 +71,8 @@ returns-then-is_ignore-clause-value g c = λ tree loads honest are.
     let name = (get_or names i nothing).now in
     let ignored : is_ignore (verdict_at s o (entry (reached c.loop-i.self) name) true) ≡ true =
     sym (ap is_ignore c.in_ok-verdict.ensures.value) ∙ (sym c.is_ignore.ensures ∙ c.if-is_ignore.true) in
-    let step = verdict_step loads s o c.args.is_dir (reached c.loop-i.self) (map (λ n. n.now) names) i name true (omega arith) (name_at names i nothing lt)
+    let step = verdict_step loads s o c.args.is_dir (reached c.loop-i.self) (map (λ n. n.now) names) i name true
+    (omega arith) (name_at names i nothing lt)
     (λ e. c.if-i-names.false (e ∙ size)) ignored in
     sym (c.loop-i.invariant.verdict tree loads honest are ∙ step)
 
@@ -80,11 +87,13 @@ returns-then-is_ignore-clause-problems g c = λ tree loads honest are.
     let name = (get_or names i nothing).now in
     let ignored : is_ignore (verdict_at s o (entry (reached c.loop-i.self) name) true) ≡ true =
     sym (ap is_ignore c.in_ok-verdict.ensures.value) ∙ (sym c.is_ignore.ensures ∙ c.if-is_ignore.true) in
-    let none = problems_step loads s o (reached c.loop-i.self) (map (λ n. n.now) names) i name true (omega arith) (name_at names i nothing lt)
+    let none = problems_step loads s o (reached c.loop-i.self) (map (λ n. n.now) names) i name true (omega arith)
+    (name_at names i nothing lt)
     (λ e. c.if-i-names.false (e ∙ size)) ignored in
     ap (λ v. map problem_of v.items) c.in_ok-verdict.ensures.errors
     ∙ sym (c.loop-i.invariant.problems tree loads honest are
-    ∙ (ap (λ (ps : List (Option Problem)). map problem_of c.loop-i.self.errors.items ++ filter_map (λ p. p) ps) none ∙ append-nil (map problem_of c.loop-i.self.errors.items)))
+    ∙ (ap (λ (ps : List (Option Problem)). map problem_of c.loop-i.self.errors.items ++ filter_map (λ p. p) ps) none
+    ∙ append-nil (map problem_of c.loop-i.self.errors.items)))
 
 pub loop-i-preserved : goal.loop-i-preserved
 loop-i-preserved g c =
@@ -106,24 +115,26 @@ loop-i-preserved g c =
       placed = c.in_ok-enter.ensures.placed;
       soft = λ h. c.in_ok-enter.ensures.soft (subst AllSoft (sym same) (inv.soft h));
       verdict = λ tree loads honest are.
-          let step = verdict_step loads s o c.args.is_dir at p i name false (omega arith) (name_at names i nothing lt) (λ e. c.if-i-names.false (e ∙ size)) kept in
+          let step = verdict_step loads s o c.args.is_dir at p i name false (omega arith) (name_at names i nothing lt)
+          (λ e. c.if-i-names.false (e ∙ size)) kept in
           inv.verdict tree loads honest are
           ∙ (step
           ∙ ap (λ (r : Reached). verdict_from loads s o c.args.is_dir r (drop (i + 1) p))
           (sym (c.in_ok-enter.ensures.entered tree loads honest are ∙ ap (entered loads) looked)));
       problems = λ tree loads honest are.
-          let step = problems_step loads s o at p i name false (omega arith) (name_at names i nothing lt) (λ e. c.if-i-names.false (e ∙ size)) kept in
+          let step = problems_step loads s o at p i name false (omega arith) (name_at names i nothing lt)
+          (λ e. c.if-i-names.false (e ∙ size)) kept in
           let before = map problem_of c.loop-i.self.errors.items in
           let after = map problem_of c.enter.new.self.errors.items in
           let load = (loads (entry at name).path).1 in
           let rest = problems_from loads s o (entered loads (entry at name)) (drop (i + 1) p) in
-          let told : after ≡ before ++ option_to_list load =
+          let reported : after ≡ before ++ option_to_list load =
           c.in_ok-enter.ensures.problems tree loads honest are
           ∙ (ap (λ (l : List Problem). l ++ option_to_list (loads (string_bytes c.look-in-loop-i.new.self.path)).1) same
           ∙ ap (λ (r : Reached). before ++ option_to_list (loads r.path).1) looked) in
           inv.problems tree loads honest are
           ∙ (ap (λ (ps : List (Option Problem)). before ++ filter_map (λ p. p) ps) step
-          ∙ (problems_more before after load rest told
+          ∙ (problems_more before after load rest reported
           ∙ ap (λ (r : Reached). after ++ filter_map (λ p. p) (problems_from loads s o r (drop (i + 1) p)))
           (sym (c.in_ok-enter.ensures.entered tree loads honest are ∙ ap (entered loads) looked))));
     }
@@ -134,13 +145,16 @@ returns-clause-value g c = λ tree loads honest are.
     let size : length (map (λ n. n.now) names) ≡ length names = length-map names (λ n. n.now) in
     let done : length names ≤ c.loop-i.i = c.loop-i-test.false in
     sym (c.loop-i.invariant.verdict tree loads honest are
-    ∙ verdict_end loads c.args.settings.now c.args.outside.now c.args.is_dir (reached c.loop-i.self) (map (λ n. n.now) names) c.loop-i.i (omega arith))
+    ∙ verdict_end loads c.args.settings.now c.args.outside.now c.args.is_dir (reached c.loop-i.self)
+    (map (λ n. n.now) names) c.loop-i.i (omega arith))
 
 pub returns-clause-problems : goal.returns-clause-problems
 returns-clause-problems g c = λ tree loads honest are.
     let names = c.args.names.now in
     let size : length (map (λ n. n.now) names) ≡ length names = length-map names (λ n. n.now) in
     let done : length names ≤ c.loop-i.i = c.loop-i-test.false in
-    let none = problems_end loads c.args.settings.now c.args.outside.now (reached c.loop-i.self) (map (λ n. n.now) names) c.loop-i.i (omega arith) in
+    let none = problems_end loads c.args.settings.now c.args.outside.now (reached c.loop-i.self)
+    (map (λ n. n.now) names) c.loop-i.i (omega arith) in
     sym (c.loop-i.invariant.problems tree loads honest are
-    ∙ (ap (λ (ps : List (Option Problem)). map problem_of c.loop-i.self.errors.items ++ filter_map (λ p. p) ps) none ∙ append-nil (map problem_of c.loop-i.self.errors.items)))
+    ∙ (ap (λ (ps : List (Option Problem)). map problem_of c.loop-i.self.errors.items ++ filter_map (λ p. p) ps) none
+    ∙ append-nil (map problem_of c.loop-i.self.errors.items)))

@@ -1,4 +1,4 @@
-use Rattle.std.proofs.Common.{◌≡◌, ◌++◌, drop, map, ℕ, List, All, Bor}
+use Rattle.std.proofs.Common.{◌≡◌, ◌++◌, drop, map, ℕ, List, All}
 use Rattle.std.specs.List.{filter_map}
 use Rattle.std.specs.String.{string_bytes}
 use Rattle.ignore_base.specs.Problem.{problem_of}
@@ -18,6 +18,8 @@ invariant-loop-i g l = record {
       → verdict_from loads l.settings l.outside l.is_dir (reached l.fn.self) (map (λ n. n.now) l.names)
       ≡ verdict_from loads l.settings l.outside l.is_dir (reached l.self) (drop l.i (map (λ n. n.now) l.names));
   problems : (tree : Tree) (loads : List ℕ → Loaded) → IsHonest g.F.Files l.files tree → AreLoads tree l.settings loads
-      → map problem_of l.fn.self.errors.items ++ filter_map (λ p. p) (problems_from loads l.settings l.outside (reached l.fn.self) (map (λ n. n.now) l.names))
-      ≡ map problem_of l.self.errors.items ++ filter_map (λ p. p) (problems_from loads l.settings l.outside (reached l.self) (drop l.i (map (λ n. n.now) l.names)));
+      → map problem_of l.fn.self.errors.items ++ filter_map (λ p. p)
+      (problems_from loads l.settings l.outside (reached l.fn.self) (map (λ n. n.now) l.names))
+      ≡ map problem_of l.self.errors.items ++ filter_map (λ p. p)
+      (problems_from loads l.settings l.outside (reached l.self) (drop l.i (map (λ n. n.now) l.names)));
 }

@@ -13,10 +13,15 @@ returns c = λ ms is.
     let n = c.under_ends-name.result in
     let e = c.under_ends-end.result in
     let utf8 = c.utf8.text in
-    let first = stands_max (chars text) is_dir ms w n (whole_stands index.whole text is_dir ms utf8 is.whole) (name_stands index.names text is_dir ms n utf8 is.names c.under_ends-name.ensures.found) in
-    let all = stands_max (chars text) is_dir ms (max w n) e first (end_stands index.ends text is_dir ms e utf8 is.ends c.under_ends-end.ensures.found) in
+    let first = stands_max (chars text) is_dir ms w n (whole_stands index.whole text is_dir ms utf8 is.whole)
+    (name_stands index.names text is_dir ms n utf8 is.names c.under_ends-name.ensures.found) in
+    let all = stands_max (chars text) is_dir ms (max w n) e first
+    (end_stands index.ends text is_dir ms e utf8 is.ends c.under_ends-end.ensures.found) in
     record {
-      above = exact_above index text is_dir ms n e c.max-2.result utf8 is c.under_ends-name.ensures.greatest c.under_ends-end.ensures.greatest
-          (omega (arith, c.max.ensures, c.max-2.ensures, c.under-whole.ensures)) (omega (arith, c.max.ensures, c.max-2.ensures)) (omega (arith, c.max.ensures, c.max-2.ensures));
-      last = subst (λ k. Stands (chars text) is_dir ms k) (sym (c.max-2.ensures ∙ ap (λ k. max k e) (c.max.ensures ∙ ap (λ k. max k n) c.under-whole.ensures))) all;
+      above = exact_above index text is_dir ms n e c.max-2.result utf8 is
+          c.under_ends-name.ensures.greatest c.under_ends-end.ensures.greatest
+          (omega (arith, c.max.ensures, c.max-2.ensures, c.under-whole.ensures))
+          (omega (arith, c.max.ensures, c.max-2.ensures)) (omega (arith, c.max.ensures, c.max-2.ensures));
+      last = subst (λ k. Stands (chars text) is_dir ms k)
+          (sym (c.max-2.ensures ∙ ap (λ k. max k e) (c.max.ensures ∙ ap (λ k. max k n) c.under-whole.ensures))) all;
     }

@@ -15,7 +15,8 @@ returns-then-self-mask c =
       λ t. absurd (false≢true t),
       λ h. absurd (c.if-self-mask.true (
           ap (λ m. bit_or m c.args.mask) c.self.invariant
-          ∙ (ap (λ m. bit_or (mask_of needle) m) c.requires ∙ (inside_covered text needle (subst (λ n. HasSubslice text n) (sym same) h) ∙ sym c.requires)))),
+          ∙ (ap (λ m. bit_or (mask_of needle) m) c.requires
+          ∙ (inside_covered text needle (subst (λ n. HasSubslice text n) (sym same) h) ∙ sym c.requires)))),
     )
 
 pub returns : goal.returns

@@ -20,4 +20,5 @@ pub returns-else-fits-clause-greatest : goal.returns-else-fits-clause-greatest
 returns-else-fits-clause-greatest c = λ end fits utf8 size.
     let cut = fits_cut c.args.ending end c.args.text.now fits in
     let same = some_same c.in-Some.end.now end (c.in-Some.ensures.each cut.0 end cut.1 utf8 size) in
-    absurd (false≢true (sym c.if-fits.false ∙ c.fits.ensures.no (fits_same c.args.ending c.args.text.now end c.in-Some.end.now (sym same) fits)))
+    absurd (false≢true (sym c.if-fits.false ∙ c.fits.ensures.no
+    (fits_same c.args.ending c.args.text.now end c.in-Some.end.now (sym same) fits)))

@@ -14,4 +14,5 @@ returns-else-self c =
     let R : Reading → Type 0 = λ r. Matches r (chars text) in
     let here = subst R (sym c.self.view_is) m in
     let exact = subst (λ fold. glob_matches fold (tokens_view c.self.inside.tokens.items) (chars text)) c.if-self.false here in
-    of_text (map string_bytes needles.items) given each text fits (subst (λ ts. glob_matches false (tokens_view ts) (chars text)) (sym c.deref.ensures.value) exact)) c.needles_of.ensures
+    of_text (map string_bytes needles.items) given each text fits
+    (subst (λ ts. glob_matches false (tokens_view ts) (chars text)) (sym c.deref.ensures.value) exact)) c.needles_of.ensures

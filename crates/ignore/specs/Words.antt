@@ -1,0 +1,13 @@
+-- The words of clauses from the crates below, in one place: errors, paths, matches, rules, types.
+pub use Rattle.ignore_base.specs.Text.{Bytes, Chars, Path}
+pub use Rattle.ignore_base.specs.Paths.{file_name_of, folder_of, join_of}
+pub use Rattle.ignore_base.specs.Problem.{Problem, at_depth, at_path, io, loop, memory, problem_of}
+pub use Rattle.ignore_base.specs.Match.{inner, is_ignore, is_none, is_whitelist}
+pub use Rattle.ignore_base.specs.declared.match_result.Match.{Match}
+pub use Rattle.ignore_rules.specs.Rules.{AddsLine, Building, Refuses, Rule, Ruleset, begun, built}
+pub use Rattle.ignore_rules.specs.RuleFile.{AddsAnswer, AddsFile}
+pub use Rattle.ignore_rules.specs.Matchers.{BuildsAnswer, BuildsGlobal, IsMatcherOf}
+pub use Rattle.ignore_rules.specs.Answer.{answer}
+pub use Rattle.ignore_rules.specs.Parents.{answer_with_parents, is_under_root}
+pub use Rattle.ignore_rules.specs.Overrides.{override_answer}
+pub use Rattle.ignore_types.specs.TypeMatch.{Matcher, type_answer}

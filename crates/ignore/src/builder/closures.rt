@@ -1,0 +1,69 @@
+//! An order, a filter, and what a walk asks of them.
+ghost use Rattle.std.specs.Prelude.{◌≡◌, MatchOption};
+ghost use Rattle.ignore_walk.specs.declared.callbacks.Order.TheVariants.{ByName, ByPath};
+
+use crate::builder::WalkBuilder;
+use crate::closures::{Compare, Filter, Keep, Sorter};
+use ignore_walk::{Callbacks, DirEntry, Order};
+use std::cmp::Ordering;
+
+impl WalkBuilder {
+    /// Sorts the entries of each directory by their names, by a comparison that the caller has
+    /// boxed. It replaces any order that was chosen before; at first there is none, and entries
+    /// come as they are listed. Entries that tie stay as they are listed, and faults come first.
+    pub fn sort_by_file_name(&mut self, compare: Compare) -> &mut Self
+        requires { Compare.IsAlwaysCallable compare }
+        ensures same_reference { result.ghost_name ≡ self.entry.ghost_name }
+        ensures rest { result.now ≡ record self.old { sorter = result.now.sorter } }
+        ensures chosen { MatchOption result.now.sorter ⊥ (λ s. (s.order ≡ ByName) × (s.compare ≡ compare)) }
+    {
+        self.sorter = Some(Sorter::new(Order::ByName, compare));
+        self
+    }
+
+    /// Sorts the entries of each directory by their paths. Otherwise it is as `sort_by_file_name`.
+    pub fn sort_by_file_path(&mut self, compare: Compare) -> &mut Self
+        requires { Compare.IsAlwaysCallable compare }
+        ensures same_reference { result.ghost_name ≡ self.entry.ghost_name }
+        ensures rest { result.now ≡ record self.old { sorter = result.now.sorter } }
+        ensures chosen { MatchOption result.now.sorter ⊥ (λ s. (s.order ≡ ByPath) × (s.compare ≡ compare)) }
+    {
+        self.sorter = Some(Sorter::new(Order::ByPath, compare));
+        self
+    }
+
+    /// Yields only the entries below a root that a filter accepts, which the caller has boxed; a
+    /// directory that it rejects isn't entered. It is asked after all rules, and replaces any
+    /// filter that was set before.
+    pub fn filter_entry(&mut self, keep: Keep) -> &mut Self
+        requires { Keep.IsAlwaysCallable keep }
+        ensures same_reference { result.ghost_name ≡ self.entry.ghost_name }
+        ensures rest { result.now ≡ record self.old { filter = result.now.filter } }
+        ensures chosen { MatchOption result.now.filter ⊥ (λ f. f.keep ≡ keep) }
+    {
+        self.filter = Some(Filter::new(keep));
+        self
+    }
+}
+
+impl Callbacks for WalkBuilder {
+    ghost use Rattle.ignore.specs.Closures.{Filters, Compares};
+
+    ghost filters = { λ b keep. Filters b.filter (λ f e yes. Keep.post f.keep e yes) keep };
+
+    ghost compares = { λ b cmp. Compares b.sorter (λ s x y order. Compare.post s.compare x y order) cmp };
+
+    fn filter(&self, entry: &DirEntry) -> bool {
+        match &self.filter {
+            None => true,
+            Some(filter) => (filter.keep)(entry),
+        }
+    }
+
+    fn compare(&self, a: &str, b: &str) -> Ordering {
+        match &self.sorter {
+            None => Ordering::Equal,
+            Some(sorter) => (sorter.compare)(a, b),
+        }
+    }
+}

@@ -1,0 +1,59 @@
+//! The settings of a builder, as plain data.
+ghost use Rattle.std.specs.Prelude.{◌≡◌, IfOk};
+ghost use Rattle.ignore.specs.Builder.{unset};
+
+mod matchers;
+mod outside;
+
+use crate::limited::Limited;
+use ignore_dir::{Matchers, Names, Settings};
+use ignore_files::Name;
+use ignore_rules::overrides::Override;
+use ignore_types::types::Types;
+use std::alloc::{AllocError, Global};
+
+/// All settings of a builder but its closures, which contracts see as plain data.
+#[derive(Drop)]
+pub struct WalkOptions {
+    pub(crate) roots: Names,
+    pub(crate) settings: Limited,
+    pub(crate) overrides: Override,
+    pub(crate) types: Types,
+    pub(crate) explicit: Matchers,
+    pub(crate) current_dir: Option<Name>,
+    pub(crate) limit: u64,
+    pub(crate) same_file_system: bool,
+}
+
+impl WalkOptions {
+    /// The settings at first, without roots. It allocates nothing.
+    pub(crate) fn unset(alloc: Global) -> WalkOptions
+        ensures { result ≡ unset }
+    {
+        WalkOptions {
+            roots: Names::new(Vec::new(alloc)),
+            settings: Limited {
+                inner: Settings::standard(alloc),
+                alloc,
+            },
+            overrides: Override::empty(alloc),
+            types: Types::empty(alloc),
+            explicit: Matchers::new(Vec::new(alloc)),
+            current_dir: None,
+            limit: u64::MAX,
+            same_file_system: false,
+        }
+    }
+
+    /// A copy of the roots.
+    pub(crate) fn root_names(&self) -> Result<Vec<Name>, AllocError>
+        ensures { IfOk result (λ names. names.items ≡ self.now.roots) }
+    {
+        let alloc = self.settings.allocator();
+        let mut names = Vec::new(alloc);
+        for root in self.roots.as_slice() {
+            names.push(Name::new(String::from_str(alloc, root.as_str())?))?;
+        }
+        Ok(names)
+    }
+}

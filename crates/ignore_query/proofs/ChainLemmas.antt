@@ -1,0 +1,242 @@
+-- The chain of a path from kept directories, and offsets in its text.
+use Rattle.std.proofs.Common.{◌≡◌, ℕ, suc, zero, ◌+◌, ◌<◌, ◌≤◌, List, [], ◌∷◌, ◌++◌, length, take, get_or, reverse, All, Some}
+use Rattle.std.proofs.Common.{Bool, true, string_bytes, refl, sym, ap, ◌∙◌, subst, append_assoc, add-one, arith}
+use Rattle.std.proofs.lemmas.List.{append-nil, length-append, reverse-append}
+use Rattle.std.specs.Str.{IsCharBoundary, IsUtf8}
+use Rattle.ignore_base.specs.Paths.{IsName, JoinsName, directory_of, join_of, joined}
+use Rattle.ignore_dir.specs.declared.dir.Dir.{Dir}
+use Rattle.ignore_dir.specs.Above.{directories_along, dirs_above, names_above, path_along, paths_above}
+use Rattle.ignore_dir.specs.Chains.{placed_along, slashed}
+use Rattle.ignore_dir.specs.Lists.{IsAfterSlash, Placed}
+use Rattle.ignore_dir.specs.Scene.{Scene, dirs_at, names_to, path_verdict}
+use Rattle.ignore_dir.specs.Steps.{Reached, entered, entry, reached_in, verdict_at}
+use Rattle.ignore_dir.specs.declared.outside.Outside.{Outside}
+use Rattle.ignore_dir.specs.declared.settings.Settings.{Settings}
+use Rattle.ignore_dir.specs.Verdict.{placed_verdict}
+use Rattle.ignore_dir.proofs.BoundaryLemmas.{All-reverse, boundaries-after_slashes}
+use Rattle.ignore_dir.proofs.SlashLemmas.{after_slash-end, after_slash-longer, placed-longer}
+use Rattle.ignore_query.specs.declared.kept.Cache.{Cache}
+use Rattle.ignore_query.specs.declared.kept.Kept.TheVariants.{Loaded}
+use Rattle.ignore_query.specs.Agrees.{Agrees, IsLoaded, kept_at}
+
+-- Names.
+
+pub front_names : (front rest : List (List ℕ)) → All IsName (front ++ rest) → All IsName front
+front_names [] rest h k d l = absurd (omega (arith, l))
+front_names (x ∷ xs) rest h zero d l = h zero d (omega (arith, l))
+front_names (x ∷ xs) rest h (suc k) d l = front_names xs rest (λ j e m. h (suc j) e (omega (arith, m))) k d (omega (arith, l))
+
+take_next-suc : (names : List (List ℕ)) (i : ℕ) (n : List ℕ) → i < length names → n ≡ get_or names i n
+    → take (suc i) names ≡ take i names ++ n ∷ []
+take_next-suc [] i n lt is = absurd (omega arith)
+take_next-suc (x ∷ xs) zero n lt is = ap (λ y. y ∷ []) (sym is)
+take_next-suc (x ∷ xs) (suc i) n lt is = ap (λ l. x ∷ l) (take_next-suc xs i n (omega arith) is)
+
+pub take_next : (names : List (List ℕ)) (i : ℕ) (n : List ℕ) → i < length names → n ≡ get_or names i n
+    → take (i + 1) names ≡ take i names ++ n ∷ []
+take_next names i n lt is = rw add-one (take_next-suc names i n lt is)
+
+pub take_names : (names : List (List ℕ)) (i : ℕ) → All IsName names → All IsName (take i names)
+take_names [] zero h k d l = h k d l
+take_names [] (suc i) h k d l = h k d l
+take_names (x ∷ xs) zero h k d l = absurd (omega (arith, l))
+take_names (x ∷ xs) (suc i) h zero d l = h zero d (omega (arith, l))
+take_names (x ∷ xs) (suc i) h (suc k) d l = take_names xs i (λ j e m. h (suc j) e (omega (arith, m))) k d (omega (arith, l))
+
+pub take_all : (names : List (List ℕ)) (i : ℕ) → length names ≤ i → take i names ≡ names
+take_all [] zero le = refl
+take_all [] (suc i) le = refl
+take_all (x ∷ xs) zero le = absurd (omega arith)
+take_all (x ∷ xs) (suc i) le = ap (λ l. x ∷ l) (take_all xs i (omega arith))
+
+pub slashed-append : (a b : List (List ℕ)) → slashed (a ++ b) ≡ slashed a ++ slashed b
+slashed-append [] b = refl
+slashed-append (x ∷ xs) b = ap (λ t. x ++ 47 ∷ t) (slashed-append xs b) ∙ sym (append_assoc x (47 ∷ slashed xs) (slashed b))
+
+pub joined-slashed : (names : List (List ℕ)) (name : List ℕ) → joined (names ++ name ∷ []) ≡ slashed names ++ name
+joined-slashed [] name = refl
+joined-slashed (a ∷ []) name = sym (append_assoc a (47 ∷ []) name)
+joined-slashed (a ∷ (b ∷ names)) name =
+    ap (λ t. a ++ 47 ∷ t) (joined-slashed (b ∷ names) name) ∙ sym (append_assoc a (47 ∷ slashed (b ∷ names)) name)
+
+-- Kept directories.
+
+-- those on the way to a kept one are kept
+pub loaded_front : (g : Scene) (c : Cache) (front rest : List (List ℕ)) → Agrees g c → All IsName (front ++ rest)
+    → IsLoaded c (front ++ rest) → IsLoaded c front
+loaded_front g c front [] a names h = subst (IsLoaded c) (append-nil front) h
+loaded_front g c front (n ∷ rest) a names h =
+    let move : (front ++ n ∷ []) ++ rest ≡ front ++ n ∷ rest = append_assoc front (n ∷ []) rest in
+    let next = loaded_front g c (front ++ n ∷ []) rest a (subst (All IsName) (sym move) names) (subst (IsLoaded c) (sym move) h) in
+    a.inside (front ++ n ∷ []) (Loaded next.0) (front_names (front ++ n ∷ []) rest (subst (All IsName)
+    (sym move) names)) next.1 front n refl
+
+pub take_drop : (names : List (List ℕ)) (i : ℕ) → (rest : List (List ℕ)) × (names ≡ take i names ++ rest)
+take_drop [] zero = ([], refl)
+take_drop [] (suc i) = ([], refl)
+take_drop (x ∷ xs) zero = (x ∷ xs, refl)
+take_drop (x ∷ xs) (suc i) = let r = take_drop xs i in (r.0, ap (λ l. x ∷ l) r.1)
+
+pub loaded_take : (g : Scene) (c : Cache) (names : List (List ℕ)) (i : ℕ) → Agrees g c → All IsName names → IsLoaded c names
+    → IsLoaded c (take i names)
+loaded_take g c names i a clean h =
+    let r = take_drop names i in
+    loaded_front g c (take i names) r.0 a (subst (All IsName) r.1 clean) (subst (IsLoaded c) r.1 h)
+
+-- the directory with these names, in the chain of those below it
+abbrev pub here : Scene → List (List ℕ) → Placed
+here g front = ((g.loads (path_along g.root front)).0, length (reached_in g front).text)
+
+same_placed : (a b : Dir) (m n : ℕ) → a ≡ b → m ≡ n → let x : Placed = (a, m) in let y : Placed = (b, n) in x ≡ y
+same_placed a b m n e f = rw (e, f) refl
+
+-- a kept directory at its offset
+pub kept_here : (g : Scene) (c : Cache) (front : List (List ℕ)) (dir : Dir) (base key : List ℕ) → Agrees g c → All IsName front
+    → kept_at c front ≡ Some (Loaded dir)
+    → base ≡ string_bytes c.base → key ≡ slashed front → let at : Placed = (dir, length base + length key) in at ≡ here g front
+kept_here g c front dir base key a names h b k =
+    let above = a.above (a.first front (Loaded dir) h) in
+    let text : base ++ key ≡ (reached_in g front).text =
+    ap (λ t. t ++ key) (b ∙ above.base) ∙ (ap (λ t. (47 ∷ slashed (names_above g.tree g.settings g.root)) ++ t) k
+    ∙ ap (λ t. 47 ∷ t) (sym (slashed-append (names_above g.tree g.settings g.root) front))) in
+    same_placed _ _ _ _ (a.right front (Loaded dir) names h).1 (sym (length-append base key) ∙ ap (λ (t : List ℕ). length t) text)
+
+turned : (chain : List Placed) (x : Placed) → reverse (chain ++ x ∷ []) ≡ x ∷ reverse chain
+turned chain x = reverse-append chain (x ∷ [])
+
+-- what is reached at the root, where the directories above it were placed
+abbrev pub RootLaw : Scene → Type 0
+RootLaw g = (dirs : List Placed) (text path : List ℕ)
+    → dirs ≡ placed_along 1 (dirs_above g.loads g.settings (paths_above g.tree g.settings g.root))
+    (names_above g.tree g.settings g.root) ++ ((g.loads g.root).0, length text) ∷ []
+    → text ≡ 47 ∷ slashed (names_above g.tree g.settings g.root) → path ≡ g.root
+    → let at : Reached = record { chain = reverse dirs; text = text; path = path } in
+    at ≡ reached_in g []
+
+-- the directories above the root, before the root
+pub chain_start : (g : Scene) (c : Cache) → RootLaw g → Agrees g c → c.has_above ≡ true
+    → here g [] ∷ reverse c.above.items ≡ (reached_in g []).chain
+chain_start g c law a h =
+    let above = a.above h in
+    let text : List ℕ = 47 ∷ slashed (names_above g.tree g.settings g.root) in
+    let root : Placed = ((g.loads g.root).0, length text) in
+    let is = law (c.above.items ++ root ∷ []) text g.root (ap (λ (l : List Placed). l ++ root ∷ []) above.dirs) refl refl in
+    ap (λ n. let x : Placed = ((g.loads g.root).0, n) in x ∷ reverse c.above.items) (ap (λ (r : Reached). length r.text) (sym is))
+    ∙ (sym (turned c.above.items root) ∙ ap (λ (r : Reached). r.chain) is)
+
+-- one directory more
+pub chain_next : (g : Scene) (front : List (List ℕ)) (n : List ℕ) (chain after : List Placed)
+    → entered g.loads (entry (reached_in g front) n) ≡ reached_in g (front ++ n ∷ [])
+    → here g front ∷ reverse chain ≡ (reached_in g front).chain → after ≡ chain ++ here g front ∷ []
+    → here g (front ++ n ∷ []) ∷ reverse after ≡ (reached_in g (front ++ n ∷ [])).chain
+chain_next g front n chain after law old put =
+    let before : reverse after ≡ (reached_in g front).chain = ap reverse put ∙ (turned chain (here g front) ∙ old) in
+    ap (λ (l : List Placed). here g (front ++ n ∷ []) ∷ l) before
+    ∙ (ap (λ (r : Reached). let l : List Placed = ((g.loads r.path).0, length r.text) ∷ (reached_in g front).chain in l) (sym law)
+    ∙ ap (λ (r : Reached). r.chain) law)
+
+-- the last directory
+pub chain_end : (g : Scene) (front : List (List ℕ)) (chain after : List Placed)
+    → here g front ∷ reverse chain ≡ (reached_in g front).chain → after ≡ chain ++ here g front ∷ []
+    → reverse after ≡ (reached_in g front).chain
+chain_end g front chain after old put = ap reverse put ∙ (turned chain (here g front) ∙ old)
+
+-- Offsets.
+
+All-cons : {A : Type 0} (P : A → Type 0) (x : A) (xs : List A) → P x → All P xs → All P (x ∷ xs)
+All-cons P x xs h k zero d l = h
+All-cons P x xs h k (suc i) d l = k i d (omega (arith, l))
+
+All-nil : {A : Type 0} (P : A → Type 0) → All P []
+All-nil P k d l = absurd (omega (arith, l))
+
+-- each offset of directories along names is after a slash of the text of the names
+placed-after : (text : List ℕ) (offset : ℕ) (dirs : List Dir) (names : List (List ℕ)) → offset ≡ length text
+    → IsAfterSlash text (length text)
+    → All (λ p. IsAfterSlash (text ++ slashed names) p.1) (placed_along offset dirs names)
+placed-after text offset [] names e h = All-nil (λ (p : Placed). IsAfterSlash (text ++ slashed names) p.1)
+placed-after text offset (d ∷ dirs) [] e h =
+    All-cons (λ (p : Placed). IsAfterSlash (text ++ []) p.1) (d, offset) []
+    (subst (λ k. IsAfterSlash (text ++ []) k) (sym e) (after_slash-longer text [] (length text) h))
+    (All-nil (λ (p : Placed). IsAfterSlash (text ++ []) p.1))
+placed-after text offset (d ∷ dirs) (n ∷ names) e h =
+    let P : Placed → Type 0 = λ p. IsAfterSlash (text ++ (n ++ 47 ∷ slashed names)) p.1 in
+    let next : List ℕ = (text ++ n) ++ 47 ∷ [] in
+    let size : length next ≡ length text + length n + 1 = length-append (text ++ n) (47 ∷ []) ∙ ap (λ k. k + 1) (length-append text n) in
+    let move : next ++ slashed names ≡ text ++ (n ++ 47 ∷ slashed names) =
+    append_assoc (text ++ n) (47 ∷ []) (slashed names) ∙ append_assoc text n (47 ∷ slashed names) in
+    All-cons P (d, offset) (placed_along (offset + length n + 1) dirs names)
+    (subst (λ k. IsAfterSlash (text ++ (n ++ 47 ∷ slashed names)) k) (sym e) (after_slash-longer text (n ++ 47 ∷ slashed names)
+    (length text) h))
+    (subst (λ t. All (λ (p : Placed). IsAfterSlash t p.1) (placed_along (offset + length n + 1) dirs names)) move
+    (placed-after next (offset + length n + 1) dirs names (ap (λ k. k + length n + 1) e ∙ sym size) (after_slash-end (text ++ n))))
+
+-- so is each of what is reached in a directory
+pub reached-after : (g : Scene) (front : List (List ℕ)) → All (λ p. IsAfterSlash (reached_in g front).text p.1) (reached_in g front).chain
+reached-after g front =
+    let dirs = dirs_above g.loads g.settings (paths_above g.tree g.settings g.root)
+    ++ dirs_at g.loads (directories_along g.root front ++ path_along g.root front ∷ []) in
+    All-reverse (λ p. IsAfterSlash (reached_in g front).text p.1) (placed_along 1 dirs (names_to g front))
+    (placed-after (47 ∷ []) 1 dirs (names_to g front) refl (after_slash-end []))
+
+-- the offsets of a chain are boundaries of the text that it is asked about
+pub links_in : (g : Scene) (front : List (List ℕ)) (name text : List ℕ) (chain : List Placed) → IsUtf8 text
+    → text ≡ (reached_in g front).text ++ name
+    → chain ≡ (reached_in g front).chain → All (λ p. IsCharBoundary text p.1) chain
+links_in g front name text chain u is same =
+    subst (λ (l : List Placed). All (λ p. IsCharBoundary text p.1) l) (sym same)
+    (boundaries-after_slashes text (reached_in g front).chain u
+    (subst (λ t. All (λ p. IsAfterSlash t p.1) (reached_in g front).chain) (sym is)
+    (placed-longer (reached_in g front).text name (reached_in g front).chain (reached-after g front))))
+
+-- the text of an entry of a directory
+pub text_in : (g : Scene) (c : Cache) (front : List (List ℕ)) (name base path : List ℕ) → Agrees g c → IsLoaded c front
+    → base ≡ string_bytes c.base → path ≡ joined (front ++ name ∷ []) → base ++ path ≡ (reached_in g front).text ++ name
+text_in g c front name base path a h b p =
+    let above = a.above (a.first front (Loaded h.0) h.1) in
+    let root : List ℕ = 47 ∷ slashed (names_above g.tree g.settings g.root) in
+    ap (λ t. t ++ path) (b ∙ above.base)
+    ∙ (ap (λ t. root ++ t) (p ∙ joined-slashed front name)
+    ∙ (sym (append_assoc root (slashed front) name)
+    ∙ ap (λ (t : List ℕ). (47 ∷ t) ++ name) (sym (slashed-append (names_above g.tree g.settings g.root) front))))
+
+-- Paths.
+
+middle_name : (xs : List (List ℕ)) (n : List ℕ) (ys : List (List ℕ)) → All IsName (xs ++ n ∷ ys) → IsName n
+middle_name [] n ys h = h zero n (omega arith)
+middle_name (x ∷ xs) n ys h = middle_name xs n ys (λ j e m. h (suc j) e (omega (arith, m)))
+
+along : JoinsName → (root : List ℕ) (done rest : List (List ℕ)) → All IsName (done ++ rest)
+    → path_along (directory_of root done) rest ≡ directory_of root (done ++ rest)
+along law root done [] h = ap (directory_of root) (sym (append-nil done))
+along law root done (n ∷ rest) h =
+    let move : (done ++ n ∷ []) ++ rest ≡ done ++ n ∷ rest = append_assoc done (n ∷ []) rest in
+    ap (λ d. path_along d rest) (law root done n (front_names done (n ∷ rest) h) (middle_name done n rest h))
+    ∙ (along law root (done ++ n ∷ []) rest (subst (All IsName) (sym move) h) ∙ ap (directory_of root) move)
+
+directory_of-some : (root : List ℕ) (front : List (List ℕ)) (n : List ℕ)
+    → directory_of root (front ++ n ∷ []) ≡ join_of root (joined (front ++ n ∷ []))
+directory_of-some root [] n = refl
+directory_of-some root (x ∷ xs) n = refl
+
+pub path_along-more : (dir : List ℕ) (names : List (List ℕ)) (name : List ℕ)
+    → path_along dir (names ++ name ∷ []) ≡ join_of (path_along dir names) name
+path_along-more dir [] name = refl
+path_along-more dir (n ∷ names) name = path_along-more (join_of dir n) names name
+
+-- the names of a directory, joined and then to the root, lead to it
+pub joined_along : JoinsName → (root : List ℕ) (front : List (List ℕ)) (n : List ℕ) → All IsName (front ++ n ∷ [])
+    → join_of root (joined (front ++ n ∷ [])) ≡ path_along root (front ++ n ∷ [])
+joined_along law root front n h = sym (along law root [] (front ++ n ∷ []) h ∙ directory_of-some root front n)
+
+same_entry : (s : Settings) (o : Outside) (a b : List Placed) (t u p q : List ℕ) (is_dir : Bool) → a ≡ b → t ≡ u → p ≡ q
+    → placed_verdict s o a t p is_dir ≡ placed_verdict s o b u q is_dir
+same_entry s o a b t u p q is_dir d e f = rw (d, e, f) refl
+
+-- the verdict by this chain, text and path is that on the entry
+pub judged_in : (g : Scene) (front : List (List ℕ)) (n text path : List ℕ) (chain : List Placed) (is_dir : Bool)
+    → verdict_at g.settings g.outside (entry (reached_in g front) n) is_dir ≡ path_verdict g (front ++ n ∷ []) is_dir
+    → chain ≡ (reached_in g front).chain → text ≡ (reached_in g front).text ++ n → path ≡ path_along g.root (front ++ n ∷ [])
+    → placed_verdict g.settings g.outside chain text path is_dir ≡ path_verdict g (front ++ n ∷ []) is_dir
+judged_in g front n text path chain is_dir law c t p =
+    same_entry g.settings g.outside _ _ _ _ _ _ is_dir c t (p ∙ path_along-more g.root front n) ∙ law

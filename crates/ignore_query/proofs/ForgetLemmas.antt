@@ -1,0 +1,329 @@
+-- What is kept after some directories were forgotten, also for another tree.
+use Rattle.std.proofs.Common.{◌≡◌, ◌≢◌, ℕ, ◌<◌, ◌≤◌, Bool, true, false, not, ◌&&◌, ◌||◌, All, List, [], ◌∷◌, ◌++◌, length}
+use Rattle.std.proofs.Common.{get_or, cond, filter, reverse, Option, Some, None, refl, sym, ◌∙◌, ap, subst, append_assoc}
+use Rattle.std.proofs.Common.{string_bytes, nat_eq, eqb, eqb-true, eq-eqb, String, Global, arith}
+use Rattle.std.proofs.lemmas.List.{append-nil}
+use Rattle.std.proofs.lemmas.List.Splits.{join_with_byte-slice_split}
+use Rattle.std.proofs.Math.Dec.{eqb-suc-zero}
+use Rattle.std.specs.List.{list_all, starts_with}
+use Rattle.std.specs.Ordering.{is_eq, nat_cmp}
+use Rattle.std.specs.Cmp.Lexicographic.{slice_cmp}
+use Rattle.std.specs.Map.{lookup}
+use Rattle.std.specs.Str.{bytes_eq}
+use Rattle.std.specs.BTreeMap.{get_by_text}
+use Rattle.std.proofs.lemmas.Map.Text.{is_eq-slice_cmp}
+use Rattle.std.proofs.lemmas.Slice.Eq.{bytes_eq-Decides}
+use Rattle.ignore_base.specs.Paths.{IsName, components, is_proper, join_of, joined}
+use Rattle.ignore_base.proofs.CleanLemmas.{names-components}
+use Rattle.ignore_dir.specs.declared.dir.Dir.{Dir}
+use Rattle.ignore_dir.specs.Above.{canonical_names, directories_along, dirs_above, names_above, needs_above, path_along, paths_above}
+use Rattle.ignore_dir.specs.Chains.{placed_along, slashed}
+use Rattle.ignore_dir.specs.Query.{is_clean, is_ignored, names_of}
+use Rattle.ignore_dir.specs.Load.{Loaded as Load}
+use Rattle.ignore_dir.specs.Scene.{Scene, asked_along, dirs_at, dirs_to, names_to, path_verdict}
+use Rattle.ignore_dir.specs.Verdict.{is_ignore, verdict}
+use Rattle.ignore_query.specs.declared.asked.Asked.{Asked as Shared}
+use Rattle.ignore_query.specs.declared.kept.Cache.{Cache}
+use Rattle.ignore_query.specs.declared.kept.Kept.{Kept}
+use Rattle.ignore_query.specs.declared.kept.Kept.TheVariants.{Ignored, Loaded}
+use Rattle.ignore_query.specs.Agrees.{Agrees, IsLoaded, IsRight, kept_at}
+use Rattle.ignore_query.specs.Reached.{scene_of}
+use Rattle.ignore_files.specs.Tree.{Tree}
+use Rattle.ignore_query.specs.Forget.{IsSameKept, is_at_or_below, is_key_in, key_of}
+use Rattle.ignore_query.proofs.ChainLemmas.{front_names, loaded_front, path_along-more}
+use Rattle.ignore_query.proofs.KeepLemmas.{Ends, SameAbove, Whole, ends, head_whole, last, none, tail_names}
+
+-- Keys that begin with a key.
+
+both_ways : (a b : Bool) → (a ≡ true → b ≡ true) → (b ≡ true → a ≡ true) → a ≡ b
+both_ways true true f h = refl
+both_ways true false f h = sym (f refl)
+both_ways false true f h = h refl
+both_ways false false f h = refl
+
+and_true : (b : Bool) → (b && true) ≡ b
+and_true true = refl
+and_true false = refl
+
+and_assoc : (a b d : Bool) → ((a && b) && d) ≡ (a && (b && d))
+and_assoc true b d = refl
+and_assoc false b d = refl
+
+slash_test : (x : ℕ) → (nat_eq 47 x && true) ≡ eqb x 47
+slash_test x = and_true (nat_eq 47 x)
+    ∙ both_ways (nat_eq 47 x) (eqb x 47) (λ e. eq-eqb x 47 (sym (eqb-true 47 x e))) (λ e. eq-eqb 47 x (sym (eqb-true x 47 e)))
+
+pub key_longer : (key dir : List ℕ) → length dir < length key
+    → starts_with nat_eq key (dir ++ 47 ∷ []) ≡ (starts_with nat_eq key dir && eqb (get_or key (length dir) 0) 47)
+key_longer [] dir lt = absurd (omega arith)
+key_longer (x ∷ xs) [] lt = slash_test x
+key_longer (x ∷ xs) (q ∷ ps) lt =
+    ap (λ b. nat_eq q x && b) (key_longer xs ps (omega arith))
+    ∙ sym (and_assoc (nat_eq q x) (starts_with nat_eq xs ps) (eqb (get_or xs (length ps) 0) 47))
+
+and_false : (b : Bool) → (b && false) ≡ false
+and_false true = refl
+and_false false = refl
+
+pub key_short : (key dir : List ℕ) → length key ≤ length dir → starts_with nat_eq key (dir ++ 47 ∷ []) ≡ false
+key_short [] [] le = refl
+key_short [] (q ∷ ps) le = refl
+key_short (x ∷ xs) [] le = absurd (omega arith)
+key_short (x ∷ xs) (q ∷ ps) le = ap (λ b. nat_eq q x && b) (key_short xs ps (omega arith)) ∙ and_false (nat_eq q x)
+
+pub key_in : (dir key : List ℕ) → length dir ≢ 0 → length dir < length key
+    → (starts_with nat_eq key dir && eqb (get_or key (length dir) 0) 47) ≡ is_key_in dir key
+key_in [] key ne lt = absurd (ne refl)
+key_in (b ∷ bs) key ne lt = sym (key_longer key (b ∷ bs) lt)
+
+-- Names that begin with names.
+
+not_slash : (b : ℕ) → b ≢ 47 → nat_eq 47 b ≡ false
+not_slash b ne = both_ways (nat_eq 47 b) false (λ e. absurd (ne (sym (eqb-true 47 b e)))) (λ e. absurd (cc))
+
+not_slash' : (b : ℕ) → b ≢ 47 → nat_eq b 47 ≡ false
+not_slash' b ne = both_ways (nat_eq b 47) false (λ e. absurd (ne (eqb-true b 47 e))) (λ e. absurd (cc))
+
+first_names : (n f a b : List ℕ) → Whole n → Whole f
+    → starts_with nat_eq (n ++ 47 ∷ a) (f ++ 47 ∷ b) ≡ (bytes_eq f n && starts_with nat_eq a b)
+first_names [] [] a b p q = refl
+first_names [] (c ∷ cs) a b p q = ap (λ t. t && starts_with nat_eq a (cs ++ 47 ∷ b)) (not_slash' c q.0)
+first_names (x ∷ xs) [] a b p q = ap (λ t. t && starts_with nat_eq (xs ++ 47 ∷ a) b) (not_slash x p.0)
+first_names (x ∷ xs) (c ∷ cs) a b p q =
+    ap (λ t. nat_eq c x && t) (first_names xs cs a b p.1 q.1) ∙ sym (and_assoc (nat_eq c x) (bytes_eq cs xs) (starts_with nat_eq a b))
+
+no_key : (f b : List ℕ) → starts_with nat_eq [] (f ++ 47 ∷ b) ≡ false
+no_key [] b = refl
+no_key (c ∷ cs) b = refl
+
+names_first : (names front : List (List ℕ)) → All IsName names → All IsName front
+    → starts_with nat_eq (slashed names) (slashed front) ≡ is_at_or_below front names
+names_first names [] p q = refl
+names_first [] (f ∷ fs) p q = no_key f (slashed fs)
+names_first (n ∷ ns) (f ∷ fs) p q =
+    first_names n f (slashed ns) (slashed fs) (head_whole n ns p) (head_whole f fs q)
+    ∙ ap (λ b. bytes_eq f n && b) (names_first ns fs (tail_names n ns p) (tail_names f fs q))
+
+joined-all : (name : List ℕ) (names : List (List ℕ)) → slashed (name ∷ names) ≡ joined (name ∷ names) ++ 47 ∷ []
+joined-all name [] = refl
+joined-all name (m ∷ ms) = ap (λ t. name ++ 47 ∷ t) (joined-all m ms) ∙ sym (append_assoc name (47 ∷ joined (m ∷ ms)) (47 ∷ []))
+
+some_joined : (path : List ℕ) (names : List (List ℕ)) → path ≢ [] → joined names ≡ path → slashed names ≡ path ++ 47 ∷ []
+some_joined path [] ne e = absurd (ne (sym e))
+some_joined path (n ∷ ns) ne e = joined-all n ns ∙ ap (λ t. t ++ 47 ∷ []) e
+
+key_is : (dir : List ℕ) → key_of dir ≡ slashed (names_of dir)
+key_is [] = refl
+key_is (b ∷ bs) = sym (some_joined (b ∷ bs) (components (b ∷ bs)) (λ e. cc) (join_with_byte-slice_split 47 (b ∷ bs)))
+
+clean_of : (dir : List ℕ) → is_clean dir ≡ true → All IsName (names_of dir)
+clean_of [] h = λ k d l. absurd (omega (arith, l))
+clean_of (b ∷ bs) h = names-components (b ∷ bs) (sym (ap (λ t. t || list_all is_proper (components (b ∷ bs))) (eqb-suc-zero
+    (length bs))) ∙ h)
+
+-- a key at or below a clean path, by names
+pub key_by_names : (dir : List ℕ) (names : List (List ℕ)) → is_clean dir ≡ true → All IsName names
+    → is_key_in dir (slashed names) ≡ is_at_or_below (names_of dir) names
+key_by_names dir names h clean = ap (starts_with nat_eq (slashed names)) (key_is dir)
+    ∙ names_first names (names_of dir) clean (clean_of dir h)
+
+-- Entries that are left.
+
+abbrev Entry : Type 0
+Entry = String Global × Kept
+
+abbrev at_text : List ℕ → String Global → Bool
+at_text cs k = is_eq (slice_cmp nat_cmp cs (string_bytes k))
+
+nothing : (b : Bool) (o : Option Kept) → o ≡ None → o ≡ cond b o None
+nothing true o h = refl
+nothing false o h = h
+
+lookup_filter : (p : List ℕ → Bool) (cs : List ℕ) (es : List Entry)
+    → lookup (at_text cs) (filter (λ e. p (string_bytes e.0)) es) ≡ cond (p cs) (lookup (at_text cs) es) None
+lookup_filter p cs [] = nothing (p cs) None refl
+lookup_filter p cs (e ∷ es) =
+    let rest = lookup_filter p cs es in
+    let P : (a b : Bool) → at_text cs e.0 ≡ a → p (string_bytes e.0) ≡ b
+    → lookup (at_text cs) (cond b (e ∷ filter (λ e. p (string_bytes e.0)) es) (filter (λ e. p (string_bytes e.0)) es))
+    ≡ cond (p cs) (cond a (Some e.1) (lookup (at_text cs) es)) None =
+    λ x y. elim x as (λ a. at_text cs e.0 ≡ a → p (string_bytes e.0) ≡ y
+    → lookup (at_text cs) (cond y (e ∷ filter (λ e. p (string_bytes e.0)) es) (filter (λ e. p (string_bytes e.0)) es))
+    ≡ cond (p cs) (cond a (Some e.1) (lookup (at_text cs) es)) None) [
+      | true ↦ λ h. let same : cs ≡ string_bytes e.0 = (bytes_eq-Decides cs (string_bytes e.0)).0 (sym (is_eq-slice_cmp cs
+          (string_bytes e.0)) ∙ h) in
+          elim y as (λ b. p (string_bytes e.0) ≡ b
+          → lookup (at_text cs) (cond b (e ∷ filter (λ e. p (string_bytes e.0)) es) (filter (λ e. p (string_bytes e.0)) es))
+          ≡ cond (p cs) (Some e.1) None) [
+            | true ↦ λ k. let on : p cs ≡ true = ap p same ∙ k in rw (h, on) refl
+            | false ↦ λ k. let off : p cs ≡ false = ap p same ∙ k in rest ∙ rw off refl
+          ]
+      | false ↦ λ h. elim y as (λ b. p (string_bytes e.0) ≡ b
+          → lookup (at_text cs) (cond b (e ∷ filter (λ e. p (string_bytes e.0)) es) (filter (λ e. p (string_bytes e.0)) es))
+          ≡ cond (p cs) (lookup (at_text cs) es) None) [
+            | true ↦ λ k. rw h rest
+            | false ↦ λ k. rest
+          ]
+    ] in
+    P (at_text cs e.0) (p (string_bytes e.0)) refl refl
+
+turned : (b : Bool) (o : Option Kept) → cond (not b) o None ≡ cond b None o
+turned true o = refl
+turned false o = refl
+
+pub still : (c c' : Cache) (dir : List ℕ) → c'.dirs.entries ≡ filter (λ e. not (is_key_in dir (string_bytes e.0))) c.dirs.entries
+    → (cs : List ℕ) → get_by_text c'.dirs cs ≡ cond (is_key_in dir cs) None (get_by_text c.dirs cs)
+still c c' dir e cs =
+    ap (λ es. lookup (at_text cs) es) e ∙ (lookup_filter (λ t. not (is_key_in dir t)) cs c.dirs.entries
+    ∙ turned (is_key_in dir cs) (get_by_text c.dirs cs))
+
+-- What is left agrees.
+
+starts_more : (p xs ys : List ℕ) → starts_with nat_eq xs p ≡ true → starts_with nat_eq (xs ++ ys) p ≡ true
+starts_more [] xs ys h = refl
+starts_more (q ∷ ps) [] ys h = absurd (cc)
+starts_more (q ∷ ps) (x ∷ xs) ys h = and_more (nat_eq q x) (starts_with nat_eq xs ps) (starts_with nat_eq (xs ++ ys) ps)
+    (starts_more ps xs ys) h
+  where
+    and_more : (b x y : Bool) → (x ≡ true → y ≡ true) → (b && x) ≡ true → (b && y) ≡ true
+    and_more true x y f h = f h
+    and_more false x y f h = h
+
+slashed-more : (names : List (List ℕ)) (name : List ℕ) → slashed (names ++ name ∷ []) ≡ slashed names ++ (name ++ 47 ∷ [])
+slashed-more [] name = refl
+slashed-more (a ∷ names) name =
+    ap (λ t. a ++ 47 ∷ t) (slashed-more names name) ∙ sym (append_assoc a (47 ∷ slashed names) (name ++ 47 ∷ []))
+
+was : (b : Bool) (o : Option Kept) (k : Kept) → cond b None o ≡ Some k → (b ≡ false) × (o ≡ Some k)
+was true o k h = absurd (cc)
+was false o k h = (refl, h)
+
+stays_false : (a b : Bool) → (a ≡ true → b ≡ true) → b ≡ false → a ≡ false
+stays_false true b f h = let t : b ≡ true = f refl in absurd (cc)
+stays_false false b f h = refl
+
+pub left_agrees : (g : Scene) (c c' : Cache) (dir : List ℕ) → Agrees g c → SameAbove c c'
+    → ((cs : List ℕ) → get_by_text c'.dirs cs ≡ cond (is_key_in dir cs) None (get_by_text c.dirs cs)) → Agrees g c'
+left_agrees g c c' dir old same look =
+    let before : (q : List (List ℕ)) (k : Kept) → kept_at c' q ≡ Some k → (is_key_in dir (slashed q) ≡ false) × (kept_at c q ≡ Some k) =
+    λ q k h. was (is_key_in dir (slashed q)) (kept_at c q) k (sym (look (slashed q)) ∙ h) in
+    record {
+      above = λ h.
+          let a = old.above (sym same.0 ∙ h) in
+          record { root = a.root; dirs = ap (λ v. v.items) same.1.0 ∙ a.dirs; base = ap (λ t. string_bytes t) same.1.1 ∙ a.base };
+      first = λ q k h. same.0 ∙ old.first q k (before q k h).1;
+      right = λ q k clean h. old.right q k clean (before q k h).1;
+      inside = λ q k clean h front name is.
+          let b = before q k h in
+          let p = old.inside q k clean b.1 front name is in
+          let grown : slashed q ≡ slashed front ++ (name ++ 47 ∷ []) = ap slashed is ∙ slashed-more front name in
+          let kept : is_key_in dir (slashed front) ≡ false = stays_false (is_key_in dir (slashed front)) (is_key_in dir (slashed q))
+          (λ e. ap (is_key_in dir) grown ∙ starts_more (key_of dir) (slashed front) (name ++ 47 ∷ []) e) b.0 in
+          (p.0, look (slashed front) ∙ (ap (λ b. cond b None (kept_at c front)) kept ∙ p.1));
+    }
+
+-- Another tree.
+
+same_dirs : (g h : Scene) (c : Cache) → h.root ≡ g.root → Agrees g c → IsSameKept g h c → (done rest : List (List ℕ))
+    → All IsName (done ++ rest) → IsLoaded c (done ++ rest)
+    → dirs_at h.loads (directories_along (path_along h.root done) rest ++ path_along (path_along h.root done) rest ∷ [])
+    ≡ dirs_at g.loads (directories_along (path_along g.root done) rest ++ path_along (path_along g.root done) rest ∷ [])
+same_dirs g h c root a same done [] clean kept =
+    let front = loaded_front g c done [] a clean kept in
+    ap (λ d. d ∷ []) (same.dirs done front.0 (subst (All IsName) (append-nil done) clean) front.1)
+same_dirs g h c root a same done (n ∷ rest) clean kept =
+    let front = loaded_front g c done (n ∷ rest) a clean kept in
+    let move : (done ++ n ∷ []) ++ rest ≡ done ++ n ∷ rest = append_assoc done (n ∷ []) rest in
+    let next = same_dirs g h c root a same (done ++ n ∷ []) rest (subst (All IsName) (sym move) clean) (subst (IsLoaded c)
+    (sym move) kept) in
+    let at : Scene → List ℕ → List Dir = λ s d. dirs_at s.loads (directories_along d rest ++ path_along d rest ∷ []) in
+    let next' : at h (join_of (path_along h.root done) n) ≡ at g (join_of (path_along g.root done) n) =
+    ap (at h) (sym (path_along-more h.root done n)) ∙ (next ∙ ap (at g) (path_along-more g.root done n)) in
+    ap (λ (d : Dir). d ∷ at h (join_of (path_along h.root done) n)) (same.dirs done front.0 (front_names done (n ∷ rest) clean) front.1)
+    ∙ ap (λ (l : List Dir). (g.loads (path_along g.root done)).0 ∷ l) next'
+
+directories_along-more : (dir : List ℕ) (names : List (List ℕ)) (name : List ℕ)
+    → directories_along dir (names ++ name ∷ []) ≡ directories_along dir names ++ path_along dir names ∷ []
+directories_along-more dir [] name = refl
+directories_along-more dir (n ∷ names) name = ap (λ l. dir ∷ l) (directories_along-more (join_of dir n) names name)
+
+-- the verdict is that over the same directories
+same_verdict : (a : Shared) (before after : Tree) (loads later : List ℕ → Load) (names : List (List ℕ)) (is_dir : Bool)
+    → dirs_to (scene_of a after later) names ≡ dirs_to (scene_of a before loads) names
+    → names_to (scene_of a after later) names ≡ names_to (scene_of a before loads) names
+    → path_verdict (scene_of a after later) names is_dir ≡ path_verdict (scene_of a before loads) names is_dir
+unfolding path_verdict
+same_verdict a before after loads later names is_dir d n =
+    let path = path_along (string_bytes a.root) names in
+    ap (λ (l : List Dir). verdict a.settings a.outside (reverse (asked_along l (names_to (scene_of a after later) names))) path is_dir) d
+    ∙ ap (λ (l : List (List ℕ)). verdict a.settings a.outside (reverse (asked_along (dirs_to
+    (scene_of a before loads) names) l)) path is_dir) n
+
+root_ignored : (g h : Scene) → is_ignored h [] ≡ is_ignored g []
+unfolding is_ignored
+root_ignored g h = refl
+
+ignored_is : (g : Scene) (front : List (List ℕ)) (n : List ℕ)
+    → is_ignored g (front ++ n ∷ []) ≡ is_ignore (path_verdict g (front ++ n ∷ []) true)
+unfolding is_ignored
+ignored_is g [] n = refl
+ignored_is g (x ∷ xs) n = refl
+
+same_names : (a : Shared) (before after : Tree) → after.canonical (string_bytes a.root) ≡ before.canonical (string_bytes a.root)
+    → names_above after a.settings (string_bytes a.root) ≡ names_above before a.settings (string_bytes a.root)
+same_names a before after e = ap (λ r. cond (needs_above a.settings) (canonical_names r) []) e
+
+-- a directory in a kept one is ignored by both trees or by none
+same_ignored : (a : Shared) (before after : Tree) (loads later : List ℕ → Load) (c : Cache) → Agrees (scene_of a before loads) c
+    → IsSameKept (scene_of a before loads) (scene_of a after later) c → (names : List (List ℕ)) (k : Kept) → All IsName names
+    → kept_at c names ≡ Some k → Ends names
+    → is_ignored (scene_of a after later) names ≡ is_ignored (scene_of a before loads) names
+same_ignored a before after loads later c old same names k clean kept (none e) =
+    ap (is_ignored (scene_of a after later)) e ∙ (root_ignored (scene_of a before loads) (scene_of a after later)
+    ∙ ap (is_ignored (scene_of a before loads)) (sym e))
+same_ignored a before after loads later c old same names k clean kept (last front n e) =
+    let g = scene_of a before loads in
+    let h = scene_of a after later in
+    let root = string_bytes a.root in
+    let has = old.first names k kept in
+    let parent = old.inside names k clean kept front n e in
+    let clean1 : All IsName front = front_names front (n ∷ []) (subst (All IsName) e clean) in
+    let below = ap (dirs_at later) (directories_along-more root front n)
+    ∙ (same_dirs g h c refl old same [] front clean1 parent ∙ ap (dirs_at loads) (sym (directories_along-more root front n))) in
+    let dirs = ap (λ (l : List Dir). l ++ dirs_at later (directories_along root (front ++ n ∷ []))) (same.above has)
+    ∙ ap (λ (l : List Dir). dirs_above loads a.settings (paths_above before a.settings root) ++ l) below in
+    let names' = ap (λ (l : List (List ℕ)). l ++ (front ++ n ∷ [])) (same_names a before after (same.canonical has)) in
+    ap (is_ignored h) e
+    ∙ (ignored_is h front n
+    ∙ (ap is_ignore (same_verdict a before after loads later (front ++ n ∷ []) true dirs names')
+    ∙ (sym (ignored_is g front n) ∙ ap (is_ignored g) (sym e))))
+
+right_later : (g h : Scene) (names : List (List ℕ)) (k : Kept) → is_ignored h names ≡ is_ignored g names
+    → ((dir : Dir) → k ≡ Loaded dir → (h.loads (path_along h.root names)).0 ≡ (g.loads (path_along g.root names)).0)
+    → IsRight g names k → IsRight h names k
+right_later g h names Ignored e f r = e ∙ r
+right_later g h names (Loaded dir) e f r = (e ∙ r.0, r.1 ∙ sym (f dir refl))
+
+pub later_agrees : (a : Shared) (before after : Tree) (loads later : List ℕ → Load) (c : Cache) → Agrees (scene_of a before loads) c
+    → IsSameKept (scene_of a before loads) (scene_of a after later) c → Agrees (scene_of a after later) c
+later_agrees a before after loads later c old same =
+    let g = scene_of a before loads in
+    let h = scene_of a after later in
+    record {
+      above = λ has.
+          let o = old.above has in
+          let names = same_names a before after (same.canonical has) in
+          record {
+            root = same.root has ∙ o.root;
+            dirs = o.dirs
+                ∙ (ap (λ (l : List Dir). placed_along 1 l (names_above before a.settings (string_bytes a.root))) (sym (same.above has))
+                ∙ ap (λ (l : List (List ℕ)). placed_along 1 (dirs_above later a.settings (paths_above after a.settings
+                (string_bytes a.root))) l) (sym names));
+            base = o.base ∙ ap (λ (l : List (List ℕ)). 47 ∷ slashed l) (sym names);
+          };
+      first = old.first;
+      right = λ q k clean kept.
+          right_later g h q k (same_ignored a before after loads later c old same q k clean kept (ends q))
+          (λ dir e. same.dirs q dir clean (kept ∙ ap Some e)) (old.right q k clean kept);
+      inside = old.inside;
+    }

@@ -1,0 +1,188 @@
+-- What is kept, and one directory more.
+use Rattle.std.proofs.Common.{◌≡◌, ◌≢◌, ℕ, suc, Bool, true, false, not, ◌||◌, cond, All, Contains, List, [], ◌∷◌, ◌++◌, length}
+use Rattle.std.proofs.Common.{map, Some, None, is_some, refl, sym, ◌∙◌, ap, subst, append_assoc, ◌⊎◌, inl, inr, arith}
+use Rattle.std.proofs.Common.{string_bytes, Bor}
+use Rattle.std.specs.BTreeMap.{get_by_text}
+use Rattle.std.specs.Map.{update}
+use Rattle.std.specs.Option.{option_to_list}
+use Rattle.std.specs.Str.{bytes_eq}
+use Rattle.std.proofs.lemmas.Slice.Eq.{bytes_eq-Decides}
+use Rattle.ignore_base.specs.Paths.{IsName}
+use Rattle.ignore_dir.specs.declared.dir.Dir.{Dir}
+use Rattle.ignore_dir.specs.Chains.{slashed}
+use Rattle.ignore_dir.specs.Query.{is_ignored}
+use Rattle.ignore_dir.specs.Scene.{Scene, path_verdict}
+use Rattle.ignore_dir.specs.Verdict.{is_ignore}
+use Rattle.ignore_dir.proofs.ChainLemmas.{slashed-more}
+use Rattle.ignore_query.specs.declared.kept.Cache.{Cache}
+use Rattle.ignore_query.specs.declared.kept.Kept.{Kept}
+use Rattle.ignore_query.specs.declared.kept.Kept.TheVariants.{Ignored, Loaded}
+use Rattle.ignore_query.specs.Agrees.{Agrees, IsAbove, IsLoaded, IsNext, IsRight, is_loaded, kept_at}
+use Rattle.ignore_query.specs.Reports.{problem_in, problems_at}
+
+-- Names and keys.
+
+-- a list of names is empty, or has a last name
+pub data Ends (names : List (List ℕ)) : Type 0 where
+  none : names ≡ [] → Ends names
+  last : (front : List (List ℕ)) (name : List ℕ) → names ≡ front ++ name ∷ [] → Ends names
+
+more_ends : (x : List ℕ) (xs : List (List ℕ)) → Ends xs → Ends (x ∷ xs)
+more_ends x xs (none e) = last [] x (ap (λ l. x ∷ l) e)
+more_ends x xs (last front name e) = last (x ∷ front) name (ap (λ l. x ∷ l) e)
+
+pub ends : (names : List (List ℕ)) → Ends names
+ends [] = none refl
+ends (x ∷ xs) = more_ends x xs (ends xs)
+
+pub key_end : (names front : List (List ℕ)) (name key : List ℕ) → names ≡ front ++ name ∷ [] → key ≡ slashed names
+    → key ≡ (slashed front ++ name) ++ 47 ∷ []
+key_end names front name key is e = e ∙ (ap slashed is ∙ (slashed-more front name ∙ sym (append_assoc (slashed front) name (47 ∷ []))))
+
+pub ignored_last : (g : Scene) (front : List (List ℕ)) (name : List ℕ)
+    → is_ignore (path_verdict g (front ++ name ∷ []) true) ≡ is_ignored g (front ++ name ∷ [])
+unfolding is_ignored
+ignored_last g [] name = refl
+ignored_last g (x ∷ xs) name = refl
+
+pub root_kept : (g : Scene) (names : List (Bor (List ℕ))) → length names ≡ 0 → false ≡ is_ignored g (map (λ n. n.now) names)
+unfolding is_ignored
+root_kept g [] h = refl
+root_kept g (x ∷ xs) h = absurd (omega (arith, h))
+
+-- no byte is a slash
+abbrev pub Whole : List ℕ → Type 0
+Whole [] = Unit {0}
+Whole (b ∷ bs) = (b ≢ 47) × Whole bs
+
+whole : (x : List ℕ) → ¬ Contains {X = ℕ} x 47 → Whole x
+whole [] h = tt
+whole (b ∷ bs) h = ((λ e. h (0, omega arith, e)), whole bs (λ c. h (suc c.0, omega (arith, c.1), c.2)))
+
+pub split_inj : (n m a b : List ℕ) → Whole n → Whole m → n ++ 47 ∷ a ≡ m ++ 47 ∷ b → (n ≡ m) × (a ≡ b)
+split_inj [] [] a b p q e = (refl, cc)
+split_inj [] (y ∷ ys) a b p q e = absurd (q.0 (cc))
+split_inj (x ∷ xs) [] a b p q e = absurd (p.0 (cc))
+split_inj (x ∷ xs) (y ∷ ys) a b p q e =
+    let t : xs ++ 47 ∷ a ≡ ys ++ 47 ∷ b = cc in
+    let h : x ≡ y = cc in
+    let r = split_inj xs ys a b p.1 q.1 t in
+    let front : xs ≡ ys = r.0 in
+    (cc, r.1)
+
+no_front : (n a : List ℕ) → [] ≢ n ++ 47 ∷ a
+no_front [] a e = cc
+no_front (x ∷ xs) a e = cc
+
+pub head_whole : (x : List ℕ) (xs : List (List ℕ)) → All IsName (x ∷ xs) → Whole x
+head_whole x xs h = whole x (h 0 x (omega arith)).whole
+
+pub tail_names : (x : List ℕ) (xs : List (List ℕ)) → All IsName (x ∷ xs) → All IsName xs
+tail_names x xs h k d l = h (suc k) d (omega (arith, l))
+
+pub slashed_inj : (ns ms : List (List ℕ)) → All IsName ns → All IsName ms → slashed ns ≡ slashed ms → ns ≡ ms
+slashed_inj [] [] p q e = refl
+slashed_inj [] (m ∷ ms) p q e = absurd (no_front m (slashed ms) e)
+slashed_inj (n ∷ ns) [] p q e = absurd (no_front n (slashed ns) (sym e))
+slashed_inj (n ∷ ns) (m ∷ ms) p q e =
+    let r = split_inj n m (slashed ns) (slashed ms) (head_whole n ns p) (head_whole m ms q) e in
+    let h : n ≡ m = r.0 in
+    let t : ns ≡ ms = slashed_inj ns ms (tail_names n ns p) (tail_names m ms q) r.1 in
+    cc
+
+-- Kept directories.
+
+pub loaded_from : (k : Kept) → is_loaded k ≡ true → (dir : Dir) × (k ≡ Loaded dir)
+loaded_from Ignored h = cc
+loaded_from (Loaded dir) h = (dir, refl)
+
+pub right_loaded : (g : Scene) (names : List (List ℕ)) (k : Kept) → IsRight g names k → is_loaded k ≡ not (is_ignored g names)
+right_loaded g names Ignored h = ap not (sym h)
+right_loaded g names (Loaded dir) h = ap not (sym h.0)
+
+pub problems_known : (g : Scene) (c : Cache) (names : List (List ℕ)) (k : Kept) → kept_at c names ≡ Some k → problems_at g c names ≡ []
+problems_known g c names k h = ap (λ o. cond (is_some o || is_ignored g names) [] (option_to_list (problem_in g names))) h
+
+pub problems_new : (g : Scene) (c : Cache) (names : List (List ℕ)) → kept_at c names ≡ None
+    → problems_at g c names ≡ cond (is_ignored g names) [] (option_to_list (problem_in g names))
+problems_new g c names h = ap (λ o. cond (is_some o || is_ignored g names) [] (option_to_list (problem_in g names))) h
+
+-- the second has one key more
+abbrev pub Puts : Cache → Cache → List ℕ → Kept → Type 0
+Puts c c' key k = (cs : List ℕ) → get_by_text c'.dirs cs ≡ update bytes_eq (get_by_text c.dirs) key (Some k) cs
+
+pub puts_others : (c c' : Cache) (key : List ℕ) (k : Kept) → Puts c c' key k → (cs : List ℕ) → cs ≢ key
+    → get_by_text c'.dirs cs ≡ get_by_text c.dirs cs
+puts_others c c' key k puts cs ne =
+    let P : (b : Bool) → bytes_eq key cs ≡ b → cond b (Some k) (get_by_text c.dirs cs) ≡ get_by_text c.dirs cs =
+    λ x. elim x as (λ b. bytes_eq key cs ≡ b → cond b (Some k) (get_by_text c.dirs cs) ≡ get_by_text c.dirs cs) [
+      | true ↦ λ e. absurd (ne (sym ((bytes_eq-Decides key cs).0 e)))
+      | false ↦ λ e. refl
+    ] in
+    puts cs ∙ P (bytes_eq key cs) refl
+
+same_bytes : (cs : List ℕ) → bytes_eq cs cs ≡ true
+same_bytes cs = (bytes_eq-Decides cs cs).1 refl
+
+pub puts_key : (c c' : Cache) (key : List ℕ) (k : Kept) → Puts c c' key k → get_by_text c'.dirs key ≡ Some k
+puts_key c c' key k puts = puts key ∙ ap (λ b. cond b (Some k) (get_by_text c.dirs key)) (same_bytes key)
+
+pub puts_stays : (c c' : Cache) (key : List ℕ) (k : Kept) → Puts c c' key k → get_by_text c.dirs key ≡ None → (cs : List ℕ) (r : Kept)
+    → get_by_text c.dirs cs ≡ Some r → get_by_text c'.dirs cs ≡ Some r
+puts_stays c c' key k puts absent cs r h =
+    let P : (b : Bool) → bytes_eq key cs ≡ b → cond b (Some k) (get_by_text c.dirs cs) ≡ Some r =
+    λ x. elim x as (λ b. bytes_eq key cs ≡ b → cond b (Some k) (get_by_text c.dirs cs) ≡ Some r) [
+      | true ↦ λ e. let same : key ≡ cs = (bytes_eq-Decides key cs).0 e in let none : get_by_text c.dirs cs
+          ≡ None = subst (λ t. get_by_text c.dirs t ≡ None) same absent in absurd (cc)
+      | false ↦ λ e. h
+    ] in
+    puts cs ∙ P (bytes_eq key cs) refl
+
+put_cases : (c c' : Cache) (names : List (List ℕ)) (k : Kept) → Puts c c' (slashed names) k → All IsName names
+    → (q : List (List ℕ)) (r : Kept) → All IsName q → kept_at c' q ≡ Some r → ((q ≡ names) × (r ≡ k)) ⊎ (kept_at c q ≡ Some r)
+put_cases c c' names k puts clean q r cleanq h =
+    let P : (b : Bool) → bytes_eq (slashed names) (slashed q) ≡ b → cond b (Some k) (kept_at c q) ≡ Some r
+    → ((q ≡ names) × (r ≡ k)) ⊎ (kept_at c q ≡ Some r) =
+    λ x. elim x as (λ b. bytes_eq (slashed names) (slashed q) ≡ b → cond b (Some k) (kept_at c q) ≡ Some r
+    → ((q ≡ names) × (r ≡ k)) ⊎ (kept_at c q ≡ Some r)) [
+      | true ↦ λ e g. inl (slashed_inj q names cleanq clean (sym ((bytes_eq-Decides (slashed names) (slashed q)).0 e)), cc)
+      | false ↦ λ e g. inr g
+    ] in
+    P (bytes_eq (slashed names) (slashed q)) refl (sym (puts (slashed q)) ∙ h)
+
+-- the same above the root
+abbrev pub SameAbove : Cache → Cache → Type 0
+SameAbove c c' = (c'.has_above ≡ c.has_above) × ((c'.above ≡ c.above) × (c'.base ≡ c.base))
+
+above_same : (g : Scene) (c c' : Cache) → SameAbove c c' → (c.has_above ≡ true → IsAbove g c) → c'.has_above ≡ true → IsAbove g c'
+above_same g c c' same old h =
+    let a = old (sym same.0 ∙ h) in
+    record { root = a.root; dirs = ap (λ v. v.items) same.1.0 ∙ a.dirs; base = ap (λ t. string_bytes t) same.1.1 ∙ a.base }
+
+pub put_agrees : (g : Scene) (c c' : Cache) (names : List (List ℕ)) (k : Kept) → Agrees g c → All IsName names → IsNext c names
+    → Puts c c' (slashed names) k → kept_at c names ≡ None → SameAbove c c' → IsRight g names k → Agrees g c'
+put_agrees g c c' names k old clean next puts absent same right =
+    let split = put_cases c c' names k puts clean in
+    let stays = puts_stays c c' (slashed names) k puts absent in
+    record {
+      above = above_same g c c' same old.above;
+      first = λ q r h. same.0 ∙ next.0;
+      right = λ q r cleanq h. elim (split q r cleanq h) as (λ _. IsRight g q r) [
+        | inl e ↦ subst (λ p. IsRight g p r) (sym e.0) (subst (λ x. IsRight g names x) (sym e.1) right)
+        | inr x ↦ old.right q r cleanq x
+      ];
+      inside = λ q r cleanq h front name is. elim (split q r cleanq h) as (λ _. IsLoaded c' front) [
+        | inl e ↦ let p = next.1 front name (sym e.0 ∙ is) in (p.0, stays (slashed front) (Loaded p.0) p.1)
+        | inr x ↦ let p = old.inside q r cleanq x front name is in (p.0, stays (slashed front) (Loaded p.0) p.1)
+      ];
+    }
+
+pub same_agrees : (g : Scene) (c c' : Cache) → Agrees g c → ((cs : List ℕ) → get_by_text c'.dirs cs ≡ get_by_text c.dirs cs)
+    → SameAbove c c' → Agrees g c'
+same_agrees g c c' old looks same = record {
+  above = above_same g c c' same old.above;
+  first = λ q r h. same.0 ∙ old.first q r (sym (looks (slashed q)) ∙ h);
+  right = λ q r clean h. old.right q r clean (sym (looks (slashed q)) ∙ h);
+  inside = λ q r clean h front name is. let p = old.inside q r clean (sym (looks (slashed q))
+      ∙ h) front name is in (p.0, looks (slashed front) ∙ p.1);
+}

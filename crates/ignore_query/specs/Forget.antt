@@ -1,0 +1,37 @@
+-- What is forgotten, and for which other trees the rest is right.
+use Rattle.std.specs.Prelude.{◌≡◌, true, Bool, nat_eq, All, List, [], ◌∷◌, ◌++◌, Some}
+use Rattle.std.specs.List.{starts_with}
+use Rattle.std.specs.Str.{bytes_eq}
+use Rattle.ignore_base.specs.Text.{Bytes, Path}
+use Rattle.ignore_base.specs.Paths.{IsName}
+use Rattle.ignore_dir.specs.declared.dir.Dir.{Dir}
+use Rattle.ignore_dir.specs.Above.{dirs_above, path_along, paths_above}
+use Rattle.ignore_dir.specs.Query.{is_dir_there}
+use Rattle.ignore_dir.specs.Scene.{Scene}
+use Rattle.ignore_query.specs.declared.kept.Cache.{Cache}
+use Rattle.ignore_query.specs.declared.kept.Kept.TheVariants.{Loaded}
+use Rattle.ignore_query.specs.Agrees.{kept_at}
+
+-- the directory with some names is that with the names `front`, or is below it. `a`, `b` is at or
+-- below `a`, and `ab` isn't
+abbrev pub is_at_or_below : List Bytes → List Bytes → Bool
+is_at_or_below front names = starts_with bytes_eq names front
+
+-- the key of the directory at a clean path
+abbrev pub key_of : Path → Path
+key_of [] = []
+key_of (b ∷ bs) = (b ∷ bs) ++ 47 ∷ []
+
+-- the key is that of the directory at a clean path, or of one below it
+abbrev pub is_key_in : Path → Path → Bool
+is_key_in dir key = starts_with nat_eq key (key_of dir)
+
+-- what is kept is the same in another tree: the kind of the root and its canonical path, what
+-- counts of the directories above it, and what each directory holds that is kept and not ignored
+pub record IsSameKept (g h : Scene) (c : Cache) : Type 0 where
+  pub root : c.has_above ≡ true → is_dir_there (h.tree.stat h.root true) ≡ is_dir_there (g.tree.stat g.root true)
+  pub canonical : c.has_above ≡ true → h.tree.canonical h.root ≡ g.tree.canonical g.root
+  pub above : c.has_above ≡ true → dirs_above h.loads h.settings (paths_above h.tree h.settings h.root)
+      ≡ dirs_above g.loads g.settings (paths_above g.tree g.settings g.root)
+  pub dirs : (names : List Bytes) (dir : Dir) → All IsName names → kept_at c names ≡ Some (Loaded dir)
+      → (h.loads (path_along h.root names)).0 ≡ (g.loads (path_along g.root names)).0

@@ -1,0 +1,69 @@
+//! Forgetting the directories at and below a path.
+ghost use Rattle.std.specs.Prelude.{◌≡◌, ◌≢◌, ◌+◌, ℕ, List, All, None, true, string_bytes, if◌then◌else◌};
+ghost use Rattle.std.specs.BTreeMap.{btree_map_len, get_by_text};
+ghost use Rattle.ignore_base.specs.Paths.{IsName};
+ghost use Rattle.ignore_dir.specs.Load.{Loaded};
+ghost use Rattle.ignore_dir.specs.Query.{is_asked, names_of};
+ghost use Rattle.ignore_files.specs.Tree.{Tree};
+ghost use Rattle.ignore_query.specs.Agrees.{Agrees, kept_at};
+ghost use Rattle.ignore_query.specs.Forget.{IsSameKept, is_at_or_below, is_key_in};
+ghost use Rattle.ignore_query.specs.Reached.{scene_of};
+
+use crate::incremental::IncrementalIgnore;
+use crate::kept::{Cache, Kept};
+use ignore_dir::fresh::is_asked;
+
+/// Whether a key is that of the directory at a clean path, or of one below it.
+fn is_key_in(dir: &str, key: &str) -> bool
+    ensures { result ≡ is_key_in dir.now key.now }
+{
+    let (dir, key) = (dir.as_bytes(), key.as_bytes());
+    if dir.len() == 0 {
+        return true;
+    }
+    if key.len() <= dir.len() {
+        return false;
+    }
+    key.starts_with(dir) && key[dir.len()] == b'/'
+}
+
+impl Cache {
+    /// Drops what is kept of the directory at a clean path and of those below it, and returns how
+    /// many there were.
+    pub(crate) fn forget(&mut self, dir: &str) -> usize
+        ensures looked { (text : List ℕ) → get_by_text self.new.dirs text
+            ≡ (if is_key_in dir.now text then None else get_by_text self.old.dirs text) }
+        ensures counted { result + btree_map_len self.new.dirs ≡ btree_map_len self.old.dirs }
+        ensures above { (self.new.has_above ≡ self.old.has_above) × ((self.new.above ≡ self.old.above) × (self.new.base ≡ self.old.base)) }
+    {
+        let before = self.dirs.len();
+        self.dirs.retain(|key: &String, _kept: &mut Kept| !is_key_in(dir, key.as_str()));
+        before - self.dirs.len()
+    }
+}
+
+impl IncrementalIgnore {
+    /// Forgets the directory at a path below the root and all directories below it, so that they
+    /// are loaded anew when they are needed, and returns how many of them were kept. The empty path
+    /// is the root, below which all are. What is above the root stays kept. Where the root is `-`
+    /// or the path isn't clean, nothing is forgotten.
+    ///
+    /// To be called after a change of the files of rules in a directory. Answers are those of the
+    /// tree after the change then, if all other directories that are kept are as before. It
+    /// allocates nothing.
+    pub fn forget(&mut self, dir: &str) -> usize
+        ensures forgotten { (names : List (List ℕ)) → All IsName names → is_asked (string_bytes self.old.asked.root) dir.now ≡ true
+            → kept_at self.new.cache names ≡ (if is_at_or_below (names_of dir.now) names then None else kept_at self.old.cache names) }
+        ensures unchanged { is_asked (string_bytes self.old.asked.root) dir.now ≢ true → self.new.cache ≡ self.old.cache }
+        ensures counted { result + btree_map_len self.new.cache.dirs ≡ btree_map_len self.old.cache.dirs }
+        ensures agrees { (before after : Tree) (loads later : List ℕ → Loaded) → let g = scene_of self.old.asked before loads in
+            let h = scene_of self.old.asked after later in
+            Agrees g self.old.cache → IsSameKept g h self.new.cache → Agrees h self.new.cache }
+        ensures same { self.new.asked ≡ self.old.asked }
+    {
+        if !is_asked(self.root(), dir) {
+            return 0;
+        }
+        self.cache.forget(dir)
+    }
+}

@@ -1,0 +1,86 @@
+//! What is above a root, and whether the root is a directory.
+ghost use Rattle.std.specs.Prelude.{◌≡◌, ◌≢◌, ◌++◌, ◌&&◌, ℕ, List, All, IfOk, IfErr, OnOk, true, map, length, option_map, string_bytes};
+ghost use Rattle.std.specs.List.{filter_map};
+ghost use Rattle.std.specs.Option.{option_to_list};
+ghost use Rattle.ignore_base.specs.Problem.{problem_of, memory};
+ghost use Rattle.ignore_dir.specs.Load.{Loaded, AreLoads, joined_some};
+ghost use Rattle.ignore_dir.specs.Query as queries;
+ghost use Rattle.ignore_dir.specs.Soft.{AllSoft, IsSoft};
+ghost use Rattle.ignore_files.specs.Gives.{IsHonest};
+ghost use Rattle.ignore_files.specs.Tree.{Tree};
+ghost use Rattle.ignore_query.specs.Agrees.{Agrees};
+ghost use Rattle.ignore_query.specs.Reached.{scene_of};
+ghost use Rattle.ignore_query.specs.Reports.{new_above};
+
+use crate::asked::Asked;
+use crate::kept::Cache;
+use crate::load::push_some;
+use ignore_base::Error;
+use ignore_dir::above::load_above;
+use ignore_dir::fresh::has_rules;
+use ignore_files::Files;
+use std::alloc::Global;
+
+/// The errors that there are, as one.
+fn as_one(alloc: Global, errors: Vec<Option<Error>>) -> Result<Option<Error>, Error>
+    ensures value { IfOk result (λ error. option_map problem_of error ≡ joined_some (map (option_map problem_of) errors.items)) }
+    ensures out_of_memory { IfErr result (λ e. problem_of e ≡ memory) }
+{
+    let mut all = Vec::new(alloc);
+    for error in errors {
+        push_some(&mut all, error)?;
+    }
+    Ok(Error::joined(all))
+}
+
+impl Cache {
+    /// Whether the rules decide on a path: whether it has a name, and the root is a directory.
+    pub(crate) fn has_rules<F: Files>(
+        &self,
+        alloc: Global,
+        files: &F,
+        asked: &Asked,
+        path: &str,
+    ) -> Result<bool, Error>
+        ensures value { (tree : Tree) (loads : List ℕ → Loaded) → IsHonest F.Files files.now tree
+            → Agrees (scene_of asked.now tree loads) self.now
+            → IfOk result (λ yes. yes ≡ queries.has_rules tree (string_bytes asked.now.root) path.now) }
+        ensures out_of_memory { IfErr result (λ e. problem_of e ≡ memory) }
+    {
+        if self.has_above {
+            return Ok(!path.is_empty());
+        }
+        has_rules(alloc, files, asked.root.as_str(), path)
+    }
+
+    /// Keeps what is above the root, which is a directory.
+    pub(crate) fn keep_above<F: Files>(
+        &mut self,
+        alloc: Global,
+        files: &F,
+        asked: &Asked,
+        errors: &mut Vec<Error>,
+    ) -> Result<(), Error>
+        ensures agrees { (tree : Tree) (loads : List ℕ → Loaded) → IsHonest F.Files files.now tree → AreLoads tree asked.now.settings loads
+            → queries.is_dir_there (tree.stat (string_bytes asked.now.root) true) ≡ true → let g = scene_of asked.now tree loads in
+            Agrees g self.old → Agrees g self.new }
+        ensures kept { OnOk result (self.new.has_above ≡ true) }
+        ensures same { self.new.dirs ≡ self.old.dirs }
+        ensures problems { (tree : Tree) (loads : List ℕ → Loaded) → IsHonest F.Files files.now tree
+            → AreLoads tree asked.now.settings loads
+            → OnOk result (map problem_of errors.new.items ≡ map problem_of errors.old.items
+            ++ option_to_list (new_above (scene_of asked.now tree loads) self.old)) }
+        ensures soft { AllSoft (map problem_of errors.old.items) → OnOk result (AllSoft (map problem_of errors.new.items)) }
+        ensures out_of_memory { IfErr result (λ e. problem_of e ≡ memory) }
+    {
+        if self.has_above {
+            return Ok(());
+        }
+        let found = load_above(alloc, files, &asked.settings, asked.root.as_str())?;
+        push_some(errors, as_one(alloc, found.errors)?)?;
+        self.above = found.dirs;
+        self.base = found.base;
+        self.has_above = true;
+        Ok(())
+    }
+}

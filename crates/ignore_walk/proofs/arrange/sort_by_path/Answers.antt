@@ -1,0 +1,26 @@
+use Rattle.std.proofs.lemmas.Fn.{always_returns_same}
+use Rattle.std.proofs.lemmas.Result.{on_ok_weaker}
+use Rattle.std.proofs.Common.{rules}
+use Rattle.std.specs.Ordering.{is_lt}
+use Rattle.ignore_walk.specs.declared.arrange.PathListed.{PathListed}
+use Rattle.ignore_walk.specs.Keyed.{comes_first, renamed}
+use Rattle.ignore_walk.specs.Walked.{comes_before}
+use Rattle.ignore_walk.proofs.Arranged.{before_order}
+use Rattle.ignore_walk.proofs.Sorting.{order_of}
+use Rattle.ignore_walk.proofs.arrange.sort_by_path.Goals as goal
+
+pub returns : goal.returns
+returns g c =
+    record {
+      sorted = λ cmp answers o.
+          let lt = comes_first cmp in
+          let order = order_of (comes_before (λ a b. is_lt (cmp a b))) (λ (p : PathListed). renamed p.path p.listed)
+          (before_order (λ a b. is_lt (cmp a b)) o) in
+          on_ok_weaker c.sort_by.result
+          (λ h. (
+            c.sort_by.ensures.permutation,
+            h lt order (always_returns_same _ _ _ (λ a r f' k. search rules)),
+            c.sort_by.ensures.stable lt order (always_returns_same _ _ _ (λ a r f' k. search rules)),
+          ))
+          c.sort_by.ensures.sorted;
+    }

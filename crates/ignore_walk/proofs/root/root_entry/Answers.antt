@@ -1,0 +1,14 @@
+use Rattle.std.proofs.Common.{◌≡◌, false, Result, subst, IfOk}
+use Rattle.ignore_base.specs.Problem.{Problem}
+use Rattle.ignore_walk.specs.Child.{or_failed}
+use Rattle.ignore_walk.specs.Entry.{Entry, item_of, fresh}
+use Rattle.ignore_walk.specs.Whole.{root_of}
+use Rattle.ignore_walk.proofs.RootLemmas.{root_entry-is}
+use Rattle.ignore_walk.proofs.root.root_entry.Goals as goal
+
+pub returns-clause-value : goal.returns-clause-value
+returns-clause-value g c = λ s honest follow device is_dir.
+    let root = c.args.root.now in
+    let found = or_failed root 0 (root_of s root) (s.tree.stat root false) in
+    subst (λ (r : Result Entry Problem). IfOk c.on_device.result (λ item. item_of item ≡ fresh r)) (root_entry-is s root c.args.is_dir is_dir)
+    (c.on_device.ensures.value s found honest device (c.in_ok-item.ensures.value s honest follow))

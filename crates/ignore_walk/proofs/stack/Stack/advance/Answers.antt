@@ -1,0 +1,21 @@
+use Rattle.std.proofs.Common.{◌≡◌, ◌∷◌, [], ℕ, List, map, sym, ◌∙◌, subst}
+use Rattle.ignore_files.specs.declared.types.Listed.{Listed}
+use Rattle.ignore_walk.specs.Entry.{item_of}
+use Rattle.ignore_walk.specs.Left.{Remains}
+use Rattle.ignore_walk.proofs.LeftLemmas.{state}
+use Rattle.ignore_walk.proofs.StandLemmas.{rests_none}
+use Rattle.ignore_walk.proofs.stack.Stack.advance.Goals as goal
+
+pub returns-in-Some-clause-advanced : goal.returns-in-Some-clause-advanced
+returns-in-Some-clause-advanced g c = λ s items n suits r more.
+    let stack = c.args.self.now in
+    let made = map item_of stack.made.items in
+    let empty : stack.frames.items ≡ [] = sym c.as_slice.ensures.value ∙ c.is_outside.ensures.yes c.if-not-is_outside.false in
+    let roots = c.in-Some.root ∷ c.pop_front.new.self.items in
+    let remains : Remains s (state made r.root r.place [] r.seen roots) items n =
+    subst (λ (all : List (List ℕ)). Remains s (state made r.root r.place [] r.seen all) items n) c.in-Some.ensures.items
+    (subst (λ (rests : List (List Listed)). Remains s (state made r.root r.place rests r.seen stack.roots.items) items n)
+    (rests_none stack empty) r.remains) in
+    let remains' = subst (λ (root : List ℕ). Remains s (state made r.root r.place [] r.seen (root ∷ c.pop_front.new.self.items)) items n)
+    (sym c.as_str.ensures) remains in
+    c.begin.ensures.begun s r.root r.place r.seen items n suits empty r.is.kept remains'

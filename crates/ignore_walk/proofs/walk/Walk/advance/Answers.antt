@@ -1,0 +1,65 @@
+use Rattle.std.proofs.Common.{◌<◌, Option, inl, inr, refl, sym, ap, subst, arith, Err}
+use Rattle.ignore_walk.specs.Entry.{Item}
+use Rattle.ignore_walk.specs.Nexts.{Nexts}
+use Rattle.ignore_walk.proofs.walk.Walk.advance.Goals as goal
+
+pub returns-in-Some-clause-given : goal.returns-in-Some-clause-given
+returns-in-Some-clause-given g c = λ s items n r.
+    let h = c.in-Some.ensures.handed s items n r.stands in
+    inl (record {
+      others = h.others;
+      k = n;
+      are = h.are;
+      rest = record { suits = r.suits; goes_on = r.goes_on; stands = h.rest };
+      taken = refl;
+    })
+
+pub returns-then-self-eq0-clause-given : goal.returns-then-self-eq0-clause-given
+returns-then-self-eq0-clause-given g c = λ s items n r.
+    let i = c.loop-self.invariant.remaining s items n
+    (record { suits = r.suits; goes_on = r.goes_on; stands = c.in_default.ensures.handed s items n r.stands }) in
+    let more : 0 < i.0 = c.is_done.ensures.more c.loop-self-test.true s items i.0 i.2.stands in
+    let few : c.args.self.now.left < n = omega (i.1, c.if-self-eq0.true, more, arith) in
+    subst (λ (o : Option Item). Nexts g.F.Files g.S.Callbacks s c.args.self.now o c.end.new.self items n) (sym c.end.ensures.item)
+    (inr (inr (ap Err c.step_limit.ensures, few), c.end.ensures.ended))
+
+pub returns-in-Some-take_made-clause-given : goal.returns-in-Some-take_made-clause-given
+returns-in-Some-take_made-clause-given g c = λ s items n r.
+    let i = c.loop-self.invariant.remaining s items n
+    (record { suits = r.suits; goes_on = r.goes_on; stands = c.in_default.ensures.handed s items n r.stands }) in
+    let more : 0 < i.0 = c.is_done.ensures.more c.loop-self-test.true s items i.0 i.2.stands in
+    let step = c.in-Ok.ensures.advanced s items i.0 i.2.suits i.2.stands more in
+    let h = c.in-Some-take_made.ensures.handed s items step.0 step.2 in
+    inl (record {
+      others = h.others;
+      k = step.0;
+      are = h.are;
+      rest = record { suits = i.2.suits; goes_on = i.2.goes_on; stands = h.rest };
+      taken = omega (i.1, step.1, c.if-self-eq0.false, arith);
+    })
+
+pub loop-self-preserved : goal.loop-self-preserved
+loop-self-preserved g c = record {
+  made = c.in_default-take_made.ensures.length.1;
+  fewer = omega (c.loop-self.invariant.fewer, arith);
+  ground = c.loop-self.invariant.ground;
+  remaining = λ s items n r.
+      let i = c.loop-self.invariant.remaining s items n r in
+      let more : 0 < i.0 = c.is_done.ensures.more c.loop-self-test.true s items i.0 i.2.stands in
+      let step = c.in-Ok.ensures.advanced s items i.0 i.2.suits i.2.stands more in (
+        step.0,
+        omega (i.1, step.1, c.if-self-eq0.false, arith),
+        record {
+          suits = i.2.suits;
+          goes_on = i.2.goes_on;
+          stands = c.in_default-take_made.ensures.handed s items step.0 step.2;
+        },
+      );
+}
+
+pub returns-clause-given : goal.returns-clause-given
+returns-clause-given g c = λ s items n r.
+    let i = c.loop-self.invariant.remaining s items n
+    (record { suits = r.suits; goes_on = r.goes_on; stands = c.in_default.ensures.handed s items n r.stands }) in
+    let done = c.is_done.ensures.none c.loop-self-test.false i.2.goes_on s items i.0 c.loop-self.invariant.made i.2.stands in
+    (done.0, omega (i.1, done.1, arith))

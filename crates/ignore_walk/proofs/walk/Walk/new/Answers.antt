@@ -1,0 +1,12 @@
+use Rattle.std.proofs.Common.{ℕ, List, [], refl, sym, ◌∙◌, subst}
+use Rattle.ignore_walk.specs.Whole.{WalkedRoots}
+use Rattle.ignore_walk.proofs.StandLemmas.{stand_whole}
+use Rattle.ignore_walk.proofs.walk.Walk.new.Goals as goal
+
+pub returns-clause-whole : goal.returns-clause-whole
+returns-clause-whole g c = λ s items n suits whole. record {
+  suits = suits;
+  goes_on = refl;
+  stands = stand_whole s _ items n (c.from_vec-2.ensures.items ∙ c.new-4.ensures.items) c.new-3.ensures.items c.new.ensures.items
+      (subst (λ (roots : List (List ℕ)). WalkedRoots s [] roots items n) (sym c.from_vec.ensures.items) whole);
+}

@@ -1,0 +1,293 @@
+//! What stays the same in a walk, and what it makes of one entry.
+ghost use Rattle.std.specs.Prelude.{◌≡◌, ◌++◌, ◌∷◌, ◌||◌, ℕ, List, None, true, false, not, option_map, reverse, IfOk, IfErr, [], Err, OnOk, map, string_bytes};
+ghost use Rattle.std.specs.Option.{option_to_list};
+ghost use Rattle.ignore_base.specs.Problem.{problem_of, memory};
+ghost use Rattle.ignore_files.specs.Gives.{IsHonest};
+ghost use Rattle.ignore_walk.specs.Branch.{Branch, path_of, placed_above, text_at};
+ghost use Rattle.ignore_walk.specs.Child as children;
+ghost use Rattle.ignore_walk.specs.Entry.{entry_of, item_of, fresh, problem_in};
+ghost use Rattle.ignore_walk.specs.Fates.{fate_of, differ};
+ghost use Rattle.ignore_walk.specs.Frames.{AreFrames, AreSeen, device_of};
+ghost use Rattle.ignore_walk.specs.Opens.{Opens};
+ghost use Rattle.ignore_walk.specs.Scene.{Scene};
+ghost use Rattle.ignore_walk.specs.Suits.{Suits};
+ghost use Rattle.ignore_walk.specs.Walked as walked;
+ghost use Rattle.ignore_walk.specs.Whole as wholes;
+
+use crate::above::{paths_of, see, unseen_error};
+use crate::callbacks::{Callbacks, Options};
+use crate::child::{child, identity_at};
+use crate::entry::{DirEntry, Item};
+use crate::frame::Frame;
+use crate::open::{Opened, loaded, open};
+use crate::root::root_entry;
+use crate::skip::{is_ignored, is_too_large};
+use ignore_base::Error;
+use ignore_dir::above::load_above;
+use ignore_dir::{Outside, Placed, Settings};
+use ignore_files::{Files, Listed, Name, Refusal};
+use std::alloc::{AllocError, Global};
+use std::collections::VecDeque;
+
+/// What stays the same in a walk.
+#[derive(Drop)]
+pub struct Ground<'a, F: Files, S> {
+    pub files: &'a F,
+    pub owner: &'a S,
+    pub settings: Settings,
+    pub outside: Outside,
+    pub options: Options,
+}
+
+/// What becomes of an entry that isn't skipped.
+#[derive(Clone, Copy)]
+pub(crate) enum Fate {
+    Yield,
+    Load,
+    Enter,
+}
+
+/// What is above a root: what counts of the directories there, the root as they see it, and what is
+/// wrong with those that are above no earlier root.
+#[derive(Drop)]
+pub(crate) struct AboveRoot {
+    pub(crate) dirs: Vec<Placed>,
+    pub(crate) base: String,
+    pub(crate) error: Option<Error>,
+}
+
+/// Whether a depth is the greatest, or below it.
+fn is_at_most(max_depth: Option<usize>, depth: usize) -> bool
+    ensures { result ≡ walked.is_at_most max_depth depth }
+{
+    match max_depth {
+        None => false,
+        Some(most) => most <= depth,
+    }
+}
+
+/// Whether nothing below an entry is yielded: whether it leads into no directory, or is at the
+/// greatest depth.
+fn is_leaf(max_depth: Option<usize>, depth: usize, leads_in: bool) -> bool
+    ensures { result ≡ not leads_in || walked.is_at_most max_depth depth }
+{
+    !leads_in || is_at_most(max_depth, depth)
+}
+
+/// Whether two devices are known and differ.
+fn differ(a: Option<u64>, b: Option<u64>) -> bool
+    ensures { result ≡ differ a b }
+{
+    match a {
+        None => false,
+        Some(a) => match b {
+            None => false,
+            Some(b) => a != b,
+        },
+    }
+}
+
+/// The device of what a path leads to, where it matters and is known.
+fn device_if<F: Files>(
+    alloc: Global,
+    files: &F,
+    matters: bool,
+    path: &str,
+) -> Result<Option<u64>, Error>
+    ensures value { (g : Scene) → IsHonest F.Files files.now g.tree → g.same_file_system ≡ matters
+        → IfOk result (λ d. d ≡ device_of g path.now) }
+    ensures out_of_memory { IfErr result (λ e. problem_of e ≡ memory) }
+{
+    if !matters {
+        return Ok(None);
+    }
+    match identity_at(alloc, files, path) {
+        Ok(identity) => Ok(Some(identity.device)),
+        Err(Refusal::Fault(_)) => Ok(None),
+        Err(Refusal::Memory) => Err(Error::Memory),
+    }
+}
+
+/// A path, kept.
+fn named(alloc: Global, path: &str) -> Result<Name, AllocError>
+    ensures { IfOk result (λ n. n ≡ path.now) }
+{
+    Ok(Name::new(String::from_str(alloc, path)?))
+}
+
+impl<'a, F: Files, S: Callbacks> Ground<'a, F, S> {
+    /// What becomes of an entry that isn't skipped. `device` is that of its root.
+    pub(crate) fn fate(
+        &self,
+        alloc: Global,
+        device: Option<u64>,
+        entry: &DirEntry,
+        leads_in: bool,
+    ) -> Result<Fate, Error>
+        ensures value { (g : Scene) (root : List ℕ) (b : Branch)
+            → Suits F.Files S.Callbacks self.now.files.now self.now.owner.now self.now.settings self.now.outside self.now.options g
+            → (leads_in ≡ true → device ≡ device_of g root) → leads_in ≡ walked.leads_in g b (entry_of entry.now)
+            → walked.is_skipped g root b (entry_of entry.now) ≡ false
+            → IfOk result (λ f. walked.fate g root b (entry_of entry.now) ≡ fate_of f) }
+        ensures out_of_memory { IfErr result (λ e. problem_of e ≡ memory) }
+    {
+        if is_leaf(self.settings.max_depth, entry.depth(), leads_in) {
+            return Ok(Fate::Yield);
+        }
+        let own = device_if(
+            alloc,
+            self.files,
+            self.options.same_file_system,
+            entry.path(),
+        )?;
+        if differ(device, own) {
+            return Ok(Fate::Load);
+        }
+        Ok(Fate::Enter)
+    }
+
+    /// The device of a root, where it matters and is known.
+    pub(crate) fn device(
+        &self,
+        alloc: Global,
+        is_dir: bool,
+        root: &str,
+    ) -> Result<Option<u64>, Error>
+        ensures value { (g : Scene)
+            → Suits F.Files S.Callbacks self.now.files.now self.now.owner.now self.now.settings self.now.outside self.now.options g
+            → is_dir ≡ true → IfOk result (λ d. d ≡ device_of g root.now) }
+        ensures out_of_memory { IfErr result (λ e. problem_of e ≡ memory) }
+    {
+        let matters = self.options.same_file_system && is_dir;
+        device_if(alloc, self.files, matters, root)
+    }
+
+    /// What is wrong with the files of rules of a directory.
+    pub(crate) fn load_error(&self, alloc: Global, path: &str) -> Result<Option<Error>, Error>
+        ensures value { (g : Scene)
+            → Suits F.Files S.Callbacks self.now.files.now self.now.owner.now self.now.settings self.now.outside self.now.options g
+            → IfOk result (λ e. option_map problem_of e ≡ (g.loads path.now).1) }
+        ensures out_of_memory { IfErr result (λ e. problem_of e ≡ memory) }
+    {
+        let (_, error) = loaded(alloc, self.files, &self.settings, path)?;
+        Ok(error)
+    }
+
+    /// Loads and lists a directory. `text` is its path as the directories around it see it.
+    pub(crate) fn opened(&self, alloc: Global, path: &str, text: Name) -> Result<Opened, Error>
+        ensures value { (g : Scene)
+            → Suits F.Files S.Callbacks self.now.files.now self.now.owner.now self.now.settings self.now.outside self.now.options g
+            → IfOk result (λ o. Opens g path.now text o) }
+        ensures out_of_memory { IfErr result (λ e. problem_of e ≡ memory) }
+    {
+        let path = named(alloc, path)?;
+        let order = self.options.order;
+        let opened = open(
+            alloc,
+            self.files,
+            self.owner,
+            &self.settings,
+            order,
+            path,
+            text,
+        )?;
+        Ok(opened)
+    }
+
+    /// Whether an entry below a root is skipped. `text` is its path as the directories around it
+    /// see it.
+    pub(crate) fn is_skipped(
+        &self,
+        alloc: Global,
+        above: &[Placed],
+        frames: &[Frame],
+        text: &str,
+        entry: &DirEntry,
+    ) -> Result<bool, Error>
+        ensures value { (g : Scene) (root : List ℕ) (b : Branch) (name : List ℕ)
+            → Suits F.Files S.Callbacks self.now.files.now self.now.owner.now self.now.settings self.now.outside self.now.options g
+            → AreFrames g root b (reverse frames.now) → reverse above.now ≡ placed_above g root → text.now ≡ text_at g root b ++ name
+            → (entry_of entry.now).path ≡ path_of root (name ∷ b) → problem_in entry.now ≡ None
+            → IfOk result (λ yes. yes ≡ walked.is_skipped g root (name ∷ b) (entry_of entry.now)) }
+        ensures out_of_memory { IfErr result (λ e. problem_of e ≡ memory) }
+    {
+        if is_ignored(
+            alloc,
+            &self.settings,
+            &self.outside,
+            above,
+            frames,
+            text,
+            entry,
+        )? {
+            return Ok(true);
+        }
+        if is_too_large(alloc, self.files, &self.settings, entry)? {
+            return Ok(true);
+        }
+        Ok(!self.owner.filter(entry))
+    }
+
+    /// What a listed thing is, in the directory that was entered last.
+    pub(crate) fn child(
+        &self,
+        alloc: Global,
+        frames: &[Frame],
+        listed: Listed,
+    ) -> Result<Item, Error>
+        ensures value { (g : Scene) (root : List ℕ) (b : Branch)
+            → Suits F.Files S.Callbacks self.now.files.now self.now.owner.now self.now.settings self.now.outside self.now.options g
+            → AreFrames g root b (reverse frames.now) → IfOk result (λ item. item_of item ≡ fresh (children.child g root b listed)) }
+        ensures out_of_memory { IfErr result (λ e. problem_of e ≡ memory) }
+    {
+        let (follow, same) = (self.settings.follow_links, self.options.same_file_system);
+        child(alloc, self.files, follow, same, frames, listed)
+    }
+
+    /// The entry of a root, or the error in its place.
+    pub(crate) fn root_entry(&self, alloc: Global, is_dir: bool, root: &str) -> Result<Item, Error>
+        ensures value { (g : Scene)
+            → Suits F.Files S.Callbacks self.now.files.now self.now.owner.now self.now.settings self.now.outside self.now.options g
+            → is_dir ≡ walked.is_dir_found (g.tree.stat root.now true)
+            → IfOk result (λ item. item_of item ≡ fresh (wholes.root_entry g root.now)) }
+        ensures out_of_memory { IfErr result (λ e. problem_of e ≡ memory) }
+    {
+        let (follow, same) = (self.settings.follow_links, self.options.same_file_system);
+        root_entry(alloc, self.files, follow, same, is_dir, root)
+    }
+
+    /// Loads the directories above a root that is a directory. From now on they were seen.
+    pub(crate) fn look_above(
+        &self,
+        alloc: Global,
+        seen: &mut Vec<Name>,
+        root: &str,
+    ) -> Result<AboveRoot, Error>
+        ensures dirs { (g : Scene)
+            → Suits F.Files S.Callbacks self.now.files.now self.now.owner.now self.now.settings self.now.outside self.now.options g
+            → IfOk result (λ a. reverse a.dirs.items ≡ placed_above g root.now) }
+        ensures base { (g : Scene)
+            → Suits F.Files S.Callbacks self.now.files.now self.now.owner.now self.now.settings self.now.outside self.now.options g
+            → IfOk result (λ a. string_bytes a.base ≡ text_at g root.now []) }
+        ensures error { (g : Scene) (paths : List (List ℕ))
+            → Suits F.Files S.Callbacks self.now.files.now self.now.owner.now self.now.settings self.now.outside self.now.options g
+            → AreSeen seen.old.items paths → walked.is_dir_found (g.tree.stat root.now true) ≡ true
+            → IfOk result (λ a. map Err (option_to_list (option_map problem_of a.error)) ≡ wholes.reported_before g paths root.now) }
+        ensures seen { (g : Scene) (paths : List (List ℕ))
+            → Suits F.Files S.Callbacks self.now.files.now self.now.owner.now self.now.settings self.now.outside self.now.options g
+            → AreSeen seen.old.items paths → walked.is_dir_found (g.tree.stat root.now true) ≡ true
+            → OnOk result (AreSeen seen.new.items (paths ++ wholes.above_root g root.now)) }
+        ensures out_of_memory { IfErr result (λ e. problem_of e ≡ memory) }
+    {
+        let above = load_above(alloc, self.files, &self.settings, root)?;
+        let paths = paths_of(alloc, above.base.as_str(), above.dirs.as_slice())?;
+        let errors = VecDeque::from_vec(above.errors);
+        let error = unseen_error(alloc, seen.as_slice(), paths.as_slice(), errors)?;
+        see(seen, paths)?;
+        Ok(AboveRoot {
+            dirs: above.dirs,
+            base: above.base,
+            error,
+        })
+    }
+}

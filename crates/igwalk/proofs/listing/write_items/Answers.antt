@@ -1,0 +1,22 @@
+use Rattle.std.proofs.Common.{refl}
+use Rattle.igwalk.specs.Listing.{lines_of, reports_of}
+use Rattle.igwalk.proofs.ItemLemmas.{grown, reported_more}
+use Rattle.igwalk.proofs.LineLemmas.{appends_nothing}
+use Rattle.igwalk.proofs.listing.write_items.Goals as goal
+
+pub loop-item-init : goal.loop-item-init
+loop-item-init g c = record {
+  lists = appends_nothing (g.W.Write.contents c.args.out.now);
+  reports = appends_nothing (g.E.Write.contents c.args.err.now);
+  reported = refl;
+}
+
+pub loop-item-preserved : goal.loop-item-preserved
+loop-item-preserved g c =
+    let l = c.loop-item in
+    let h = c.in_ok-any.ensures.lists in
+    record {
+      lists = grown _ _ _ lines_of l.yielded c.in-Some.item l.invariant.lists h.0;
+      reports = grown _ _ _ reports_of l.yielded c.in-Some.item l.invariant.reports h.1;
+      reported = reported_more l.yielded c.in-Some.item _ _ l.invariant.reported h.2;
+    }

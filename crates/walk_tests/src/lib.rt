@@ -1,0 +1,7 @@
+//! Tests of entries and of walks, with ample memory.
+#![tactic(auto)]
+
+#[cfg(test)]
+mod entries;
+#[cfg(test)]
+mod walks;
