@@ -1,5 +1,6 @@
 pub mod ChainLemmas
 pub mod ForgetLemmas
 pub mod KeepLemmas
+pub mod NeedLemmas
 pub mod WayLemmas
 pub mod QueryLemmas

@@ -25,7 +25,7 @@ problems_of g c fronts = map (problem_in g) (not_kept c (take_while (λ f. not (
 abbrev pub collected : List (Option Problem) → List Problem
 collected ps = filter_map (λ p. p) ps
 
-map-map : {A B C : Type 0} (f : B → C) (h : A → B) (xs : List A) → map f (map h xs) ≡ map (λ x. f (h x)) xs
+pub map-map : {A B C : Type 0} (f : B → C) (h : A → B) (xs : List A) → map f (map h xs) ≡ map (λ x. f (h x)) xs
 map-map f h [] = refl
 map-map f h (x ∷ xs) = ap (λ l. f (h x) ∷ l) (map-map f h xs)
 
@@ -40,7 +40,7 @@ left_none (x ∷ xs) = ap (λ l. x ∷ l) (left_none xs)
 pub left_all : (names : List (List ℕ)) → left [] names ≡ ancestors names
 left_all names = left_none (ancestors names)
 
-left_next : (front : List (List ℕ)) (n : List ℕ) (rest : List (List ℕ)) → left front (n ∷ rest) ≡ front ∷ left (front ++ n ∷ []) rest
+pub left_next : (front : List (List ℕ)) (n : List ℕ) (rest : List (List ℕ)) → left front (n ∷ rest) ≡ front ∷ left (front ++ n ∷ []) rest
 left_next front n rest =
     ap (λ (f : List (List ℕ)). f ∷ map (λ q. front ++ q) (map (λ q. n ∷ q) (ancestors rest))) (append-nil front)
     ∙ ap (λ (l : List (List (List ℕ))). front ∷ l)
@@ -53,7 +53,7 @@ drop_next-suc [] i n lt is = absurd (omega arith)
 drop_next-suc (x ∷ xs) zero n lt is = ap (λ y. y ∷ xs) (sym is)
 drop_next-suc (x ∷ xs) (suc i) n lt is = drop_next-suc xs i n (omega arith) is
 
-drop_next : (names : List (List ℕ)) (i : ℕ) (n : List ℕ) → i < length names → n ≡ get_or names i n → drop i names ≡ n ∷ drop (i + 1) names
+pub drop_next : (names : List (List ℕ)) (i : ℕ) (n : List ℕ) → i < length names → n ≡ get_or names i n → drop i names ≡ n ∷ drop (i + 1) names
 drop_next names i n lt is = rw add-one (drop_next-suc names i n lt is)
 
 -- the next ancestor, and those after it
@@ -64,7 +64,7 @@ left_at names i n lt is more =
     ap (left (take i names)) (drop_next names i n lt is)
     ∙ (left_next (take i names) n (drop (i + 1) names) ∙ ap (λ (f : List (List ℕ)). take i names ∷ left f (drop (i + 1) names)) (sym more))
 
-drop_all : (names : List (List ℕ)) (i : ℕ) → length names ≤ i → drop i names ≡ []
+pub drop_all : (names : List (List ℕ)) (i : ℕ) → length names ≤ i → drop i names ≡ []
 drop_all [] zero le = refl
 drop_all [] (suc i) le = refl
 drop_all (x ∷ xs) zero le = absurd (omega arith)

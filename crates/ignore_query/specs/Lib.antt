@@ -1,4 +1,5 @@
 pub mod Agrees
 pub mod Forget
+pub mod Needs
 pub mod Reached
 pub mod Reports

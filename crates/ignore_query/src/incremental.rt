@@ -1,5 +1,5 @@
 //! A matcher of single paths below a root.
-ghost use Rattle.std.specs.Prelude.{◌≡◌, true, ℕ, List, IfOk, IfErr, option_map, string_bytes};
+ghost use Rattle.std.specs.Prelude.{◌≡◌, ◌≢◌, true, ℕ, List, IfOk, IfErr, OnOk, option_map, string_bytes};
 ghost use Rattle.ignore_files.specs.Gives.{IsHonest};
 ghost use Rattle.ignore_files.specs.Tree.{Tree};
 ghost use Rattle.ignore_base.specs.Problem.{problem_of, memory};
@@ -8,6 +8,7 @@ ghost use Rattle.ignore_dir.specs.Query as queries;
 ghost use Rattle.ignore_dir.specs.Scene.{Scene};
 ghost use Rattle.ignore_dir.specs.Soft.{IsSoft};
 ghost use Rattle.ignore_query.specs.Agrees.{Agrees};
+ghost use Rattle.ignore_query.specs.Needs.{KeepsNeeded, Stays, is_decided, needed};
 ghost use Rattle.ignore_query.specs.Reached.{scene_of};
 ghost use Rattle.ignore_query.specs.Reports.{reported, reported_by_rules};
 
@@ -77,6 +78,14 @@ impl IncrementalIgnore {
         ensures value { (tree : Tree) (loads : List ℕ → Loaded) → IsHonest F.Files files.now tree
             → AreLoads tree self.old.asked.settings loads → let g = scene_of self.old.asked tree loads in
             Agrees g self.old.cache → IfOk result (λ m. m ≡ (queries.query g path.now is_dir).0) }
+        ensures stays { Stays self.old.cache self.new.cache }
+        ensures kept { (tree : Tree) (loads : List ℕ → Loaded) → IsHonest F.Files files.now tree
+            → AreLoads tree self.old.asked.settings loads → let g = scene_of self.old.asked tree loads in
+            Agrees g self.old.cache → is_decided g path.now is_dir ≡ true
+            → OnOk result (KeepsNeeded (needed g (queries.names_of path.now)) self.old.cache self.new.cache) }
+        ensures unchanged { (tree : Tree) (loads : List ℕ → Loaded) → IsHonest F.Files files.now tree
+            → AreLoads tree self.old.asked.settings loads → let g = scene_of self.old.asked tree loads in
+            Agrees g self.old.cache → is_decided g path.now is_dir ≢ true → self.new.cache ≡ self.old.cache }
         ensures agrees { (tree : Tree) (loads : List ℕ → Loaded) → IsHonest F.Files files.now tree
             → AreLoads tree self.old.asked.settings loads → let g = scene_of self.old.asked tree loads in
             Agrees g self.old.cache → Agrees g self.new.cache }
@@ -104,6 +113,14 @@ impl IncrementalIgnore {
         ensures reports { (tree : Tree) (loads : List ℕ → Loaded) → IsHonest F.Files files.now tree
             → AreLoads tree self.old.asked.settings loads → let g = scene_of self.old.asked tree loads in
             Agrees g self.old.cache → IfOk result (λ r. option_map problem_of r.1 ≡ reported g self.old.cache path.now is_dir) }
+        ensures stays { Stays self.old.cache self.new.cache }
+        ensures kept { (tree : Tree) (loads : List ℕ → Loaded) → IsHonest F.Files files.now tree
+            → AreLoads tree self.old.asked.settings loads → let g = scene_of self.old.asked tree loads in
+            Agrees g self.old.cache → is_decided g path.now is_dir ≡ true
+            → OnOk result (KeepsNeeded (needed g (queries.names_of path.now)) self.old.cache self.new.cache) }
+        ensures unchanged { (tree : Tree) (loads : List ℕ → Loaded) → IsHonest F.Files files.now tree
+            → AreLoads tree self.old.asked.settings loads → let g = scene_of self.old.asked tree loads in
+            Agrees g self.old.cache → is_decided g path.now is_dir ≢ true → self.new.cache ≡ self.old.cache }
         ensures agrees { (tree : Tree) (loads : List ℕ → Loaded) → IsHonest F.Files files.now tree
             → AreLoads tree self.old.asked.settings loads → let g = scene_of self.old.asked tree loads in
             Agrees g self.old.cache → Agrees g self.new.cache }
@@ -141,6 +158,11 @@ impl IncrementalIgnore {
             → AreLoads tree self.old.asked.settings loads → let g = scene_of self.old.asked tree loads in
             Agrees g self.old.cache → queries.is_asked g.root path.now ≡ true → queries.has_rules tree g.root path.now ≡ true
             → IfOk result (λ r. option_map problem_of r.1 ≡ reported_by_rules g self.old.cache path.now is_dir) }
+        ensures stays { Stays self.old.cache self.new.cache }
+        ensures kept { (tree : Tree) (loads : List ℕ → Loaded) → IsHonest F.Files files.now tree
+            → AreLoads tree self.old.asked.settings loads → let g = scene_of self.old.asked tree loads in
+            Agrees g self.old.cache → queries.is_asked g.root path.now ≡ true → queries.has_rules tree g.root path.now ≡ true
+            → OnOk result (KeepsNeeded (needed g (queries.names_of path.now)) self.old.cache self.new.cache) }
         ensures agrees { (tree : Tree) (loads : List ℕ → Loaded) → IsHonest F.Files files.now tree
             → AreLoads tree self.old.asked.settings loads → let g = scene_of self.old.asked tree loads in
             Agrees g self.old.cache → queries.is_asked g.root path.now ≡ true → queries.has_rules tree g.root path.now ≡ true

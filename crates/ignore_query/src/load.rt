@@ -1,9 +1,10 @@
 //! Directories that are looked up, or loaded and kept.
 ghost use Rattle.std.specs.Prelude.{◌≡◌, ◌≢◌, ◌++◌, ◌∷◌, [], ℕ, List, All, Some};
-ghost use Rattle.std.specs.Prelude.{IfOk, IfErr, OnOk, true, not, map, option_map, string_bytes, if◌then◌else◌};
+ghost use Rattle.std.specs.Prelude.{IfOk, IfErr, OnOk, true, not, ◌||◌, map, option_map, is_some, string_bytes, if◌then◌else◌};
 ghost use Rattle.std.specs.BTreeMap.{get_by_text};
 ghost use Rattle.std.specs.List.{filter_map, list_all, list_any};
 ghost use Rattle.std.specs.Option.{option_to_list};
+ghost use Rattle.std.specs.Str.{bytes_eq};
 ghost use Rattle.ignore_base.specs.Paths.{IsName, components, is_proper};
 ghost use Rattle.ignore_base.specs.Problem.{problem_of, memory};
 ghost use Rattle.ignore_dir.specs.Above.{path_along};
@@ -14,6 +15,7 @@ ghost use Rattle.ignore_dir.specs.Soft.{AllSoft};
 ghost use Rattle.ignore_files.specs.Gives.{IsHonest};
 ghost use Rattle.ignore_files.specs.Tree.{Tree};
 ghost use Rattle.ignore_query.specs.Agrees.{Agrees, IsInLoaded, IsLoaded, IsNext, IsRight};
+ghost use Rattle.ignore_query.specs.Needs.{KeepsNeeded, Stays, needed};
 ghost use Rattle.ignore_query.specs.Reached.{scene_of};
 ghost use Rattle.ignore_query.specs.Reports.{new_below, problem_in, problems_at};
 
@@ -159,6 +161,9 @@ impl Cache {
         key: &str,
         errors: &mut Vec<Error>,
     ) -> Result<bool, Error>
+        ensures stays { Stays self.old self.new }
+        ensures kept { OnOk result ((text : List ℕ) → is_some (get_by_text self.new.dirs text)
+            ≡ (is_some (get_by_text self.old.dirs text) || bytes_eq key.now text)) }
         ensures others { (text : List ℕ) → text ≢ key.now → get_by_text self.new.dirs text ≡ get_by_text self.old.dirs text }
         ensures above { (self.new.has_above ≡ self.old.has_above) × ((self.new.above ≡ self.old.above) × (self.new.base ≡ self.old.base)) }
         ensures agrees { (tree : Tree) (loads : List ℕ → Loaded) → IsHonest F.Files files.now tree → AreLoads tree asked.now.settings loads
@@ -199,6 +204,11 @@ impl Cache {
         names: &[&str],
         errors: &mut Vec<Error>,
     ) -> Result<bool, Error>
+        ensures stays { Stays self.old self.new }
+        ensures kept { (tree : Tree) (loads : List ℕ → Loaded) → IsHonest F.Files files.now tree → AreLoads tree asked.now.settings loads
+            → let g = scene_of asked.now tree loads in let all = map (λ n. n.now) names.now in
+            Agrees g self.old → All IsName all → self.old.has_above ≡ true
+            → OnOk result (KeepsNeeded (needed g all) self.old self.new) }
         ensures agrees { (tree : Tree) (loads : List ℕ → Loaded) → IsHonest F.Files files.now tree → AreLoads tree asked.now.settings loads
             → let g = scene_of asked.now tree loads in
             Agrees g self.old → All IsName (map (λ n. n.now) names.now) → self.old.has_above ≡ true → Agrees g self.new }
@@ -241,6 +251,11 @@ impl Cache {
         is_dir: bool,
         errors: &mut Vec<Error>,
     ) -> Result<Verdict, Error>
+        ensures stays { Stays self.old self.new }
+        ensures kept { (tree : Tree) (loads : List ℕ → Loaded) → IsHonest F.Files files.now tree → AreLoads tree asked.now.settings loads
+            → let g = scene_of asked.now tree loads in
+            Agrees g self.old → list_all is_proper (components path.now) ≡ true → self.old.has_above ≡ true
+            → OnOk result (KeepsNeeded (needed g (components path.now)) self.old self.new) }
         ensures agrees { (tree : Tree) (loads : List ℕ → Loaded) → IsHonest F.Files files.now tree → AreLoads tree asked.now.settings loads
             → let g = scene_of asked.now tree loads in
             Agrees g self.old → list_all is_proper (components path.now) ≡ true → self.old.has_above ≡ true → Agrees g self.new }

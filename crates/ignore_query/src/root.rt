@@ -9,6 +9,7 @@ ghost use Rattle.ignore_dir.specs.Soft.{AllSoft, IsSoft};
 ghost use Rattle.ignore_files.specs.Gives.{IsHonest};
 ghost use Rattle.ignore_files.specs.Tree.{Tree};
 ghost use Rattle.ignore_query.specs.Agrees.{Agrees};
+ghost use Rattle.ignore_query.specs.Needs.{Stays};
 ghost use Rattle.ignore_query.specs.Reached.{scene_of};
 ghost use Rattle.ignore_query.specs.Reports.{new_above};
 
@@ -64,6 +65,7 @@ impl Cache {
         ensures agrees { (tree : Tree) (loads : List ℕ → Loaded) → IsHonest F.Files files.now tree → AreLoads tree asked.now.settings loads
             → queries.is_dir_there (tree.stat (string_bytes asked.now.root) true) ≡ true → let g = scene_of asked.now tree loads in
             Agrees g self.old → Agrees g self.new }
+        ensures stays { Stays self.old self.new }
         ensures kept { OnOk result (self.new.has_above ≡ true) }
         ensures same { self.new.dirs ≡ self.old.dirs }
         ensures problems { (tree : Tree) (loads : List ℕ → Loaded) → IsHonest F.Files files.now tree

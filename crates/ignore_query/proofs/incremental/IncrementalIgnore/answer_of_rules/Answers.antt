@@ -9,6 +9,7 @@ use Rattle.ignore_dir.specs.Soft.{AllSoft, IsSoft}
 use Rattle.ignore_dir.proofs.SoftLemmas.{joined-soft}
 use Rattle.ignore_query.specs.Reached.{scene_of}
 use Rattle.ignore_query.specs.Reports.{new_above, new_below, reported_by_rules}
+use Rattle.ignore_query.proofs.NeedLemmas.{keeps_after, stays_then}
 use Rattle.ignore_query.proofs.QueryLemmas.{asked_names, collected_three, names_are, root_dir, same_below}
 use Rattle.ignore_query.proofs.incremental.IncrementalIgnore.answer_of_rules.Goals as goal
 
@@ -25,6 +26,28 @@ returns-clause-agrees g c = λ tree loads honest are agrees asked rules.
     let path = c.args.path.now in
     let above = c.keep_above.ensures.agrees tree loads honest are (root_dir tree root path rules) agrees in
     c.rules_verdict.ensures.agrees tree loads honest are above (asked_names tree root path asked rules) c.in_ok-keep_above.ensures.kept
+
+pub returns-in_err-verdict-clause-stays : goal.returns-in_err-verdict-clause-stays
+returns-in_err-verdict-clause-stays g c =
+    stays_then c.args.self.now.cache c.keep_above.new.self c.rules_verdict.new.self c.keep_above.ensures.stays c.rules_verdict.ensures.stays
+
+pub returns-in_err-verdict-2-clause-stays : goal.returns-in_err-verdict-2-clause-stays
+returns-in_err-verdict-2-clause-stays g c =
+    stays_then c.args.self.now.cache c.keep_above.new.self c.rules_verdict.new.self c.keep_above.ensures.stays c.rules_verdict.ensures.stays
+
+pub returns-clause-stays : goal.returns-clause-stays
+returns-clause-stays g c =
+    stays_then c.args.self.now.cache c.keep_above.new.self c.rules_verdict.new.self c.keep_above.ensures.stays c.rules_verdict.ensures.stays
+
+pub returns-clause-kept : goal.returns-clause-kept
+returns-clause-kept g c = λ tree loads honest are agrees asked rules.
+    let scene = scene_of c.args.self.now.asked tree loads in
+    let root = string_bytes c.args.self.now.asked.root in
+    let path = c.args.path.now in
+    let above = c.keep_above.ensures.agrees tree loads honest are (root_dir tree root path rules) agrees in
+    keeps_after scene c.args.self.now.cache c.keep_above.new.self c.rules_verdict.new.self (components path) (names_of path)
+    c.keep_above.ensures.same (names_are tree root path rules)
+    (c.in_ok-verdict.ensures.kept tree loads honest are above (asked_names tree root path asked rules) c.in_ok-keep_above.ensures.kept)
 
 pub returns-clause-value : goal.returns-clause-value
 unfolding answer_of_rules

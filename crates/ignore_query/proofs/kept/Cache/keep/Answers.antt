@@ -7,6 +7,7 @@ use Rattle.ignore_query.specs.declared.kept.Cache.{Cache}
 use Rattle.ignore_query.specs.Agrees.{kept_at}
 use Rattle.ignore_query.specs.Reached.{scene_of}
 use Rattle.ignore_query.proofs.KeepLemmas.{Puts, loaded_from, problems_known, problems_new, put_agrees, puts_key, puts_others, right_loaded}
+use Rattle.ignore_query.proofs.NeedLemmas.{known_kept, put_kept, stays_put, stays_same}
 use Rattle.ignore_query.proofs.kept.Cache.keep.Goals as goal
 
 pub returns-in-Some-clause-value : goal.returns-in-Some-clause-value
@@ -28,6 +29,29 @@ returns-in-Some-clause-problems g c = λ tree loads honest are agrees clean key 
     let old = map problem_of c.args.errors.now.items in
     let found = ap (λ t. get_by_text c.args.self.now.dirs t) (sym key) ∙ sym c.in-Some.ensures.value in
     sym (ap (λ (l : List Problem). old ++ l) (problems_known scene c.args.self.now front c.in-Some.kept.now found) ∙ append-nil old)
+
+pub returns-in-Some-clause-kept : goal.returns-in-Some-clause-kept
+returns-in-Some-clause-kept g c = known_kept c.args.self.now c.args.key.now c.in-Some.kept.now (sym c.in-Some.ensures.value)
+
+pub returns-clause-stays : goal.returns-clause-stays
+returns-clause-stays g c =
+    let before = c.args.self.now in
+    let after : Cache = record before { dirs = c.insert.new.self } in
+    let puts : Puts before after c.args.key.now c.in_ok-kept.kept =
+    λ cs. btree_map_updates_text (string_bytes c.in_ok-text.text) before.dirs c.insert.new.self
+    (Some c.in_ok-kept.kept) c.in_ok-insert.ensures.updates cs
+    ∙ rw c.in_ok-text.ensures.ok refl in
+    stays_put before after c.args.key.now c.in_ok-kept.kept puts (sym c.in_default.ensures.value) (refl, (refl, refl))
+
+pub returns-clause-kept : goal.returns-clause-kept
+returns-clause-kept g c =
+    let before = c.args.self.now in
+    let after : Cache = record before { dirs = c.insert.new.self } in
+    let puts : Puts before after c.args.key.now c.in_ok-kept.kept =
+    λ cs. btree_map_updates_text (string_bytes c.in_ok-text.text) before.dirs c.insert.new.self
+    (Some c.in_ok-kept.kept) c.in_ok-insert.ensures.updates cs
+    ∙ rw c.in_ok-text.ensures.ok refl in
+    put_kept before after c.args.key.now c.in_ok-kept.kept puts
 
 pub returns-clause-others : goal.returns-clause-others
 returns-clause-others g c = λ text ne.

@@ -12,8 +12,10 @@ use Rattle.ignore_dir.specs.declared.verdict.Verdict.TheVariants as v
 use Rattle.ignore_dir.specs.Query.{ancestors, is_ignored, rules_verdict}
 use Rattle.ignore_dir.specs.Scene.{Scene, path_verdict}
 use Rattle.ignore_dir.proofs.StepLemmas.{on_ok}
+use Rattle.ignore_query.specs.Needs.{KeepsNeeded, needed}
 use Rattle.ignore_query.specs.Reached.{scene_of}
 use Rattle.ignore_query.specs.Reports.{new_below}
+use Rattle.ignore_query.proofs.NeedLemmas.{stays_same}
 use Rattle.ignore_query.proofs.kept.Cache.rules_verdict.Goals as goal
 
 ignored_way : (g : Scene) (names : List (List ℕ)) (is_dir : Bool) → list_any (is_ignored g) (ancestors names) ≡ true
@@ -48,6 +50,23 @@ returns-then-not-branch-clause-agrees g c = λ tree loads honest are agrees prop
     let is = ap (map (λ n. n.now)) c.as_slice-names.ensures.value ∙ c.in_ok-names.ensures in
     let clean = subst (All IsName) (sym is) (names-components c.args.path.now proper) in
     c.keep_way.ensures.agrees tree loads honest are agrees clean rooted
+
+pub returns-then-not-branch-clause-kept : goal.returns-then-not-branch-clause-kept
+returns-then-not-branch-clause-kept g c = λ tree loads honest are agrees proper rooted.
+    let scene = scene_of c.args.asked.now tree loads in
+    let is = ap (map (λ n. n.now)) c.as_slice-names.ensures.value ∙ c.in_ok-names.ensures in
+    let clean = subst (All IsName) (sym is) (names-components c.args.path.now proper) in
+    subst (λ l. KeepsNeeded (needed scene l) c.args.self.now c.keep_way.new.self) is
+    (c.in_ok-keep_way.ensures.kept tree loads honest are agrees clean rooted)
+
+pub returns-in-Some-clause-kept : goal.returns-in-Some-clause-kept
+returns-in-Some-clause-kept g c = λ tree loads honest are agrees proper rooted.
+    let scene = scene_of c.args.asked.now tree loads in
+    let is = ap (map (λ n. n.now)) c.as_slice-names.ensures.value ∙ c.in_ok-names.ensures in
+    let clean = subst (All IsName) (sym is) (names-components c.args.path.now proper) in
+    on_ok c.verdict_in.result
+    (subst (λ l. KeepsNeeded (needed scene l) c.args.self.now c.keep_way.new.self) is
+    (c.in_ok-keep_way.ensures.kept tree loads honest are agrees clean rooted))
 
 pub returns-then-not-branch-clause-value : goal.returns-then-not-branch-clause-value
 returns-then-not-branch-clause-value g c = λ tree loads honest are agrees proper rooted.
