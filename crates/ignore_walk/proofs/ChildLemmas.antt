@@ -98,16 +98,26 @@ value_or : Entry → Result Entry Problem → Entry
 value_or d (Ok e) = e
 value_or d (Err p) = d
 
-abbrev ok : Entry → Result Entry Problem
+abbrev pub ok : Entry → Result Entry Problem
 ok e = Ok e
 
-ok_equal : (e f : Entry) → ok e ≡ ok f → f ≡ e
+pub ok_equal : (e f : Entry) → ok e ≡ ok f → f ≡ e
 unfolding value_or
 ok_equal e f h = sym (ap (λ (r : Result Entry Problem). value_or e r) h)
 
 and_then-ok : {A B E : Type 0} (f : A → Result B E) (r : Result A E) (y : B) → and_then f r ≡ Ok y → (x : A) × (r ≡ Ok x) × (f x ≡ Ok y)
 and_then-ok f (Ok x) y h = (x, refl, h)
 and_then-ok f (Err e) y h = absurd (cc (h))
+
+found-depth : (g : Scene) (path : List ℕ) (depth : ℕ) (kind : FileType) (e : Entry) → found g path depth kind ≡ Ok e → e.depth ≡ depth
+found-depth g path depth kind e h = by (g.settings.follow_links && is_symlink kind) (g.tree.stat path true) h
+  where
+    by : (b : Bool) (r : Result Metadata Fault)
+        → cond b (or_failed path depth (followed_link path depth) r) (Ok (record { path = path; depth = depth; kind = Some kind; followed = false })) ≡ Ok e
+        → e.depth ≡ depth
+    by true (Ok m) k = ap (λ (x : Entry). x.depth) (ok_equal (record { path = path; depth = depth; kind = Some m.file_type; followed = true }) e k)
+    by true (Err f) k = absurd (cc (k))
+    by false r k = ap (λ (x : Entry). x.depth) (ok_equal (record { path = path; depth = depth; kind = Some kind; followed = false }) e k)
 
 found-path : (g : Scene) (path : List ℕ) (depth : ℕ) (kind : FileType) (e : Entry) → found g path depth kind ≡ Ok e → e.path ≡ path
 found-path g path depth kind e h = by (g.settings.follow_links && is_symlink kind) (g.tree.stat path true) h
@@ -129,7 +139,7 @@ unlooped-same tree ancestors e f h =
     by true (Err x) k = absurd (cc (k))
     by false r k = ok_equal e f k
 
-device-same : (g : Scene) (is_dir : Bool) (e f : Entry) → with_device g is_dir e ≡ Ok f → f ≡ e
+pub device-same : (g : Scene) (is_dir : Bool) (e f : Entry) → with_device g is_dir e ≡ Ok f → f ≡ e
 device-same g is_dir e f h = by (g.same_file_system && is_dir) (identity_at g.tree e.path) h
   where
     by : (b : Bool) (r : Result Identity Fault) → cond b (or_failed e.path e.depth (λ (id : Identity). Ok e) r) (Ok e) ≡ Ok f → f ≡ e
@@ -147,3 +157,14 @@ child_path g root b name kind e h =
     let loop = and_then-ok (without_loop g.tree (entered root b)) (found g path depth kind) last.0 last.1 in
     ap (λ (x : Entry). x.path) (device-same g (is_dir_kind last.0.kind) last.0 e last.2)
     ∙ (ap (λ (x : Entry). x.path) (unlooped-same g.tree (entered root b) loop.0 last.0 loop.2) ∙ found-path g path depth kind loop.0 loop.1)
+
+pub child_depth : (g : Scene) (root : List ℕ) (b : Branch) (name : List ℕ) (kind : FileType) (e : Entry)
+    → child g root b (thing.Entry name kind) ≡ Ok e → e.depth ≡ length b + 1
+unfolding child
+child_depth g root b name kind e h =
+    let path = path_of root (name ∷ b) in
+    let depth = length b + 1 in
+    let last = and_then-ok (λ (x : Entry). with_device g (is_dir_kind x.kind) x) (and_then (without_loop g.tree (entered root b)) (found g path depth kind)) e h in
+    let loop = and_then-ok (without_loop g.tree (entered root b)) (found g path depth kind) last.0 last.1 in
+    ap (λ (x : Entry). x.depth) (device-same g (is_dir_kind last.0.kind) last.0 e last.2)
+    ∙ (ap (λ (x : Entry). x.depth) (unlooped-same g.tree (entered root b) loop.0 last.0 loop.2) ∙ found-depth g path depth kind loop.0 loop.1)

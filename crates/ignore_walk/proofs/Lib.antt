@@ -1,4 +1,5 @@
 pub mod Worked
+pub mod WorkedAgreement
 pub mod Arranged
 pub mod Sorting
 pub mod Given
@@ -13,3 +14,8 @@ pub mod LeftLemmas
 pub mod StandLemmas
 pub mod VisitLemmas
 pub mod EmptyLemmas
+pub mod PlaceNames
+pub mod ReachLemmas
+pub mod KeptLemmas
+pub mod AgreeLemmas
+pub mod YieldLemmas

@@ -81,11 +81,11 @@ found e = Ok e
 ok_path : (e f : Entry) (root : List ℕ) → (e.path ≡ root) → found e ≡ Ok f → f.path ≡ root
 ok_path e f root p h = let same : e ≡ f = cc (h) in subst (λ (x : Entry). x.path ≡ root) same p
 
-and_then_ok : {A B E : Type 0} (f : A → Result B E) (r : Result A E) (y : B) → and_then f r ≡ Ok y → (x : A) × (r ≡ Ok x) × (f x ≡ Ok y)
+pub and_then_ok : {A B E : Type 0} (f : A → Result B E) (r : Result A E) (y : B) → and_then f r ≡ Ok y → (x : A) × (r ≡ Ok x) × (f x ≡ Ok y)
 and_then_ok f (Ok x) y h = (x, refl, h)
 and_then_ok f (Err e) y h = absurd (cc (h))
 
-or_failed_ok : {A B : Type 0} (path : List ℕ) (depth : ℕ) (f : A → Result B Problem) (r : Result A Fault) (y : B)
+pub or_failed_ok : {A B : Type 0} (path : List ℕ) (depth : ℕ) (f : A → Result B Problem) (r : Result A Fault) (y : B)
     → or_failed path depth f r ≡ Ok y → (x : A) × (f x ≡ Ok y)
 or_failed_ok path depth f (Ok x) y h = (x, h)
 or_failed_ok path depth f (Err fault) y h = absurd (cc (h))

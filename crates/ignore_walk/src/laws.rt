@@ -1,11 +1,14 @@
 //! Laws of the definitions, as calls that do nothing: each contract is the law.
-ghost use Rattle.std.specs.Prelude.{◌≡◌, ℕ, List, Result};
+ghost use Rattle.std.specs.Prelude.{◌≡◌, ◌⊎◌, ◌↔◌, [], true, false, codes, bytes_eq, Contains, ℕ, List, Result};
 ghost use Rattle.ignore_base.specs.Problem.{Problem};
+ghost use Rattle.ignore_walk.specs.Agreement.{IsKeptBelow, IsOpen, IsYielded, Reachable, is_kept, is_within};
 ghost use Rattle.ignore_walk.specs.Branch.{Branch};
-ghost use Rattle.ignore_walk.specs.Entry.{Entry, Item};
+ghost use Rattle.ignore_walk.specs.Entry.{Entry, Item, stdin_entry};
 ghost use Rattle.ignore_walk.specs.Scene.{Scene};
 ghost use Rattle.ignore_walk.specs.Walked.{WalkedOne, IsOrdered};
-ghost use Rattle.ignore_walk.specs.Whole.{WalkedRoots};
+ghost use Rattle.ignore_walk.specs.Whole.{Whole, WalkedRoots, root_entry};
+
+use ignore_base::text::{join_law, offset_law};
 
 /// An entry gives one list of items, in one number of steps (`entry`), and so do roots (`roots`).
 pub fn one_list()
@@ -14,3 +17,24 @@ pub fn one_list()
     ensures roots { (g : Scene) (seen roots : List (List ℕ)) (xs ys : List Item) (m n : ℕ)
         → IsOrdered g.order → WalkedRoots g seen roots xs m → WalkedRoots g seen roots ys n → (ys ≡ xs) × (n ≡ m) }
 {}
+
+/// A walk agrees with the queries of its roots. Where its filter keeps everything and it may go on
+/// to other devices, an entry that is reachable from a root, within the greatest depth, is yielded
+/// under this root exactly where the query of the root, asked for its path and its kind, neither
+/// ignores it nor finds it out of the limits on depth (`entry`). Nothing else is yielded
+/// (`reachable`). So a whole walk yields standard input where that is one of its roots, and exactly
+/// the reachable entries that the queries of its roots keep (`whole`).
+pub fn walk_agrees_with_queries()
+    ensures entry { (g : Scene) (root : List ℕ) (b : Branch) (e : Entry) (items : List Item) (n : ℕ)
+        → IsOpen g → bytes_eq root (codes "-") ≡ false → Reachable g root b e → is_within g b ≡ true
+        → WalkedOne g root [] (root_entry g root) items n → IsYielded items e ↔ (is_kept g root b e ≡ true) }
+    ensures reachable { (g : Scene) (root : List ℕ) (e : Entry) (items : List Item) (n : ℕ)
+        → WalkedOne g root [] (root_entry g root) items n → IsYielded items e
+        → (b : Branch) × Reachable g root b e × (is_within g b ≡ true) }
+    ensures whole { (g : Scene) (roots : List (List ℕ)) (e : Entry) (items : List Item) (n : ℕ)
+        → IsOpen g → Whole g roots items n
+        → IsYielded items e ↔ (((e ≡ stdin_entry) × Contains roots (codes "-")) ⊎ IsKeptBelow g roots e) }
+{
+    join_law();
+    offset_law();
+}
