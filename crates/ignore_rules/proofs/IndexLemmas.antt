@@ -4,16 +4,17 @@ use Rattle.std.proofs.Common.{sym, ap, subst, ◌∙◌, arith}
 use Rattle.std.specs.Prelude as option
 use Rattle.std.specs.Option.{option_map}
 use Rattle.std.proofs.lemmas.Bool.{false_from_ne_true}
-use Rattle.std.proofs.lemmas.List.{drop-map, length-map}
+use Rattle.std.proofs.lemmas.List.{drop-map, get_or-map, length-map}
+use Rattle.std.proofs.lemmas.List.Elements.{All-get_or}
 use Rattle.std.proofs.lemmas.Option.{slice_get-map, slice_get-get_or, slice_get_within}
 use Rattle.ignore_base.specs.Match.{match_or}
 use Rattle.ignore_base.specs.declared.match_result.Match.TheVariants.{None}
 use Rattle.ignore_glob.specs.DoesMatch.{does_match}
 use Rattle.ignore_glob.specs.Reading.{Reading, Matches}
-use Rattle.ignore_set.specs.Sets.{Member, IsLastMatch}
+use Rattle.ignore_set.specs.Sets.{Member, IsLastMatch, IsShort}
 use Rattle.ignore_set.specs.Sets.{Applies as MemberApplies}
 use Rattle.ignore_rules.specs.Answer.{does_apply, decision_of, rule_answer, list_answer}
-use Rattle.ignore_rules.specs.RuleIndex.{rule_member}
+use Rattle.ignore_rules.specs.RuleIndex.{AreShortRules, rule_member}
 use Rattle.ignore_rules.specs.Rules.{Rule}
 use Rattle.ignore_rules.proofs.AnswerLemmas.{applies_decided, decided}
 
@@ -45,3 +46,10 @@ module _ (decides : (reading : Reading) (text : List ℕ) → Decides (does_matc
       (none_decides (drop (i + 1) rules) text is_dir
       (subst (λ (l : List Member). All (λ x. MemberApplies text is_dir x → ⊥) l) (drop-map rule_member (i + 1) rules) later))
       ((applies_decided decides text is_dir rule).1 (subst (λ (x : Member). MemberApplies text is_dir x) same applies))
+
+-- each of short rules is short
+pub short_at : (rules : List Rule) (i : ℕ) (rule : Rule) → AreShortRules rules → i < length rules → rule ≡ get_or rules i rule
+    → IsShort rule.reading
+short_at rules i rule short fits is =
+    subst (λ (m : Member). IsShort m.reading) (get_or-map rule_member rules i rule (rule_member rule) fits ∙ ap rule_member (sym is))
+    (All-get_or (λ (m : Member). IsShort m.reading) (map rule_member rules) i (rule_member rule) (rw (length-map rules rule_member) fits) short)

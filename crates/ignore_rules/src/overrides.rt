@@ -5,6 +5,7 @@
 ghost use Rattle.std.specs.Prelude.{◌≡◌, ◌⊎◌, ◌==◌, None, false, IfOk, IfErr, IsOk, OnOk, OnErr, length};
 ghost use Rattle.ignore_base.specs.Problem.{problem_of, memory};
 ghost use Rattle.ignore_rules.specs.Overrides.{override_answer};
+ghost use Rattle.ignore_rules.specs.RuleIndex.{AreShortRules};
 ghost use Rattle.ignore_rules.specs.Rules.{begun, empty, built, AddsLine, Refuses, ignore_count, whitelist_count, with_case_insensitive};
 ghost use Rattle.ignore_rules.specs.Rules.{with_unclosed_class};
 
@@ -105,10 +106,12 @@ impl Override {
     /// since what is below it may be whitelisted.
     ///
     /// # Errors
-    /// `Error::Memory` alone.
+    /// `Error::Memory` alone, and none where all globs are without braces and have at most 62
+    /// positions: no memory is requested.
     pub fn matched(&self, path: &str, is_dir: bool) -> Result<Match<Glob<'_>>, Error>
         ensures answered { IfOk result (λ m. m ≡ override_answer self.now path.now is_dir) }
         ensures out_of_memory { IfErr result (λ e. problem_of e ≡ memory) }
+        ensures succeeds { AreShortRules self.now.rules → IsOk result }
     {
         let matched = self.globs.matched(path, is_dir)?;
         if matched.is_none() && !is_dir && self.num_whitelists() > 0 {

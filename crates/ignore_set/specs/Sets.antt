@@ -1,9 +1,11 @@
 -- What a set of patterns answers: the last that matches a text and allows its kind.
-use Rattle.std.specs.Prelude.{◌≡◌, ◌⊎◌, ℕ, ◌+◌, Bool, true, false, List, drop, slice_get, map, All, sum_by, Option, None, Some, refl}
+use Rattle.std.specs.Prelude.{◌≡◌, ◌≤◌, ◌⊎◌, ℕ, ◌+◌, Bool, true, false, List, drop, slice_get, map, All, sum_by, Option, None, Some, refl}
 use Rattle.std.specs.Coded.{Coded, code_by, coded×, coded_bool}
 use Rattle.ignore_glob.specs.Codes.{reading_code}
 use Rattle.ignore_glob.specs.Reading.{Reading, Matches}
 use Rattle.ignore_glob.specs.Forms.{Form, whole, name, ending, other, form_of}
+use Rattle.ignore_glob.specs.Positions.{positions}
+use Rattle.ignore_glob.specs.Words.{has_braces}
 
 -- a pattern of a set, and whether it is for directories only
 pub record Member : Type 0 where
@@ -32,6 +34,14 @@ abbrev pub IsLastMatch : List ℕ → Bool → List Member → Option ℕ → Ty
 IsLastMatch text is_dir ms None = All (λ m. Applies text is_dir m → ⊥) ms
 IsLastMatch text is_dir ms (Some i) =
     (m : Member) × (slice_get ms i ≡ Some m) × Applies text is_dir m × All (λ later. Applies text is_dir later → ⊥) (drop (i + 1) ms)
+
+-- a glob without braces that has at most 62 positions: to match it no memory is requested
+abbrev pub IsShort : Reading → Type 0
+IsShort r = (has_braces r.tokens ≡ false) × (positions r.tokens ≤ 62)
+
+-- all of these patterns are such globs
+abbrev pub AreShort : List Member → Type 0
+AreShort ms = All (λ m. IsShort m.reading) ms
 
 -- the passes over positions that a form may need
 abbrev pub form_passes : Form → ℕ

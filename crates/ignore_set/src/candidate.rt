@@ -1,8 +1,8 @@
 //! Whether one pattern matches, by a pass over its positions.
-ghost use Rattle.std.specs.Prelude.{◌≡◌, ◌≤◌, ◌↔◌, IsTrue, IfOk, IfErr};
+ghost use Rattle.std.specs.Prelude.{◌≡◌, ◌≤◌, ◌↔◌, IsTrue, IfOk, IfErr, IsOk};
 ghost use Rattle.std.specs.Str.{chars};
 ghost use Rattle.ignore_base.specs.Problem.{problem_of, memory};
-ghost use Rattle.ignore_set.specs.Sets.{Allows, Applies};
+ghost use Rattle.ignore_set.specs.Sets.{Allows, Applies, IsShort};
 
 use crate::has_pattern::HasPattern;
 use ignore_base::Error;
@@ -17,6 +17,7 @@ pub(crate) fn applies<M: HasPattern>(
     ensures value { IfOk result (λ r. IsTrue r.0 ↔ Applies (chars text.now) is_dir (M.member candidate.now)) }
     ensures passes { IfOk result (λ r. r.1 ≤ 1) }
     ensures out_of_memory { IfErr result (λ e. problem_of e ≡ memory) }
+    ensures succeeds { IsShort (M.member candidate.now).reading → IsOk result }
 {
     if !allows(candidate, is_dir) {
         return Ok((false, 0));

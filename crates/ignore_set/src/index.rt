@@ -1,10 +1,10 @@
 //! An index over patterns that their owner keeps.
-ghost use Rattle.std.specs.Prelude.{◌≡◌, ◌+◌, ◌<◌, ◌≤◌, ◌^◌, ◌++◌, ◌∷◌, [], ℕ, IfOk, IfErr, List, length, map};
+ghost use Rattle.std.specs.Prelude.{◌≡◌, ◌+◌, ◌<◌, ◌≤◌, ◌^◌, ◌++◌, ◌∷◌, [], ℕ, IfOk, IfErr, IsOk, List, length, map};
 ghost use Rattle.std.specs.Str.{chars};
 ghost use Rattle.ignore_base.specs.Problem.{problem_of, memory};
 ghost use Rattle.ignore_set.specs.Index.{IsIndexOf, IsExactOf};
 ghost use Rattle.ignore_set.specs.Others.{AreOthers, IsFoundFrom};
-ghost use Rattle.ignore_set.specs.Sets.{Member, Applies, IsLastMatch, pass_bound};
+ghost use Rattle.ignore_set.specs.Sets.{Member, Applies, AreShort, IsLastMatch, pass_bound};
 
 use crate::candidate::applies;
 use crate::has_pattern::HasPattern;
@@ -60,7 +60,8 @@ impl Index {
     /// values that this index was made of.
     ///
     /// # Errors
-    /// `Error::Memory` alone.
+    /// `Error::Memory` alone, and none where all are without braces and have at most 62 positions:
+    /// no memory is requested.
     pub fn last_match<M: HasPattern>(
         &self,
         members: &[M],
@@ -70,6 +71,7 @@ impl Index {
         requires { IsIndexOf self.now (map M.member members.now) }
         ensures value { IfOk result (λ last. IsLastMatch (chars text.now) is_dir (map M.member members.now) last) }
         ensures out_of_memory { IfErr result (λ e. problem_of e ≡ memory) }
+        ensures succeeds { AreShort (map M.member members.now) → IsOk result }
     {
         let (last, _) = self.last_match_counted(members, text, is_dir)?;
         Ok(last)
@@ -79,7 +81,7 @@ impl Index {
     /// those that fold case or aren't literals, alone or after `**/` or `**/*`.
     ///
     /// # Errors
-    /// `Error::Memory` alone.
+    /// As `last_match`.
     pub fn last_match_counted<M: HasPattern>(
         &self,
         members: &[M],
@@ -90,6 +92,7 @@ impl Index {
         ensures value { IfOk result (λ r. IsLastMatch (chars text.now) is_dir (map M.member members.now) r.0) }
         ensures count { IfOk result (λ r. r.1 ≤ pass_bound (map M.member members.now)) }
         ensures out_of_memory { IfErr result (λ e. problem_of e ≡ memory) }
+        ensures succeeds { AreShort (map M.member members.now) → IsOk result }
     {
         let exact = self.last_exact(text, is_dir);
         let (after, passes) = last_other(members, &self.others, exact, text, is_dir)?;
@@ -144,6 +147,7 @@ fn last_other<M: HasPattern>(
     ensures value { IfOk result (λ r. IsFoundFrom text.now is_dir (map M.member members.now) best r.0) }
     ensures count { IfOk result (λ r. r.1 ≤ pass_bound (map M.member members.now)) }
     ensures out_of_memory { IfErr result (λ e. problem_of e ≡ memory) }
+    ensures succeeds { AreShort (map M.member members.now) → IsOk result }
 {
     let mask = mask_of(text);
     let mut passes = 0u64;

@@ -1,8 +1,8 @@
 //! A set of patterns.
-ghost use Rattle.std.specs.Prelude.{◌≡◌, ◌≤◌, IfOk, IfErr, map};
+ghost use Rattle.std.specs.Prelude.{◌≡◌, ◌≤◌, IfOk, IfErr, IsOk, map};
 ghost use Rattle.std.specs.Str.{chars};
 ghost use Rattle.ignore_base.specs.Problem.{problem_of, memory};
-ghost use Rattle.ignore_set.specs.Sets.{IsLastMatch, members, pass_bound};
+ghost use Rattle.ignore_set.specs.Sets.{AreShort, IsLastMatch, members, pass_bound};
 
 use crate::entry::{Entry, entries_of};
 use crate::index::Index;
@@ -59,10 +59,12 @@ impl PatternSet {
     /// The greatest index of a pattern that matches the text and allows its kind.
     ///
     /// # Errors
-    /// `Error::Memory` alone.
+    /// `Error::Memory` alone, and none where all patterns are without braces and have at most 62
+    /// positions: no memory is requested.
     pub fn last_match(&self, text: &str, is_dir: bool) -> Result<Option<usize>, Error>
         ensures value { IfOk result (λ last. IsLastMatch (chars text.now) is_dir self.now last) }
         ensures out_of_memory { IfErr result (λ e. problem_of e ≡ memory) }
+        ensures succeeds { AreShort self.now → IsOk result }
     {
         self.index.last_match(&self.entries, text, is_dir)
     }
@@ -71,7 +73,7 @@ impl PatternSet {
     /// those that fold case or aren't literals, alone or after `**/` or `**/*`.
     ///
     /// # Errors
-    /// `Error::Memory` alone.
+    /// As `last_match`.
     pub fn last_match_counted(
         &self,
         text: &str,
@@ -80,6 +82,7 @@ impl PatternSet {
         ensures value { IfOk result (λ r. IsLastMatch (chars text.now) is_dir self.now r.0) }
         ensures count { IfOk result (λ r. r.1 ≤ pass_bound self.now) }
         ensures out_of_memory { IfErr result (λ e. problem_of e ≡ memory) }
+        ensures succeeds { AreShort self.now → IsOk result }
     {
         self.index.last_match_counted(&self.entries, text, is_dir)
     }

@@ -1,5 +1,5 @@
 //! One rule.
-ghost use Rattle.std.specs.Prelude.{◌≡◌, option_map, string_bytes, IfOk, IfErr};
+ghost use Rattle.std.specs.Prelude.{◌≡◌, option_map, string_bytes, IfOk, IfErr, IsOk};
 ghost use Rattle.std.specs.Option.{option_copied};
 ghost use Rattle.std.specs.Str.{chars};
 ghost use Rattle.ignore_base.specs.Match.{match_map};
@@ -7,6 +7,7 @@ ghost use Rattle.ignore_base.specs.Problem.{problem_of, memory};
 ghost use Rattle.ignore_rules.specs.Answer.{does_apply, decision_of};
 ghost use Rattle.ignore_rules.specs.Rules.{read_rule};
 ghost use Rattle.ignore_glob.specs.DoesMatch.{does_match};
+ghost use Rattle.ignore_set.specs.Sets.{IsShort};
 
 use crate::gitignore::line::ParsedLine;
 use ignore_base::{Error, Match};
@@ -107,6 +108,7 @@ impl Glob {
     pub(crate) fn applies(&self, text: &str, is_dir: bool) -> Result<bool, Error>
         ensures out_of_memory { IfErr result (λ e. problem_of e ≡ memory) }
         ensures value { IfOk result (λ yes. yes ≡ does_apply (chars text.now) is_dir self.now) }
+        ensures succeeds { IsShort self.now.reading → IsOk result }
     {
         if self.is_only_dir && !is_dir {
             return Ok(false);
@@ -117,6 +119,7 @@ impl Glob {
     fn matches(&self, text: &str) -> Result<bool, Error>
         ensures out_of_memory { IfErr result (λ e. problem_of e ≡ memory) }
         ensures value { IfOk result (λ yes. yes ≡ does_match self.now.reading (chars text.now)) }
+        ensures succeeds { IsShort self.now.reading → IsOk result }
     {
         self.pattern.matches(text)
     }

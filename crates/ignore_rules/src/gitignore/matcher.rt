@@ -1,12 +1,12 @@
 //! A matcher of rules.
-ghost use Rattle.std.specs.Prelude.{◌≡◌, ◌+◌, ◌==◌, IfOk, IfErr, length, map, string_bytes};
+ghost use Rattle.std.specs.Prelude.{◌≡◌, ◌+◌, ◌==◌, IfOk, IfErr, IsOk, length, map, string_bytes};
 ghost use Rattle.std.specs.Option.{ForSome};
 ghost use Rattle.std.specs.Str.{chars};
 ghost use Rattle.ignore_base.specs.Match.{match_map};
 ghost use Rattle.ignore_base.specs.Problem.{problem_of, memory};
 ghost use Rattle.ignore_set.specs.Index.{IsIndexOf};
 ghost use Rattle.ignore_rules.specs.Answer.{answer, list_answer};
-ghost use Rattle.ignore_rules.specs.RuleIndex.{rule_member};
+ghost use Rattle.ignore_rules.specs.RuleIndex.{AreShortRules, rule_member};
 ghost use Rattle.ignore_rules.specs.Rules.{empty, ignore_count, whitelist_count};
 
 use crate::gitignore::glob::Glob;
@@ -120,10 +120,12 @@ impl Gitignore {
     /// parents aren't matched.
     ///
     /// # Errors
-    /// `Error::Memory` alone.
+    /// `Error::Memory` alone, and none where all globs are without braces and have at most 62
+    /// positions: no memory is requested.
     pub fn matched(&self, path: &str, is_dir: bool) -> Result<Match<&Glob>, Error>
         ensures answered { IfOk result (λ m. match_map (λ g. g.now) m ≡ answer self.now.root self.now.rules path.now is_dir) }
         ensures out_of_memory { IfErr result (λ e. problem_of e ≡ memory) }
+        ensures succeeds { AreShortRules self.now.rules → IsOk result }
     {
         if self.is_empty() {
             return Ok(Match::None);
@@ -136,10 +138,11 @@ impl Gitignore {
     /// below a directory begin (`text::offset_below`), asks about slices of one path.
     ///
     /// # Errors
-    /// `Error::Memory` alone.
+    /// As `matched`.
     pub fn answer(&self, stripped: &str, is_dir: bool) -> Result<Match<&Glob>, Error>
         ensures answered { IfOk result (λ m. match_map (λ g. g.now) m ≡ list_answer self.now.rules (chars stripped.now) is_dir) }
         ensures out_of_memory { IfErr result (λ e. problem_of e ≡ memory) }
+        ensures succeeds { AreShortRules self.now.rules → IsOk result }
     {
         match &self.index {
             Some(index) => indexed_answer(index, &self.globs, stripped, is_dir),
@@ -168,6 +171,7 @@ fn indexed_answer<'g>(
     requires { IsIndexOf index.now (map rule_member globs.now) }
     ensures out_of_memory { IfErr result (λ e. problem_of e ≡ memory) }
     ensures answered { IfOk result (λ m. match_map (λ g. g.now) m ≡ list_answer globs.now (chars text.now) is_dir) }
+    ensures succeeds { AreShortRules globs.now → IsOk result }
 {
     matching_is_decided();
     match index.last_match(globs, text, is_dir)? {
@@ -180,6 +184,7 @@ fn indexed_answer<'g>(
 fn last_answer<'g>(globs: &'g [Glob], text: &str, is_dir: bool) -> Result<Match<&'g Glob>, Error>
     ensures out_of_memory { IfErr result (λ e. problem_of e ≡ memory) }
     ensures answered { IfOk result (λ m. match_map (λ g. g.now) m ≡ list_answer globs.now (chars text.now) is_dir) }
+    ensures succeeds { AreShortRules globs.now → IsOk result }
 {
     for i in (0..globs.len()).rev() {
         let glob = &globs[i];

@@ -1,8 +1,9 @@
 //! Matching a path together with its parents.
-ghost use Rattle.std.specs.Prelude.{◌≡◌, ◌≢◌, ◌==◌, ◌<◌, ◌∷◌, IsTrue, false, IfOk, IfErr, length, slice_index};
+ghost use Rattle.std.specs.Prelude.{◌≡◌, ◌≢◌, ◌==◌, ◌<◌, ◌∷◌, IsTrue, false, IfOk, IfErr, IsOk, length, slice_index};
 ghost use Rattle.std.specs.Str.{chars};
 ghost use Rattle.ignore_base.specs.Match.{match_map};
 ghost use Rattle.ignore_base.specs.Problem.{problem_of, memory};
+ghost use Rattle.ignore_rules.specs.RuleIndex.{AreShortRules};
 ghost use Rattle.ignore_rules.specs.Parents.{answer_with_parents, directories_answer, is_under_root, nearest_answer, parents};
 
 use crate::gitignore::glob::Glob;
@@ -28,7 +29,7 @@ impl Gitignore {
     /// for one that can't.
     ///
     /// # Errors
-    /// `Error::Memory` alone.
+    /// As `matched`.
     pub fn matched_path_or_any_parents(
         &self,
         path: &str,
@@ -37,6 +38,7 @@ impl Gitignore {
         requires { IsTrue (is_under_root self.now path.now) }
         ensures answered { IfOk result (λ m. match_map (λ g. g.now) m ≡ answer_with_parents self.now.root self.now.rules path.now is_dir) }
         ensures out_of_memory { IfErr result (λ e. problem_of e ≡ memory) }
+        ensures succeeds { AreShortRules self.now.rules → IsOk result }
     {
         if self.is_empty() {
             return Ok(Match::None);
@@ -54,6 +56,7 @@ fn nearest_answer<'g>(
     requires { slice_index text.now 0 ≢ 47 }
     ensures out_of_memory { IfErr result (λ e. problem_of e ≡ memory) }
     ensures answered { IfOk result (λ m. match_map (λ g. g.now) m ≡ nearest_answer matcher.now.rules (chars text.now) is_dir) }
+    ensures succeeds { AreShortRules matcher.now.rules → IsOk result }
 {
     let answer = matcher.answer(text, is_dir)?;
     if answer.is_none() {
@@ -67,6 +70,7 @@ fn nearest_parent_answer<'g>(matcher: &'g Gitignore, text: &str) -> Result<Match
     requires { slice_index text.now 0 ≢ 47 }
     ensures out_of_memory { IfErr result (λ e. problem_of e ≡ memory) }
     ensures answered { IfOk result (λ m. match_map (λ g. g.now) m ≡ directories_answer matcher.now.rules (parents (chars text.now))) }
+    ensures succeeds { AreShortRules matcher.now.rules → IsOk result }
 {
     let mut rest = text;
     while !rest.is_empty() {

@@ -1,0 +1,9 @@
+use Rattle.std.proofs.Common.{◌≡◌, map, sym, ap, subst, ◌∙◌}
+use Rattle.std.proofs.lemmas.List.{map-id}
+use Rattle.ignore_set.specs.Sets.{Member, AreShort}
+use Rattle.ignore_set.proofs.set.PatternSet.last_match.Goals as goal
+
+pub returns-clause-succeeds : goal.returns-clause-succeeds
+returns-clause-succeeds c short =
+    c.last_match.ensures.succeeds
+    (subst AreShort (sym (ap (map (λ (m : Member). m)) c.deref.ensures.value ∙ (map-id c.self.inside.entries.items ∙ c.self.view_is))) short)
