@@ -3,7 +3,6 @@ use Rattle.std.proofs.Common.{◌≡◌, ◌≢◌, ℕ, Bool, true, false, cond
 use Rattle.std.proofs.Common.{Some, refl, sym, ap, subst, ◌∙◌, Vec, Global}
 use Rattle.std.specs.Bool.{Decides}
 use Rattle.std.specs.BTreeMap.{get_by_text}
-use Rattle.std.specs.List.{IsAmong}
 use Rattle.std.specs.Map.{update}
 use Rattle.std.specs.Option.{unwrap_or}
 use Rattle.std.specs.Str.{IsUtf8, bytes_eq}
@@ -12,7 +11,7 @@ use Rattle.ignore_glob.specs.Forms.{whole, name, ending, other, form_of}
 use Rattle.ignore_set.specs.declared.index.Index.{Index}
 use Rattle.ignore_set.specs.declared.table.Slot.{Slot}
 use Rattle.ignore_set.specs.declared.table.Table.{Table}
-use Rattle.ignore_set.specs.Index.{IsIndexOf, slot_at, slot_with}
+use Rattle.ignore_set.specs.Index.{IsIndexOf, IsNoted, slot_at, slot_with}
 use Rattle.ignore_set.specs.Others.{IndexedText, AreOthers}
 use Rattle.ignore_set.specs.Sets.{Member}
 use Rattle.std.specs.Str.{chars}
@@ -71,8 +70,7 @@ one_ending a b e = cc
 abbrev pub Puts : Table → Table → ℕ → Bool → List ℕ → Type 0
 Puts old new index only_dir text =
     ((q : List ℕ) → slot_at new q ≡ cond (bytes_eq text q) (slot_with index only_dir (slot_at old q)) (slot_at old q))
-    × (IsUtf8 text × IsAmong new.lengths.items (length text))
-    × ((n : ℕ) → IsAmong old.lengths.items n → IsAmong new.lengths.items n)
+    × (IsUtf8 text × IsNoted new text) × ((t : List ℕ) → IsNoted old t → IsNoted new t)
 
 pub add_whole : (old : Index) (new : Table) (text : List ℕ) (index : ℕ) (only_dir : Bool)
     → Puts old.whole new index only_dir text → (ms : List Member) (m : Member) → IsIndexOf old ms → length ms ≡ index

@@ -2,7 +2,6 @@
 use Rattle.std.proofs.Common.{◌≡◌, ◌⊎◌, ℕ, zero, suc, ◌+◌, ◌-◌, ◌<◌, ◌≤◌, max, Bool, List, [], ◌∷◌, ◌++◌, length, map, take}
 use Rattle.std.proofs.Common.{drop, get_or, slice_get, Option, Some, None, SomeIff, refl, sym, ap, subst, ◌∙◌, inl, inr}
 use Rattle.std.proofs.Common.{arith, append_assoc}
-use Rattle.std.specs.List.{IsAmong}
 use Rattle.std.specs.Str.{chars, IsUtf8}
 use Rattle.std.proofs.lemmas.List.{get_or-drop, get_or-map, length-drop, length-map}
 use Rattle.std.proofs.lemmas.Option.{slice_get-get_or}
@@ -14,7 +13,7 @@ use Rattle.ignore_set.specs.declared.table.Table.{Table}
 use Rattle.ignore_set.specs.declared.text.Ending.{Ending}
 use Rattle.ignore_set.specs.declared.text.Ending.TheVariants.{Name, End}
 use Rattle.ignore_set.specs.Ends.{HasEnd, HasName}
-use Rattle.ignore_set.specs.Index.{Fits, IsTableOf, IsIndexOf, IsExactOf, StandsUnderEnd, slot_at, after}
+use Rattle.ignore_set.specs.Index.{Fits, IsNoted, IsTableOf, IsIndexOf, IsExactOf, StandsUnderEnd, slot_at, after}
 use Rattle.ignore_set.specs.Others.{IsFoundFrom}
 use Rattle.ignore_set.specs.Sets.{Member, Applies, IsLastMatch}
 use Rattle.ignore_set.proofs.FormLemmas.{slash_byte, whole_matches, matches_whole, name_matches, matches_name, end_matches, matches_end}
@@ -35,9 +34,9 @@ name_fits text key utf8 spelt (inr (front, cut)) =
 -- The tables.
 
 pub exact_above : (index : Index) (text : List ℕ) (is_dir : Bool) (ms : List Member) (n e r : ℕ) → IsUtf8 text → IsIndexOf index ms
-    → ((end : List ℕ) → HasName end text → IsUtf8 end → IsAmong index.names.lengths.items (length end)
+    → ((end : List ℕ) → HasName end text → IsUtf8 end → IsNoted index.names end
     → after is_dir (slot_at index.names end) ≤ n)
-    → ((end : List ℕ) → HasEnd end text → IsUtf8 end → IsAmong index.ends.lengths.items (length end)
+    → ((end : List ℕ) → HasEnd end text → IsUtf8 end → IsNoted index.ends end
     → after is_dir (slot_at index.ends end) ≤ e)
     → after is_dir (slot_at index.whole text) ≤ r → n ≤ r → e ≤ r
     → (i : ℕ) (m : Member) → slice_get ms i ≡ Some m → Applies (chars text) is_dir m → (form_of m.reading ≡ other → ⊥) → i < r
@@ -48,11 +47,11 @@ exact_above index text is_dir ms n e r utf8 is names ends w-r n-r e-r i m g a fo
         let same = matches_whole m.reading key text form utf8 a.1 in
         omega (arith, w-r, (is.whole.slots is_dir text).above i m g (form ∙ ap whole (sym same), a.0))
     by_form (name key) form =
-        let long = is.names.lengths i m key g form in
+        let long = is.names.noted i m key g form in
         let fits = name_fits text key utf8 long.0 (matches_name m.reading key text form utf8 a.1) in
         omega (arith, n-r, names key fits long.0 long.1, (is.names.slots is_dir key).above i m g (form, a.0))
     by_form (ending key) form =
-        let long = is.ends.lengths i m key g form in
+        let long = is.ends.noted i m key g form in
         let cut = matches_end m.reading key text form utf8 a.1 in
         omega (
           arith,

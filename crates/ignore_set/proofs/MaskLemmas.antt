@@ -37,6 +37,12 @@ back_covered (x ∷ xs) ys i = omega (arith, back_covered xs ys i, bit_at_or (fi
 covered_or : (a b : ℕ) → Covers a b → bit_or a b ≡ b
 covered_or a b p = same_from_bits (bit_or a b) b (λ i. omega (arith, bit_at_or a b i, p i))
 
+pub marked_more : (a m b : ℕ) → bit_or a m ≡ m → bit_or a (bit_or m b) ≡ bit_or m b
+marked_more a m b e = covered_or a (bit_or m b) (λ i. omega (arith, bit_at_or m b i, bit_at_or a m i, ap (λ k. bit_at k i) e))
+
+pub marked_here : (m b : ℕ) → bit_or b (bit_or m b) ≡ bit_or m b
+marked_here m b = covered_or b (bit_or m b) (λ i. omega (arith, bit_at_or m b i))
+
 pub inside_covered : (text needle : List ℕ) → HasSubslice text needle → bit_or (mask_of needle) (mask_of text) ≡ mask_of text
 inside_covered text needle (a, b, cut) =
     let all = subst (λ t. Covers (mask_of needle) (mask_of t)) (sym cut)

@@ -11,7 +11,7 @@ use Rattle.std.proofs.lemmas.Option.{slice_get_within}
 use Rattle.std.proofs.lemmas.Slice.Eq.{bytes_eq-Decides}
 use Rattle.ignore_glob.specs.Forms.{Form, form_of}
 use Rattle.ignore_set.specs.declared.table.Table.{Table}
-use Rattle.ignore_set.specs.Index.{IsAfterLast, IsTableOf, slot_at, slot_with, after}
+use Rattle.ignore_set.specs.Index.{IsAfterLast, IsNoted, IsTableOf, slot_at, slot_with, after}
 use Rattle.ignore_set.specs.Sets.{Member, Allows}
 
 -- Lists with one more at the end.
@@ -59,8 +59,8 @@ pub table_same : (form : List ℕ → Form) (table : Table) (ms : List Member) (
 table_same form table ms m differs was = record {
   slots = λ is_dir text. last_miss (λ x. (form_of x.reading ≡ form text) × Allows is_dir x) ms m
       (after is_dir (slot_at table text)) (λ h. differs text h.0) (was.slots is_dir text);
-  lengths = λ i x text g is. elim (got_append ms m i x g) [
-    | inl before ↦ was.lengths i x text before is
+  noted = λ i x text g is. elim (got_append ms m i x g) [
+    | inl before ↦ was.noted i x text before is
     | inr p ↦ absurd (differs text (sym (ap (λ (y : Member). form_of y.reading) p.1) ∙ is))
   ];
 }
@@ -80,14 +80,13 @@ pub table_put : (form : List ℕ → Form) (old new : Table) (ms : List Member) 
     (only_dir : Bool) → ((a b : List ℕ) → form a ≡ form b → a ≡ b) → IsTableOf form old ms → length ms ≡ index
     → form_of m.reading ≡ form text → m.only_dir ≡ only_dir
     → ((q : List ℕ) → slot_at new q ≡ cond (bytes_eq text q) (slot_with index only_dir (slot_at old q)) (slot_at old q))
-    → IsUtf8 text × IsAmong new.lengths.items (length text)
-    → ((n : ℕ) → IsAmong old.lengths.items n → IsAmong new.lengths.items n)
+    → IsUtf8 text × IsNoted new text → ((t : List ℕ) → IsNoted old t → IsNoted new t)
     → IsTableOf form new (ms ++ m ∷ [])
 table_put form old new ms m index text only_dir one was size is only slots long kept = record {
   slots = λ is_dir q. at is_dir q (bytes_eq text q) (bytes_eq-Decides text q) (slots q);
-  lengths = λ i x q g h. elim (got_append ms m i x g) [
-    | inl before ↦ ((was.lengths i x q before h).0, kept (length q) (was.lengths i x q before h).1)
-    | inr p ↦ subst (λ t. IsUtf8 t × IsAmong new.lengths.items (length t))
+  noted = λ i x q g h. elim (got_append ms m i x g) [
+    | inl before ↦ ((was.noted i x q before h).0, kept q (was.noted i x q before h).1)
+    | inr p ↦ subst (λ t. IsUtf8 t × IsNoted new t)
         (one text q (sym is ∙ (sym (ap (λ (y : Member). form_of y.reading) p.1) ∙ h))) long
   ];
 }

@@ -1,12 +1,12 @@
 -- What an index keeps of the patterns that it was made of.
-use Rattle.std.specs.Prelude.{◌≡◌, ◌⊎◌, ℕ, ◌+◌, ◌<◌, Bool, cond, List, length, slice_get, Some}
+use Rattle.std.specs.Prelude.{◌≡◌, ◌⊎◌, ℕ, ◌+◌, ◌%◌, ◌<◌, Bool, cond, List, [], ◌∷◌, length, slice_get, get_or, Some, bit_or}
 use Rattle.std.specs.BTreeMap.{get_by_text}
 use Rattle.std.specs.List.{IsAmong}
 use Rattle.std.specs.Option.{unwrap_or}
 use Rattle.std.specs.Str.{chars, IsUtf8}
 use Rattle.ignore_glob.specs.Forms.{Form, whole, name, ending, other, form_of}
 use Rattle.ignore_set.specs.Ends.{HasEnd, HasName}
-use Rattle.ignore_set.specs.Others.{AreOthers}
+use Rattle.ignore_set.specs.Others.{AreOthers, bit_of}
 use Rattle.ignore_set.specs.Sets.{Member, Allows, Applies}
 use Rattle.ignore_set.specs.declared.index.Index.{Index}
 use Rattle.ignore_set.specs.declared.table.Slot.{Slot}
@@ -31,12 +31,25 @@ after is_dir slot = cond is_dir slot.dir slot.file
 abbrev pub slot_with : ℕ → Bool → Slot → Slot
 slot_with index only_dir slot = record { file = cond only_dir slot.file (index + 1); dir = index + 1 }
 
--- the table of the patterns of a form: the last under each text for each kind, and the lengths of the texts
+-- the bit of a text, by its first byte, its last one, and how many follow the first
+abbrev pub end_bit : List ℕ → ℕ
+end_bit [] = 0
+end_bit (a ∷ text) = bit_of a (get_or (a ∷ text) (length text) 0) (length text % 256)
+
+-- a table has the bit of a text
+abbrev pub IsMarked : Table → List ℕ → Type 0
+IsMarked table text = bit_or (end_bit text) table.mark ≡ table.mark
+
+-- a table has the length of a text, and its bit
+abbrev pub IsNoted : Table → List ℕ → Type 0
+IsNoted table text = IsAmong table.lengths.items (length text) × IsMarked table text
+
+-- the table of the patterns of a form: the last under each text for each kind; and the texts are noted
 pub record IsTableOf (form : List ℕ → Form) (table : Table) (ms : List Member) : Type 0 where
   pub slots : (is_dir : Bool) (text : List ℕ) → IsAfterLast (λ m. (form_of m.reading ≡ form text) × Allows is_dir m) ms
       (after is_dir (slot_at table text))
-  pub lengths : (i : ℕ) (m : Member) (text : List ℕ) → slice_get ms i ≡ Some m → form_of m.reading ≡ form text
-      → IsUtf8 text × IsAmong table.lengths.items (length text)
+  pub noted : (i : ℕ) (m : Member) (text : List ℕ) → slice_get ms i ≡ Some m → form_of m.reading ≡ form text
+      → IsUtf8 text × IsNoted table text
 
 -- the index is one of these patterns, in their order
 pub record IsIndexOf (index : Index) (ms : List Member) : Type 0 where

@@ -95,7 +95,7 @@ impl Index {
         ensures succeeds { AreShort (map M.member members.now) → IsOk result }
     {
         let exact = self.last_exact(text, is_dir);
-        let (after, passes) = last_other(members, &self.others, exact, text, is_dir)?;
+        let (after, passes) = last_if_any(members, &self.others, exact, text, is_dir)?;
         Ok((after.checked_sub(1), passes))
     }
 
@@ -134,6 +134,27 @@ fn index_of<M: HasPattern>(alloc: Global, members: &[M]) -> Result<Index, AllocE
     Ok(index)
 }
 
+/// As `last_other`, which looks at the whole text. Where there are no patterns of no form, nothing
+/// does.
+fn last_if_any<M: HasPattern>(
+    members: &[M],
+    others: &[Needle],
+    best: usize,
+    text: &str,
+    is_dir: bool,
+) -> Result<(usize, u64), Error>
+    requires { AreOthers others.now (map M.member members.now) }
+    ensures value { IfOk result (λ r. IsFoundFrom text.now is_dir (map M.member members.now) best r.0) }
+    ensures count { IfOk result (λ r. r.1 ≤ pass_bound (map M.member members.now)) }
+    ensures out_of_memory { IfErr result (λ e. problem_of e ≡ memory) }
+    ensures succeeds { AreShort (map M.member members.now) → IsOk result }
+{
+    if others.is_empty() {
+        return Ok((best, 0));
+    }
+    last_other(members, others, best, text, is_dir)
+}
+
 /// One more than the greatest index among the patterns of no form that apply, and `best`, and how
 /// many passes over positions that took.
 fn last_other<M: HasPattern>(
@@ -161,7 +182,10 @@ fn last_other<M: HasPattern>(
         if i == tried {
             continue;
         }
-        if !needle.is_in(text, mask) {
+        if !needle.may_be_in(mask) {
+            continue;
+        }
+        if !needle.is_in(text) {
             continue;
         }
         match applies(&members[i], text, is_dir) {

@@ -1,5 +1,5 @@
 //! Texts without which patterns don't match.
-ghost use Rattle.std.specs.Prelude.{◌≡◌, ◌↔◌, ◌++◌, ◌*◌, ◌^◌, ◌+◌, ◌<◌, ℕ, IsTrue, IfOk, map, string_bytes};
+ghost use Rattle.std.specs.Prelude.{◌≡◌, ◌↔◌, ◌++◌, ◌*◌, ◌^◌, ◌+◌, ◌<◌, ℕ, List, IsTrue, IfOk, map, string_bytes};
 ghost use Rattle.std.specs.Str.Iter.{HasSubslice};
 ghost use Rattle.ignore_set.specs.Others.{bit_of, first_bit, mask_of};
 
@@ -42,14 +42,17 @@ impl Needle {
         self.index
     }
 
-    /// Whether the needle is in the text, whose mask is given too.
-    pub(crate) fn is_in(&self, text: &str, mask: u64) -> bool
-        requires { mask ≡ mask_of text.now }
+    /// Whether the needle may be in a text with this mask: where not, it isn't.
+    pub(crate) fn may_be_in(&self, mask: u64) -> bool
+        ensures { (text : List ℕ) → mask ≡ mask_of text → HasSubslice text self.now.text → IsTrue result }
+    {
+        self.mask | mask == mask
+    }
+
+    /// Whether the needle is in the text.
+    pub(crate) fn is_in(&self, text: &str) -> bool
         ensures { IsTrue result ↔ HasSubslice text.now self.now.text }
     {
-        if self.mask | mask != mask {
-            return false;
-        }
         text.contains(self.text.as_str())
     }
 }
@@ -75,7 +78,7 @@ fn first_bit(bytes: &[u8]) -> u64
     bit_of(bytes[0], bytes[1], bytes[2])
 }
 
-fn bit_of(a: u8, b: u8, c: u8) -> u64
+pub(crate) fn bit_of(a: u8, b: u8, c: u8) -> u64
     ensures { result ≡ bit_of a b c }
 {
     1u64 << ((usize::from(a) * 37 + usize::from(b) * 101 + usize::from(c) * 5) % 64)

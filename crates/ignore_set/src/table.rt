@@ -1,9 +1,10 @@
 //! Patterns of one form, by the text under which each stands.
-ghost use Rattle.std.specs.Prelude.{◌≡◌, ◌+◌, ◌<◌, ◌≤◌, ◌^◌, ℕ, IfOk, List, length, cond, string_bytes};
+ghost use Rattle.std.specs.Prelude.{◌≡◌, ◌+◌, ◌<◌, ◌≤◌, ◌^◌, ℕ, IfOk, IsTrue, List, length, cond, string_bytes};
 ghost use Rattle.std.specs.List.{IsAmong};
 ghost use Rattle.std.specs.Str.{IsUtf8, bytes_eq};
-ghost use Rattle.ignore_set.specs.Index.{Fits, StandsUnderEnd, after, slot_at, slot_with};
+ghost use Rattle.ignore_set.specs.Index.{Fits, IsMarked, IsNoted, StandsUnderEnd, after, end_bit, slot_at, slot_with};
 
+use crate::needle::bit_of;
 use crate::text::{Ending, end_of, fits};
 use std::alloc::{AllocError, Global};
 use std::collections::BTreeMap;
@@ -16,11 +17,12 @@ pub(crate) struct Slot {
     dir: usize,
 }
 
-/// The last pattern under each text, and the lengths that the texts have.
+/// The last pattern under each text, the lengths that the texts have, and their bits.
 #[derive(Debug, Drop)]
 pub(crate) struct Table {
     slots: BTreeMap<String, Slot>,
     lengths: Vec<usize>,
+    mark: u64,
 }
 
 impl Slot {
@@ -49,6 +51,7 @@ impl Table {
         Table {
             slots: BTreeMap::new(alloc),
             lengths: Vec::new(alloc),
+            mark: 0,
         }
     }
 
@@ -63,11 +66,12 @@ impl Table {
         ensures slots { IfOk result (λ _. (q : List ℕ)
             → slot_at self.new q ≡ cond (bytes_eq (string_bytes text) q) (slot_with index only_dir (slot_at self.old q))
             (slot_at self.old q)) }
-        ensures length { IfOk result (λ _. IsUtf8 (string_bytes text) × IsAmong self.new.lengths.items (length (string_bytes text))) }
-        ensures lengths { IfOk result (λ _. (n : ℕ) → IsAmong self.old.lengths.items n → IsAmong self.new.lengths.items n) }
+        ensures own { IfOk result (λ _. IsUtf8 (string_bytes text) × IsNoted self.new (string_bytes text)) }
+        ensures others { IfOk result (λ _. (t : List ℕ) → IsNoted self.old t → IsNoted self.new t) }
     {
         let slot = self.slot(text.as_str()).with(index, only_dir);
         note(&mut self.lengths, text.as_str().len())?;
+        self.mark |= end_bit(text.as_str());
         self.slots.insert(text, slot)?;
         Ok(())
     }
@@ -88,11 +92,18 @@ impl Table {
         self.slot(text).after(is_dir)
     }
 
+    /// Whether a pattern may stand under a text: where not, none does.
+    fn may_have(&self, text: &str) -> bool
+        ensures { IsMarked self.now text.now → IsTrue result }
+    {
+        end_bit(text) | self.mark == self.mark
+    }
+
     /// One more than the greatest index of a pattern under an end of the text.
     pub(crate) fn under_ends(&self, ending: Ending, text: &str, is_dir: bool) -> usize
         ensures found { StandsUnderEnd ending self.now is_dir text.now result }
         ensures greatest { (end : List ℕ) → Fits ending end text.now → IsUtf8 end
-            → IsAmong self.now.lengths.items (length end) → after is_dir (slot_at self.now end) ≤ result }
+            → IsNoted self.now end → after is_dir (slot_at self.now end) ≤ result }
     {
         let mut best = 0usize;
         for size in &self.lengths {
@@ -103,12 +114,15 @@ impl Table {
 
     fn under_end(&self, ending: Ending, text: &str, size: usize, is_dir: bool) -> usize
         ensures found { StandsUnderEnd ending self.now is_dir text.now result }
-        ensures greatest { (end : List ℕ) → Fits ending end text.now → IsUtf8 end → length end ≡ size
+        ensures greatest { (end : List ℕ) → Fits ending end text.now → IsUtf8 end → length end ≡ size → IsMarked self.now end
             → after is_dir (slot_at self.now end) ≤ result }
     {
         match end_of(text, size) {
             None => 0,
             Some(end) => {
+                if !self.may_have(end) {
+                    return 0;
+                }
                 if fits(ending, text, end) {
                     self.under(end, is_dir)
                 } else {
@@ -116,6 +130,17 @@ impl Table {
                 }
             }
         }
+    }
+}
+
+/// The bit of a text.
+fn end_bit(text: &str) -> u64
+    ensures { result ≡ end_bit text.now }
+{
+    let bytes = text.as_bytes();
+    match bytes.len().checked_sub(1) {
+        None => 0,
+        Some(last) => bit_of(bytes[0], bytes[last], (last % 256) as u8),
     }
 }
 

@@ -61,6 +61,23 @@ loop-j-preserved-then-not-is_in g c =
       few = c.loop-j.invariant.few;
     }
 
+pub loop-j-preserved-then-not-may_be_in : goal.loop-j-preserved-then-not-may_be_in
+loop-j-preserved-then-not-may_be_in g c =
+    let ms = map g.M.HasPattern.member c.args.members.now in
+    let others = c.args.others.now in
+    let n = c.index-others-j.result in
+    let j = c.loop-j.j - 1 in
+    let next : c.loop-j.j ≡ j + 1 = omega arith in
+    let here = slice_get-get_or others j n (omega arith) ∙ ap Some (sym c.index-others-j.is) in
+    let none = subst (λ k. NoneFrom c.args.text.now c.args.is_dir ms others k) next c.loop-j.invariant.none in
+    let tried = subst (λ k. IsTried c.args.text.now c.args.is_dir ms others k c.loop-j.tried) next c.loop-j.invariant.tried in
+    record {
+      none = none_more c.args.text.now c.args.is_dir ms others j n here
+          (λ m h has a. false≢true (sym c.if-not-may_be_in.true ∙ c.may_be_in.ensures c.args.text.now c.mask_of-mask.ensures has)) none;
+      tried = tried_before c.args.text.now c.args.is_dir ms others j c.loop-j.tried tried;
+      few = c.loop-j.invariant.few;
+    }
+
 pub bounds-members-i : goal.bounds-members-i
 bounds-members-i g c =
     let member = g.M.HasPattern.member in

@@ -8,21 +8,21 @@ use Rattle.ignore_set.proofs.OtherLemmas.{needles_at-strings}
 use Rattle.ignore_set.proofs.index.Index.add.Goals as goal
 
 pub returns-in-Whole : goal.returns-in-Whole
-returns-in-Whole c = if_ok3 c.put.result c.put.ensures.slots c.put.ensures.length c.put.ensures.lengths
+returns-in-Whole c = if_ok3 c.put.result c.put.ensures.slots c.put.ensures.own c.put.ensures.others
     (λ slots long kept ms m was size is only.
     add_whole c.args.self.now c.put.new.self (string_bytes c.in-Whole.text) c.args.index c.args.only_dir
     (slots, long, kept) ms m was size (ap form_of is ∙ (sym c.in_ok-text.ensures ∙ ap key_form c.in-Whole.is)) only)
 
 pub returns-in-Name : goal.returns-in-Name
 returns-in-Name c =
-    if_ok3 c.put-in-Name.result c.put-in-Name.ensures.slots c.put-in-Name.ensures.length c.put-in-Name.ensures.lengths
+    if_ok3 c.put-in-Name.result c.put-in-Name.ensures.slots c.put-in-Name.ensures.own c.put-in-Name.ensures.others
     (λ slots long kept ms m was size is only.
     add_name c.args.self.now c.put-in-Name.new.self (string_bytes c.in-Name.text) c.args.index c.args.only_dir
     (slots, long, kept) ms m was size (ap form_of is ∙ (sym c.in_ok-text.ensures ∙ ap key_form c.in-Name.is)) only)
 
 pub returns-in-End : goal.returns-in-End
 returns-in-End c =
-    if_ok3 c.put-in-End.result c.put-in-End.ensures.slots c.put-in-End.ensures.length c.put-in-End.ensures.lengths
+    if_ok3 c.put-in-End.result c.put-in-End.ensures.slots c.put-in-End.ensures.own c.put-in-End.ensures.others
     (λ slots long kept ms m was size is only.
     add_end c.args.self.now c.put-in-End.new.self (string_bytes c.in-End.text) c.args.index c.args.only_dir
     (slots, long, kept) ms m was size (ap form_of is ∙ (sym c.in_ok-text.ensures ∙ ap key_form c.in-End.is)) only)
