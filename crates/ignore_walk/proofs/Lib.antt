@@ -16,6 +16,8 @@ pub mod VisitLemmas
 pub mod EmptyLemmas
 pub mod PlaceNames
 pub mod ReachLemmas
+pub mod ShownLemmas
+pub mod ParentLemmas
 pub mod KeptLemmas
 pub mod AgreeLemmas
 pub mod YieldLemmas

@@ -12,13 +12,16 @@ use Rattle.ignore_dir.specs.Query.{answer_of_rules, is_ignored, query, rules_ver
 use Rattle.ignore_dir.specs.Scene.{path_verdict}
 use Rattle.ignore_dir.specs.Standard.{nothing_outside, standard}
 use Rattle.ignore_dir.specs.declared.settings.Settings.{Settings}
-use Rattle.ignore_walk.specs.Agreement.{IsYielded, Reachable, at_root, is_kept, listed}
+use Rattle.ignore_walk.specs.Agreement.{Reachable, at_root, is_kept, listed}
 use Rattle.ignore_walk.specs.Branch.{Branch}
 use Rattle.ignore_walk.specs.Child.{child}
 use Rattle.ignore_walk.specs.Entry.{Entry, Item}
 use Rattle.ignore_walk.specs.Scene.{Scene}
-use Rattle.ignore_walk.specs.Walked.{WalkedOne}
+use Rattle.ignore_walk.specs.Visits.{IsShown, IsYielded}
+use Rattle.ignore_walk.specs.Visits.{at_root as begun, listed as listed_below}
+use Rattle.ignore_walk.specs.Walked.{WalkedOne, enter, fate, ignores, is_skipped}
 use Rattle.ignore_walk.specs.Whole.{root_entry}
+use Rattle.ignore_walk.proofs.ShownLemmas.{shows}
 use Rattle.ignore_walk.proofs.YieldLemmas.{agrees}
 
 -- what is listed at a path
@@ -103,10 +106,34 @@ pub deep_kept : (is_kept (scene deep) t at_h h ≡ false) × (is_kept (scene dee
 unfolding is_kept query answer_of_rules rules_verdict is_ignored path_verdict join_of file_name_of
 deep_kept = (refl, refl)
 
--- so no walk with these settings yields the file
+-- so no walk with the first settings yields the file
 pub hidden_unyielded : JoinsName → LeavesThePath → (items : List Item) (n : ℕ)
     → WalkedOne (scene standard) t [] (root_entry (scene standard) t) items n → IsYielded items x → ⊥
 hidden_unyielded join left items n w y =
     let kept = (agrees join left (scene standard) t at_x x items n
     (record { keeps_all = λ e. refl; all_devices = refl }) refl x_reached refl w).0 y in
     both_ways _ hidden_ignored.1 kept
+
+-- and each walk with the others yields it: the root and the directory are entered
+
+deep_entered : (fate (scene deep) t [] (entry t 0 Dir) ≡ enter) × (fate (scene deep) t at_h h ≡ enter)
+    × (is_skipped (scene deep) t at_x x ≡ false)
+unfolding fate is_skipped ignores path_verdict file_name_of join_of
+deep_entered = (refl, refl, refl)
+
+deep_found : (child (scene deep) t [] (listed_entry (codes ".h") Dir) ≡ Ok h)
+    × (child (scene deep) t at_h (listed_entry (codes "x") File) ≡ Ok x)
+unfolding child join_of
+deep_found = (refl, refl)
+
+deep_shown : IsShown (scene deep) t x
+deep_shown = record {
+  place = at_x;
+  visited = listed_below (listed_below (begun (root_found deep)) deep_entered.0 (0, omega arith, refl) deep_found.0) deep_entered.1
+      (0, omega arith, refl) deep_found.1;
+  kept = deep_entered.2;
+  deep = refl;
+}
+
+pub deep_yielded : (items : List Item) (n : ℕ) → WalkedOne (scene deep) t [] (root_entry (scene deep) t) items n → IsYielded items x
+deep_yielded items n w = (shows (scene deep) t x items n w).1 deep_shown

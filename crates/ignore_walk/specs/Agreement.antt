@@ -1,8 +1,7 @@
 -- What a walk yields, by the queries of its roots.
-use Rattle.std.specs.Prelude.{◌≡◌, Bool, true, false, not, ◌&&◌, List, [], ◌∷◌, length, reverse, codes, bytes_eq, Contains, Option, Ok}
+use Rattle.std.specs.Prelude.{◌≡◌, Bool, true, false, not, ◌&&◌, List, [], ◌∷◌, length, reverse, codes, bytes_eq, Contains, Ok}
 use Rattle.ignore_base.specs.Text.{Bytes, Path}
 use Rattle.ignore_base.specs.Paths.{joined}
-use Rattle.ignore_base.specs.Problem.{Problem}
 use Rattle.ignore_files.specs.declared.types.FileType.{FileType}
 use Rattle.ignore_files.specs.declared.types.Listed.TheVariants as thing
 use Rattle.ignore_dir.specs.Limits.{is_below}
@@ -11,7 +10,7 @@ use Rattle.ignore_dir.specs.Verdict.{is_ignore}
 use Rattle.ignore_dir.specs.declared.incremental.IncrementalMatch.{IncrementalMatch}
 use Rattle.ignore_walk.specs.Branch.{Branch}
 use Rattle.ignore_walk.specs.Child.{child, is_dir_kind}
-use Rattle.ignore_walk.specs.Entry.{Entry, Item}
+use Rattle.ignore_walk.specs.Entry.{Entry}
 use Rattle.ignore_walk.specs.Scene.{Scene, queries}
 use Rattle.ignore_walk.specs.Walked.{leads_in, listing_of}
 use Rattle.ignore_walk.specs.Whole.{root_entry}
@@ -27,10 +26,6 @@ pub data Reachable (g : Scene) (root : Path) : Branch → Entry → Type 0 where
 -- a place is at the greatest depth or above it
 abbrev pub is_within : Scene → Branch → Bool
 is_within g b = not (is_below g.settings.max_depth (length b))
-
--- an entry is among some items, with whatever problem of its load
-abbrev pub IsYielded : List Item → Entry → Type 0
-IsYielded items e = (problem : Option Problem) × Contains items (Ok (e, problem))
 
 -- an answer keeps a path: it doesn't ignore it, and the path is within the limits on depth
 abbrev pub keeps : IncrementalMatch → Bool

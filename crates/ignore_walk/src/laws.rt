@@ -1,10 +1,11 @@
 //! Laws of the definitions, as calls that do nothing: each contract is the law.
-ghost use Rattle.std.specs.Prelude.{◌≡◌, ◌⊎◌, ◌↔◌, [], true, false, codes, bytes_eq, Contains, ℕ, List, Result};
+ghost use Rattle.std.specs.Prelude.{◌≡◌, ◌⊎◌, ◌↔◌, [], ◌∷◌, ◌++◌, Ok, Option, true, false, codes, bytes_eq, Contains, ℕ, List, Result};
 ghost use Rattle.ignore_base.specs.Problem.{Problem};
-ghost use Rattle.ignore_walk.specs.Agreement.{IsKeptBelow, IsOpen, IsYielded, Reachable, is_kept, is_within};
+ghost use Rattle.ignore_walk.specs.Agreement.{IsKeptBelow, IsOpen, Reachable, is_kept, is_within};
 ghost use Rattle.ignore_walk.specs.Branch.{Branch};
 ghost use Rattle.ignore_walk.specs.Entry.{Entry, Item, stdin_entry};
 ghost use Rattle.ignore_walk.specs.Scene.{Scene};
+ghost use Rattle.ignore_walk.specs.Visits.{IsAfterParent, IsShown, IsShownBelow, IsYielded};
 ghost use Rattle.ignore_walk.specs.Walked.{WalkedOne, IsOrdered};
 ghost use Rattle.ignore_walk.specs.Whole.{Whole, WalkedRoots, root_entry};
 
@@ -16,6 +17,20 @@ pub fn one_list()
         → IsOrdered g.order → WalkedOne g root b r xs m → WalkedOne g root b r ys n → (ys ≡ xs) × (n ≡ m) }
     ensures roots { (g : Scene) (seen roots : List (List ℕ)) (xs ys : List Item) (m n : ℕ)
         → IsOrdered g.order → WalkedRoots g seen roots xs m → WalkedRoots g seen roots ys n → (ys ≡ xs) × (n ≡ m) }
+{}
+
+/// By any settings, filter and order a walk yields exactly the entries that it visits, doesn't skip
+/// and doesn't find above the least depth: under a root (`below`), and in all, with standard input
+/// where that is one (`whole`). Parents come first (`parents`): each entry but the root comes after
+/// the directory that lists it, unless this is above the least depth.
+pub fn walk_yields_what_it_shows()
+    ensures below { (g : Scene) (root : List ℕ) (e : Entry) (items : List Item) (n : ℕ)
+        → WalkedOne g root [] (root_entry g root) items n → IsYielded items e ↔ IsShown g root e }
+    ensures whole { (g : Scene) (roots : List (List ℕ)) (e : Entry) (items : List Item) (n : ℕ) → Whole g roots items n
+        → IsYielded items e ↔ (((e ≡ stdin_entry) × Contains roots (codes "-")) ⊎ IsShownBelow g roots e) }
+    ensures parents { (g : Scene) (root : List ℕ) (e : Entry) (p : Option Problem) (front back : List Item) (n : ℕ)
+        → WalkedOne g root [] (root_entry g root) (front ++ Ok (e, p) ∷ back) n
+        → (root_entry g root ≡ Ok e) ⊎ IsAfterParent g root front e }
 {}
 
 /// A walk agrees with the queries of its roots. Where its filter keeps everything and it may go on
