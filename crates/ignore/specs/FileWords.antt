@@ -3,6 +3,7 @@ pub use Rattle.ignore_files.specs.Gives.{IsHonest}
 pub use Rattle.ignore_files.specs.Tree.{Tree}
 pub use Rattle.ignore_files.specs.Disk.{tree_on}
 pub use Rattle.ignore_files.specs.Machine.{Disk, IsTruthful}
+pub use Rattle.ignore_files.specs.declared.env.Env.{Env}
 pub use Rattle.ignore_files.specs.declared.types.Contents.{Contents}
 pub use Rattle.ignore_files.specs.declared.types.Refusal.{Refusal}
 pub use Rattle.ignore_files.specs.declared.types.Refusal.TheVariants.{Fault, Memory}

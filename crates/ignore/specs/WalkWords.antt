@@ -1,9 +1,22 @@
--- The words of clauses on matchers of single paths and on walks, in one place.
+-- The words of clauses on builders, on matchers of single paths and on walks, in one place.
 pub use Rattle.ignore_dir.specs.Load.{AreLoads, Loaded}
 pub use Rattle.ignore_dir.specs.Query.{query}
+pub use Rattle.ignore_dir.specs.Scene.{Scene as QueryScene, scene}
+pub use Rattle.ignore_dir.specs.Standard.{standard}
+pub use Rattle.ignore_dir.specs.declared.incremental.IncrementalMatch.{IncrementalMatch}
+pub use Rattle.ignore_dir.specs.declared.outside.Outside.{Outside}
+pub use Rattle.ignore_query.specs.Agrees.{Agrees, kept_at}
+pub use Rattle.ignore_query.specs.Forget.{IsSameKept, is_at_or_below}
+pub use Rattle.ignore_query.specs.Fresh.{KeepsNothing}
+pub use Rattle.ignore_query.specs.Needs.{KeepsNeeded, Stays, needed}
 pub use Rattle.ignore_query.specs.Reached.{scene_of}
+pub use Rattle.ignore_query.specs.Reports.{reported}
+pub use Rattle.ignore_query.specs.declared.incremental.IncrementalIgnore.{IncrementalIgnore}
 pub use Rattle.ignore_walk.specs.Entry.{Entry, Item, entry_of, item_of, problem_in}
 pub use Rattle.ignore_walk.specs.Nexts.{Nexts, Remaining}
 pub use Rattle.ignore_walk.specs.Scene.{Scene}
 pub use Rattle.ignore_walk.specs.Suits.{Suits}
 pub use Rattle.ignore_walk.specs.Whole.{Whole}
+pub use Rattle.ignore.specs.Asked.{IsOutside}
+pub use Rattle.ignore.specs.Builder.{unset, with_root}
+pub use Rattle.ignore.specs.Matchers.{AreMatchers, asked_by}

@@ -4,3 +4,4 @@ pub mod KeepLemmas
 pub mod NeedLemmas
 pub mod WayLemmas
 pub mod QueryLemmas
+pub mod FreshLemmas

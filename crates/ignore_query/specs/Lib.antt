@@ -1,5 +1,6 @@
 pub mod Agrees
 pub mod Forget
+pub mod Fresh
 pub mod Needs
 pub mod Reached
 pub mod Reports

@@ -8,6 +8,7 @@ ghost use Rattle.ignore_dir.specs.Query as queries;
 ghost use Rattle.ignore_dir.specs.Scene.{Scene};
 ghost use Rattle.ignore_dir.specs.Soft.{IsSoft};
 ghost use Rattle.ignore_query.specs.Agrees.{Agrees};
+ghost use Rattle.ignore_query.specs.Fresh.{KeepsNothing};
 ghost use Rattle.ignore_query.specs.Needs.{KeepsNeeded, Stays, is_decided, needed};
 ghost use Rattle.ignore_query.specs.Reached.{scene_of};
 ghost use Rattle.ignore_query.specs.Reports.{reported, reported_by_rules};
@@ -39,6 +40,7 @@ impl IncrementalIgnore {
     pub fn new(settings: Settings, outside: Outside, root: String) -> IncrementalIgnore
         ensures asked { result.asked ≡ record { settings = settings; outside = outside; root = root } }
         ensures fresh { (g : Scene) → Agrees g result.cache }
+        ensures empty { KeepsNothing result.cache }
     {
         let cache = Cache::new(*root.allocator());
         let asked = Asked {
@@ -193,10 +195,11 @@ impl IncrementalIgnore {
 }
 
 impl Clone for IncrementalIgnore {
+    ghost use Rattle.ignore_query.specs.Fresh.{KeepsNothing};
     ghost use Rattle.ignore_query.specs.Reached.{IsSame};
 
     // The copy keeps nothing.
-    ghost is_clone = { λ m copy. IsSame m.asked copy.asked × ((g : Scene) → Agrees g copy.cache) };
+    ghost is_clone = { λ m copy. IsSame m.asked copy.asked × (KeepsNothing copy.cache × ((g : Scene) → Agrees g copy.cache)) };
 
     fn clone(&self) -> Result<IncrementalIgnore, AllocError> {
         let asked = self.asked.clone()?;

@@ -2,6 +2,7 @@
 ghost use Rattle.std.specs.Prelude.{◌≡◌};
 ghost use Rattle.ignore_dir.specs.Scene.{Scene};
 ghost use Rattle.ignore_query.specs.Agrees.{Agrees, is_loaded};
+ghost use Rattle.ignore_query.specs.Fresh.{KeepsNothing};
 
 use ignore_dir::{Dir, Placed};
 use std::alloc::Global;
@@ -45,7 +46,8 @@ pub struct Cache {
 impl Cache {
     /// Nothing is kept. It allocates nothing.
     pub(crate) fn new(alloc: Global) -> Cache
-        ensures { (g : Scene) → Agrees g result }
+        ensures fresh { (g : Scene) → Agrees g result }
+        ensures empty { KeepsNothing result }
     {
         Cache {
             has_above: false,

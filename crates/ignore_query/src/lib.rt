@@ -6,6 +6,7 @@ mod chain;
 mod forget;
 mod incremental;
 mod kept;
+pub mod laws;
 mod load;
 mod root;
 

@@ -10,5 +10,6 @@ pub mod lines;
 pub mod linter;
 pub mod packer;
 pub mod reason;
+pub mod single;
 #[cfg(test)]
 mod tests;

@@ -7,8 +7,9 @@ use crate::lines::add_if_valid;
 use crate::linter::is_linted;
 use crate::packer::packed;
 use crate::reason::{deciding_file, deciding_line};
+use crate::single::ask_once;
 use ignore::Error;
-use ignore::files::{Bytes, Identity, MemoryTree, Row, TableMachine, TreeError};
+use ignore::files::{Bytes, Env, Identity, MemoryTree, Row, TableMachine, TreeError};
 use ignore::gitignore::{Gitignore, GitignoreBuilder};
 use ignore::overrides::{Override, OverrideBuilder};
 use ignore::types::{Types, TypesBuilder};
@@ -33,6 +34,25 @@ fn ignored(alloc: Global, path: &str) -> Result<bool, Fail> {
 fn a_checker_asks_a_file(rt: HostRuntime) -> Result<(), Fail> {
     assert!(rt; ignored(rt.alloc(), "/p/a.o")?);
     assert!(rt; !ignored(rt.alloc(), "/p/keep.o")?);
+    Ok(())
+}
+
+/// An environment of which nothing is known.
+fn unknown() -> Env {
+    Env {
+        current_dir: None,
+        home: None,
+        xdg_config_home: None,
+        git_config_global: None,
+        git_config_system: None,
+    }
+}
+
+#[test]
+fn a_tool_asks_about_one_path(rt: HostRuntime) -> Result<(), Fail> {
+    let tree = tree(rt.alloc())?;
+    let (found, error) = ask_once(rt.alloc(), &tree, &unknown(), "/p", ".git", true)?;
+    assert!(rt; found.is_ignore() && error.is_none());
     Ok(())
 }
 

@@ -1,18 +1,22 @@
 //! Matchers of single paths.
-ghost use Rattle.std.specs.Prelude.{◌≡◌, IfOk, IfErr};
+ghost use Rattle.std.specs.Prelude.{◌≡◌, All, IfOk, IfErr, length};
 ghost use Rattle.ignore_base.specs.Problem.{problem_of, memory};
 ghost use Rattle.ignore_files.specs.Gives.{IsHonest};
 ghost use Rattle.ignore_files.specs.Tree.{Tree};
+ghost use Rattle.ignore_dir.specs.Scene.{Scene};
+ghost use Rattle.ignore_query.specs.Agrees.{Agrees};
+ghost use Rattle.ignore_query.specs.Fresh.{KeepsNothing};
 ghost use Rattle.ignore.specs.Matchers.{AreMatchers};
 
 use crate::builder::WalkBuilder;
 use ignore_base::Error;
 use ignore_files::{Env, Files};
 use ignore_query::IncrementalIgnore;
+use ignore_query::laws::nothing_kept;
 
 impl WalkBuilder {
-    /// A matcher of single paths for each root, in the order of the roots. The global file is read
-    /// now, and what is wrong with it isn't reported.
+    /// A matcher of single paths for each root, in the order of the roots, which keeps nothing yet.
+    /// The global file is read now, and what is wrong with it isn't reported.
     ///
     /// # Errors
     /// `Error::Memory` alone.
@@ -23,8 +27,12 @@ impl WalkBuilder {
     ) -> Result<Vec<IncrementalIgnore>, Error>
         ensures read { (tree : Tree) → IsHonest F.Files files.now tree
             → IfOk result (λ ms. AreMatchers tree env.now self.now.options ms.items) }
+        ensures fresh { (g : Scene) → IfOk result (λ ms. All (λ m. Agrees g m.cache) ms.items) }
+        ensures empty { IfOk result (λ ms. All (λ m. KeepsNothing m.cache) ms.items) }
+        ensures counted { IfOk result (λ ms. length ms.items ≡ length self.now.options.roots) }
         ensures out_of_memory { IfErr result (λ e. problem_of e ≡ memory) }
     {
+        nothing_kept();
         let outside = self.options.outside(files, env)?;
         self.options.matchers_by(&outside)
     }
