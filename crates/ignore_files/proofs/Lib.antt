@@ -4,6 +4,11 @@ pub mod Walks
 pub mod EntryLemmas
 pub mod NodeLemmas
 mod DiskLemmas
+mod Ranks
+mod JoinedName
+mod Leads
+mod Numbered
+mod GrownLemmas
 mod Honest
 mod Truthful
 mod ChangesOnly

@@ -6,6 +6,8 @@ pub mod Memory
 pub mod Refusals
 pub mod Resolve
 pub mod Answers
+pub mod Dirs
+pub mod Grown
 pub mod Changes
 pub mod Reported
 pub mod Machine

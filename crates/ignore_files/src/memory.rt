@@ -1,5 +1,7 @@
 //! A tree of files that is all in memory.
 ghost use Rattle.std.specs.Prelude.{◌≡◌};
+ghost use Rattle.ignore_files.specs.Answers.{tree_of};
+ghost use Rattle.ignore_files.specs.Dirs.{IsNumbered};
 ghost use Rattle.ignore_files.specs.Memory.{dir_count};
 ghost use Rattle.ignore_files.specs.Changes.{made, MakesIfRoom, Leaves, LeavesIfRoom, dir_added, file_added, link_added, nameless_added};
 ghost use Rattle.ignore_files.specs.Changes.{size_set, identity_set, stat_faulted, list_faulted, contents_cut};
@@ -37,11 +39,14 @@ pub struct MemoryTree {
 }
 
 impl Model for MemoryTree {
+    ghost use Rattle.ignore_files.specs.Grown.{IsGrown};
     ghost use Rattle.ignore_files.specs.Memory.{Memory};
 
     ghost Value = { Memory };
 
     ghost view = { λ t. record { cwd = t.cwd; nodes = t.nodes.items } };
+
+    ghost invariant = { λ t. IsGrown t.nodes.items };
 }
 
 impl MemoryTree {
@@ -192,5 +197,13 @@ impl MemoryTree {
         ensures { result ≡ dir_count self.now }
     {
         count_dirs(&self.nodes)
+    }
+
+    /// Its directories can be numbered below `dir_count`, so that a listed one has a greater number
+    /// than the one that lists it. (A law: the call does nothing.)
+    pub fn is_numbered(&self)
+        ensures { IsNumbered (tree_of self.now) (dir_count self.now) }
+    {
+        let _nodes = &self.nodes;
     }
 }

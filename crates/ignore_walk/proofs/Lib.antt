@@ -4,6 +4,10 @@ pub mod Arranged
 pub mod Sorting
 pub mod Given
 pub mod OneList
+pub mod SomeOrder
+pub mod Weights
+pub mod ChildSteps
+pub mod SomeList
 pub mod ChildLemmas
 pub mod PlaceLemmas
 pub mod TextLemmas

@@ -3,6 +3,7 @@
 
 mod above;
 mod arrange;
+mod bound;
 mod callbacks;
 mod child;
 mod entry;
@@ -16,6 +17,7 @@ mod skip;
 mod stack;
 mod walk;
 
+pub use bound::{branch_bound, some_list};
 pub use callbacks::{Callbacks, Options, Order};
 pub use entry::{DirEntry, Item};
 pub use frame::Frame;

@@ -1,6 +1,7 @@
-use Rattle.std.proofs.Common.{Some, ap, ◌∙◌}
+use Rattle.std.proofs.Common.{Some, ap, ◌∙◌, refl}
 use Rattle.ignore_files.specs.Memory.{sought, is_directory}
 use Rattle.ignore_files.specs.declared.memory.node.Node.{Node}
+use Rattle.ignore_files.proofs.GrownLemmas.{grown_written}
 use Rattle.ignore_files.proofs.NodeLemmas.{leaves_written}
 use Rattle.ignore_files.proofs.memory.MemoryTree.fault_list.Goals as goal
 
@@ -10,3 +11,9 @@ returns c =
     rw (← c.self.view_is) (leaves_written is_directory (λ (n : Node). record n { list_fault = Some c.args.fault })
     (record { cwd = c.self.inside.cwd; nodes = c.self.inside.nodes.items }) c.args.path.now c.in_ok-place.place
     c.index_mut.result.now found c.index_mut.ensures.value)
+
+pub invariant_of-self : goal.invariant_of-self
+invariant_of-self c =
+    let found = c.in_ok-place.ensures ∙ ap (λ nodes. sought is_directory nodes c.args.path.now) c.deref.ensures.value in
+    grown_written is_directory (λ (n : Node). record n { list_fault = Some c.args.fault }) c.self.inside.nodes.items
+    c.args.path.now c.in_ok-place.place c.index_mut.result.now found c.index_mut.ensures.value c.self.invariant (λ n. refl)
