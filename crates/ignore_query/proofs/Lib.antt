@@ -1,6 +1,7 @@
 pub mod ChainLemmas
 pub mod ForgetLemmas
 pub mod KeepLemmas
+pub mod KnownLemmas
 pub mod NeedLemmas
 pub mod WayLemmas
 pub mod QueryLemmas

@@ -47,7 +47,7 @@ pub put_kept : (c c' : Cache) (key : List ℕ) (k : Kept) → Puts c c' key k �
     → is_some (get_by_text c'.dirs text) ≡ (is_some (get_by_text c.dirs text) || bytes_eq key text)
 put_kept c c' key k puts text = ap (λ (o : Option Kept). is_some o) (puts text) ∙ some_or (bytes_eq key text) (get_by_text c.dirs text) k
 
-or_same : (a b : Bool) → (b ≡ true → a ≡ true) → a ≡ (a || b)
+pub or_same : (a b : Bool) → (b ≡ true → a ≡ true) → a ≡ (a || b)
 or_same true b f = refl
 or_same false true f = f refl
 or_same false false f = refl
@@ -84,7 +84,7 @@ way g front (n ∷ rest) = front ∷ cond (is_ignored g front) [] (way g (front 
 abbrev opened : Scene → List (List ℕ) → Bool
 opened g q = not (list_any (is_ignored g) (ancestors q))
 
-ancestors-append : (a b : List (List ℕ)) → ancestors (a ++ b) ≡ ancestors a ++ map (λ q. a ++ q) (ancestors b)
+pub ancestors-append : (a b : List (List ℕ)) → ancestors (a ++ b) ≡ ancestors a ++ map (λ q. a ++ q) (ancestors b)
 ancestors-append [] b = sym (left_all b)
 ancestors-append (x ∷ xs) b =
     ap (λ (l : List (List (List ℕ))). [] ∷ map (λ q. x ∷ q) l) (ancestors-append xs b)
@@ -100,11 +100,11 @@ pub or_false : (b : Bool) → (b || false) ≡ b
 or_false true = refl
 or_false false = refl
 
-or_true : (b : Bool) → (b || true) ≡ true
+pub or_true : (b : Bool) → (b || true) ≡ true
 or_true true = refl
 or_true false = refl
 
-any-more : (g : Scene) (front : List (List ℕ)) (n : List ℕ)
+pub any-more : (g : Scene) (front : List (List ℕ)) (n : List ℕ)
     → list_any (is_ignored g) (ancestors (front ++ n ∷ [])) ≡ (list_any (is_ignored g) (ancestors front) || is_ignored g front)
 any-more g front n =
     ap (list_any (is_ignored g)) (ancestors-more front n)

@@ -1,6 +1,6 @@
 -- Paths on which the rules decide, and what is kept with what is above the root.
-use Rattle.std.proofs.Common.{◌≡◌, ◌==◌, ◌&&◌, ◌||◌, ℕ, Bool, true, false, not, List, [], ◌∷◌, ◌++◌, length, filter, map}
-use Rattle.std.proofs.Common.{Option, None, Some, is_some, refl, sym, ap, ◌∙◌}
+use Rattle.std.proofs.Common.{◌≡◌, ◌==◌, ◌&&◌, ◌||◌, ℕ, Bool, true, false, not, cond, List, [], ◌∷◌, ◌++◌, length, filter, map}
+use Rattle.std.proofs.Common.{◌≢◌, Option, None, Some, Result, Ok, Err, OnOk, IfSome, is_some, refl, sym, ap, ◌∙◌}
 use Rattle.std.proofs.Math.Dec.{eqb-suc-zero}
 use Rattle.std.specs.BTreeMap.{get_by_text}
 use Rattle.std.specs.List.{filter_map, list_all}
@@ -9,11 +9,17 @@ use Rattle.std.specs.Str.{bytes_eq}
 use Rattle.ignore_base.specs.Paths.{components, is_proper}
 use Rattle.ignore_base.specs.Problem.{Problem}
 use Rattle.ignore_dir.specs.Chains.{slashed}
-use Rattle.ignore_dir.specs.Query.{has_rules, is_asked, is_clean, is_dir_there, loaded_for, names_of}
+use Rattle.ignore_dir.specs.declared.incremental.IncrementalMatch.{IncrementalMatch}
+use Rattle.ignore_dir.specs.declared.verdict.Verdict.TheVariants as v
+use Rattle.ignore_dir.specs.Limits.{beyond, is_beyond, limited, no_match}
+use Rattle.ignore_dir.specs.Query.{answer_of_rules, depth_of, has_rules, is_asked, is_clean, is_dir_there, loaded_for, names_of, query}
 use Rattle.ignore_dir.specs.Scene.{Scene}
 use Rattle.ignore_files.specs.Tree.{Tree}
 use Rattle.ignore_query.specs.declared.kept.Cache.{Cache}
+use Rattle.ignore_query.specs.Agrees.{Agrees}
+use Rattle.ignore_query.specs.Needs.{is_known}
 use Rattle.ignore_query.specs.Reports.{new_below, problem_in}
+use Rattle.ignore_query.proofs.KnownLemmas.{known_above}
 
 and_left : (a b : Bool) → (a && b) ≡ true → a ≡ true
 and_left true b h = refl
@@ -56,3 +62,60 @@ pub collected_three : (a : Option Problem) (b : List (Option Problem)) (d : Opti
     → (option_to_list a ++ filter_map (λ p. p) b) ++ option_to_list d ≡ filter_map (λ p. p) (a ∷ (b ++ d ∷ []))
 collected_three None b d = collected_more b d
 collected_three (Some q) b d = ap (λ (l : List Problem). q ∷ l) (collected_more b d)
+
+-- Results.
+
+pub ok_then : {A E P Q : Type 0} (r : Result A E) → (P → Q) → OnOk r P → OnOk r Q
+ok_then (Ok a) f h = f h
+ok_then (Err e) f h = tt
+
+pub some_value : {A : Type 0} {w : A} (o : Option A) (v : A) → o ≡ Some v → IfSome o (λ x. x ≡ w) → v ≡ w
+some_value None v e h = cc
+some_value (Some x) v e h = let s : x ≡ v = cc in sym s ∙ h
+
+pub none_known : {A : Type 0} (o : Option A) → ((v : A) → o ≢ Some v) → is_some o ≡ true → ⊥
+none_known None h e = cc
+none_known (Some v) h e = h v refl
+
+-- The answer where all that it needs is kept.
+
+pub query_rules : (g : Scene) (path : List ℕ) (is_dir : Bool) → is_asked g.root path ≡ true
+    → is_beyond g.settings (depth_of path) is_dir ≡ false → has_rules g.tree g.root path ≡ true
+    → query g path is_dir ≡ answer_of_rules g path is_dir
+unfolding query
+query_rules g path is_dir asked within ruled =
+    let none : IncrementalMatch × Option Problem = (limited g.settings (depth_of path) is_dir v.None, None) in
+    let far : IncrementalMatch × Option Problem = (beyond, None) in
+    let by : IncrementalMatch × Option Problem = answer_of_rules g path is_dir in
+    ap (λ b. cond (not b) (no_match is_dir, None) (cond (is_beyond g.settings (depth_of path) is_dir) far
+    (cond (has_rules g.tree g.root path) by none))) asked
+    ∙ (ap (λ b. cond b far (cond (has_rules g.tree g.root path) by none)) within ∙ ap (λ b. cond b by none) ruled)
+
+pub query_none : (g : Scene) (path : List ℕ) (is_dir : Bool) → is_asked g.root path ≡ true
+    → is_beyond g.settings (depth_of path) is_dir ≡ false → has_rules g.tree g.root path ≡ false
+    → (query g path is_dir).0 ≡ limited g.settings (depth_of path) is_dir v.None
+unfolding query
+query_none g path is_dir asked within ruled =
+    let none : IncrementalMatch × Option Problem = (limited g.settings (depth_of path) is_dir v.None, None) in
+    let far : IncrementalMatch × Option Problem = (beyond, None) in
+    let by : IncrementalMatch × Option Problem = answer_of_rules g path is_dir in
+    ap (λ b. (cond (not b) (no_match is_dir, None) (cond (is_beyond g.settings (depth_of path) is_dir) far
+    (cond (has_rules g.tree g.root path) by none))).0) asked
+    ∙ (ap (λ b. (cond b far (cond (has_rules g.tree g.root path) by none)).0) within ∙ ap (λ b. (cond b by none).0) ruled)
+
+pub kept_rules : (g : Scene) (c : Cache) (path : List ℕ) → Agrees g c → length path ≢ 0 → is_known g c (names_of path) ≡ true
+    → (c.has_above ≡ true) × (has_rules g.tree g.root path ≡ true)
+kept_rules g c [] a some all = absurd (some refl)
+kept_rules g c (b ∷ bs) a some all =
+    let above = known_above g c (b ∷ bs) a all in
+    (above, ap (λ t. not t && is_dir_there (g.tree.stat g.root true)) (eqb-suc-zero (length bs)) ∙ (a.above above).root)
+
+-- where the rules don't decide by what is kept, the path has no name
+pub kept_none : (g : Scene) (c : Cache) (path : List ℕ) (found : Bool) → Agrees g c → is_known g c (names_of path) ≡ true → found ≡ false
+    → (c.has_above ≡ true → found ≡ not (length path == 0)) → has_rules g.tree g.root path ≡ false
+kept_none g c [] found a all off h = refl
+kept_none g c (b ∷ bs) found a all off h =
+    let some : length (b ∷ bs) ≢ 0 = λ e. cc in
+    let k = kept_rules g c (b ∷ bs) a some all in
+    let on : found ≡ true = h k.0 ∙ ap not (eqb-suc-zero (length bs)) in
+    absurd (cc)

@@ -53,7 +53,8 @@ drop_next-suc [] i n lt is = absurd (omega arith)
 drop_next-suc (x ∷ xs) zero n lt is = ap (λ y. y ∷ xs) (sym is)
 drop_next-suc (x ∷ xs) (suc i) n lt is = drop_next-suc xs i n (omega arith) is
 
-pub drop_next : (names : List (List ℕ)) (i : ℕ) (n : List ℕ) → i < length names → n ≡ get_or names i n → drop i names ≡ n ∷ drop (i + 1) names
+pub drop_next : (names : List (List ℕ)) (i : ℕ) (n : List ℕ) → i < length names → n ≡ get_or names i n
+    → drop i names ≡ n ∷ drop (i + 1) names
 drop_next names i n lt is = rw add-one (drop_next-suc names i n lt is)
 
 -- the next ancestor, and those after it

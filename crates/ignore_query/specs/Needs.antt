@@ -1,7 +1,7 @@
 -- Which directories an answer needs, and what a query leaves kept.
 use lib.Pointwise.{pointwise}
 use Rattle.std.specs.Prelude.{◌≡◌, true, Bool, not, ◌||◌, ◌&&◌, All, List, filter, Some, is_some}
-use Rattle.std.specs.List.{list_any}
+use Rattle.std.specs.List.{list_all, list_any}
 use Rattle.std.specs.Str.{bytes_eq}
 use Rattle.ignore_base.specs.Text.{Bytes, Path}
 use Rattle.ignore_base.specs.Paths.{IsName}
@@ -30,6 +30,10 @@ is_among dirs names = list_any (pointwise bytes_eq names) dirs
 -- something is kept of the directory with these names
 abbrev pub is_kept : Cache → List Bytes → Bool
 is_kept c names = is_some (kept_at c names)
+
+-- all directories that an answer to a path of names needs are kept
+abbrev pub is_known : Scene → Cache → List Bytes → Bool
+is_known g c names = list_all (is_kept c) (needed g names)
 
 -- what was kept stays kept: what is above the root, and what is kept of each directory
 pub record Stays (old new : Cache) : Type 0 where

@@ -23,7 +23,7 @@ use ignore_dir::{Link, Placed};
 use std::alloc::Global;
 
 /// Appends directories.
-fn push_all<'d>(chain: &mut Vec<Link<'d>>, dirs: &'d [Placed]) -> Result<(), Error>
+pub(crate) fn push_all<'d>(chain: &mut Vec<Link<'d>>, dirs: &'d [Placed]) -> Result<(), Error>
     ensures added { OnOk result (chain.new.items ≡ chain.old.items ++ dirs.now) }
     ensures out_of_memory { IfErr result (λ e. problem_of e ≡ memory) }
 {
@@ -85,6 +85,40 @@ impl Cache {
         Ok(chain)
     }
 
+    /// The verdict on a path by its chain of directories.
+    pub(crate) fn verdict_by(
+        &self,
+        alloc: Global,
+        asked: &Asked,
+        chain: &[Link<'_>],
+        path: &str,
+        is_dir: bool,
+    ) -> Result<Verdict, Error>
+        ensures value { (tree : Tree) (loads : List ℕ → Loaded) (front : List (List ℕ)) (name : List ℕ)
+            → let g = scene_of asked.now tree loads in
+            Agrees g self.now → All IsName (front ++ name ∷ []) → IsLoaded self.now front → chain.now ≡ (reached_in g front).chain
+            → path.now ≡ joined (front ++ name ∷ []) → IfOk result (λ v. v ≡ path_verdict g (front ++ name ∷ []) is_dir) }
+        ensures out_of_memory { IfErr result (λ e. problem_of e ≡ memory) }
+    {
+        join_law();
+        steps_are_whole();
+        let mut text = String::with_capacity(alloc, self.base.len() + path.len())?;
+        text.push_str(self.base.as_str())?;
+        text.push_str(path)?;
+        if !are_in(chain, text.as_str()) {
+            return Ok(Verdict::None);
+        }
+        let path = join(alloc, asked.root.as_str(), path)?;
+        judge(
+            &asked.settings,
+            &asked.outside,
+            chain,
+            text.as_str(),
+            path.as_str(),
+            is_dir,
+        )
+    }
+
     /// The verdict on a path by the directories that are kept: it is an entry of the directory with
     /// these names.
     pub(crate) fn verdict_in(
@@ -100,22 +134,7 @@ impl Cache {
             → path.now ≡ joined (front ++ name ∷ []) → IfOk result (λ v. v ≡ path_verdict g (front ++ name ∷ []) is_dir) }
         ensures out_of_memory { IfErr result (λ e. problem_of e ≡ memory) }
     {
-        join_law();
-        steps_are_whole();
         let chain = self.chain_in(alloc, names)?;
-        let mut text = String::from_str(alloc, self.base.as_str())?;
-        text.push_str(path)?;
-        if !are_in(chain.as_slice(), text.as_str()) {
-            return Ok(Verdict::None);
-        }
-        let path = join(alloc, asked.root.as_str(), path)?;
-        judge(
-            &asked.settings,
-            &asked.outside,
-            chain.as_slice(),
-            text.as_str(),
-            path.as_str(),
-            is_dir,
-        )
+        self.verdict_by(alloc, asked, chain.as_slice(), path, is_dir)
     }
 }

@@ -1,5 +1,5 @@
 //! A matcher of single paths below a root.
-ghost use Rattle.std.specs.Prelude.{◌≡◌, ◌≢◌, true, ℕ, List, IfOk, IfErr, OnOk, option_map, string_bytes};
+ghost use Rattle.std.specs.Prelude.{◌≡◌, ◌≢◌, true, ℕ, List, None, IfOk, IfErr, OnOk, option_map, string_bytes};
 ghost use Rattle.ignore_files.specs.Gives.{IsHonest};
 ghost use Rattle.ignore_files.specs.Tree.{Tree};
 ghost use Rattle.ignore_base.specs.Problem.{problem_of, memory};
@@ -9,14 +9,15 @@ ghost use Rattle.ignore_dir.specs.Scene.{Scene};
 ghost use Rattle.ignore_dir.specs.Soft.{IsSoft};
 ghost use Rattle.ignore_query.specs.Agrees.{Agrees};
 ghost use Rattle.ignore_query.specs.Fresh.{KeepsNothing};
-ghost use Rattle.ignore_query.specs.Needs.{KeepsNeeded, Stays, is_decided, needed};
+ghost use Rattle.ignore_query.specs.Needs.{KeepsNeeded, Stays, is_decided, is_known, needed};
 ghost use Rattle.ignore_query.specs.Reached.{scene_of};
 ghost use Rattle.ignore_query.specs.Reports.{reported, reported_by_rules};
 
 use crate::asked::Asked;
+use crate::decide::by_size;
 use crate::kept::Cache;
 use ignore_base::Error;
-use ignore_dir::fresh::{depth_of, is_asked, judge_size};
+use ignore_dir::fresh::{depth_of, is_asked};
 use ignore_dir::incremental::is_beyond;
 use ignore_dir::verdict::Verdict;
 use ignore_dir::{IncrementalMatch, Outside, Settings};
@@ -67,7 +68,8 @@ impl IncrementalIgnore {
     /// - Else the path is ignored where a directory on the way from the root is; else the rules
     ///   decide, and then its size.
     ///
-    /// The answer doesn't depend on what was asked before.
+    /// The answer doesn't depend on what was asked before. Where all that it needs is kept, no file
+    /// is asked but for the size of the path.
     ///
     /// # Errors
     /// `Error::Memory` alone. What was kept stays kept.
@@ -88,6 +90,9 @@ impl IncrementalIgnore {
         ensures unchanged { (tree : Tree) (loads : List ℕ → Loaded) → IsHonest F.Files files.now tree
             → AreLoads tree self.old.asked.settings loads → let g = scene_of self.old.asked tree loads in
             Agrees g self.old.cache → is_decided g path.now is_dir ≢ true → self.new.cache ≡ self.old.cache }
+        ensures from_kept { (tree : Tree) (loads : List ℕ → Loaded) → let g = scene_of self.old.asked tree loads in
+            Agrees g self.old.cache → is_known g self.old.cache (queries.names_of path.now) ≡ true
+            → queries.limit_of g path.now is_dir ≡ None → (self.new.cache ≡ self.old.cache) × IfOk result (λ m. m ≡ (queries.query g path.now is_dir).0) }
         ensures agrees { (tree : Tree) (loads : List ℕ → Loaded) → IsHonest F.Files files.now tree
             → AreLoads tree self.old.asked.settings loads → let g = scene_of self.old.asked tree loads in
             Agrees g self.old.cache → Agrees g self.new.cache }
@@ -123,6 +128,9 @@ impl IncrementalIgnore {
         ensures unchanged { (tree : Tree) (loads : List ℕ → Loaded) → IsHonest F.Files files.now tree
             → AreLoads tree self.old.asked.settings loads → let g = scene_of self.old.asked tree loads in
             Agrees g self.old.cache → is_decided g path.now is_dir ≢ true → self.new.cache ≡ self.old.cache }
+        ensures from_kept { (tree : Tree) (loads : List ℕ → Loaded) → let g = scene_of self.old.asked tree loads in
+            Agrees g self.old.cache → is_known g self.old.cache (queries.names_of path.now) ≡ true
+            → queries.limit_of g path.now is_dir ≡ None → (self.new.cache ≡ self.old.cache) × IfOk result (λ r. (r.0 ≡ (queries.query g path.now is_dir).0) × (r.1 ≡ None)) }
         ensures agrees { (tree : Tree) (loads : List ℕ → Loaded) → IsHonest F.Files files.now tree
             → AreLoads tree self.old.asked.settings loads → let g = scene_of self.old.asked tree loads in
             Agrees g self.old.cache → Agrees g self.new.cache }
@@ -165,6 +173,11 @@ impl IncrementalIgnore {
             → AreLoads tree self.old.asked.settings loads → let g = scene_of self.old.asked tree loads in
             Agrees g self.old.cache → queries.is_asked g.root path.now ≡ true → queries.has_rules tree g.root path.now ≡ true
             → OnOk result (KeepsNeeded (needed g (queries.names_of path.now)) self.old.cache self.new.cache) }
+        ensures from_kept { (tree : Tree) (loads : List ℕ → Loaded) → let g = scene_of self.old.asked tree loads in
+            Agrees g self.old.cache → queries.is_asked g.root path.now ≡ true → queries.has_rules tree g.root path.now ≡ true
+            → is_known g self.old.cache (queries.names_of path.now) ≡ true → queries.limit_of g path.now is_dir ≡ None
+            → (self.new.cache ≡ self.old.cache)
+            × IfOk result (λ r. (r.0 ≡ (queries.answer_of_rules g path.now is_dir).0) × (r.1 ≡ None)) }
         ensures agrees { (tree : Tree) (loads : List ℕ → Loaded) → IsHonest F.Files files.now tree
             → AreLoads tree self.old.asked.settings loads → let g = scene_of self.old.asked tree loads in
             Agrees g self.old.cache → queries.is_asked g.root path.now ≡ true → queries.has_rules tree g.root path.now ≡ true
@@ -176,19 +189,9 @@ impl IncrementalIgnore {
         let alloc = *self.asked.root.allocator();
         let (asked, cache) = (&self.asked, &mut self.cache);
         let mut errors = Vec::new(alloc);
-        cache.keep_above(alloc, files, asked, &mut errors)?;
-        let verdict = cache.rules_verdict(alloc, files, asked, path, is_dir, &mut errors)?;
-        let (settings, root) = (&asked.settings, asked.root.as_str());
-        let verdict = judge_size(
-            alloc,
-            files,
-            settings,
-            root,
-            path,
-            is_dir,
-            verdict,
-            &mut errors,
-        )?;
+        let verdict = cache.decide(alloc, files, asked, path, is_dir, &mut errors)?;
+        let verdict = by_size(alloc, files, asked, path, is_dir, verdict, &mut errors)?;
+        let settings = &asked.settings;
         let answer = IncrementalMatch::limited(settings, depth_of(path), is_dir, verdict);
         Ok((answer, Error::joined(errors)))
     }

@@ -3,9 +3,11 @@
 
 mod asked;
 mod chain;
+mod decide;
 mod forget;
 mod incremental;
 mod kept;
+mod known;
 pub mod laws;
 mod load;
 mod root;
@@ -14,3 +16,4 @@ pub use asked::Asked;
 pub use ignore_dir::IncrementalMatch;
 pub use incremental::IncrementalIgnore;
 pub use kept::{Cache, Kept};
+pub use known::Way;

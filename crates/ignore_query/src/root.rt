@@ -1,5 +1,5 @@
 //! What is above a root, and whether the root is a directory.
-ghost use Rattle.std.specs.Prelude.{◌≡◌, ◌≢◌, ◌++◌, ◌&&◌, ℕ, List, All, IfOk, IfErr, OnOk, true, map, length, option_map, string_bytes};
+ghost use Rattle.std.specs.Prelude.{◌≡◌, ◌≢◌, ◌++◌, ◌==◌, ℕ, List, IfOk, IfErr, OnOk, true, not, map, length, option_map, string_bytes};
 ghost use Rattle.std.specs.List.{filter_map};
 ghost use Rattle.std.specs.Option.{option_to_list};
 ghost use Rattle.ignore_base.specs.Problem.{problem_of, memory};
@@ -46,6 +46,8 @@ impl Cache {
         ensures value { (tree : Tree) (loads : List ℕ → Loaded) → IsHonest F.Files files.now tree
             → Agrees (scene_of asked.now tree loads) self.now
             → IfOk result (λ yes. yes ≡ queries.has_rules tree (string_bytes asked.now.root) path.now) }
+        ensures known { self.now.has_above ≡ true → IfOk result (λ yes. yes ≡ not (length path.now == 0)) }
+        ensures named { IfOk result (λ yes. yes ≡ true → length path.now ≢ 0) }
         ensures out_of_memory { IfErr result (λ e. problem_of e ≡ memory) }
     {
         if self.has_above {

@@ -76,16 +76,20 @@ returns-in_err-push-clause-agrees g c = λ tree loads honest are agrees clean ro
     (c.as_str.ensures.value ∙ (inv.key ∙ ap slashed (sym mt))) (inv.above.0 ∙ rooted, subst (IsInLoaded c.loop-i.self) (sym mt) w.inside)
 
 pub returns-in_err-keep-clause-stays : goal.returns-in_err-keep-clause-stays
-returns-in_err-keep-clause-stays g c = stays_then c.args.self.now c.loop-i.self c.keep.new.self c.loop-i.invariant.stays c.keep.ensures.stays
+returns-in_err-keep-clause-stays g c =
+    stays_then c.args.self.now c.loop-i.self c.keep.new.self c.loop-i.invariant.stays c.keep.ensures.stays
 
 pub returns-then-not-branch-clause-stays : goal.returns-then-not-branch-clause-stays
-returns-then-not-branch-clause-stays g c = stays_then c.args.self.now c.loop-i.self c.keep.new.self c.loop-i.invariant.stays c.keep.ensures.stays
+returns-then-not-branch-clause-stays g c =
+    stays_then c.args.self.now c.loop-i.self c.keep.new.self c.loop-i.invariant.stays c.keep.ensures.stays
 
 pub returns-in_err-push_str-clause-stays : goal.returns-in_err-push_str-clause-stays
-returns-in_err-push_str-clause-stays g c = stays_then c.args.self.now c.loop-i.self c.keep.new.self c.loop-i.invariant.stays c.keep.ensures.stays
+returns-in_err-push_str-clause-stays g c =
+    stays_then c.args.self.now c.loop-i.self c.keep.new.self c.loop-i.invariant.stays c.keep.ensures.stays
 
 pub returns-in_err-push-clause-stays : goal.returns-in_err-push-clause-stays
-returns-in_err-push-clause-stays g c = stays_then c.args.self.now c.loop-i.self c.keep.new.self c.loop-i.invariant.stays c.keep.ensures.stays
+returns-in_err-push-clause-stays g c =
+    stays_then c.args.self.now c.loop-i.self c.keep.new.self c.loop-i.invariant.stays c.keep.ensures.stays
 
 pub returns-then-not-branch-clause-kept : goal.returns-then-not-branch-clause-kept
 returns-then-not-branch-clause-kept g c = λ tree loads honest are agrees clean rooted.
