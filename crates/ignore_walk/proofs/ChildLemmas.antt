@@ -1,5 +1,5 @@
 -- From a listed thing to an entry.
-use Rattle.std.proofs.Common.{◌≡◌, ℕ, ◌+◌, ◌-◌, Bool, true, false, cond, ◌&&◌, List, [], ◌∷◌, get_or, map, length, reverse, slice_get, Option, None, Some, Result, Ok, Err, refl, sym, ◌∙◌, ap, arith}
+use Rattle.std.proofs.Common.{◌≡◌, ◌⊎◌, ◌<◌, ◌≤◌, ℕ, suc, ◌+◌, ◌-◌, Bool, true, false, cond, ◌&&◌, List, [], ◌∷◌, get_or, map, length, reverse, slice_get, Option, None, Some, Result, Ok, Err, refl, sym, ◌∙◌, ap, inl, inr, arith}
 use Rattle.std.proofs.lemmas.List.{get_or-map, get_or-reverse, length-map, length-reverse}
 use Rattle.std.proofs.lemmas.Option.{get_or_from_slice_get, slice_get-get_or}
 use Rattle.ignore_base.specs.Paths.{join_of}
@@ -10,11 +10,12 @@ use Rattle.ignore_files.specs.Memory.{and_then}
 use Rattle.ignore_files.specs.Tree.{Tree}
 use Rattle.ignore_files.specs.declared.types.FileType.{FileType}
 use Rattle.ignore_files.specs.declared.types.Identity.{Identity}
+use Rattle.ignore_files.specs.declared.types.Listed.{Listed}
 use Rattle.ignore_files.specs.declared.types.Listed.TheVariants as thing
 use Rattle.ignore_files.specs.declared.types.Metadata.{Metadata}
 use Rattle.ignore_walk.specs.declared.frame.Frame.{Frame}
 use Rattle.ignore_walk.specs.Branch.{Branch, path_of, entered}
-use Rattle.ignore_walk.specs.Child.{child, followed_link, found, identity_at, is_dir_kind, or_failed, same_among, unlooped, with_device, without_loop}
+use Rattle.ignore_walk.specs.Child.{child, followed_link, found, identity_at, is_dir_kind, named, or_failed, same_among, unlooped, with_device, without_loop}
 use Rattle.ignore_walk.specs.Entry.{Entry, Item, fresh}
 use Rattle.ignore_walk.specs.Scene.{Scene}
 
@@ -168,3 +169,28 @@ child_depth g root b name kind e h =
     let loop = and_then-ok (without_loop g.tree (entered root b)) (found g path depth kind) last.0 last.1 in
     ap (λ (x : Entry). x.depth) (device-same g (is_dir_kind last.0.kind) last.0 e last.2)
     ∙ (ap (λ (x : Entry). x.depth) (unlooped-same g.tree (entered root b) loop.0 last.0 loop.2) ∙ found-depth g path depth kind loop.0 loop.1)
+
+-- names
+
+pub named_same : (xs : List Listed) → ((k : ℕ) (x : Listed) → slice_get xs k ≡ Some x → named x ≡ x) → map named xs ≡ xs
+named_same [] each = refl
+named_same (x ∷ xs) each =
+    ap (λ (y : Listed). y ∷ map named xs) (each 0 x refl) ∙ ap (λ (ys : List Listed). x ∷ ys) (named_same xs (λ k y got. each (suc k) y got))
+
+-- the first things are named, and the next
+pub named_more : (xs : List Listed) (i : ℕ) (x : Listed) → slice_get xs i ≡ Some x → named x ≡ x
+    → ((k : ℕ) (y : Listed) → k < i → slice_get xs k ≡ Some y → named y ≡ y)
+    → (k : ℕ) (y : Listed) → k < i + 1 → slice_get xs k ≡ Some y → named y ≡ y
+named_more xs i x here same before k y less got = elim (split k i) [
+  | inl early ↦ before k y early got
+  | inr (inl now) ↦
+      let one : y ≡ x = some_same y x (sym got ∙ (ap (λ n. slice_get xs n) now ∙ here)) in
+      ap named one ∙ (same ∙ sym one)
+  | inr (inr late) ↦ absurd (omega (arith, less, late))
+]
+  where
+    split : (k j : ℕ) → (k < j) ⊎ (k ≡ j) ⊎ (j + 1 ≤ k)
+    split k j = grind arith
+
+    some_same : (a b : Listed) → Some a ≡ Some b → a ≡ b
+    some_same a b e = cc

@@ -28,6 +28,28 @@ pub(crate) fn is_dir_kind(kind: Option<FileType>) -> bool
     }
 }
 
+/// Whether what is listed is a fault, or its name is one.
+fn is_named(listed: &Listed) -> bool
+    ensures { result ≡ true → named listed.now ≡ listed.now }
+{
+    match listed {
+        Listed::Entry { name, .. } => is_proper(name.as_str()) && !has_slash(name.as_str()),
+        Listed::Fault(_) => true,
+    }
+}
+
+/// Whether so is each thing of a listing.
+fn are_named(listing: &[Listed]) -> bool
+    ensures { result ≡ true → map named listing.now ≡ listing.now }
+{
+    for i in 0..listing.len() {
+        if !is_named(&listing[i]) {
+            return false;
+        }
+    }
+    true
+}
+
 /// A listed name that is none is a fault of the listing.
 fn named(listed: Listed) -> Listed
     ensures { result ≡ named listed }
@@ -47,6 +69,9 @@ fn named(listed: Listed) -> Listed
 pub(crate) fn all_named(alloc: Global, listing: Vec<Listed>) -> Result<Vec<Listed>, AllocError>
     ensures { IfOk result (λ all. all.items ≡ map named listing.items) }
 {
+    if are_named(listing.as_slice()) {
+        return Ok(listing);
+    }
     let mut all = Vec::with_capacity(alloc, listing.len())?;
     for listed in listing {
         all.push(named(listed))?;

@@ -371,11 +371,28 @@ fn text_of(alloc: Global, frames: &[Frame], listed: &Listed) -> Result<String, A
     match frames.last() {
         None => Ok(String::new(alloc)),
         Some(frame) => {
-            let mut text = String::from_str(alloc, frame.text.as_str())?;
+            let mut text = with_room(alloc, frame.text.as_str(), room_for(listed))?;
             push_name(&mut text, listed)?;
             Ok(text)
         }
     }
+}
+
+/// How many bytes the name of a listed thing takes, and a slash.
+fn room_for(listed: &Listed) -> usize {
+    match listed {
+        Listed::Fault(_) => 0,
+        Listed::Entry { name, .. } => name.as_str().len().saturating_add(1),
+    }
+}
+
+/// A text, with room for so many more bytes.
+fn with_room(alloc: Global, text: &str, room: usize) -> Result<String, AllocError>
+    ensures { IfOk result (λ copy. string_bytes copy ≡ text.now) }
+{
+    let mut copy = String::with_capacity(alloc, text.len().saturating_add(room))?;
+    copy.push_str(text)?;
+    Ok(copy)
 }
 
 /// Appends the name of a listed thing; a fault has none.

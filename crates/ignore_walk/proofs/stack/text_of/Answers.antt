@@ -9,4 +9,4 @@ returns-in_ok-push_name-in-Some c = λ s root place all.
     let frame = entered_last s root place c.args.frames.now c.in-Some.frame.now all (sym c.last.ensures.value
     ∙ ap option_copied c.in-Some.is) in
     c.in_ok-push_name-in-Some.ensures
-    ∙ ap (λ (t : List ℕ). t ++ name_in c.args.listed.now) (c.in_ok-text-in-Some.ensures.ok ∙ (c.as_str.ensures ∙ frame.text))
+    ∙ ap (λ (t : List ℕ). t ++ name_in c.args.listed.now) (c.in_ok-text-in-Some.ensures ∙ (c.as_str.ensures ∙ frame.text))
