@@ -13,11 +13,11 @@ use Rattle.ignore_base.proofs.JoinLemmas.{relative, join_of-nil, join_of-closed,
 use Rattle.ignore_base.proofs.RootLemmas.{strips_directories}
 
 -- no component has a slash
-abbrev Whole : List (List ℕ) → Type 0
+abbrev pub Whole : List (List ℕ) → Type 0
 Whole [] = Unit {0}
 Whole (p ∷ ps) = (Contains {X = ℕ} p 47 → ⊥) × Whole ps
 
-from_clear : (ps : List (List ℕ)) → AllByRecursion (λ q. ¬ Contains {X = ℕ} q 47) ps → Whole ps
+pub from_clear : (ps : List (List ℕ)) → AllByRecursion (λ q. ¬ Contains {X = ℕ} q 47) ps → Whole ps
 from_clear [] h = tt
 from_clear (p ∷ ps) h = (h.0, from_clear ps h.1)
 
@@ -29,7 +29,7 @@ whole_append : (ps qs : List (List ℕ)) → Whole ps → Whole qs → Whole (ps
 whole_append [] qs h k = k
 whole_append (p ∷ ps) qs h k = (h.0, whole_append ps qs h.1 k)
 
-whole_front : (ps : List (List ℕ)) → Whole ps → Whole (whole_components ps)
+pub whole_front : (ps : List (List ℕ)) → Whole ps → Whole (whole_components ps)
 whole_front [] h = tt
 whole_front ([] ∷ []) h = tt
 whole_front ((b ∷ bs) ∷ []) h = (h.0, tt)
@@ -56,7 +56,7 @@ whole_components-append (w ∷ []) n ns h = ap (λ l. w ∷ l) (whole_components
 whole_components-append (w ∷ (v ∷ ws)) n ns h = ap (λ l. w ∷ l) (whole_components-append (v ∷ ws) n ns h)
 
 -- components before names, joined and split again
-components-before : (ws : List (List ℕ)) (n : List ℕ) (ns : List (List ℕ)) → Whole ws → Whole (n ∷ ns)
+pub components-before : (ws : List (List ℕ)) (n : List ℕ) (ns : List (List ℕ)) → Whole ws → Whole (n ∷ ns)
     → components (joined (ws ++ n ∷ ns)) ≡ ws ++ n ∷ ns
 components-before [] n ns h k = components-back n ns k
 components-before (w ∷ ws) n ns h k = components-back w (ws ++ n ∷ ns) (h.0, whole_append ws (n ∷ ns) h.1 k)

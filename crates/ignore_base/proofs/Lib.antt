@@ -9,3 +9,5 @@ pub mod RootLemmas
 pub mod FirstComponentLemmas
 pub mod CleanLemmas
 pub mod CleanRootLemmas
+pub mod NormalLemmas
+pub mod WorkedPaths

@@ -91,7 +91,7 @@ strips root q (inl h) =
 strips root q (inr w) = ap (λ r. strip_of (trim_of r) (r ++ 47 ∷ q)) w.1 ∙ below-open w.0 q w.2
 
 -- a slash stands between a root and what is joined to it: one that the root ends with, or a new one
-leads : (root : List ℕ) → root ≢ [] → (t : List ℕ) × ((root ≡ t ++ 47 ∷ []) ⊎ (root ≡ t))
+pub leads : (root : List ℕ) → root ≢ [] → (t : List ℕ) × ((root ≡ t ++ 47 ∷ []) ⊎ (root ≡ t))
     × ((q : List ℕ) → is_absolute q ≡ false → join_of root q ≡ t ++ 47 ∷ q)
 leads root some = go (ending root)
   where

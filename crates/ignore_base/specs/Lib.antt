@@ -4,5 +4,6 @@ pub mod Errors
 pub mod Problem
 pub mod Kinds
 pub mod Match
+pub mod Normalize
 pub mod Paths
 pub mod RootSteps

@@ -6,12 +6,14 @@ ghost use Rattle.ignore_base.specs.Problem.{problem_of, memory};
 
 mod clean;
 mod laws;
+mod normal;
 mod prefix;
 
 use crate::Error;
 pub use clean::{is_clean_path, is_clean_root, is_name, is_proper};
-pub use laws::{join_law, offset_law, strip_law};
+pub use laws::{join_law, normalize_law, offset_law, strip_law};
 use memchr::memrchr;
+pub use normal::normalize;
 pub use prefix::{has_slash, is_absolute, offset_below, strip, strip_prefix, trim_root};
 use std::alloc::Global;
 

@@ -1,4 +1,5 @@
 //! Laws of joining and stripping paths, each as the contract of a function that does nothing.
+ghost use Rattle.ignore_base.specs.Normalize.{NormalizesJoined, NormalizesToClean};
 ghost use Rattle.ignore_base.specs.Paths.{JoinsName, JoinsNames, LeavesThePath, StripsByOffset, StripsDirectories};
 
 /// A directory below a root, joined with names below it, is the root joined with all the names; so
@@ -21,4 +22,12 @@ pub fn strip_law()
 pub fn offset_law()
     ensures left { LeavesThePath }
     ensures stripped { StripsByOffset }
+{}
+
+/// A clean path, joined to a root, is normalized to itself: for each root but the empty one and `-`
+/// that is absolute, or whichever root where the working directory is absolute. And what a path is
+/// normalized to is clean.
+pub fn normalize_law()
+    ensures joined { NormalizesJoined }
+    ensures clean { NormalizesToClean }
 {}
