@@ -12,10 +12,13 @@ pub use Rattle.ignore_query.specs.Needs.{KeepsNeeded, Stays, needed}
 pub use Rattle.ignore_query.specs.Reached.{scene_of}
 pub use Rattle.ignore_query.specs.Reports.{reported}
 pub use Rattle.ignore_query.specs.declared.incremental.IncrementalIgnore.{IncrementalIgnore}
+pub use Rattle.ignore_walk.specs.Agreement.{Reachable}
+pub use Rattle.ignore_walk.specs.Branch.{Branch, entered}
 pub use Rattle.ignore_walk.specs.Entry.{Entry, Item, entry_of, item_of, problem_in}
 pub use Rattle.ignore_walk.specs.Nexts.{Nexts, Remaining}
 pub use Rattle.ignore_walk.specs.Scene.{Scene}
 pub use Rattle.ignore_walk.specs.Suits.{Suits}
+pub use Rattle.ignore_walk.specs.Walked.{IsOrdered, leads_in}
 pub use Rattle.ignore_walk.specs.Whole.{Whole}
 pub use Rattle.ignore.specs.Asked.{IsOutside}
 pub use Rattle.ignore.specs.Builder.{unset, with_root}

@@ -16,5 +16,5 @@ pub use ignore_base::{Error, Fault, Match, match_laws, text};
 pub use ignore_query::{IncrementalIgnore, IncrementalMatch, laws as query_laws};
 pub use ignore_rules::{gitignore, overrides};
 pub use ignore_types::{default_types, types};
-pub use ignore_walk::{Callbacks, DirEntry, Item, Order};
+pub use ignore_walk::{Callbacks, DirEntry, Item, Order, branch_bound};
 pub use options::WalkOptions;
