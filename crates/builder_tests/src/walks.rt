@@ -1,7 +1,8 @@
 //! The walks that a builder makes.
 use crate::calls::called;
 use crate::world::{World, world_of};
-use ignore::{DirEntry, Error, Item, WalkBuilder};
+use ignore::files::MemoryTree;
+use ignore::{DirEntry, Error, Item, Standard, Walk, WalkBuilder, collect_walk};
 use std::alloc::{AllocError, Global};
 use std::cmp::Ordering;
 
@@ -68,6 +69,41 @@ fn shown(alloc: Global, entry: &DirEntry) -> Result<String, AllocError> {
 fn walked(alloc: Global, builder: &WalkBuilder, world: &World) -> Result<String, Error> {
     let mut text = String::new(alloc);
     for item in builder.build(&world.tree, &world.env)? {
+        put(alloc, item, &mut text)?;
+    }
+    Ok(text)
+}
+
+/// The items of a list.
+fn listed(alloc: Global, items: Vec<Item>) -> Result<String, AllocError> {
+    let mut text = String::new(alloc);
+    for item in items {
+        put(alloc, item, &mut text)?;
+    }
+    Ok(text)
+}
+
+/// What `collect_walk` returns of a walk by these calls and choices: its items, or its error.
+fn collected(
+    alloc: Global,
+    things: &[&str],
+    roots: &[&str],
+    calls: &[&str],
+    words: &[&str],
+) -> anyhow::Result<String> {
+    let world = world_of(alloc, "/", things)?;
+    let (mut builder, _) = called(alloc, &world, roots, calls)?;
+    choose(alloc, &mut builder, words)?;
+    match collect_walk(&builder, &world.tree, &world.env) {
+        Ok(items) => Ok(listed(alloc, items)?),
+        Err(error) => Ok(format!(in alloc; "no list: {error}")?),
+    }
+}
+
+/// What a walk by the settings at first yields.
+fn drained(alloc: Global, walk: Walk<'_, MemoryTree, Standard>) -> Result<String, AllocError> {
+    let mut text = String::new(alloc);
+    for item in walk {
         put(alloc, item, &mut text)?;
     }
     Ok(text)
@@ -202,5 +238,62 @@ fn a_file_added_by_name(rt: HostRuntime) -> anyhow::Result<()> {
     let things = &["/t", "/t/b=", "/t/a=", "/e=b\n"];
     let text = yielded(rt.alloc(), things, &["/t"], &["add_ignore=/e"], &[])?;
     assert_eq!(rt; text.as_str(), "/t /t/a ");
+    Ok(())
+}
+
+/// A directory with a hidden file, an ignored one, and two others.
+const RULES: &[&str] = &["/t", "/t/.ignore=c\n", "/t/c=", "/t/b=", "/t/a="];
+
+#[test]
+fn a_whole_list(rt: HostRuntime) -> anyhow::Result<()> {
+    let text = collected(rt.alloc(), RULES, &["/t", "/no"], &[], &["name"])?;
+    assert_eq!(rt; text.as_str(), "/t /t/a /t/b [/no: not found] ");
+    Ok(())
+}
+
+#[test]
+fn a_whole_list_within_its_steps(rt: HostRuntime) -> anyhow::Result<()> {
+    let text = collected(rt.alloc(), TWO, &["/t"], &["limit=4"], &[])?;
+    assert_eq!(rt; text.as_str(), "/t /t/b /t/a ");
+    Ok(())
+}
+
+#[test]
+fn no_part_of_a_list(rt: HostRuntime) -> anyhow::Result<()> {
+    let text = collected(rt.alloc(), TWO, &["/t"], &["limit=3"], &[])?;
+    assert_eq!(rt; text.as_str(), "no list: step limit reached");
+    Ok(())
+}
+
+#[test]
+fn a_walk_of_one_root(rt: HostRuntime) -> anyhow::Result<()> {
+    let alloc = rt.alloc();
+    let world = world_of(alloc, "/", RULES)?;
+    let walk = Walk::new(alloc, &world.tree, &world.env, "/t")?;
+    assert_eq!(rt; drained(alloc, walk)?.as_str(), "/t /t/b /t/a ");
+    Ok(())
+}
+
+#[test]
+fn a_walk_of_some_roots(rt: HostRuntime) -> anyhow::Result<()> {
+    let alloc = rt.alloc();
+    let world = world_of(alloc, "/", RULES)?;
+    let walk = Walk::from_iter(alloc, &world.tree, &world.env, ["/t/b", "-"])?;
+    assert_eq!(rt; drained(alloc, walk)?.as_str(), "/t/b <stdin> ");
+    Ok(())
+}
+
+#[test]
+fn none_for_good(rt: HostRuntime) -> anyhow::Result<()> {
+    let alloc = rt.alloc();
+    let world = world_of(alloc, "/", TWO)?;
+    let mut builder = WalkBuilder::new(alloc, "/t")?;
+    builder.limit(1);
+    let mut walk = builder.build(&world.tree, &world.env)?;
+    let _root = walk.next();
+    let last = walk.next();
+    assert!(rt; last.is_some_and(|item| item.is_err()));
+    assert!(rt; walk.next().is_none());
+    assert!(rt; walk.next().is_none());
     Ok(())
 }

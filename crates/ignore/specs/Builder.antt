@@ -1,9 +1,8 @@
 -- A builder of walks and matchers, and what each setter makes of it: all but what is named is as
 -- before.
-use Rattle.std.specs.Prelude.{ℕ, Bool, true, false, List, [], ◌∷◌, ◌++◌, Option, None, Some}
+use Rattle.std.specs.Prelude.{ℕ, Bool, false, List, [], ◌∷◌, ◌++◌, Option, None, Some}
 use Rattle.ignore_base.specs.Text.{Bytes, Path}
 use Rattle.ignore_dir.specs.Standard.{standard}
-use Rattle.ignore_dir.specs.declared.settings.Settings.{Settings}
 use Rattle.ignore_rules.specs.Rules.{Ruleset, empty}
 use Rattle.ignore_types.specs.TypeMatch.{Matcher}
 use Rattle.ignore.specs.declared.options.WalkOptions.{WalkOptions}

@@ -3,6 +3,9 @@ pub mod Builder
 pub mod Asked
 pub mod Matchers
 pub mod Closures
+pub mod Walks
+pub mod Headline
+pub mod Finished
 pub mod Words
 pub mod FileWords
 pub mod WalkWords

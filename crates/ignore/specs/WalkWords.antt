@@ -14,8 +14,9 @@ pub use Rattle.ignore_query.specs.Reports.{reported}
 pub use Rattle.ignore_query.specs.declared.incremental.IncrementalIgnore.{IncrementalIgnore}
 pub use Rattle.ignore_walk.specs.Agreement.{Reachable}
 pub use Rattle.ignore_walk.specs.Branch.{Branch, entered}
-pub use Rattle.ignore_walk.specs.Entry.{Entry, Item, entry_of, item_of, problem_in}
-pub use Rattle.ignore_walk.specs.Nexts.{Nexts, Remaining}
+pub use Rattle.ignore_walk.specs.Entry.{Entry, Item, entry_of, item_of, named_or, problem_in}
+pub use Rattle.ignore_walk.specs.Nexts.{NextGives, Nexts, Remaining}
+pub use Rattle.ignore_walk.specs.Runs.{IsRun}
 pub use Rattle.ignore_walk.specs.Scene.{Scene}
 pub use Rattle.ignore_walk.specs.Suits.{Suits}
 pub use Rattle.ignore_walk.specs.Walked.{IsOrdered, leads_in}

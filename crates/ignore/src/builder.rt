@@ -10,7 +10,7 @@ mod filters;
 mod limits;
 mod matchers;
 mod rules;
-pub(crate) mod walks;
+mod walks;
 
 use crate::closures::{Filter, Sorter};
 use crate::options::WalkOptions;

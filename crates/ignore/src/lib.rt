@@ -4,17 +4,21 @@
 
 mod builder;
 mod closures;
+mod collect;
 pub mod files;
 pub mod glob;
 mod limited;
 mod options;
+mod walk;
+pub mod walk_laws;
 
 pub use builder::WalkBuilder;
-pub use builder::walks::Walk;
 pub use closures::{Compare, Keep};
+pub use collect::collect_walk;
 pub use ignore_base::{Error, Fault, Match, match_laws, text};
 pub use ignore_query::{IncrementalIgnore, IncrementalMatch, laws as query_laws};
 pub use ignore_rules::{gitignore, overrides};
 pub use ignore_types::{default_types, types};
 pub use ignore_walk::{Callbacks, DirEntry, Item, Order, branch_bound};
 pub use options::WalkOptions;
+pub use walk::{Standard, Walk};

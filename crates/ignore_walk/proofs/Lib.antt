@@ -25,3 +25,4 @@ pub mod ParentLemmas
 pub mod KeptLemmas
 pub mod AgreeLemmas
 pub mod YieldLemmas
+pub mod RunLemmas

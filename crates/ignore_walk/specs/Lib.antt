@@ -14,3 +14,4 @@ pub mod Fates
 pub mod Left
 pub mod Stands
 pub mod Nexts
+pub mod Runs

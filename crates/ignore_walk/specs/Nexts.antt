@@ -1,5 +1,5 @@
 -- What a walk still gives, and what its `next` answers.
-use Rattle.std.specs.Prelude.{◌≡◌, ◌<◌, ◌≤◌, ◌⊎◌, ℕ, ◌+◌, true, false, List, [], ◌∷◌, Option, None, Some, Err}
+use Rattle.std.specs.Prelude.{◌≡◌, ◌<◌, ◌≤◌, ◌⊎◌, ⊤, ℕ, ◌+◌, ◌*◌, true, false, List, [], ◌∷◌, length, Option, None, Some, Err, if◌then◌else◌}
 use Rattle.ignore_base.specs.declared.fault.Fault.TheVariants.{StepLimit}
 use Rattle.ignore_base.specs.Problem.{io, memory}
 use Rattle.ignore_files.specs.declared.files.Files.{Ghosts as Files}
@@ -38,3 +38,28 @@ abbrev pub Nexts : {F S : Type 0} → Files F → Callbacks S → Scene → Walk
 Nexts files calls g a None b items n = (items ≡ []) × (n ≤ a.left)
 Nexts files calls g a (Some item) b items n =
     Handed files calls g a item b items n ⊎ (EndsBy item a.left n × (b.ended ≡ true))
+
+-- no more items than this are still to come, whatever the files answer: at most four of a step, those
+-- in hand, and one that ends the walk
+abbrev pub items_at_most : {F S : Type 0} → Walk F S → ℕ
+items_at_most w = 4 * w.left + (length w.stack.made.items + (if w.ended then 0 else 1))
+
+-- a walk is over: it was ended, and no item is in hand
+abbrev pub IsOver : {F S : Type 0} → Walk F S → Type 0
+IsOver w = (w.ended ≡ true) × (length w.stack.made.items ≡ 0)
+
+-- what a walk may end by: that there is no item more; that memory ran out; or the limit, and then no
+-- step is left
+abbrev pub IsLast : Option Item → ℕ → Type 0
+IsLast None left = ⊤
+IsLast (Some item) left = (item ≡ Err memory) ⊎ ((item ≡ Err (io StepLimit)) × (left ≡ 0))
+
+-- what one `next` of a walk answers, and what it makes of the walk. For files that are consistent with
+-- a tree it is an item of what remains. For all files: a walk that is over answers none; after none it
+-- is over; and where it wasn't ended and now is, it is over, and that was its last answer
+pub record NextGives {F S : Type 0} (files : Files F) (calls : Callbacks S) (a : Walk F S) (answer : Option Item) (b : Walk F S)
+    : Type 0 where
+  pub given : (g : Scene) (items : List Item) (n : ℕ) → Remaining files calls g a items n → Nexts files calls g a answer b items n
+  pub over : IsOver a → answer ≡ None
+  pub none : answer ≡ None → IsOver b
+  pub last : a.ended ≡ false → b.ended ≡ true → IsOver b × IsLast answer b.left

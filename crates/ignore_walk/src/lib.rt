@@ -13,6 +13,7 @@ pub mod laws;
 mod made;
 mod open;
 mod root;
+pub mod runs;
 mod skip;
 mod stack;
 mod walk;

@@ -1,5 +1,5 @@
 //! A walk, as an iterator.
-ghost use Rattle.std.specs.Prelude.{◌≡◌, ◌+◌, ◌*◌, ◌<◌, ◌≤◌, ◌⊎◌, [], ℕ, List, true, false, Some, Err, IfSome, IfOk, IfErr, length, map, option_map, if◌then◌else◌};
+ghost use Rattle.std.specs.Prelude.{◌≡◌, ◌<◌, ◌≤◌, ◌⊎◌, [], ℕ, List, true, false, None, Some, Err, IfSome, IfOk, IfErr, map, option_map};
 ghost use Rattle.ignore_base.specs.declared.fault.Fault.TheVariants.{StepLimit};
 ghost use Rattle.ignore_base.specs.Problem.{Problem, problem_of, io, memory};
 ghost use Rattle.ignore_walk.specs.Entry.{Item as Yielded, item_of};
@@ -22,7 +22,8 @@ use std::iter::FusedIterator;
 /// A walk of some roots: an iterator of entries and errors.
 ///
 /// Roots come in their order, a directory before what is in it. `Error::Memory` and
-/// `Io(StepLimit)` are the last item where they come. After the last item there is none.
+/// `Io(StepLimit)` are the last item where they come. After the last item there is none, however
+/// often one is asked for.
 #[derive(Drop)]
 pub struct Walk<'a, F: Files, S> {
     ground: Ground<'a, F, S>,
@@ -39,7 +40,7 @@ fn step_limit() -> Error
 }
 
 impl<'a, F: Files, S: Callbacks> Walk<'a, F, S> {
-    ghost use Rattle.ignore_walk.specs.Nexts.{Remaining, Nexts};
+    ghost use Rattle.ignore_walk.specs.Nexts.{Remaining, Nexts, IsOver, IsLast, items_at_most};
 
     /// A walk of these roots, with this filter and comparator. It allocates nothing.
     /// For dependents.
@@ -56,6 +57,7 @@ impl<'a, F: Files, S: Callbacks> Walk<'a, F, S> {
             → Suits F.Files S.Callbacks files.now owner.now settings outside options g → Whole g roots.items items n
             → Remaining F.Files S.Callbacks g result items n }
         ensures limit { result.left ≡ options.limit }
+        ensures goes_on { result.ended ≡ false }
     {
         let ground = Ground {
             files,
@@ -85,8 +87,7 @@ impl<'a, F: Files, S: Callbacks> Walk<'a, F, S> {
         ensures item { option_map item_of result ≡ Some (Err (problem_of error)) }
         ensures ground { self.new.ground ≡ self.old.ground }
         ensures left { self.new.left ≡ self.old.left }
-        ensures ended { self.new.ended ≡ true }
-        ensures made { length self.new.stack.made.items ≡ 0 }
+        ensures over { IsOver self.new }
     {
         self.stack.clear();
         self.ended = true;
@@ -96,6 +97,7 @@ impl<'a, F: Files, S: Callbacks> Walk<'a, F, S> {
     /// Whether no step is left, or the walk was ended.
     fn is_done(&self) -> bool
         ensures goes_on { result ≡ false → self.now.ended ≡ false }
+        ensures ended { self.now.ended ≡ true → result ≡ true }
         ensures more { result ≡ false → (g : Scene) (items : List Yielded) (n : ℕ) → Stands g self.now.stack items n → 0 < n }
         ensures none { result ≡ true → self.now.ended ≡ false → (g : Scene) (items : List Yielded) (n : ℕ)
             → self.now.stack.made.items ≡ [] → Stands g self.now.stack items n → (items ≡ []) × (n ≡ 0) }
@@ -105,10 +107,13 @@ impl<'a, F: Files, S: Callbacks> Walk<'a, F, S> {
 
     /// The next item.
     fn advance(&mut self) -> Option<Item>
-        ensures fewer { IfSome result (λ _. 4 * self.new.left + (length self.new.stack.made.items + (if self.new.ended then 0 else 1))
-            < 4 * self.old.left + (length self.old.stack.made.items + (if self.old.ended then 0 else 1))) }
+        ensures fewer { IfSome result (λ _. items_at_most self.new < items_at_most self.old) }
         ensures given { (g : Scene) (items : List Yielded) (n : ℕ) → Remaining F.Files S.Callbacks g self.old items n
             → Nexts F.Files S.Callbacks g self.old (option_map item_of result) self.new items n }
+        ensures over { IsOver self.old → result ≡ None }
+        ensures none { result ≡ None → IsOver self.new }
+        ensures last { self.old.ended ≡ false → self.new.ended ≡ true
+            → IsOver self.new × IsLast (option_map item_of result) self.new.left }
     {
         if let Some(item) = self.stack.take_made() {
             return Some(item);
@@ -126,6 +131,7 @@ impl<'a, F: Files, S: Callbacks> Walk<'a, F, S> {
                 return Some(item);
             }
         }
+        self.ended = true;
         None
     }
 }
@@ -133,16 +139,14 @@ impl<'a, F: Files, S: Callbacks> Walk<'a, F, S> {
 impl<'a, F: Files, S: Callbacks> Iterator for Walk<'a, F, S> {
     type Item = Item;
 
-    ghost use Rattle.std.specs.Prelude.{ℕ, List, length, ◌+◌, ◌*◌, option_map, if◌then◌else◌};
+    ghost use Rattle.std.specs.Prelude.{option_map};
     ghost use Rattle.std.specs.Iterator.{at_most};
-    ghost use Rattle.ignore_walk.specs.Entry.{Item as Yielded, item_of};
-    ghost use Rattle.ignore_walk.specs.Nexts.{Remaining, Nexts};
-    ghost use Rattle.ignore_walk.specs.Scene.{Scene};
+    ghost use Rattle.ignore_walk.specs.Entry.{item_of};
+    ghost use Rattle.ignore_walk.specs.Nexts.{NextGives, items_at_most};
 
-    ghost next_gives = { λ a answer b. (g : Scene) (items : List Yielded) (n : ℕ) → Remaining F.Files S.Callbacks g a items n
-        → Nexts F.Files S.Callbacks g a (option_map item_of answer) b items n };
+    ghost next_gives = { λ a answer b. NextGives F.Files S.Callbacks a (option_map item_of answer) b };
 
-    ghost remaining = { λ a. at_most (4 * a.left + (length a.stack.made.items + (if a.ended then 0 else 1))) };
+    ghost remaining = { λ a. at_most (items_at_most a) };
 
     fn next(&mut self) -> Option<Item> {
         self.advance()
@@ -168,14 +172,18 @@ impl<'a, F: Files, S: Callbacks> Walk<'a, F, S> {
     /// For dependents.
     ///
     /// # Errors
-    /// `Error::Memory`; and `Io(StepLimit)` where the walk takes more steps than its limit.
-    pub fn all_items(mut self, alloc: Global) -> Result<Vec<Item>, Error>
+    /// `Error::Memory`; and `Io(StepLimit)` where the walk takes more steps than its limit, and
+    /// only there.
+    pub fn all_items(mut self) -> Result<Vec<Item>, Error>
         ensures complete { (g : Scene) (items : List Yielded) (n : ℕ) → Remaining F.Files S.Callbacks g self.entry items n
             → IfOk result (λ all. map item_of all.items ≡ items) }
+        ensures within { (g : Scene) (items : List Yielded) (n : ℕ) → Remaining F.Files S.Callbacks g self.entry items n
+            → IfOk result (λ _. n ≤ self.entry.left) }
         ensures ended { (g : Scene) (items : List Yielded) (n : ℕ) → Remaining F.Files S.Callbacks g self.entry items n
             → IfErr result (λ e. (problem_of e ≡ memory) ⊎ ((problem_of e ≡ io StepLimit) × (self.entry.left < n))) }
+        ensures errors { self.entry.ended ≡ false → IfErr result (λ e. (problem_of e ≡ memory) ⊎ (problem_of e ≡ io StepLimit)) }
     {
-        let mut all = Vec::new(alloc);
+        let mut all = Vec::new(*self.stack.frames.allocator());
         while let Some(item) = self.advance() {
             if self.ended {
                 return Err(error_of(item));

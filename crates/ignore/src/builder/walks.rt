@@ -1,27 +1,26 @@
-//! Walks.
-ghost use Rattle.std.specs.Prelude.{◌≡◌, ℕ, List, IfOk, IfErr};
+//! Walks by the settings of a builder.
+ghost use Rattle.std.specs.Prelude.{◌≡◌, false, List, map, IfOk, IfErr};
+ghost use Rattle.std.specs.Iterator.{Drains, IsFinite};
 ghost use Rattle.ignore_base.specs.Problem.{problem_of, memory};
-ghost use Rattle.ignore_dir.specs.declared.outside.Outside.{Outside};
-ghost use Rattle.ignore_files.specs.Gives.{IsHonest};
-ghost use Rattle.ignore_files.specs.Tree.{Tree};
-ghost use Rattle.ignore_walk.specs.Entry.{Item as Yielded};
-ghost use Rattle.ignore_walk.specs.Scene.{Scene};
-ghost use Rattle.ignore_walk.specs.Suits.{Suits};
-ghost use Rattle.ignore_walk.specs.Whole.{Whole};
-ghost use Rattle.ignore.specs.Asked.{IsOutside};
+ghost use Rattle.ignore_walk.specs.declared.callbacks.Order.TheVariants.{Listed};
+ghost use Rattle.ignore.specs.Builder.{unset, with_root, with_roots};
 ghost use Rattle.ignore.specs.Closures.{options_of, order_of};
+ghost use Rattle.ignore.specs.Walks.{IsWalkBy};
+ghost use Rattle.ignore.specs.declared.walk.Standard.{Standard};
 
 use crate::builder::WalkBuilder;
+use crate::options::WalkOptions;
+use crate::walk::{Standard, Walk};
 use ignore_base::Error;
 use ignore_files::{Env, Files};
 use ignore_walk::{Callbacks, Options, Order};
+use std::alloc::Global;
+use std::convert::AsStr;
 
-/// A walk of the roots of a builder, which keeps the filter and the order.
-pub type Walk<'a, F, S = WalkBuilder> = ignore_walk::Walk<'a, F, S>;
+/// What keeps no closures.
+const STANDARD: &Standard = &Standard;
 
 impl WalkBuilder {
-    ghost use Rattle.ignore_walk.specs.Nexts.{Remaining};
-
     /// A walk of the roots, by the settings as they are. The files and the builder are lent to it.
     /// The global file is read now, and what is wrong with it isn't reported; nothing else is read
     /// before the first item is asked for.
@@ -33,32 +32,13 @@ impl WalkBuilder {
     /// # Errors
     /// `Error::Memory` alone.
     pub fn build<'a, F: Files>(&'a self, files: &'a F, env: &Env) -> Result<Walk<'a, F>, Error>
-        ensures whole { (tree : Tree) → IsHonest F.Files files.now tree
-            → IfOk result (λ w. (o : Outside) × IsOutside tree env.now self.now.options o
-            × ((g : Scene) (items : List Yielded) (n : ℕ)
-            → Suits F.Files ⟦<WalkBuilder as Callbacks>⟧ files.now self.now self.now.options.settings o
-            (options_of self.now.options (order_of (λ s. s.order) self.now.sorter)) g
-            → Whole g self.now.options.roots items n → Remaining F.Files ⟦<WalkBuilder as Callbacks>⟧ g w items n)) }
-        ensures limit { IfOk result (λ w. w.left ≡ self.now.options.limit) }
+        ensures whole { IfOk result (λ w. IsWalkBy F.Files ⟦<WalkBuilder as Callbacks>⟧ files.now self.now env.now self.now.options
+            (order_of (λ s. s.order) self.now.sorter) w.inner) }
+        ensures limit { IfOk result (λ w. w.inner.left ≡ self.now.options.limit) }
+        ensures goes_on { IfOk result (λ w. w.inner.ended ≡ false) }
         ensures out_of_memory { IfErr result (λ e. problem_of e ≡ memory) }
     {
-        let outside = self.options.outside(files, env)?;
-        let settings = self.options.settings.get().clone()?;
-        let roots = self.options.root_names()?;
-        let alloc = self.options.settings.allocator();
-        let options = self.walk_options();
-        Ok(Walk::new(alloc, files, self, settings, outside, options, roots))
-    }
-
-    /// The settings of a walk besides those of its directories.
-    fn walk_options(&self) -> Options
-        ensures { result ≡ options_of self.now.options (order_of (λ s. s.order) self.now.sorter) }
-    {
-        Options {
-            order: self.order(),
-            same_file_system: self.options.same_file_system,
-            limit: self.options.limit,
-        }
+        self.options.walk(files, self, env, self.order())
     }
 
     /// The order of the entries of a directory.
@@ -69,5 +49,86 @@ impl WalkBuilder {
             None => Order::Listed,
             Some(sorter) => sorter.order,
         }
+    }
+}
+
+impl WalkOptions {
+    /// A walk of the roots by these settings, with this order, and with the filter and the
+    /// comparator that `owner` keeps.
+    fn walk<'a, F: Files, S: Callbacks>(
+        &self,
+        files: &'a F,
+        owner: &'a S,
+        env: &Env,
+        order: Order,
+    ) -> Result<Walk<'a, F, S>, Error>
+        ensures whole { IfOk result (λ w. IsWalkBy F.Files S.Callbacks files.now owner.now env.now self.now order w.inner) }
+        ensures limit { IfOk result (λ w. w.inner.left ≡ self.now.limit) }
+        ensures goes_on { IfOk result (λ w. w.inner.ended ≡ false) }
+        ensures out_of_memory { IfErr result (λ e. problem_of e ≡ memory) }
+    {
+        let outside = self.outside(files, env)?;
+        let settings = self.settings.get().clone()?;
+        let roots = self.root_names()?;
+        let alloc = self.settings.allocator();
+        let options = self.walk_options(order);
+        let inner = ignore_walk::Walk::new(alloc, files, owner, settings, outside, options, roots);
+        Ok(Walk { inner })
+    }
+
+    /// The settings of a walk besides those of its directories.
+    fn walk_options(&self, order: Order) -> Options
+        ensures { result ≡ options_of self.now order }
+    {
+        Options {
+            order,
+            same_file_system: self.same_file_system,
+            limit: self.limit,
+        }
+    }
+}
+
+impl<'a, F: Files> Walk<'a, F, Standard> {
+    /// A walk of one root by the settings at first: the six standard filters and `require_git` are
+    /// on, and all else is off or unset. The root may be `-` for standard input.
+    ///
+    /// # Errors
+    /// `Error::Memory` alone.
+    pub fn new(
+        alloc: Global,
+        files: &'a F,
+        env: &Env,
+        path: &str,
+    ) -> Result<Walk<'a, F, Standard>, Error>
+        ensures whole { IfOk result (λ w. (owner : Standard) → IsWalkBy F.Files ⟦<Standard as Callbacks>⟧ files.now owner env.now
+            (with_root unset path.now) Listed w.inner) }
+        ensures limit { IfOk result (λ w. w.inner.left ≡ unset.limit) }
+        ensures goes_on { IfOk result (λ w. w.inner.ended ≡ false) }
+        ensures out_of_memory { IfErr result (λ e. problem_of e ≡ memory) }
+    {
+        let builder = WalkBuilder::new(alloc, path)?;
+        builder.options.walk(files, STANDARD, env, Order::Listed)
+    }
+
+    /// The same of the roots that an iterator yields, in order. The iterator must end.
+    ///
+    /// # Errors
+    /// `Error::Memory` alone.
+    pub fn from_iter<P: AsStr + Drop, I: IntoIterator<Item = P>>(
+        alloc: Global,
+        files: &'a F,
+        env: &Env,
+        paths: I,
+    ) -> Result<Walk<'a, F, Standard>, Error>
+        requires ends { (it : I.IntoIter) → I.into_iter_gives paths it → I.IntoIter.can_next it × IsFinite (I.IntoIter.remaining it) }
+        ensures whole { IfOk result (λ w. (it : I.IntoIter) × (all : List P) × I.into_iter_gives paths it
+            × Drains I.IntoIter.next_gives it all × ((owner : Standard) → IsWalkBy F.Files ⟦<Standard as Callbacks>⟧ files.now owner
+            env.now (with_roots unset (map P.text all)) Listed w.inner)) }
+        ensures limit { IfOk result (λ w. w.inner.left ≡ unset.limit) }
+        ensures goes_on { IfOk result (λ w. w.inner.ended ≡ false) }
+        ensures out_of_memory { IfErr result (λ e. problem_of e ≡ memory) }
+    {
+        let builder = WalkBuilder::from_iter(alloc, paths)?;
+        builder.options.walk(files, STANDARD, env, Order::Listed)
     }
 }

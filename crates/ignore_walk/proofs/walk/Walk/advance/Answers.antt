@@ -21,7 +21,7 @@ returns-then-self-eq0-clause-given g c = λ s items n r.
     let more : 0 < i.0 = c.is_done.ensures.more c.loop-self-test.true s items i.0 i.2.stands in
     let few : c.args.self.now.left < n = omega (i.1, c.if-self-eq0.true, more, arith) in
     subst (λ (o : Option Item). Nexts g.F.Files g.S.Callbacks s c.args.self.now o c.end.new.self items n) (sym c.end.ensures.item)
-    (inr (inr (ap Err c.step_limit.ensures, few), c.end.ensures.ended))
+    (inr (inr (ap Err c.step_limit.ensures, few), c.end.ensures.over.0))
 
 pub returns-in-Some-take_made-clause-given : goal.returns-in-Some-take_made-clause-given
 returns-in-Some-take_made-clause-given g c = λ s items n r.
@@ -43,6 +43,7 @@ loop-self-preserved g c = record {
   made = c.in_default-take_made.ensures.length.1;
   fewer = omega (c.loop-self.invariant.fewer, arith);
   ground = c.loop-self.invariant.ground;
+  ended = c.loop-self.invariant.ended;
   remaining = λ s items n r.
       let i = c.loop-self.invariant.remaining s items n r in
       let more : 0 < i.0 = c.is_done.ensures.more c.loop-self-test.true s items i.0 i.2.stands in

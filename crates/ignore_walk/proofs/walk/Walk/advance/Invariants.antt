@@ -4,13 +4,15 @@ use Rattle.ignore_walk.specs.Nexts.{Remaining}
 use Rattle.ignore_walk.specs.Scene.{Scene}
 use Rattle.ignore_walk.proofs.walk.Walk.advance.Given as goal
 
--- no item is in hand, and no step was given back; what remained still remains
+-- no item is in hand, and no step was given back; the walk is ended where it was; what remained
+-- still remains
 abbrev pub invariant-loop-self : goal.invariant-loop-self
 invariant-loop-self g l = record {
   made : l.self.stack.made.items ≡ [];
   fewer : 4 * l.self.left + (if l.self.ended then 0 else 1)
       ≤ 4 * l.initial.self.left + (length l.initial.self.stack.made.items + (if l.initial.self.ended then 0 else 1));
   ground : l.self.ground ≡ l.initial.self.ground;
+  ended : l.self.ended ≡ l.initial.self.ended;
   remaining : (s : Scene) (items : List Item) (n : ℕ) → Remaining g.F.Files g.S.Callbacks s l.initial.self items n
       → (k : ℕ) × (n + l.self.left ≡ k + l.initial.self.left) × Remaining g.F.Files g.S.Callbacks s l.self items k;
 }

@@ -1,4 +1,4 @@
-use Rattle.std.proofs.Common.{◌≡◌, ◌+◌, ◌<◌, ◌++◌, ◌∷◌, [], List, true, false, inl, inr, map, sym, ◌∙◌, ap, append_assoc, arith}
+use Rattle.std.proofs.Common.{◌≡◌, ◌++◌, ◌∷◌, [], List, inl, inr, map, sym, ◌∙◌, ap, append_assoc, arith}
 use Rattle.std.proofs.lemmas.List.{append-nil, map-append}
 use Rattle.ignore_base.specs.declared.fault.Fault.TheVariants.{StepLimit}
 use Rattle.ignore_base.specs.Problem.{io, memory}
@@ -7,35 +7,52 @@ use Rattle.ignore_walk.proofs.walk.Walk.all_items.Goals as goal
 
 pub returns-then-self-clause-ended : goal.returns-then-self-clause-ended
 returns-then-self-clause-ended g c = λ s items n r.
-    let i = c.loop-item.invariant s items n r in
+    let i = c.loop-item.invariant.remaining s items n r in
     elim (c.in-Some.ensures.given s i.0 i.1 i.4) [
       | inl h ↦ absurd (let e = sym h.rest.goes_on ∙ c.if-self.true in cc (e))
       | inr (inl m, t) ↦ inl (c.error_of.ensures memory m)
       | inr (inr (l, few), t) ↦ inr (c.error_of.ensures (io StepLimit) l, omega (few, i.3, arith))
     ]
 
-pub loop-item-preserved : goal.loop-item-preserved
-loop-item-preserved g c = λ s items n r.
-    let i = c.loop-item.invariant s items n r in
-    let all = map item_of c.loop-item.all.items in
-    let own = item_of c.in-Some.item in
-    let pushed : map item_of c.push.new.self.items ≡ all ++ own ∷ [] =
-    ap (map item_of) c.in_ok-push.ensures.items ∙ map-append item_of c.loop-item.all.items (c.in-Some.item ∷ []) in
-    elim (c.in-Some.ensures.given s i.0 i.1 i.4) [
-      | inl h ↦ (
-        h.others,
-        h.k,
-        i.2 ∙ (ap (λ (o : List Item). all ++ o) h.are ∙ (sym (append_assoc all (own ∷ []) h.others)
-            ∙ ap (λ (t : List Item). t ++ h.others) (sym pushed))),
-        omega (i.3, h.taken, arith),
-        h.rest,
-      )
-      | inr e ↦ absurd (let h = sym c.if-self.false ∙ e.1 in cc (h))
+pub returns-then-self-clause-errors : goal.returns-then-self-clause-errors
+returns-then-self-clause-errors g c = λ on.
+    let last = c.in-Some.ensures.last (c.loop-item.invariant.goes_on on) c.if-self.true in
+    elim last.1 [
+      | inl m ↦ inl (c.error_of.ensures memory m)
+      | inr l ↦ inr (c.error_of.ensures (io StepLimit) l.0)
     ]
+
+pub loop-item-preserved : goal.loop-item-preserved
+loop-item-preserved g c = record {
+  goes_on = λ on. c.if-self.false;
+  remaining = λ s items n r.
+      let i = c.loop-item.invariant.remaining s items n r in
+      let all = map item_of c.loop-item.all.items in
+      let own = item_of c.in-Some.item in
+      let pushed : map item_of c.push.new.self.items ≡ all ++ own ∷ [] =
+      ap (map item_of) c.in_ok-push.ensures.items ∙ map-append item_of c.loop-item.all.items (c.in-Some.item ∷ []) in
+      elim (c.in-Some.ensures.given s i.0 i.1 i.4) [
+        | inl h ↦ (
+          h.others,
+          h.k,
+          i.2 ∙ (ap (λ (o : List Item). all ++ o) h.are ∙ (sym (append_assoc all (own ∷ []) h.others)
+              ∙ ap (λ (t : List Item). t ++ h.others) (sym pushed))),
+          omega (i.3, h.taken, arith),
+          h.rest,
+        )
+        | inr e ↦ absurd (let h = sym c.if-self.false ∙ e.1 in cc (h))
+      ];
+}
 
 pub returns-clause-complete : goal.returns-clause-complete
 returns-clause-complete g c = λ s items n r.
-    let i = c.loop-item.invariant s items n r in
+    let i = c.loop-item.invariant.remaining s items n r in
     let all = map item_of c.loop-item.all.items in
     let d = c.in_default.ensures.given s i.0 i.1 i.4 in
     sym (i.2 ∙ (ap (λ (o : List Item). all ++ o) d.0 ∙ append-nil all))
+
+pub returns-clause-within : goal.returns-clause-within
+returns-clause-within g c = λ s items n r.
+    let i = c.loop-item.invariant.remaining s items n r in
+    let d = c.in_default.ensures.given s i.0 i.1 i.4 in
+    omega (i.3, d.1, arith)

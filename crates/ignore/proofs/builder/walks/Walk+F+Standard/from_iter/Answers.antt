@@ -1,0 +1,18 @@
+use Rattle.std.proofs.Common.{subst}
+use Rattle.ignore_walk.specs.declared.callbacks.Order.TheVariants.{Listed}
+use Rattle.ignore.specs.Walks.{IsWalkBy}
+use Rattle.ignore.specs.declared.options.WalkOptions.{WalkOptions}
+use Rattle.ignore.specs.contracts.walk.StandardCallbacks.TheImpl as calls
+use Rattle.ignore.proofs.HeadlineLemmas.{on_ok}
+use Rattle.ignore.proofs.builder.walks.Walk+F+Standard.from_iter.Goals as goal
+
+pub returns-clause-whole : goal.returns-clause-whole
+returns-clause-whole g c =
+    let o = c.in_ok-builder.ensures.options in
+    on_ok c.walk.result (λ w by. (
+      o.0,
+      o.1,
+      o.2,
+      o.3,
+      λ owner. subst (λ (b : WalkOptions). IsWalkBy g.F.Files calls.ghosts c.args.files.now owner c.args.env.now b Listed w.inner) o.4 by,
+    )) c.walk.ensures.whole

@@ -1,0 +1,55 @@
+//! Laws of walks, as calls that do nothing: each contract is the law.
+ghost use Rattle.std.specs.Prelude.{◌≡◌, ℕ, List, None, Result, map, option_map};
+ghost use Rattle.std.specs.Iterator.{Drains};
+ghost use Rattle.ignore_base.specs.declared.error.Error.{Error};
+ghost use Rattle.ignore_dir.specs.declared.outside.Outside.{Outside};
+ghost use Rattle.ignore_files.specs.Tree.{Tree};
+ghost use Rattle.ignore_files.specs.declared.env.Env.{Env};
+ghost use Rattle.ignore_walk.specs.Entry.{Item, item_of};
+ghost use Rattle.ignore_walk.specs.Nexts.{NextGives, Remaining};
+ghost use Rattle.ignore_walk.specs.Runs.{IsRun};
+ghost use Rattle.ignore_walk.specs.Scene.{Scene};
+ghost use Rattle.ignore_walk.specs.declared.callbacks.Order.{Order};
+ghost use Rattle.ignore_walk.specs.declared.entry.DirEntry.{DirEntry};
+ghost use Rattle.ignore.specs.Closures.{order_of};
+ghost use Rattle.ignore.specs.Finished.{IsFinished};
+ghost use Rattle.ignore.specs.Headline.{Headline, IsSceneOf};
+ghost use Rattle.ignore.specs.Walks.{IsWalkBy};
+ghost use Rattle.ignore.specs.declared.options.WalkOptions.{WalkOptions};
+ghost use Rattle.ignore.specs.declared.walk.Walk.{Walk};
+
+use crate::builder::WalkBuilder;
+use ignore_dir::laws::one_load;
+use ignore_files::Files;
+use ignore_walk::{Callbacks, runs};
+
+/// A walk that is asked until it answers none has yielded all that remained of it; or a beginning
+/// of that, and then, as its last item, out of memory or the limit of steps.
+pub fn a_run_yields_the_list<F: Files, S: Callbacks>()
+    ensures { (g : Scene) (w : Walk F S) (all : List (Result DirEntry Error)) (items : List Item) (n : ℕ)
+        → Drains (λ a answer b. NextGives F.Files S.Callbacks a.inner (option_map item_of answer) b.inner) w all
+        → Remaining F.Files S.Callbacks g w.inner items n → IsRun (map item_of all) items w.inner.left n }
+{
+    runs::a_run_yields_the_list::<F, S>();
+}
+
+/// The headline, item by item: a walk of a builder (`WalkBuilder::build`) that is asked until it
+/// answers none, and that no item ended, has yielded exactly the list of the definition.
+pub fn a_finished_walk_is_the_headline<F: Files, S: Callbacks>()
+    ensures { (f : F) (owner : S) (env : Env) (b : WalkOptions) (order : Order) (w : Walk F S) (all : List (Result DirEntry Error))
+        → IsWalkBy F.Files S.Callbacks f owner env b order w.inner → w.inner.left ≡ b.limit
+        → Drains (λ a answer b. NextGives F.Files S.Callbacks a.inner (option_map item_of answer) b.inner) w all
+        → IsFinished (map item_of all) → Headline F.Files S.Callbacks f owner env b order (map item_of all) }
+{
+    a_run_yields_the_list::<F, S>();
+}
+
+/// The premises of the headline are met: a builder without closures has a scene in each tree, by
+/// any rules from outside.
+pub fn a_scene_without_closures(builder: &WalkBuilder)
+    ensures { (tree : Tree) (outside : Outside) → builder.now.sorter ≡ None → builder.now.filter ≡ None
+        → (g : Scene) × IsSceneOf ⟦<WalkBuilder as Callbacks>⟧ builder.now builder.now.options
+        (order_of (λ s. s.order) builder.now.sorter) tree outside g }
+{
+    one_load();
+}

@@ -1,0 +1,19 @@
+-- What a walk has yielded when it answers none.
+use Rattle.std.specs.Prelude.{◌≡◌, ◌≤◌, ◌⊎◌, ℕ, List, [], ◌∷◌, ◌++◌}
+use Rattle.ignore_walk.specs.Entry.{Item}
+use Rattle.ignore_walk.specs.Nexts.{EndsBy}
+
+-- these are a beginning of the items that remained, and then what ended the walk
+pub record EndsEarly (all items : List Item) (left n : ℕ) : Type 0 where
+  pub front : List Item
+  pub rest : List Item
+  pub last : Item
+  pub are : all ≡ front ++ last ∷ []
+  pub begins : items ≡ front ++ rest
+  pub ended : EndsBy last left n
+
+-- these are what a walk has yielded when it answers none, where these items remained, in so many
+-- steps: all of them, and the steps that it might take were enough; or a beginning of them, and then
+-- what ended it
+abbrev pub IsRun : List Item → List Item → ℕ → ℕ → Type 0
+IsRun all items left n = ((all ≡ items) × (n ≤ left)) ⊎ EndsEarly all items left n
