@@ -18,4 +18,5 @@ NothingAgrees = (g : Scene) (c : Cache) → KeepsNothing c → Agrees g c
 
 -- where nothing is kept, a query reports the problem of a query on the bare tree
 abbrev pub NothingReportsAll : Type 0
-NothingReportsAll = (g : Scene) (c : Cache) (path : Path) (is_dir : Bool) → KeepsNothing c → reported g c path is_dir ≡ (query g path is_dir).1
+NothingReportsAll = (g : Scene) (c : Cache) (path : Path) (is_dir : Bool) → KeepsNothing c
+    → reported g c path is_dir ≡ (query g path is_dir).1

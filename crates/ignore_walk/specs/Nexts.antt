@@ -1,5 +1,6 @@
 -- What a walk still gives, and what its `next` answers.
-use Rattle.std.specs.Prelude.{◌≡◌, ◌<◌, ◌≤◌, ◌⊎◌, ⊤, ℕ, ◌+◌, ◌*◌, true, false, List, [], ◌∷◌, length, Option, None, Some, Err, if◌then◌else◌}
+use Rattle.std.specs.Prelude.{◌≡◌, ◌<◌, ◌≤◌, ◌⊎◌, ⊤, ℕ, ◌+◌, ◌*◌, true, false, List, [], ◌∷◌, length, Option, None, Some, Err}
+use Rattle.std.specs.Prelude.{if◌then◌else◌}
 use Rattle.ignore_base.specs.declared.fault.Fault.TheVariants.{StepLimit}
 use Rattle.ignore_base.specs.Problem.{io, memory}
 use Rattle.ignore_files.specs.declared.files.Files.{Ghosts as Files}

@@ -1,5 +1,6 @@
 -- What an entry gives, and all below it.
-use Rattle.std.specs.Prelude.{◌≡◌, ℕ, suc, ◌+◌, Bool, true, false, ◌&&◌, ◌||◌, not, ◌==◌, nat_lt, nat_le, List, [], ◌∷◌, ◌++◌, map, reverse, Option, None, Some, Result, Ok, Err, IsPermutation, IsSortedBy, if◌then◌else◌}
+use Rattle.std.specs.Prelude.{◌≡◌, ℕ, suc, ◌+◌, Bool, true, false, ◌&&◌, ◌||◌, not, ◌==◌, nat_lt, nat_le, List, [], ◌∷◌, ◌++◌, map}
+use Rattle.std.specs.Prelude.{reverse, Option, None, Some, Result, Ok, Err, IsPermutation, IsSortedBy, if◌then◌else◌}
 use Rattle.std.specs.Cmp.{IsStrictWeakOrder}
 use Rattle.std.specs.List.Sorted.{IsStableBy}
 use Rattle.ignore_base.specs.Text.{Bytes, Path}

@@ -1,5 +1,6 @@
 //! What one listed thing is.
-ghost use Rattle.std.specs.Prelude.{◌≡◌, ◌+◌, ◌&&◌, not, ℕ, Bool, List, Result, length, map, reverse, take, option_map, IfOk, IfErr, None, Ok, Err, string_bytes, true};
+ghost use Rattle.std.specs.Prelude.{◌≡◌, ◌+◌, ◌&&◌, not, ℕ, Bool, List, Result, length, map, reverse, take, option_map, IfOk, IfErr};
+ghost use Rattle.std.specs.Prelude.{None, Ok, Err, string_bytes, true};
 ghost use Rattle.std.specs.Option.{option_copied};
 ghost use Rattle.ignore_base.specs.Paths.{is_proper, has_slash, join_of};
 ghost use Rattle.ignore_base.specs.Problem.{Problem, problem_of, at_depth, io, memory};
@@ -7,7 +8,8 @@ ghost use Rattle.ignore_files.specs.Gives.{IsHonest};
 ghost use Rattle.ignore_files.specs.Memory.{and_then};
 ghost use Rattle.ignore_files.specs.Tree.{Tree, Answers};
 ghost use Rattle.ignore_walk.specs.Branch.{Branch, path_of, entered};
-ghost use Rattle.ignore_walk.specs.Child.{child, found, followed_link, or_failed, is_dir_kind, is_same, identity_at, known, named, same_among, with_device, without_loop};
+ghost use Rattle.ignore_walk.specs.Child.{child, found, followed_link, or_failed, is_dir_kind, is_same, identity_at, known, named};
+ghost use Rattle.ignore_walk.specs.Child.{same_among, with_device, without_loop};
 ghost use Rattle.ignore_walk.specs.Entry.{Entry, entry_of, item_of, fresh, problem_in};
 ghost use Rattle.ignore_walk.specs.Scene.{Scene};
 

@@ -4,7 +4,8 @@ ghost use Rattle.ignore_base.specs.Paths.{file_name_of};
 ghost use Rattle.ignore_base.specs.Problem.{problem_of, memory};
 ghost use Rattle.ignore_files.specs.Gives.{IsHonest};
 ghost use Rattle.ignore_files.specs.Tree.{Tree};
-ghost use Rattle.ignore_walk.specs.Entry.{entry_of, problem_in, stdin_entry, named_or, is_link, leads_by_link, failed_at, metadata_of, inode_of};
+ghost use Rattle.ignore_walk.specs.Entry.{entry_of, problem_in, stdin_entry, named_or, is_link, leads_by_link, failed_at, metadata_of};
+ghost use Rattle.ignore_walk.specs.Entry.{inode_of};
 
 use ignore_base::text::file_name;
 use ignore_base::{Error, Fault};

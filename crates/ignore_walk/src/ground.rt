@@ -1,5 +1,6 @@
 //! What stays the same in a walk, and what it makes of one entry.
-ghost use Rattle.std.specs.Prelude.{◌≡◌, ◌++◌, ◌∷◌, ◌||◌, ℕ, List, None, true, false, not, option_map, reverse, IfOk, IfErr, [], Err, OnOk, map, string_bytes};
+ghost use Rattle.std.specs.Prelude.{◌≡◌, ◌++◌, ◌∷◌, ◌||◌, ℕ, List, None, true, false, not, option_map, reverse, IfOk, IfErr, [], Err};
+ghost use Rattle.std.specs.Prelude.{OnOk, map, string_bytes};
 ghost use Rattle.std.specs.Option.{option_to_list};
 ghost use Rattle.ignore_base.specs.Problem.{problem_of, memory};
 ghost use Rattle.ignore_files.specs.Gives.{IsHonest};

@@ -1,5 +1,6 @@
 //! What a walk has in hand: directories whose listings are half read, roots, and items.
-ghost use Rattle.std.specs.Prelude.{◌≡◌, ◌+◌, ◌≤◌, ◌<◌, ◌++◌, ◌∷◌, [], ℕ, suc, List, true, false, None, Ok, Err, IfOk, IfErr, OnOk, MatchOption, length, map, reverse, option_map, string_bytes};
+ghost use Rattle.std.specs.Prelude.{◌≡◌, ◌+◌, ◌≤◌, ◌<◌, ◌++◌, ◌∷◌, [], ℕ, suc, List, true, false, None, Ok, Err, IfOk, IfErr, OnOk};
+ghost use Rattle.std.specs.Prelude.{MatchOption, length, map, reverse, option_map, string_bytes};
 ghost use Rattle.std.specs.Option.{option_to_list};
 ghost use Rattle.ignore_base.specs.Problem.{problem_of, memory};
 ghost use Rattle.ignore_walk.specs.Branch.{Branch, path_of, text_at, placed_above};
