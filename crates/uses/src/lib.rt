@@ -2,6 +2,7 @@
 //! the public clauses of `ignore` alone.
 #![tactic(auto)]
 
+pub mod backup;
 pub mod buffer;
 pub mod checker;
 pub mod disk;

@@ -1,4 +1,5 @@
 //! Each use once, with ample memory.
+use crate::backup::{complete_entries, complete_entries_on_disk};
 use crate::buffer::rules_of_buffer;
 use crate::checker::is_ignored;
 use crate::disk::is_ignored_on_disk;
@@ -8,11 +9,11 @@ use crate::linter::is_linted;
 use crate::packer::packed;
 use crate::reason::{deciding_file, deciding_line};
 use crate::single::ask_once;
-use ignore::Error;
 use ignore::files::{Bytes, Env, Identity, MemoryTree, Row, TableMachine, TreeError};
 use ignore::gitignore::{Gitignore, GitignoreBuilder};
 use ignore::overrides::{Override, OverrideBuilder};
 use ignore::types::{Types, TypesBuilder};
+use ignore::{DirEntry, Error, WalkBuilder};
 use std::alloc::Global;
 use std::collections::BTreeMap;
 use std::test::Fail;
@@ -149,5 +150,53 @@ fn a_checker_asks_a_machine(rt: HostRuntime) -> Result<(), Fail> {
     let machine = machine(rt.alloc())?;
     let (ignored, problem) = is_ignored_on_disk(rt.alloc(), &machine, "/p/.gitignore", "/p/a.o")?;
     assert!(rt; ignored && problem.is_none());
+    Ok(())
+}
+
+/// A folder with an ignored file.
+fn folder(alloc: Global) -> Result<MemoryTree, TreeError> {
+    let mut tree = MemoryTree::new(alloc, "/")?;
+    tree.add_dir("/p")?;
+    tree.add_file("/p/.ignore", b"*.o\n")?;
+    tree.add_file("/p/a.o", b"")?;
+    tree.add_file("/p/a.c", b"")?;
+    Ok(tree)
+}
+
+/// The paths of some entries, separated by spaces.
+fn paths_of(alloc: Global, entries: &[DirEntry]) -> Result<String, Error> {
+    let mut text = String::new(alloc);
+    for entry in entries {
+        text.push_str(entry.path())?;
+        text.push(' ')?;
+    }
+    Ok(text)
+}
+
+#[test]
+fn a_backup_has_all_entries(rt: HostRuntime) -> Result<(), Fail> {
+    let builder = WalkBuilder::new(rt.alloc(), "/p")?;
+    let entries = complete_entries(rt.alloc(), &builder, &folder(rt.alloc())?, &unknown())?;
+    let text = paths_of(rt.alloc(), entries.as_slice())?;
+    assert_eq!(rt; text.as_str(), "/p /p/a.c ");
+    Ok(())
+}
+
+#[test]
+fn a_backup_of_a_missing_folder_fails(rt: HostRuntime) -> Result<(), Fail> {
+    let mut builder = WalkBuilder::new(rt.alloc(), "/p")?;
+    builder.push_root("/no")?;
+    let result = complete_entries(rt.alloc(), &builder, &folder(rt.alloc())?, &unknown());
+    assert!(rt; result.is_err_and(|error| error.is_io()));
+    Ok(())
+}
+
+#[test]
+fn a_backup_of_a_machine(rt: HostRuntime) -> Result<(), Fail> {
+    let machine = machine(rt.alloc())?;
+    let builder = WalkBuilder::new(rt.alloc(), "/p/.gitignore")?;
+    let entries = complete_entries_on_disk(rt.alloc(), &builder, &machine, &unknown())?;
+    let text = paths_of(rt.alloc(), entries.as_slice())?;
+    assert_eq!(rt; text.as_str(), "/p/.gitignore ");
     Ok(())
 }
