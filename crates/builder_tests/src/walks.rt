@@ -1,8 +1,8 @@
 //! The walks that a builder makes.
 use crate::calls::called;
-use crate::world::{World, world_of};
+use crate::world::world_of;
 use ignore::files::MemoryTree;
-use ignore::{DirEntry, Error, Item, Standard, Walk, WalkBuilder, collect_walk};
+use ignore::{DirEntry, Item, Standard, Walk, WalkBuilder, collect_walk};
 use std::alloc::{AllocError, Global};
 use std::cmp::Ordering;
 
@@ -65,15 +65,6 @@ fn shown(alloc: Global, entry: &DirEntry) -> Result<String, AllocError> {
     format!(in alloc; "{path} ")
 }
 
-/// What a builder's walk yields.
-fn walked(alloc: Global, builder: &WalkBuilder, world: &World) -> Result<String, Error> {
-    let mut text = String::new(alloc);
-    for item in builder.build(&world.tree, &world.env)? {
-        put(alloc, item, &mut text)?;
-    }
-    Ok(text)
-}
-
 /// The items of a list.
 fn listed(alloc: Global, items: Vec<Item>) -> Result<String, AllocError> {
     let mut text = String::new(alloc);
@@ -83,7 +74,8 @@ fn listed(alloc: Global, items: Vec<Item>) -> Result<String, AllocError> {
     Ok(text)
 }
 
-/// What `collect_walk` returns of a walk by these calls and choices: its items, or its error.
+/// What a walk of some roots yields in a tree of these things, after these calls and choices: its
+/// items, or the error that ended it.
 fn collected(
     alloc: Global,
     things: &[&str],
@@ -109,33 +101,19 @@ fn drained(alloc: Global, walk: Walk<'_, MemoryTree, Standard>) -> Result<String
     Ok(text)
 }
 
-/// What a walk of some roots yields in a tree of these things, after these calls and choices.
-fn yielded(
-    alloc: Global,
-    things: &[&str],
-    roots: &[&str],
-    calls: &[&str],
-    words: &[&str],
-) -> anyhow::Result<String> {
-    let world = world_of(alloc, "/", things)?;
-    let (mut builder, _) = called(alloc, &world, roots, calls)?;
-    choose(alloc, &mut builder, words)?;
-    Ok(walked(alloc, &builder, &world)?)
-}
-
 /// A directory that lists `b` before `a`.
 const TWO: &[&str] = &["/t", "/t/b=", "/t/a="];
 
 #[test]
 fn no_roots(rt: HostRuntime) -> anyhow::Result<()> {
-    let text = yielded(rt.alloc(), TWO, &[], &[], &[])?;
+    let text = collected(rt.alloc(), TWO, &[], &[], &[])?;
     assert_eq!(rt; text.as_str(), "");
     Ok(())
 }
 
 #[test]
 fn roots_in_order_and_twice(rt: HostRuntime) -> anyhow::Result<()> {
-    let text = yielded(rt.alloc(), TWO, &["/t/a", "-"], &["add=/t", "add=/t"], &[])?;
+    let text = collected(rt.alloc(), TWO, &["/t/a", "-"], &["add=/t", "add=/t"], &[])?;
     assert_eq!(rt; text.as_str(), "/t/a <stdin> /t /t/b /t/a /t /t/b /t/a ");
     Ok(())
 }
@@ -143,7 +121,7 @@ fn roots_in_order_and_twice(rt: HostRuntime) -> anyhow::Result<()> {
 #[test]
 fn the_error_above_two_roots_once(rt: HostRuntime) -> anyhow::Result<()> {
     let things = &["/w", "/w/.ignore={\n", "/w/a", "/w/b"];
-    let text = yielded(rt.alloc(), things, &["/w/a", "/w/b"], &[], &[])?;
+    let text = collected(rt.alloc(), things, &["/w/a", "/w/b"], &[], &[])?;
     let wanted = "[/w/.ignore: line 1: error parsing glob '{': unclosed alternates] /w/a /w/b ";
     assert_eq!(rt; text.as_str(), wanted);
     Ok(())
@@ -151,35 +129,35 @@ fn the_error_above_two_roots_once(rt: HostRuntime) -> anyhow::Result<()> {
 
 #[test]
 fn the_last_limit_of_steps(rt: HostRuntime) -> anyhow::Result<()> {
-    let text = yielded(rt.alloc(), TWO, &["/t"], &["limit=2", "limit=4"], &[])?;
+    let text = collected(rt.alloc(), TWO, &["/t"], &["limit=2", "limit=4"], &[])?;
     assert_eq!(rt; text.as_str(), "/t /t/b /t/a ");
     Ok(())
 }
 
 #[test]
 fn a_limit_of_steps_that_is_reached(rt: HostRuntime) -> anyhow::Result<()> {
-    let text = yielded(rt.alloc(), TWO, &["/t"], &["limit=4", "limit=2"], &[])?;
-    assert_eq!(rt; text.as_str(), "/t /t/b [step limit reached] ");
+    let text = collected(rt.alloc(), TWO, &["/t"], &["limit=4", "limit=2"], &[])?;
+    assert_eq!(rt; text.as_str(), "no list: step limit reached");
     Ok(())
 }
 
 #[test]
 fn a_later_order_replaces_an_earlier_one(rt: HostRuntime) -> anyhow::Result<()> {
-    let text = yielded(rt.alloc(), TWO, &["/t"], &[], &["path", "name"])?;
+    let text = collected(rt.alloc(), TWO, &["/t"], &[], &["path", "name"])?;
     assert_eq!(rt; text.as_str(), "/t /t/a /t/b ");
     Ok(())
 }
 
 #[test]
 fn an_order_of_paths_replaces_one_of_names(rt: HostRuntime) -> anyhow::Result<()> {
-    let text = yielded(rt.alloc(), TWO, &["/t"], &[], &["name", "path"])?;
+    let text = collected(rt.alloc(), TWO, &["/t"], &[], &["name", "path"])?;
     assert_eq!(rt; text.as_str(), "/t /t/b /t/a ");
     Ok(())
 }
 
 #[test]
 fn a_later_filter_replaces_an_earlier_one(rt: HostRuntime) -> anyhow::Result<()> {
-    let text = yielded(rt.alloc(), TWO, &["/t"], &[], &["a", "b"])?;
+    let text = collected(rt.alloc(), TWO, &["/t"], &[], &["a", "b"])?;
     assert_eq!(rt; text.as_str(), "/t /t/a ");
     Ok(())
 }
@@ -187,7 +165,7 @@ fn a_later_filter_replaces_an_earlier_one(rt: HostRuntime) -> anyhow::Result<()>
 #[test]
 fn an_order_and_a_filter(rt: HostRuntime) -> anyhow::Result<()> {
     let things = &["/t", "/t/c=", "/t/b=", "/t/a="];
-    let text = yielded(rt.alloc(), things, &["/t"], &[], &["b", "name", "a"])?;
+    let text = collected(rt.alloc(), things, &["/t"], &[], &["b", "name", "a"])?;
     assert_eq!(rt; text.as_str(), "/t /t/b /t/c ");
     Ok(())
 }
@@ -198,7 +176,7 @@ const MOUNTED: &[&str] = &["/t", "/t/m", "/t/m/x=", "/t/m@2"];
 #[test]
 fn one_file_system(rt: HostRuntime) -> anyhow::Result<()> {
     let calls = &["same_file_system=false", "same_file_system=true"];
-    let text = yielded(rt.alloc(), MOUNTED, &["/t"], calls, &[])?;
+    let text = collected(rt.alloc(), MOUNTED, &["/t"], calls, &[])?;
     assert_eq!(rt; text.as_str(), "/t /t/m ");
     Ok(())
 }
@@ -206,7 +184,7 @@ fn one_file_system(rt: HostRuntime) -> anyhow::Result<()> {
 #[test]
 fn all_file_systems(rt: HostRuntime) -> anyhow::Result<()> {
     let calls = &["same_file_system=true", "same_file_system=false"];
-    let text = yielded(rt.alloc(), MOUNTED, &["/t"], calls, &[])?;
+    let text = collected(rt.alloc(), MOUNTED, &["/t"], calls, &[])?;
     assert_eq!(rt; text.as_str(), "/t /t/m /t/m/x ");
     Ok(())
 }
@@ -222,7 +200,7 @@ fn the_last_limits_on_depth(rt: HostRuntime) -> anyhow::Result<()> {
         "/t/a/foo=",
         "/t/a/b/foo=",
     ];
-    let text = yielded(
+    let text = collected(
         rt.alloc(),
         things,
         &["/t"],
@@ -236,7 +214,7 @@ fn the_last_limits_on_depth(rt: HostRuntime) -> anyhow::Result<()> {
 #[test]
 fn a_file_added_by_name(rt: HostRuntime) -> anyhow::Result<()> {
     let things = &["/t", "/t/b=", "/t/a=", "/e=b\n"];
-    let text = yielded(rt.alloc(), things, &["/t"], &["add_ignore=/e"], &[])?;
+    let text = collected(rt.alloc(), things, &["/t"], &["add_ignore=/e"], &[])?;
     assert_eq!(rt; text.as_str(), "/t /t/a ");
     Ok(())
 }
@@ -248,20 +226,6 @@ const RULES: &[&str] = &["/t", "/t/.ignore=c\n", "/t/c=", "/t/b=", "/t/a="];
 fn a_whole_list(rt: HostRuntime) -> anyhow::Result<()> {
     let text = collected(rt.alloc(), RULES, &["/t", "/no"], &[], &["name"])?;
     assert_eq!(rt; text.as_str(), "/t /t/a /t/b [/no: not found] ");
-    Ok(())
-}
-
-#[test]
-fn a_whole_list_within_its_steps(rt: HostRuntime) -> anyhow::Result<()> {
-    let text = collected(rt.alloc(), TWO, &["/t"], &["limit=4"], &[])?;
-    assert_eq!(rt; text.as_str(), "/t /t/b /t/a ");
-    Ok(())
-}
-
-#[test]
-fn no_part_of_a_list(rt: HostRuntime) -> anyhow::Result<()> {
-    let text = collected(rt.alloc(), TWO, &["/t"], &["limit=3"], &[])?;
-    assert_eq!(rt; text.as_str(), "no list: step limit reached");
     Ok(())
 }
 
@@ -280,20 +244,5 @@ fn a_walk_of_some_roots(rt: HostRuntime) -> anyhow::Result<()> {
     let world = world_of(alloc, "/", RULES)?;
     let walk = Walk::from_iter(alloc, &world.tree, &world.env, ["/t/b", "-"])?;
     assert_eq!(rt; drained(alloc, walk)?.as_str(), "/t/b <stdin> ");
-    Ok(())
-}
-
-#[test]
-fn none_for_good(rt: HostRuntime) -> anyhow::Result<()> {
-    let alloc = rt.alloc();
-    let world = world_of(alloc, "/", TWO)?;
-    let mut builder = WalkBuilder::new(alloc, "/t")?;
-    builder.limit(1);
-    let mut walk = builder.build(&world.tree, &world.env)?;
-    let _root = walk.next();
-    let last = walk.next();
-    assert!(rt; last.is_some_and(|item| item.is_err()));
-    assert!(rt; walk.next().is_none());
-    assert!(rt; walk.next().is_none());
     Ok(())
 }
