@@ -101,7 +101,7 @@ fn add(alloc: Global, builder: &mut WalkBuilder, name: &str, value: &str) -> Res
     Ok(())
 }
 
-/// Sets what takes no files.
+/// Sets what needs no files.
 fn set(alloc: Global, builder: &mut WalkBuilder, name: &str, value: &str) -> Result<(), Error> {
     set_filter(builder, name, value == "true");
     set_switch(builder, name, value == "true");
