@@ -1,10 +1,12 @@
 -- A text has the bits of each text in it.
-use Rattle.std.proofs.Common.{◌≡◌, ℕ, ◌+◌, ◌<◌, ◌≤◌, List, [], ◌∷◌, ◌++◌, length, get_or, drop, drop-cons, add-one, suc}
-use Rattle.std.proofs.Common.{refl, sym, ap, subst, ◌∙◌, arith}
+use Rattle.std.proofs.Common.{◌≡◌, ◌≢◌, ℕ, ◌+◌, ◌<◌, ◌≤◌, List, [], ◌∷◌, ◌++◌, length, get_or, drop, drop-cons, add-one, suc}
+use Rattle.std.proofs.Common.{refl, sym, ap, subst, ◌∙◌, arith, inl, inr, set}
 use Rattle.std.specs.Prelude.{bit_or}
 use Rattle.std.specs.Int.{bit_at}
 use Rattle.std.specs.Str.Iter.{HasSubslice}
 use Rattle.std.proofs.lemmas.Nat.Bits.{bit_at_or, bit_at-zero, same_from_bits}
+use Rattle.std.proofs.lemmas.List.{get_or-set_same, get_or-set_other}
+use Rattle.ignore_set.proofs.IndexLemmas.{split}
 use Rattle.ignore_set.specs.Others.{bit_of, first_bit, mask_of}
 
 -- each bit of a is one of b
@@ -66,3 +68,27 @@ pub mask_step : (bytes : List ℕ) (at : ℕ) → at < length bytes
 mask_step bytes at fits =
     let cut = drop-cons bytes at 0 fits in
     rw add-one (ap mask_of cut ∙ ap (λ l. bit_or (first_bit l) (mask_of (drop (suc at) bytes))) (sym cut))
+
+-- The words of a table, once a bit is put into one of them.
+
+abbrev pub put_bit : List ℕ → ℕ → ℕ → List ℕ
+put_bit words at bit = set words at (bit_or (get_or words at 0) bit)
+
+pub put_here : (words : List ℕ) (at bit : ℕ) → at < length words
+    → bit_or bit (get_or (put_bit words at bit) at 0) ≡ get_or (put_bit words at bit) at 0
+put_here words at bit fits =
+    subst (λ n. bit_or bit n ≡ n) (sym (get_or-set_same words at (bit_or (get_or words at 0) bit) 0 fits)) (marked_here (get_or words at 0) bit)
+
+pub put_more : (words : List ℕ) (at bit place a : ℕ) → at < length words → bit_or a (get_or words place 0) ≡ get_or words place 0
+    → bit_or a (get_or (put_bit words at bit) place 0) ≡ get_or (put_bit words at bit) place 0
+put_more words at bit place a fits had = elim (split place at) [
+  | inl before ↦ apart (λ e. omega (arith, e, before))
+  | inr (inl same) ↦
+      subst (λ n. bit_or a n ≡ n) (sym (ap (λ k. get_or (put_bit words at bit) k 0) same
+      ∙ get_or-set_same words at (bit_or (get_or words at 0) bit) 0 fits))
+      (marked_more a (get_or words at 0) bit (subst (λ k. bit_or a (get_or words k 0) ≡ get_or words k 0) same had))
+  | inr (inr later) ↦ apart (λ e. omega (arith, e, later))
+]
+  where
+    apart : place ≢ at → bit_or a (get_or (put_bit words at bit) place 0) ≡ get_or (put_bit words at bit) place 0
+    apart differs = subst (λ n. bit_or a n ≡ n) (sym (get_or-set_other words at place (bit_or (get_or words at 0) bit) 0 differs)) had

@@ -207,10 +207,13 @@ found_here text is_dir ms others best j n m utf8 are here from at applies none =
   last = inr (n.index, m, refl, at, applies);
 }
 
+pub found_below : (text : List ℕ) (is_dir : Bool) (ms : List Member) (others : List IndexedText) (best from : ℕ) → IsUtf8 text
+    → AreOthers others ms → ((k : ℕ) (x : IndexedText) → k < from → slice_get others k ≡ Some x → x.index < best)
+    → NoneFrom text is_dir ms others from → IsFoundFrom text is_dir ms best best
+found_below text is_dir ms others best from utf8 are below none =
+    record { kept = omega arith; above = above_from text is_dir ms others from best utf8 are below none; last = inl refl }
+
 pub found_none : (text : List ℕ) (is_dir : Bool) (ms : List Member) (others : List IndexedText) (best : ℕ) → IsUtf8 text
     → AreOthers others ms → NoneFrom text is_dir ms others 0 → IsFoundFrom text is_dir ms best best
-found_none text is_dir ms others best utf8 are none = record {
-  kept = omega arith;
-  above = above_from text is_dir ms others 0 best utf8 are (λ k x less g. absurd (omega (arith, less))) none;
-  last = inl refl;
-}
+found_none text is_dir ms others best utf8 are none =
+    found_below text is_dir ms others best 0 utf8 are (λ k x less g. absurd (omega (arith, less))) none

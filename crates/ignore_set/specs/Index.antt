@@ -1,5 +1,5 @@
 -- What an index keeps of the patterns that it was made of.
-use Rattle.std.specs.Prelude.{◌≡◌, ◌⊎◌, ℕ, ◌+◌, ◌%◌, ◌<◌, Bool, cond, List, [], ◌∷◌, length, slice_get, get_or, Some, bit_or}
+use Rattle.std.specs.Prelude.{◌≡◌, ◌⊎◌, ℕ, ◌+◌, ◌*◌, ◌/◌, ◌%◌, ◌<◌, Bool, cond, List, [], ◌∷◌, length, slice_get, get_or, Some, bit_or}
 use Rattle.std.specs.BTreeMap.{get_by_text}
 use Rattle.std.specs.List.{IsAmong}
 use Rattle.std.specs.Option.{unwrap_or}
@@ -36,9 +36,14 @@ abbrev pub end_bit : List ℕ → ℕ
 end_bit [] = 0
 end_bit (a ∷ text) = bit_of a (get_or (a ∷ text) (length text) 0) (length text % 256)
 
+-- the one of 16 words that has the bit of a text
+abbrev pub end_word : List ℕ → ℕ
+end_word [] = 0
+end_word (a ∷ text) = (a * 37 + get_or (a ∷ text) (length text) 0 * 101 + (length text % 256) * 5) / 64 % 16
+
 -- a table has the bit of a text
 abbrev pub IsMarked : Table → List ℕ → Type 0
-IsMarked table text = bit_or (end_bit text) table.mark ≡ table.mark
+IsMarked table text = bit_or (end_bit text) (get_or table.marks (end_word text) 0) ≡ get_or table.marks (end_word text) 0
 
 -- a table has the length of a text, and its bit
 abbrev pub IsNoted : Table → List ℕ → Type 0

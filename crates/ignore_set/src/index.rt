@@ -1,9 +1,9 @@
 //! An index over patterns that their owner keeps.
-ghost use Rattle.std.specs.Prelude.{◌≡◌, ◌+◌, ◌<◌, ◌≤◌, ◌^◌, ◌++◌, ◌∷◌, [], ℕ, IfOk, IfErr, IsOk, List, length, map};
+ghost use Rattle.std.specs.Prelude.{◌≡◌, ◌+◌, ◌<◌, ◌≤◌, ◌^◌, ◌++◌, ◌∷◌, [], ℕ, IfOk, IfErr, IsOk, List, Some, length, map, slice_get};
 ghost use Rattle.std.specs.Str.{chars};
 ghost use Rattle.ignore_base.specs.Problem.{problem_of, memory};
 ghost use Rattle.ignore_set.specs.Index.{IsIndexOf, IsExactOf};
-ghost use Rattle.ignore_set.specs.Others.{AreOthers, IsFoundFrom};
+ghost use Rattle.ignore_set.specs.Others.{AreOthers, IndexedText, IsFoundFrom};
 ghost use Rattle.ignore_set.specs.Sets.{Member, Applies, AreShort, IsLastMatch, pass_bound};
 
 use crate::candidate::applies;
@@ -173,16 +173,17 @@ fn last_other<M: HasPattern>(
     let mask = mask_of(text);
     let mut passes = 0u64;
     let mut tried = members.len();
-    for j in (0..others.len()).rev() {
+    let from = first_from(others, best);
+    for j in (from..others.len()).rev() {
         let needle = &others[j];
+        if !needle.may_be_in(mask) {
+            continue;
+        }
         let i = needle.index();
         if i < best {
             return Ok((best, passes));
         }
         if i == tried {
-            continue;
-        }
-        if !needle.may_be_in(mask) {
             continue;
         }
         if !needle.is_in(text) {
@@ -200,4 +201,27 @@ fn last_other<M: HasPattern>(
         }
     }
     Ok((best, passes))
+}
+
+/// A place before which no needle has this index or a greater one.
+fn first_from(others: &[Needle], index: usize) -> usize
+    requires { (j k : ℕ) (a b : IndexedText) → j ≤ k → slice_get others.now j ≡ Some a → slice_get others.now k ≡ Some b
+        → a.index ≤ b.index }
+    ensures below { (k : ℕ) (n : IndexedText) → k < result → slice_get others.now k ≡ Some n → n.index < index }
+    ensures within { result ≤ length others.now }
+{
+    let mut low = 0usize;
+    let mut high = others.len();
+    for _round in 0..64 {
+        if low == high {
+            return low;
+        }
+        let middle = low + (high - low) / 2;
+        if others[middle].index() < index {
+            low = middle + 1;
+        } else {
+            high = middle;
+        }
+    }
+    low
 }

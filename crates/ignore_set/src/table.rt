@@ -2,7 +2,7 @@
 ghost use Rattle.std.specs.Prelude.{◌≡◌, ◌+◌, ◌<◌, ◌≤◌, ◌^◌, ℕ, IfOk, IsTrue, List, length, cond, string_bytes};
 ghost use Rattle.std.specs.List.{IsAmong};
 ghost use Rattle.std.specs.Str.{IsUtf8, bytes_eq};
-ghost use Rattle.ignore_set.specs.Index.{Fits, IsMarked, IsNoted, StandsUnderEnd, after, end_bit, slot_at, slot_with};
+ghost use Rattle.ignore_set.specs.Index.{Fits, IsMarked, IsNoted, StandsUnderEnd, after, end_bit, end_word, slot_at, slot_with};
 
 use crate::needle::bit_of;
 use crate::text::{Ending, end_of, fits};
@@ -17,12 +17,12 @@ pub(crate) struct Slot {
     dir: usize,
 }
 
-/// The last pattern under each text, the lengths that the texts have, and their bits.
+/// The last pattern under each text, the lengths that the texts have, and their bits, in 16 words.
 #[derive(Debug, Drop)]
 pub(crate) struct Table {
     slots: BTreeMap<String, Slot>,
     lengths: Vec<usize>,
-    mark: u64,
+    marks: [u64; 16],
 }
 
 impl Slot {
@@ -51,7 +51,7 @@ impl Table {
         Table {
             slots: BTreeMap::new(alloc),
             lengths: Vec::new(alloc),
-            mark: 0,
+            marks: [0; 16],
         }
     }
 
@@ -71,7 +71,7 @@ impl Table {
     {
         let slot = self.slot(text.as_str()).with(index, only_dir);
         note(&mut self.lengths, text.as_str().len())?;
-        self.mark |= end_bit(text.as_str());
+        self.marks[end_word(text.as_str())] |= end_bit(text.as_str());
         self.slots.insert(text, slot)?;
         Ok(())
     }
@@ -96,7 +96,8 @@ impl Table {
     fn may_have(&self, text: &str) -> bool
         ensures { IsMarked self.now text.now → IsTrue result }
     {
-        end_bit(text) | self.mark == self.mark
+        let mark = self.marks[end_word(text)];
+        end_bit(text) | mark == mark
     }
 
     /// One more than the greatest index of a pattern under an end of the text.
@@ -141,6 +142,21 @@ fn end_bit(text: &str) -> u64
     match bytes.len().checked_sub(1) {
         None => 0,
         Some(last) => bit_of(bytes[0], bytes[last], (last % 256) as u8),
+    }
+}
+
+/// The word that has the bit of a text.
+fn end_word(text: &str) -> usize
+    ensures value { result ≡ end_word text.now }
+    ensures within { result < 16 }
+{
+    let bytes = text.as_bytes();
+    match bytes.len().checked_sub(1) {
+        None => 0,
+        Some(last) => {
+            (usize::from(bytes[0]) * 37 + usize::from(bytes[last]) * 101 + (last % 256) * 5) / 64
+                % 16
+        }
     }
 }
 

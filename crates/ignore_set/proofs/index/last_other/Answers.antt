@@ -7,7 +7,7 @@ use Rattle.ignore_set.specs.Others.{IsFoundFrom}
 use Rattle.ignore_set.specs.Sets.{Member, Applies, pass_bound}
 use Rattle.ignore_set.proofs.IndexLemmas.{mapped_at, some_same}
 use Rattle.ignore_set.proofs.OtherLemmas.{NoneFrom, IsTried, tried_before, tried_here, none_more, found_early, found_here}
-use Rattle.ignore_set.proofs.OtherLemmas.{found_none, bound_all, bound_step}
+use Rattle.ignore_set.proofs.OtherLemmas.{found_below, bound_all, bound_step}
 use Rattle.ignore_set.proofs.index.last_other.Goals as goal
 
 pub returns-then-i-best-clause-value : goal.returns-then-i-best-clause-value
@@ -42,6 +42,7 @@ loop-j-preserved-then-i-tried g c =
           (λ m h has a. tried.failed m (ap (λ k. slice_get ms k) (sym same) ∙ h) a) none;
       tried = tried_before c.args.text.now c.args.is_dir ms others j c.loop-j.tried tried;
       few = c.loop-j.invariant.few;
+      least = omega (arith, c.loop-j-test.true);
     }
 
 pub loop-j-preserved-then-not-is_in : goal.loop-j-preserved-then-not-is_in
@@ -59,6 +60,7 @@ loop-j-preserved-then-not-is_in g c =
           (λ m h has a. false≢true (sym c.if-not-is_in.true ∙ c.is_in.ensures.1 has)) none;
       tried = tried_before c.args.text.now c.args.is_dir ms others j c.loop-j.tried tried;
       few = c.loop-j.invariant.few;
+      least = omega (arith, c.loop-j-test.true);
     }
 
 pub loop-j-preserved-then-not-may_be_in : goal.loop-j-preserved-then-not-may_be_in
@@ -76,6 +78,7 @@ loop-j-preserved-then-not-may_be_in g c =
           (λ m h has a. false≢true (sym c.if-not-may_be_in.true ∙ c.may_be_in.ensures c.args.text.now c.mask_of-mask.ensures has)) none;
       tried = tried_before c.args.text.now c.args.is_dir ms others j c.loop-j.tried tried;
       few = c.loop-j.invariant.few;
+      least = omega (arith, c.loop-j-test.true);
     }
 
 pub bounds-members-i : goal.bounds-members-i
@@ -151,15 +154,20 @@ loop-j-preserved g c =
           (tried_here text is_dir ms others j n c.requires here fails);
       few = subst (λ k. c.saturating_add-passes.result ≤ pass_bound (drop k ms)) (sym c.index-i.ensures)
           (omega (arith, c.saturating_add-passes.ensures, c.in-Ok.ensures.passes, c.loop-j.invariant.few, step));
+      least = omega (arith, c.loop-j-test.true);
     }
 
 pub returns-clause-value : goal.returns-clause-value
 returns-clause-value g c =
     let ms = map g.M.HasPattern.member c.args.members.now in
     let others = c.args.others.now in
+    let from = c.first_from-from.result in
     let none = subst (λ k. NoneFrom c.args.text.now c.args.is_dir ms others k)
-    (let e : c.loop-j.j ≡ 0 = omega (arith, c.loop-j-test.false) in e) c.loop-j.invariant.none in
-    found_none c.args.text.now c.args.is_dir ms others c.args.best c.utf8.text c.requires none
+    (let e : c.loop-j.j ≡ from = omega (arith, c.loop-j-test.false, c.loop-j.invariant.least) in e) c.loop-j.invariant.none in
+    found_below c.args.text.now c.args.is_dir ms others c.args.best from c.utf8.text c.requires c.first_from-from.ensures.below none
+
+pub first_from-from-requires : goal.first_from-from-requires
+first_from-from-requires g c = c.requires.rising
 
 pub returns-clause-count : goal.returns-clause-count
 returns-clause-count g c =
