@@ -105,6 +105,32 @@ fn asked(
     asked_in(alloc, &world, roots, calls, paths)
 }
 
+/// Appends what a matcher makes of a path.
+fn put_normalized(
+    matcher: &IncrementalIgnore,
+    path: &str,
+    text: &mut String,
+) -> anyhow::Result<()> {
+    match matcher.normalize(path)? {
+        Some(found) => text.push_str(found.as_str())?,
+        None => text.push_str("none")?,
+    }
+    text.push_str("; ")?;
+    Ok(())
+}
+
+/// What the matcher of a root makes of two paths, in a working directory that the builder's own
+/// setting doesn't change.
+fn normalized(alloc: Global, dir: &str, root: &str, paths: (&str, &str)) -> anyhow::Result<String> {
+    let world = world_of(alloc, dir, &[])?;
+    let (builder, mut text) = called(alloc, &world, &[root], &["current_dir=/x"])?;
+    for matcher in builder.build_matchers(&world.tree, &world.env)? {
+        put_normalized(&matcher, paths.0, &mut text)?;
+        put_normalized(&matcher, paths.1, &mut text)?;
+    }
+    Ok(text)
+}
+
 /// A global file with one rule, which ignores `g`.
 const GLOBAL: &[&str] = &["/x", "/x/git", "/x/git/ignore=g\n", "/t"];
 
@@ -226,6 +252,15 @@ fn the_last_types_count(rt: HostRuntime) -> anyhow::Result<()> {
     let calls = &["types=c", "types=rs"];
     let text = asked(rt.alloc(), &["/t"], &["/t"], calls, &["a.c", "a.rs"])?;
     assert_eq!(rt; text.as_str(), "/t: ignore; whitelist; ");
+    Ok(())
+}
+
+#[test]
+fn paths_in_normal_form(rt: HostRuntime) -> anyhow::Result<()> {
+    let text = normalized(rt.alloc(), "/c", "./r", ("r/../r/./a", "/c/s"))?;
+    assert_eq!(rt; text.as_str(), "a; none; ");
+    let text = normalized(rt.alloc(), "/c/d", "../", ("../a", "/c"))?;
+    assert_eq!(rt; text.as_str(), "a; ; ");
     Ok(())
 }
 

@@ -8,7 +8,7 @@ use std::alloc::Global;
 
 fn matcher(alloc: Global, settings: Settings) -> anyhow::Result<IncrementalIgnore> {
     let root = String::from_str(alloc, "/t")?;
-    Ok(IncrementalIgnore::new(settings, Outside::empty(alloc), root))
+    Ok(IncrementalIgnore::new(settings, Outside::empty(alloc), root, None))
 }
 
 fn word(answer: IncrementalMatch) -> &'static str {

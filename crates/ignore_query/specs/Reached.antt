@@ -1,5 +1,5 @@
 -- What a matcher asks about.
-use Rattle.std.specs.Prelude.{◌≡◌, string_bytes}
+use Rattle.std.specs.Prelude.{◌≡◌, Option, option_map, string_bytes}
 use Rattle.ignore_base.specs.Text.{Path}
 use Rattle.ignore_dir.specs.Load.{Loaded}
 use Rattle.ignore_dir.specs.Scene.{Scene, scene}
@@ -10,6 +10,13 @@ use Rattle.ignore_query.specs.declared.asked.Asked.{Asked}
 abbrev pub scene_of : Asked → Tree → (Path → Loaded) → Scene
 scene_of a tree loads = scene tree loads a.settings a.outside (string_bytes a.root)
 
--- these ask about the same: they have the same settings, rules from outside and root
+-- the working directory, in which relative paths are, if it is known
+abbrev pub dir_of : Asked → Option Path
+dir_of a = option_map string_bytes a.current_dir
+
+-- these ask about the same: they have the same settings, rules from outside, root and working
+-- directory
 abbrev pub IsSame : Asked → Asked → Type 0
-IsSame a b = (b.settings ≡ a.settings) × ((b.outside ≡ a.outside) × (string_bytes b.root ≡ string_bytes a.root))
+IsSame a b =
+    (b.settings ≡ a.settings)
+    × ((b.outside ≡ a.outside) × ((string_bytes b.root ≡ string_bytes a.root) × (dir_of b ≡ dir_of a)))

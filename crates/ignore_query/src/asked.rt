@@ -3,7 +3,8 @@
 use ignore_dir::{Outside, Settings};
 use std::alloc::AllocError;
 
-/// What all queries of a matcher share: the settings, the rules from outside, and the root.
+/// What all queries of a matcher share: the settings, the rules from outside, and the root; and in
+/// which directory relative paths are.
 #[derive(Debug, Drop)]
 pub struct Asked {
     /// The settings.
@@ -12,6 +13,8 @@ pub struct Asked {
     pub outside: Outside,
     /// The root, as it was given.
     pub root: String,
+    /// The working directory, if it is known.
+    pub current_dir: Option<String>,
 }
 
 impl Clone for Asked {
@@ -24,6 +27,7 @@ impl Clone for Asked {
             settings: self.settings.clone()?,
             outside: self.outside.clone()?,
             root: self.root.clone()?,
+            current_dir: self.current_dir.clone()?,
         })
     }
 }

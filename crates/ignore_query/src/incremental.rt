@@ -2,6 +2,8 @@
 ghost use Rattle.std.specs.Prelude.{◌≡◌, ◌≢◌, true, ℕ, List, None, IfOk, IfErr, OnOk, option_map, string_bytes};
 ghost use Rattle.ignore_files.specs.Gives.{IsHonest};
 ghost use Rattle.ignore_files.specs.Tree.{Tree};
+ghost use Rattle.std.specs.Option.{option_copied};
+ghost use Rattle.ignore_base.specs.Normalize.{normalize_of};
 ghost use Rattle.ignore_base.specs.Problem.{problem_of, memory};
 ghost use Rattle.ignore_dir.specs.Load.{Loaded, AreLoads};
 ghost use Rattle.ignore_dir.specs.Query as queries;
@@ -10,13 +12,13 @@ ghost use Rattle.ignore_dir.specs.Soft.{IsSoft};
 ghost use Rattle.ignore_query.specs.Agrees.{Agrees};
 ghost use Rattle.ignore_query.specs.Fresh.{KeepsNothing};
 ghost use Rattle.ignore_query.specs.Needs.{KeepsNeeded, Stays, is_decided, is_known, needed};
-ghost use Rattle.ignore_query.specs.Reached.{scene_of};
+ghost use Rattle.ignore_query.specs.Reached.{dir_of, scene_of};
 ghost use Rattle.ignore_query.specs.Reports.{reported, reported_by_rules};
 
 use crate::asked::Asked;
 use crate::decide::by_size;
 use crate::kept::Cache;
-use ignore_base::Error;
+use ignore_base::{Error, text};
 use ignore_dir::fresh::{depth_of, is_asked};
 use ignore_dir::incremental::is_beyond;
 use ignore_dir::verdict::Verdict;
@@ -38,8 +40,13 @@ pub struct IncrementalIgnore {
 impl IncrementalIgnore {
     /// A matcher for paths below a root, which keeps nothing yet. It allocates nothing.
     /// For dependents.
-    pub fn new(settings: Settings, outside: Outside, root: String) -> IncrementalIgnore
-        ensures asked { result.asked ≡ record { settings = settings; outside = outside; root = root } }
+    pub fn new(
+        settings: Settings,
+        outside: Outside,
+        root: String,
+        current_dir: Option<String>,
+    ) -> IncrementalIgnore
+        ensures asked { result.asked ≡ record { settings = settings; outside = outside; root = root; current_dir = current_dir } }
         ensures fresh { (g : Scene) → Agrees g result.cache }
         ensures empty { KeepsNothing result.cache }
     {
@@ -48,6 +55,7 @@ impl IncrementalIgnore {
             settings,
             outside,
             root,
+            current_dir,
         };
         IncrementalIgnore { asked, cache }
     }
@@ -57,6 +65,36 @@ impl IncrementalIgnore {
         ensures { result.now ≡ string_bytes self.now.asked.root }
     {
         self.asked.root.as_str()
+    }
+
+    /// The text by which the queries know a path: the path relative to the root, both in normal
+    /// form. Empty components and `.` are left out, and `..` removes the component before it, if
+    /// any. What doesn't begin with `/`, the root too, is in the working directory of the `Env` that
+    /// `build_matchers` was given. Links are not looked at.
+    ///
+    /// None for an empty path, for an empty root and for the root `-`; where the path isn't at or
+    /// below the root; and where the path or the root is relative and the working directory isn't
+    /// known or is relative, too.
+    ///
+    /// # Errors
+    /// `Error::Memory` alone.
+    pub fn normalize(&self, path: &str) -> Result<Option<String>, Error>
+        ensures value { IfOk result (λ text. option_map string_bytes text
+            ≡ normalize_of (dir_of self.now.asked) (string_bytes self.now.asked.root) path.now) }
+        ensures out_of_memory { IfErr result (λ e. problem_of e ≡ memory) }
+    {
+        let alloc = *self.asked.root.allocator();
+        text::normalize(alloc, self.current_dir(), self.root(), path)
+    }
+
+    /// The working directory, if it is known.
+    fn current_dir(&self) -> Option<&str>
+        ensures { option_copied result ≡ dir_of self.now.asked }
+    {
+        match &self.asked.current_dir {
+            Some(dir) => Some(dir.as_str()),
+            None => None,
+        }
     }
 
     /// What becomes of the path below the root, which is a directory where `is_dir` is set.

@@ -5,10 +5,11 @@ use Rattle.ignore.specs.FileWords.{Env, Tree}
 use Rattle.ignore.specs.WalkWords.{AreLoads, IncrementalIgnore, IncrementalMatch, IsOutside, Loaded, Outside, asked_by, query, scene}
 use Rattle.ignore.specs.WalkWords.{standard, unset, with_root}
 
--- a matcher asks about paths below a root, by the settings at first and the rules from outside
+-- a matcher asks about paths below a root, by the settings at first, the rules from outside and the
+-- working directory
 abbrev pub IsMatcherBelow : Tree → Env → Path → IncrementalIgnore → Type 0
 IsMatcherBelow tree env root m =
-    (outside : Outside) × IsOutside tree env (with_root unset root) outside × (asked_by m ≡ (standard, outside, root))
+    (outside : Outside) × IsOutside tree env (with_root unset root) outside × (asked_by m ≡ (standard, outside, root, env.current_dir))
 
 -- an answer about a path below a root, with its problem, is that of the bare tree, by these settings
 -- and rules

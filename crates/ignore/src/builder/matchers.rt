@@ -16,7 +16,8 @@ use ignore_query::laws::nothing_kept;
 
 impl WalkBuilder {
     /// A matcher of single paths for each root, in the order of the roots, which keeps nothing yet.
-    /// The global file is read now, and what is wrong with it isn't reported.
+    /// The global file is read now, and what is wrong with it isn't reported. `normalize` of a
+    /// matcher goes by the working directory of `env`, never by that of `current_dir`.
     ///
     /// # Errors
     /// `Error::Memory` alone.
@@ -34,6 +35,6 @@ impl WalkBuilder {
     {
         nothing_kept();
         let outside = self.options.outside(files, env)?;
-        self.options.matchers_by(&outside)
+        self.options.matchers_by(&outside, env)
     }
 }

@@ -7,6 +7,6 @@ use Rattle.ignore.proofs.options.WalkOptions.matchers_by.Given as goal
 abbrev pub invariant-loop-root : goal.invariant-loop-root
 invariant-loop-root l =
     record {
-      value : map asked_by l.matchers.items ≡ map (λ root. (l.self.settings, l.outside, root)) (take l.root-index l.root-items);
+      value : map asked_by l.matchers.items ≡ map (λ root. (l.self.settings, l.outside, root, l.env.current_dir)) (take l.root-index l.root-items);
       empty : All (λ m. KeepsNothing m.cache) l.matchers.items;
     }
