@@ -3,7 +3,7 @@ use crate::trees::tree_of;
 use ignore_base::Error;
 use ignore_dir::{IncrementalMatch, Outside, Settings};
 use ignore_files::MemoryTree;
-use ignore_query::IncrementalIgnore;
+use ignore_query::{IncrementalIgnore, check_paths};
 use std::alloc::Global;
 
 fn matcher(alloc: Global, settings: Settings) -> anyhow::Result<IncrementalIgnore> {
@@ -82,6 +82,32 @@ fn answers(
     answers_in(alloc, &mut matcher, &tree, paths)
 }
 
+/// Paths to ask about, as directories where they end with a slash.
+fn questions_of(alloc: Global, paths: &[&str]) -> anyhow::Result<Vec<(String, bool)>> {
+    let mut questions = Vec::new(alloc);
+    for path in paths {
+        let (name, is_dir) = match path.strip_suffix('/') {
+            Some(name) => (name, true),
+            None => (*path, false),
+        };
+        questions.push((String::from_str(alloc, name)?, is_dir))?;
+    }
+    Ok(questions)
+}
+
+/// The answers for some paths by one call.
+fn answers_by_one_call(alloc: Global, lines: &[&str], paths: &[&str]) -> anyhow::Result<String> {
+    let tree = tree_of(alloc, lines)?;
+    let mut matcher = matcher(alloc, Settings::standard(alloc))?;
+    let questions = questions_of(alloc, paths)?;
+    let mut text = String::new(alloc);
+    for (answer, error) in check_paths(&mut matcher, &tree, questions.as_slice())? {
+        let line = shown(alloc, answer, error)?;
+        text = format!(in alloc; "{text}{line};")?;
+    }
+    Ok(text)
+}
+
 /// A repository with another one in it.
 const NESTED: &[&str] = &[
     "/t",
@@ -116,6 +142,19 @@ fn limits_on_depth(rt: HostRuntime) -> anyhow::Result<()> {
         text.as_str(),
         "none descend outside;ignore outside;none;ignore outside;"
     );
+    Ok(())
+}
+
+#[test]
+fn several_paths_by_one_call(rt: HostRuntime) -> anyhow::Result<()> {
+    let lines = &["/t", "/t/.ignore=x\n{\nd/\n", "/t/a", "/t/a/.ignore=y\n"];
+    let paths = &["x", "a/y", "a/z/", "d", "d/", "x"];
+    let text = answers_by_one_call(rt.alloc(), lines, paths)?;
+    let wanted = concat!(
+        "ignore: /t/.ignore: line 2: error parsing glob '{': unclosed alternates;",
+        "ignore;none descend;none;ignore;ignore;"
+    );
+    assert_eq!(rt; text.as_str(), wanted);
     Ok(())
 }
 

@@ -1,4 +1,5 @@
 -- The words of clauses on builders, on matchers of single paths and on walks, in one place.
+pub use Rattle.ignore_base.specs.Normalize.{normalize_of}
 pub use Rattle.ignore_dir.specs.Load.{AreLoads, Loaded}
 pub use Rattle.ignore_dir.specs.Query.{query}
 pub use Rattle.ignore_dir.specs.Scene.{Scene as QueryScene, scene}
@@ -8,8 +9,9 @@ pub use Rattle.ignore_dir.specs.declared.outside.Outside.{Outside}
 pub use Rattle.ignore_query.specs.Agrees.{Agrees, kept_at}
 pub use Rattle.ignore_query.specs.Forget.{IsSameKept, is_at_or_below}
 pub use Rattle.ignore_query.specs.Fresh.{KeepsNothing}
+pub use Rattle.ignore_query.specs.InTurn.{Leaves, Question, ReportInTurn}
 pub use Rattle.ignore_query.specs.Needs.{KeepsNeeded, Stays, needed}
-pub use Rattle.ignore_query.specs.Reached.{scene_of}
+pub use Rattle.ignore_query.specs.Reached.{dir_of, scene_of}
 pub use Rattle.ignore_query.specs.Reports.{reported}
 pub use Rattle.ignore_query.specs.declared.incremental.IncrementalIgnore.{IncrementalIgnore}
 pub use Rattle.ignore_walk.specs.Agreement.{Reachable}

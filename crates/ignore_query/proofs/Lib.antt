@@ -6,3 +6,4 @@ pub mod NeedLemmas
 pub mod WayLemmas
 pub mod QueryLemmas
 pub mod FreshLemmas
+pub mod TurnLemmas

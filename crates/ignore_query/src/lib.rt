@@ -10,6 +10,7 @@ mod kept;
 mod known;
 pub mod laws;
 mod load;
+mod paths;
 mod root;
 
 pub use asked::Asked;
@@ -17,3 +18,4 @@ pub use ignore_dir::IncrementalMatch;
 pub use incremental::IncrementalIgnore;
 pub use kept::{Cache, Kept};
 pub use known::Way;
+pub use paths::check_paths;

@@ -1,10 +1,9 @@
-use Rattle.std.proofs.Common.{◌≡◌, Result, Ok, Err, Option, None, IfOk, refl, sym, ap, ◌∙◌, string_bytes}
+use Rattle.std.proofs.Common.{◌≡◌, Result, Ok, Err, Option, None, IfOk, refl, sym, ap, ◌∙◌}
 use Rattle.ignore_base.specs.declared.error.Error.{Error}
 use Rattle.ignore_dir.specs.declared.incremental.IncrementalMatch.{IncrementalMatch}
 use Rattle.ignore_dir.specs.declared.verdict.Verdict.TheVariants as v
 use Rattle.ignore_dir.specs.Limits.{is_beyond, limited}
-use Rattle.ignore_dir.specs.Query.{answer_of_rules, depth_of, is_asked, query}
-use Rattle.ignore_dir.specs.Scene.{Scene}
+use Rattle.ignore_dir.specs.Query.{is_asked}
 use Rattle.ignore_query.specs.Reached.{scene_of}
 use Rattle.ignore_query.proofs.QueryLemmas.{kept_none, kept_rules, query_none, query_rules}
 use Rattle.ignore_query.proofs.incremental.IncrementalIgnore.matched_with_errors.Goals as goal

@@ -1,11 +1,10 @@
-use Rattle.std.proofs.Common.{◌≡◌, ◌++◌, [], Bool, true, List, Option, None, map, is_some, refl, sym, ap, ◌∙◌, subst, append_assoc}
+use Rattle.std.proofs.Common.{◌++◌, List, Option, map, is_some, refl, sym, ap, ◌∙◌, append_assoc}
 use Rattle.std.proofs.lemmas.List.{append-nil}
 use Rattle.std.specs.List.{filter_map}
 use Rattle.std.specs.Option.{option_to_list}
 use Rattle.ignore_base.specs.Paths.{components}
 use Rattle.ignore_base.specs.Problem.{Problem, problem_of}
 use Rattle.ignore_base.proofs.CleanLemmas.{names-components}
-use Rattle.ignore_query.specs.Needs.{is_known}
 use Rattle.ignore_query.specs.Reached.{scene_of}
 use Rattle.ignore_query.specs.Reports.{new_above, new_below}
 use Rattle.ignore_query.proofs.KnownLemmas.{keeps_known, known_above, none_above, none_below}

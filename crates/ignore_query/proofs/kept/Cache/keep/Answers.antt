@@ -7,7 +7,7 @@ use Rattle.ignore_query.specs.declared.kept.Cache.{Cache}
 use Rattle.ignore_query.specs.Agrees.{kept_at}
 use Rattle.ignore_query.specs.Reached.{scene_of}
 use Rattle.ignore_query.proofs.KeepLemmas.{Puts, loaded_from, problems_known, problems_new, put_agrees, puts_key, puts_others, right_loaded}
-use Rattle.ignore_query.proofs.NeedLemmas.{known_kept, put_kept, stays_put, stays_same}
+use Rattle.ignore_query.proofs.NeedLemmas.{known_kept, put_kept, stays_put}
 use Rattle.ignore_query.proofs.kept.Cache.keep.Goals as goal
 
 pub returns-in-Some-clause-value : goal.returns-in-Some-clause-value

@@ -15,7 +15,6 @@ use Rattle.ignore_dir.proofs.StepLemmas.{on_ok}
 use Rattle.ignore_query.specs.Needs.{KeepsNeeded, needed}
 use Rattle.ignore_query.specs.Reached.{scene_of}
 use Rattle.ignore_query.specs.Reports.{new_below}
-use Rattle.ignore_query.proofs.NeedLemmas.{stays_same}
 use Rattle.ignore_query.proofs.kept.Cache.rules_verdict.Goals as goal
 
 ignored_way : (g : Scene) (names : List (List ℕ)) (is_dir : Bool) → list_any (is_ignored g) (ancestors names) ≡ true

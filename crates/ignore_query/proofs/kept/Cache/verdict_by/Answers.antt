@@ -1,4 +1,4 @@
-use Rattle.std.proofs.Common.{◌≡◌, ◌++◌, true, sym, ap, ◌∙◌, subst, IfOk}
+use Rattle.std.proofs.Common.{◌≡◌, ◌++◌, true, ap, ◌∙◌, subst, IfOk}
 use Rattle.ignore_base.specs.Paths.{join_of}
 use Rattle.ignore_dir.specs.declared.verdict.Verdict.{Verdict}
 use Rattle.ignore_query.specs.Reached.{scene_of}

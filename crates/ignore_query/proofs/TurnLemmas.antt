@@ -1,0 +1,64 @@
+-- Questions asked in turn, and one more.
+use Rattle.std.proofs.Common.{◌≡◌, List, [], ◌∷◌, ◌++◌, Option, map, option_map, refl, sym, ap, ◌∙◌, subst}
+use Rattle.std.proofs.lemmas.List.{map-append}
+use Rattle.ignore_base.specs.declared.error.Error.{Error}
+use Rattle.ignore_base.specs.Problem.{Problem, problem_of}
+use Rattle.ignore_dir.specs.declared.incremental.IncrementalMatch.{IncrementalMatch}
+use Rattle.ignore_dir.specs.Query.{query}
+use Rattle.ignore_dir.specs.Scene.{Scene}
+use Rattle.ignore_query.specs.declared.kept.Cache.{Cache}
+use Rattle.ignore_query.specs.Agrees.{Agrees}
+use Rattle.ignore_query.specs.InTurn.{Leaves, Question, ReportInTurn}
+use Rattle.ignore_query.specs.Reports.{reported}
+
+turn_next : (g : Scene) (qs : List Question) (ps : List (Option Problem)) (old c c' : Cache) (q : Question)
+    → ReportInTurn g qs ps old c → Leaves g q c c' → ReportInTurn g (qs ++ q ∷ []) (ps ++ reported g c q.0 q.1 ∷ []) old c'
+turn_next g [] ps old c c' q turn leaves =
+    let P : Cache → Type 0 = λ x. Leaves g q x c' → ReportInTurn g (q ∷ []) (ps ++ reported g x q.0 q.1 ∷ []) old c' in
+    let first : P old = λ l. (c', [], l, ap (λ t. t ++ reported g old q.0 q.1 ∷ []) turn.0, (refl, refl)) in
+    subst P (sym turn.1) first leaves
+turn_next g (x ∷ qs) ps old c c' q turn leaves = (
+  turn.0,
+  turn.1 ++ reported g c q.0 q.1 ∷ [],
+  turn.2,
+  ap (λ t. t ++ reported g c q.0 q.1 ∷ []) turn.3,
+  turn_next g qs turn.1 turn.0 c c' q turn.4 leaves,
+)
+
+abbrev pub Answer : Type 0
+Answer = IncrementalMatch × Option Error
+
+abbrev pub match_of : Answer → IncrementalMatch
+match_of r = r.0
+
+abbrev pub reported_by : Answer → Option Problem
+reported_by r = option_map problem_of r.1
+
+abbrev pub match_to : Scene → Question → IncrementalMatch
+match_to g q = (query g q.0 q.1).0
+
+-- questions have these answers, which report their problems in turn, and leave what agrees with the tree
+pub record AreAsked (g : Scene) (qs : List Question) (rs : List Answer) (old new : Cache) : Type 0 where
+  pub value : map match_of rs ≡ map (match_to g) qs
+  pub turn : ReportInTurn g qs (map reported_by rs) old new
+  pub agrees : Agrees g new
+
+pub asked_next : (g : Scene) (qs : List Question) (rs : List Answer) (old c c' : Cache) (q : Question) (r : Answer)
+    → AreAsked g qs rs old c → r.0 ≡ match_to g q → reported_by r ≡ reported g c q.0 q.1 → Leaves g q c c' → Agrees g c'
+    → AreAsked g (qs ++ q ∷ []) (rs ++ r ∷ []) old c'
+asked_next g qs rs old c c' q r asked value problem leaves agrees = record {
+  value = map-append match_of rs (r ∷ []) ∙ (ap (λ l. l ++ r.0 ∷ []) asked.value
+      ∙ (ap (λ x. map (match_to g) qs ++ x ∷ []) value ∙ sym (map-append (match_to g) qs (q ∷ []))));
+  turn =
+      let P : List (Option Problem) → Type 0 = λ ps. ReportInTurn g (qs ++ q ∷ []) ps old c' in
+      subst P (sym (map-append reported_by rs (r ∷ []) ∙ ap (λ x. map reported_by rs ++ x ∷ []) problem))
+      (turn_next g qs (map reported_by rs) old c c' q asked.turn leaves);
+  agrees = agrees;
+}
+
+pub asked_so : (g : Scene) (qs qs' : List Question) (rs rs' : List Answer) (old new : Cache) → qs' ≡ qs → rs' ≡ rs
+    → AreAsked g qs rs old new → AreAsked g qs' rs' old new
+asked_so g qs qs' rs rs' old new e f asked =
+    let P : List Question → Type 0 = λ x. AreAsked g x rs' old new in
+    let Q : List Answer → Type 0 = λ x. AreAsked g qs x old new in
+    subst P (sym e) (subst Q (sym f) asked)

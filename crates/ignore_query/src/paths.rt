@@ -1,0 +1,55 @@
+//! Several paths, asked about in turn.
+ghost use Rattle.std.specs.Prelude.{◌≡◌, ℕ, List, All, IfOk, IfErr, map, option_map, string_bytes};
+ghost use Rattle.ignore_files.specs.Gives.{IsHonest};
+ghost use Rattle.ignore_files.specs.Tree.{Tree};
+ghost use Rattle.ignore_base.specs.Problem.{problem_of, memory};
+ghost use Rattle.ignore_dir.specs.Load.{Loaded, AreLoads};
+ghost use Rattle.ignore_dir.specs.Query as queries;
+ghost use Rattle.ignore_dir.specs.Soft.{IsSoft};
+ghost use Rattle.ignore_query.specs.Agrees.{Agrees};
+ghost use Rattle.ignore_query.specs.InTurn.{ReportInTurn};
+ghost use Rattle.ignore_query.specs.Needs.{Stays};
+ghost use Rattle.ignore_query.specs.Reached.{scene_of};
+
+use crate::incremental::IncrementalIgnore;
+use ignore_base::Error;
+use ignore_dir::IncrementalMatch;
+use ignore_files::Files;
+
+/// What becomes of some paths below the root of a matcher, which are directories where the flag
+/// beside them is set. They are asked about in turn, and the answers come in their order, each with
+/// what is wrong with the files of rules that its question read, or with the size.
+///
+/// The answers don't depend on the order, nor on what was asked before.
+///
+/// # Errors
+/// `Error::Memory` alone. What was kept stays kept, and so does what was read before the error.
+pub fn check_paths<F: Files>(
+    matcher: &mut IncrementalIgnore,
+    files: &F,
+    paths: &[(String, bool)],
+) -> Result<Vec<(IncrementalMatch, Option<Error>)>, Error>
+    ensures value { (tree : Tree) (loads : List ℕ → Loaded) → IsHonest F.Files files.now tree
+        → AreLoads tree matcher.old.asked.settings loads → let g = scene_of matcher.old.asked tree loads in
+        Agrees g matcher.old.cache
+        → IfOk result (λ rs. map (λ r. r.0) rs.items ≡ map (λ p. (queries.query g (string_bytes p.0) p.1).0) paths.now) }
+    ensures reports { (tree : Tree) (loads : List ℕ → Loaded) → IsHonest F.Files files.now tree
+        → AreLoads tree matcher.old.asked.settings loads → let g = scene_of matcher.old.asked tree loads in
+        Agrees g matcher.old.cache
+        → IfOk result (λ rs. ReportInTurn g (map (λ p. (string_bytes p.0, p.1)) paths.now)
+        (map (λ r. option_map problem_of r.1) rs.items) matcher.old.cache matcher.new.cache) }
+    ensures agrees { (tree : Tree) (loads : List ℕ → Loaded) → IsHonest F.Files files.now tree
+        → AreLoads tree matcher.old.asked.settings loads → let g = scene_of matcher.old.asked tree loads in
+        Agrees g matcher.old.cache → Agrees g matcher.new.cache }
+    ensures stays { Stays matcher.old.cache matcher.new.cache }
+    ensures soft { IfOk result (λ rs. All (λ r. IsSoft (option_map problem_of r.1)) rs.items) }
+    ensures same { matcher.new.asked ≡ matcher.old.asked }
+    ensures out_of_memory { IfErr result (λ e. problem_of e ≡ memory) }
+{
+    let mut answers = Vec::new(*matcher.asked.root.allocator());
+    for path in paths {
+        let answer = matcher.matched_with_errors(files, path.0.as_str(), path.1)?;
+        answers.push(answer)?;
+    }
+    Ok(answers)
+}
