@@ -37,7 +37,8 @@ reported_by r = option_map problem_of r.1
 abbrev pub match_to : Scene → Question → IncrementalMatch
 match_to g q = (query g q.0 q.1).0
 
--- questions have these answers, which report their problems in turn, and leave what agrees with the tree
+-- questions have these answers, which report their problems in turn, and what is kept in the end
+-- agrees with the tree
 pub record AreAsked (g : Scene) (qs : List Question) (rs : List Answer) (old new : Cache) : Type 0 where
   pub value : map match_of rs ≡ map (match_to g) qs
   pub turn : ReportInTurn g qs (map reported_by rs) old new
