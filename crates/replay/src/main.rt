@@ -1,21 +1,16 @@
 //! The program `replay`: asks the library what vectors ask, and compares whole answers.
 #![tactic(auto)]
 
-mod answer;
 mod clones;
-mod environment;
-mod error;
-mod hex_digits;
-mod input;
 mod kinds;
 mod operations;
 mod refusing;
 mod rules;
-mod tree_calls;
 
-use input::replay_all;
+use answers::replay_all;
+use kinds::Library;
 use std::process::ExitCode;
 
 fn main(rt: HostRuntime) -> ExitCode {
-    ExitCode::from(replay_all(&rt))
+    ExitCode::from(replay_all(&rt, &Library))
 }

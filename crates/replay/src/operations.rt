@@ -1,8 +1,7 @@
 //! Operations on builders. Each is retried once where it is out of memory, on the same builder, so
 //! that a failed call which changed it shows in the answer.
 
-use crate::answer::Items;
-use crate::error::printed;
+use answers::{Items, printed};
 use ignore_base::Error;
 use serde_json::Value;
 use std::alloc::{AllocError, Global};
@@ -47,21 +46,4 @@ fn refusal(alloc: Global, number: u64, error: Error) -> Result<Value, AllocError
     items.put(number);
     items.put_value(printed(alloc, &error));
     items.value()
-}
-
-/// The error of an operation, unless it is out of memory.
-pub fn problem<T: Drop>(applied: Result<T, Error>) -> Result<Option<Error>, Trouble> {
-    match applied {
-        Ok(_) => Ok(None),
-        Err(Error::Memory) => Err(Trouble::Memory),
-        Err(error) => Ok(Some(error)),
-    }
-}
-
-/// The result of a call whose only error is out of memory.
-pub fn but_for_memory<T: Drop, E: Drop>(answer: Result<T, E>) -> Result<T, Trouble> {
-    match answer {
-        Ok(value) => Ok(value),
-        Err(_) => Err(Trouble::Memory),
-    }
 }

@@ -1,6 +1,6 @@
 //! Trees in memory, of which one call is refused.
 
-use crate::error::fault_of;
+use answers::fault_of;
 use ignore_base::Error;
 use ignore_files::{
     Contents, Fault, Files, Identity, Listing, MemoryTree, Metadata, Name, Refusal,

@@ -1,8 +1,8 @@
 //! Builders of gitignore rules, as vectors describe them, and their answers.
 
-use crate::answer::{Answer, Items, Written};
 use crate::clones::asked;
-use crate::operations::{Changed, OPS, apply_all, but_for_memory, problem};
+use crate::operations::{Changed, OPS, apply_all};
+use answers::{Answer, Items, but_for_memory, problem};
 use ignore_base::{Error, Match};
 use ignore_rules::gitignore::{Gitignore, GitignoreBuilder, Glob};
 use serde_json::Value;
@@ -78,19 +78,6 @@ pub fn put_read(answer: &mut Answer, matcher: &Gitignore, error: &Option<Error>)
     answer.put("root", matcher.path());
     answer.put("rules", matcher.rules());
     answer.put("error", error.as_ref());
-}
-
-/// All that can be read of a rule.
-impl Written for &Glob {
-    fn written(self, alloc: Global) -> Result<Value, AllocError> {
-        let mut items = Items::new(alloc);
-        items.put(self.original());
-        items.put(self.actual());
-        items.put(self.is_whitelist());
-        items.put(self.is_only_dir());
-        items.put(self.from());
-        items.value()
-    }
 }
 
 /// What a matcher answered: the kind of the match, and the texts and the place of the rule that

@@ -1,7 +1,6 @@
 //! What an error says of itself.
 
-use crate::answer::Answer;
-use crate::error::{fault_of, printed, shape};
+use answers::{Answer, fault_of, printed, shape};
 use ignore_base::Error;
 use serde_json::Value;
 use std::alloc::{AllocError, Global};

@@ -1,10 +1,6 @@
 //! The value of a configuration: the path of its excludes file.
 
-use crate::answer::Answer;
-use crate::environment::{name_of, variable};
-use crate::hex_digits::bytes_of;
-use crate::operations::but_for_memory;
-use crate::tree_calls::unrefused;
+use answers::{Answer, but_for_memory, bytes_of, name_of, unrefused, variable};
 use ignore_files::{Env, MemoryTree, Name};
 use ignore_rules::gitignore::gitconfig_excludes_path;
 use serde_json::Value;

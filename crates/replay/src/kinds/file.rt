@@ -1,9 +1,8 @@
 //! The matcher of one file of rules, relative to the directory of the file.
 
-use crate::answer::Answer;
 use crate::refusing::Refusing;
 use crate::rules::put_read;
-use crate::tree_calls::{CALLS, tree_of_calls};
+use answers::{Answer, CALLS, tree_of_calls};
 use ignore_rules::gitignore::Gitignore;
 use serde_json::Value;
 use std::alloc::Global;

@@ -1,8 +1,7 @@
 //! Whether a glob is valid, and matches a text, by how many marks and positions.
 
-use crate::answer::Answer;
 use crate::clones;
-use crate::operations::but_for_memory;
+use answers::{Answer, but_for_memory};
 use ignore_glob::glob::{GlobFault, Options, Pattern, PatternError};
 use serde_json::Value;
 use std::alloc::Global;

@@ -1,10 +1,8 @@
 //! The global file: where it is, and the rules that stand in it.
 
-use crate::answer::Answer;
-use crate::environment::environment;
 use crate::refusing::Refusing;
 use crate::rules::{LINES, builder_of_lines, put_read};
-use crate::tree_calls::{CALLS, tree_of_calls};
+use answers::{Answer, CALLS, environment, tree_of_calls};
 use ignore_base::Error;
 use ignore_files::{Env, MemoryTree};
 use ignore_rules::gitignore::{Gitignore, gitconfig_excludes_path};

@@ -1,8 +1,8 @@
 //! The answer of the globs of a command line for a path.
 
-use crate::answer::{Answer, Items};
 use crate::clones;
-use crate::operations::{Changed, OPS, apply_all, but_for_memory, problem};
+use crate::operations::{Changed, OPS, apply_all};
+use answers::{Answer, Items, but_for_memory, problem};
 use ignore_base::{Error, Match};
 use ignore_rules::overrides::{Override, OverrideBuilder};
 use serde_json::Value;

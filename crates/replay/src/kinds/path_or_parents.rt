@@ -1,8 +1,7 @@
 //! The answer of the lines of gitignore files for a path or the nearest of its parents.
 
-use crate::answer::Answer;
-use crate::operations::but_for_memory;
 use crate::rules::{after_operations, match_value};
+use answers::{Answer, but_for_memory};
 use ignore_rules::gitignore::Gitignore;
 use serde_json::Value;
 use std::alloc::Global;

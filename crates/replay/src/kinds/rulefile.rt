@@ -1,12 +1,8 @@
 //! The rules of a file, and its errors.
 
-use crate::answer::Answer;
-use crate::error::fault_of;
-use crate::hex_digits::bytes_of;
-use crate::operations::{but_for_memory, problem};
 use crate::refusing::Refusing;
 use crate::rules::builder_of_lines;
-use crate::tree_calls::unrefused;
+use answers::{Answer, but_for_memory, bytes_of, fault_of, problem, unrefused};
 use ignore_base::Error;
 use ignore_files::MemoryTree;
 use ignore_rules::gitignore::GitignoreBuilder;

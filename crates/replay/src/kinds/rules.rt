@@ -1,9 +1,8 @@
 //! The answer of the lines of gitignore files for a path, and all that can be read of their
 //! matcher.
 
-use crate::answer::Answer;
-use crate::operations::but_for_memory;
 use crate::rules::{Built, after_operations, match_value};
+use answers::{Answer, but_for_memory};
 use serde_json::Value;
 use std::alloc::Global;
 use vectors::{Trouble, flag, text};

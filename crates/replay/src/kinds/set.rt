@@ -1,7 +1,6 @@
 //! The last pattern of a set that matches a text and allows its kind.
 
-use crate::answer::Answer;
-use crate::operations::but_for_memory;
+use answers::{Answer, but_for_memory};
 use ignore_glob::glob::{Options, Pattern};
 use ignore_set::PatternSet;
 use serde_json::Value;

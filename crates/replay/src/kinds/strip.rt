@@ -1,7 +1,6 @@
 //! What the calls on paths as texts answer.
 
-use crate::answer::Answer;
-use crate::operations::but_for_memory;
+use answers::{Answer, but_for_memory};
 use ignore_base::text as paths;
 use serde_json::Value;
 use std::alloc::Global;

@@ -1,10 +1,8 @@
 //! What a tree in memory answers, and which changes of it are refused.
 
-use crate::answer::{Answer, Items, Written};
-use crate::tree_calls::{CALLS, make_call};
+use answers::{Answer, CALLS, Items, make_call};
 use ignore_files::{
-    Contents, FileType, Files, Identity, Listed, Listing, MemoryTree, Metadata, Name, Refusal,
-    TreeError,
+    Contents, Files, Identity, Listing, MemoryTree, Metadata, Name, Refusal, TreeError,
 };
 use serde_json::Value;
 use std::alloc::{AllocError, Global};
@@ -56,13 +54,6 @@ fn make_calls(alloc: Global, tree: &mut MemoryTree, calls: &[Value]) -> Result<I
         results.put(make_call(alloc, tree, call)?);
     }
     Ok(results)
-}
-
-/// The number of a refusal.
-impl Written for TreeError {
-    fn written(self, _alloc: Global) -> Result<Value, AllocError> {
-        Ok(Value::from(self as u8))
-    }
 }
 
 fn ask_all(alloc: Global, tree: &MemoryTree, asks: &[Value]) -> Result<Items, Trouble> {
@@ -135,47 +126,5 @@ impl Shown for Name {
 impl Shown for Option<Identity> {
     fn put(&self, answer: &mut Answer) {
         answer.put("identity", *self);
-    }
-}
-
-/// What is listed: `["entry", "a", "Dir"]`, or `["fault", "BadName"]`.
-impl Written for &Listed {
-    fn written(self, alloc: Global) -> Result<Value, AllocError> {
-        let mut items = Items::new(alloc);
-        match self {
-            Listed::Entry { name, file_type } => put_entry(&mut items, name.as_str(), *file_type),
-            Listed::Fault(fault) => {
-                items.put("fault");
-                items.put(*fault);
-            }
-        }
-        items.value()
-    }
-}
-
-fn put_entry(items: &mut Items, name: &str, file_type: FileType) {
-    items.put("entry");
-    items.put(name);
-    items.put(file_type);
-}
-
-impl Written for Identity {
-    fn written(self, alloc: Global) -> Result<Value, AllocError> {
-        let mut items = Items::new(alloc);
-        items.put(self.device);
-        items.put(self.inode);
-        items.value()
-    }
-}
-
-impl Written for FileType {
-    fn written(self, alloc: Global) -> Result<Value, AllocError> {
-        let name = match self {
-            FileType::File => "File",
-            FileType::Dir => "Dir",
-            FileType::Symlink => "Symlink",
-            FileType::Other => "Other",
-        };
-        name.written(alloc)
     }
 }

@@ -1,8 +1,8 @@
 //! The answers of file types for paths, and all that can be read of them.
 
-use crate::answer::{Answer, Items, Written};
 use crate::clones::asked;
-use crate::operations::{Changed, OPS, apply_all, but_for_memory, problem};
+use crate::operations::{Changed, OPS, apply_all};
+use answers::{Answer, Items, but_for_memory, change_types};
 use ignore_base::{Error, Match};
 use ignore_types::types::{FileTypeDef, Glob, Types, TypesBuilder};
 use serde_json::Value;
@@ -78,30 +78,7 @@ fn reported_refused(mut answer: Answer, error: Error) -> Result<Value, Trouble> 
 
 impl Changed for TypesBuilder {
     fn apply(&mut self, op: &Value) -> Result<Option<Error>, Trouble> {
-        match text_at(op, 0, OPS)? {
-            "add_defaults" => problem(self.add_defaults()),
-            name => apply_to(self, name, text_at(op, 1, OPS)?, op),
-        }
-    }
-}
-
-/// Does an operation whose first word is a type's name or its definition.
-fn apply_to(
-    builder: &mut TypesBuilder,
-    name: &str,
-    word: &str,
-    op: &Value,
-) -> Result<Option<Error>, Trouble> {
-    match name {
-        "add" => problem(builder.add(word, text_at(op, 2, OPS)?)),
-        "add_def" => problem(builder.add_def(word)),
-        "select" => problem(builder.select(word)),
-        "negate" => problem(builder.negate(word)),
-        "clear" => {
-            builder.clear(word);
-            Ok(None)
-        }
-        _ => Err(Trouble::Field(OPS)),
+        change_types(self, op, OPS)
     }
 }
 
@@ -110,16 +87,6 @@ fn build(builder: &TypesBuilder) -> Result<Built, Trouble> {
         Ok(types) => Ok(Built::Types(types)),
         Err(Error::Memory) => Err(Trouble::Memory),
         Err(error) => Ok(Built::Refused(error)),
-    }
-}
-
-/// A type's name and its globs.
-impl Written for &FileTypeDef {
-    fn written(self, alloc: Global) -> Result<Value, AllocError> {
-        let mut items = Items::new(alloc);
-        items.put(self.name());
-        items.put(self.globs());
-        items.value()
     }
 }
 

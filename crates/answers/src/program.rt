@@ -1,10 +1,9 @@
 //! The files of vectors of a run, and what it reports at its end.
 
-use crate::kinds::Library;
 use std::io::Read;
 use std::rt::Env;
 use std::{env, fs, io};
-use vectors::{Tally, replay};
+use vectors::{Kinds, Tally, replay};
 
 /// The name of standard input in reports.
 const STDIN: &str = "stdin";
@@ -25,44 +24,46 @@ enum Stop<'n> {
 ///
 /// It returns the status: 0; 1 where an answer was not the wanted one, or a line was no vector; 2
 /// for out of memory and for what can't be read or written, reported on standard error.
-pub fn replay_all(rt: &HostRuntime) -> u8 {
+pub fn replay_all<K: Kinds>(rt: &HostRuntime, kinds: &K) -> u8 {
     match words(rt) {
-        Ok(words) => replay_words(rt, words.as_slice()),
+        Ok(words) => replay_words(rt, kinds, words.as_slice()),
         Err(stop) => report_stop(rt, stop),
     }
 }
 
-fn replay_words(rt: &HostRuntime, words: &[String]) -> u8 {
+fn replay_words<K: Kinds>(rt: &HostRuntime, kinds: &K, words: &[String]) -> u8 {
     let mut tally = Tally::new();
-    match replay_files(rt, words, &mut tally) {
+    match replay_files(rt, kinds, words, &mut tally) {
         Ok(()) => tally.status(),
         Err(stop) => report_stop(rt, stop),
     }
 }
 
-fn replay_files<'w>(
+fn replay_files<'w, K: Kinds>(
     rt: &HostRuntime,
+    kinds: &K,
     words: &'w [String],
     tally: &mut Tally,
 ) -> Result<(), Stop<'w>> {
     for word in words {
         let bytes = contents(rt, word.as_str())?;
-        replay_bytes(rt, word.as_str(), &bytes, tally)?;
+        replay_bytes(rt, kinds, word.as_str(), &bytes, tally)?;
     }
     let bytes = standard_input(rt)?;
-    replay_bytes(rt, STDIN, &bytes, tally)?;
+    replay_bytes(rt, kinds, STDIN, &bytes, tally)?;
     report_tally(rt, tally)
 }
 
-fn replay_bytes<'w>(
+fn replay_bytes<'w, K: Kinds>(
     rt: &HostRuntime,
+    kinds: &K,
     name: &'w str,
     bytes: &[u8],
     tally: &mut Tally,
 ) -> Result<(), Stop<'w>> {
     let mut out = rt.stdout();
     let mut err = rt.stderr();
-    match replay(rt.alloc(), &Library, name, bytes, tally, &mut out, &mut err) {
+    match replay(rt.alloc(), kinds, name, bytes, tally, &mut out, &mut err) {
         Ok(()) => Ok(()),
         Err(vectors::Stop::Memory) => Err(Stop::Memory),
         Err(vectors::Stop::Write) => Err(Stop::Write),

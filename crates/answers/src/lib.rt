@@ -1,0 +1,24 @@
+//! What the programs that replay vectors share: answers put together as values, errors and bytes as
+//! vectors write them, trees of files and environments that vectors describe, and the run over
+//! files of vectors.
+#![tactic(auto)]
+
+mod answer;
+mod environments;
+mod error;
+mod files;
+mod hex_digits;
+mod program;
+mod results;
+mod rules;
+mod tree_calls;
+mod types;
+
+pub use answer::{Answer, Items, Written};
+pub use environments::{environment, name_of, variable};
+pub use error::{fault_of, printed, shape};
+pub use hex_digits::bytes_of;
+pub use program::replay_all;
+pub use results::{but_for_memory, problem};
+pub use tree_calls::{CALLS, make_call, tree_of_calls, unrefused};
+pub use types::change_types;
