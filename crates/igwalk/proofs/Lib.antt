@@ -1,4 +1,5 @@
 pub mod LineLemmas
 pub mod ItemLemmas
 pub mod StopLemmas
+pub mod CheckLemmas
 mod PrintsOnly

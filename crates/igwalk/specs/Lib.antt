@@ -1,4 +1,5 @@
 pub mod Words
 pub mod Matching
 pub mod Listing
+pub mod Checking
 pub mod Stops

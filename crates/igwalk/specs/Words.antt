@@ -34,3 +34,8 @@ request_view q = record { root = q.root.now; rules = q.rules.now; path = q.path.
 abbrev pub roots_of : List Bytes → Option (List Path)
 roots_of (command ∷ root ∷ roots) = if bytes_eq command (codes "list") then Some (root ∷ roots) else None
 roots_of _ = None
+
+-- `check ROOT PATH..`, with a path or more: the root and the paths
+abbrev pub paths_of : List Bytes → Option (Path × List Path)
+paths_of (command ∷ root ∷ path ∷ paths) = if bytes_eq command (codes "check") then Some (root, path ∷ paths) else None
+paths_of _ = None

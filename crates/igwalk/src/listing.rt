@@ -144,7 +144,7 @@ fn write_path<W: Write>(path: &str, out: &mut W) -> Result<(), Stop>
 }
 
 /// Reports an error. It returns that it did.
-fn report<E: Write>(error: &Error, err: &mut E) -> Result<bool, Stop>
+pub fn report<E: Write>(error: &Error, err: &mut E) -> Result<bool, Stop>
     ensures { IfOk result (λ any. (any ≡ true) × Appends (E.contents err.old) (E.contents err.new) (report_line (problem_of error.now))) }
 {
     match writeln!(err, "igwalk: {error}") {

@@ -1,8 +1,9 @@
-//! The program `igwalk`: matches a path against the rules of gitignore lines, and lists what they
-//! keep of a tree.
+//! The program `igwalk`: matches a path against the rules of gitignore lines, lists what they keep
+//! of a tree, and answers about paths below a root.
 #![tactic(auto)]
 
 mod by_name;
+mod checking;
 mod listing;
 mod run;
 mod stop;

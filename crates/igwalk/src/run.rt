@@ -6,16 +6,20 @@ ghost use Rattle.std.specs.Str.Lines.{lines};
 ghost use Rattle.ignore_base.specs.Text.{Path};
 ghost use Rattle.ignore_base.specs.Errors.{problem_text};
 ghost use Rattle.ignore_base.specs.Problem.{problem_of, memory};
+ghost use Rattle.ignore_files.specs.Gives.{IsHonest};
+ghost use Rattle.ignore_files.specs.Tree.{Tree};
 ghost use Rattle.ignore_rules.specs.Rules.{begun, built};
 ghost use Rattle.ignore_walk.specs.Entry.{Item};
 ghost use Rattle.igwalk.specs.Listing.{Lists};
-ghost use Rattle.igwalk.specs.Words.{Question, question_of, request_view, roots_of};
+ghost use Rattle.igwalk.specs.Checking.{AreAnswers, Checked, Checks};
+ghost use Rattle.igwalk.specs.Words.{Question, question_of, request_view, roots_of, paths_of};
 ghost use Rattle.igwalk.specs.Stops.{Ends, EndsAnswer, EndsLine, EndsLines, EndsReported, line_stop, reason};
 ghost use Rattle.igwalk.specs.Matching.{AddsAll, AddsOne, Prints, answer_line, answer_of, refusal};
 
+use crate::checking::check;
 use crate::listing::list;
 use crate::stop::{Stop, report_stop};
-use crate::words::{Request, read_roots, read_words};
+use crate::words::{Request, read_paths, read_roots, read_words};
 use ignore_base::{Error, Match};
 use ignore_files::{Env, Files};
 use ignore_rules::gitignore::{Gitignore, GitignoreBuilder};
@@ -129,6 +133,9 @@ fn answer<W: Write, E: Write>(
 ///   decided. A rejected line is reported on `err`, and the other lines count.
 /// - `list ROOT..` writes the paths of the entries of a walk, each on a line, and reports on `err`
 ///   what is wrong with an entry or stands in its place.
+/// - `check ROOT PATH..` writes what becomes of each path below ROOT, by the rules of its tree:
+///   `none`, `ignore` or `whitelist` and the path. What is wrong with files of rules is reported on
+///   `err`.
 ///
 /// It returns the status: 0; 1 where something was reported; 2 for wrong arguments, out of memory
 /// and what can't be written, each reported on `err`. Wrong arguments are found before anything is
@@ -145,11 +152,12 @@ pub fn run<F: Files, W: Write, E: Write>(
     err: &mut E,
 ) -> Result<u8, Stop>
     ensures wrong { question_of (map string_bytes words.now) ≡ None → roots_of (map string_bytes words.now) ≡ None
-        → Appends (W.contents out.old) (W.contents out.new) [] }
+        → paths_of (map string_bytes words.now) ≡ None → Appends (W.contents out.old) (W.contents out.new) [] }
     ensures usage { question_of (map string_bytes words.now) ≡ None → roots_of (map string_bytes words.now) ≡ None
+        → paths_of (map string_bytes words.now) ≡ None
         → IfOk result (λ status. (status ≡ 2) × Appends (E.contents err.old) (E.contents err.new) (reason Stop.Usage)) }
     ensures usage_unreported { question_of (map string_bytes words.now) ≡ None → roots_of (map string_bytes words.now) ≡ None
-        → IfErr result (λ stop. stop ≡ Stop.Usage) }
+        → paths_of (map string_bytes words.now) ≡ None → IfErr result (λ stop. stop ≡ Stop.Usage) }
     ensures prints { (question : Question) → question_of (map string_bytes words.now) ≡ Some question
         → IfOk result (λ status. Prints question status (Appends (W.contents out.old) (W.contents out.new))
         (Appends (E.contents err.old) (E.contents err.new))
@@ -160,11 +168,19 @@ pub fn run<F: Files, W: Write, E: Write>(
     ensures lists { question_of (map string_bytes words.now) ≡ None → (roots : List Path) → roots_of (map string_bytes words.now) ≡ Some roots
         → IfOk result (λ status. ((items : List Item) × Lists items status (Appends (W.contents out.old) (W.contents out.new))
         (Appends (E.contents err.old) (E.contents err.new))) ⊎ (status ≡ 2)) }
+    ensures checks { question_of (map string_bytes words.now) ≡ None → roots_of (map string_bytes words.now) ≡ None
+        → (root : Path) (paths : List Path) → paths_of (map string_bytes words.now) ≡ Some (root, paths)
+        → IfOk result (λ status. ((all : List Checked) × Checks paths all status
+        (Appends (W.contents out.old) (W.contents out.new)) (Appends (E.contents err.old) (E.contents err.new))
+        × ((tree : Tree) → IsHonest F.Files files.now tree → AreAnswers tree env.now root all)) ⊎ (status ≡ 2)) }
     ensures status { IfOk result (λ status. status ≤ 2) }
 {
     let Some(request) = read_words(words) else {
         if let Some(roots) = read_roots(words) {
             return list(alloc, files, env, roots, out, err);
+        }
+        if let Some((root, paths)) = read_paths(words) {
+            return check(alloc, files, env, root, paths, out, err);
         }
         return report_stop(err, Stop::Usage);
     };

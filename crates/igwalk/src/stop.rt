@@ -5,8 +5,7 @@ ghost use Rattle.igwalk.specs.Stops.{reason};
 
 use std::io::Write;
 
-/// The usage, which is written for wrong arguments. It names three commands, of which `check` can't
-/// be run: it is a wrong argument.
+/// The usage, which is written for wrong arguments.
 pub const USAGE: &str = "usage: igwalk match ROOT RULES PATH d|f | list ROOT.. | check ROOT PATH..";
 
 /// Why a run ends early.

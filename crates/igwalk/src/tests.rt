@@ -44,7 +44,7 @@ fn run_words<W: Write, E: Write>(
 const USAGE: &str = "usage: igwalk match ROOT RULES PATH d|f | list ROOT.. | check ROOT PATH..\n";
 
 /// The words, the output, the errors and the status.
-const RUNS: [(&[&str], &str, &str, u8); 12] = [
+const RUNS: [(&[&str], &str, &str, u8); 13] = [
     (
         &[
             "match",
@@ -87,7 +87,8 @@ const RUNS: [(&[&str], &str, &str, u8); 12] = [
     (&["match", ".", "a", "a"], "", USAGE, 2),
     (&["match", ".", "a", "a", "f", "f"], "", USAGE, 2),
     (&["list"], "", USAGE, 2),
-    (&["check", "/t", "a"], "", USAGE, 2),
+    (&["check", "/t"], "", USAGE, 2),
+    (&["check"], "", USAGE, 2),
     (&[], "", USAGE, 2),
 ];
 
@@ -283,5 +284,80 @@ fn roots_in_turn(rt: HostRuntime) -> Result<(), Fail> {
     assert_eq!(rt; status, 1);
     assert!(rt; written.starts_with(b"/t/c/x\n/\n/t\n"));
     assert!(rt; reported.starts_with(b"igwalk: /no-such: not found\n"));
+    Ok(())
+}
+
+/// A folder with rules for a directory `x`, in which `e` has a glob that is none.
+fn checked_folder(alloc: Global) -> Result<MemoryTree, Fail> {
+    let mut tree = MemoryTree::new(alloc, "/")?;
+    for path in ["/t", "/t/x", "/t/e"] {
+        tree.add_dir(path)?;
+    }
+    tree.add_link("/t/l", "x")?;
+    tree.add_file("/t/.ignore", b"x/\nl/\n!e/w\n")?;
+    tree.add_file("/t/e/.ignore", b"{\n")?;
+    Ok(tree)
+}
+
+/// What `check` answers of some paths below `/t` in that folder.
+fn checked(alloc: Global, paths: &[&str]) -> Result<(u8, Vec<u8>, Vec<u8>), Fail> {
+    let mut words = words_of(alloc, &["check", "/t"])?;
+    for path in paths {
+        words.push(String::from_str(alloc, path)?)?;
+    }
+    let tree = checked_folder(alloc)?;
+    let mut out: Vec<u8> = Vec::new(alloc);
+    let mut err: Vec<u8> = Vec::new(alloc);
+    let status = run(alloc, &tree, &env(), words.as_slice(), &mut out, &mut err).unwrap_or(2);
+    Ok((status, out, err))
+}
+
+/// A directory is asked as one, a link to it and what isn't there are not.
+#[test]
+fn paths_are_answered_in_turn(rt: HostRuntime) -> Result<(), Fail> {
+    let (status, written, reported) = checked(rt.alloc(), &["x", "no"])?;
+    assert_eq!(rt; status, 0);
+    assert_eq!(rt; written.as_slice(), "ignore x\nnone no\n".as_bytes());
+    assert_eq!(rt; reported.len(), 0);
+    let (status, written, reported) = checked(rt.alloc(), &["x/a", "l", "", "l", "../t"])?;
+    assert_eq!(rt; status, 0);
+    assert_eq!(rt;
+        written.as_slice(),
+        "ignore x/a\nnone l\nnone \nnone l\nnone ../t\n".as_bytes()
+    );
+    assert_eq!(rt; reported.len(), 0);
+    Ok(())
+}
+
+/// What is wrong with a file of rules is reported by the first path for which it is read.
+#[test]
+fn a_wrong_file_of_rules_is_reported_once(rt: HostRuntime) -> Result<(), Fail> {
+    let (status, written, reported) = checked(rt.alloc(), &["e", "e/w", "e/v"])?;
+    assert_eq!(rt; status, 1);
+    assert_eq!(rt;
+        written.as_slice(),
+        "none e\nwhitelist e/w\nnone e/v\n".as_bytes()
+    );
+    assert_eq!(rt; reported.as_slice(), WRONG_RULES);
+    Ok(())
+}
+
+const WRONG_RULES: &[u8] =
+    b"igwalk: /t/e/.ignore: line 1: error parsing glob '{': unclosed alternates\n";
+
+/// That a file of rules can't be read is reported with what is wrong with its lines before.
+#[test]
+fn an_unreadable_file_of_rules_is_reported(rt: HostRuntime) -> Result<(), Fail> {
+    let alloc = rt.alloc();
+    let mut tree = checked_folder(alloc)?;
+    tree.cut_contents("/t/e/.ignore", 2, Fault::PermissionDenied)?;
+    let words = words_of(alloc, &["check", "/t", "e/w"])?;
+    let mut out: Vec<u8> = Vec::new(alloc);
+    let mut err: Vec<u8> = Vec::new(alloc);
+    let status = run(alloc, &tree, &env(), words.as_slice(), &mut out, &mut err).unwrap_or(2);
+    assert_eq!(rt; status, 1);
+    assert_eq!(rt; out.as_slice(), "whitelist e/w\n".as_bytes());
+    assert!(rt; err.starts_with(WRONG_RULES.strip_suffix(b"\n").unwrap_or(b"no")));
+    assert!(rt; err.ends_with(b"permission denied\n"));
     Ok(())
 }

@@ -1,6 +1,6 @@
 //! Parsing the words after the program's name.
 ghost use Rattle.std.specs.Prelude.{◌≡◌, map, option_map, string_bytes};
-ghost use Rattle.igwalk.specs.Words.{question_of, request_view, kind_of, roots_of};
+ghost use Rattle.igwalk.specs.Words.{question_of, request_view, kind_of, roots_of, paths_of};
 
 /// A question: the answer of the rules in a text, relative to a root, for a path that is a
 /// directory or not.
@@ -37,6 +37,19 @@ pub fn read_roots(words: &[String]) -> Option<&[String]>
     let (command, roots) = words.split_first()?;
     if command.as_str() == "list" && !roots.is_empty() {
         Some(roots)
+    } else {
+        None
+    }
+}
+
+/// The root and the paths in the words; `None` for another command, and without paths.
+pub fn read_paths(words: &[String]) -> Option<(&str, &[String])>
+    ensures { option_map (λ r. (r.0.now, map string_bytes r.1.now)) result ≡ paths_of (map string_bytes words.now) }
+{
+    let (command, rest) = words.split_first()?;
+    let (root, paths) = rest.split_first()?;
+    if command.as_str() == "check" && !paths.is_empty() {
+        Some((root.as_str(), paths))
     } else {
         None
     }
