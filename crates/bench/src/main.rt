@@ -8,6 +8,7 @@ mod input;
 mod list;
 mod matcher;
 mod plain;
+mod queries;
 mod rules;
 mod tokens;
 
@@ -16,7 +17,7 @@ use input::words;
 use std::process::ExitCode;
 
 const USAGE: &str =
-    "usage: bench check | globs GLOBS TEXTS ROUNDS | rules RULES TEXTS COUNT ROUNDS | list RULES PATHS";
+    "usage: bench check | globs GLOBS TEXTS ROUNDS | rules RULES TEXTS COUNT ROUNDS | list RULES PATHS | queries ROOT PATHS ROUNDS";
 
 /// Runs the command in the words; returns whether there is such a command.
 fn run(rt: &HostRuntime, words: &[String]) -> Result<bool, Error> {
@@ -29,6 +30,10 @@ fn run(rt: &HostRuntime, words: &[String]) -> Result<bool, Error> {
             let count = number(count.as_str());
             let rounds = number(rounds.as_str());
             rules::time_rules(rt, rules.as_str(), texts.as_str(), count, rounds)?;
+        }
+        [command, root, paths, rounds] if command.as_str() == "queries" => {
+            let rounds = number(rounds.as_str());
+            queries::time_queries(rt, root.as_str(), paths.as_str(), rounds)?;
         }
         [command, rules, paths] if command.as_str() == "list" => {
             list::list(rt, rules.as_str(), paths.as_str())?;

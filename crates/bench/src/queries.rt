@@ -1,0 +1,58 @@
+//! What a query of a single path costs.
+
+use crate::input::first_lines;
+use crate::matcher::{Matcher, time};
+use ignore::files::{DiskFiles, Env, Files};
+use ignore::{Error, IncrementalIgnore, WalkBuilder};
+use std::alloc::Global;
+use std::fs;
+
+/// A matcher of paths below a root, with the files that it asks.
+#[derive(Drop)]
+struct Below<'f, F: Files> {
+    files: &'f F,
+    matcher: IncrementalIgnore,
+}
+
+impl<F: Files> Matcher for Below<'_, F> {
+    fn is_match(&mut self, text: &str) -> Result<bool, Error> {
+        Ok(self.matcher.matched(self.files, text, false)?.is_ignore())
+    }
+}
+
+/// The matcher of a root by the settings at first, if there is one.
+fn matcher_at<F: Files>(
+    alloc: Global,
+    files: &F,
+    env: &Env,
+    root: &str,
+) -> Result<Option<IncrementalIgnore>, Error> {
+    let builder = WalkBuilder::new(alloc, root)?;
+    let mut matchers = builder.build_matchers(files, env)?;
+    Ok(matchers.pop())
+}
+
+/// Prints what it costs to ask about each line of a file, as a path below a root of the disk: by a
+/// matcher that keeps nothing yet (`first`), and then by what it keeps (`kept`), in so many rounds.
+pub(crate) fn time_queries(
+    rt: &HostRuntime,
+    root: &str,
+    paths: &str,
+    rounds: usize,
+) -> Result<(), Error> {
+    let text = fs::read_to_string(rt, paths)?;
+    let texts = first_lines(rt.alloc(), text.as_str(), usize::MAX)?;
+    let env = Env::of_process(rt)?;
+    let files = DiskFiles::new(rt);
+    for _ in 0..rounds {
+        if let Some(matcher) = matcher_at(rt.alloc(), &files, &env, root)? {
+            let mut below = Below {
+                files: &files,
+                matcher,
+            };
+            time(rt, "first", &mut below, texts.as_slice())?;
+            time(rt, "kept", &mut below, texts.as_slice())?;
+        }
+    }
+    Ok(())
+}
