@@ -4,6 +4,7 @@ pub mod Walks
 pub mod EntryLemmas
 pub mod NodeLemmas
 mod DiskLemmas
+mod Heard
 mod Ranks
 mod JoinedName
 mod Leads

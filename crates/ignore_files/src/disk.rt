@@ -7,7 +7,7 @@ ghost use Rattle.ignore_files.specs.Machine.{metadata_gives, IsStatOf, IsReporte
 ghost use Rattle.ignore_files.specs.Machine.{MayList, MayRead, MayCanonicalize};
 ghost use Rattle.ignore_files.specs.declared.types.Refusal.TheVariants.{Memory};
 
-use crate::ask::{ask, ask_at, fault_of, is_interrupted, kind_of};
+use crate::ask::{ask, ask_at, fault_of, is_interrupted, kind_of, refusal_of};
 use crate::files::Files;
 use crate::machine::Machine;
 use crate::stat::Stat;
@@ -91,7 +91,8 @@ fn stat_of<R: Machine>(metadata: &R::Metadata) -> Stat
     }
 }
 
-/// What the machine lists of a directory, or `None` where it was interrupted on the way.
+/// What the machine lists of a directory, or `None` where it was interrupted. An opened directory
+/// is a large value, so it is moved as seldom as can be.
 fn list_once<R: Machine>(alloc: Global, machine: &R, path: &str) -> Result<Option<Listing>, Refusal>
     ensures { MatchResult result
         (λ found. MatchOption found
@@ -99,8 +100,17 @@ fn list_once<R: Machine>(alloc: Global, machine: &R, path: &str) -> Result<Optio
         (λ listing. MayList R.Machine R.Dir.next_gives machine.now path.now (Ok listing)))
         (λ e. MayList R.Machine R.Dir.next_gives machine.now path.now (Err e)) }
 {
-    let dir = ask_at(path, || machine.read_dir(path))?;
-    listing_of::<R>(alloc, dir)
+    if path.as_bytes().contains(&0) {
+        return Err(Refusal::Fault(Fault::NotFound));
+    }
+    let opened = machine.read_dir(path);
+    if is_interrupted(&opened) {
+        return Ok(None);
+    }
+    match opened {
+        Ok(dir) => listing_of::<R>(alloc, dir),
+        Err(error) => Err(refusal_of(error)),
+    }
 }
 
 /// All that a directory gives, or `None` where the machine was interrupted on the way.
