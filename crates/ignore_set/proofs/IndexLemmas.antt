@@ -13,7 +13,7 @@ use Rattle.ignore_set.specs.declared.table.Table.{Table}
 use Rattle.ignore_set.specs.declared.text.Ending.{Ending}
 use Rattle.ignore_set.specs.declared.text.Ending.TheVariants.{Name, End}
 use Rattle.ignore_set.specs.Ends.{HasEnd, HasName}
-use Rattle.ignore_set.specs.Index.{Fits, IsNoted, IsTableOf, IsIndexOf, IsExactOf, StandsUnderEnd, slot_at, after}
+use Rattle.ignore_set.specs.Index.{Fits, IsMarked, IsNoted, IsTableOf, IsIndexOf, IsExactOf, StandsUnderEnd, slot_at, after}
 use Rattle.ignore_set.specs.Others.{IsFoundFrom}
 use Rattle.ignore_set.specs.Sets.{Member, Applies, IsLastMatch}
 use Rattle.ignore_set.proofs.FormLemmas.{slash_byte, whole_matches, matches_whole, name_matches, matches_name, end_matches, matches_end}
@@ -38,14 +38,15 @@ pub exact_above : (index : Index) (text : List ℕ) (is_dir : Bool) (ms : List M
     → after is_dir (slot_at index.names end) ≤ n)
     → ((end : List ℕ) → HasEnd end text → IsUtf8 end → IsNoted index.ends end
     → after is_dir (slot_at index.ends end) ≤ e)
-    → after is_dir (slot_at index.whole text) ≤ r → n ≤ r → e ≤ r
+    → (IsMarked index.whole text → after is_dir (slot_at index.whole text) ≤ r) → n ≤ r → e ≤ r
     → (i : ℕ) (m : Member) → slice_get ms i ≡ Some m → Applies (chars text) is_dir m → (form_of m.reading ≡ other → ⊥) → i < r
 exact_above index text is_dir ms n e r utf8 is names ends w-r n-r e-r i m g a formed = by_form (form_of m.reading) refl
   where
     by_form : (f : Form) → form_of m.reading ≡ f → i < r
     by_form (whole key) form =
         let same = matches_whole m.reading key text form utf8 a.1 in
-        omega (arith, w-r, (is.whole.slots is_dir text).above i m g (form ∙ ap whole (sym same), a.0))
+        let marked = subst (λ t. IsMarked index.whole t) (sym same) (is.whole.noted i m key g form).1.1 in
+        omega (arith, w-r marked, (is.whole.slots is_dir text).above i m g (form ∙ ap whole (sym same), a.0))
     by_form (name key) form =
         let long = is.names.noted i m key g form in
         let fits = name_fits text key utf8 long.0 (matches_name m.reading key text form utf8 a.1) in
@@ -75,11 +76,12 @@ stands_max text is_dir ms a b x y = elim (max_either a b) [
   | inr e ↦ subst (λ n. Stands text is_dir ms n) (sym e) y
 ]
 
-pub whole_stands : (table : Table) (text : List ℕ) (is_dir : Bool) (ms : List Member) → IsUtf8 text
-    → IsTableOf whole table ms → Stands (chars text) is_dir ms (after is_dir (slot_at table text))
-whole_stands table text is_dir ms utf8 is = elim ((is.slots is_dir text).last) [
-  | inl none ↦ inl none
-  | inr f ↦ inr (f.0, f.1, f.2, f.3, (f.4.1, whole_matches f.1.reading text text f.4.0 utf8 refl))
+pub whole_stands : (table : Table) (text : List ℕ) (is_dir : Bool) (ms : List Member) (n : ℕ) → IsUtf8 text
+    → IsTableOf whole table ms → (n ≡ 0) ⊎ (n ≡ after is_dir (slot_at table text)) → Stands (chars text) is_dir ms n
+whole_stands table text is_dir ms n utf8 is (inl zero') = inl zero'
+whole_stands table text is_dir ms n utf8 is (inr e) = elim ((is.slots is_dir text).last) [
+  | inl none ↦ inl (e ∙ none)
+  | inr f ↦ inr (f.0, f.1, e ∙ f.2, f.3, (f.4.1, whole_matches f.1.reading text text f.4.0 utf8 refl))
 ]
 
 pub name_stands : (table : Table) (text : List ℕ) (is_dir : Bool) (ms : List Member) (n : ℕ) → IsUtf8 text

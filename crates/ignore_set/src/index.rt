@@ -103,7 +103,7 @@ impl Index {
     fn last_exact(&self, text: &str, is_dir: bool) -> usize
         ensures { (ms : List Member) → IsIndexOf self.now ms → IsExactOf text.now is_dir ms result }
     {
-        let whole = self.whole.under(text, is_dir);
+        let whole = self.whole.under_whole(text, is_dir);
         let name = self.names.under_ends(Ending::Name, text, is_dir);
         let end = self.ends.under_ends(Ending::End, text, is_dir);
         whole.max(name).max(end)

@@ -1,5 +1,5 @@
 //! Patterns of one form, by the text under which each stands.
-ghost use Rattle.std.specs.Prelude.{◌≡◌, ◌+◌, ◌<◌, ◌≤◌, ◌^◌, ℕ, IfOk, IsTrue, List, length, cond, string_bytes};
+ghost use Rattle.std.specs.Prelude.{◌≡◌, ◌⊎◌, ◌+◌, ◌<◌, ◌≤◌, ◌^◌, ℕ, IfOk, IsTrue, List, length, cond, string_bytes};
 ghost use Rattle.std.specs.List.{IsAmong};
 ghost use Rattle.std.specs.Str.{IsUtf8, bytes_eq};
 ghost use Rattle.ignore_set.specs.Index.{Fits, IsMarked, IsNoted, StandsUnderEnd, after, end_bit, end_word, slot_at, slot_with};
@@ -85,8 +85,21 @@ impl Table {
         }
     }
 
+    /// One more than the index of the last pattern under a text. A text without its bit is passed
+    /// over.
+    pub(crate) fn under_whole(&self, text: &str, is_dir: bool) -> usize
+        ensures found { (result ≡ 0) ⊎ (result ≡ after is_dir (slot_at self.now text.now)) }
+        ensures greatest { IsMarked self.now text.now → after is_dir (slot_at self.now text.now) ≤ result }
+    {
+        if self.may_have(text) {
+            self.under(text, is_dir)
+        } else {
+            0
+        }
+    }
+
     /// One more than the index of the last pattern under a text.
-    pub(crate) fn under(&self, text: &str, is_dir: bool) -> usize
+    fn under(&self, text: &str, is_dir: bool) -> usize
         ensures { result ≡ after is_dir (slot_at self.now text.now) }
     {
         self.slot(text).after(is_dir)
