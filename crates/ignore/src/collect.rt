@@ -46,7 +46,8 @@ impl<'a, F: Files, S: Callbacks> Walk<'a, F, S> {
             → IsWalkBy F.Files S.Callbacks f owner env b order self.entry.inner → self.entry.inner.left ≡ b.limit
             → IfOk result (λ all. Headline F.Files S.Callbacks f owner env b order (map item_of all.items)) }
         ensures ended { (f : F) (owner : S) (env : Env) (b : WalkOptions) (order : Order)
-            → IsWalkBy F.Files S.Callbacks f owner env b order self.entry.inner → self.entry.inner.left ≡ b.limit → self.entry.inner.ended ≡ false
+            → IsWalkBy F.Files S.Callbacks f owner env b order self.entry.inner → self.entry.inner.left ≡ b.limit
+            → self.entry.inner.ended ≡ false
             → IfErr result (λ e. (problem_of e ≡ memory) ⊎ ((problem_of e ≡ io StepLimit)
             × IsAboveLimit F.Files S.Callbacks f owner env b order)) }
     {

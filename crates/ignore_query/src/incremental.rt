@@ -130,7 +130,8 @@ impl IncrementalIgnore {
             Agrees g self.old.cache → is_decided g path.now is_dir ≢ true → self.new.cache ≡ self.old.cache }
         ensures from_kept { (tree : Tree) (loads : List ℕ → Loaded) → let g = scene_of self.old.asked tree loads in
             Agrees g self.old.cache → is_known g self.old.cache (queries.names_of path.now) ≡ true
-            → queries.limit_of g path.now is_dir ≡ None → (self.new.cache ≡ self.old.cache) × IfOk result (λ m. m ≡ (queries.query g path.now is_dir).0) }
+            → queries.limit_of g path.now is_dir ≡ None → (self.new.cache ≡ self.old.cache)
+            × IfOk result (λ m. m ≡ (queries.query g path.now is_dir).0) }
         ensures agrees { (tree : Tree) (loads : List ℕ → Loaded) → IsHonest F.Files files.now tree
             → AreLoads tree self.old.asked.settings loads → let g = scene_of self.old.asked tree loads in
             Agrees g self.old.cache → Agrees g self.new.cache }
@@ -168,7 +169,8 @@ impl IncrementalIgnore {
             Agrees g self.old.cache → is_decided g path.now is_dir ≢ true → self.new.cache ≡ self.old.cache }
         ensures from_kept { (tree : Tree) (loads : List ℕ → Loaded) → let g = scene_of self.old.asked tree loads in
             Agrees g self.old.cache → is_known g self.old.cache (queries.names_of path.now) ≡ true
-            → queries.limit_of g path.now is_dir ≡ None → (self.new.cache ≡ self.old.cache) × IfOk result (λ r. (r.0 ≡ (queries.query g path.now is_dir).0) × (r.1 ≡ None)) }
+            → queries.limit_of g path.now is_dir ≡ None → (self.new.cache ≡ self.old.cache)
+            × IfOk result (λ r. (r.0 ≡ (queries.query g path.now is_dir).0) × (r.1 ≡ None)) }
         ensures agrees { (tree : Tree) (loads : List ℕ → Loaded) → IsHonest F.Files files.now tree
             → AreLoads tree self.old.asked.settings loads → let g = scene_of self.old.asked tree loads in
             Agrees g self.old.cache → Agrees g self.new.cache }

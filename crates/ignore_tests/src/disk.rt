@@ -273,7 +273,8 @@ fn is_roots(rt: &HostRuntime, path: &str) -> io::Result<bool> {
 /// What the listing of a folder that nobody may use is, and what the five calls answer for a file
 /// in it.
 const DENIED: &str =
-    "Err(Fault(PermissionDenied)); Err(Fault(PermissionDenied)) Err(Fault(PermissionDenied)) Err(Fault(PermissionDenied)) Err(Fault(PermissionDenied)) Err(Fault(PermissionDenied)) true";
+    "Err(Fault(PermissionDenied)); Err(Fault(PermissionDenied)) Err(Fault(PermissionDenied)) \
+     Err(Fault(PermissionDenied)) Err(Fault(PermissionDenied)) Err(Fault(PermissionDenied)) true";
 
 /// What the machine lists of the folder `dir`, and then a text.
 fn listing_and(rt: &HostRuntime, file: &str) -> Result<String, AllocError> {

@@ -219,7 +219,11 @@ fn directory() -> fs::FileType {
 
 /// What it answers where nothing is refused.
 const ANSWERS: &str =
-    "Ok(Metadata { file_type: Dir, len: 3 })|Ok(Some(Identity { device: 7, inode: 8 }))|Ok(Listing { items: [Entry { name: Name { text: \"a\" }, file_type: Dir }, Entry { name: Name { text: \"a\" }, file_type: Dir }] })|Ok(Contents { bytes: Bytes { bytes: [97] }, fault: Some(PermissionDenied) })|Ok(Name { text: \"path\" })|";
+    "Ok(Metadata { file_type: Dir, len: 3 })|Ok(Some(Identity { device: 7, inode: 8 }))|\
+     Ok(Listing { items: [Entry { name: Name { text: \"a\" }, file_type: Dir }, \
+     Entry { name: Name { text: \"a\" }, file_type: Dir }] })|\
+     Ok(Contents { bytes: Bytes { bytes: [97] }, fault: Some(PermissionDenied) })|\
+     Ok(Name { text: \"path\" })|";
 
 #[test]
 fn interrupted_questions_are_asked_again(rt: HostRuntime) -> Result<(), Fail> {
