@@ -1,7 +1,9 @@
 -- The words of clauses on builders, on matchers of single paths and on walks, in one place.
 pub use Rattle.ignore_base.specs.Normalize.{normalize_of}
+pub use Rattle.ignore_base.specs.Paths.{IsName}
+pub use Rattle.ignore_dir.specs.Above.{dirs_above, path_along, paths_above}
 pub use Rattle.ignore_dir.specs.Load.{AreLoads, Loaded}
-pub use Rattle.ignore_dir.specs.Query.{query}
+pub use Rattle.ignore_dir.specs.Query.{is_asked, is_dir_there, names_of, query}
 pub use Rattle.ignore_dir.specs.Scene.{Scene as QueryScene, scene}
 pub use Rattle.ignore_dir.specs.Standard.{standard}
 pub use Rattle.ignore_dir.specs.declared.incremental.IncrementalMatch.{IncrementalMatch}
@@ -13,7 +15,10 @@ pub use Rattle.ignore_query.specs.InTurn.{Leaves, Question, ReportInTurn}
 pub use Rattle.ignore_query.specs.Needs.{KeepsNeeded, Stays, needed}
 pub use Rattle.ignore_query.specs.Reached.{dir_of, scene_of}
 pub use Rattle.ignore_query.specs.Reports.{reported}
+pub use Rattle.ignore_query.specs.declared.asked.Asked.{Asked}
 pub use Rattle.ignore_query.specs.declared.incremental.IncrementalIgnore.{IncrementalIgnore}
+pub use Rattle.ignore_query.specs.declared.kept.Cache.{Cache}
+pub use Rattle.ignore_query.specs.declared.kept.Kept.{Kept}
 pub use Rattle.ignore_walk.specs.Agreement.{Reachable}
 pub use Rattle.ignore_walk.specs.Branch.{Branch, entered}
 pub use Rattle.ignore_walk.specs.Entry.{Entry, Item, entry_of, item_of, named_or, problem_in}

@@ -1,1 +1,2 @@
 mod QueryLemmas
+mod WatchLemmas

@@ -1,3 +1,4 @@
 pub mod Questions
 pub mod Buffers
 pub mod Queries
+pub mod Watched

@@ -14,3 +14,4 @@ pub mod reason;
 pub mod single;
 #[cfg(test)]
 mod tests;
+pub mod watcher;

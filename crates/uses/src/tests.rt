@@ -8,12 +8,13 @@ use crate::lines::add_if_valid;
 use crate::linter::is_linted;
 use crate::packer::packed;
 use crate::reason::{deciding_file, deciding_line};
-use crate::single::ask_once;
+use crate::single::{ask_once, matcher_below};
+use crate::watcher::ask_after_change;
 use ignore::files::{Bytes, Env, Identity, MemoryTree, Row, TableMachine, TreeError};
 use ignore::gitignore::{Gitignore, GitignoreBuilder};
 use ignore::overrides::{Override, OverrideBuilder};
 use ignore::types::{Types, TypesBuilder};
-use ignore::{DirEntry, Error, WalkBuilder};
+use ignore::{DirEntry, Error, IncrementalIgnore, WalkBuilder};
 use std::alloc::Global;
 use std::collections::BTreeMap;
 use std::test::Fail;
@@ -54,6 +55,42 @@ fn a_tool_asks_about_one_path(rt: HostRuntime) -> Result<(), Fail> {
     let tree = tree(rt.alloc())?;
     let (found, error) = ask_once(rt.alloc(), &tree, &unknown(), "/p", ".git", true)?;
     assert!(rt; found.is_ignore() && error.is_none());
+    Ok(())
+}
+
+/// A repository with a file of rules in a folder of it.
+fn repository(alloc: Global, rules: &[u8]) -> Result<MemoryTree, TreeError> {
+    let mut tree = MemoryTree::new(alloc, "/")?;
+    for dir in ["/p", "/p/.git", "/p/src"] {
+        tree.add_dir(dir)?;
+    }
+    tree.add_file("/p/src/.gitignore", rules)?;
+    Ok(tree)
+}
+
+/// Whether a file of the folder is ignored, after its rules became these.
+fn ignored_after(
+    alloc: Global,
+    matcher: &mut IncrementalIgnore,
+    rules: &[u8],
+) -> Result<bool, Fail> {
+    let tree = repository(alloc, rules)?;
+    let (found, error) = ask_after_change(matcher, &tree, "src", "src/a.o", false)?;
+    Ok(found.is_ignore() && error.is_none())
+}
+
+/// The same for two files of rules, one after the other, asked of one matcher.
+fn ignored_in_turn(alloc: Global, rules: &[u8], later: &[u8]) -> Result<(bool, bool), Fail> {
+    let tree = repository(alloc, rules)?;
+    let mut matcher = matcher_below(alloc, &tree, &unknown(), "/p")?;
+    let first = ignored_after(alloc, &mut matcher, rules)?;
+    Ok((first, ignored_after(alloc, &mut matcher, later)?))
+}
+
+#[test]
+fn a_watcher_asks_again(rt: HostRuntime) -> Result<(), Fail> {
+    let answers = ignored_in_turn(rt.alloc(), b"*.o\n", b"*.c\n")?;
+    assert!(rt; answers.0 && !answers.1);
     Ok(())
 }
 
