@@ -1,10 +1,12 @@
 -- What is written for the items of a walk, one more at a time.
-use Rattle.std.proofs.Common.{◌≡◌, ◌∙◌, ℕ, Bool, ◌||◌, List, [], ◌∷◌, ◌++◌, Option, Result, map, sym, ap, subst}
+use Rattle.std.proofs.Common.{◌≡◌, ◌≢◌, ◌∙◌, ℕ, All, Bool, ◌||◌, List, [], ◌∷◌, ◌++◌, Option, Result, Err, map, sym, ap, subst}
 use Rattle.std.proofs.lemmas.Grind.{flat_map-append}
 use Rattle.std.proofs.lemmas.List.{append-nil, map-append}
+use Rattle.std.proofs.lemmas.List.Elements.{All-push}
 use Rattle.std.proofs.lemmas.List.Folds.{list_any-append}
 use Rattle.std.specs.Io.KnownBytes.{Appends}
 use Rattle.std.specs.List.{flat_map, list_any}
+use Rattle.ignore_base.specs.Problem.{memory}
 use Rattle.ignore_base.specs.declared.error.Error.{Error}
 use Rattle.ignore_walk.specs.Entry.{Item, item_of}
 use Rattle.ignore_walk.specs.declared.entry.DirEntry.{DirEntry}
@@ -33,3 +35,11 @@ reported_more items item any more h k =
     ∙ sym (ap (list_any is_reported) (map-append item_of items (item ∷ []))
     ∙ (list_any-append is_reported (map item_of items) (item_of item ∷ [])
     ∙ ap (λ b. list_any is_reported (map item_of items) || b) (or-false (is_reported (item_of item))))))
+
+-- one item more that isn't out of memory
+pub enough_more : (items : List (Result DirEntry Error)) (item : Result DirEntry Error)
+    → All (λ (i : Item). i ≢ Err memory) (map item_of items) → item_of item ≢ Err memory
+    → All (λ (i : Item). i ≢ Err memory) (map item_of (items ++ item ∷ []))
+enough_more items item h k =
+    subst (λ (is : List Item). All (λ (i : Item). i ≢ Err memory) is) (sym (map-append item_of items (item ∷ [])))
+    (All-push (λ (i : Item). i ≢ Err memory) (map item_of items) (item_of item) h k)

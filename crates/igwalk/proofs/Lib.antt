@@ -1,5 +1,8 @@
 pub mod LineLemmas
 pub mod ItemLemmas
+pub mod TrimLemmas
+pub mod WalkLemmas
 pub mod StopLemmas
 pub mod CheckLemmas
 mod PrintsOnly
+mod TrimsOnly

@@ -1,9 +1,10 @@
 -- What the program writes for the items of a walk.
-use Rattle.std.specs.Prelude.{◌≡◌, ℕ, Bool, true, false, List, [], ◌∷◌, ◌++◌, codes, Option, None, Some, Ok, Err, if◌then◌else◌}
+use Rattle.std.specs.Prelude.{◌≡◌, ◌≢◌, ℕ, Bool, true, false, All, List, [], ◌∷◌, ◌++◌, codes, Option, None, Some, Ok, Err}
+use Rattle.std.specs.Prelude.{if◌then◌else◌}
 use Rattle.std.specs.List.{flat_map, list_any}
 use Rattle.ignore_base.specs.Text.{Bytes}
 use Rattle.ignore_base.specs.Errors.{problem_text}
-use Rattle.ignore_base.specs.Problem.{Problem}
+use Rattle.ignore_base.specs.Problem.{Problem, memory}
 use Rattle.ignore_walk.specs.Entry.{Item}
 
 -- the line of a path
@@ -38,8 +39,10 @@ is_reported (Ok (e, p)) = is_known p
 is_reported (Err p) = true
 
 -- the paths of these items are written to the output in turn, each on a line, and their problems
--- are reported as errors; the status is 1 where there is one
+-- are reported as errors; the status is 1 where there is one. And none of them is out of memory,
+-- which ends a walk
 pub record Lists (items : List Item) (status : ℕ) (out err : Bytes → Type 0) : Type 0 where
   pub lists : out (flat_map lines_of items)
   pub reports : err (flat_map reports_of items)
   pub ends : status ≡ (if list_any is_reported items then 1 else 0)
+  pub enough : All (λ item. item ≢ Err memory) items

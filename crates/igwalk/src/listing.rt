@@ -1,12 +1,16 @@
 //! The command `list`: the entries of a walk, each on a line.
-ghost use Rattle.std.specs.Prelude.{◌≡◌, ◌≤◌, ◌⊎◌, List, Result, Ok, true, map, OnOk, IfOk, if◌then◌else◌};
+ghost use Rattle.std.specs.Prelude.{◌≡◌, ◌≢◌, ◌≤◌, ◌⊎◌, List, Result, Ok, Err, true, map, OnOk, IfOk, if◌then◌else◌, string_bytes};
 ghost use Rattle.std.specs.Io.KnownBytes.{Appends};
 ghost use Rattle.std.specs.Iterator.{Drains, IsFinite};
-ghost use Rattle.ignore_base.specs.Problem.{problem_of};
+ghost use Rattle.std.specs.List.{AllZip};
+ghost use Rattle.ignore_base.specs.Problem.{memory, problem_of};
 ghost use Rattle.ignore_base.specs.declared.error.Error.{Error};
+ghost use Rattle.ignore_files.specs.Gives.{IsHonest};
+ghost use Rattle.ignore_files.specs.Tree.{Tree};
 ghost use Rattle.ignore_walk.specs.Entry.{Item, item_of};
 ghost use Rattle.ignore_walk.specs.declared.entry.DirEntry.{DirEntry};
 ghost use Rattle.igwalk.specs.Listing.{Lists, path_line, report_line, lines_of, reports_of, is_reported};
+ghost use Rattle.igwalk.specs.Walking.{AreListed, IsTrimmed};
 
 use crate::by_name::ByName;
 use crate::stop::{Stop, report_stop};
@@ -14,7 +18,7 @@ use ignore::WalkBuilder;
 use ignore_base::Error;
 use ignore_dir::Settings;
 use ignore_files::{Env, Files, Name};
-use ignore_walk::{DirEntry, Item, Options, Order, Walk};
+use ignore_walk::{DirEntry, Item, Options, Order, Walk, runs};
 use std::alloc::{AllocError, Global};
 use std::io::Write;
 
@@ -39,8 +43,10 @@ pub fn list<F: Files, W: Write, E: Write>(
     out: &mut W,
     err: &mut E,
 ) -> Result<u8, Stop>
-    ensures lists { IfOk result (λ status. ((items : List Item) × Lists items status (Appends (W.contents out.old) (W.contents out.new))
-        (Appends (E.contents err.old) (E.contents err.new))) ⊎ (status ≡ 2)) }
+    ensures lists { IfOk result (λ status. ((items : List Item) × Lists items status
+        (Appends (W.contents out.old) (W.contents out.new)) (Appends (E.contents err.old) (E.contents err.new))
+        × ((tree : Tree) → IsHonest F.Files files.now tree → AreListed tree env.now (map string_bytes roots.now) items))
+        ⊎ (status ≡ 2)) }
     ensures status { IfOk result (λ status. status ≤ 2) }
 {
     match walk_and_write(alloc, files, env, roots, out, err) {
@@ -60,21 +66,25 @@ fn walk_and_write<F: Files, W: Write, E: Write>(
     err: &mut E,
 ) -> Result<bool, Stop>
     ensures lists { IfOk result (λ any. (items : List Item) × Lists items (if any then 1 else 0)
-        (Appends (W.contents out.old) (W.contents out.new)) (Appends (E.contents err.old) (E.contents err.new))) }
+        (Appends (W.contents out.old) (W.contents out.new)) (Appends (E.contents err.old) (E.contents err.new))
+        × ((tree : Tree) → IsHonest F.Files files.now tree → AreListed tree env.now (map string_bytes roots.now) items)) }
 {
-    let Ok(roots) = trimmed_roots(alloc, roots) else {
+    let Ok(names) = trimmed_roots(alloc, roots) else {
         return Err(Stop::Memory);
     };
     let Ok(outside) = WalkBuilder::empty(alloc).outside(files, env) else {
         return Err(Stop::Memory);
     };
     let settings = Settings::standard(alloc);
-    let walk = Walk::new(alloc, files, &ByName, settings, outside, OPTIONS, roots);
+    let walk = Walk::new(alloc, files, &ByName, settings, outside, OPTIONS, names);
+    runs::a_run_yields_the_list::<F, ByName>();
     write_items(walk, out, err)
 }
 
 /// The roots without the slashes at their ends.
-fn trimmed_roots(alloc: Global, roots: &[String]) -> Result<Vec<Name>, AllocError> {
+fn trimmed_roots(alloc: Global, roots: &[String]) -> Result<Vec<Name>, AllocError>
+    ensures { IfOk result (λ names. AllZip IsTrimmed (map string_bytes roots.now) names.items) }
+{
     let mut names = Vec::new(alloc);
     for root in roots {
         names.push(Name::new(String::from_str(alloc, trimmed(root.as_str()))?))?;
@@ -83,7 +93,9 @@ fn trimmed_roots(alloc: Global, roots: &[String]) -> Result<Vec<Name>, AllocErro
 }
 
 /// A root without the slashes at its end. Of slashes alone one is left.
-fn trimmed(root: &str) -> &str {
+fn trimmed(root: &str) -> &str
+    ensures { IsTrimmed root.now result.now }
+{
     let front = root.trim_end_matches('/');
     if front.is_empty() && !root.is_empty() {
         "/"
@@ -113,6 +125,7 @@ fn write_items<I: Iterator<Item = Item>, W: Write, E: Write>(
 fn write_item<W: Write, E: Write>(item: Item, out: &mut W, err: &mut E) -> Result<bool, Stop>
     ensures lists { IfOk result (λ any. Appends (W.contents out.old) (W.contents out.new) (lines_of (item_of item))
         × Appends (E.contents err.old) (E.contents err.new) (reports_of (item_of item)) × (any ≡ is_reported (item_of item))) }
+    ensures enough { OnOk result (item_of item ≢ Err memory) }
 {
     match item {
         Ok(entry) => write_entry(&entry, out, err),
@@ -134,10 +147,18 @@ fn write_entry<W: Write, E: Write>(entry: &DirEntry, out: &mut W, err: &mut E) -
     }
 }
 
+/// Writes a path on a line.
 fn write_path<W: Write>(path: &str, out: &mut W) -> Result<(), Stop>
     ensures { OnOk result (Appends (W.contents out.old) (W.contents out.new) (path_line path.now)) }
 {
-    match writeln!(out, "{path}") {
+    write_bytes(path.as_bytes(), out)?;
+    write_bytes(b"\n", out)
+}
+
+fn write_bytes<W: Write>(bytes: &[u8], out: &mut W) -> Result<(), Stop>
+    ensures { OnOk result (Appends (W.contents out.old) (W.contents out.new) bytes.now) }
+{
+    match out.write_all(bytes) {
         Ok(()) => Ok(()),
         Err(_) => Err(Stop::Write),
     }

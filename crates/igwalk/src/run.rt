@@ -12,6 +12,7 @@ ghost use Rattle.ignore_rules.specs.Rules.{begun, built};
 ghost use Rattle.ignore_walk.specs.Entry.{Item};
 ghost use Rattle.igwalk.specs.Listing.{Lists};
 ghost use Rattle.igwalk.specs.Checking.{AreAnswers, Checked, Checks};
+ghost use Rattle.igwalk.specs.Walking.{AreListed};
 ghost use Rattle.igwalk.specs.Words.{Question, question_of, request_view, roots_of, paths_of};
 ghost use Rattle.igwalk.specs.Stops.{Ends, EndsAnswer, EndsLine, EndsLines, EndsReported, line_stop, reason};
 ghost use Rattle.igwalk.specs.Matching.{AddsAll, AddsOne, Prints, answer_line, answer_of, refusal};
@@ -166,8 +167,9 @@ pub fn run<F: Files, W: Write, E: Write>(
     ensures unreported { (question : Question) → question_of (map string_bytes words.now) ≡ Some question
         → IfErr result (Ends question (Appends (W.contents out.old) (W.contents out.new)) (λ reported. ⊤)) }
     ensures lists { question_of (map string_bytes words.now) ≡ None → (roots : List Path) → roots_of (map string_bytes words.now) ≡ Some roots
-        → IfOk result (λ status. ((items : List Item) × Lists items status (Appends (W.contents out.old) (W.contents out.new))
-        (Appends (E.contents err.old) (E.contents err.new))) ⊎ (status ≡ 2)) }
+        → IfOk result (λ status. ((items : List Item) × Lists items status
+        (Appends (W.contents out.old) (W.contents out.new)) (Appends (E.contents err.old) (E.contents err.new))
+        × ((tree : Tree) → IsHonest F.Files files.now tree → AreListed tree env.now roots items)) ⊎ (status ≡ 2)) }
     ensures checks { question_of (map string_bytes words.now) ≡ None → roots_of (map string_bytes words.now) ≡ None
         → (root : Path) (paths : List Path) → paths_of (map string_bytes words.now) ≡ Some (root, paths)
         → IfOk result (λ status. ((all : List Checked) × Checks paths all status
