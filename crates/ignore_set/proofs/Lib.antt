@@ -5,5 +5,4 @@ pub mod SlotLemmas
 pub mod MaskLemmas
 pub mod OtherLemmas
 pub mod AddLemmas
-mod BucketLemmas
 mod WorkedForms

@@ -5,11 +5,9 @@ use Rattle.std.specs.List.{IsAmong}
 use Rattle.std.specs.Option.{unwrap_or}
 use Rattle.std.specs.Str.{chars, IsUtf8}
 use Rattle.ignore_glob.specs.Forms.{Form, whole, name, ending, other, form_of}
-use Rattle.ignore_set.specs.Buckets.{AreBucketsOf}
 use Rattle.ignore_set.specs.Ends.{HasEnd, HasName}
 use Rattle.ignore_set.specs.Others.{AreOthers, bit_of}
 use Rattle.ignore_set.specs.Sets.{Member, Allows, Applies}
-use Rattle.ignore_set.specs.declared.buckets.Buckets.{Buckets}
 use Rattle.ignore_set.specs.declared.index.Index.{Index}
 use Rattle.ignore_set.specs.declared.table.Slot.{Slot}
 use Rattle.ignore_set.specs.declared.table.Table.{Table}
@@ -64,7 +62,6 @@ pub record IsIndexOf (index : Index) (ms : List Member) : Type 0 where
   pub names : IsTableOf name index.names ms
   pub ends : IsTableOf ending index.ends ms
   pub others : AreOthers index.others.items ms
-  pub buckets : (buckets : Buckets) → index.buckets ≡ Some buckets → AreBucketsOf buckets index.others.items
 
 -- the text ends with this one, after a slash where that is asked
 abbrev pub Fits : Ending → List ℕ → List ℕ → Type 0

@@ -1,4 +1,3 @@
-pub mod Buckets
 pub mod Ends
 pub mod Index
 pub mod Others
