@@ -1,2 +1,5 @@
+mod FoundLemmas
+mod HitLemmas
 mod QueryLemmas
 mod WatchLemmas
+mod WordLemmas

@@ -2,3 +2,4 @@ pub mod Questions
 pub mod Buffers
 pub mod Queries
 pub mod Watched
+pub mod Searched

@@ -11,6 +11,7 @@ pub mod lines;
 pub mod linter;
 pub mod packer;
 pub mod reason;
+pub mod search;
 pub mod single;
 #[cfg(test)]
 mod tests;
