@@ -8,15 +8,17 @@ use crate::lines::add_if_valid;
 use crate::linter::is_linted;
 use crate::packer::packed;
 use crate::reason::{deciding_file, deciding_line};
+use crate::search::{Found, search_below, show};
 use crate::single::{ask_once, matcher_below};
 use crate::watcher::ask_after_change;
 use ignore::files::{Bytes, Env, Identity, MemoryTree, Row, TableMachine, TreeError};
 use ignore::gitignore::{Gitignore, GitignoreBuilder};
 use ignore::overrides::{Override, OverrideBuilder};
 use ignore::types::{Types, TypesBuilder};
-use ignore::{DirEntry, Error, IncrementalIgnore, WalkBuilder};
+use ignore::{DirEntry, Error, Fault, IncrementalIgnore, WalkBuilder};
 use std::alloc::Global;
 use std::collections::BTreeMap;
+use std::io::Write;
 use std::test::Fail;
 
 /// A tree with one file of rules.
@@ -235,5 +237,65 @@ fn a_backup_of_a_machine(rt: HostRuntime) -> Result<(), Fail> {
     let entries = complete_entries_on_disk(rt.alloc(), &builder, &machine, &unknown())?;
     let text = paths_of(rt.alloc(), entries.as_slice())?;
     assert_eq!(rt; text.as_str(), "/p/.gitignore ");
+    Ok(())
+}
+
+/// A folder with four files, of which one is ignored and one isn't UTF-8.
+fn sources(alloc: Global) -> Result<MemoryTree, TreeError> {
+    let mut tree = MemoryTree::new(alloc, "/")?;
+    for dir in ["/p", "/p/src"] {
+        tree.add_dir(dir)?;
+    }
+    tree.add_file("/p/.ignore", b"*.o\n")?;
+    tree.add_file("/p/a.c", b"int x;\na needle\n\ntwo needles\r\n")?;
+    tree.add_file("/p/a.o", b"needle\n")?;
+    tree.add_file("/p/b.c", b"needle \xff\n")?;
+    tree.add_file("/p/src/c.c", b"needle")?;
+    Ok(tree)
+}
+
+/// What a search for a word finds below `/p`.
+fn searched(alloc: Global, tree: &MemoryTree, word: &str) -> Result<Found, Error> {
+    let builder = WalkBuilder::new(alloc, "/p")?;
+    search_below(alloc, &builder, tree, &unknown(), word)
+}
+
+/// Its hits and then its problems, each on a line.
+fn shown(alloc: Global, found: &Found) -> Result<Vec<u8>, Fail> {
+    let mut out: Vec<u8> = Vec::new(alloc);
+    show(found.hits.as_slice(), &mut out)?;
+    for problem in &found.problems {
+        writeln!(out, "{problem}")?;
+    }
+    Ok(out)
+}
+
+#[test]
+fn a_search_tool_finds_lines(rt: HostRuntime) -> Result<(), Fail> {
+    let found = searched(rt.alloc(), &sources(rt.alloc())?, "needle")?;
+    let wanted = b"/p/src/c.c:1\n/p/a.c:2\n/p/a.c:4\n/p/b.c: invalid data\n";
+    assert_eq!(rt; shown(rt.alloc(), &found)?.as_slice(), wanted.as_slice());
+    Ok(())
+}
+
+#[test]
+fn an_empty_word_is_in_each_line(rt: HostRuntime) -> Result<(), Fail> {
+    let found = searched(rt.alloc(), &sources(rt.alloc())?, "")?;
+    assert_eq!(rt; found.hits.len(), 5);
+    Ok(())
+}
+
+/// The same folder, of which one file can't be read to its end.
+fn faulty(alloc: Global) -> Result<MemoryTree, TreeError> {
+    let mut tree = sources(alloc)?;
+    tree.cut_contents("/p/a.c", 15, Fault::Other)?;
+    Ok(tree)
+}
+
+#[test]
+fn a_search_goes_on_past_a_fault(rt: HostRuntime) -> Result<(), Fail> {
+    let found = searched(rt.alloc(), &faulty(rt.alloc())?, "needle")?;
+    let wanted = b"/p/src/c.c:1\n/p/a.c: input or output failed\n/p/b.c: invalid data\n";
+    assert_eq!(rt; shown(rt.alloc(), &found)?.as_slice(), wanted.as_slice());
     Ok(())
 }
