@@ -1,12 +1,13 @@
 //! The kinds of vectors, and the one function that has a builder.
 ghost use Rattle.std.specs.Prelude.{◌≡◌, []};
 
+mod normalize;
 mod query;
 mod walk;
 
 use crate::chosen::Choice;
 use crate::machine::{Machine, machine_of};
-use crate::set::{Flag, Number, Rules, add_roots, play};
+use crate::set::{Flag, Named, Number, Rules, play};
 use ignore::{DirEntry, WalkBuilder};
 use serde_json::Value;
 use std::alloc::Global;
@@ -21,6 +22,7 @@ impl Kinds for Library {
 
     fn answer(&self, alloc: Global, kind: &str, input: &Value) -> Option<Result<Value, Trouble>> {
         match kind {
+            "normalize" => Some(normalize::answer(alloc, input)),
             "query" => Some(answer(alloc, input, false)),
             "walk" => Some(answer(alloc, input, true)),
             _ => None,
@@ -78,18 +80,10 @@ fn answered(
         },
         |b: &mut WalkBuilder, rules: Rules| {
             match rules {
-                Rules::Custom(name) => b.push_custom_ignore_filename(name.as_str())?,
-                Rules::CurrentDir(dir) => {
-                    b.current_dir(dir);
-                }
-                Rules::Overrides(overrides) => {
-                    b.overrides(overrides);
-                }
-                Rules::Types(types) => {
-                    b.types(types);
-                }
-            }
-            Ok(())
+                Rules::CurrentDir(dir) => b.current_dir(dir),
+                Rules::Overrides(overrides) => b.overrides(overrides),
+                Rules::Types(types) => b.types(types),
+            };
         },
         move |b: &mut WalkBuilder, choice: Choice| {
             match choice {
@@ -105,16 +99,22 @@ fn answered(
             }
             Ok(())
         },
-        move |b: &mut WalkBuilder, path: &str| b.add_ignore(&machine.tree, &machine.env, path),
-    )?;
-    add_roots(
-        input,
-        &mut builder,
-        |b: &mut WalkBuilder, root: &str| b.push_root(root),
+        move |b: &mut WalkBuilder, named: Named, name: &str| match named {
+            Named::Root => {
+                b.add(name)?;
+                Ok(None)
+            }
+            Named::Custom => {
+                b.add_custom_ignore_filename(name)?;
+                Ok(None)
+            }
+            Named::File => b.add_ignore(&machine.tree, &machine.env, name),
+        },
     )?;
     if !is_walk {
         return query::asked(alloc, input, machine, &builder, added);
     }
+    let by = walk::by_of(input)?;
     walk::asked(
         alloc,
         input,
@@ -123,6 +123,6 @@ fn answered(
         |b: &mut WalkBuilder, limit: u64| {
             b.limit(limit);
         },
-        move |b: &WalkBuilder| walk::list_of(alloc, machine, b),
+        move |b: &WalkBuilder| walk::list_of(alloc, machine, by, b),
     )
 }

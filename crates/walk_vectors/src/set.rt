@@ -51,23 +51,31 @@ pub(crate) enum Number {
 /// Rules from outside, and the directory that they are relative to.
 #[derive(Drop)]
 pub(crate) enum Rules {
-    Custom(String),
     CurrentDir(String),
     Overrides(Override),
     Types(Types),
 }
 
+/// What is added by its name.
+#[derive(Clone, Copy, Drop)]
+pub(crate) enum Named {
+    Root,
+    Custom,
+    File,
+}
+
 /// A setting.
 #[derive(Drop)]
-enum Setting {
+enum Setting<'v> {
     Flag(Flag, bool),
     Number(Number, Option<u64>),
     Rules(Rules),
     Chosen(Choice),
-    File(String),
+    Named(Named, &'v str),
 }
 
-/// Plays the settings of a vector. It returns what was reported of each file that was added.
+/// Plays the settings of a vector, and then adds its roots. It returns what was reported of each
+/// file that was added. A call that was out of memory is made again, on the same builder.
 pub(crate) fn play<B, F, N, R, C, A>(
     alloc: Global,
     input: &Value,
@@ -76,48 +84,60 @@ pub(crate) fn play<B, F, N, R, C, A>(
     set_number: N,
     set_rules: R,
     choose: C,
-    add_file: A,
+    add: A,
 ) -> Result<Items, Trouble>
 where
     F: Fn(&mut B, Flag, bool),
     N: Fn(&mut B, Number, Option<u64>),
-    R: Fn(&mut B, Rules) -> Result<(), Error>,
+    R: Fn(&mut B, Rules),
     C: Fn(&mut B, Choice) -> Result<(), AllocError>,
-    A: Fn(&mut B, &str) -> Result<Option<Error>, Error>,
+    A: Fn(&mut B, Named, &str) -> Result<Option<Error>, Error>,
     requires flag { F.IsAlwaysCallable set_flag }
     requires number { N.IsAlwaysCallable set_number }
     requires rules { R.IsAlwaysCallable set_rules }
     requires chosen { C.IsAlwaysCallable choose }
-    requires file { A.IsAlwaysCallable add_file }
+    requires named { A.IsAlwaysCallable add }
 {
     let mut added = Items::new(alloc);
-    for op in list(input, SET)? {
-        match setting_of(alloc, op)? {
+    for setting in settings_of(alloc, input)? {
+        match setting {
             Setting::Flag(flag, yes) => set_flag(builder, flag, yes),
             Setting::Number(number, value) => set_number(builder, number, value),
-            Setting::Rules(rules) => but_for_memory(set_rules(builder, rules))?,
+            Setting::Rules(rules) => set_rules(builder, rules),
             Setting::Chosen(choice) => choose(builder, choice)?,
-            Setting::File(path) => {
-                let error = but_for_memory(add_file(builder, path.as_str()))?;
-                added.put(error.as_ref());
+            Setting::Named(named, name) => {
+                let error = match add(builder, named, name) {
+                    Ok(error) => error,
+                    Err(_) => but_for_memory(add(builder, named, name))?,
+                };
+                if let Named::File = named {
+                    added.put(error.as_ref());
+                }
             }
         }
     }
     Ok(added)
 }
 
-/// Adds the roots of a walk, or the root of a matcher.
-pub(crate) fn add_roots<B, A>(input: &Value, builder: &mut B, add: A) -> Result<(), Trouble>
-where
-    A: Fn(&mut B, &str) -> Result<(), Error>,
-    requires { A.IsAlwaysCallable add }
-{
+/// The settings of a vector in turn, and then its roots.
+fn settings_of<'v>(alloc: Global, input: &'v Value) -> Result<Vec<Setting<'v>>, Trouble> {
+    let mut settings = Vec::new(alloc);
+    for op in list(input, SET)? {
+        settings.push(setting_of(alloc, op)?)?;
+    }
+    push_roots(input, &mut settings)?;
+    Ok(settings)
+}
+
+/// Appends the roots of a walk, or the root of a matcher.
+fn push_roots<'v>(input: &'v Value, settings: &mut Vec<Setting<'v>>) -> Result<(), Trouble> {
     if input.get(ROOTS).is_none() {
-        return but_for_memory(add(builder, text(input, ROOT)?));
+        settings.push(Setting::Named(Named::Root, text(input, ROOT)?))?;
+        return Ok(());
     }
     for root in list(input, ROOTS)? {
         match root.as_str() {
-            Some(root) => but_for_memory(add(builder, root))?,
+            Some(root) => settings.push(Setting::Named(Named::Root, root))?,
             None => return Err(Trouble::Field(ROOTS)),
         }
     }
@@ -136,9 +156,10 @@ pub(crate) fn limit_of(input: &Value) -> Result<u64, Trouble> {
 }
 
 /// The setting of `["hidden", false]`.
-fn setting_of(alloc: Global, op: &Value) -> Result<Setting, Trouble> {
+fn setting_of<'v>(alloc: Global, op: &'v Value) -> Result<Setting<'v>, Trouble> {
     match text_at(op, 0, SET)? {
-        "add_ignore" => Ok(Setting::File(word(alloc, op)?)),
+        "add_ignore" => Ok(Setting::Named(Named::File, text_at(op, 1, SET)?)),
+        "custom" => Ok(Setting::Named(Named::Custom, text_at(op, 1, SET)?)),
         "filter" => Ok(Setting::Chosen(filter_of(alloc, op)?)),
         "sort" => Ok(Setting::Chosen(order_of(op)?)),
         "max_depth" => Ok(Setting::Number(Number::MaxDepth, number_of(op)?)),
@@ -149,9 +170,8 @@ fn setting_of(alloc: Global, op: &Value) -> Result<Setting, Trouble> {
     }
 }
 
-fn rules_or_flag(alloc: Global, name: &str, op: &Value) -> Result<Setting, Trouble> {
+fn rules_or_flag<'v>(alloc: Global, name: &str, op: &'v Value) -> Result<Setting<'v>, Trouble> {
     match name {
-        "custom" => Ok(Setting::Rules(Rules::Custom(word(alloc, op)?))),
         "current_dir" => Ok(Setting::Rules(Rules::CurrentDir(word(alloc, op)?))),
         "overrides" => Ok(Setting::Rules(Rules::Overrides(overrides(alloc, op)?))),
         "types" => Ok(Setting::Rules(Rules::Types(types(alloc, op)?))),

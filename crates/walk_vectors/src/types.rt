@@ -9,34 +9,51 @@ use serde_json::Value;
 use std::alloc::Global;
 use vectors::{Trouble, item, text_at};
 
-fn items(op: &Value, place: usize) -> Result<&[Value], Trouble> {
-    match item(op, place, SET)?.as_array() {
+/// The items of the list at a place of a list, which stands in the field of this name.
+pub(crate) fn items_at<'v>(
+    list: &'v Value,
+    place: usize,
+    name: &'static str,
+) -> Result<&'v [Value], Trouble> {
+    match item(list, place, name)?.as_array() {
         Some(items) => Ok(items.as_slice()),
-        None => Err(Trouble::Field(SET)),
+        None => Err(Trouble::Field(name)),
     }
 }
 
 /// The overrides of `["overrides", root, globs]`. Globs that are refused are left out.
 pub(crate) fn overrides(alloc: Global, op: &Value) -> Result<Override, Trouble> {
     let mut builder = but_for_memory(OverrideBuilder::new(alloc, text_at(op, 1, SET)?))?;
-    for glob in items(op, 2)? {
+    for glob in items_at(op, 2, SET)? {
         add_glob(&mut builder, glob)?;
     }
     but_for_memory(builder.build())
 }
 
+/// Adds a glob, and again where it is out of memory, to the same builder.
 fn add_glob(builder: &mut OverrideBuilder, glob: &Value) -> Result<Option<Error>, Trouble> {
-    match glob.as_str() {
-        Some(glob) => problem(builder.add(glob)),
-        None => Err(Trouble::Field(SET)),
+    let Some(glob) = glob.as_str() else {
+        return Err(Trouble::Field(SET));
+    };
+    match problem(builder.add(glob)) {
+        Err(_) => problem(builder.add(glob)),
+        added => added,
     }
 }
 
 /// The types of `["types", ops]`.
 pub(crate) fn types(alloc: Global, op: &Value) -> Result<Types, Trouble> {
     let mut builder = TypesBuilder::new(alloc);
-    for op in items(op, 1)? {
-        change_types(&mut builder, op, SET)?;
+    for op in items_at(op, 1, SET)? {
+        change(&mut builder, op)?;
     }
     but_for_memory(builder.build())
+}
+
+/// Does an operation, and again where it is out of memory, on the same builder.
+fn change(builder: &mut TypesBuilder, op: &Value) -> Result<Option<Error>, Trouble> {
+    match change_types(builder, op, SET) {
+        Err(Trouble::Memory) => change_types(builder, op, SET),
+        changed => changed,
+    }
 }

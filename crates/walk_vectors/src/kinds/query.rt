@@ -1,12 +1,13 @@
 //! The answers of a matcher for paths in turn.
 
 use crate::machine::Machine;
+use crate::types::items_at;
 use answers::{Answer, Items, but_for_memory, tree_of_calls};
 use ignore::files::MemoryTree;
-use ignore::{Error, IncrementalIgnore, IncrementalMatch, WalkBuilder};
+use ignore::{Error, IncrementalIgnore, IncrementalMatch, WalkBuilder, check_paths};
 use serde_json::Value;
 use std::alloc::{AllocError, Global};
-use vectors::{Trouble, flag_at, item, list, text, text_at};
+use vectors::{Trouble, flag_at, list, text, text_at};
 
 /// The name of the field with what is done in turn.
 const STEPS: &str = "steps";
@@ -37,12 +38,19 @@ fn stepped(
     let mut items = Items::new(alloc);
     let mut later = None;
     for step in list(input, STEPS)? {
-        if text_at(step, 0, STEPS)? == "tree" {
-            later = Some(later_tree(alloc, input, step)?);
-            items.put_value(Ok(Value::Null));
-        } else {
-            let tree = later.as_ref().unwrap_or(&machine.tree);
-            items.put_value(Ok(done(alloc, tree, &mut matcher, step)?));
+        match text_at(step, 0, STEPS)? {
+            "clone" => {
+                matcher = matcher.clone()?;
+                items.put_value(Ok(Value::Null));
+            }
+            "tree" => {
+                later = Some(later_tree(alloc, input, step)?);
+                items.put_value(Ok(Value::Null));
+            }
+            _ => {
+                let tree = later.as_ref().unwrap_or(&machine.tree);
+                items.put_value(Ok(done(alloc, tree, &mut matcher, step)?));
+            }
         }
     }
     Ok(items)
@@ -50,15 +58,14 @@ fn stepped(
 
 /// The tree that is there from a step `["tree", calls]` on.
 fn later_tree(alloc: Global, input: &Value, step: &Value) -> Result<MemoryTree, Trouble> {
-    let calls = match item(step, 1, STEPS)?.as_array() {
-        Some(calls) => calls,
-        None => return Err(Trouble::Field(STEPS)),
-    };
-    tree_of_calls(alloc, text(input, "cwd")?, calls)
+    tree_of_calls(alloc, text(input, "cwd")?, items_at(step, 1, STEPS)?)
 }
 
 /// The matcher of the last root.
-fn matcher(machine: &Machine, builder: &WalkBuilder) -> Result<IncrementalIgnore, Trouble> {
+pub(super) fn matcher(
+    machine: &Machine,
+    builder: &WalkBuilder,
+) -> Result<IncrementalIgnore, Trouble> {
     let mut matchers = but_for_memory(builder.build_matchers(&machine.tree, &machine.env))?;
     match matchers.pop() {
         Some(matcher) => Ok(matcher),
@@ -66,7 +73,8 @@ fn matcher(machine: &Machine, builder: &WalkBuilder) -> Result<IncrementalIgnore
     }
 }
 
-/// The answer of one step, as `["ask", "a/b", false]` or `["forget", "a"]`.
+/// The answer of one step, as `["ask", "a/b", false]`, `["check", [["a", true], ["b", false]]]` or
+/// `["forget", "a"]`. A question that was out of memory is asked again, of the same matcher.
 fn done(
     alloc: Global,
     tree: &MemoryTree,
@@ -75,6 +83,8 @@ fn done(
 ) -> Result<Value, Trouble> {
     match text_at(step, 0, STEPS)? {
         "ask" => answer(alloc, tree, matcher, step),
+        "matched" => plain_answer(alloc, tree, matcher, step),
+        "check" => checked(alloc, tree, matcher, step),
         "forget" => forgotten(alloc, matcher, text_at(step, 1, STEPS)?),
         _ => Err(Trouble::Field(STEPS)),
     }
@@ -97,8 +107,64 @@ fn answer(
     step: &Value,
 ) -> Result<Value, Trouble> {
     let (path, is_dir) = (text_at(step, 1, STEPS)?, flag_at(step, 2, STEPS)?);
-    let (found, error) = but_for_memory(matcher.matched_with_errors(tree, path, is_dir))?;
+    let (found, error) = match matcher.matched_with_errors(tree, path, is_dir) {
+        Ok(answer) => answer,
+        Err(_) => but_for_memory(matcher.matched_with_errors(tree, path, is_dir))?,
+    };
     Ok(shown(alloc, found, &error)?)
+}
+
+/// The answer of `matched`, which has no error.
+fn plain_answer(
+    alloc: Global,
+    tree: &MemoryTree,
+    matcher: &mut IncrementalIgnore,
+    step: &Value,
+) -> Result<Value, Trouble> {
+    let (path, is_dir) = (text_at(step, 1, STEPS)?, flag_at(step, 2, STEPS)?);
+    let found = match matcher.matched(tree, path, is_dir) {
+        Ok(found) => found,
+        Err(_) => but_for_memory(matcher.matched(tree, path, is_dir))?,
+    };
+    Ok(match_value(alloc, found)?)
+}
+
+/// The answers for several paths by one call.
+fn checked(
+    alloc: Global,
+    tree: &MemoryTree,
+    matcher: &mut IncrementalIgnore,
+    step: &Value,
+) -> Result<Value, Trouble> {
+    let paths = paths_of(alloc, items_at(step, 1, STEPS)?)?;
+    let answers = match check_paths(matcher, tree, paths.as_slice()) {
+        Ok(answers) => answers,
+        Err(_) => but_for_memory(check_paths(matcher, tree, paths.as_slice()))?,
+    };
+    Ok(shown_all(alloc, answers.as_slice())?)
+}
+
+/// The paths of `[["a", true], ["b", false]]`, of which the first is a directory.
+fn paths_of(alloc: Global, items: &[Value]) -> Result<Vec<(String, bool)>, Trouble> {
+    let mut paths = Vec::new(alloc);
+    for item in items {
+        let path = String::from_str(alloc, text_at(item, 0, STEPS)?)?;
+        paths.push((path, flag_at(item, 1, STEPS)?))?;
+    }
+    Ok(paths)
+}
+
+/// A clone of each answer is shown.
+fn shown_all(
+    alloc: Global,
+    answers: &[(IncrementalMatch, Option<Error>)],
+) -> Result<Value, AllocError> {
+    let mut items = Items::new(alloc);
+    for answer in answers {
+        let (found, error) = answer.clone()?;
+        items.put_value(shown(alloc, found, &error));
+    }
+    items.value()
 }
 
 fn shown(

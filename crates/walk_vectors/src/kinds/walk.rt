@@ -4,10 +4,13 @@ use crate::machine::Machine;
 use crate::set::limit_of;
 use answers::{Answer, Items, but_for_memory};
 use ignore::files::MemoryTree;
-use ignore::{Callbacks, DirEntry, Error, Fault, Item, Walk, WalkBuilder};
+use ignore::{Callbacks, DirEntry, Error, Fault, Item, Walk, WalkBuilder, collect_walk};
 use serde_json::Value;
 use std::alloc::{AllocError, Global};
-use vectors::{Trouble, is_equal};
+use vectors::{Trouble, is_equal, text};
+
+/// The name of the field that says which call is asked for the items. Where it is missing both are.
+const BY: &str = "by";
 
 /// The most steps that are counted.
 const MOST: u64 = 1 << 12;
@@ -60,27 +63,38 @@ where
         if !fewer.is_front_of(all) {
             return Ok(None);
         }
-        if !fewer.is_ended {
+        if fewer.end == End::Whole {
             return Ok(Some(limit));
         }
     }
     Ok(Some(most))
 }
 
-/// The items of a walk, and whether its limit ended it.
+/// How a list ends.
+#[derive(Clone, Copy, PartialEq, Eq, Drop)]
+enum End {
+    /// With the last item of the walk.
+    Whole,
+    /// With the error of the limit.
+    Limit,
+    /// With out of memory.
+    Memory,
+}
+
+/// The items of a walk, and how they end.
 #[derive(Drop)]
 pub(crate) struct Listed {
     items: Vec<Value>,
-    is_ended: bool,
+    end: End,
 }
 
 impl Listed {
-    /// Whether they are the first of these; and all of them, unless the limit ended the walk, whose
-    /// error is then left out.
+    /// Whether they are the first of these, where the error that ended the walk is left out; and
+    /// all of them, where no error did.
     fn is_front_of(&self, all: &[Value]) -> bool {
         let items = self.items.as_slice();
         match items.split_last() {
-            Some((_, front)) if self.is_ended => has_front(all, front),
+            Some((_, front)) if self.end != End::Whole => has_front(all, front),
             _ => items.len() == all.len() && has_front(all, items),
         }
     }
@@ -97,15 +111,69 @@ fn has_front(all: &[Value], front: &[Value]) -> bool {
     true
 }
 
+/// By which calls the items of a walk are asked for.
+#[derive(Clone, Copy, Drop)]
+pub(crate) enum By {
+    /// By `next`.
+    Next,
+    /// By `collect_walk`.
+    Collect,
+    /// By both.
+    Both,
+}
+
+/// The call that a vector names, or both.
+pub(crate) fn by_of(input: &Value) -> Result<By, Trouble> {
+    if input.get(BY).is_none() {
+        return Ok(By::Both);
+    }
+    match text(input, BY)? {
+        "next" => Ok(By::Next),
+        "collect_walk" => Ok(By::Collect),
+        _ => Err(Trouble::Field(BY)),
+    }
+}
+
 /// The list of the walk of a builder.
 pub(crate) fn list_of(
     alloc: Global,
     machine: &Machine,
+    by: By,
     builder: &WalkBuilder,
 ) -> Result<Listed, AllocError> {
-    match walked(alloc, machine, builder) {
+    let listed = match by {
+        By::Next => given(alloc, machine, builder),
+        By::Collect => collected(alloc, machine, builder),
+        By::Both => agreed(alloc, machine, builder),
+    };
+    match listed {
         Ok(listed) => Ok(listed),
         Err(_) => Err(AllocError),
+    }
+}
+
+/// The items that `next` gives, and then a `null` where `collect_walk` doesn't agree.
+fn agreed(alloc: Global, machine: &Machine, builder: &WalkBuilder) -> Result<Listed, Trouble> {
+    let mut given = given(alloc, machine, builder)?;
+    let collected = collected(alloc, machine, builder)?;
+    if collected.end != given.end || !collected.is_front_of(given.items.as_slice()) {
+        given.items.push(Value::Null)?;
+    }
+    Ok(given)
+}
+
+/// The items that `next` gives. Where the walk ends out of memory it is made again: its items are
+/// then those of the second walk, if those of the first are the first of them.
+fn given(alloc: Global, machine: &Machine, builder: &WalkBuilder) -> Result<Listed, Trouble> {
+    let first = walked(alloc, machine, builder)?;
+    if first.end != End::Memory {
+        return Ok(first);
+    }
+    let second = walked(alloc, machine, builder)?;
+    if first.is_front_of(second.items.as_slice()) {
+        Ok(second)
+    } else {
+        Ok(first)
     }
 }
 
@@ -120,26 +188,47 @@ fn drained<S: Callbacks>(
     walk: Walk<'_, MemoryTree, S>,
 ) -> Result<Listed, Trouble> {
     let mut items = Vec::new(alloc);
-    let mut is_ended = false;
+    let mut end = End::Whole;
     for item in walk {
-        is_ended = is_of_limit(&item);
+        end = end_of(&item);
         items.push(shown(alloc, tree, item)?)?;
     }
-    Ok(Listed { items, is_ended })
+    Ok(Listed { items, end })
 }
 
-/// Whether an item is the error of the limit.
-fn is_of_limit(item: &Item) -> bool {
+/// The items that `collect_walk` returns, or the error of the limit alone.
+fn collected(alloc: Global, machine: &Machine, builder: &WalkBuilder) -> Result<Listed, Trouble> {
+    let items = match collect_walk(builder, &machine.tree, &machine.env) {
+        Ok(items) => items,
+        Err(Error::Memory) => return Err(Trouble::Memory),
+        Err(error) => vec![in alloc; Err(error)]?,
+    };
+    cloned(alloc, &machine.tree, items.as_slice())
+}
+
+/// A clone of each item is shown.
+fn cloned(alloc: Global, tree: &MemoryTree, items: &[Item]) -> Result<Listed, Trouble> {
+    let mut values = Vec::new(alloc);
+    let mut end = End::Whole;
+    for item in items {
+        end = end_of(item);
+        values.push(shown(alloc, tree, item.clone()?)?)?;
+    }
+    Ok(Listed { items: values, end })
+}
+
+/// How a list ends whose last item this is.
+fn end_of(item: &Item) -> End {
     match item {
-        Err(Error::Io(Fault::StepLimit)) => true,
-        _ => false,
+        Err(Error::Io(Fault::StepLimit)) => End::Limit,
+        Err(Error::Memory) => End::Memory,
+        _ => End::Whole,
     }
 }
 
 fn shown(alloc: Global, tree: &MemoryTree, item: Item) -> Result<Value, Trouble> {
     let mut answer = Answer::new(alloc);
     match item {
-        Err(Error::Memory) => return Err(Trouble::Memory),
         Err(error) => answer.put("error", &error),
         Ok(entry) => put_entry(&mut answer, tree, &entry)?,
     }

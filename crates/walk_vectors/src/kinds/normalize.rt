@@ -1,0 +1,54 @@
+//! The text by which a matcher knows a path.
+
+use super::query::matcher;
+use crate::machine::Machine;
+use answers::{Answer, CALLS, but_for_memory, unrefused, variable};
+use ignore::WalkBuilder;
+use ignore::files::{Env, MemoryTree, Name};
+use ignore::text::normalize;
+use serde_json::Value;
+use std::alloc::Global;
+use vectors::{Trouble, text};
+
+/// The name of the field with the working directory.
+const CWD: &str = "cwd";
+
+/// Answers `value`, a text or `null`.
+pub(crate) fn answer(alloc: Global, input: &Value) -> Result<Value, Trouble> {
+    let (root, path) = (text(input, "root")?, text(input, "path")?);
+    let value = by_matcher(alloc, input, root, path)?;
+    let dir = variable(alloc, input, CWD)?;
+    let other = but_for_memory(normalize(alloc, dir.as_ref().map(Name::as_str), root, path))?;
+    let mut answer = Answer::new(alloc);
+    answer.put("value", value.as_ref());
+    if value != other {
+        answer.put("value without a matcher", other.as_ref());
+    }
+    Ok(answer.value()?)
+}
+
+/// The answer of the matcher of a root, where there are no files.
+fn by_matcher(
+    alloc: Global,
+    input: &Value,
+    root: &str,
+    path: &str,
+) -> Result<Option<String>, Trouble> {
+    let machine = machine(alloc, input)?;
+    let builder = but_for_memory(WalkBuilder::new(alloc, root))?;
+    let matcher = matcher(&machine, &builder)?;
+    but_for_memory(matcher.normalize(path))
+}
+
+/// A machine without files, of which only the working directory is known.
+fn machine(alloc: Global, input: &Value) -> Result<Machine, Trouble> {
+    let tree = unrefused(MemoryTree::new(alloc, "/"), CALLS)?;
+    let env = Env {
+        current_dir: variable(alloc, input, CWD)?,
+        home: None,
+        xdg_config_home: None,
+        git_config_global: None,
+        git_config_system: None,
+    };
+    Ok(Machine { tree, env })
+}
