@@ -16,9 +16,10 @@ use ignore_base::Fault;
 use std::alloc::Global;
 use std::io;
 
-/// How much room a read begins with, in bytes: where little is spare, reading an opened
-/// directory can fail otherwise than the system reports.
-const FIRST_READ: usize = 32 * 1024;
+/// How much room a read begins with, in bytes: most files of rules fit in, and all of it is filled
+/// with zeros first. Where little is spare, reading an opened directory can fail otherwise than the
+/// system reports.
+const FIRST_READ: usize = 4 * 1024;
 
 /// The machine's files, as std reports them through a runtime `R`; or those of any other
 /// `Machine`, as a fake one in a test.
