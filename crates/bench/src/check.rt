@@ -7,10 +7,14 @@ use crate::rules::set_of;
 use ignore_base::Error;
 use std::fs;
 
-/// How many texts are taken, and how many paths and rules.
+/// How many texts are taken.
 const TEXTS: usize = 400;
 
-const RULES: usize = 100;
+/// How many paths are taken.
+const PATHS: usize = 100;
+
+/// How many rules are taken: enough that their needles stand in buckets.
+const RULES: usize = 5_000;
 
 /// Prints for each glob how many texts are matched by each matcher, and for the first rules how
 /// many paths are matched by each way of asking them.
@@ -37,7 +41,7 @@ fn check_row(rt: &HostRuntime, row: Row<'_>, texts: &[&str]) -> Result<(), Error
 
 fn check_rules(rt: &HostRuntime, rules: &str, paths: &str) -> Result<(), Error> {
     let alloc = rt.alloc();
-    let paths = first_lines(alloc, paths, RULES)?;
+    let paths = first_lines(alloc, paths, PATHS)?;
     let matcher = matcher_of(alloc, rules, RULES)?;
     let set = counted(set_of(alloc, &matcher)?, paths.as_slice())?;
     let list = counted(OneByOne(patterns_of(alloc, &matcher)?), paths.as_slice())?;

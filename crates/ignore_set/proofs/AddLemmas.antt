@@ -1,6 +1,6 @@
 -- What an index keeps when a pattern is added after the others.
-use Rattle.std.proofs.Common.{◌≡◌, ◌≢◌, ℕ, Bool, true, false, cond, List, [], ◌∷◌, ◌++◌, length, Result, Ok, Err, IfOk}
-use Rattle.std.proofs.Common.{Some, refl, sym, ap, subst, ◌∙◌, Vec, Global}
+use Rattle.std.proofs.Common.{◌≡◌, ◌≢◌, ◌<◌, ℕ, Bool, true, false, cond, List, [], ◌∷◌, ◌++◌, length, Result, Ok, Err, IfOk}
+use Rattle.std.proofs.Common.{Some, refl, sym, ap, subst, ◌∙◌, arith, Vec, Global}
 use Rattle.std.specs.Bool.{Decides}
 use Rattle.std.specs.BTreeMap.{get_by_text}
 use Rattle.std.specs.Map.{update}
@@ -66,6 +66,9 @@ one_name a b e = cc
 one_ending : (a b : List ℕ) → ending a ≡ ending b → a ≡ b
 one_ending a b e = cc
 
+no_buckets : (n : ℕ) {A : Type 0} → n ≡ 0 → 0 < n → A
+no_buckets n none some = absurd (omega (arith, none, some))
+
 -- what `put` says of a table and a text
 abbrev pub Puts : Table → Table → ℕ → Bool → List ℕ → Type 0
 Puts old new index only_dir text =
@@ -73,47 +76,51 @@ Puts old new index only_dir text =
     × (IsUtf8 text × IsNoted new text) × ((t : List ℕ) → IsNoted old t → IsNoted new t)
 
 pub add_whole : (old : Index) (new : Table) (text : List ℕ) (index : ℕ) (only_dir : Bool)
-    → Puts old.whole new index only_dir text → (ms : List Member) (m : Member) → IsIndexOf old ms → length ms ≡ index
+    → Puts old.whole new index only_dir text → length old.buckets.long.items ≡ 0 → (ms : List Member) (m : Member) → IsIndexOf old ms → length ms ≡ index
     → form_of m.reading ≡ whole text → m.only_dir ≡ only_dir
-    → IsIndexOf (record { whole = new; names = old.names; ends = old.ends; others = old.others }) (ms ++ m ∷ [])
-add_whole old new text index only_dir p ms m was size is only = record {
+    → IsIndexOf (record { whole = new; names = old.names; ends = old.ends; others = old.others; buckets = old.buckets }) (ms ++ m ∷ [])
+add_whole old new text index only_dir p none ms m was size is only = record {
   whole = table_put whole old.whole new ms m index text only_dir one_whole was.whole size is only p.0 p.1 p.2;
   names = table_same name old.names ms m (λ t e. whole≢name text t (sym is ∙ e)) was.names;
   ends = table_same ending old.ends ms m (λ t e. whole≢ending text t (sym is ∙ e)) was.ends;
   others = others_same old.others.items ms m (λ e. whole≢other text (sym is ∙ e)) was.others;
+  buckets = no_buckets (length old.buckets.long.items) none;
 }
 
 pub add_name : (old : Index) (new : Table) (text : List ℕ) (index : ℕ) (only_dir : Bool)
-    → Puts old.names new index only_dir text → (ms : List Member) (m : Member) → IsIndexOf old ms → length ms ≡ index
+    → Puts old.names new index only_dir text → length old.buckets.long.items ≡ 0 → (ms : List Member) (m : Member) → IsIndexOf old ms → length ms ≡ index
     → form_of m.reading ≡ name text → m.only_dir ≡ only_dir
-    → IsIndexOf (record { whole = old.whole; names = new; ends = old.ends; others = old.others }) (ms ++ m ∷ [])
-add_name old new text index only_dir p ms m was size is only = record {
+    → IsIndexOf (record { whole = old.whole; names = new; ends = old.ends; others = old.others; buckets = old.buckets }) (ms ++ m ∷ [])
+add_name old new text index only_dir p none ms m was size is only = record {
   whole = table_same whole old.whole ms m (λ t e. whole≢name t text (sym e ∙ is)) was.whole;
   names = table_put name old.names new ms m index text only_dir one_name was.names size is only p.0 p.1 p.2;
   ends = table_same ending old.ends ms m (λ t e. name≢ending text t (sym is ∙ e)) was.ends;
   others = others_same old.others.items ms m (λ e. name≢other text (sym is ∙ e)) was.others;
+  buckets = no_buckets (length old.buckets.long.items) none;
 }
 
 pub add_end : (old : Index) (new : Table) (text : List ℕ) (index : ℕ) (only_dir : Bool)
-    → Puts old.ends new index only_dir text → (ms : List Member) (m : Member) → IsIndexOf old ms → length ms ≡ index
+    → Puts old.ends new index only_dir text → length old.buckets.long.items ≡ 0 → (ms : List Member) (m : Member) → IsIndexOf old ms → length ms ≡ index
     → form_of m.reading ≡ ending text → m.only_dir ≡ only_dir
-    → IsIndexOf (record { whole = old.whole; names = old.names; ends = new; others = old.others }) (ms ++ m ∷ [])
-add_end old new text index only_dir p ms m was size is only = record {
+    → IsIndexOf (record { whole = old.whole; names = old.names; ends = new; others = old.others; buckets = old.buckets }) (ms ++ m ∷ [])
+add_end old new text index only_dir p none ms m was size is only = record {
   whole = table_same whole old.whole ms m (λ t e. whole≢ending t text (sym e ∙ is)) was.whole;
   names = table_same name old.names ms m (λ t e. name≢ending t text (sym e ∙ is)) was.names;
   ends = table_put ending old.ends new ms m index text only_dir one_ending was.ends size is only p.0 p.1 p.2;
   others = others_same old.others.items ms m (λ e. ending≢other text (sym is ∙ e)) was.others;
+  buckets = no_buckets (length old.buckets.long.items) none;
 }
 
 pub add_other : (old : Index) (new : Vec IndexedText Global) (texts : List (List ℕ)) (index : ℕ)
-    → new.items ≡ old.others.items ++ needles_at index texts → (ms : List Member) (m : Member) → IsIndexOf old ms
+    → new.items ≡ old.others.items ++ needles_at index texts → length old.buckets.long.items ≡ 0 → (ms : List Member) (m : Member) → IsIndexOf old ms
     → length ms ≡ index → form_of m.reading ≡ other
     → ((text : List ℕ) → IsUtf8 text → Matches m.reading (chars text) → HasOneOf texts text)
-    → IsIndexOf (record { whole = old.whole; names = old.names; ends = old.ends; others = new }) (ms ++ m ∷ [])
-add_other old new texts index o ms m was size is has = record {
+    → IsIndexOf (record { whole = old.whole; names = old.names; ends = old.ends; others = new; buckets = old.buckets }) (ms ++ m ∷ [])
+add_other old new texts index o none ms m was size is has = record {
   whole = table_same whole old.whole ms m (λ t h. whole≢other t (sym h ∙ is)) was.whole;
   names = table_same name old.names ms m (λ t h. name≢other t (sym h ∙ is)) was.names;
   ends = table_same ending old.ends ms m (λ t h. ending≢other t (sym h ∙ is)) was.ends;
   others = subst (λ l. AreOthers l (ms ++ m ∷ [])) (ap (λ k. old.others.items ++ needles_at k texts) size ∙ sym o)
       (others_put old.others.items texts ms m is has was.others);
+  buckets = no_buckets (length old.buckets.long.items) none;
 }

@@ -5,4 +5,5 @@ pub mod SlotLemmas
 pub mod MaskLemmas
 pub mod OtherLemmas
 pub mod AddLemmas
+mod BucketLemmas
 mod WorkedForms

@@ -5,6 +5,7 @@ use Rattle.std.specs.List.{IsAmong}
 use Rattle.std.specs.Option.{unwrap_or}
 use Rattle.std.specs.Str.{chars, IsUtf8}
 use Rattle.ignore_glob.specs.Forms.{Form, whole, name, ending, other, form_of}
+use Rattle.ignore_set.specs.Buckets.{AreBucketsOf}
 use Rattle.ignore_set.specs.Ends.{HasEnd, HasName}
 use Rattle.ignore_set.specs.Others.{AreOthers, bit_of}
 use Rattle.ignore_set.specs.Sets.{Member, Allows, Applies}
@@ -62,6 +63,7 @@ pub record IsIndexOf (index : Index) (ms : List Member) : Type 0 where
   pub names : IsTableOf name index.names ms
   pub ends : IsTableOf ending index.ends ms
   pub others : AreOthers index.others.items ms
+  pub buckets : 0 < length index.buckets.long.items → AreBucketsOf index.buckets index.others.items
 
 -- the text ends with this one, after a slash where that is asked
 abbrev pub Fits : Ending → List ℕ → List ℕ → Type 0

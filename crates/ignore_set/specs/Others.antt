@@ -33,6 +33,17 @@ abbrev pub mask_of : List ℕ → ℕ
 mask_of [] = 0
 mask_of (a ∷ text) = bit_or (first_bit (a ∷ text)) (mask_of text)
 
+-- one of 4,096 buckets, for three bytes
+abbrev pub bucket_at : ℕ → ℕ → ℕ → ℕ
+bucket_at a b c = (a * 577 + b * 37 + c) % 4096
+
+-- the bucket of the first three bytes, or the first one where there are fewer
+abbrev pub bucket_of : List ℕ → ℕ
+bucket_of [] = 0
+bucket_of (a ∷ []) = 0
+bucket_of (a ∷ b ∷ []) = 0
+bucket_of (a ∷ b ∷ c ∷ text) = bucket_at a b c
+
 -- for each pattern of no form, the texts one of which is in each text that it matches, by rising indices
 pub record AreOthers (others : List IndexedText) (ms : List Member) : Type 0 where
   pub each : (i : ℕ) (m : Member) → slice_get ms i ≡ Some m → form_of m.reading ≡ other

@@ -2,10 +2,12 @@
 ghost use Rattle.std.specs.Prelude.{◌≡◌, ◌+◌, ◌<◌, ◌≤◌, ◌^◌, ◌++◌, ◌∷◌, [], ℕ, IfOk, IfErr, IsOk, List, Some, length, map, slice_get};
 ghost use Rattle.std.specs.Str.{chars};
 ghost use Rattle.ignore_base.specs.Problem.{problem_of, memory};
+ghost use Rattle.ignore_set.specs.Buckets.{AreBucketsOf, IsPast};
 ghost use Rattle.ignore_set.specs.Index.{IsIndexOf, IsExactOf};
 ghost use Rattle.ignore_set.specs.Others.{AreOthers, IndexedText, IsFoundFrom};
 ghost use Rattle.ignore_set.specs.Sets.{Member, Applies, AreShort, IsLastMatch, pass_bound};
 
+use crate::buckets::Buckets;
 use crate::candidate::applies;
 use crate::has_pattern::HasPattern;
 use crate::needle::{Needle, mask_of, put_needles};
@@ -20,25 +22,29 @@ use std::alloc::{AllocError, Global};
 ///
 /// A pattern of literals, alone or after `**/` or `**/*`, stands in a table under its text. The
 /// others are tried one by one, from the last, where a text is in the queried one without which they
-/// don't match.
+/// don't match. Where there are many such texts, the last of them in the queried one is found by
+/// buckets.
 #[derive(Debug, Drop)]
 pub struct Index {
     whole: Table,
     names: Table,
     ends: Table,
     others: Vec<Needle>,
+    buckets: Buckets,
 }
 
 impl Index {
     /// The index of no patterns.
     pub fn empty(alloc: Global) -> Index
-        ensures { IsIndexOf result [] }
+        ensures value { IsIndexOf result [] }
+        ensures none { length result.buckets.long.items ≡ 0 }
     {
         Index {
             whole: Table::new(alloc),
             names: Table::new(alloc),
             ends: Table::new(alloc),
             others: Vec::new(alloc),
+            buckets: Buckets::none(alloc),
         }
     }
 
@@ -95,7 +101,8 @@ impl Index {
         ensures succeeds { AreShort (map M.member members.now) → IsOk result }
     {
         let exact = self.last_exact(text, is_dir);
-        let (after, passes) = last_if_any(members, &self.others, exact, text, is_dir)?;
+        let end = self.end_of(text);
+        let (after, passes) = last_if_any(members, &self.others, end, exact, text, is_dir)?;
         Ok((after.checked_sub(1), passes))
     }
 
@@ -109,11 +116,24 @@ impl Index {
         whole.max(name).max(end)
     }
 
-    /// Adds the pattern that follows those that the index has.
+    /// A place from which no text without which a pattern doesn't match is in this one.
+    fn end_of(&self, text: &str) -> usize
+        requires { 0 < length self.now.buckets.long.items → AreBucketsOf self.now.buckets self.now.others.items }
+        ensures past { IsPast text.now self.now.others.items result }
+        ensures within { result ≤ length self.now.others.items }
+    {
+        if self.buckets.is_empty() {
+            return self.others.len();
+        }
+        self.buckets.end(self.others.as_slice(), text)
+    }
+
+    /// Adds the pattern that follows those that the index has, which has no buckets yet.
     fn add(&mut self, pattern: &Pattern, index: usize, only_dir: bool) -> Result<(), AllocError>
-        requires { index + 1 < 2 ^ 64 }
-        ensures { IfOk result (λ _. (ms : List Member) (m : Member) → IsIndexOf self.old ms → length ms ≡ index
-            → m.reading ≡ pattern.now → m.only_dir ≡ only_dir → IsIndexOf self.new (ms ++ m ∷ [])) }
+        requires fits { index + 1 < 2 ^ 64 }
+        requires none { length self.now.buckets.long.items ≡ 0 }
+        ensures { IfOk result (λ _. (length self.new.buckets.long.items ≡ 0) × ((ms : List Member) (m : Member) → IsIndexOf self.old ms
+            → length ms ≡ index → m.reading ≡ pattern.now → m.only_dir ≡ only_dir → IsIndexOf self.new (ms ++ m ∷ []))) }
     {
         match pattern.key()? {
             Key::Whole(text) => self.whole.put(text, index, only_dir),
@@ -127,6 +147,14 @@ impl Index {
 fn index_of<M: HasPattern>(alloc: Global, members: &[M]) -> Result<Index, AllocError>
     ensures { IfOk result (λ index. IsIndexOf index (map M.member members.now)) }
 {
+    let mut index = without_buckets(alloc, members)?;
+    index.buckets = Buckets::if_many(alloc, index.others.as_slice())?;
+    Ok(index)
+}
+
+fn without_buckets<M: HasPattern>(alloc: Global, members: &[M]) -> Result<Index, AllocError>
+    ensures { IfOk result (λ index. IsIndexOf index (map M.member members.now)) }
+{
     let mut index = Index::empty(alloc);
     for (i, member) in members.iter().enumerate() {
         index.add(member.pattern(), i, member.is_only_dir())?;
@@ -134,37 +162,42 @@ fn index_of<M: HasPattern>(alloc: Global, members: &[M]) -> Result<Index, AllocE
     Ok(index)
 }
 
-/// As `last_other`, which looks at the whole text. Where there are no patterns of no form, nothing
-/// does.
+/// As `last_other`, which looks at the whole text. Where none of the needles is in it, nothing does.
 fn last_if_any<M: HasPattern>(
     members: &[M],
     others: &[Needle],
+    end: usize,
     best: usize,
     text: &str,
     is_dir: bool,
 ) -> Result<(usize, u64), Error>
-    requires { AreOthers others.now (map M.member members.now) }
+    requires others { AreOthers others.now (map M.member members.now) }
+    requires past { IsPast text.now others.now end }
+    requires within { end ≤ length others.now }
     ensures value { IfOk result (λ r. IsFoundFrom text.now is_dir (map M.member members.now) best r.0) }
     ensures count { IfOk result (λ r. r.1 ≤ pass_bound (map M.member members.now)) }
     ensures out_of_memory { IfErr result (λ e. problem_of e ≡ memory) }
     ensures succeeds { AreShort (map M.member members.now) → IsOk result }
 {
-    if others.is_empty() {
+    if end == 0 {
         return Ok((best, 0));
     }
-    last_other(members, others, best, text, is_dir)
+    last_other(members, others, end, best, text, is_dir)
 }
 
 /// One more than the greatest index among the patterns of no form that apply, and `best`, and how
-/// many passes over positions that took.
+/// many passes over positions that took. No needle from `end` on is in the text.
 fn last_other<M: HasPattern>(
     members: &[M],
     others: &[Needle],
+    end: usize,
     best: usize,
     text: &str,
     is_dir: bool,
 ) -> Result<(usize, u64), Error>
-    requires { AreOthers others.now (map M.member members.now) }
+    requires others { AreOthers others.now (map M.member members.now) }
+    requires past { IsPast text.now others.now end }
+    requires within { end ≤ length others.now }
     ensures value { IfOk result (λ r. IsFoundFrom text.now is_dir (map M.member members.now) best r.0) }
     ensures count { IfOk result (λ r. r.1 ≤ pass_bound (map M.member members.now)) }
     ensures out_of_memory { IfErr result (λ e. problem_of e ≡ memory) }
@@ -174,7 +207,7 @@ fn last_other<M: HasPattern>(
     let mut passes = 0u64;
     let mut tried = members.len();
     let from = first_from(others, best);
-    for j in (from..others.len()).rev() {
+    for j in (from..end.max(from)).rev() {
         let needle = &others[j];
         if !needle.may_be_in(mask) {
             continue;

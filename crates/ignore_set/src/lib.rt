@@ -1,6 +1,7 @@
 //! Sets of patterns: which of them is the last that matches a text and allows its kind.
 #![tactic(auto)]
 
+mod buckets;
 mod candidate;
 mod entry;
 mod has_pattern;

@@ -1,7 +1,8 @@
 //! Texts without which patterns don't match.
-ghost use Rattle.std.specs.Prelude.{◌≡◌, ◌↔◌, ◌++◌, ◌*◌, ◌^◌, ◌+◌, ◌<◌, ℕ, List, IsTrue, IfOk, map, string_bytes};
+ghost use Rattle.std.specs.Prelude.{◌≡◌, ◌↔◌, ◌++◌, ◌*◌, ◌^◌, ◌+◌, ◌<◌, ◌≤◌, ℕ, List, IsTrue, IfOk, SomeIff, length, map, string_bytes};
 ghost use Rattle.std.specs.Str.Iter.{HasSubslice};
-ghost use Rattle.ignore_set.specs.Others.{bit_of, first_bit, mask_of};
+ghost use Rattle.ignore_set.specs.Buckets.{IsFrontOf};
+ghost use Rattle.ignore_set.specs.Others.{bit_of, bucket_at, bucket_of, first_bit, mask_of};
 
 use std::alloc::AllocError;
 use std::marker::Model;
@@ -55,6 +56,24 @@ impl Needle {
     {
         text.contains(self.text.as_str())
     }
+
+    /// Whether the text begins with the needle.
+    pub(crate) fn is_front_of(&self, text: &[u8]) -> bool
+        ensures { IsTrue result ↔ IsFrontOf text.now self.now.text }
+    {
+        text.starts_with(self.text.as_bytes())
+    }
+
+    /// The bucket of its first three bytes; `None` where it has fewer.
+    pub(crate) fn bucket(&self) -> Option<usize>
+        ensures { SomeIff result (3 ≤ length self.now.text) (bucket_of self.now.text) }
+    {
+        let bytes = self.text.as_bytes();
+        if bytes.len() < 3 {
+            return None;
+        }
+        Some(bucket_of(bytes[0], bytes[1], bytes[2]))
+    }
 }
 
 /// The bits of each three bytes that follow each other in the text.
@@ -82,6 +101,14 @@ pub(crate) fn bit_of(a: u8, b: u8, c: u8) -> u64
     ensures { result ≡ bit_of a b c }
 {
     1u64 << ((usize::from(a) * 37 + usize::from(b) * 101 + usize::from(c) * 5) % 64)
+}
+
+/// One of 4,096 buckets, for three bytes.
+pub(crate) fn bucket_of(a: u8, b: u8, c: u8) -> usize
+    ensures value { result ≡ bucket_at a b c }
+    ensures within { result < 4096 }
+{
+    (usize::from(a) * 577 + usize::from(b) * 37 + usize::from(c)) % 4096
 }
 
 /// Appends these needles of the pattern at an index.

@@ -19,7 +19,7 @@ returns-then-i-best-clause-value g c =
     let next : c.loop-j.j ≡ j + 1 = omega arith in
     let here = slice_get-get_or others j n (omega arith) ∙ ap Some (sym c.index-others-j.is) in
     let none = subst (λ k. NoneFrom c.args.text.now c.args.is_dir ms others k) next c.loop-j.invariant.none in
-    found_early c.args.text.now c.args.is_dir ms others c.args.best j n c.utf8.text c.requires here
+    found_early c.args.text.now c.args.is_dir ms others c.args.best j n c.utf8.text c.requires.others here
     (omega (arith, c.index-i.ensures, c.if-i-best.true)) none
 
 pub returns-then-i-best-clause-count : goal.returns-then-i-best-clause-count
@@ -89,7 +89,7 @@ bounds-members-i g c =
     let n = c.index-others-j.result in
     let j = c.loop-j.j - 1 in
     let here = slice_get-get_or others j n (omega arith) ∙ ap Some (sym c.index-others-j.is) in
-    let f = c.requires.formless j n here in
+    let f = c.requires.others.formless j n here in
     omega (arith, c.index-i.ensures, slice_get_within (map member xs) n.index f.0 f.1, length-map xs member)
 
 pub offset_bounds-members-i : goal.offset_bounds-members-i
@@ -107,11 +107,11 @@ returns-then-yes-clause-value g c =
     let next : c.loop-j.j ≡ j + 1 = omega arith in
     let here = slice_get-get_or others j n (omega arith) ∙ ap Some (sym c.index-others-j.is) in
     let none = subst (λ k. NoneFrom c.args.text.now c.args.is_dir ms others k) next c.loop-j.invariant.none in
-    let f = c.requires.formless j n here in
+    let f = c.requires.others.formless j n here in
     let fits : c.index-i.result < length xs = omega (arith, c.index-i.ensures, slice_get_within ms n.index f.0 f.1, length-map xs member) in
     let at = ap (λ k. slice_get ms k) (sym c.index-i.ensures) ∙ mapped_at member xs c.index-i.result x fits c.index-members-i.is in
     subst (λ k. IsFoundFrom c.args.text.now c.args.is_dir ms c.args.best (k + 1)) (sym c.index-i.ensures)
-    (found_here c.args.text.now c.args.is_dir ms others c.args.best j n (member x) c.utf8.text c.requires here
+    (found_here c.args.text.now c.args.is_dir ms others c.args.best j n (member x) c.utf8.text c.requires.others here
     (omega (arith, c.index-i.ensures, c.if-i-best.false)) at (c.in-Ok.ensures.value.0 c.if-yes.true) none)
 
 pub returns-then-yes-clause-count : goal.returns-then-yes-clause-count
@@ -121,7 +121,7 @@ returns-then-yes-clause-count g c =
     let n = c.index-others-j.result in
     let j = c.loop-j.j - 1 in
     let here = slice_get-get_or others j n (omega arith) ∙ ap Some (sym c.index-others-j.is) in
-    let f = c.requires.formless j n here in
+    let f = c.requires.others.formless j n here in
     let below = c.loop-j.invariant.tried.below j n (omega arith) here in
     let step = bound_step ms n.index c.loop-j.tried f.0 f.1 f.2 (omega (arith, below, c.index-i.ensures, c.if-i-tried.false)) in
     omega (arith, c.saturating_add-passes.ensures, c.in-Ok.ensures.passes, c.loop-j.invariant.few, step, bound_all ms n.index)
@@ -140,7 +140,7 @@ loop-j-preserved g c =
     let next : c.loop-j.j ≡ j + 1 = omega arith in
     let here = slice_get-get_or others j n (omega arith) ∙ ap Some (sym c.index-others-j.is) in
     let none = subst (λ k. NoneFrom text is_dir ms others k) next c.loop-j.invariant.none in
-    let f = c.requires.formless j n here in
+    let f = c.requires.others.formless j n here in
     let fits : c.index-i.result < length xs = omega (arith, c.index-i.ensures, slice_get_within ms n.index f.0 f.1, length-map xs member) in
     let at = ap (λ k. slice_get ms k) (sym c.index-i.ensures) ∙ mapped_at member xs c.index-i.result x fits c.index-members-i.is in
     let below = c.loop-j.invariant.tried.below j n (omega arith) here in
@@ -151,7 +151,7 @@ loop-j-preserved g c =
     record {
       none = none_more text is_dir ms others j n here (λ m h has a. fails m h a) none;
       tried = subst (λ k. IsTried text is_dir ms others j k) (sym c.index-i.ensures)
-          (tried_here text is_dir ms others j n c.requires here fails);
+          (tried_here text is_dir ms others j n c.requires.others here fails);
       few = subst (λ k. c.saturating_add-passes.result ≤ pass_bound (drop k ms)) (sym c.index-i.ensures)
           (omega (arith, c.saturating_add-passes.ensures, c.in-Ok.ensures.passes, c.loop-j.invariant.few, step));
       least = omega (arith, c.loop-j-test.true);
@@ -164,10 +164,10 @@ returns-clause-value g c =
     let from = c.first_from-from.result in
     let none = subst (λ k. NoneFrom c.args.text.now c.args.is_dir ms others k)
     (let e : c.loop-j.j ≡ from = omega (arith, c.loop-j-test.false, c.loop-j.invariant.least) in e) c.loop-j.invariant.none in
-    found_below c.args.text.now c.args.is_dir ms others c.args.best from c.utf8.text c.requires c.first_from-from.ensures.below none
+    found_below c.args.text.now c.args.is_dir ms others c.args.best from c.utf8.text c.requires.others c.first_from-from.ensures.below none
 
 pub first_from-from-requires : goal.first_from-from-requires
-first_from-from-requires g c = c.requires.rising
+first_from-from-requires g c = c.requires.others.rising
 
 pub returns-clause-count : goal.returns-clause-count
 returns-clause-count g c =

@@ -78,6 +78,13 @@ returns-clause-agrees g c = λ tree loads honest are agrees clean key next.
     (λ t. Puts before after t c.in_ok-kept.kept) key puts) absent (refl, (refl, refl))
     (c.in_ok-kept.ensures.value tree loads honest are agrees clean key next)
 
+pub returns-clause-value : goal.returns-clause-value
+returns-clause-value g c = λ tree loads honest are agrees clean key next.
+    let scene = scene_of c.args.asked.now tree loads in
+    let front = map (λ n. n.now) c.args.names.now in
+    c.is_loaded-is_loaded.ensures ∙ right_loaded scene front c.in_ok-kept.kept
+    (c.in_ok-kept.ensures.value tree loads honest are agrees clean key next)
+
 pub returns-clause-found : goal.returns-clause-found
 returns-clause-found g c = λ names key yes.
     let before = c.args.self.now in

@@ -1,4 +1,4 @@
-use Rattle.std.proofs.Common.{◌≡◌, map, sym, ap, subst, ◌∙◌}
+use Rattle.std.proofs.Common.{map, sym, ap, subst, ◌∙◌}
 use Rattle.std.proofs.lemmas.List.{map-id}
 use Rattle.ignore_set.specs.Sets.{Member, AreShort}
 use Rattle.ignore_set.proofs.set.PatternSet.last_match.Goals as goal

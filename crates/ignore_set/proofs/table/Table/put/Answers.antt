@@ -1,4 +1,4 @@
-use Rattle.std.proofs.Common.{Some, ap, arith, bit_or, get_or, length, subst, sym, ◌∙◌, ◌≡◌, string_bytes}
+use Rattle.std.proofs.Common.{Some, ap, arith, bit_or, get_or, length, subst, ◌∙◌, ◌≡◌, string_bytes}
 use Rattle.std.proofs.lemmas.Map.Text.{btree_map_updates_text}
 use Rattle.std.specs.List.{IsAmong}
 use Rattle.std.specs.Str.{IsUtf8}

@@ -1,0 +1,173 @@
+//! Where the needles of a large set stand, by their first three bytes.
+ghost use Rattle.std.specs.Prelude.{◌≡◌, ◌+◌, ◌≤◌, ◌<◌, ◌++◌, ◌∷◌, [], ℕ, IfOk, List, Some, false, length, slice_get, drop};
+ghost use Rattle.std.specs.List.{IsAmong};
+ghost use Rattle.std.specs.Str.Iter.{HasSubslice};
+ghost use Rattle.ignore_set.specs.Buckets.{AreBucketsOf, IsFrontOf, IsPast};
+ghost use Rattle.ignore_set.specs.Others.{IndexedText};
+
+use crate::needle::{Needle, bucket_of};
+use std::alloc::{AllocError, Global};
+
+/// The places of needles in their list: of those of at least three bytes under one of 4,096 buckets,
+/// by their first three, and of the shorter ones. Or no bucket, where the needles are few.
+#[derive(Debug, Drop)]
+pub(crate) struct Buckets {
+    long: Vec<Vec<usize>>,
+    short: Vec<usize>,
+}
+
+impl Buckets {
+    /// No bucket.
+    pub(crate) fn none(alloc: Global) -> Buckets
+        ensures { length result.long.items ≡ 0 }
+    {
+        Buckets {
+            long: Vec::new(alloc),
+            short: Vec::new(alloc),
+        }
+    }
+
+    /// The buckets of these needles, where there are at least 512, and else none: fewer are looked
+    /// at one by one as fast.
+    pub(crate) fn if_many(alloc: Global, needles: &[Needle]) -> Result<Buckets, AllocError>
+        ensures { IfOk result (λ buckets. 0 < length buckets.long.items → AreBucketsOf buckets needles.now) }
+    {
+        if needles.len() < 512 {
+            return Ok(Buckets::none(alloc));
+        }
+        Buckets::of(alloc, needles)
+    }
+
+    /// Whether there is no bucket.
+    pub(crate) fn is_empty(&self) -> bool
+        ensures { result ≡ false → 0 < length self.now.long.items }
+    {
+        self.long.is_empty()
+    }
+
+    fn of(alloc: Global, needles: &[Needle]) -> Result<Buckets, AllocError>
+        ensures { IfOk result (λ buckets. AreBucketsOf buckets needles.now) }
+    {
+        let mut buckets = Buckets::empty(alloc)?;
+        for (place, needle) in needles.iter().enumerate() {
+            buckets.put(needle, place)?;
+        }
+        Ok(buckets)
+    }
+
+    fn empty(alloc: Global) -> Result<Buckets, AllocError>
+        ensures { IfOk result (λ buckets. AreBucketsOf buckets []) }
+    {
+        let mut long = Vec::new(alloc);
+        for _ in 0..4096usize {
+            long.push(Vec::new(alloc))?;
+        }
+        Ok(Buckets {
+            long,
+            short: Vec::new(alloc),
+        })
+    }
+
+    /// Puts the place of the needle that follows those that these buckets are of.
+    fn put(&mut self, needle: &Needle, place: usize) -> Result<(), AllocError>
+        requires { length self.now.long.items ≡ 4096 }
+        ensures { IfOk result (λ _. (needles : List IndexedText) → AreBucketsOf self.old needles → length needles ≡ place
+            → AreBucketsOf self.new (needles ++ needle.now ∷ [])) }
+    {
+        match needle.bucket() {
+            Some(bucket) => self.long[bucket].push(place)?,
+            None => self.short.push(place)?,
+        }
+        Ok(())
+    }
+
+    /// A place from which no needle is in the text.
+    pub(crate) fn end(&self, needles: &[Needle], text: &str) -> usize
+        requires { AreBucketsOf self.now needles.now }
+        ensures past { IsPast text.now needles.now result }
+        ensures within { result ≤ length needles.now }
+    {
+        let end = end_of_short(needles, self.short.as_slice(), text);
+        self.end_of_fronts(needles, text.as_bytes(), end)
+    }
+
+    /// As `end_of_front`, at each byte that two follow.
+    fn end_of_fronts(&self, needles: &[Needle], bytes: &[u8], least: usize) -> usize
+        requires buckets { AreBucketsOf self.now needles.now }
+        requires least { least ≤ length needles.now }
+        ensures past { (at j : ℕ) (n : IndexedText) → slice_get needles.now j ≡ Some n → 3 ≤ length n.text
+            → IsFrontOf (drop at bytes.now) n.text → j < result }
+        ensures least { least ≤ result }
+        ensures within { result ≤ length needles.now }
+    {
+        let mut end = least;
+        for at in (0..bytes.len().saturating_sub(2)).rev() {
+            let rest = &bytes[at..];
+            let places = self.long[bucket_of(rest[0], rest[1], rest[2])].as_slice();
+            end = end_of_front(needles, places, rest, end);
+        }
+        end
+    }
+}
+
+/// One more than the greatest of these places at which a needle is in the text; 0 where none is.
+fn end_of_short(needles: &[Needle], places: &[usize], text: &str) -> usize
+    ensures past { (j : ℕ) (n : IndexedText) → IsAmong places.now j → slice_get needles.now j ≡ Some n
+        → HasSubslice text.now n.text → j < result }
+    ensures within { result ≤ length needles.now }
+{
+    let mut end = 0usize;
+    for i in (0..places.len()).rev() {
+        end = end_of_one(needles, places[i], text, end);
+    }
+    end
+}
+
+fn end_of_one(needles: &[Needle], place: usize, text: &str, least: usize) -> usize
+    ensures past { (n : IndexedText) → slice_get needles.now place ≡ Some n → HasSubslice text.now n.text → place < result }
+    ensures least { least ≤ result }
+    ensures within { least ≤ length needles.now → result ≤ length needles.now }
+{
+    if place < least {
+        return least;
+    }
+    match needles.get(place) {
+        Some(needle) => { if needle.is_in(text) { place + 1 } else { least } }
+        None => least,
+    }
+}
+
+/// One more than the greatest of these places at which a needle begins the text, or `least` where
+/// that is greater.
+fn end_of_front(needles: &[Needle], places: &[usize], bytes: &[u8], least: usize) -> usize
+    ensures past { (j : ℕ) (n : IndexedText) → IsAmong places.now j → slice_get needles.now j ≡ Some n
+        → IsFrontOf bytes.now n.text → j < result }
+    ensures least { least ≤ result }
+    ensures within { least ≤ length needles.now → result ≤ length needles.now }
+{
+    let mut end = least;
+    for i in (0..places.len()).rev() {
+        end = end_at(needles, places[i], bytes, end);
+    }
+    end
+}
+
+fn end_at(needles: &[Needle], place: usize, bytes: &[u8], least: usize) -> usize
+    ensures past { (n : IndexedText) → slice_get needles.now place ≡ Some n → IsFrontOf bytes.now n.text → place < result }
+    ensures least { least ≤ result }
+    ensures within { least ≤ length needles.now → result ≤ length needles.now }
+{
+    if place < least {
+        return least;
+    }
+    match needles.get(place) {
+        Some(needle) => {
+            if needle.is_front_of(bytes) {
+                place + 1
+            } else {
+                least
+            }
+        }
+        None => least,
+    }
+}
