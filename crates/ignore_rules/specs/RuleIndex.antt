@@ -1,5 +1,6 @@
 -- What a matcher keeps beside its rules, so that it is found fast which of them decides.
 use Rattle.std.specs.Prelude.{◌≡◌, ℕ, List, map, Option}
+use Rattle.std.specs.Global.{Box}
 use Rattle.std.specs.Option.{ForSome}
 use Rattle.ignore_set.specs.Index.{IsIndexOf}
 use Rattle.ignore_set.specs.Sets.{Member, AreShort}
@@ -16,6 +17,6 @@ abbrev pub AreShortRules : List Rule → Type 0
 AreShortRules rules = AreShort (map rule_member rules)
 
 -- the index, if there is one, is one of the rules, and the number that of those that whitelist
-pub record IsIndexed (rules : List Rule) (index : Option Index) (whitelists : ℕ) : Type 0 where
-  pub patterns : ForSome index (λ i. IsIndexOf i (map rule_member rules))
+pub record IsIndexed (rules : List Rule) (index : Option (Box Index)) (whitelists : ℕ) : Type 0 where
+  pub patterns : ForSome index (λ i. IsIndexOf i.value (map rule_member rules))
   pub counted : whitelists ≡ whitelist_count rules

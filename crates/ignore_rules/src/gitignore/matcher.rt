@@ -22,8 +22,9 @@ use std::marker::Model;
 pub struct Gitignore {
     root: String,
     globs: Vec<Glob>,
-    /// None where there was no memory for it: the rules are asked one by one then.
-    index: Option<Index>,
+    /// None where there was no memory for it: the rules are asked one by one then. In a box, so
+    /// that a matcher is small where it is moved, and that of no rules where it is kept.
+    index: Option<Box<Index>>,
     whitelists: usize,
 }
 
@@ -152,11 +153,21 @@ impl Gitignore {
 }
 
 /// An index of the rules, where there is memory for it.
-fn index_of(alloc: Global, globs: &[Glob]) -> Option<Index>
-    ensures { ForSome result (λ index. IsIndexOf index (map rule_member globs.now)) }
+fn index_of(alloc: Global, globs: &[Glob]) -> Option<Box<Index>>
+    ensures { ForSome result (λ index. IsIndexOf index.value (map rule_member globs.now)) }
 {
     match Index::new(alloc, globs) {
-        Ok(index) => Some(index),
+        Ok(index) => boxed(alloc, index),
+        Err(_) => None,
+    }
+}
+
+/// An index in a box, where there is memory for that.
+fn boxed(alloc: Global, index: Index) -> Option<Box<Index>>
+    ensures { ForSome result (λ kept. kept.value ≡ index) }
+{
+    match Box::new(alloc, index) {
+        Ok(kept) => Some(kept),
         Err(_) => None,
     }
 }
