@@ -2,21 +2,15 @@
 //! of a tree, and answers about paths below a root.
 #![tactic(auto)]
 
-mod by_name;
-mod checking;
-mod listing;
-mod run;
-mod stop;
 #[cfg(test)]
 mod tests;
-mod words;
 
+use commands::run::run;
+use commands::{Stop, report_stop};
 use ignore_files::{DiskFiles, Env};
-use run::run;
 use std::io::{BufWriter, Write};
 use std::process::ExitCode;
 use std::{env, io, rt};
-use stop::{Stop, report_stop};
 
 /// The words after the program's name; none where one of them isn't UTF-8.
 fn words_after_name(rt: &(impl rt::Env + AllocGlobal)) -> io::Result<Vec<String>> {

@@ -1,7 +1,7 @@
 //! Runs over memory: each status and each message.
 
-use crate::run::run;
-use crate::stop::Stop;
+use commands::Stop;
+use commands::run::run;
 use ignore_base::Fault;
 use ignore_files::{Env, MemoryTree};
 use std::alloc::{AllocError, Global};

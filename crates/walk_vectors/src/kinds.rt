@@ -1,6 +1,7 @@
 //! The kinds of vectors, and the one function that has a builder.
 ghost use Rattle.std.specs.Prelude.{◌≡◌, []};
 
+mod igwalk;
 mod normalize;
 mod query;
 mod walk;
@@ -22,6 +23,7 @@ impl Kinds for Library {
 
     fn answer(&self, alloc: Global, kind: &str, input: &Value) -> Option<Result<Value, Trouble>> {
         match kind {
+            "igwalk" => Some(igwalk::answer(alloc, input)),
             "normalize" => Some(normalize::answer(alloc, input)),
             "query" => Some(answer(alloc, input, false)),
             "walk" => Some(answer(alloc, input, true)),

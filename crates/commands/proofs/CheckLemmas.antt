@@ -1,0 +1,74 @@
+-- What is written for the answers about some paths, one more at a time.
+use Rattle.std.proofs.Common.{◌≡◌, ◌∙◌, ℕ, ◌+◌, ◌<◌, suc, zero, Bool, true, false, ◌||◌, cond, List, [], ◌∷◌, ◌++◌, All}
+use Rattle.std.proofs.Common.{Option, length, map, take, get_or, refl, sym, ap, subst, arith, add-one}
+use Rattle.std.proofs.lemmas.Grind.{flat_map-append}
+use Rattle.std.proofs.lemmas.List.{append-nil, map-append}
+use Rattle.std.proofs.lemmas.List.Elements.{All-push}
+use Rattle.std.proofs.lemmas.List.Folds.{list_any-append}
+use Rattle.std.specs.Io.KnownBytes.{Appends}
+use Rattle.std.specs.List.{flat_map, list_any}
+use Rattle.ignore_dir.specs.Load.{AreLoads, Loaded}
+use Rattle.ignore_dir.specs.Scene.{scene}
+use Rattle.ignore_dir.specs.declared.outside.Outside.{Outside}
+use Rattle.ignore_dir.specs.declared.settings.Settings.{Settings}
+use Rattle.ignore_files.specs.Tree.{Tree}
+use Rattle.ignore_files.specs.declared.env.Env.{Env}
+use Rattle.ignore_query.specs.Reached.{scene_of}
+use Rattle.ignore_query.specs.declared.incremental.IncrementalIgnore.{IncrementalIgnore}
+use Rattle.commands.specs.Checking.{AreAnswers, Checked, Checks, IsAnswer, IsMatcher, is_wrong, line_for, report_for}
+use Rattle.commands.proofs.LineLemmas.{appends_nothing, appends_on, or-false}
+
+map-take-suc : {A B : Type 0} (f : A → B) (xs : List A) (i : ℕ) (x : A) → i < length xs → x ≡ get_or xs i x
+    → map f (take (suc i) xs) ≡ map f (take i xs) ++ f x ∷ []
+map-take-suc f [] i x within read = absurd (omega (arith, within))
+map-take-suc f (y ∷ ys) zero x within read = λ j. f (sym read j) ∷ []
+map-take-suc f (y ∷ ys) (suc i) x within read = ap (λ l. f y ∷ l) (map-take-suc f ys i x (omega (arith, within)) read)
+
+-- the images of the members up to one more
+pub map-take-push : {A B : Type 0} (f : A → B) (xs : List A) (i : ℕ) (x : A) → i < length xs → x ≡ get_or xs i x
+    → map f (take (i + 1) xs) ≡ map f (take i xs) ++ f x ∷ []
+map-take-push f xs i x within read = rw add-one (map-take-suc f xs i x within read)
+
+same_number : (a b : Bool) → ◌≡◌ {A = ℕ} (cond a 1 0) (cond b 1 0) → a ≡ b
+same_number true true e = refl
+same_number true false e = absurd (omega (arith, e))
+same_number false true e = absurd (omega (arith, e))
+same_number false false e = refl
+
+-- what is written for one answer more
+grown : (a b c : Option (List ℕ)) (f : Checked → List ℕ) (all : List Checked) (one : Checked)
+    → Appends a b (flat_map f all) → Appends b c (f one) → Appends a c (flat_map f (all ++ one ∷ []))
+grown a b c f all one h k =
+    subst (Appends a c) (sym (flat_map-append f all (one ∷ []) ∙ ap (λ ys. flat_map f all ++ ys) (append-nil (f one))))
+    (appends_on a b c _ _ h k)
+
+-- nothing is asked yet
+pub checks_none : (out err : Option (List ℕ)) → Checks [] [] 0 (Appends out out) (Appends err err)
+checks_none out err = record { asked = refl; answers = appends_nothing out; reports = appends_nothing err; ends = refl }
+
+-- one path more is answered
+pub checks_more : (paths : List (List ℕ)) (path : List ℕ) (all : List Checked) (one : Checked) (any more : Bool)
+    (a b c x y z : Option (List ℕ)) → Checks paths all (cond any 1 0) (Appends a b) (Appends x y) → one.path ≡ path
+    → Appends b c (line_for one) → Appends y z (report_for one) → more ≡ is_wrong one
+    → Checks (paths ++ path ∷ []) (all ++ one ∷ []) (cond (any || more) 1 0) (Appends a c) (Appends x z)
+checks_more paths path all one any more a b c x y z h is line report wrong = record {
+  asked = map-append (λ (o : Checked). o.path) all (one ∷ [])
+      ∙ (ap (λ ps. ps ++ one.path ∷ []) h.asked ∙ ap (λ p. paths ++ p ∷ []) is);
+  answers = grown a b c line_for all one h.answers line;
+  reports = grown x y z report_for all one h.reports report;
+  ends = ap (λ (r : Bool). cond r 1 0)
+      (ap (λ r. r || more) (same_number any (list_any is_wrong all) h.ends)
+      ∙ (ap (λ r. list_any is_wrong all || r) wrong
+      ∙ sym (list_any-append is_wrong all (one ∷ []) ∙ ap (λ r. list_any is_wrong all || r) (or-false (is_wrong one)))));
+}
+
+-- the answers of a matcher are those of the bare tree by its settings and rules
+pub answers_of : (tree : Tree) (env : Env) (root : List ℕ) (m : IncrementalIgnore) (all : List Checked) → IsMatcher tree env root m
+    → ((loads : List ℕ → Loaded) → AreLoads tree m.asked.settings loads → All (IsAnswer (scene_of m.asked tree loads)) all)
+    → AreAnswers tree env root all
+answers_of tree env root m all w right = (
+  w.0,
+  w.1,
+  λ loads are. subst (λ (t : Settings × Outside × List ℕ × Option (List ℕ)). All (IsAnswer (scene tree loads t.0 t.1 t.2)) all) w.2
+      (right loads (subst (λ (s : Settings). AreLoads tree s loads) (sym (ap (λ t. t.0) w.2)) are)),
+)

@@ -1,0 +1,65 @@
+-- The items of a walk, as those of a list.
+use Rattle.std.proofs.Common.{◌≡◌, ◌≢◌, ◌<◌, ◌≤◌, ◌++◌, ◌∷◌, ℕ, List, [], All, true, false, Err, inl, inr, ap, subst, refl, sym, ◌∙◌}
+use Rattle.std.proofs.lemmas.Cmp.{nat_list_cmp_total}
+use Rattle.std.proofs.lemmas.List.Elements.{All-contains, Contains-push}
+use Rattle.std.proofs.lemmas.List.MinMax.{ranks_by}
+use Rattle.std.specs.Cmp.Lexicographic.{slice_cmp}
+use Rattle.std.specs.List.{AllZip}
+use Rattle.std.specs.Ordering.{nat_cmp}
+use Rattle.ignore_base.specs.Problem.{memory}
+use Rattle.ignore_dir.specs.Load.{AreLoads, Loaded}
+use Rattle.ignore_dir.specs.Standard.{standard}
+use Rattle.ignore_dir.specs.declared.outside.Outside.{Outside}
+use Rattle.ignore_dir.specs.declared.settings.Settings.{Settings}
+use Rattle.ignore_files.specs.Gives.{IsHonest}
+use Rattle.ignore_files.specs.Tree.{Tree}
+use Rattle.ignore_files.specs.declared.env.Env.{Env}
+use Rattle.ignore_files.specs.declared.files.Files.{Ghosts as Files}
+use Rattle.ignore_walk.specs.Entry.{Item}
+use Rattle.ignore_walk.specs.Nexts.{Remaining}
+use Rattle.ignore_walk.specs.Runs.{IsRun}
+use Rattle.ignore_walk.specs.Scene.{Scene}
+use Rattle.ignore_walk.specs.Suits.{Suits}
+use Rattle.ignore_walk.specs.Whole.{Whole}
+use Rattle.ignore_walk.specs.declared.callbacks.Callbacks.{Ghosts as Callbacks}
+use Rattle.ignore_walk.specs.declared.callbacks.Options.{Options}
+use Rattle.ignore_walk.specs.declared.callbacks.Order.TheVariants.{ByName}
+use Rattle.ignore_walk.specs.declared.walk.Walk.{Walk}
+use Rattle.ignore.specs.Asked.{IsOutside}
+use Rattle.ignore.specs.Builder.{unset}
+use Rattle.commands.specs.Walking.{AreListed, AreWithin, IsTrimmed, listing, most_steps}
+
+-- a run that out of memory didn't end
+pub within : (all items : List Item) (left n : ℕ) → left ≡ most_steps → All (λ item. item ≢ Err memory) all → IsRun all items left n
+    → AreWithin all items n
+within all items left n is enough (inl (whole, short)) = inl (subst (λ (l : ℕ). n ≤ l) is short, whole)
+within all items left n is enough (inr e) =
+    elim e.ended [
+      | inl m ↦
+          let known = subst (λ (xs : List Item). All (λ item. item ≢ Err memory) xs) e.are enough in
+          absurd (All-contains (λ (item : Item). item ≢ Err memory) (e.front ++ e.last ∷ []) e.last known (Contains-push e.front e.last) m)
+      | inr (l, few) ↦ inr (
+        subst (λ (left : ℕ). left < n) is few,
+        record {
+          front = e.front;
+          rest = e.rest;
+          begins = e.begins;
+          are = e.are ∙ ap (λ (item : Item). e.front ++ item ∷ []) l;
+        },
+      )
+    ]
+
+-- a view of files, and an owner that lets each entry pass and compares as texts do, suit a listing
+pub suits_listing : {F S : Type 0} (files : Files F) (calls : Callbacks S) (f : F) (owner : S) (options : Options) (tree : Tree)
+    (loads : List ℕ → Loaded) (s : Settings) (o : Outside) → IsHonest files f tree → AreLoads tree standard loads → s ≡ standard
+    → options.same_file_system ≡ false → options.order ≡ ByName → calls.filters owner (λ _. true)
+    → calls.compares owner (slice_cmp nat_cmp) → Suits files calls f owner s o options (listing tree loads o)
+suits_listing files calls f owner options tree loads s o honest are is device order filters compares = record {
+  honest = honest;
+  loads = are;
+  settings = sym is;
+  outside = refl;
+  device = sym device;
+  filter = filters;
+  order = rw order (slice_cmp nat_cmp, compares, ranks_by nat_list_cmp_total (λ name. name), refl);
+}

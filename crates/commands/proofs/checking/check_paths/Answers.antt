@@ -1,0 +1,70 @@
+use Rattle.std.proofs.Common.{◌≡◌, ◌∙◌, ℕ, ◌||◌, ◌∷◌, ◌++◌, [], All, List, ap, cond, map, refl, string_bytes, subst, sym}
+use Rattle.std.proofs.lemmas.List.{take_all}
+use Rattle.std.proofs.lemmas.List.Elements.{All-nil, All-push}
+use Rattle.std.specs.Io.KnownBytes.{Appends}
+use Rattle.ignore_dir.specs.Load.{AreLoads, Loaded}
+use Rattle.ignore_files.specs.Gives.{IsHonest}
+use Rattle.ignore_files.specs.Tree.{Tree}
+use Rattle.ignore_query.specs.Agrees.{Agrees}
+use Rattle.ignore_query.specs.Reached.{scene_of}
+use Rattle.ignore_query.specs.declared.asked.Asked.{Asked}
+use Rattle.commands.specs.Checking.{Checked, Checks, IsAnswer}
+use Rattle.commands.proofs.CheckLemmas.{checks_more, checks_none, map-take-push}
+use Rattle.commands.proofs.checking.check_paths.Goals as goal
+
+pub loop-path-init : goal.loop-path-init
+loop-path-init g c = record {
+  checks = (
+    [],
+    checks_none (g.W.Write.contents c.args.out.now) (g.E.Write.contents c.args.err.now),
+    λ tree loads honest are agrees. All-nil (IsAnswer (scene_of c.args.matcher.now.asked tree loads)),
+  );
+  agrees = λ tree loads honest are agrees. agrees;
+  same = refl;
+}
+
+-- the matcher asks about the same as at first
+pub loop-path-preserved : goal.loop-path-preserved
+loop-path-preserved g c =
+    let l = c.loop-path in
+    let asked = c.args.matcher.now.asked in
+    let so = l.invariant.checks in
+    let h = c.in_ok-any.ensures.checks in
+    let one : Checked = h.0 in
+    let path = string_bytes c.path-item.result in
+    let named : one.path ≡ path = h.1 ∙ c.as_str.ensures.value in
+    let right = subst
+    (λ (a : Asked). (tree : Tree) (loads : List ℕ → Loaded) → IsHonest g.F.Files c.args.files.now tree → AreLoads tree a.settings loads
+    → Agrees (scene_of a tree loads) l.matcher.cache → IsAnswer (scene_of a tree loads) one) l.invariant.same h.5 in
+    let keeps = subst
+    (λ (a : Asked). (tree : Tree) (loads : List ℕ → Loaded) → IsHonest g.F.Files c.args.files.now tree → AreLoads tree a.settings loads
+    → Agrees (scene_of a tree loads) l.matcher.cache → Agrees (scene_of a tree loads) c.check_path.new.matcher.cache) l.invariant.same
+    c.in_ok-any.ensures.agrees in
+    record {
+      checks = (
+        so.0 ++ one ∷ [],
+        subst (λ (ps : List (List ℕ)). Checks ps (so.0 ++ one ∷ []) (cond (l.any || c.in_ok-any.field-0) 1 0)
+            (Appends (g.W.Write.contents c.args.out.now) (g.W.Write.contents c.check_path.new.out))
+            (Appends (g.E.Write.contents c.args.err.now) (g.E.Write.contents c.check_path.new.err)))
+            (sym (map-take-push string_bytes c.args.paths.now l.path-index c.path-item.result c.loop-path-test.true c.path-item.is))
+            (checks_more _ path so.0 one l.any c.in_ok-any.field-0 _ _ _ _ _ _ so.1 named h.2 h.3 h.4),
+        λ tree loads honest are agrees. All-push (IsAnswer (scene_of asked tree loads)) so.0 one (so.2 tree loads honest are agrees)
+            (right tree loads honest are (l.invariant.agrees tree loads honest are agrees)),
+      );
+      agrees = λ tree loads honest are agrees. keeps tree loads honest are (l.invariant.agrees tree loads honest are agrees);
+      same = c.in_ok-any.ensures.same ∙ l.invariant.same;
+    }
+
+pub returns : goal.returns
+returns g c =
+    let so = c.loop-path.invariant.checks in
+    record {
+      checks = (
+        so.0,
+        subst (λ (ps : List (List ℕ)). Checks ps so.0 (cond c.loop-path.any 1 0)
+            (Appends (g.W.Write.contents c.args.out.now) (g.W.Write.contents c.loop-path.out))
+            (Appends (g.E.Write.contents c.args.err.now) (g.E.Write.contents c.loop-path.err)))
+            (ap (map string_bytes) (take_all c.loop-path.path-index c.args.paths.now c.loop-path-test.false)) so.1,
+        so.2,
+      );
+    }

@@ -1,0 +1,38 @@
+use Rattle.std.proofs.Common.{◌≡◌, ◌∙◌, Some, inr, sym, ap, subst}
+use Rattle.std.proofs.lemmas.Result.{IfOk-weaker, IfErr-weaker}
+use Rattle.std.specs.Prelude.{⊤, option_map}
+use Rattle.std.specs.Io.KnownBytes.{Appends}
+use Rattle.commands.specs.Words.{Question, request_view}
+use Rattle.commands.specs.Stops.{Ends, EndsReported}
+use Rattle.commands.proofs.StopLemmas.{ends_anyhow, ends_reported}
+use Rattle.commands.proofs.run.run.Goals as goal
+
+pub returns-in-Err-clause-prints : goal.returns-in-Err-clause-prints
+returns-in-Err-clause-prints g c = λ question is.
+    let asked : Some (request_view c.in-Some.request) ≡ Some question = sym (ap (option_map request_view) c.in-Some.is)
+    ∙ c.read_words.ensures ∙ is in
+    let same : request_view c.in-Some.request ≡ question = cc in
+    let out = Appends (g.W.Write.contents c.args.out.now) (g.W.Write.contents c.answer.new.out) in
+    let before = g.E.Write.contents c.args.err.now in
+    let middle = g.E.Write.contents c.answer.new.err in
+    let after = g.E.Write.contents c.report_stop-in-Err.new.err in
+    IfOk-weaker c.report_stop-in-Err.result _ _
+    (λ status h. inr (
+      h.0,
+      subst (λ (q : Question). EndsReported q out (Appends before after)) same
+          (ends_reported (request_view c.in-Some.request) out before middle after c.in-Err.stop c.in-Err.ensures.ended h.1 h.2),
+    ))
+    c.report_stop-in-Err.ensures.reports
+
+pub returns-in-Err-clause-unreported : goal.returns-in-Err-clause-unreported
+returns-in-Err-clause-unreported g c = λ question is.
+    let asked : Some (request_view c.in-Some.request) ≡ Some question = sym (ap (option_map request_view) c.in-Some.is)
+    ∙ c.read_words.ensures ∙ is in
+    let same : request_view c.in-Some.request ≡ question = cc in
+    let out = Appends (g.W.Write.contents c.args.out.now) (g.W.Write.contents c.answer.new.out) in
+    let reported = Appends (g.E.Write.contents c.args.err.now) (g.E.Write.contents c.answer.new.err) in
+    IfErr-weaker c.report_stop-in-Err.result _ _
+    (λ why h. subst (Ends question out (λ reported. ⊤)) (sym h)
+    (subst (λ (q : Question). Ends q out (λ reported. ⊤) c.in-Err.stop) same
+    (ends_anyhow (request_view c.in-Some.request) out reported c.in-Err.stop c.in-Err.ensures.ended)))
+    c.report_stop-in-Err.ensures.unreported

@@ -1,0 +1,93 @@
+-- Why a run ends early, and what was written and reported by then. Errors are reported line by
+-- line, so a report begins with the rejected lines among the first ones.
+use Rattle.std.specs.Prelude.{◌≡◌, ◌≢◌, List, [], ◌∷◌, ◌++◌, codes, ⊤}
+use Rattle.std.specs.Str.Lines.{lines}
+use Rattle.ignore_base.specs.Text.{Bytes, Path}
+use Rattle.ignore_base.specs.Problem.{Problem, several, at_line, at_path, at_depth, loop, io, glob, unrecognized, invalid_definition}
+use Rattle.ignore_base.specs.Problem.{memory}
+use Rattle.ignore_rules.specs.Rules.{Building, LineOptions, Refuses}
+use Rattle.commands.specs.declared.stop.Stop.{Stop}
+use Rattle.commands.specs.declared.stop.Stop.TheVariants.{Usage, Memory, Write, Silence}
+use Rattle.commands.specs.Matching.{Adds}
+use Rattle.commands.specs.Words.{Question}
+
+-- the report of each early end; nothing where nothing can be written to the errors
+abbrev pub reason : Stop → Bytes
+reason Usage = codes "usage: igwalk match ROOT RULES PATH d|f | list ROOT.. | check ROOT PATH.." ++ 10 ∷ []
+reason Memory = codes "igwalk: out of memory" ++ 10 ∷ []
+reason Write = codes "igwalk: cannot write" ++ 10 ∷ []
+reason Silence = []
+
+-- what ends a run at a line with this problem: an invalid glob can't be reported, and the only
+-- other problem is out of memory
+abbrev pub line_stop : Problem → Stop
+line_stop (several ps) = Memory
+line_stop (at_line line p) = Memory
+line_stop (at_path path p) = Memory
+line_stop (at_depth depth p) = Memory
+line_stop (loop ancestor child) = Memory
+line_stop (io fault) = Memory
+line_stop (glob pattern err) = Silence
+line_stop (unrecognized name) = Memory
+line_stop invalid_definition = Memory
+line_stop memory = Memory
+
+-- one line ended the run: out of memory, with nothing reported of it, or it is rejected and can't
+-- be reported
+abbrev pub EndsLine : LineOptions → Bytes → (Bytes → Type 0) → Stop → Type 0
+EndsLine options line err Usage = ⊥
+EndsLine options line err Memory = err []
+EndsLine options line err Write = ⊥
+EndsLine options line err Silence = (problem : Problem) × Refuses options line problem
+
+-- these lines were added in turn, and the rejected ones reported
+abbrev pub Reports : Path → List Bytes → (Bytes → Type 0) → Type 0
+Reports root lines err = (builder : Building) × (reported : Bytes) × Adds root lines builder reported × err reported
+
+-- the same for the first of these lines, up to some line
+abbrev pub ReportsFirst : Path → List Bytes → (Bytes → Type 0) → Type 0
+ReportsFirst root lines err = (first rest : List Bytes) × (lines ≡ first ++ rest) × Reports root first err
+
+-- one of these lines is rejected, after the earlier ones were added in turn
+abbrev pub HasRefused : Path → List Bytes → Type 0
+HasRefused root lines =
+    (first rest : List Bytes) × (line : Bytes) × (builder : Building) × (reported : Bytes) × (problem : Problem)
+    × (lines ≡ first ++ line ∷ rest) × Adds root first builder reported × Refuses builder.options line problem
+
+-- adding of lines ended: out of memory, or at a rejected line that can't be reported
+abbrev pub EndsLines : Path → List Bytes → (Bytes → Type 0) → Stop → Type 0
+EndsLines root lines err Usage = ⊥
+EndsLines root lines err Memory = ReportsFirst root lines err
+EndsLines root lines err Write = ⊥
+EndsLines root lines err Silence = HasRefused root lines
+
+-- writing the answer ended: out of memory, with nothing written, or a failed write
+abbrev pub EndsAnswer : (Bytes → Type 0) → Stop → Type 0
+EndsAnswer out Usage = ⊥
+EndsAnswer out Memory = out []
+EndsAnswer out Write = ⊤
+EndsAnswer out Silence = ⊥
+
+-- what was written when a run ended: nothing, unless writing the output failed
+abbrev pub Wrote : (Bytes → Type 0) → Stop → Type 0
+Wrote out Usage = out []
+Wrote out Memory = out []
+Wrote out Write = ⊤
+Wrote out Silence = out []
+
+-- what was reported by then of the lines of a question: of the first ones, or of all of them where
+-- the answer can't be written; there is a rejected one where the errors can't be written
+abbrev pub ReportedOf : Question → (Bytes → Type 0) → Stop → Type 0
+ReportedOf question err Usage = ⊥
+ReportedOf question err Memory = ReportsFirst question.root (lines question.rules) err
+ReportedOf question err Write = Reports question.root (lines question.rules) err
+ReportedOf question err Silence = HasRefused question.root (lines question.rules)
+
+-- the run of a question ended early, with this output and these errors
+abbrev pub Ends : Question → (Bytes → Type 0) → (Bytes → Type 0) → Stop → Type 0
+Ends question out err stop = Wrote out stop × ReportedOf question err stop
+
+-- the run of a question ended early, and the reason was reported after the rejected lines
+abbrev pub EndsReported : Question → (Bytes → Type 0) → (Bytes → Type 0) → Type 0
+EndsReported question out err =
+    (stop : Stop) × (stop ≢ Silence) × Wrote out stop × ReportedOf question (λ reported. err (reported ++ reason stop)) stop

@@ -1,0 +1,197 @@
+//! The command `check`: what becomes of paths below a root, each on a line.
+ghost use Rattle.std.specs.Prelude.{◌≡◌, ◌≤◌, ◌⊎◌, ℕ, All, List, false, OnOk, IfOk, map, option_map, string_bytes, if◌then◌else◌};
+ghost use Rattle.std.specs.Io.KnownBytes.{Appends};
+ghost use Rattle.ignore_base.specs.Paths.{join_of};
+ghost use Rattle.ignore_base.specs.Problem.{problem_of};
+ghost use Rattle.ignore_dir.specs.Load.{AreLoads, Loaded};
+ghost use Rattle.ignore_dir.specs.Query.{is_dir_there};
+ghost use Rattle.ignore_files.specs.Gives.{IsHonest};
+ghost use Rattle.ignore_files.specs.Tree.{Tree};
+ghost use Rattle.ignore_query.specs.Agrees.{Agrees};
+ghost use Rattle.ignore_query.specs.Reached.{scene_of};
+ghost use Rattle.commands.specs.Checking.{AreAnswers, Checked, Checks, IsAnswer, IsMatcher, answer_at, check_line};
+ghost use Rattle.commands.specs.Checking.{is_wrong, line_for, report_for};
+ghost use Rattle.commands.specs.Listing.{is_known, report_of};
+
+use crate::listing::report;
+use crate::stop::{Stop, report_stop};
+use ignore::{IncrementalIgnore, IncrementalMatch, WalkBuilder, text};
+use ignore_base::Error;
+use ignore_files::{Env, Files, Refusal};
+use std::alloc::Global;
+use std::io::Write;
+
+/// Writes what becomes of each of these paths below a root, by the settings of a new builder: the
+/// word of the answer and the path, on a line. What is wrong with the files of rules that are read
+/// for it is reported on `err`. It returns the status, as `run` does.
+///
+/// # Errors
+/// Why the run ended, where that can't be written to `err`.
+pub fn check<F: Files, W: Write, E: Write>(
+    alloc: Global,
+    files: &F,
+    env: &Env,
+    root: &str,
+    paths: &[String],
+    out: &mut W,
+    err: &mut E,
+) -> Result<u8, Stop>
+    ensures checks { IfOk result (λ status. ((all : List Checked) × Checks (map string_bytes paths.now) all status
+        (Appends (W.contents out.old) (W.contents out.new)) (Appends (E.contents err.old) (E.contents err.new))
+        × ((tree : Tree) → IsHonest F.Files files.now tree → AreAnswers tree env.now root.now all)) ⊎ (status ≡ 2)) }
+    ensures status { IfOk result (λ status. status ≤ 2) }
+{
+    match ask_and_write(alloc, files, env, root, paths, out, err) {
+        Ok(false) => Ok(0),
+        Ok(true) => Ok(1),
+        Err(stop) => report_stop(err, stop),
+    }
+}
+
+/// Asks a new matcher, and writes. It returns whether something was reported.
+fn ask_and_write<F: Files, W: Write, E: Write>(
+    alloc: Global,
+    files: &F,
+    env: &Env,
+    root: &str,
+    paths: &[String],
+    out: &mut W,
+    err: &mut E,
+) -> Result<bool, Stop>
+    ensures checks { IfOk result (λ any. (all : List Checked) × Checks (map string_bytes paths.now) all (if any then 1 else 0)
+        (Appends (W.contents out.old) (W.contents out.new)) (Appends (E.contents err.old) (E.contents err.new))
+        × ((tree : Tree) → IsHonest F.Files files.now tree → AreAnswers tree env.now root.now all)) }
+{
+    let Ok(mut matcher) = matcher_below(alloc, files, env, root) else {
+        return Err(Stop::Memory);
+    };
+    check_paths(alloc, files, &mut matcher, paths, out, err)
+}
+
+/// A matcher of the paths below a root, by the settings of a new builder.
+fn matcher_below<F: Files>(
+    alloc: Global,
+    files: &F,
+    env: &Env,
+    root: &str,
+) -> Result<IncrementalIgnore, Error>
+    ensures asked { (tree : Tree) → IsHonest F.Files files.now tree → IfOk result (λ m. IsMatcher tree env.now root.now m) }
+    ensures fresh { (tree : Tree) (loads : List ℕ → Loaded) → IfOk result (λ m. Agrees (scene_of m.asked tree loads) m.cache) }
+{
+    let builder = WalkBuilder::new(alloc, root)?;
+    let mut matchers = builder.build_matchers(files, env)?;
+    match matchers.pop() {
+        Some(matcher) => Ok(matcher),
+        None => unreachable!(),
+    }
+}
+
+/// Asks a matcher about paths, and writes. It returns whether something was reported.
+fn check_paths<F: Files, W: Write, E: Write>(
+    alloc: Global,
+    files: &F,
+    matcher: &mut IncrementalIgnore,
+    paths: &[String],
+    out: &mut W,
+    err: &mut E,
+) -> Result<bool, Stop>
+    ensures checks { IfOk result (λ any. (all : List Checked) × Checks (map string_bytes paths.now) all (if any then 1 else 0)
+        (Appends (W.contents out.old) (W.contents out.new)) (Appends (E.contents err.old) (E.contents err.new))
+        × ((tree : Tree) (loads : List ℕ → Loaded) → IsHonest F.Files files.now tree → AreLoads tree matcher.old.asked.settings loads
+        → let g = scene_of matcher.old.asked tree loads in Agrees g matcher.old.cache → All (IsAnswer g) all)) }
+{
+    let mut any = false;
+    for path in paths {
+        any |= check_path(alloc, files, matcher, path.as_str(), out, err)?;
+    }
+    Ok(any)
+}
+
+/// Asks a matcher about a path, and writes. It returns whether something was reported.
+fn check_path<F: Files, W: Write, E: Write>(
+    alloc: Global,
+    files: &F,
+    matcher: &mut IncrementalIgnore,
+    path: &str,
+    out: &mut W,
+    err: &mut E,
+) -> Result<bool, Stop>
+    ensures checks { IfOk result (λ any. (c : Checked) × (c.path ≡ path.now)
+        × Appends (W.contents out.old) (W.contents out.new) (line_for c)
+        × Appends (E.contents err.old) (E.contents err.new) (report_for c) × (any ≡ is_wrong c)
+        × ((tree : Tree) (loads : List ℕ → Loaded) → IsHonest F.Files files.now tree → AreLoads tree matcher.old.asked.settings loads
+        → let g = scene_of matcher.old.asked tree loads in Agrees g matcher.old.cache → IsAnswer g c)) }
+    ensures agrees { (tree : Tree) (loads : List ℕ → Loaded) → IsHonest F.Files files.now tree
+        → AreLoads tree matcher.old.asked.settings loads → let g = scene_of matcher.old.asked tree loads in
+        Agrees g matcher.old.cache → Agrees g matcher.new.cache }
+    ensures same { matcher.new.asked ≡ matcher.old.asked }
+{
+    let (found, error) = ask(alloc, files, matcher, path)?;
+    write_found(found, path, out)?;
+    report_some(error, err)
+}
+
+/// What becomes of a path, and what is wrong with the files of rules that were read for it.
+fn ask<F: Files>(
+    alloc: Global,
+    files: &F,
+    matcher: &mut IncrementalIgnore,
+    path: &str,
+) -> Result<(IncrementalMatch, Option<Error>), Stop>
+    ensures value { (tree : Tree) (loads : List ℕ → Loaded) → IsHonest F.Files files.now tree
+        → AreLoads tree matcher.old.asked.settings loads → let g = scene_of matcher.old.asked tree loads in
+        Agrees g matcher.old.cache → IfOk result (λ r. r.0 ≡ answer_at g path.now) }
+    ensures agrees { (tree : Tree) (loads : List ℕ → Loaded) → IsHonest F.Files files.now tree
+        → AreLoads tree matcher.old.asked.settings loads → let g = scene_of matcher.old.asked tree loads in
+        Agrees g matcher.old.cache → Agrees g matcher.new.cache }
+    ensures same { matcher.new.asked ≡ matcher.old.asked }
+{
+    let is_dir = is_dir_at(alloc, files, matcher.root(), path)?;
+    match matcher.matched_with_errors(files, path, is_dir) {
+        Ok(answer) => Ok(answer),
+        Err(_) => Err(Stop::Memory),
+    }
+}
+
+/// Whether there is a directory at a path below a root, which isn't a link to one.
+fn is_dir_at<F: Files>(alloc: Global, files: &F, root: &str, path: &str) -> Result<bool, Stop>
+    ensures value { (tree : Tree) → IsHonest F.Files files.now tree
+        → IfOk result (λ yes. yes ≡ is_dir_there (tree.stat (join_of root.now path.now) false)) }
+{
+    let Ok(joined) = text::join(alloc, root, path) else {
+        return Err(Stop::Memory);
+    };
+    match files.stat(alloc, joined.as_str(), false) {
+        Ok(metadata) => Ok(metadata.is_dir()),
+        Err(Refusal::Fault(_)) => Ok(false),
+        Err(Refusal::Memory) => Err(Stop::Memory),
+    }
+}
+
+/// Writes the word of an answer and its path, on a line.
+fn write_found<W: Write>(found: IncrementalMatch, path: &str, out: &mut W) -> Result<(), Stop>
+    ensures { OnOk result (Appends (W.contents out.old) (W.contents out.new) (check_line found path.now)) }
+{
+    let word = if found.is_ignore() {
+        "ignore"
+    } else if found.is_whitelist() {
+        "whitelist"
+    } else {
+        "none"
+    };
+    match writeln!(out, "{word} {path}") {
+        Ok(()) => Ok(()),
+        Err(_) => Err(Stop::Write),
+    }
+}
+
+/// Reports an error, if there is one. It returns whether there is.
+fn report_some<E: Write>(error: Option<Error>, err: &mut E) -> Result<bool, Stop>
+    ensures { IfOk result (λ any. (any ≡ is_known (option_map problem_of error))
+        × Appends (E.contents err.old) (E.contents err.new) (report_of (option_map problem_of error))) }
+{
+    match error {
+        None => Ok(false),
+        Some(error) => report(&error, err),
+    }
+}

@@ -1,0 +1,13 @@
+//! The commands of the program `igwalk`, over files and writers that are handed in: matching a path
+//! against the rules of gitignore lines, a list of what they keep of a tree, and answers about
+//! paths below a root.
+#![tactic(auto)]
+
+mod by_name;
+mod checking;
+mod listing;
+pub mod run;
+mod stop;
+mod words;
+
+pub use stop::{Stop, report_stop};

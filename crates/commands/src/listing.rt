@@ -1,0 +1,175 @@
+//! The command `list`: the entries of a walk, each on a line.
+ghost use Rattle.std.specs.Prelude.{◌≡◌, ◌≢◌, ◌≤◌, ◌⊎◌, List, Result, Ok, Err, true, map, OnOk, IfOk, if◌then◌else◌, string_bytes};
+ghost use Rattle.std.specs.Io.KnownBytes.{Appends};
+ghost use Rattle.std.specs.Iterator.{Drains, IsFinite};
+ghost use Rattle.std.specs.List.{AllZip};
+ghost use Rattle.ignore_base.specs.Problem.{memory, problem_of};
+ghost use Rattle.ignore_base.specs.declared.error.Error.{Error};
+ghost use Rattle.ignore_files.specs.Gives.{IsHonest};
+ghost use Rattle.ignore_files.specs.Tree.{Tree};
+ghost use Rattle.ignore_walk.specs.Entry.{Item, item_of};
+ghost use Rattle.ignore_walk.specs.declared.entry.DirEntry.{DirEntry};
+ghost use Rattle.commands.specs.Listing.{Lists, path_line, report_line, lines_of, reports_of, is_reported};
+ghost use Rattle.commands.specs.Walking.{AreListed, IsTrimmed};
+
+use crate::by_name::ByName;
+use crate::stop::{Stop, report_stop};
+use ignore::WalkBuilder;
+use ignore_base::Error;
+use ignore_dir::Settings;
+use ignore_files::{Env, Files, Name};
+use ignore_walk::{DirEntry, Item, Options, Order, Walk, runs};
+use std::alloc::{AllocError, Global};
+use std::io::Write;
+
+/// By name, on any device, with a limit that ends a walk of links without end.
+const OPTIONS: Options = Options {
+    order: Order::ByName,
+    same_file_system: false,
+    limit: 1_000_000_000,
+};
+
+/// Writes the paths of the entries of a walk of these roots, each on a line. What is wrong with an
+/// entry, or stands in its place, is reported on `err`. Names come in the order of texts, and the
+/// settings are those of a new builder. It returns the status, as `run` does.
+///
+/// # Errors
+/// Why the run ended, where that can't be written to `err`.
+pub fn list<F: Files, W: Write, E: Write>(
+    alloc: Global,
+    files: &F,
+    env: &Env,
+    roots: &[String],
+    out: &mut W,
+    err: &mut E,
+) -> Result<u8, Stop>
+    ensures lists { IfOk result (λ status. ((items : List Item) × Lists items status
+        (Appends (W.contents out.old) (W.contents out.new)) (Appends (E.contents err.old) (E.contents err.new))
+        × ((tree : Tree) → IsHonest F.Files files.now tree → AreListed tree env.now (map string_bytes roots.now) items))
+        ⊎ (status ≡ 2)) }
+    ensures status { IfOk result (λ status. status ≤ 2) }
+{
+    match walk_and_write(alloc, files, env, roots, out, err) {
+        Ok(false) => Ok(0),
+        Ok(true) => Ok(1),
+        Err(stop) => report_stop(err, stop),
+    }
+}
+
+/// Walks and writes. It returns whether something was reported.
+fn walk_and_write<F: Files, W: Write, E: Write>(
+    alloc: Global,
+    files: &F,
+    env: &Env,
+    roots: &[String],
+    out: &mut W,
+    err: &mut E,
+) -> Result<bool, Stop>
+    ensures lists { IfOk result (λ any. (items : List Item) × Lists items (if any then 1 else 0)
+        (Appends (W.contents out.old) (W.contents out.new)) (Appends (E.contents err.old) (E.contents err.new))
+        × ((tree : Tree) → IsHonest F.Files files.now tree → AreListed tree env.now (map string_bytes roots.now) items)) }
+{
+    let Ok(names) = trimmed_roots(alloc, roots) else {
+        return Err(Stop::Memory);
+    };
+    let Ok(outside) = WalkBuilder::empty(alloc).outside(files, env) else {
+        return Err(Stop::Memory);
+    };
+    let settings = Settings::standard(alloc);
+    let walk = Walk::new(alloc, files, &ByName, settings, outside, OPTIONS, names);
+    runs::a_run_yields_the_list::<F, ByName>();
+    write_items(walk, out, err)
+}
+
+/// The roots without the slashes at their ends.
+fn trimmed_roots(alloc: Global, roots: &[String]) -> Result<Vec<Name>, AllocError>
+    ensures { IfOk result (λ names. AllZip IsTrimmed (map string_bytes roots.now) names.items) }
+{
+    let mut names = Vec::new(alloc);
+    for root in roots {
+        names.push(Name::new(String::from_str(alloc, trimmed(root.as_str()))?))?;
+    }
+    Ok(names)
+}
+
+/// A root without the slashes at its end. Of slashes alone one is left.
+fn trimmed(root: &str) -> &str
+    ensures { IsTrimmed root.now result.now }
+{
+    let front = root.trim_end_matches('/');
+    if front.is_empty() && !root.is_empty() {
+        "/"
+    } else {
+        front
+    }
+}
+
+/// Writes the items of a walk. It returns whether something was reported.
+fn write_items<I: Iterator<Item = Item>, W: Write, E: Write>(
+    items: I,
+    out: &mut W,
+    err: &mut E,
+) -> Result<bool, Stop>
+    requires ends { I.can_next items × IsFinite (I.remaining items) }
+    ensures lists { IfOk result (λ any. (all : List (Result DirEntry Error)) × Drains I.next_gives items all × Lists (map item_of all)
+        (if any then 1 else 0) (Appends (W.contents out.old) (W.contents out.new)) (Appends (E.contents err.old) (E.contents err.new))) }
+{
+    let mut any = false;
+    for item in items {
+        any |= write_item(item, out, err)?;
+    }
+    Ok(any)
+}
+
+/// Writes an item. It returns whether something was reported.
+fn write_item<W: Write, E: Write>(item: Item, out: &mut W, err: &mut E) -> Result<bool, Stop>
+    ensures lists { IfOk result (λ any. Appends (W.contents out.old) (W.contents out.new) (lines_of (item_of item))
+        × Appends (E.contents err.old) (E.contents err.new) (reports_of (item_of item)) × (any ≡ is_reported (item_of item))) }
+    ensures enough { OnOk result (item_of item ≢ Err memory) }
+{
+    match item {
+        Ok(entry) => write_entry(&entry, out, err),
+        Err(Error::Memory) => Err(Stop::Memory),
+        Err(error) => report(&error, err),
+    }
+}
+
+/// Writes the path of an entry, and reports its problem, if it has one. It returns whether it has.
+fn write_entry<W: Write, E: Write>(entry: &DirEntry, out: &mut W, err: &mut E) -> Result<bool, Stop>
+    ensures lists { IfOk result (λ any. Appends (W.contents out.old) (W.contents out.new) (lines_of (item_of (Ok entry.now)))
+        × Appends (E.contents err.old) (E.contents err.new) (reports_of (item_of (Ok entry.now)))
+        × (any ≡ is_reported (item_of (Ok entry.now)))) }
+{
+    write_path(entry.path(), out)?;
+    match entry.error() {
+        None => Ok(false),
+        Some(error) => report(error, err),
+    }
+}
+
+/// Writes a path on a line.
+fn write_path<W: Write>(path: &str, out: &mut W) -> Result<(), Stop>
+    ensures { OnOk result (Appends (W.contents out.old) (W.contents out.new) (path_line path.now)) }
+{
+    write_bytes(path.as_bytes(), out)?;
+    write_bytes(b"\n", out)
+}
+
+fn write_bytes<W: Write>(bytes: &[u8], out: &mut W) -> Result<(), Stop>
+    ensures { OnOk result (Appends (W.contents out.old) (W.contents out.new) bytes.now) }
+{
+    match out.write_all(bytes) {
+        Ok(()) => Ok(()),
+        Err(_) => Err(Stop::Write),
+    }
+}
+
+/// Reports an error. It returns that it did.
+pub fn report<E: Write>(error: &Error, err: &mut E) -> Result<bool, Stop>
+    ensures { IfOk result (λ any. (any ≡ true) × Appends (E.contents err.old) (E.contents err.new) (report_line (problem_of error.now))) }
+{
+    match writeln!(err, "igwalk: {error}") {
+        Ok(()) => Ok(true),
+        Err(_) => Err(Stop::Silence),
+    }
+}

@@ -1,0 +1,194 @@
+//! The run of the program, over any two writers.
+ghost use Rattle.std.specs.Prelude.{◌≡◌, ◌≢◌, ◌≤◌, ◌⊎◌, ◌==◌, [], ℕ, List, None, Some, true, false, ⊤, OnOk, IfOk, IfErr, codes, length};
+ghost use Rattle.std.specs.Prelude.{map, string_bytes, if◌then◌else◌};
+ghost use Rattle.std.specs.Io.KnownBytes.{Appends};
+ghost use Rattle.std.specs.Str.Lines.{lines};
+ghost use Rattle.ignore_base.specs.Text.{Path};
+ghost use Rattle.ignore_base.specs.Errors.{problem_text};
+ghost use Rattle.ignore_base.specs.Problem.{problem_of, memory};
+ghost use Rattle.ignore_files.specs.Gives.{IsHonest};
+ghost use Rattle.ignore_files.specs.Tree.{Tree};
+ghost use Rattle.ignore_rules.specs.Rules.{begun, built};
+ghost use Rattle.ignore_walk.specs.Entry.{Item};
+ghost use Rattle.commands.specs.Listing.{Lists};
+ghost use Rattle.commands.specs.Checking.{AreAnswers, Checked, Checks};
+ghost use Rattle.commands.specs.Walking.{AreListed};
+ghost use Rattle.commands.specs.Words.{Question, question_of, request_view, roots_of, paths_of};
+ghost use Rattle.commands.specs.Stops.{Ends, EndsAnswer, EndsLine, EndsLines, EndsReported, line_stop, reason};
+ghost use Rattle.commands.specs.Matching.{AddsAll, AddsOne, Prints, answer_line, answer_of, refusal};
+
+use crate::checking::check;
+use crate::listing::list;
+use crate::stop::{Stop, report_stop};
+use crate::words::{Request, read_paths, read_roots, read_words};
+use ignore_base::{Error, Match};
+use ignore_files::{Env, Files};
+use ignore_rules::gitignore::{Gitignore, GitignoreBuilder};
+use std::alloc::Global;
+use std::io::Write;
+
+/// Reports a rejected line, counted from 1. Out of memory ends the run.
+fn report_refusal<E: Write>(err: &mut E, number: u64, error: Error) -> Result<(), Stop>
+    ensures reports { OnOk result (Appends (E.contents err.old) (E.contents err.new) (refusal number (problem_of error))) }
+    ensures line { OnOk result (problem_of error ≢ memory) }
+    ensures unreported { IfErr result (λ stop. stop ≡ line_stop (problem_of error)) }
+    ensures kept { IfErr result (λ stop. stop ≡ Stop.Memory → Appends (E.contents err.old) (E.contents err.new) []) }
+{
+    match &error {
+        Error::Glob { .. } => match writeln!(err, "igwalk: line {number}: {error}") {
+            Ok(()) => Ok(()),
+            Err(_) => Err(Stop::Silence),
+        },
+        _ => Err(Stop::Memory),
+    }
+}
+
+/// Adds a line of rules, counted from 1, and reports it where it is rejected. Returns whether it
+/// was.
+fn add_or_report<E: Write>(
+    builder: &mut GitignoreBuilder,
+    number: u64,
+    line: &str,
+    err: &mut E,
+) -> Result<bool, Stop>
+    ensures added { IfOk result (AddsOne builder.old number line.now builder.new (Appends (E.contents err.old) (E.contents err.new))) }
+    ensures ended { IfErr result (EndsLine builder.old.options line.now (Appends (E.contents err.old) (E.contents err.new))) }
+{
+    match builder.push_line(None, line) {
+        Ok(()) => Ok(false),
+        Err(error) => {
+            report_refusal(err, number, error)?;
+            Ok(true)
+        }
+    }
+}
+
+/// Adds the lines of rules, and reports each that is rejected. Returns whether one was.
+fn add_lines<E: Write>(
+    builder: &mut GitignoreBuilder,
+    rules: &str,
+    err: &mut E,
+) -> Result<bool, Stop>
+    ensures added { (root : Path) → builder.old ≡ begun root
+        → IfOk result (AddsAll root (lines rules.now) builder.new (Appends (E.contents err.old) (E.contents err.new))) }
+    ensures ended { (root : Path) → builder.old ≡ begun root
+        → IfErr result (EndsLines root (lines rules.now) (Appends (E.contents err.old) (E.contents err.new))) }
+{
+    let mut number = 0u64;
+    let mut refused = false;
+    for line in rules.lines() {
+        number += 1;
+        refused |= add_or_report(builder, number, line, err)?;
+    }
+    Ok(refused)
+}
+
+/// Writes the answer of a matcher for a path.
+fn write_answer<W: Write>(
+    out: &mut W,
+    matcher: &Gitignore,
+    path: &str,
+    is_dir: bool,
+) -> Result<(), Stop>
+    ensures answers { OnOk result (Appends (W.contents out.old) (W.contents out.new)
+        (answer_line (answer_of matcher.now path.now is_dir))) }
+    ensures ended { IfErr result (EndsAnswer (Appends (W.contents out.old) (W.contents out.new))) }
+{
+    let written = match matcher.matched(path, is_dir) {
+        Ok(Match::None) => writeln!(out, "none"),
+        Ok(Match::Ignore(rule)) => writeln!(out, "ignore {}", rule.original()),
+        Ok(Match::Whitelist(rule)) => writeln!(out, "whitelist {}", rule.original()),
+        Err(_) => return Err(Stop::Memory),
+    };
+    match written {
+        Ok(()) => Ok(()),
+        Err(_) => Err(Stop::Write),
+    }
+}
+
+/// Answers a question. Returns whether a line of its rules was rejected.
+fn answer<W: Write, E: Write>(
+    alloc: Global,
+    request: Request<'_>,
+    out: &mut W,
+    err: &mut E,
+) -> Result<bool, Stop>
+    ensures prints { IfOk result (λ refused. Prints (request_view request.entry) (if refused then 1 else 0)
+        (Appends (W.contents out.old) (W.contents out.new)) (Appends (E.contents err.old) (E.contents err.new))) }
+    ensures ended { IfErr result (Ends (request_view request.entry)
+        (Appends (W.contents out.old) (W.contents out.new)) (Appends (E.contents err.old) (E.contents err.new))) }
+{
+    let Ok(mut builder) = GitignoreBuilder::new(alloc, request.root) else {
+        return Err(Stop::Memory);
+    };
+    let refused = add_lines(&mut builder, request.rules, err)?;
+    let matcher = builder.into_gitignore();
+    write_answer(out, &matcher, request.path, request.is_dir)?;
+    Ok(refused)
+}
+
+/// Runs the command in the words after the program's name.
+///
+/// - `match ROOT RULES PATH d|f` writes the answer of the lines of RULES, relative to ROOT, for
+///   PATH, a directory (`d`) or not (`f`): `none`, or `ignore` or `whitelist` and the line that
+///   decided. A rejected line is reported on `err`, and the other lines count.
+/// - `list ROOT..` writes the paths of the entries of a walk, each on a line, and reports on `err`
+///   what is wrong with an entry or stands in its place.
+/// - `check ROOT PATH..` writes what becomes of each path below ROOT, by the rules of its tree:
+///   `none`, `ignore` or `whitelist` and the path. What is wrong with files of rules is reported on
+///   `err`.
+///
+/// It returns the status: 0; 1 where something was reported; 2 for wrong arguments, out of memory
+/// and what can't be written, each reported on `err`. Wrong arguments are found before anything is
+/// written to `out`.
+///
+/// # Errors
+/// Why the run ended, where that can't be written to `err`. The status is then 2 too.
+pub fn run<F: Files, W: Write, E: Write>(
+    alloc: Global,
+    files: &F,
+    env: &Env,
+    words: &[String],
+    out: &mut W,
+    err: &mut E,
+) -> Result<u8, Stop>
+    ensures wrong { question_of (map string_bytes words.now) ≡ None → roots_of (map string_bytes words.now) ≡ None
+        → paths_of (map string_bytes words.now) ≡ None → Appends (W.contents out.old) (W.contents out.new) [] }
+    ensures usage { question_of (map string_bytes words.now) ≡ None → roots_of (map string_bytes words.now) ≡ None
+        → paths_of (map string_bytes words.now) ≡ None
+        → IfOk result (λ status. (status ≡ 2) × Appends (E.contents err.old) (E.contents err.new) (reason Stop.Usage)) }
+    ensures usage_unreported { question_of (map string_bytes words.now) ≡ None → roots_of (map string_bytes words.now) ≡ None
+        → paths_of (map string_bytes words.now) ≡ None → IfErr result (λ stop. stop ≡ Stop.Usage) }
+    ensures prints { (question : Question) → question_of (map string_bytes words.now) ≡ Some question
+        → IfOk result (λ status. Prints question status (Appends (W.contents out.old) (W.contents out.new))
+        (Appends (E.contents err.old) (E.contents err.new))
+        ⊎ ((status ≡ 2) × EndsReported question (Appends (W.contents out.old) (W.contents out.new))
+        (Appends (E.contents err.old) (E.contents err.new)))) }
+    ensures unreported { (question : Question) → question_of (map string_bytes words.now) ≡ Some question
+        → IfErr result (Ends question (Appends (W.contents out.old) (W.contents out.new)) (λ reported. ⊤)) }
+    ensures lists { question_of (map string_bytes words.now) ≡ None → (roots : List Path) → roots_of (map string_bytes words.now) ≡ Some roots
+        → IfOk result (λ status. ((items : List Item) × Lists items status
+        (Appends (W.contents out.old) (W.contents out.new)) (Appends (E.contents err.old) (E.contents err.new))
+        × ((tree : Tree) → IsHonest F.Files files.now tree → AreListed tree env.now roots items)) ⊎ (status ≡ 2)) }
+    ensures checks { question_of (map string_bytes words.now) ≡ None → roots_of (map string_bytes words.now) ≡ None
+        → (root : Path) (paths : List Path) → paths_of (map string_bytes words.now) ≡ Some (root, paths)
+        → IfOk result (λ status. ((all : List Checked) × Checks paths all status
+        (Appends (W.contents out.old) (W.contents out.new)) (Appends (E.contents err.old) (E.contents err.new))
+        × ((tree : Tree) → IsHonest F.Files files.now tree → AreAnswers tree env.now root all)) ⊎ (status ≡ 2)) }
+    ensures status { IfOk result (λ status. status ≤ 2) }
+{
+    let Some(request) = read_words(words) else {
+        if let Some(roots) = read_roots(words) {
+            return list(alloc, files, env, roots, out, err);
+        }
+        if let Some((root, paths)) = read_paths(words) {
+            return check(alloc, files, env, root, paths, out, err);
+        }
+        return report_stop(err, Stop::Usage);
+    };
+    match answer(alloc, request, out, err) {
+        Ok(false) => Ok(0),
+        Ok(true) => Ok(1),
+        Err(stop) => report_stop(err, stop),
+    }
+}
