@@ -16,7 +16,7 @@ const ENDED: u8 = 2;
 
 /// What a run leaves.
 #[derive(Drop)]
-struct Left {
+struct Outcome {
     status: u8,
     out: Vec<u8>,
     err: Vec<u8>,
@@ -47,7 +47,7 @@ fn words_of(alloc: Global, items: &[Value]) -> Result<Vec<String>, Trouble> {
 
 /// What a run leaves. One that ended early may have been out of memory, so it is made again: what
 /// counts is then what the second leaves, if the output of the first is a beginning of its output.
-fn repeated(alloc: Global, machine: &Machine, words: &[String]) -> Left {
+fn repeated(alloc: Global, machine: &Machine, words: &[String]) -> Outcome {
     let first = left(alloc, machine, words);
     if first.status != ENDED {
         return first;
@@ -60,7 +60,7 @@ fn repeated(alloc: Global, machine: &Machine, words: &[String]) -> Left {
     }
 }
 
-fn left(alloc: Global, machine: &Machine, words: &[String]) -> Left {
+fn left(alloc: Global, machine: &Machine, words: &[String]) -> Outcome {
     let mut out: Vec<u8> = Vec::new(alloc);
     let mut err: Vec<u8> = Vec::new(alloc);
     let ran = run(
@@ -71,7 +71,7 @@ fn left(alloc: Global, machine: &Machine, words: &[String]) -> Left {
         &mut out,
         &mut err,
     );
-    Left {
+    Outcome {
         status: ran.unwrap_or(ENDED),
         out,
         err,
