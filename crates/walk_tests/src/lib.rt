@@ -4,4 +4,6 @@
 #[cfg(test)]
 mod entries;
 #[cfg(test)]
+mod hostile;
+#[cfg(test)]
 mod walks;

@@ -7,7 +7,7 @@ use std::alloc::Global;
 use std::cmp::Ordering;
 
 /// No filter, and names in the order of their bytes.
-struct Plain;
+pub struct Plain;
 
 impl Callbacks for Plain {
     ghost use Rattle.std.specs.Prelude.{◌≡◌, true, List, ℕ};
@@ -29,7 +29,7 @@ impl Callbacks for Plain {
 }
 
 /// As they are listed, on any device, with steps enough.
-fn options() -> Options {
+pub fn options() -> Options {
     Options {
         order: Order::Listed,
         same_file_system: false,
@@ -39,7 +39,7 @@ fn options() -> Options {
 
 /// A tree of lines: a path alone is a directory, `PATH=CONTENTS` a file, `PATH>TARGET` a link,
 /// `PATH?` a directory with one more entry that has no name, `PATH!` one that can't be listed.
-fn tree_of(alloc: Global, lines: &[&str]) -> anyhow::Result<MemoryTree> {
+pub fn tree_of(alloc: Global, lines: &[&str]) -> anyhow::Result<MemoryTree> {
     let mut tree = MemoryTree::new(alloc, "/")?;
     for line in lines {
         add_line(&mut tree, *line)?;
@@ -94,7 +94,8 @@ fn walked(
     Ok(text)
 }
 
-fn push_item(alloc: Global, text: &mut String, item: Item) -> anyhow::Result<()> {
+/// An item as text: the path of an entry, or an error in brackets.
+pub fn push_item(alloc: Global, text: &mut String, item: Item) -> anyhow::Result<()> {
     match item {
         Ok(entry) => text.push_str(entry.path())?,
         Err(error) => {
