@@ -6,4 +6,6 @@ mod entries;
 #[cfg(test)]
 mod hostile;
 #[cfg(test)]
+mod lazy;
+#[cfg(test)]
 mod walks;

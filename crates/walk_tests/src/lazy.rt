@@ -1,0 +1,84 @@
+//! A directory is listed when it is entered, and not before.
+use crate::walks::{Plain, options, tree_of};
+use ignore_dir::{Outside, Settings};
+use ignore_files::{Contents, Files, Identity, Listing, MemoryTree, Metadata, Name, Refusal};
+use ignore_walk::Walk;
+use std::alloc::Global;
+use std::cell::Cell;
+
+/// A tree in memory that notes whether this directory was listed.
+#[derive(Drop)]
+struct Watched<'t> {
+    tree: &'t MemoryTree,
+    dir: &'t str,
+    listed: Cell<bool>,
+}
+
+impl Files for Watched<'_> {
+    fn stat(&self, alloc: Global, path: &str, follow: bool) -> Result<Metadata, Refusal> {
+        self.tree.stat(alloc, path, follow)
+    }
+
+    fn list(&self, alloc: Global, path: &str) -> Result<Listing, Refusal> {
+        if path == self.dir {
+            self.listed.set(true);
+        }
+        self.tree.list(alloc, path)
+    }
+
+    fn contents(&self, alloc: Global, path: &str) -> Result<Contents, Refusal> {
+        self.tree.contents(alloc, path)
+    }
+
+    fn canonical(&self, alloc: Global, path: &str) -> Result<Name, Refusal> {
+        self.tree.canonical(alloc, path)
+    }
+
+    fn identity(
+        &self,
+        alloc: Global,
+        path: &str,
+        follow: bool,
+    ) -> Result<Option<Identity>, Refusal> {
+        self.tree.identity(alloc, path, follow)
+    }
+}
+
+/// Takes this many items of a walk of `/t`.
+fn take(alloc: Global, files: &Watched<'_>, items: u8) -> anyhow::Result<()> {
+    let mut names = Vec::new(alloc);
+    names.push(Name::new(String::from_str(alloc, "/t")?))?;
+    let (settings, outside) = (Settings::standard(alloc), Outside::empty(alloc));
+    let mut walk = Walk::new(alloc, files, &Plain, settings, outside, options(), names);
+    for _ in 0..items {
+        let _ = walk.next();
+    }
+    Ok(())
+}
+
+/// Whether this directory was listed once so many items were taken.
+fn is_listed(alloc: Global, dir: &str, items: u8) -> anyhow::Result<bool> {
+    let lines = ["/t", "/t/a", "/t/a/x=", "/t/a/y=", "/t/b", "/t/b/z="];
+    let tree = tree_of(alloc, &lines)?;
+    let files = Watched {
+        tree: &tree,
+        dir,
+        listed: Cell::new(false),
+    };
+    take(alloc, &files, items)?;
+    Ok(files.listed.get())
+}
+
+#[test]
+fn a_later_directory_is_not_listed_yet(rt: HostRuntime) -> anyhow::Result<()> {
+    assert!(rt; is_listed(rt.alloc(), "/t/a", 3)?);
+    assert!(rt; !is_listed(rt.alloc(), "/t/b", 3)?);
+    Ok(())
+}
+
+#[test]
+fn it_is_listed_when_it_is_entered(rt: HostRuntime) -> anyhow::Result<()> {
+    assert!(rt; !is_listed(rt.alloc(), "/t/b", 4)?);
+    assert!(rt; is_listed(rt.alloc(), "/t/b", 6)?);
+    Ok(())
+}
