@@ -64,6 +64,17 @@ impl Files for Endless<'_> {
 /// Three names that none may have, around one that it may.
 const BAD: &[&str] = &["..", "d", "a/b", ""];
 
+/// One identity.
+const ONE: Option<Identity> = Some(Identity {
+    device: 1,
+    inode: 2,
+});
+
+/// A good name, and two.
+const GOOD: &[&str] = &["d"];
+
+const TWO: &[&str] = &["d", "e"];
+
 /// Directories without an end, each listed with its bad names, and none with an identity.
 fn with_bad_names() -> Endless<'static> {
     Endless {
@@ -75,9 +86,11 @@ fn with_bad_names() -> Endless<'static> {
 
 /// The same, each listed with a good name alone.
 fn only_d() -> Endless<'static> {
-    let mut files = with_bad_names();
-    files.names = &["d"];
-    files
+    Endless {
+        names: GOOD,
+        kind: FileType::Dir,
+        identity: None,
+    }
 }
 
 /// The same as the first where what is listed are links, all of which lead to the same directory.
@@ -85,10 +98,7 @@ fn linked() -> Endless<'static> {
     Endless {
         names: BAD,
         kind: FileType::Symlink,
-        identity: Some(Identity {
-            device: 1,
-            inode: 2,
-        }),
+        identity: ONE,
     }
 }
 
@@ -248,9 +258,11 @@ fn links_without_an_identity(rt: HostRuntime) -> anyhow::Result<()> {
 #[test]
 fn directories_of_one_identity_are_no_loop(rt: HostRuntime) -> anyhow::Result<()> {
     let alloc = rt.alloc();
-    let mut files = linked();
-    files.kind = FileType::Dir;
-    files.names = &["d"];
+    let files = Endless {
+        names: GOOD,
+        kind: FileType::Dir,
+        identity: ONE,
+    };
     let text = walked(alloc, &files, following(alloc), limited(3))?;
     assert_eq!(rt; text.as_str(), "/r /r/d /r/d/d (step limit reached) .");
     Ok(())
@@ -259,8 +271,11 @@ fn directories_of_one_identity_are_no_loop(rt: HostRuntime) -> anyhow::Result<()
 #[test]
 fn links_that_are_not_followed(rt: HostRuntime) -> anyhow::Result<()> {
     let alloc = rt.alloc();
-    let mut files = linked();
-    files.names = &["d", "e"];
+    let files = Endless {
+        names: TWO,
+        kind: FileType::Symlink,
+        identity: ONE,
+    };
     let text = walked(alloc, &files, Settings::standard(alloc), options())?;
     assert_eq!(rt; text.as_str(), "/r /r/d /r/e .");
     Ok(())
