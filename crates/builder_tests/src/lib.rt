@@ -1,16 +1,10 @@
-//! Tests of the builder: its setters, the files that it reads, and the matchers and walks that it
-//! makes.
+//! Tests of the builder that no vector can say: its settings at first, its matchers, and the walks
+//! that are made without it.
 #![tactic(auto)]
 
-#[cfg(test)]
-mod calls;
-#[cfg(test)]
-mod explicit;
 #[cfg(test)]
 mod matchers;
 #[cfg(test)]
 mod settings;
 #[cfg(test)]
 mod walks;
-#[cfg(test)]
-mod world;

@@ -1,5 +1,5 @@
 //! Walks over files that answer as no tree does, and over a tree of which one call is refused.
-use crate::walks::{Plain, options, push_item, tree_of};
+use crate::walks::{Plain, items_of, options, tree_of};
 use ignore_base::Fault;
 use ignore_dir::{Outside, Settings};
 use ignore_files::{
@@ -113,22 +113,6 @@ fn following(alloc: Global) -> Settings {
     let mut settings = Settings::standard(alloc);
     settings.follow_links = true;
     settings
-}
-
-/// The items of a walk up to its end, which is a full stop.
-fn items_of<F: Files>(alloc: Global, walk: Walk<'_, F, Plain>) -> anyhow::Result<String> {
-    let mut walk = walk;
-    let mut text = String::new(alloc);
-    for _ in 0..2000u16 {
-        match walk.next() {
-            None => {
-                text.push('.')?;
-                return Ok(text);
-            }
-            Some(item) => push_item(alloc, &mut text, item)?,
-        }
-    }
-    Ok(text)
 }
 
 /// The walk of one root.
