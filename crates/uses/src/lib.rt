@@ -13,6 +13,4 @@ pub mod packer;
 pub mod reason;
 pub mod search;
 pub mod single;
-#[cfg(test)]
-mod tests;
 pub mod watcher;

@@ -33,7 +33,7 @@ pub fn ask_once<F: Files>(
 }
 
 /// A matcher of the paths below a root, by the settings at first, which keeps nothing yet.
-pub(crate) fn matcher_below<F: Files>(
+pub fn matcher_below<F: Files>(
     alloc: Global,
     files: &F,
     env: &Env,

@@ -1,0 +1,183 @@
+//! What asks about single paths, and what walks.
+use crate::rules::machine;
+use crate::trees::{UNKNOWN, tree_of};
+use ignore::files::{MemoryTree, TreeError};
+use ignore::{DirEntry, Error, Fault, IncrementalIgnore, WalkBuilder};
+use std::alloc::{AllocError, Global};
+use std::fmt;
+use std::test::Fail;
+use uses::backup::{complete_entries, complete_entries_on_disk};
+use uses::search::{Found, search_below, show};
+use uses::single::{ask_once, matcher_below};
+use uses::watcher::ask_after_change;
+
+/// A folder with an ignored file.
+const FOLDER: &[(&str, &[u8])] = &[
+    ("/p/", b""),
+    ("/p/.ignore", b"*.o\n"),
+    ("/p/a.o", b""),
+    ("/p/a.c", b""),
+];
+
+#[test]
+fn a_tool_asks_about_one_path(rt: HostRuntime) -> Result<(), Fail> {
+    let tree = tree_of(rt.alloc(), FOLDER)?;
+    let (found, error) = ask_once(rt.alloc(), &tree, &UNKNOWN, "/p", ".git", true)?;
+    assert!(rt; found.is_ignore() && error.is_none());
+    Ok(())
+}
+
+/// A repository with a file of rules in a folder of it.
+fn repository(alloc: Global, rules: &[u8]) -> Result<MemoryTree, TreeError> {
+    let none: &[u8] = b"";
+    let dirs = [("/p/", none), ("/p/.git/", none), ("/p/src/", none)];
+    let mut tree = tree_of(alloc, &dirs)?;
+    tree.add_file("/p/src/.gitignore", rules)?;
+    Ok(tree)
+}
+
+/// Whether a file of the folder is ignored, after its rules became these.
+fn ignored_after(
+    alloc: Global,
+    matcher: &mut IncrementalIgnore,
+    rules: &[u8],
+) -> Result<bool, Fail> {
+    let tree = repository(alloc, rules)?;
+    let (found, error) = ask_after_change(matcher, &tree, "src", "src/a.o", false)?;
+    Ok(found.is_ignore() && error.is_none())
+}
+
+fn matcher(alloc: Global, rules: &[u8]) -> Result<IncrementalIgnore, Fail> {
+    let tree = repository(alloc, rules)?;
+    Ok(matcher_below(alloc, &tree, &UNKNOWN, "/p")?)
+}
+
+#[test]
+fn a_watcher_asks_again(rt: HostRuntime) -> Result<(), Fail> {
+    let mut matcher = matcher(rt.alloc(), b"*.o\n")?;
+    assert!(rt; ignored_after(rt.alloc(), &mut matcher, b"*.o\n")?);
+    assert!(rt; !ignored_after(rt.alloc(), &mut matcher, b"*.c\n")?);
+    Ok(())
+}
+
+/// The paths of some entries, separated by spaces.
+fn paths_of(alloc: Global, entries: &[DirEntry]) -> Result<String, AllocError> {
+    let mut text = String::new(alloc);
+    for entry in entries {
+        text.push_str(entry.path())?;
+        text.push(' ')?;
+    }
+    Ok(text)
+}
+
+/// The entries of a backup of a root in the folder.
+fn backed_up(alloc: Global, tree: &MemoryTree, root: &str) -> Result<Vec<DirEntry>, Error> {
+    let builder = WalkBuilder::new(alloc, root)?;
+    complete_entries(alloc, &builder, tree, &UNKNOWN)
+}
+
+/// Their paths.
+fn backup(alloc: Global, tree: &MemoryTree, root: &str) -> Result<String, Error> {
+    let entries = backed_up(alloc, tree, root)?;
+    Ok(paths_of(alloc, entries.as_slice())?)
+}
+
+#[test]
+fn a_backup_has_all_entries(rt: HostRuntime) -> Result<(), Fail> {
+    let tree = tree_of(rt.alloc(), FOLDER)?;
+    assert_eq!(rt; backup(rt.alloc(), &tree, "/p")?.as_str(), "/p /p/a.c ");
+    Ok(())
+}
+
+#[test]
+fn a_backup_of_a_missing_folder_fails(rt: HostRuntime) -> Result<(), Fail> {
+    let tree = tree_of(rt.alloc(), FOLDER)?;
+    let result = backed_up(rt.alloc(), &tree, "/no");
+    assert!(rt; result.is_err_and(|error| error.is_io()));
+    Ok(())
+}
+
+/// The paths of a backup of a file of the machine.
+fn backup_of_machine(alloc: Global) -> Result<String, Error> {
+    let (machine, builder) = (machine(alloc)?, WalkBuilder::new(alloc, "/p/.gitignore")?);
+    let entries = complete_entries_on_disk(alloc, &builder, &machine, &UNKNOWN)?;
+    Ok(paths_of(alloc, entries.as_slice())?)
+}
+
+#[test]
+fn a_backup_of_a_machine(rt: HostRuntime) -> Result<(), Fail> {
+    let text = backup_of_machine(rt.alloc())?;
+    assert_eq!(rt; text.as_str(), "/p/.gitignore ");
+    Ok(())
+}
+
+/// A folder with four files, of which one is ignored and one isn't UTF-8.
+const SOURCES: &[(&str, &[u8])] = &[
+    ("/p/", b""),
+    ("/p/src/", b""),
+    ("/p/.ignore", b"*.o\n"),
+    ("/p/a.c", b"int x;\na needle\n\ntwo needles\r\n"),
+    ("/p/a.o", b"needle\n"),
+    ("/p/b.c", b"needle \xff\n"),
+    ("/p/src/c.c", b"needle"),
+];
+
+/// What a search for a word finds below `/p`.
+fn searched(alloc: Global, tree: &MemoryTree, word: &str) -> Result<Found, Error> {
+    let builder = WalkBuilder::new(alloc, "/p")?;
+    search_below(alloc, &builder, tree, &UNKNOWN, word)
+}
+
+/// The problems of a search, each on a line.
+fn problems(alloc: Global, problems: &[Error]) -> Result<String, fmt::Error> {
+    let mut text = String::new(alloc);
+    for problem in problems {
+        write!(text, "{problem}\n")?;
+    }
+    Ok(text)
+}
+
+/// What a search for `needle` finds: its hits, each on a line.
+fn hits(alloc: Global, found: &Found) -> Result<Vec<u8>, Fail> {
+    let mut out: Vec<u8> = Vec::new(alloc);
+    show(found.hits.as_slice(), &mut out)?;
+    Ok(out)
+}
+
+#[test]
+fn a_search_tool_finds_lines(rt: HostRuntime) -> Result<(), Fail> {
+    let found = searched(rt.alloc(), &tree_of(rt.alloc(), SOURCES)?, "needle")?;
+    let wanted = b"/p/src/c.c:1\n/p/a.c:2\n/p/a.c:4\n";
+    assert_eq!(rt; hits(rt.alloc(), &found)?.as_slice(), wanted.as_slice());
+    Ok(())
+}
+
+#[test]
+fn a_search_tool_reports_what_is_no_text(rt: HostRuntime) -> Result<(), Fail> {
+    let found = searched(rt.alloc(), &tree_of(rt.alloc(), SOURCES)?, "needle")?;
+    let text = problems(rt.alloc(), found.problems.as_slice())?;
+    assert_eq!(rt; text.as_str(), "/p/b.c: invalid data\n");
+    Ok(())
+}
+
+#[test]
+fn an_empty_word_is_in_each_line(rt: HostRuntime) -> Result<(), Fail> {
+    let found = searched(rt.alloc(), &tree_of(rt.alloc(), SOURCES)?, "")?;
+    assert_eq!(rt; found.hits.len(), 5);
+    Ok(())
+}
+
+/// The same folder, of which one file can't be read to its end.
+fn faulty(alloc: Global) -> Result<MemoryTree, TreeError> {
+    let mut tree = tree_of(alloc, SOURCES)?;
+    tree.cut_contents("/p/a.c", 15, Fault::Other)?;
+    Ok(tree)
+}
+
+#[test]
+fn a_search_goes_on_past_a_fault(rt: HostRuntime) -> Result<(), Fail> {
+    let found = searched(rt.alloc(), &faulty(rt.alloc())?, "needle")?;
+    assert_eq!(rt; hits(rt.alloc(), &found)?.as_slice(), b"/p/src/c.c:1\n".as_slice());
+    assert_eq!(rt; found.problems.len(), 2);
+    Ok(())
+}
