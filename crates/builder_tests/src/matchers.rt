@@ -3,7 +3,7 @@ use ignore::files::{Env, MemoryTree, TreeError};
 use ignore::{Error, IncrementalIgnore, WalkBuilder};
 use std::alloc::Global;
 
-/// A tree without files, and an environment of which nothing is known.
+/// An environment of which nothing is known.
 pub(crate) const UNKNOWN: Env = Env {
     current_dir: None,
     home: None,
@@ -52,6 +52,9 @@ fn roots_of_three(alloc: Global, tree: &MemoryTree) -> Result<String, Error> {
 #[test]
 fn roots_in_order(rt: HostRuntime) -> anyhow::Result<()> {
     let tree = bare(rt.alloc())?;
-    assert_eq!(rt; roots_of_three(rt.alloc(), &tree)?.as_str(), "/w/a /w/b /w/a ");
+    assert_eq!(rt;
+        roots_of_three(rt.alloc(), &tree)?.as_str(),
+        "/w/a /w/b /w/a "
+    );
     Ok(())
 }

@@ -1,4 +1,4 @@
-//! Tests that need code: lines added one by one, the machine's files beside a tree in memory, the
+//! Tests that need code: the machine's files beside a tree in memory, the
 //! environment of a process, and very long globs and files.
 #![tactic(auto)]
 
@@ -10,8 +10,6 @@ mod deep;
 mod disk;
 #[cfg(test)]
 mod environment;
-#[cfg(test)]
-mod example;
 #[cfg(test)]
 mod faults;
 #[cfg(test)]

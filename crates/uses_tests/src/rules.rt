@@ -1,10 +1,10 @@
 //! What asks rules alone.
 use crate::trees::tree_of;
+use ignore::Error;
 use ignore::files::{Bytes, Identity, Row, TableMachine};
 use ignore::gitignore::{Gitignore, GitignoreBuilder};
 use ignore::overrides::{Override, OverrideBuilder};
 use ignore::types::{Types, TypesBuilder};
-use ignore::Error;
 use std::alloc::{AllocError, Global};
 use std::collections::BTreeMap;
 use std::test::Fail;
@@ -87,7 +87,11 @@ fn linted(alloc: Global, globs: &Override, path: &str) -> Result<bool, Error> {
 #[test]
 fn a_linter_looks_at_its_types(rt: HostRuntime) -> Result<(), Fail> {
     let globs = not_generated(rt.alloc())?;
-    for (path, wanted) in [("src/a.rs", true), ("src/a.gen.rs", false), ("README", false)] {
+    for (path, wanted) in [
+        ("src/a.rs", true),
+        ("src/a.gen.rs", false),
+        ("README", false),
+    ] {
         assert_eq!(rt; linted(rt.alloc(), &globs, path)?, wanted);
     }
     Ok(())

@@ -177,7 +177,10 @@ fn faulty(alloc: Global) -> Result<MemoryTree, TreeError> {
 #[test]
 fn a_search_goes_on_past_a_fault(rt: HostRuntime) -> Result<(), Fail> {
     let found = searched(rt.alloc(), &faulty(rt.alloc())?, "needle")?;
-    assert_eq!(rt; hits(rt.alloc(), &found)?.as_slice(), b"/p/src/c.c:1\n".as_slice());
+    assert_eq!(rt;
+        hits(rt.alloc(), &found)?.as_slice(),
+        b"/p/src/c.c:1\n".as_slice()
+    );
     assert_eq!(rt; found.problems.len(), 2);
     Ok(())
 }
