@@ -78,13 +78,13 @@ returns-clause-reports g c = λ tree loads honest are agrees asked rules.
     ∙ (ap (λ (l : List Problem). l ++ (first ++ filter_map (λ p. p) (new_below scene old (components path))))
     (ap (map problem_of) c.new-errors.ensures.items)
     ∙ ap (λ l. first ++ filter_map (λ p. p) (new_below scene old l)) (names_are tree root path rules)) in
-    let told = c.in_ok-verdict-2.ensures.problem tree honest
+    let said = c.in_ok-verdict-2.ensures.problem tree honest
     ∙ (ap (λ (l : List Problem). l ++ option_to_list (size_problem file (size_limit s is_dir c.in_ok-verdict.verdict)
     (tree.stat file s.follow_links))) walked
     ∙ (ap (λ v. (first ++ filter_map (λ p. p) below) ++ option_to_list (size_problem file (size_limit s is_dir v)
     (tree.stat file s.follow_links))) said
     ∙ collected_three (new_above scene old) below size)) in
-    c.joined.ensures ∙ ap joined told
+    c.joined.ensures ∙ ap joined said
 
 pub returns-clause-soft : goal.returns-clause-soft
 returns-clause-soft g c =

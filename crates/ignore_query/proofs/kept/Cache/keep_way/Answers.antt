@@ -190,13 +190,13 @@ returns-then-not-branch-clause-problems g c = λ tree loads honest are agrees cl
     let ignored = was_true _ (sym yes ∙ off) in
     let now = map problem_of c.loop-i.errors.items in
     let old = map problem_of c.args.errors.now.items in
-    let told = c.in_ok-keep.ensures.problems tree loads honest are w.agrees clean1 key1 next1
+    let said = c.in_ok-keep.ensures.problems tree loads honest are w.agrees clean1 key1 next1
     ∙ (ap (λ (l : List Problem). now ++ l) (ignored_problems scene c.loop-i.self _ ignored) ∙ append-nil now) in
     let rest = ap (λ (l : List (List (List ℕ))). now ++ collected (problems_of scene c.args.self.now l)) here
     ∙ (ap (λ (l : List Problem). now ++ l) (no_problems scene c.args.self.now (take i p) (left (take (i + 1) p) (drop (i + 1) p)) (ap
     (is_ignored scene) (sym mt) ∙ ignored))
     ∙ append-nil now) in
-    told ∙ sym (ap (λ (l : List Problem). old ++ l) (below_is scene c.args.self.now p) ∙ (w.problems ∙ rest))
+    said ∙ sym (ap (λ (l : List Problem). old ++ l) (below_is scene c.args.self.now p) ∙ (w.problems ∙ rest))
 
 pub loop-i-preserved : goal.loop-i-preserved
 loop-i-preserved g c =
@@ -240,7 +240,7 @@ loop-i-preserved g c =
           let on : c.in_ok-keep.field-0 ≡ true = c.if-not-branch.false in
           let open' = ap (is_ignored scene) (sym mt) ∙ was_false _ (sym yes ∙ on) in
           let now = map problem_of c.loop-i.errors.items in
-          let told = c.in_ok-keep.ensures.problems tree loads honest are w.agrees clean1 key1 next1
+          let said = c.in_ok-keep.ensures.problems tree loads honest are w.agrees clean1 key1 next1
           ∙ (ap (λ (f : List (List ℕ)). now ++ problems_at scene c.loop-i.self f) mt
           ∙ ap (λ (l : List Problem). now ++ l) (same_problems scene c.loop-i.self c.args.self.now (take i p) (inv.others i
           (omega arith)))) in
@@ -262,7 +262,7 @@ loop-i-preserved g c =
                 ∙ (ap (λ (l : List Problem). now ++ l) (next_problems scene c.args.self.now (take i p) after open')
                 ∙ (sym (append_assoc now (problems_at scene c.args.self.now (take i p)) (collected
                 (problems_of scene c.args.self.now after)))
-                ∙ ap (λ (l : List Problem). l ++ collected (problems_of scene c.args.self.now after)) (sym told))));
+                ∙ ap (λ (l : List Problem). l ++ collected (problems_of scene c.args.self.now after)) (sym said))));
           };
     }
 
