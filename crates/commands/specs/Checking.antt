@@ -37,10 +37,11 @@ word_of v.Whitelist = codes "whitelist"
 abbrev pub check_line : IncrementalMatch → Path → Bytes
 check_line found path = word_of found.verdict ++ (32 ∷ (path ++ 10 ∷ []))
 
--- what is written of a path to the output, and to the errors
+-- what is written of a path to the output
 abbrev pub line_for : Checked → Bytes
 line_for c = check_line c.found c.path
 
+-- what is reported of a path as an error
 abbrev pub report_for : Checked → Bytes
 report_for c = report_of c.problem
 

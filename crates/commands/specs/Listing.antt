@@ -20,6 +20,7 @@ abbrev pub lines_of : Item → Bytes
 lines_of (Ok (e, p)) = path_line e.path
 lines_of (Err p) = []
 
+-- the line that reports a problem, if there is one
 abbrev pub report_of : Option Problem → Bytes
 report_of None = []
 report_of (Some p) = report_line p
@@ -29,6 +30,7 @@ abbrev pub reports_of : Item → Bytes
 reports_of (Ok (e, p)) = report_of p
 reports_of (Err p) = report_line p
 
+-- there is a problem
 abbrev pub is_known : Option Problem → Bool
 is_known None = false
 is_known (Some p) = true

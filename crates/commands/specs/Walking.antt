@@ -27,8 +27,8 @@ pub record IsTrimmed (given root : Path) : Type 0 where
   pub some : root ≡ [] → given ≡ []
 
 -- what the walk of a list is a walk of: a tree with the loads of its directories, the settings at
--- first, these rules from outside, any device, each entry, and the names of a directory in the order
--- of texts
+-- first, these rules from outside, any device, each entry, and the names of a directory in the
+-- order of texts
 abbrev pub listing : Tree → (Path → Loaded) → Outside → Scene
 listing tree loads outside =
     record {
@@ -52,8 +52,8 @@ pub record IsCut (all items : List Item) : Type 0 where
   pub begins : items ≡ front ++ rest
   pub are : all ≡ front ++ Err (io StepLimit) ∷ []
 
--- these are all items of a walk of so many steps, or, where that is more than the limit, a beginning
--- of them, and then its error
+-- these are all items of a walk of so many steps, or, where that is more than the limit, a
+-- beginning of them, and then its error
 abbrev pub AreWithin : List Item → List Item → ℕ → Type 0
 AreWithin all items steps = ((steps ≤ most_steps) × (all ≡ items)) ⊎ ((most_steps < steps) × IsCut all items)
 

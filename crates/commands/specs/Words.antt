@@ -16,6 +16,7 @@ pub record Question : Type 0 where
 abbrev pub kind_of : Bytes → Option Bool
 kind_of word = if bytes_eq word (codes "d") then Some true else (if bytes_eq word (codes "f") then Some false else None)
 
+-- the question of these words, where the last one is valid
 abbrev pub ask : Path → Bytes → Path → Option Bool → Option Question
 ask root rules path None = None
 ask root rules path (Some is_dir) = Some (record { root = root; rules = rules; path = path; is_dir = is_dir })

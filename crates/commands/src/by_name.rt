@@ -1,4 +1,5 @@
-//! The order of the names of a directory: that of texts. Each entry passes.
+//! The callbacks of `list`: each entry passes, and the names of a directory come in the order of
+//! texts.
 
 use ignore_walk::{Callbacks, DirEntry};
 use std::cmp::Ordering;

@@ -6,9 +6,13 @@ ghost use Rattle.commands.specs.Words.{question_of, request_view, kind_of, roots
 /// directory or not.
 #[derive(Clone, Copy)]
 pub struct Request<'w> {
+    /// The root.
     pub root: &'w str,
+    /// The lines of the rules.
     pub rules: &'w str,
+    /// The path.
     pub path: &'w str,
+    /// Whether the path is a directory.
     pub is_dir: bool,
 }
 

@@ -1,5 +1,5 @@
--- What a builder reads of the files: a file that is added by name, at once, and the global file, when
--- the builder is asked.
+-- What a builder reads of the files: a file that is added by name, at once, and the global file,
+-- when the builder is asked.
 use Rattle.std.specs.Prelude.{◌≡◌, Bool, true, false, Option, None, Some, Result}
 use Rattle.ignore_base.specs.declared.fault.Fault.TheVariants.{NoCurrentDir}
 use Rattle.ignore_base.specs.Problem.{Problem, io}
@@ -40,8 +40,8 @@ IsAnswerOf Gives path start rules problem =
     (answer : Result Contents Refusal) × (filled : Building) × Gives answer
     × AddsAnswer path answer start filled problem × (rules ≡ built filled)
 
--- the rules of the file at a path were added, relative to the directory, and its problem is reported;
--- where no directory is known, nothing was added, and that is reported
+-- the rules of the file at a path were added, relative to the directory, and its problem is
+-- reported; where no directory is known, nothing was added, and that is reported
 abbrev pub AddsIgnoreIn : Tree → Path → Option Path → WalkOptions → WalkOptions → Option Problem → Type 0
 AddsIgnoreIn tree path None old new reported = (new ≡ old) × (reported ≡ Some (io NoCurrentDir))
 AddsIgnoreIn tree path (Some dir) old new reported =
@@ -56,8 +56,8 @@ abbrev pub AddsIgnoreBy : (Result Contents Refusal → Type 0) → Path → Path
 AddsIgnoreBy Gives path dir old new reported =
     (rules : Ruleset) × IsAnswerOf Gives path (explicit_start old dir) rules reported × (new ≡ with_explicit old rules)
 
--- the rules of the global file, if it is asked for and its directory is known; what is wrong with it
--- isn't reported
+-- the rules of the global file, if it is asked for and its directory is known; what is wrong with
+-- it isn't reported
 abbrev pub IsGlobalIf : Bool → Tree → Env → WalkOptions → Option Path → Ruleset → Type 0
 IsGlobalIf false tree env b dir rules = rules ≡ empty
 IsGlobalIf true tree env b None rules = rules ≡ empty
@@ -68,8 +68,8 @@ IsGlobalIf true tree env b (Some dir) rules =
 abbrev pub IsGlobal : Tree → Env → WalkOptions → Ruleset → Type 0
 IsGlobal tree env b rules = IsGlobalIf b.settings.git_global tree env b (base_dir b env) rules
 
--- the rules from outside of the directories: overrides, types and files added by name as the builder
--- has them, and the global file
+-- the rules from outside of the directories: overrides, types and files added by name as the
+-- builder has them, and the global file
 pub record IsOutside (tree : Tree) (env : Env) (b : WalkOptions) (outside : Outside) : Type 0 where
   pub overrides : outside.overrides ≡ b.overrides
   pub types : outside.types ≡ b.types

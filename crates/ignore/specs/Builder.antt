@@ -34,22 +34,27 @@ with_roots b paths = record b { roots = b.roots ++ paths }
 abbrev pub with_custom : WalkOptions → Bytes → WalkOptions
 with_custom b name = record b { settings = record b.settings { custom = b.settings.custom ++ name ∷ [] } }
 
--- the builder with one filter set
+-- the builder by which hidden entries are ignored, or not
 abbrev pub with_hidden : WalkOptions → Bool → WalkOptions
 with_hidden b on = record b { settings = record b.settings { hidden = on } }
 
+-- the builder by which the rules of the directories above a root count, or not
 abbrev pub with_parents : WalkOptions → Bool → WalkOptions
 with_parents b on = record b { settings = record b.settings { parents = on } }
 
+-- the builder by which `.ignore` files count, or not
 abbrev pub with_ignore : WalkOptions → Bool → WalkOptions
 with_ignore b on = record b { settings = record b.settings { ignore = on } }
 
+-- the builder by which the global file counts, or not
 abbrev pub with_git_global : WalkOptions → Bool → WalkOptions
 with_git_global b on = record b { settings = record b.settings { git_global = on } }
 
+-- the builder by which `.gitignore` files count, or not
 abbrev pub with_git_ignore : WalkOptions → Bool → WalkOptions
 with_git_ignore b on = record b { settings = record b.settings { git_ignore = on } }
 
+-- the builder by which exclude files count, or not
 abbrev pub with_git_exclude : WalkOptions → Bool → WalkOptions
 with_git_exclude b on = record b { settings = record b.settings { git_exclude = on } }
 

@@ -13,7 +13,7 @@ raised None greatest = greatest
 raised (Some least) None = None
 raised (Some least) (Some greatest) = Some (max least greatest)
 
--- a least depth, lowered to the greatest one where both are set and it is above that: 1 and 3 give 1
+-- a least depth, lowered to the greatest one where both are set and it is above: 1 and 3 give 1
 abbrev pub lowered : Option ℕ → Option ℕ → Option ℕ
 lowered None least = least
 lowered (Some greatest) None = None

@@ -15,10 +15,10 @@ use Rattle.ignore_walk.specs.declared.callbacks.Order.{Order}
 use Rattle.ignore.specs.declared.options.WalkOptions.{WalkOptions}
 use Rattle.ignore.specs.Asked.{IsOutside}
 
--- a scene is one of a walk in a tree, by options, by rules from outside, and by an order and a filter
--- that `owner` keeps: it has the tree and the loads of its directories, the settings, these rules, a
--- function by which the filter answers, and an order by which the comparison answers, in which two
--- names may tie
+-- a scene is one of a walk in a tree, by options, by rules from outside, and by an order and a
+-- filter that `owner` keeps: it has the tree and the loads of its directories, the settings, these
+-- rules, a function by which the filter answers, and an order by which the comparison answers, in
+-- which two names may tie
 pub record IsSceneOf {S : Type 0} (calls : Callbacks S) (owner : S) (b : WalkOptions) (order : Order) (t : Tree) (o : Outside)
     (g : Scene) : Type 0 where
   pub tree : g.tree ≡ t
@@ -29,18 +29,18 @@ pub record IsSceneOf {S : Type 0} (calls : Callbacks S) (owner : S) (b : WalkOpt
   pub filter : calls.filters owner g.keep
   pub sorted : IsOrderBy order (calls.compares owner) g.order
 
--- these items are exactly the list of the definition in a tree: there are rules from outside, as they
--- were read, by which they are what the roots give in each scene of the walk: root by root the
--- reachable entries that the rules keep, parents first, siblings in the chosen order, errors in their
--- places. And the limit of steps allows the list
+-- these items are exactly the list of the definition in a tree: there are rules from outside, as
+-- they were read, by which they are what the roots give in each scene of the walk: root by root the
+-- reachable entries that the rules keep, parents first, siblings in the chosen order, errors in
+-- their places. And the limit of steps allows the list
 abbrev pub IsListIn : {S : Type 0} → Callbacks S → S → Env → WalkOptions → Order → Tree → List Item → Type 0
 IsListIn calls owner env b order tree all =
     (o : Outside) × IsOutside tree env b o
     × ((g : Scene) (items : List Item) (n : ℕ) → IsSceneOf calls owner b order tree o g → Whole g b.roots items n
     → (all ≡ items) × (n ≤ b.limit))
 
--- the headline: a finished walk has yielded exactly the list of the definition, in each tree that the
--- files are consistent with
+-- the headline: a finished walk has yielded exactly the list of the definition, in each tree that
+-- the files are consistent with
 abbrev pub Headline : {F S : Type 0} → Files F → Callbacks S → F → S → Env → WalkOptions → Order → List Item → Type 0
 Headline files calls f owner env b order all = (tree : Tree) → IsHonest files f tree → IsListIn calls owner env b order tree all
 

@@ -18,8 +18,8 @@ use Rattle.ignore.specs.Asked.{IsOutside}
 use Rattle.ignore.specs.Closures.{options_of}
 
 -- a walk is one by these options, over files and in an environment, with this order and an owner of
--- the filter and the comparison: for each tree that the files are consistent with there are rules from
--- outside, as they were read, by which the list of the definition remains of the walk
+-- the filter and the comparison: for each tree that the files are consistent with there are rules
+-- from outside, as they were read, by which the list of the definition remains of the walk
 abbrev pub IsWalkBy : {F S : Type 0} → Files F → Callbacks S → F → S → Env → WalkOptions → Order → Walk F S → Type 0
 IsWalkBy files calls f owner env b order w =
     (tree : Tree) → IsHonest files f tree → (o : Outside) × IsOutside tree env b o

@@ -1,5 +1,5 @@
-//! Trees of files: the trait that a caller's tree has, the files of a machine, a tree in memory, and
-//! the environment of a run.
+//! Trees of files: the trait that a caller's tree has, the files of a machine, a tree in memory,
+//! and the environment of a run.
 
 pub use ignore_files::{
     Bytes, Contents, DiskFiles, Env, FileType, Files, Identity, Listed, Listing, Machine,

@@ -36,7 +36,8 @@ names_from_root dir path = option_map (λ p. steps [] (components p)) (full_path
 abbrev pub rest_below : List Bytes → List Bytes → Option Path
 rest_below root names = if starts_with bytes_eq names root then Some (joined (drop (length root) names)) else None
 
--- there is nothing to compare: the root or the path is empty, or the root is `-`, for standard input
+-- there is nothing to compare: the root or the path is empty, or the root is `-`, for standard
+-- input
 abbrev pub is_without_names : Path → Path → Bool
 is_without_names root path = length root == 0 || bytes_eq root (codes "-") || length path == 0
 

@@ -13,25 +13,22 @@ use std::alloc::{AllocError, Global};
 
 /// An error of parsing rules, of building a matcher or of walking files.
 ///
-/// An error may be tagged: with the line or the path that it belongs to, or
-/// with the depth in a walk. `clone` itself can be out of memory, and returns
-/// `AllocError` then; the clone reports the same problem. `Display` prints the
-/// text that is given with each variant.
+/// An error may be tagged: with the line or the path that it belongs to, or with the depth in a
+/// walk. `clone` itself can be out of memory, and returns `AllocError` then; the clone reports the
+/// same problem. `Display` prints the text that is given with each variant.
 #[derive(Debug, Drop)]
 pub enum Error {
-    /// Several errors at once, as when some lines of an ignore file are valid
-    /// and some are not. It is printed as their texts, separated by newlines.
+    /// Several errors at once, as when some lines of an ignore file are valid and some are not. It
+    /// is printed as their texts, separated by newlines.
     Partial(Vec<Error>),
-    /// An error at a line of a file, printed as `line N: ` and the text of the
-    /// error inside.
+    /// An error at a line of a file, printed as `line N: ` and the text of the error inside.
     WithLineNumber {
         /// The number of the line, of which the first has number 1.
         line: u64,
         /// The error at that line.
         err: Box<Error>,
     },
-    /// An error at a path, printed as the path, `: ` and the text of the error
-    /// inside.
+    /// An error at a path, printed as the path, `: ` and the text of the error inside.
     WithPath {
         /// The path of the file or directory.
         path: String,
@@ -45,8 +42,8 @@ pub enum Error {
         /// The error there.
         err: Box<Error>,
     },
-    /// A symbolic link leads back to a directory that the walk is in, printed
-    /// as `File system loop found: CHILD points to an ancestor ANCESTOR`.
+    /// A symbolic link leads back to a directory that the walk is in, printed as
+    /// `File system loop found: CHILD points to an ancestor ANCESTOR`.
     Loop {
         /// The path of the directory that the link leads back to.
         ancestor: String,
@@ -55,30 +52,28 @@ pub enum Error {
     },
     /// A fault of the file system or of the walk, printed as the fault.
     Io(Fault),
-    /// An invalid glob, printed as `error parsing glob 'GLOB': ERR`,
-    /// or as `ERR` alone where the glob is not known.
+    /// An invalid glob, printed as `error parsing glob 'GLOB': ERR`, or as `ERR` alone where the
+    /// glob is not known.
     Glob {
-        /// The glob as its user wrote it, where it is known. It may differ
-        /// from what is matched in the end, as a line of a gitignore file
-        /// does.
+        /// The glob as its user wrote it, where it is known. It may differ from what is matched in
+        /// the end, as a line of a gitignore file does.
         glob: Option<String>,
         /// Its parse error.
         err: String,
     },
-    /// A file type was selected that has no definition, printed as
-    /// `unrecognized file type: NAME`.
+    /// A file type was selected that has no definition, printed as `unrecognized file type: NAME`.
     UnrecognizedFileType(String),
     /// An invalid definition of a file type, printed as
     /// `invalid definition (format is type:glob, e.g., html:*.html)`.
     InvalidDefinition,
-    /// Out of memory, printed as `out of memory`. The original has no such
-    /// variant, since there the process ends.
+    /// Out of memory, printed as `out of memory`. The original has no such variant, since there the
+    /// process ends.
     Memory,
 }
 
 impl Error {
-    /// Whether this is a partial error: whether it is several, maybe tagged
-    /// with a line, a path or a depth.
+    /// Whether this is a partial error: whether it is several, maybe tagged with a line, a path or
+    /// a depth.
     pub fn is_partial(&self) -> bool
         ensures { result ≡ is_partial (problem_of self.now) }
     {
@@ -98,9 +93,8 @@ impl Error {
         self.io_error().is_some()
     }
 
-    /// The fault of this error, if it is one. Tags with a line, a path or a
-    /// depth are skipped, and so is a partial error with exactly one member.
-    /// Several errors have no fault.
+    /// The fault of this error, if it is one. Tags with a line, a path or a depth are skipped, and
+    /// so is a partial error with exactly one member. Several errors have no fault.
     pub fn io_error(&self) -> Option<&Fault>
         ensures { option_copied result ≡ io_fault (problem_of self.now) }
     {
@@ -118,16 +112,15 @@ impl Error {
         }
     }
 
-    /// The fault that `io_error` returns, by value: the error is consumed. It
-    /// allocates nothing.
+    /// The fault that `io_error` returns, by value: the error is consumed. It allocates nothing.
     pub fn into_io_error(self) -> Option<Fault>
         ensures { result ≡ io_fault (problem_of self) }
     {
         self.io_error().copied()
     }
 
-    /// The depth of the walk that this error is tagged with, directly or inside
-    /// a path. A depth inside a line number or a partial error is not returned.
+    /// The depth of the walk that this error is tagged with, directly or inside a path. A depth
+    /// inside a line number or a partial error is not returned.
     pub fn depth(&self) -> Option<usize>
         ensures { result ≡ depth_of (problem_of self.now) }
     {
@@ -138,9 +131,9 @@ impl Error {
         }
     }
 
-    /// The errors as one: none for no error, the error itself for one, else one
-    /// partial error with all of them as members, in order. A member that is
-    /// partial itself stays one member. It allocates nothing.
+    /// The errors as one: none for no error, the error itself for one, else one partial error with
+    /// all of them as members, in order. A member that is partial itself stays one member. It
+    /// allocates nothing.
     ///
     /// For dependents; no part of the surface of `ignore`.
     pub fn joined(mut errors: Vec<Error>) -> Option<Error>

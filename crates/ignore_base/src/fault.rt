@@ -6,33 +6,27 @@ use std::fmt;
 
 /// Why a file or a directory could not be used.
 ///
-/// It stands where the original has a `std::io::Error`: a fault is a plain
-/// value that can be copied and compared. Its text, as `Display` prints it, is
-/// given with each.
+/// It stands where the original has a `std::io::Error`: a fault is a plain value that can be copied
+/// and compared. Its text, as `Display` prints it, is given with each.
 #[derive(Clone, Copy, Debug, PartialEq, Eq)]
 pub enum Fault {
     /// Nothing is there: `not found`.
     NotFound,
     /// The system refuses access: `permission denied`.
     PermissionDenied,
-    /// A directory was expected, or a component of the path follows a file:
-    /// `not a directory`.
+    /// A directory was expected, or a component of the path follows a file: `not a directory`.
     NotADirectory,
     /// A file was expected and there is a directory: `is a directory`.
     IsADirectory,
-    /// The bytes are not what was expected, as a line that is not UTF-8:
-    /// `invalid data`.
+    /// The bytes are not what was expected, as a line that is not UTF-8: `invalid data`.
     InvalidData,
-    /// A listed name is not UTF-8, or is not a name at all:
-    /// `file name is not UTF-8`.
+    /// A listed name is not UTF-8, or is not a name at all: `file name is not UTF-8`.
     BadName,
     /// Resolving a path led through too many symbolic links: `too many links`.
     LinkLimit,
-    /// Whether two paths lead to one directory or one device is unknown:
-    /// `identity unknown`.
+    /// Whether two paths lead to one directory or one device is unknown: `identity unknown`.
     NoIdentity,
-    /// The working directory is needed and not known:
-    /// `current directory unknown`.
+    /// The working directory is needed and not known: `current directory unknown`.
     NoCurrentDir,
     /// A walk has done all steps that it was given: `step limit reached`.
     StepLimit,

@@ -38,8 +38,8 @@ impl<T> Match<T> {
         matches!(self, Match::Whitelist(_))
     }
 
-    /// The same match with `Ignore` and `Whitelist` changed for each other. No
-    /// match stays no match.
+    /// The same match with `Ignore` and `Whitelist` changed for each other. No match stays no
+    /// match.
     pub fn invert(self) -> Match<T>
         ensures { result ≡ invert self }
     {
@@ -60,8 +60,7 @@ impl<T> Match<T> {
         }
     }
 
-    /// The same match with `f` of what decided. Where no glob matched, `f` isn't
-    /// called.
+    /// The same match with `f` of what decided. Where no glob matched, `f` isn't called.
     pub fn map<U, F: FnOnce(T) -> U>(self, f: F) -> Match<U>
         requires { ForSome (inner self) (F.pre f) }
         ensures value { IsMapped (F.post f) self result }

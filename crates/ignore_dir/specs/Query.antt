@@ -32,7 +32,7 @@ abbrev pub names_of : Path → List Bytes
 names_of [] = []
 names_of (b ∷ bs) = components (b ∷ bs)
 
--- how many names it has
+-- how many names a clean path has
 abbrev pub depth_of : Path → ℕ
 depth_of path = length (names_of path)
 

@@ -19,7 +19,7 @@ abbrev mutual
   holds_memory invalid_definition = false
   holds_memory memory = true
 
-  -- one of the problems is so
+  -- one of the problems is out of memory, or one inside it is
   pub some_holds : Problems → Bool
   some_holds no_problems = false
   some_holds (problem p ps) = holds_memory p || some_holds ps
@@ -29,12 +29,12 @@ abbrev pub IsSoft : Option Problem → Type 0
 IsSoft None = Unit {0}
 IsSoft (Some p) = holds_memory p ≡ false
 
--- all of them are so
+-- no problem of a list is out of memory, or has it inside
 abbrev pub AllSoft : List Problem → Type 0
 AllSoft [] = Unit {0}
 AllSoft (p ∷ ps) = (holds_memory p ≡ false) × AllSoft ps
 
--- a problem on the way to a place is so
+-- no problem was met on the way to a place, or one that is nowhere out of memory
 abbrev pub IsSoftPlace : Place → Type 0
 IsSoftPlace (Ok found) = Unit {0}
 IsSoftPlace (Err p) = holds_memory p ≡ false

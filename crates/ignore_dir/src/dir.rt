@@ -13,7 +13,7 @@ pub struct Dir {
     pub gitignore: Gitignore,
     /// The rules of the exclude file.
     pub exclude: Gitignore,
-    /// Whether a repository begins here.
+    /// Whether a repository begins here: whether there is a `.git` or a `.jj`, where marks matter.
     pub mark: bool,
 }
 

@@ -25,8 +25,8 @@ pub fn one_load()
 
 /// What is said one name at a time is what is said over whole lists: what is reached at the root
 /// (`root`), the verdict on an entry of a directory (`verdict`), what is reached in the directory
-/// that an entry is (`entered`), what the rules say of a path (`rules`), and the problems on the way
-/// (`problems`).
+/// that an entry is (`entered`), what the rules say of a path (`rules`), and the problems on the
+/// way (`problems`).
 pub fn steps_are_whole()
     ensures root { (g : Scene) (dirs : List Placed) (text path : List ℕ)
         → dirs ≡ placed_along 1 (dirs_above g.loads g.settings (paths_above g.tree g.settings g.root))

@@ -36,9 +36,11 @@ abbrev pub IsQuote : Bool → Bytes → Type 0
 IsQuote true prefix = prefix ≡ 34 ∷ []
 IsQuote false prefix = prefix ≡ []
 
+-- a `"`, or nothing
 abbrev pub IsOptionalQuote : Bytes → Type 0
 IsOptionalQuote prefix = (quoted : Bool) × IsQuote quoted prefix
 
+-- an equals sign
 abbrev pub IsEquals : Bytes → Type 0
 IsEquals prefix = prefix ≡ 61 ∷ []
 

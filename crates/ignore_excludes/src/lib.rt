@@ -1,4 +1,4 @@
-//! The excludes file that git's configuration names. `ignore_rules` re-exports this crate, in its
+//! The excludes file that git's configuration names. `ignore_rules` re-exports its one call, in the
 //! module `gitignore`.
 #![tactic(auto)]
 

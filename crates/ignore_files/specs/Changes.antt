@@ -49,7 +49,7 @@ abbrev pub added : Kind → ℕ → Memory → Path → Result Memory TreeError
 added kind len tree path =
     and_then (λ parent. Ok (record tree { nodes = with_node tree.nodes path kind len parent })) (parent_for tree.nodes path)
 
--- the same for an empty directory, a file and a link
+-- an empty directory is added
 abbrev pub dir_added : Memory → Path → Result Memory TreeError
 dir_added = added (Dir []) 0
 
@@ -65,7 +65,7 @@ link_added target = added (Link target) (length target)
 abbrev pub set_at : (Kind → Bool) → (Node → Node) → Memory → Path → Result Memory TreeError
 set_at test f tree path = and_then (λ place. Ok (record tree { nodes = changed f tree.nodes place })) (sought test tree.nodes path)
 
--- the results of the other calls
+-- a directory has one more entry, which has no name
 abbrev pub nameless_added : Memory → Path → Result Memory TreeError
 nameless_added = set_at is_directory (listing_too Nameless)
 

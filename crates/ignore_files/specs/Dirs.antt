@@ -9,9 +9,9 @@ use Rattle.ignore_files.specs.declared.types.Listed.{Listed}
 use Rattle.ignore_files.specs.declared.types.Listed.TheVariants.{Entry}
 use Rattle.ignore_files.specs.declared.types.Metadata.{Metadata}
 
--- a tree has at most n directories: they have numbers below n, and a listed one has a greater number
--- than the directory that lists it. A path has the number of the directory to which it leads, and
--- paths with one number have one identity
+-- a tree has at most n directories: they have numbers below n, and a listed one has a greater
+-- number than the directory that lists it. A path has the number of the directory to which it
+-- leads, and paths with one number have one identity
 pub record IsNumbered (tree : Tree) (n : ℕ) : Type 0 where
   pub number : Path → ℕ
   pub found : (path : Path) (m : Metadata) → tree.stat path true ≡ Ok m → is_dir m.file_type ≡ true → number path < n

@@ -25,7 +25,7 @@ machine_of files = files.rt.now
 abbrev pub metadata_of : Stat → Result Metadata Refusal
 metadata_of stat = Ok stat.metadata
 
--- its numbers
+-- the numbers of what was heard of a path
 abbrev pub identity_of : Stat → Result (Option Identity) Refusal
 identity_of stat = Ok (Some stat.identity)
 

@@ -4,7 +4,7 @@ use Rattle.ignore_base.specs.Text.{Bytes}
 use Rattle.ignore_files.specs.declared.memory.entry.Entry.{Entry}
 use Rattle.ignore_files.specs.declared.memory.entry.Entry.TheVariants.{Named, Nameless}
 
--- the node of the entry with a name
+-- the node of the entry with a name, if there is one
 abbrev pub named : Bytes → List Entry → Option ℕ
 named name [] = None
 named name (Named n file_type node ∷ entries) = cond (bytes_eq n name) (Some node) (named name entries)

@@ -40,7 +40,7 @@ pub record IsStatOf {R M E D F : Type 0} (machine : Ghosts R M E D F) (metadata 
   pub device : machine.dev_gives metadata stat.identity.device
   pub inode : machine.ino_gives metadata stat.identity.inode
 
--- it is read off what was heard, if that is no refusal
+-- the same of what was heard; a refusal stays
 abbrev pub Reads : {R M E D F : Type 0} → Ghosts R M E D F → Result M Refusal → Result Stat Refusal → Type 0
 Reads machine (Ok metadata) (Ok stat) = IsStatOf machine metadata stat
 Reads machine (Ok metadata) (Err refusal) = ⊥
@@ -59,7 +59,7 @@ IsReported machine (Ok entry) item =
     (kind : Result MachineType Error) × machine.entry_type_gives entry kind × IsEntryOf (machine.file_name_gives entry) kind item
 IsReported machine (Err error) item = IsFaultOf error item
 
--- all of them are reported, in their order
+-- all things that a directory gives are reported, in their order
 abbrev pub AreReported : {R M E D F : Type 0} → Ghosts R M E D F → List (Result E Error) → List Listed → Type 0
 AreReported machine [] [] = Unit {0}
 AreReported machine [] (item ∷ items) = ⊥

@@ -1,4 +1,4 @@
-//! Asking a system, and telling its errors.
+//! Asking a system, and reporting its errors.
 ghost use Rattle.std.specs.Prelude.{◌≡◌, ◌↔◌, true, IsTrue, IsErrAnd};
 ghost use Rattle.std.specs.IoError.{error_kind, raw_os_error};
 ghost use Rattle.std.specs.declared.io.ErrorKind.TheVariants.{Interrupted};

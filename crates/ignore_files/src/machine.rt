@@ -57,23 +57,23 @@ pub trait Machine {
     fn metadata(&self, path: &str) -> io::Result<Self::Metadata>
         ensures { metadata_gives self.now path.now result };
 
-    /// The same where a link in last place isn't followed.
+    /// What is said of what the path leads to, a link in last place not followed.
     fn symlink_metadata(&self, path: &str) -> io::Result<Self::Metadata>
         ensures { symlink_metadata_gives self.now path.now result };
 
-    /// Its type.
+    /// The type of what an answer is about.
     fn file_type(metadata: &Self::Metadata) -> fs::FileType
         ensures { file_type_gives metadata.now result };
 
-    /// Its size in bytes.
+    /// The size of what an answer is about, in bytes.
     fn len(metadata: &Self::Metadata) -> u64
         ensures { len_gives metadata.now result };
 
-    /// The number of the device that holds it.
+    /// The number of the device that holds what an answer is about.
     fn dev(metadata: &Self::Metadata) -> u64
         ensures { dev_gives metadata.now result };
 
-    /// Its number on that device.
+    /// The number on that device of what an answer is about.
     fn ino(metadata: &Self::Metadata) -> u64
         ensures { ino_gives metadata.now result };
 

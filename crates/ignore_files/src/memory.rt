@@ -192,7 +192,8 @@ impl MemoryTree {
         Ok(())
     }
 
-    /// How many directories there are, `/` among them. (For the walk above.)
+    /// How many directories there are, `/` among them.
+    /// For dependents.
     pub fn dir_count(&self) -> usize
         ensures { result ≡ dir_count self.now }
     {

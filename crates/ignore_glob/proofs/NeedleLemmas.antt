@@ -206,7 +206,8 @@ of_text needles ts each text fits m = subst (λ l. HasOneOf needles l) (utf8-cha
 
 -- Branches and classes.
 
--- what a branch matches begins, after the run, with a text that is there, or a branch from here on matches it
+-- what a branch matches begins, after the run, with a text that is there, or a branch from here on
+-- matches it
 abbrev pub Spelt : Branches → Branches → List ℕ → List (List ℕ) → Type 0
 Spelt all rest run texts = (w : List ℕ) → branch_matches false all w → branch_matches false rest w ⊎ HasOneOf texts (run ++ utf8 w)
 
@@ -230,7 +231,8 @@ spelt_all bs run texts some spelt front w (inr m) = elim (spelt w m) [
   | inr has ↦ after_front texts front run (utf8 w) has
 ]
 
--- a character of the class, after the run, begins with a text that is there, or a range from here on has it
+-- a character of the class, after the run, begins with a text that is there, or a range from here
+-- on has it
 abbrev pub Listed : List (ℕ × ℕ) → List (ℕ × ℕ) → List ℕ → List (List ℕ) → Type 0
 Listed all rest run texts = (c : ℕ) → IsTrue (in_ranges all c) → IsTrue (in_ranges rest c) ⊎ HasOneOf texts (run ++ utf8 (c ∷ []))
 

@@ -17,6 +17,7 @@ abbrev pub class_tree : Bool → Gv → Gv
 class_tree false ranges = gcons (gnum 0) ranges
 class_tree true ranges = gcons (gnum 1) ranges
 
+-- the trees of a token, of tokens and of branches
 abbrev mutual
   pub token_tree : Token → Gv
   token_tree any = gnum 0
@@ -36,7 +37,7 @@ abbrev mutual
   branches_tree no_branch = gnil
   branches_tree (branch ts bs) = gcons (tokens_tree ts) (branches_tree bs)
 
--- the way back; a tree of no token has any value
+-- the number of a tree; a tree of another form has any value
 abbrev pub number : Gv → ℕ
 number gnil = 0
 number (gnum n) = n
@@ -67,6 +68,7 @@ abbrev pub class_from : ℕ → List (ℕ × ℕ) → Token
 class_from zero ranges = class false ranges
 class_from (suc n) ranges = class true ranges
 
+-- the token, the tokens and the branches of a tree
 abbrev mutual
   pub token_from : Gv → Token
   token_from gnil = any
@@ -95,6 +97,7 @@ pub class_back : (negated : Bool) (ranges : List (ℕ × ℕ)) → token_from (c
 class_back false ranges = λ i. class false (ranges_back ranges i)
 class_back true ranges = λ i. class true (ranges_back ranges i)
 
+-- a token, tokens and branches come back from their trees
 mutual
   pub token_back : (t : Token) → token_from (token_tree t) ≡ t
   token_back any = refl

@@ -49,6 +49,7 @@ abbrev pub has_no_branch : Branches → Bool
 has_no_branch no_branch = true
 has_no_branch (branch ts bs) = false
 
+-- whether a token, tokens in their order, and some branch match the text
 abbrev mutual
   pub does_token_match : Bool → Token → Chars → Bool
   does_token_match fold (literal c) w = is_one (is_case_of fold c) w

@@ -4,6 +4,7 @@ use Rattle.ignore_base.specs.Text.{Chars}
 use Rattle.ignore_glob.specs.Nodes.{Node, literal_at, any_at, star_at, start_at, middle_at, end_at, until_slash, until_end, class_at}
 use Rattle.ignore_glob.specs.Nodes.{fork_at, StepsByNothing, StepsBy, Marked}
 
+-- the flag of a position is set
 abbrev pub IsFlagged : List Bool → ℕ → Type 0
 IsFlagged flags p = slice_get flags p ≡ Some true
 
@@ -22,7 +23,7 @@ Count fold nodes text zero n = CountAt fold nodes text zero n
 Count fold nodes text (suc o) n =
     (before here : ℕ) × Count fold nodes text o before × CountAt fold nodes text (suc o) here × (n ≡ before + here)
 
--- The node at p leads to positions up to the end, and by no character only to later ones.
+-- the node at p leads to positions up to the end, and by no character only to later ones
 abbrev pub LeadsOn : Node → ℕ → ℕ → Type 0
 LeadsOn (literal_at k next) p end = next ≤ end
 LeadsOn (any_at next) p end = next ≤ end
@@ -39,9 +40,10 @@ LeadsOn (fork_at firsts) p end = All (λ q. (p < q) × (q ≤ end)) firsts
 abbrev pub AllLeadOn : List Node → Type 0
 AllLeadOn nodes = (p : ℕ) (node : Node) → slice_get nodes p ≡ Some node → LeadsOn node p (length nodes)
 
--- the position p, one of these, steps to q by no character; by the character c
+-- the position p, one of these, steps to q by no character
 abbrev pub StepsAt : List Node → (ℕ → Type 0) → ℕ → ℕ → Type 0
 StepsAt nodes from p q = (node : Node) × from p × (slice_get nodes p ≡ Some node) × StepsByNothing node p q
 
+-- the position p, one of these, steps to q by the character c
 abbrev pub StepsAtBy : Bool → List Node → (ℕ → Type 0) → ℕ → ℕ → ℕ → Type 0
 StepsAtBy fold nodes from c p q = (node : Node) × from p × (slice_get nodes p ≡ Some node) × StepsBy fold node c p q

@@ -18,6 +18,7 @@ literal_of end = None
 literal_of (class negated ranges) = None
 literal_of (alternates bs) = None
 
+-- the token is a recursive start
 abbrev pub is_start : Token → Bool
 is_start (literal c) = false
 is_start any = false
@@ -28,6 +29,7 @@ is_start end = false
 is_start (class negated ranges) = false
 is_start (alternates bs) = false
 
+-- the token is a star
 abbrev pub is_star : Token → Bool
 is_star (literal c) = false
 is_star any = false
@@ -67,6 +69,7 @@ abbrev pub below_form : Tokens → Form
 below_form done = other
 below_form (then t ts) = cond (is_star t) (keyed ending (literals ts)) (keyed name (literals (then t ts)))
 
+-- literals, or what follows `**/`
 abbrev pub tokens_form : Tokens → Form
 tokens_form done = other
 tokens_form (then t ts) = cond (is_start t) (below_form ts) (keyed whole (literals (then t ts)))

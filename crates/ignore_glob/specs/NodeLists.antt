@@ -45,6 +45,7 @@ is_lone_start (then (alternates bs) ts) = false
 abbrev pub glob_nodes : Tokens → List Node
 glob_nodes ts = cond (is_lone_start ts) (start_at 2 ∷ until_end 2 ∷ []) (tokens_nodes ts 0 (width ts))
 
+-- the node that a node of the program stands for
 abbrev pub node_view : CodeNode → Node
 node_view (Code.Literal c next) = literal_at c next
 node_view (Code.Any next) = any_at next
@@ -57,13 +58,15 @@ node_view (Code.UntilEnd next) = until_end next
 node_view (Code.Class k next) = class_at k.negated k.ranges.items next
 node_view (Code.Fork firsts) = fork_at firsts.items
 
+-- the nodes that nodes of the program stand for
 abbrev pub nodes_view : List CodeNode → List Node
 nodes_view = map node_view
 
--- proofs distinguish two nodes by their kind and their parts
+-- the kind and the parts of a node, by which proofs distinguish two nodes
 abbrev pub Parts : Type 0
 Parts = ℕ × (ℕ × (ℕ × (Bool × (List (ℕ × ℕ) × List ℕ))))
 
+-- the kind and the parts of a node
 abbrev pub parts : Node → Parts
 parts (literal_at c next) = (0, (next, (c, (false, ([], [])))))
 parts (any_at next) = (1, (next, (0, (false, ([], [])))))
@@ -76,6 +79,7 @@ parts (until_end next) = (7, (next, (0, (false, ([], [])))))
 parts (class_at negated ranges next) = (8, (next, (0, (negated, (ranges, [])))))
 parts (fork_at firsts) = (9, (0, (0, (false, ([], firsts)))))
 
+-- the node of a kind with these parts
 abbrev pub of_kind : ℕ → ℕ → ℕ → Bool → List (ℕ × ℕ) → List ℕ → Node
 of_kind zero next c negated ranges firsts = literal_at c next
 of_kind (suc zero) next c negated ranges firsts = any_at next
@@ -88,9 +92,11 @@ of_kind (suc (suc (suc (suc (suc (suc (suc zero))))))) next c negated ranges fir
 of_kind (suc (suc (suc (suc (suc (suc (suc (suc zero)))))))) next c negated ranges firsts = class_at negated ranges next
 of_kind (suc (suc (suc (suc (suc (suc (suc (suc (suc n))))))))) next c negated ranges firsts = fork_at firsts
 
+-- the node of a kind and parts
 abbrev pub from_parts : Parts → Node
 from_parts p = of_kind p.0 p.1.0 p.1.1.0 p.1.1.1.0 p.1.1.1.1.0 p.1.1.1.1.1
 
+-- a node comes back from its kind and its parts
 pub parts_back : (node : Node) → from_parts (parts node) ≡ node
 parts_back (literal_at c next) = refl
 parts_back (any_at next) = refl
@@ -103,6 +109,7 @@ parts_back (until_end next) = refl
 parts_back (class_at negated ranges next) = refl
 parts_back (fork_at firsts) = refl
 
+-- the code of a node
 abbrev pub node_code : Coded Node
 node_code =
     code_by Parts (coded× coded_ℕ (coded× coded_ℕ (coded× coded_ℕ

@@ -22,7 +22,7 @@ pub data Node : Type 0 where
   -- the first position of each branch
   fork_at : List ℕ → Node
 
--- by no character, from the node at p to q
+-- a step by no character leads from the node at p to q
 abbrev pub StepsByNothing : Node → ℕ → ℕ → Type 0
 StepsByNothing (literal_at k next) p q = ⊥
 StepsByNothing (any_at next) p q = ⊥
@@ -35,8 +35,8 @@ StepsByNothing (until_end next) p q = q ≡ next
 StepsByNothing (class_at negated ranges next) p q = ⊥
 StepsByNothing (fork_at firsts) p q = Contains firsts q
 
--- By the character c, from the node at p to q; the first argument says whether ASCII case is
--- folded.
+-- a step by the character c leads from the node at p to q; the first argument says whether ASCII
+-- case is folded
 abbrev pub StepsBy : Bool → Node → ℕ → ℕ → ℕ → Type 0
 StepsBy fold (literal_at k next) c p q = IsCaseOf fold k c × (q ≡ next)
 StepsBy fold (any_at next) c p q = (c ≢ slash) × (q ≡ next)
@@ -49,7 +49,7 @@ StepsBy fold (until_end next) c p q = q ≡ p
 StepsBy fold (class_at negated ranges next) c p q = IsMember fold negated ranges c × (q ≡ next)
 StepsBy fold (fork_at firsts) c p q = ⊥
 
--- how many positions there are
+-- how many positions a token, tokens and branches have
 abbrev mutual
   pub token_width : Token → ℕ
   token_width (literal c) = 1
@@ -84,7 +84,7 @@ abbrev pub fork : Branches → ℕ → ℕ → List ℕ
 fork no_branch b e = e ∷ []
 fork (branch ts bs) b e = entries (branch ts bs) b e
 
--- the tokens stand at b, and next is e
+-- the nodes of a token, of tokens and of branches stand at b, and e is next after them
 abbrev mutual
   pub TokenAt : List Node → Token → ℕ → ℕ → Type 0
   TokenAt nodes (literal c) b e = slice_get nodes b ≡ Some (literal_at c e)

@@ -29,6 +29,7 @@ Tests fold (any_at next) c = c ≢ slash
 Tests fold (class_at negated ranges next) c = IsMember fold negated ranges c
 Tests fold node c = ⊥
 
+-- each character but a slash leads from the node to itself
 abbrev pub is_star : Node → Bool
 is_star (star_at next) = true
 is_star node = false
@@ -88,7 +89,7 @@ leads_next (until_end next) p = nat_eq next (p + 1)
 leads_next (class_at negated ranges next) p = nat_eq next (p + 1)
 leads_next (fork_at firsts) p = false
 
--- each node leads so, the first of which stands at p
+-- each node leads to the position after it, or after its inside; the first stands at p
 abbrev pub is_line : List Node → ℕ → Bool
 is_line [] p = true
 is_line (node ∷ nodes) p = leads_next node p && is_line nodes (suc p)

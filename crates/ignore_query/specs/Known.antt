@@ -31,8 +31,8 @@ way_by None = Unknown
 way_by (Some kept.Ignored) = Shut
 way_by (Some (kept.Loaded dir)) = Open
 
--- this becomes of the way to a path of names, by a chain of the directories on it, the nearest last:
--- none is ignored, and the chain is that of the path; or one is ignored
+-- this becomes of the way to a path of names, by a chain of the directories on it, the nearest
+-- last: none is ignored, and the chain is that of the path; or one is ignored
 abbrev pub IsWay : Scene → Cache → List Bytes → List Placed → Way → Type 0
 IsWay g c names chain Open =
     (list_any (is_ignored g) (ancestors names) ≡ false)

@@ -20,7 +20,7 @@ problem_in g names = (g.loads (path_along g.root names)).1
 abbrev pub problems_at : Scene → Cache → List Bytes → List Problem
 problems_at g c names = if is_some (kept_at c names) || is_ignored g names then [] else option_to_list (problem_in g names)
 
--- those of some directories of which nothing is kept
+-- of some directories those of which nothing is kept
 abbrev pub not_kept : Cache → List (List Bytes) → List (List Bytes)
 not_kept c fronts = filter (λ names. not (is_some (kept_at c names))) fronts
 

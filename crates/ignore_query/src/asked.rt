@@ -3,8 +3,8 @@
 use ignore_dir::{Outside, Settings};
 use std::alloc::AllocError;
 
-/// What all queries of a matcher share: the settings, the rules from outside, and the root; and in
-/// which directory relative paths are.
+/// What all queries of a matcher share: the settings, the rules from outside, the root, and the
+/// working directory.
 #[derive(Debug, Drop)]
 pub struct Asked {
     /// The settings.

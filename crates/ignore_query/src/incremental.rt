@@ -69,8 +69,8 @@ impl IncrementalIgnore {
 
     /// The text by which the queries know a path: the path relative to the root, both in normal
     /// form. Empty components and `.` are left out, and `..` removes the component before it, if
-    /// any. What doesn't begin with `/`, the root too, is in the working directory of the `Env` that
-    /// `build_matchers` was given. Links are not looked at.
+    /// any. What doesn't begin with `/`, the root too, is in the working directory of the `Env`
+    /// that `build_matchers` was given. Links are not looked at.
     ///
     /// None for an empty path, for an empty root and for the root `-`; where the path isn't at or
     /// below the root; and where the path or the root is relative and the working directory isn't

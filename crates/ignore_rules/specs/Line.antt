@@ -7,17 +7,19 @@ use Rattle.std.specs.Str.{trim_end, bytes_eq}
 use Rattle.ignore_base.specs.Text.{Bytes}
 use Rattle.ignore_base.specs.Paths.{has_slash}
 
--- the text begins with this prefix, or ends with this suffix
+-- the text begins with this prefix
 abbrev pub has_prefix : Bytes → Bytes → Bool
 has_prefix start text = starts_with nat_eq text start
 
+-- the text ends with this suffix
 abbrev pub has_suffix : Bytes → Bytes → Bool
 has_suffix end text = ends_with nat_eq text end
 
--- the text without this prefix, or this suffix, where it has it
+-- the text without this prefix, where it has it
 abbrev pub without_prefix : Bytes → Bytes → Bytes
 without_prefix start text = if has_prefix start text then drop (length start) text else text
 
+-- the text without this suffix, where it has it
 abbrev pub without_suffix : Bytes → Bytes → Bytes
 without_suffix end text = if has_suffix end text then take (length text - length end) text else text
 

@@ -126,13 +126,13 @@ AddsSomething =
     (path : Path) (read : Result Contents Fault) (old : Building)
     → (new : Building) × (problem : Option Problem) × AddsContents path read old new problem
 
--- adding it leads to one builder, with one problem, if any
+-- adding what was read leads to one builder, with one problem, if any
 abbrev pub AddsOneThing : Type 0
 AddsOneThing =
     (path : Path) (read : Result Contents Fault) (old new other : Building) (problem reported : Option Problem)
     → AddsContents path read old new problem → AddsContents path read old other reported → (new ≡ other) × (problem ≡ reported)
 
--- adding it keeps the root and the options
+-- adding what was read keeps the root and the options
 abbrev pub KeepsTheRoot : Type 0
 KeepsTheRoot =
     (path : Path) (read : Result Contents Fault) (old new : Building) (problem : Option Problem)

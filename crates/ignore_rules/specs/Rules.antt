@@ -94,7 +94,7 @@ begun root =
       options = record { glob = record { case_insensitive = false; allow_unclosed_class = true }; git_trailing_spaces = false };
     }
 
--- the builder with one option of later lines set
+-- the builder of which later lines match both ASCII cases, or not
 abbrev pub with_case_insensitive : Building → Bool → Building
 with_case_insensitive b on =
     with_options b (record {
@@ -110,6 +110,7 @@ with_unclosed_class b on =
       git_trailing_spaces = b.options.git_trailing_spaces;
     })
 
+-- the builder of which later lines have trailing spaces read by git's own rule, or not
 abbrev pub with_git_trailing_spaces : Building → Bool → Building
 with_git_trailing_spaces b on = with_options b (record { glob = b.options.glob; git_trailing_spaces = on })
 

@@ -14,7 +14,8 @@ IsFrontOf text front = (rest : List ℕ) × (text ≡ front ++ rest)
 abbrev pub IsPast : List ℕ → List IndexedText → ℕ → Type 0
 IsPast text needles end = (j : ℕ) (n : IndexedText) → end ≤ j → slice_get needles j ≡ Some n → HasSubslice text n.text → ⊥
 
--- there are 4,096 buckets, and each needle's place is in the one of its first three bytes, or among the short ones
+-- there are 4,096 buckets, and each needle's place is in the one of its first three bytes, or among
+-- the short ones
 pub record AreBucketsOf (buckets : Buckets) (needles : List IndexedText) : Type 0 where
   pub count : length buckets.long.items ≡ 4096
   pub long : (j : ℕ) (n : IndexedText) → slice_get needles j ≡ Some n → 3 ≤ length n.text

@@ -50,7 +50,8 @@ IsMarked table text = bit_or (end_bit text) (get_or table.marks (end_word text) 
 abbrev pub IsNoted : Table → List ℕ → Type 0
 IsNoted table text = IsAmong table.lengths.items (length text) × IsMarked table text
 
--- the table of the patterns of a form: the last under each text for each kind; and the texts are noted
+-- the table of the patterns of a form: the last under each text for each kind; and the texts are
+-- noted
 pub record IsTableOf (form : List ℕ → Form) (table : Table) (ms : List Member) : Type 0 where
   pub slots : (is_dir : Bool) (text : List ℕ) → IsAfterLast (λ m. (form_of m.reading ≡ form text) × Allows is_dir m) ms
       (after is_dir (slot_at table text))

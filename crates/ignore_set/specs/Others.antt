@@ -1,4 +1,4 @@
--- Patterns that no table has, and the texts without which they don't match.
+-- Patterns that no table has, and their needles: texts without which they don't match.
 use Rattle.std.specs.Prelude.{◌≡◌, ◌⊎◌, ℕ, ◌+◌, ◌*◌, ◌^◌, ◌%◌, ◌<◌, ◌≤◌, Bool, List, [], ◌∷◌, slice_get, Some, bit_or, refl}
 use Rattle.std.specs.Coded.{Coded, code_by, coded×, coded_list, coded_ℕ}
 use Rattle.std.specs.Str.{chars, IsUtf8}
@@ -7,11 +7,12 @@ use Rattle.ignore_glob.specs.Forms.{other, form_of}
 use Rattle.ignore_glob.specs.Reading.{Matches}
 use Rattle.ignore_set.specs.Sets.{Member, Applies}
 
--- the index of a pattern, and a text
+-- a needle: the index of a pattern, and a text
 pub record IndexedText : Type 0 where
   pub index : ℕ
   pub text : List ℕ
 
+-- the code of a needle
 abbrev pub indexed_text_code : Coded IndexedText
 indexed_text_code =
     code_by (ℕ × List ℕ) (coded× coded_ℕ (coded_list coded_ℕ)) (λ n. (n.index, n.text))
@@ -44,7 +45,8 @@ bucket_of (a ∷ []) = 0
 bucket_of (a ∷ b ∷ []) = 0
 bucket_of (a ∷ b ∷ c ∷ text) = bucket_at a b c
 
--- for each pattern of no form, the texts one of which is in each text that it matches, by rising indices
+-- for each pattern of no form, the texts one of which is in each text that it matches, by rising
+-- indices
 pub record AreOthers (others : List IndexedText) (ms : List Member) : Type 0 where
   pub each : (i : ℕ) (m : Member) → slice_get ms i ≡ Some m → form_of m.reading ≡ other
       → (text : List ℕ) → IsUtf8 text → Matches m.reading (chars text)
@@ -53,7 +55,8 @@ pub record AreOthers (others : List IndexedText) (ms : List Member) : Type 0 whe
   pub formless : (j : ℕ) (n : IndexedText) → slice_get others j ≡ Some n
       → (m : Member) × (slice_get ms n.index ≡ Some m) × (form_of m.reading ≡ other)
 
--- n is one more than the greatest index at which a pattern of no form applies, or `best` where that is no less
+-- n is one more than the greatest index at which a pattern of no form applies, or `best` where that
+-- is no less
 pub record IsFoundFrom (text : List ℕ) (is_dir : Bool) (ms : List Member) (best n : ℕ) : Type 0 where
   pub kept : best ≤ n
   pub above : (i : ℕ) (m : Member) → slice_get ms i ≡ Some m → form_of m.reading ≡ other → Applies (chars text) is_dir m → i < n

@@ -12,6 +12,7 @@ pub record Member : Type 0 where
   pub reading : Reading
   pub only_dir : Bool
 
+-- the code of a pattern of a set
 abbrev pub member_code : Coded Member
 member_code =
     code_by (Reading × Bool) (coded× reading_code coded_bool) (λ m. (m.reading, m.only_dir))
@@ -50,9 +51,10 @@ form_passes (name text) = 0
 form_passes (ending text) = 0
 form_passes other = 1
 
+-- the passes over positions that a pattern may need
 abbrev pub passes_of : Member → ℕ
 passes_of m = form_passes (form_of m.reading)
 
--- how many patterns fold case, or aren't literals, alone or after `**/` or `**/*`
+-- how many patterns fold case, or aren't one or more literals, alone or after `**/` or `**/*`
 abbrev pub pass_bound : List Member → ℕ
 pass_bound ms = sum_by passes_of ms

@@ -8,8 +8,8 @@ ghost use Rattle.ignore_set.specs.Others.{IndexedText};
 use crate::needle::{Needle, bucket_of};
 use std::alloc::{AllocError, Global};
 
-/// The places of needles in their list: of those of at least three bytes under one of 4,096 buckets,
-/// by their first three, and of the shorter ones. Or no bucket, where the needles are few.
+/// The places of needles in their list: of those of at least three bytes under one of 4,096
+/// buckets, by their first three, and of the shorter ones. Or no bucket, where the needles are few.
 #[derive(Debug, Drop)]
 pub(crate) struct Buckets {
     long: Vec<Vec<usize>>,

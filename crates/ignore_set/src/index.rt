@@ -21,9 +21,9 @@ use std::alloc::{AllocError, Global};
 /// last of them that matches a text.
 ///
 /// A pattern of literals, alone or after `**/` or `**/*`, stands in a table under its text. The
-/// others are tried one by one, from the last, where a text is in the queried one without which they
-/// don't match. Where there are many such texts, the last of them in the queried one is found by
-/// buckets.
+/// others are tried one by one, from the last, where a text is in the queried one without which
+/// they don't match. Where there are many such texts, the last of them in the queried one is found
+/// by buckets.
 #[derive(Debug, Drop)]
 pub struct Index {
     whole: Table,
@@ -84,7 +84,7 @@ impl Index {
     }
 
     /// As `last_match`, with how many patterns this call tried by a pass over positions: at most
-    /// those that fold case or aren't literals, alone or after `**/` or `**/*`.
+    /// those that fold case or aren't one or more literals, alone or after `**/` or `**/*`.
     ///
     /// # Errors
     /// As `last_match`.
@@ -116,7 +116,7 @@ impl Index {
         whole.max(name).max(end)
     }
 
-    /// A place from which no text without which a pattern doesn't match is in this one.
+    /// A place from which no needle is in the text.
     fn end_of(&self, text: &str) -> usize
         requires { 0 < length self.now.buckets.long.items → AreBucketsOf self.now.buckets self.now.others.items }
         ensures past { IsPast text.now self.now.others.items result }
@@ -162,7 +162,7 @@ fn without_buckets<M: HasPattern>(alloc: Global, members: &[M]) -> Result<Index,
     Ok(index)
 }
 
-/// As `last_other`, which looks at the whole text. Where none of the needles is in it, nothing does.
+/// As `last_other`, which looks at the whole text and isn't called where no needle is in it.
 fn last_if_any<M: HasPattern>(
     members: &[M],
     others: &[Needle],

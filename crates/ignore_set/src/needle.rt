@@ -7,8 +7,8 @@ ghost use Rattle.ignore_set.specs.Others.{bit_of, bucket_at, bucket_of, first_bi
 use std::alloc::AllocError;
 use std::marker::Model;
 
-/// The index of a pattern, and a text: where the text isn't in another, the pattern doesn't match
-/// that, unless one of its other needles is in it.
+/// A needle: the index of a pattern, and a text. A text that has none of the needles of a pattern
+/// isn't matched by it.
 #[derive(Debug, Drop)]
 pub(crate) struct Needle {
     index: usize,

@@ -70,7 +70,7 @@ impl PatternSet {
     }
 
     /// As `last_match`, with how many patterns this call tried by a pass over positions: at most
-    /// those that fold case or aren't literals, alone or after `**/` or `**/*`.
+    /// those that fold case or aren't one or more literals, alone or after `**/` or `**/*`.
     ///
     /// # Errors
     /// As `last_match`.

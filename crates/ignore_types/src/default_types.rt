@@ -3,9 +3,9 @@
 /// A row of the table of default types: some names for the same globs.
 pub type DefaultType = (&'static [&'static str], &'static [&'static str]);
 
-/// The default types, with the globs of each in the order in which they are
-/// added: the names and the globs of the first 44 rows of the table of `ignore`
-/// 0.4.34, in its order, and of its row `rust`. The original has many more.
+/// The default types, with the globs of each in the order in which they are added: the names and
+/// the globs of the first 44 rows of the table of `ignore` 0.4.34, in its order, and of its row
+/// `rust`. The original has many more.
 pub const DEFAULT_TYPES: [DefaultType; 45] = [
     (&["ada"], &["*.adb", "*.ads"]),
     (&["agda"], &["*.agda", "*.lagda"]),

@@ -1,4 +1,4 @@
-//! File types: globs under a name, of which some are chosen. `ignore_rules` re-exports this crate.
+//! File types: globs under a name, of which some are chosen. `ignore` re-exports this crate.
 #![tactic(auto)]
 
 pub mod default_types;

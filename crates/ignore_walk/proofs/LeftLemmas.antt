@@ -1,4 +1,4 @@
--- What is left of a walk stays the same while items are made of it, and each step leaves one step fewer.
+-- What is left of a walk stays the same while items are made of it; each step leaves one fewer.
 use Rattle.std.proofs.Common.{◌≡◌, ℕ, suc, ◌+◌, ◌<◌, true, false, List, [], ◌∷◌, ◌++◌, length, bytes_eq, codes, None, Ok, Err, refl, sym, ◌∙◌, ap, subst, arith, append_assoc}
 use Rattle.std.proofs.lemmas.List.{append-nil}
 use Rattle.ignore_base.specs.Problem.{Problem}

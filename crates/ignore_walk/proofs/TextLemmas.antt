@@ -1,5 +1,5 @@
--- The text of a place ends with a slash, and so do those of the directories around it: their ends are
--- boundaries of characters.
+-- The text of a place ends with a slash, and so do those of the directories around it: their ends
+-- are boundaries of characters.
 use Rattle.std.proofs.Common.{◌≡◌, ℕ, ◌+◌, ◌≤◌, ◌-◌, ◌<◌, List, [], ◌∷◌, ◌++◌, length, map, reverse, get_or, All, sym, ap, ◌∙◌, append_assoc, subst, arith}
 use Rattle.std.proofs.Math.Seq.{get_or-append_seam}
 use Rattle.std.proofs.lemmas.List.{append-nil, get_or-map, get_or_append_left, length-append, length-map}

@@ -69,14 +69,14 @@ with_device g is_dir e =
 abbrev pub followed_link : Path → ℕ → Metadata → Result Entry Problem
 followed_link path depth m = Ok (record { path = path; depth = depth; kind = Some m.file_type; followed = true })
 
--- what is at a path where an entry of this kind was listed: a link is followed where that was chosen
+-- what is at a path where an entry of this kind was listed: a link is followed where that is set
 abbrev pub found : Scene → Path → ℕ → FileType → Result Entry Problem
 found g path depth kind =
     if g.settings.follow_links && is_symlink kind
     then or_failed path depth (followed_link path depth) (g.tree.stat path true)
     else Ok (record { path = path; depth = depth; kind = Some kind; followed = false })
 
--- a listed name that is none is a fault of the listing
+-- a listed thing, or a fault in its place where its name is no name
 abbrev pub named : Listed → Listed
 named (thing.Entry name kind) = if is_proper name && not (has_slash name) then thing.Entry name kind else thing.Fault BadName
 named (thing.Fault fault) = thing.Fault fault

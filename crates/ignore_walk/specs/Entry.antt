@@ -75,6 +75,7 @@ abbrev pub metadata_by : Tree → Entry → Option FileType → Result Metadata 
 metadata_by tree e None = Err (at_path (codes "<stdin>") (io NoMetadata))
 metadata_by tree e (Some kind) = metadata_or_problem e (tree.stat e.path e.followed)
 
+-- the metadata of what an entry is
 abbrev pub metadata_of : Tree → Entry → Result Metadata Problem
 metadata_of tree e = metadata_by tree e e.kind
 
@@ -89,5 +90,6 @@ abbrev pub inode_by : Tree → Entry → Option FileType → Option ℕ
 inode_by tree e None = None
 inode_by tree e (Some kind) = known_inode (tree.identity e.path e.followed)
 
+-- the inode of what an entry is
 abbrev pub inode_of : Tree → Entry → Option ℕ
 inode_of tree e = inode_by tree e e.kind

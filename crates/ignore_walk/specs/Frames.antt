@@ -20,6 +20,7 @@ counts d =
     not (length d.custom.rules == 0)
     || (not (length d.ignore.rules == 0) || (not (length d.gitignore.rules == 0) || (not (length d.exclude.rules == 0) || d.mark)))
 
+-- a directory with an offset counts in a chain
 abbrev pub counting : Placed → Bool
 counting p = counts p.0
 

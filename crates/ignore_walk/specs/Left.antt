@@ -21,8 +21,8 @@ pub record State : Type 0 where
   pub seen : List Path
   pub roots : List Path
 
--- what the entered directories still give, the innermost first, and the steps that are left: what is
--- left of its listing, one step to leave it, and then the same of the ones around it
+-- what the entered directories still give, the innermost first, and the steps that are left: what
+-- is left of its listing, one step to leave it, and then the same of the ones around it
 pub data Left (g : Scene) (root : Path) : Branch → List (List Listed) → List Item → ℕ → Type 0 where
   outermost : {xs : List Listed} {own : List Item} {m : ℕ} → WalkedEach g root [] xs own m → Left g root [] (xs ∷ []) own (suc m)
   inside : {name : Bytes} {b : Branch} {xs : List Listed} {rests : List (List Listed)} {own outer : List Item} {m n : ℕ}
@@ -34,8 +34,9 @@ abbrev pub LeftInRoot : Scene → Path → Branch → List (List Listed) → Lis
 LeftInRoot g root b [] items n = (items ≡ []) × (n ≡ 0)
 LeftInRoot g root b (xs ∷ rests) items n = Left g root b (xs ∷ rests) items n
 
--- all that a walk still gives, and the steps that are left, where an entry in hand gives its own: the
--- items that are made, that entry's, then the rest of the root that was begun, then the other roots
+-- all that a walk still gives, and the steps that are left, where an entry in hand gives its own:
+-- the items that are made, that entry's, then the rest of the root that was begun, then the other
+-- roots
 pub record RemainsAfter (g : Scene) (s : State) (own : List Item) (m : ℕ) (items : List Item) (n : ℕ) : Type 0 where
   pub inner : List Item
   pub outer : List Item
@@ -50,8 +51,8 @@ pub record RemainsAfter (g : Scene) (s : State) (own : List Item) (m : ℕ) (ite
 abbrev pub Remains : Scene → State → List Item → ℕ → Type 0
 Remains g s items n = RemainsAfter g s [] 0 items n
 
--- an entry or a problem is in hand that stands at a place below the root: what it gives, and all else
--- that the walk still gives, and the steps that are left
+-- an entry or a problem is in hand that stands at a place below the root: what it gives, and all
+-- else that the walk still gives, and the steps that are left
 pub record InHand (g : Scene) (s : State) (b : Branch) (r : Result Entry Problem) (items : List Item) (n : ℕ) : Type 0 where
   pub own : List Item
   pub m : ℕ

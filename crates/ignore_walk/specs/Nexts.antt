@@ -18,8 +18,8 @@ pub record Remaining {F S : Type 0} (files : Files F) (calls : Callbacks S) (g :
   pub goes_on : w.ended ≡ false
   pub stands : Stands g w.stack items n
 
--- an item was handed out, the first of those that remained; the steps that were taken for it came off
--- those that the walk may take
+-- an item was handed out, the first of those that remained; the walk may take fewer steps now, by
+-- those that were taken for it
 pub record Handed {F S : Type 0} (files : Files F) (calls : Callbacks S) (g : Scene) (a : Walk F S) (item : Item) (b : Walk F S)
     (items : List Item) (n : ℕ) : Type 0 where
   pub others : List Item
@@ -33,15 +33,15 @@ pub record Handed {F S : Type 0} (files : Files F) (calls : Callbacks S) (g : Sc
 abbrev pub EndsBy : Item → ℕ → ℕ → Type 0
 EndsBy item left n = (item ≡ Err memory) ⊎ ((item ≡ Err (io StepLimit)) × (left < n))
 
--- what `next` answers where these items remain, in so many steps: none, where there are none and the
--- steps left were enough; the first of them, and then the others remain; or what ends the walk
+-- what `next` answers where these items remain, in so many steps: none, where there are none and
+-- the steps left were enough; the first of them, and then the others remain; or what ends the walk
 abbrev pub Nexts : {F S : Type 0} → Files F → Callbacks S → Scene → Walk F S → Option Item → Walk F S → List Item → ℕ → Type 0
 Nexts files calls g a None b items n = (items ≡ []) × (n ≤ a.left)
 Nexts files calls g a (Some item) b items n =
     Handed files calls g a item b items n ⊎ (EndsBy item a.left n × (b.ended ≡ true))
 
--- no more items than this are still to come, whatever the files answer: at most four of a step, those
--- in hand, and one that ends the walk
+-- no more items than this are still to come, whatever the files answer: at most four of a step,
+-- those in hand, and one that ends the walk
 abbrev pub items_at_most : {F S : Type 0} → Walk F S → ℕ
 items_at_most w = 4 * w.left + (length w.stack.made.items + (if w.ended then 0 else 1))
 
@@ -49,15 +49,15 @@ items_at_most w = 4 * w.left + (length w.stack.made.items + (if w.ended then 0 e
 abbrev pub IsOver : {F S : Type 0} → Walk F S → Type 0
 IsOver w = (w.ended ≡ true) × (length w.stack.made.items ≡ 0)
 
--- what a walk may end by: that there is no item more; that memory ran out; or the limit, and then no
--- step is left
+-- what a walk may end by: that there is no item more; that memory ran out; or the limit, and then
+-- no step is left
 abbrev pub IsLast : Option Item → ℕ → Type 0
 IsLast None left = ⊤
 IsLast (Some item) left = (item ≡ Err memory) ⊎ ((item ≡ Err (io StepLimit)) × (left ≡ 0))
 
--- what one `next` of a walk answers, and what it makes of the walk. For files that are consistent with
--- a tree it is an item of what remains. For all files: a walk that is over answers none; after none it
--- is over; and where it wasn't ended and now is, it is over, and that was its last answer
+-- what one `next` of a walk answers, and what it makes of the walk. For files that are consistent
+-- with a tree it is an item of what remains. For all files: a walk that is over answers none; after
+-- none it is over; and where it wasn't ended and now is, it is over, and that was its last answer
 pub record NextGives {F S : Type 0} (files : Files F) (calls : Callbacks S) (a : Walk F S) (answer : Option Item) (b : Walk F S)
     : Type 0 where
   pub given : (g : Scene) (items : List Item) (n : ℕ) → Remaining files calls g a items n → Nexts files calls g a answer b items n

@@ -13,7 +13,7 @@ pub record EndsEarly (all items : List Item) (left n : ℕ) : Type 0 where
   pub ended : EndsBy last left n
 
 -- these are what a walk has yielded when it answers none, where these items remained, in so many
--- steps: all of them, and the steps that it might take were enough; or a beginning of them, and then
--- what ended it
+-- steps: all of them, and the steps that it might take were enough; or a beginning of them, and
+-- then what ended it
 abbrev pub IsRun : List Item → List Item → ℕ → ℕ → Type 0
 IsRun all items left n = ((all ≡ items) × (n ≤ left)) ⊎ EndsEarly all items left n

@@ -49,7 +49,7 @@ pub record Stands (g : Scene) (s : Stack) (items : List Item) (n : ℕ) : Type 0
   pub is : IsIn g root place seen s
   pub remains : Remains g (state_of s root place seen) items n
 
--- the same after a step
+-- a stack still gives these items, in so many steps, of which one was taken now
 abbrev pub Steps : Scene → Stack → List Item → ℕ → Type 0
 Steps g s items n = (k : ℕ) × (n ≡ suc k) × Stands g s items k
 
@@ -74,8 +74,8 @@ name_in (thing.Fault fault) = []
 abbrev pub text_below : Scene → Path → Branch → Listed → Bytes
 text_below g root b x = text_at g root b ++ name_in x
 
--- an entry at a place is one to be visited: it isn't skipped; and where it leads into a directory, its
--- path as the directories around it see it, and what is above the root, are known
+-- an entry at a place is one to be visited: it isn't skipped; and where it leads into a directory,
+-- its path as the directories around it see it, and what is above the root, are known
 pub record Visits (g : Scene) (root : Path) (b : Branch) (s : Stack) (e : Entry) (leads : Bool) (text : Bytes) : Type 0 where
   pub path : e.path ≡ path_of root b
   pub leads_there : leads ≡ leads_in g b e

@@ -27,8 +27,8 @@ abbrev pub IsOrderBy : Order → ((Path → Path → Ordering) → Type 0) → O
 IsOrderBy order answers_by chosen =
     (cmp : Path → Path → Ordering) × answers_by cmp × IsStrictWeakOrder (λ a b. is_lt (cmp a b)) × (chosen ≡ order_by order cmp)
 
--- a view of files, the owner of a walk, and its settings suit a scene: the files are consistent with
--- the tree, and the owner answers by the filter and the order
+-- a view of files, the owner of a walk, and its settings suit a scene: the files are consistent
+-- with the tree, and the owner answers by the filter and the order
 pub record Suits {F S : Type 0} (files : Files F) (calls : Callbacks S) (f : F) (owner : S) (s : Settings) (o : Outside)
     (options : Options) (g : Scene) : Type 0 where
   pub honest : IsHonest files f g.tree

@@ -30,7 +30,7 @@ pub record IsShown (g : Scene) (root : Path) (e : Entry) : Type 0 where
   pub kept : is_skipped g root place e ≡ false
   pub deep : is_at_least g.settings.min_depth e.depth ≡ true
 
--- it is so below one of some roots
+-- an entry is shown below one of some roots, which isn't standard input
 pub record IsShownBelow (g : Scene) (roots : List Path) (e : Entry) : Type 0 where
   pub root : Path
   pub given : Contains roots root

@@ -29,7 +29,7 @@ abbrev pub leads_in : Scene → Branch → Entry → Bool
 leads_in g [] e = is_dir_found (g.tree.stat e.path true)
 leads_in g (name ∷ b) e = is_dir_kind e.kind
 
--- its size is above the limit; one that faults isn't
+-- the size by this metadata is above the limit, if there is one; a size that faults isn't
 abbrev pub is_above : Option ℕ → Result Metadata Fault → Bool
 is_above None size = false
 is_above (Some most) (Ok m) = nat_lt most m.len
@@ -50,12 +50,12 @@ is_skipped g root [] e = false
 is_skipped g root (name ∷ b) e =
     ignores g root (name ∷ b) (is_dir_kind e.kind) || (is_too_large g e || not (g.keep e))
 
--- it is at the greatest depth
+-- a depth is the greatest depth, if there is one, or below it
 abbrev pub is_at_most : Option ℕ → ℕ → Bool
 is_at_most None depth = false
 is_at_most (Some most) depth = nat_le most depth
 
--- it is not above the least depth
+-- a depth is not above the least depth, if there is one
 abbrev pub is_at_least : Option ℕ → ℕ → Bool
 is_at_least None depth = true
 is_at_least (Some least) depth = nat_le least depth
@@ -78,6 +78,7 @@ pub data Fate : Type 0 where
   load : Fate
   enter : Fate
 
+-- what becomes of an entry at a place below a root
 unfoldable pub fate : Scene → Path → Branch → Entry → Fate
 fate g root b e =
     if is_skipped g root b e then skip

@@ -45,8 +45,8 @@ above_root g root = if is_dir_found (g.tree.stat root true) then paths_above g.t
 abbrev pub unseen : List Path → List Path → List Path
 unseen seen paths = filter (λ path. not (list_any (bytes_eq path) seen)) paths
 
--- what is reported before a root: the problems of the directories above it that are above no earlier
--- root, as one
+-- what is reported before a root: the problems of the directories above it that are above no
+-- earlier root, as one
 abbrev pub reported_before : Scene → List Path → Path → List Item
 reported_before g seen root = map Err (option_to_list (joined_some (problems_of_loads g.loads (unseen seen (above_root g root)))))
 

@@ -19,7 +19,7 @@ use ignore_files::Name;
 use std::alloc::{AllocError, Global};
 use std::collections::VecDeque;
 
-/// A name in a text, between an offset and one after the slash that follows it.
+/// The name in a text from `start` on, where `end` is the offset after the slash that follows it.
 fn cut(text: &str, start: usize, end: usize) -> &str
     ensures { (front name rest : List ℕ) → text.now ≡ front ++ (name ++ 47 ∷ rest) → IsAfterSlash text.now start → start ≡ length front
         → end ≡ start + length name + 1 → result.now ≡ name }
@@ -87,7 +87,7 @@ fn is_seen(seen: &[Name], path: &str) -> bool
     false
 }
 
-/// The next of some errors, if there is one.
+/// Takes the first of some errors, each of which may be none.
 fn take_error(errors: &mut VecDeque<Option<Error>>) -> Option<Error>
     ensures { (p : Option Problem) (rest : List (Option Problem)) → map (option_map problem_of) errors.old.items ≡ p ∷ rest
         → (option_map problem_of result ≡ p) × (map (option_map problem_of) errors.new.items ≡ rest) }

@@ -16,11 +16,11 @@ use ignore_files::MemoryTree;
 /// How many directories a branch of a walk of this tree can lead through: `n * n` for the `n`
 /// directories of the tree, which are fewer than 2^64.
 ///
-/// No branch has more (`most`), whatever is set: also where no rule, filter or limit leaves anything
-/// out. From a directory to one that it lists numbers grow, so at most `n` follow one another without
-/// a followed link; and such a link leads to no directory that its branch has entered, so at most
-/// `n` such rows follow one another. So a walk of any roots gives a list (`whole`), and by
-/// `laws::one_list` one alone.
+/// No branch has more (`most`), whatever is set: also where no rule, filter or limit leaves
+/// anything out. From a directory to one that it lists numbers grow, so at most `n` follow one
+/// another without a followed link; and such a link leads to no directory that its branch has
+/// entered, so at most `n` such rows follow one another. So a walk of any roots gives a list
+/// (`whole`), and by `laws::one_list` one alone.
 pub fn branch_bound(tree: &MemoryTree) -> u128
     ensures value { result ≡ dir_count tree.now * dir_count tree.now }
     ensures most { (g : Scene) (root : List ℕ) (b : Branch) (e : Entry) → g.tree ≡ tree_of tree.now

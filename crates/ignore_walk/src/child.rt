@@ -30,7 +30,7 @@ pub(crate) fn is_dir_kind(kind: Option<FileType>) -> bool
     }
 }
 
-/// Whether what is listed is a fault, or its name is one.
+/// Whether a listed thing is a fault, or an entry whose name is a name.
 fn is_named(listed: &Listed) -> bool
     ensures { result ≡ true → named listed.now ≡ listed.now }
 {
@@ -40,7 +40,7 @@ fn is_named(listed: &Listed) -> bool
     }
 }
 
-/// Whether so is each thing of a listing.
+/// Whether each thing of a listing is a fault or has a name.
 fn are_named(listing: &[Listed]) -> bool
     ensures { result ≡ true → map named listing.now ≡ listing.now }
 {
@@ -52,7 +52,7 @@ fn are_named(listing: &[Listed]) -> bool
     true
 }
 
-/// A listed name that is none is a fault of the listing.
+/// A listed thing, or a fault in its place where its name is no name.
 fn named(listed: Listed) -> Listed
     ensures { result ≡ named listed }
 {

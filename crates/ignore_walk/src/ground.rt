@@ -33,18 +33,26 @@ use std::collections::VecDeque;
 /// What stays the same in a walk.
 #[derive(Drop)]
 pub struct Ground<'a, F: Files, S> {
+    /// The files.
     pub files: &'a F,
+    /// What keeps the filter and the comparator.
     pub owner: &'a S,
+    /// The settings by which directories are loaded and paths are matched.
     pub settings: Settings,
+    /// The rules from outside of the directories.
     pub outside: Outside,
+    /// The settings besides those.
     pub options: Options,
 }
 
 /// What becomes of an entry that isn't skipped.
 #[derive(Clone, Copy)]
 pub(crate) enum Fate {
+    /// It is yielded.
     Yield,
+    /// It is loaded and yielded, and not listed: a directory on another device.
     Load,
+    /// It is loaded and yielded, and then what it lists.
     Enter,
 }
 
@@ -57,7 +65,7 @@ pub(crate) struct AboveRoot {
     pub(crate) error: Option<Error>,
 }
 
-/// Whether a depth is the greatest, or below it.
+/// Whether a depth is the greatest depth, if there is one, or below it.
 fn is_at_most(max_depth: Option<usize>, depth: usize) -> bool
     ensures { result ≡ walked.is_at_most max_depth depth }
 {
@@ -109,7 +117,7 @@ fn device_if<F: Files>(
     }
 }
 
-/// A path, kept.
+/// A copy of a path.
 fn named(alloc: Global, path: &str) -> Result<Name, AllocError>
     ensures { IfOk result (λ n. n ≡ path.now) }
 {

@@ -31,7 +31,7 @@ pub(crate) fn make(
     Ok(())
 }
 
-/// Whether a depth is the least, or above it.
+/// Whether a depth isn't above the least depth, if there is one.
 fn is_at_least(min_depth: Option<usize>, depth: usize) -> bool
     ensures { result ≡ is_at_least min_depth depth }
 {

@@ -1,5 +1,5 @@
-//! The program `replay_walks`: asks walks and matchers of single paths what vectors ask, and compares
-//! whole answers.
+//! The program `replay_walks`: asks walks and matchers of single paths what vectors ask, and
+//! compares whole answers.
 #![tactic(auto)]
 
 use answers::replay_all;

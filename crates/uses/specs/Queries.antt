@@ -11,8 +11,8 @@ abbrev pub IsMatcherBelow : Tree → Env → Path → IncrementalIgnore → Type
 IsMatcherBelow tree env root m =
     (outside : Outside) × IsOutside tree env (with_root unset root) outside × (asked_by m ≡ (standard, outside, root, env.current_dir))
 
--- an answer about a path below a root, with its problem, is that of the bare tree, by these settings
--- and rules
+-- an answer about a path below a root, with its problem, is that of the bare tree, by these
+-- settings and rules
 abbrev pub IsFound : Tree → Env → Path → Path → Bool → IncrementalMatch × Option Problem → Type 0
 IsFound tree env root path is_dir found =
     (outside : Outside) × IsOutside tree env (with_root unset root) outside

@@ -4,10 +4,10 @@ use Rattle.ignore.specs.Words.{Bytes, Path}
 use Rattle.ignore.specs.WalkWords.{Cache, IsName, Kept, QueryScene, dirs_above, is_asked, is_at_or_below, is_dir_there, kept_at}
 use Rattle.ignore.specs.WalkWords.{names_of, path_along, paths_above}
 
--- a tree changed at most at and below the directory at a path: that path is clean and the root isn't
--- `-`; the root leads to a directory in both trees or in none, its canonical path is the same, and so
--- is what counts of the directories above it; and what a directory holds for the rules is the same
--- for each that isn't at or below the one that changed
+-- a tree changed at most at and below the directory at a path: that path is clean and the root
+-- isn't `-`; the root leads to a directory in both trees or in none, its canonical path is the
+-- same, and so is what counts of the directories above it; and what a directory holds for the rules
+-- is the same for each that isn't at or below the one that changed
 pub record IsChangedWithin (before after : QueryScene) (dir : Path) : Type 0 where
   pub asked : is_asked before.root dir ≡ true
   pub root : is_dir_there (after.tree.stat after.root true) ≡ is_dir_there (before.tree.stat before.root true)

@@ -41,7 +41,8 @@ pub struct Hit {
 pub struct Found {
     /// The lines that have the word, file by file in the order of the walk.
     pub hits: Vec<Hit>,
-    /// What is wrong, in the order of the walk: the errors of its items, and why a file has no text.
+    /// What is wrong, in the order of the walk: the errors of its items, and why a file has no
+    /// text.
     pub problems: Vec<Error>,
 }
 

@@ -11,8 +11,8 @@ use ignore::{Error, IncrementalIgnore, IncrementalMatch};
 /// What a walk would make of a path, after the directory at `dir` changed, or what is below it; and
 /// what is wrong with the files of rules that were read anew for it. `dir` and `path` are relative
 /// to the root of the matcher. Where the matcher agreed with the tree before the change, the answer
-/// is that of the tree after it, and so is the answer of each later question. What was kept of other
-/// directories stays kept.
+/// is that of the tree after it, and so is the answer of each later question. What was kept of
+/// other directories stays kept.
 ///
 /// # Errors
 /// `Error::Memory` alone. Then, too, the matcher agrees with the tree after the change.

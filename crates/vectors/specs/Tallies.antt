@@ -16,14 +16,15 @@ nothing = record { passed = 0; failed = 0; unread = 0 }
 abbrev pub together : ℕ → ℕ → ℕ
 together a b = min (a + b) (2 ^ 64 - 1)
 
--- the counts with one more that passed, failed or was no vector
-
+-- the counts with one more vector that passed
 abbrev pub with_passed : Counts → Counts
 with_passed c = record c { passed = together c.passed 1 }
 
+-- the counts with one more vector that failed
 abbrev pub with_failed : Counts → Counts
 with_failed c = record c { failed = together c.failed 1 }
 
+-- the counts with one more line that is no vector
 abbrev pub with_unread : Counts → Counts
 with_unread c = record c { unread = together c.unread 1 }
 

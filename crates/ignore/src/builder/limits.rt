@@ -36,8 +36,8 @@ impl WalkBuilder {
         self
     }
 
-    /// How many steps a walk may take: one for each root, for each child of a directory, and for
-    /// each directory that is left. At first it is the greatest number.
+    /// How many steps a walk may take: one for each root, for each thing that is listed, and for
+    /// each directory whose listing is asked. At first it is the greatest number.
     pub fn limit(&mut self, steps: u64) -> &mut Self
         ensures same_reference { result.ghost_name ≡ self.entry.ghost_name }
         ensures value { result.now ≡ record self.old { options = with_limit self.old.options steps } }

@@ -18,10 +18,9 @@ impl From<Fault> for Error {
     }
 }
 
-/// The kinds `NotFound`, `PermissionDenied`, `NotADirectory`, `IsADirectory`
-/// and `InvalidData` become the fault of the same name, `OutOfMemory` becomes
-/// `Error::Memory`, and every other kind `Fault::Other`. The original keeps the
-/// system's error whole.
+/// The kinds `NotFound`, `PermissionDenied`, `NotADirectory`, `IsADirectory` and `InvalidData`
+/// become the fault of the same name, `OutOfMemory` becomes `Error::Memory`, and every other kind
+/// `Fault::Other`. The original keeps the system's error whole.
 impl From<io::Error> for Error {
     ghost from_gives = { λ error e. problem_of e ≡ problem_of_kind (error_kind error) };
 

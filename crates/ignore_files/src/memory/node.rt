@@ -8,28 +8,41 @@ use std::alloc::AllocError;
 /// What a node is.
 #[derive(Debug, Drop)]
 pub enum Kind {
+    /// A directory, with its entries.
     Dir(Directory),
+    /// A file, with its bytes.
     File(Bytes),
+    /// A link, with its target.
     Link(Name),
 }
 
 /// Where the reading of a file ends, and by which fault.
 #[derive(Clone, Copy, Debug, PartialEq, Eq)]
 pub struct Cut {
+    /// How many bytes are read before.
     pub len: usize,
+    /// The fault.
     pub fault: Fault,
 }
 
 /// A node: the directory that it is in, its canonical path, and the answers of calls for it.
 #[derive(Debug, Drop)]
 pub struct Node {
+    /// The place of the directory that it is in; `/` is in itself.
     pub parent: usize,
+    /// Its canonical path.
     pub path: Name,
+    /// What it is.
     pub kind: Kind,
+    /// The size in bytes that is reported.
     pub len: u64,
+    /// The identity that is reported, if it is known.
     pub identity: Option<Identity>,
+    /// The fault that `stat` returns, if one was set.
     pub stat_fault: Option<Fault>,
+    /// The fault that `list` returns, if one was set.
     pub list_fault: Option<Fault>,
+    /// Where reading ends by a fault, if one was set.
     pub cut: Option<Cut>,
 }
 

@@ -14,7 +14,9 @@ pub const LINKS: usize = 40;
 /// The node that a path leads to, and how many more links may be followed.
 #[derive(Clone, Copy, Debug)]
 pub struct Reached {
+    /// The place of the node.
     pub node: usize,
+    /// How many more links may be followed.
     pub links: usize,
 }
 
@@ -28,6 +30,7 @@ pub fn is_dir(nodes: &[Node], place: usize) -> bool
     }
 }
 
+/// Where one component leads from a place, links not followed.
 fn enter(nodes: &[Node], here: usize, component: &str) -> Result<usize, Fault>
     ensures { result ≡ enter nodes.now here component.now }
 {
@@ -50,6 +53,7 @@ fn enter(nodes: &[Node], here: usize, component: &str) -> Result<usize, Fault>
     }
 }
 
+/// The target of the link at a place, if one is there, and the place where the target begins.
 fn link_at<'a>(nodes: &'a [Node], place: usize) -> Option<(usize, &'a str)>
     ensures { option_map (λ l. (l.0, l.1.now)) result ≡ link_at nodes.now place }
 {
@@ -70,6 +74,7 @@ fn link_at<'a>(nodes: &'a [Node], place: usize) -> Option<(usize, &'a str)>
     }
 }
 
+/// Where one component leads from a place. A link there is followed where `follow` is set.
 #[cycle(resolve)]
 fn step(
     nodes: &[Node],
@@ -99,6 +104,8 @@ fn step(
     }
 }
 
+/// Where the components of a text lead from a place. A link in last place is followed where
+/// `follow` is set.
 #[cycle(resolve)]
 pub fn walk(
     nodes: &[Node],
@@ -122,6 +129,7 @@ pub fn walk(
     step(nodes, reached.links, follow, reached.node, rest)
 }
 
+/// The place to which a path leads. A relative one begins at the working directory `cwd`.
 pub fn resolve(nodes: &[Node], cwd: &str, path: &str, follow: bool) -> Result<usize, Fault>
     ensures { result ≡ resolved cwd.now nodes.now path.now follow }
 {

@@ -8,8 +8,11 @@ use std::alloc::{AllocError, Global};
 /// A flag for each position, and the part of them outside of which none is set.
 #[derive(Drop)]
 pub struct Flags {
+    /// The flags, one for each position.
     pub all: Vec<bool>,
+    /// No flag before this position is set.
     pub low: usize,
+    /// No flag at this position or after it is set.
     pub high: usize,
     ghost ends: { high ≤ length all.items },
     ghost within: { (q : ℕ) → IsFlagged all.items q → (low ≤ q) × (q < high) } by { Π_prop (λ q. →_prop (×_prop le_prop le_prop)) },

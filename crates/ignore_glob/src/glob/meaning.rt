@@ -12,28 +12,41 @@ use crate::glob::token::Class;
 /// What is left of a place.
 #[derive(Clone, Copy)]
 pub enum Left {
+    /// Nothing: the glob starts here.
     GlobStart,
+    /// Nothing of the branch that starts here.
     BranchStart,
+    /// A lexeme.
     Lexeme,
 }
 
 /// A token without branches.
 #[derive(Clone, Copy)]
 pub enum SimpleToken<'a> {
+    /// This character.
     Literal(char),
+    /// `?`
     Any,
+    /// `*`
     Star,
+    /// `**/` at a start.
     Start,
+    /// `/**/`
     Middle,
+    /// `/**` at an end.
     End,
+    /// `[..]`
     Class(&'a Class),
 }
 
 /// What a row begins with.
 #[derive(Clone, Copy)]
 pub enum Meaning<'a> {
+    /// So many times this token, and then this row.
     Gives(usize, SimpleToken<'a>, &'a [Lexeme]),
+    /// Braces, and then this row: their branches, and what follows them.
     Braces(&'a [Lexeme]),
+    /// The end of the glob or of a branch.
     Ended,
 }
 

@@ -147,7 +147,7 @@ fn extended(alloc: Global, run: &str, token: &Token) -> Result<Vec<String>, Allo
     }
 }
 
-/// The same for a class, by its characters.
+/// Texts, one of which is in each that ends with the run and then a character of the class.
 fn by_class(alloc: Global, run: &str, listed: &Class) -> Result<Vec<String>, AllocError>
     ensures { IfOk result (λ texts. (front w : List ℕ) → token_matches false (class listed.now.negated listed.now.ranges.items) w
         → HasOneOf (map string_bytes texts.items) ((front ++ run.now) ++ utf8 w)) }
@@ -173,7 +173,8 @@ fn with_char(alloc: Global, run: &str, c: char) -> Result<String, AllocError>
     Ok(text)
 }
 
-/// The same for braces, by how their branches begin.
+/// Texts, one of which is in each that ends with the run and then what a branch matches: the run,
+/// and how the branch begins.
 fn by_branches(alloc: Global, run: &str, branches: &[Vec<Token>]) -> Result<Vec<String>, AllocError>
     ensures { IfOk result (λ texts. (front w : List ℕ) → token_matches false (alternates (branches_view branches.now)) w
         → HasOneOf (map string_bytes texts.items) ((front ++ run.now) ++ utf8 w)) }

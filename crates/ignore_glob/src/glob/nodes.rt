@@ -9,7 +9,7 @@ use crate::glob::node::Node;
 use crate::glob::token::{Class, Token};
 use std::alloc::{AllocError, Global};
 
-/// How many positions a token has, unless they are more than a list can have.
+/// How many positions a token has; out of memory where they are more than a list can have.
 #[cycle(width)]
 #[tactic(auto, using(crate::proofs::Views::view_equations))]
 fn token_width(token: &Token) -> Result<usize, AllocError>
@@ -30,7 +30,7 @@ fn token_width(token: &Token) -> Result<usize, AllocError>
     }
 }
 
-/// The sum, where a list can be so long.
+/// The sum of two lengths, or out of memory where a list can't be so long.
 fn plus(n: usize, more: usize) -> Result<usize, AllocError>
     ensures { IfOk result (λ sum. sum ≡ n + more) }
 {
@@ -70,7 +70,7 @@ fn branches_width(branches: &[Vec<Token>]) -> Result<usize, AllocError>
     Ok(total)
 }
 
-/// The first position of these tokens, which stand so far past `at`, or the end.
+/// The first position of these tokens, which stand at `at`; of no tokens `end`, which comes next.
 fn entry(tokens: &[Token], at: usize, end: usize) -> usize
     ensures { result ≡ entry (tokens_view tokens.now) at end }
 {
@@ -80,7 +80,8 @@ fn entry(tokens: &[Token], at: usize, end: usize) -> usize
     }
 }
 
-/// Where the fork of these branches leads, the first of which stands at `first`.
+/// Where the fork of these branches leads, the first of which stands at `first`: to the first
+/// position of each; without a branch to `end`.
 fn fork(
     alloc: Global,
     branches: &[Vec<Token>],

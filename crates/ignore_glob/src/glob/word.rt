@@ -47,7 +47,7 @@ fn leads_next(node: &Node, p: usize) -> bool
     }
 }
 
-/// Whether each node leads so.
+/// Whether each node leads to the position after it, or after its inside.
 fn is_line(nodes: &[Node]) -> bool
     requires { length nodes.now ≤ 62 }
     ensures { result ≡ is_line (nodes_view nodes.now) 0 }

@@ -15,9 +15,13 @@ use std::marker::Model;
 /// A parsed line: one that is neither blank nor a comment.
 #[derive(Drop)]
 pub struct ParsedLine {
+    /// The line without trailing white space.
     pub original: String,
+    /// Its glob.
     pub actual: String,
+    /// Whether it begins with `!`.
     pub is_whitelist: bool,
+    /// Whether it ends with `/`, and so applies to directories only.
     pub is_only_dir: bool,
 }
 
@@ -55,6 +59,7 @@ impl ParsedLine {
         }))
     }
 
+    /// The glob of the line.
     pub fn actual(&self) -> &str
         ensures { result.now ≡ self.now.actual }
     {

@@ -22,8 +22,8 @@ use std::marker::Model;
 
 /// Collects file types and choices among them, for a `Types`.
 ///
-/// A choice names a type and is looked up when the matcher is built, so types
-/// may be added after they are chosen.
+/// A choice names a type and is looked up when the matcher is built, so types may be added after
+/// they are chosen.
 #[derive(Drop)]
 pub struct TypesBuilder {
     types: Definitions,
@@ -52,9 +52,9 @@ impl TypesBuilder {
     /// Appends a glob to the type of this name. A new name becomes a type.
     ///
     /// # Errors
-    /// `InvalidDefinition` for the name `all`, and for a name with a character
-    /// that is neither alphabetic nor a number (of the general categories Nd,
-    /// Nl and No); `Memory`. After an error the builder is as before.
+    /// `InvalidDefinition` for the name `all`, and for a name with a character that is neither
+    /// alphabetic nor a number (of the general categories Nd, Nl and No); `Memory`. After an error
+    /// the builder is as before.
     pub fn add(&mut self, name: &str, glob: &str) -> Result<(), Error>
         ensures added { OnOk result (Becomes self.old (after_request (one_glob name.now glob.now) self.old.definitions) self.new) }
         ensures refused { IfErr result (IsRefusal (after_request (one_glob name.now glob.now) self.old.definitions)) }
@@ -69,15 +69,14 @@ impl TypesBuilder {
 
     /// Adds the definition in a text.
     ///
-    /// `name:glob` is as `add` of the two. `name:include:one,two` appends the
-    /// globs of each of the types after `include` to the type of the name, in
-    /// turn: a type that is listed twice is appended twice, and the type itself
-    /// with what it has by then.
+    /// `name:glob` is as `add` of the two. `name:include:one,two` appends the globs of each of the
+    /// types after `include` to the type of the name, in turn: a type that is listed twice is
+    /// appended twice, and the type itself with what it has by then.
     ///
     /// # Errors
-    /// `InvalidDefinition` for a text of another form or with an empty field,
-    /// for a name that `add` rejects, and where a type of the list is unknown;
-    /// `Memory`. After an error the builder is as before.
+    /// `InvalidDefinition` for a text of another form or with an empty field, for a name that `add`
+    /// rejects, and where a type of the list is unknown; `Memory`. After an error the builder is as
+    /// before.
     pub fn add_def(&mut self, definition: &str) -> Result<(), Error>
         ensures added { OnOk result (Becomes self.old (after_request (request_of definition.now) self.old.definitions) self.new) }
         ensures refused { IfErr result (IsRefusal (after_request (request_of definition.now) self.old.definitions)) }
@@ -136,13 +135,11 @@ impl TypesBuilder {
         Ok(())
     }
 
-    /// The matcher of the types and choices so far. The builder can be used
-    /// further.
+    /// The matcher of the types and choices so far. The builder can be used further.
     ///
     /// # Errors
-    /// For the first choice that is rejected, in the order of choosing:
-    /// `UnrecognizedFileType` with its name where no type has it, or `Glob` for
-    /// the first invalid glob of its type; `Memory`.
+    /// For the first choice that is rejected, in the order of choosing: `UnrecognizedFileType` with
+    /// its name where no type has it, or `Glob` for the first invalid glob of its type; `Memory`.
     pub fn build(&self) -> Result<Types, Error>
         ensures built { IfOk result (IsBuilt self.now) }
         ensures refused { IfErr result (λ e. (problem_of e ≡ memory) ⊎ IsRefusedWith self.now (problem_of e)) }
@@ -171,8 +168,8 @@ impl TypesBuilder {
         Ok(self.types.sorted_copies()?)
     }
 
-    /// Drops the type of this name, if there is one. Choices that name it stay,
-    /// and `build` rejects them unless the type is added again.
+    /// Drops the type of this name, if there is one. Choices that name it stay, and `build` rejects
+    /// them unless the type is added again.
     pub fn clear(&mut self, name: &str) -> &mut Self
         ensures same_reference { result.ghost_name ≡ self.entry.ghost_name }
         ensures value { result.now ≡ record { definitions = without name.now self.old.definitions; choices = self.old.choices } }
@@ -181,12 +178,12 @@ impl TypesBuilder {
         self
     }
 
-    /// Selects the type of this name, after the choices made so far. `all`
-    /// stands for each type that exists at this call, in text order.
+    /// Selects the type of this name, after the choices made so far. `all` stands for each type
+    /// that exists at this call, in text order.
     ///
     /// # Errors
-    /// `Memory` alone. What holds of the builder after it is proved of
-    /// `push_selection`, which does the work, and not of this call.
+    /// `Memory` alone. What holds of the builder after it is proved of `push_selection`, which does
+    /// the work, and not of this call.
     pub fn select(&mut self, name: &str) -> Result<&mut Self, Error>
         ensures same_reference { IfOk result (λ b. b.ghost_name ≡ self.entry.ghost_name) }
         ensures selected { IfOk result (λ b. b.now ≡ with_chosen false name.now self.old) }
@@ -196,12 +193,12 @@ impl TypesBuilder {
         Ok(self)
     }
 
-    /// Negates the type of this name, after the choices made so far. `all`
-    /// stands for each type that exists at this call, in text order.
+    /// Negates the type of this name, after the choices made so far. `all` stands for each type
+    /// that exists at this call, in text order.
     ///
     /// # Errors
-    /// `Memory` alone. What holds of the builder after it is proved of
-    /// `push_selection`, which does the work, and not of this call.
+    /// `Memory` alone. What holds of the builder after it is proved of `push_selection`, which does
+    /// the work, and not of this call.
     pub fn negate(&mut self, name: &str) -> Result<&mut Self, Error>
         ensures same_reference { IfOk result (λ b. b.ghost_name ≡ self.entry.ghost_name) }
         ensures negated { IfOk result (λ b. b.now ≡ with_chosen true name.now self.old) }
@@ -211,8 +208,8 @@ impl TypesBuilder {
         Ok(self)
     }
 
-    /// As `select`, or as `negate`, without the builder in what is returned.
-    /// After an error the builder is as before.
+    /// As `select`, or as `negate`, without the builder in what is returned. After an error the
+    /// builder is as before.
     pub fn push_selection(&mut self, name: &str, negated: bool) -> Result<(), Error>
         ensures chosen { OnOk result (self.new ≡ with_chosen negated name.now self.old) }
         ensures out_of_memory { IfErr result (λ e. problem_of e ≡ memory) }
@@ -237,8 +234,8 @@ impl TypesBuilder {
     /// Adds the rows of the table of default types, in its order.
     ///
     /// # Errors
-    /// `Memory` alone. What holds of the builder after it is proved of
-    /// `push_defaults`, which does the work, and not of this call.
+    /// `Memory` alone. What holds of the builder after it is proved of `push_defaults`, which does
+    /// the work, and not of this call.
     pub fn add_defaults(&mut self) -> Result<&mut Self, Error>
         ensures same_reference { IfOk result (λ b. b.ghost_name ≡ self.entry.ghost_name) }
         ensures added { IfOk result (λ b. b.now

@@ -58,8 +58,7 @@ impl Clone for NameGlob {
     }
 }
 
-/// A chosen type of a matcher: its definition, its parsed globs, and whether it
-/// was negated.
+/// A chosen type of a matcher: its definition, its parsed globs, and whether it was negated.
 #[derive(Debug, Drop)]
 pub(super) struct ChosenType {
     definition: FileTypeDef,

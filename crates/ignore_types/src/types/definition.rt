@@ -8,8 +8,8 @@ use std::marker::Model;
 
 /// A file type: a name, and the globs by which a file's name shows that type.
 ///
-/// A matcher's and a builder's `definitions` give them with sorted globs. The
-/// one that a match gives has its globs in the order of adding.
+/// A matcher's and a builder's `definitions` give them with sorted globs. The one that a match
+/// gives has its globs in the order of adding.
 #[derive(Debug, Drop)]
 pub struct FileTypeDef {
     name: String,

@@ -91,8 +91,7 @@ impl Definitions {
         self.add_each(name, source.globs())
     }
 
-    /// These types, with the globs of each of the sources in turn appended to
-    /// those of the name.
+    /// These types, with the globs of each of the sources in turn appended to those of the name.
     pub(super) fn with_types(&self, name: &str, sources: &[&str]) -> Result<Definitions, AllocError>
         ensures { IfOk result (λ ds. ds ≡ with_types name.now (map (λ s. s.now) sources.now) self.now) }
     {

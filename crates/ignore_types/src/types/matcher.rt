@@ -31,9 +31,8 @@ impl<'a> Model for Glob<'a> {
 }
 
 impl<'a> Glob<'a> {
-    /// The type whose glob matched the file's name, with its globs in the order
-    /// of adding. None where no glob matched, and the file is ignored since
-    /// other types were selected.
+    /// The type whose glob matched the file's name, with its globs in the order of adding. None
+    /// where no glob matched, and the file is ignored since other types were selected.
     pub fn file_type_def(&self) -> Option<&FileTypeDef>
         ensures { option_copied result ≡ self.now }
     {
@@ -98,8 +97,8 @@ impl Types {
         self.choices.is_empty()
     }
 
-    /// How many types were chosen, selected or negated. `all` counts once for
-    /// each type that it stood for.
+    /// How many types were chosen, selected or negated. `all` counts once for each type that it
+    /// stood for.
     pub fn len(&self) -> usize
         ensures { result ≡ length self.now.choices }
     {
@@ -115,11 +114,10 @@ impl Types {
 
     /// The answer for a path, by its file name alone.
     ///
-    /// The last glob that matches the name decides, in the order of choosing and
-    /// then of adding: the file is whitelisted if its type was selected, and
-    /// ignored if it was negated. A file that no glob matches, or that has no
-    /// file name, is ignored if some type was selected. Directories have no
-    /// match.
+    /// The last glob that matches the name decides, in the order of choosing and then of adding:
+    /// the file is whitelisted if its type was selected, and ignored if it was negated. A file that
+    /// no glob matches, or that has no file name, is ignored if some type was selected. Directories
+    /// have no match.
     ///
     /// # Errors
     /// `Error::Memory` alone.

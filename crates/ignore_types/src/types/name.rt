@@ -4,9 +4,8 @@ ghost use Rattle.ignore_types.specs.TypeNames.{is_number, is_name_char, is_type_
 
 use unicode::properties::{GeneralCategory, is_alphabetic};
 
-/// Whether a file type may have this name: it isn't `all`, and each character
-/// is alphabetic or has the general category Nd, Nl or No. The empty name is
-/// allowed.
+/// Whether a file type may have this name: it isn't `all`, and each character is alphabetic or has
+/// the general category Nd, Nl or No. The empty name is allowed.
 pub(super) fn is_allowed(name: &str) -> bool
     ensures { result ≡ is_type_name name.now }
 {

@@ -22,7 +22,8 @@ struct Outcome {
     err: Vec<u8>,
 }
 
-/// Answers `status`, and `stdout` and `stderr`, what was written: texts, or `null` for what is none.
+/// Answers `status`, and `stdout` and `stderr`, what was written: texts, or `null` for what is
+/// none.
 pub(crate) fn answer(alloc: Global, input: &Value) -> Result<Value, Trouble> {
     let machine = machine_of(alloc, input)?;
     let words = words_of(alloc, list(input, WORDS)?)?;
