@@ -45,23 +45,6 @@ ends_lines root all first n line builder before middle after any Silence is with
   h.1,
 )
 
--- a run that ends at its lines wrote nothing
-pub ends_at_lines : (question : Question) (out : Option (List ℕ)) (err : List ℕ → Type 0) (stop : Stop)
-    → EndsLines question.root (lines question.rules) err stop → Ends question (Appends out out) err stop
-ends_at_lines question out err Usage h = absurd h
-ends_at_lines question out err Memory h = (appends_nothing out, h)
-ends_at_lines question out err Write h = absurd h
-ends_at_lines question out err Silence h = (appends_nothing out, h)
-
--- one that ends at its answer reported all lines
-pub ends_at_answer : (question : Question) (out err : List ℕ → Type 0) (builder : Building) (any : Bool) (stop : Stop)
-    → EndsAnswer out stop → AddsAll question.root (lines question.rules) builder err any → Ends question out err stop
-ends_at_answer question out err builder any Usage h so = absurd h
-ends_at_answer question out err builder any Memory h so =
-    (h, (lines question.rules, [], sym (append-nil (lines question.rules)), (builder, so.0, so.1, so.2)))
-ends_at_answer question out err builder any Write h so = (tt, (builder, so.0, so.1, so.2))
-ends_at_answer question out err builder any Silence h so = absurd h
-
 -- the reason is reported after what was reported before
 pub ends_reported : (question : Question) (out : List ℕ → Type 0) (before middle after : Option (List ℕ)) (stop : Stop)
     → Ends question out (Appends before middle) stop → stop ≢ Silence → Appends middle after (reason stop)

@@ -8,7 +8,7 @@ ghost use Rattle.ignore_dir.specs.Query.{is_dir_there};
 ghost use Rattle.ignore_files.specs.Gives.{IsHonest};
 ghost use Rattle.ignore_files.specs.Tree.{Tree};
 ghost use Rattle.ignore_query.specs.Agrees.{Agrees};
-ghost use Rattle.ignore_query.specs.Reached.{scene_of};
+ghost use Rattle.ignore_query.specs.Reached.{InEachScene, scene_of};
 ghost use Rattle.commands.specs.Checking.{AreAnswers, Checked, Checks, IsAnswer, IsMatcher, answer_at, check_line};
 ghost use Rattle.commands.specs.Checking.{is_wrong, line_for, report_for};
 ghost use Rattle.commands.specs.Listing.{is_known, report_of};
@@ -121,9 +121,7 @@ fn check_path<F: Files, W: Write, E: Write>(
         × Appends (E.contents err.old) (E.contents err.new) (report_for c) × (any ≡ is_wrong c)
         × ((tree : Tree) (loads : List ℕ → Loaded) → IsHonest F.Files files.now tree → AreLoads tree matcher.old.asked.settings loads
         → let g = scene_of matcher.old.asked tree loads in Agrees g matcher.old.cache → IsAnswer g c)) }
-    ensures agrees { (tree : Tree) (loads : List ℕ → Loaded) → IsHonest F.Files files.now tree
-        → AreLoads tree matcher.old.asked.settings loads → let g = scene_of matcher.old.asked tree loads in
-        Agrees g matcher.old.cache → Agrees g matcher.new.cache }
+    ensures agrees { InEachScene F.Files files.now matcher.old.asked (λ g. Agrees g matcher.old.cache → Agrees g matcher.new.cache) }
     ensures same { matcher.new.asked ≡ matcher.old.asked }
 {
     let (found, error) = ask(alloc, files, matcher, path)?;
@@ -138,12 +136,9 @@ fn ask<F: Files>(
     matcher: &mut IncrementalIgnore,
     path: &str,
 ) -> Result<(IncrementalMatch, Option<Error>), Stop>
-    ensures value { (tree : Tree) (loads : List ℕ → Loaded) → IsHonest F.Files files.now tree
-        → AreLoads tree matcher.old.asked.settings loads → let g = scene_of matcher.old.asked tree loads in
-        Agrees g matcher.old.cache → IfOk result (λ r. r.0 ≡ answer_at g path.now) }
-    ensures agrees { (tree : Tree) (loads : List ℕ → Loaded) → IsHonest F.Files files.now tree
-        → AreLoads tree matcher.old.asked.settings loads → let g = scene_of matcher.old.asked tree loads in
-        Agrees g matcher.old.cache → Agrees g matcher.new.cache }
+    ensures value { InEachScene F.Files files.now matcher.old.asked (λ g. Agrees g matcher.old.cache
+        → IfOk result (λ r. r.0 ≡ answer_at g path.now)) }
+    ensures agrees { InEachScene F.Files files.now matcher.old.asked (λ g. Agrees g matcher.old.cache → Agrees g matcher.new.cache) }
     ensures same { matcher.new.asked ≡ matcher.old.asked }
 {
     let is_dir = is_dir_at(alloc, files, matcher.root(), path)?;

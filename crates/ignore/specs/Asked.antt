@@ -1,6 +1,7 @@
 -- What a builder reads of the files: a file that is added by name, at once, and the global file,
 -- when the builder is asked.
 use Rattle.std.specs.Prelude.{◌≡◌, Bool, true, false, Option, None, Some, Result}
+use Rattle.std.specs.Option.{option_or}
 use Rattle.ignore_base.specs.declared.fault.Fault.TheVariants.{NoCurrentDir}
 use Rattle.ignore_base.specs.Problem.{Problem, io}
 use Rattle.ignore_base.specs.Text.{Path}
@@ -16,15 +17,10 @@ use Rattle.ignore_rules.specs.Rules.{Building, Ruleset, begun, built, empty, wit
 use Rattle.ignore.specs.declared.options.WalkOptions.{WalkOptions}
 use Rattle.ignore.specs.Builder.{with_explicit}
 
--- the first directory, or else the second
-abbrev pub dir_or : Option Path → Option Path → Option Path
-dir_or None other = other
-dir_or (Some dir) other = Some dir
-
 -- the directory that the global file and files added by name are relative to: as set, or else the
 -- working directory, if that is known
 abbrev pub base_dir : WalkOptions → Env → Option Path
-base_dir b env = dir_or b.current_dir env.current_dir
+base_dir b env = option_or b.current_dir env.current_dir
 
 -- a builder for the rules of a file added by name: case sensitive, trailing spaces as set
 abbrev pub explicit_start : WalkOptions → Path → Building

@@ -84,9 +84,6 @@ full-absolute None path e = cond-true (is_absolute path) (Some path) None e
 full-absolute (Some dir) path e =
     cond-true (is_absolute path) (Some path) (cond (is_absolute dir) (Some (join_of dir path)) None) e
 
-pub full-unknown : (path : List ℕ) → is_absolute path ≡ false → full_path None path ≡ None
-full-unknown path e = cond-false (is_absolute path) (Some path) None e
-
 pub full-relative : (dir path : List ℕ) → is_absolute path ≡ false
     → full_path (Some dir) path ≡ cond (is_absolute dir) (Some (join_of dir path)) None
 full-relative dir path e = cond-false (is_absolute path) (Some path) (cond (is_absolute dir) (Some (join_of dir path)) None) e

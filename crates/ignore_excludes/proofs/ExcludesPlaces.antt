@@ -2,6 +2,7 @@
 use Rattle.std.proofs.Common.{◌≡◌, refl, inl, inr, ℕ, List, [], ◌∷◌, Option, None, Some, Result, Ok, Err, is_some, codes, IfOk, false, sym}
 use Rattle.std.proofs.Common.{ap, ◌∙◌, subst}
 use Rattle.std.proofs.lemmas.Bool.{true≢false}
+use Rattle.std.specs.Option.{option_or}
 use Rattle.ignore_base.specs.declared.fault.Fault.{Fault}
 use Rattle.ignore_files.specs.Tree.{Tree}
 use Rattle.ignore_files.specs.Tree.{Answers}
@@ -14,7 +15,7 @@ use Rattle.ignore_files.specs.declared.types.Refusal.TheVariants.{Fault as Refus
 use Rattle.ignore_excludes.specs.Excludes.{IsValue}
 use Rattle.ignore_excludes.proofs.ExcludesOnly.{IsValue-one}
 use Rattle.ignore_excludes.specs.ExcludesSearch.{ReadGives, ContentsGive, TreeGives, AnswerGives, FilesGive, Gives, IsFirstValue, LeadsTo}
-use Rattle.ignore_excludes.specs.ExcludesSearch.{filled, below, or_else, xdg_folder, configurations, path_of, expanded, IsFirstPath}
+use Rattle.ignore_excludes.specs.ExcludesSearch.{filled, below, xdg_folder, configurations, path_of, expanded, IsFirstPath}
 use Rattle.ignore_excludes.specs.ExcludesSearch.{IsExcludesPath}
 use Rattle.ignore_files.specs.declared.env.Env.{Env}
 
@@ -33,7 +34,7 @@ AnswerGives-whole contents bytes found whole same h =
 -- the four places, each by itself
 pub configurations-same : (env : Env) (a b c d : Option (List ℕ)) → a ≡ filled env.git_config_global → b
     ≡ below env.home (codes ".gitconfig") → c ≡ below (xdg_folder env) (codes "git/config") → d
-    ≡ or_else (filled env.git_config_system) (Some (codes "/etc/gitconfig")) → a ∷ (b ∷ (c ∷ (d ∷ []))) ≡ configurations env
+    ≡ option_or (filled env.git_config_system) (Some (codes "/etc/gitconfig")) → a ∷ (b ∷ (c ∷ (d ∷ []))) ≡ configurations env
 configurations-same env a b c d p q r s = cc
 
 pub LeadsTo-some : (Says : List ℕ → Option (List ℕ) → Type 0) (env : Env) (home : Option (List ℕ))

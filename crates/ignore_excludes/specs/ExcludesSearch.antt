@@ -2,6 +2,7 @@
 -- value. 126 `~`
 use Rattle.std.specs.Prelude.{◌≡◌, ◌⊎◌, ◌==◌, List, [], ◌∷◌, codes, if◌then◌else◌, Option, None, Some, Result, Ok, Err}
 use Rattle.std.specs.List.{flat_map}
+use Rattle.std.specs.Option.{option_or}
 use Rattle.ignore_base.specs.Text.{Bytes, Path}
 use Rattle.ignore_base.specs.Paths.{join_of}
 use Rattle.ignore_base.specs.declared.fault.Fault.{Fault}
@@ -24,14 +25,9 @@ abbrev pub below : Option Path → Path → Option Path
 below None path = None
 below (Some folder) path = Some (join_of folder path)
 
--- the first if there is one, else the other
-abbrev pub or_else : Option Path → Option Path → Option Path
-or_else None other = other
-or_else (Some text) other = Some text
-
 -- the folder of the user's configuration: `XDG_CONFIG_HOME`, else `.config` in the home directory
 abbrev pub xdg_folder : Env → Option Path
-xdg_folder env = or_else (filled env.xdg_config_home) (below env.home (codes ".config"))
+xdg_folder env = option_or (filled env.xdg_config_home) (below env.home (codes ".config"))
 
 -- the configuration files, in the order in which they are searched
 abbrev pub configurations : Env → List (Option Path)
@@ -39,7 +35,7 @@ configurations env =
     filled env.git_config_global
     ∷ (below env.home (codes ".gitconfig")
     ∷ (below (xdg_folder env) (codes "git/config")
-    ∷ (or_else (filled env.git_config_system) (Some (codes "/etc/gitconfig"))
+    ∷ (option_or (filled env.git_config_system) (Some (codes "/etc/gitconfig"))
     ∷ [])))
 
 -- the bytes give their value, unless reading ended with a fault

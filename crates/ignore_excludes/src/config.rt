@@ -1,11 +1,11 @@
 //! The search of git's configuration for the excludes file.
 ghost use Rattle.std.specs.Prelude.{◌≡◌, ℕ, List, Option, codes, Some, IfOk, IfErr, map, option_map, string_bytes};
-ghost use Rattle.std.specs.Option.{option_copied};
+ghost use Rattle.std.specs.Option.{option_copied, option_or};
 ghost use Rattle.ignore_base.specs.Text.{Path};
 ghost use Rattle.ignore_base.specs.Problem.{problem_of, memory};
 ghost use Rattle.ignore_files.specs.Tree.{Tree};
 ghost use Rattle.ignore_files.specs.Gives.{IsHonest};
-ghost use Rattle.ignore_excludes.specs.ExcludesSearch.{filled, below, or_else, xdg_folder, expanded, FilesGive, GivesPath, IsFirstPath};
+ghost use Rattle.ignore_excludes.specs.ExcludesSearch.{filled, below, xdg_folder, expanded, FilesGive, GivesPath, IsFirstPath};
 ghost use Rattle.ignore_excludes.specs.ExcludesSearch.{LeadsTo, IsExcludesPath};
 
 use crate::excludes::excludes_value;
@@ -67,7 +67,7 @@ fn xdg_folder(alloc: Global, env: &Env) -> Result<Option<String>, Error>
 
 /// The file of the system's configuration.
 fn system_config(env: &Env) -> &str
-    ensures { Some result.now ≡ or_else (filled env.now.git_config_system) (Some (codes "/etc/gitconfig")) }
+    ensures { Some result.now ≡ option_or (filled env.now.git_config_system) (Some (codes "/etc/gitconfig")) }
 {
     match filled(&env.git_config_system) {
         None => "/etc/gitconfig",

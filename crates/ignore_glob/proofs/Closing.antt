@@ -85,12 +85,6 @@ closed_all nodes old new below inv last q =
     closed_back r (here k f) = inv.kept k f
     closed_back r (on p k node m at s) = let f = closed_back p m in inv.closed p k node (last p f (slice_get_within nodes p node at)) f at s
 
--- below its first position nothing has stepped
-pub stepped_init : (fold : Bool) (nodes : List Node) (from new : ℕ → Type 0) (c low : ℕ) → ((q : ℕ) → from q → low ≤ q)
-    → ((q : ℕ) → new q → ⊥) → (q : ℕ) → new q ↔ SteppedBelow fold nodes from c low q
-stepped_init fold nodes from new c low first clear q =
-    (λ f. absurd (clear q f), λ s. absurd (let n = first s.0 s.3 in let h = s.2 in omega (arith, n, h)))
-
 -- one more position has stepped
 pub stepped_more : (fold : Bool) (nodes : List Node) (from mid new : ℕ → Type 0) (c p : ℕ)
     → ((q : ℕ) → mid q ↔ SteppedBelow fold nodes from c p q) → ((q : ℕ) → new q ↔ (mid q ⊎ FromHereBy fold nodes from c p q)) → (q : ℕ)

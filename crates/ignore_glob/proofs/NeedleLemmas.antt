@@ -67,31 +67,6 @@ one_of_nothing (n ∷ ns) text (inr h) = inr (one_of_nothing ns text h)
 
 -- One token.
 
-literal_is : (t : Token) (c : ℕ) → literal_of t ≡ Some c → t ≡ literal c
-literal_is (literal d) c e = ap literal (same d c e)
-  where
-    same : (d c : ℕ) → Some d ≡ Some c → d ≡ c
-    same d c e = cc
-literal_is any c e = cc
-literal_is star c e = cc
-literal_is start c e = cc
-literal_is middle c e = cc
-literal_is end c e = cc
-literal_is (class negated ranges) c e = cc
-literal_is (alternates bs) c e = cc
-
--- a literal matches its one character
-literal_matched : (t : Token) (c : ℕ) (w : List ℕ) → literal_of t ≡ Some c → token_matches false t w → w ≡ c ∷ []
-literal_matched t c w e h =
-    let m = subst (λ x. token_matches false x w) (literal_is t c e) h in
-    m.1 ∙ ap (λ x. x ∷ []) m.2
-
-pub known_literal : (t : Token) (c : ℕ) (run run' : List ℕ) (needles needles' : List (List ℕ)) → literal_of t ≡ Some c
-    → ((text : List ℕ) → EndsAndHas run needles text → EndsAndHas run' needles' (text ++ utf8 (c ∷ [])))
-    → (text w : List ℕ) → EndsAndHas run needles text → token_matches false t w → EndsAndHas run' needles' (text ++ utf8 w)
-known_literal t c run run' needles needles' e step text w known m =
-    subst (λ l. EndsAndHas run' needles' (text ++ utf8 l)) (sym (literal_matched t c w e m)) (step text known)
-
 pub known_character : (c : ℕ) (run run' : List ℕ) (needles : List (List ℕ)) → run' ≡ run ++ encode_utf8 c → (text : List ℕ)
     → EndsAndHas run needles text → EndsAndHas run' needles (text ++ utf8 (c ∷ []))
 known_character c run run' needles grown text ((front, e), has) = (
@@ -112,16 +87,6 @@ known_past t run none needles more chosen empty extended choice text w ((front, 
   choice (text ++ utf8 w) (one_more needles text (utf8 w) has) (subst (λ l. HasOneOf more (l ++ utf8 w)) (sym e) (extended front w m)),
 )
 
-pub known_last : (run : List ℕ) (needles last chosen : List (List ℕ)) → last ≡ run ∷ []
-    → ((text : List ℕ) → HasOneOf needles text → HasOneOf last text → HasOneOf chosen text)
-    → (text : List ℕ) → EndsAndHas run needles text → HasOneOf chosen text
-known_last run needles last chosen e choice text ((front, cut), has) =
-    choice text has (subst (λ l. HasOneOf l text) (sym e) (inl (front, [], cut ∙ ap (λ l. front ++ l) (sym (append-nil run)))))
-
--- the run itself is in what ends with it and goes on
-pub run_alone : (run : List ℕ) (texts : List (List ℕ)) → texts ≡ run ∷ [] → (front more : List ℕ) → HasOneOf texts ((front ++ run) ++ more)
-run_alone run texts e front more = subst (λ l. HasOneOf l ((front ++ run) ++ more)) (sym e) (inl (front, more, append_assoc front run more))
-
 -- what begins with the run, after any text
 pub after_front : (texts : List (List ℕ)) (front run w : List ℕ) → HasOneOf texts (run ++ w) → HasOneOf texts ((front ++ run) ++ w)
 after_front texts front run w h = subst (λ l. HasOneOf texts l) (sym (append_assoc front run w)) (one_after texts front (run ++ w) h)
@@ -136,9 +101,6 @@ Leaves all rest run needles =
 module _ (tokens : List CodeToken) (i : ℕ) (t : CodeToken) (fits : i < length tokens) (is : t ≡ get_or tokens i t) where
   place : drop i tokens ≡ t ∷ drop (i + 1) tokens
   place = rw add-one (drop-cons tokens i t fits ∙ ap (λ x. x ∷ drop (suc i) tokens) (sym is))
-
-pub leaves_first : (all : Tokens) (run : List ℕ) (needles : List (List ℕ)) → EndsAndHas run needles [] → Leaves all all run needles
-leaves_first all run needles known w m = ([], w, refl, m, known)
 
 pub leaves_more : (tokens : List CodeToken) (i : ℕ) (t : CodeToken) (run run' : List ℕ) (needles needles' : List (List ℕ))
     → i < length tokens → t ≡ get_or tokens i t
@@ -177,27 +139,6 @@ abbrev pub Begins : Tokens → Tokens → List ℕ → List ℕ → Type 0
 Begins all rest run text = (w : List ℕ) → tokens_match false all w
     → (b : List ℕ) × (run ++ utf8 w ≡ text ++ utf8 b) × tokens_match false rest b
 
-pub begins_first : (all : Tokens) (run text : List ℕ) → text ≡ run → Begins all all run text
-begins_first all run text e w m = (w, ap (λ l. l ++ utf8 w) (sym e), m)
-
-pub begins_more : (tokens : List CodeToken) (i : ℕ) (t : CodeToken) (c : ℕ) (run text text' : List ℕ) → i < length tokens
-    → t ≡ get_or tokens i t → literal_of (view t) ≡ Some c → text' ≡ text ++ encode_utf8 c
-    → Begins (tokens_view tokens) (tokens_view (drop i tokens)) run text
-    → Begins (tokens_view tokens) (tokens_view (drop (i + 1) tokens)) run text'
-begins_more tokens i t c run text text' fits is e grown begins w m =
-    let l = begins w m in
-    let p = subst (λ ts. tokens_match false (tokens_view ts) l.0) (place tokens i t fits is) l.2 in
-    let one : l.0 ≡ c ∷ p.1 = p.2 ∙ ap (λ x. x ++ p.1) (literal_matched (view t) c p.0 e p.3) in (
-      p.1,
-      l.1 ∙ (ap (λ x. text ++ utf8 x) one ∙ (sym (append_assoc text (encode_utf8 c) (utf8 p.1))
-          ∙ ap (λ x. x ++ utf8 p.1) (sym grown))),
-      p.4,
-    )
-
-pub begins_so : (all rest : Tokens) (run text : List ℕ) → Begins all rest run text → (w : List ℕ) → tokens_match false all w
-    → BeginsWith text (run ++ utf8 w)
-begins_so all rest run text begins w m = let l = begins w m in (utf8 l.0, l.1)
-
 -- The whole pattern.
 
 pub of_text : (needles : List (List ℕ)) (ts : Tokens) → ((w : List ℕ) → glob_matches false ts w → HasOneOf needles (utf8 w))
@@ -210,9 +151,6 @@ of_text needles ts each text fits m = subst (λ l. HasOneOf needles l) (utf8-cha
 -- matches it
 abbrev pub Spelt : Branches → Branches → List ℕ → List (List ℕ) → Type 0
 Spelt all rest run texts = (w : List ℕ) → branch_matches false all w → branch_matches false rest w ⊎ HasOneOf texts (run ++ utf8 w)
-
-pub spelt_first : (all : Branches) (run : List ℕ) → Spelt all all run []
-spelt_first all run w m = inl m
 
 pub spelt_more : (all rest : Branches) (ts : Tokens) (run text : List ℕ) (texts : List (List ℕ))
     → ((w : List ℕ) → tokens_match false ts w → BeginsWith text (run ++ utf8 w))
@@ -235,9 +173,6 @@ spelt_all bs run texts some spelt front w (inr m) = elim (spelt w m) [
 -- on has it
 abbrev pub Listed : List (ℕ × ℕ) → List (ℕ × ℕ) → List ℕ → List (List ℕ) → Type 0
 Listed all rest run texts = (c : ℕ) → IsTrue (in_ranges all c) → IsTrue (in_ranges rest c) ⊎ HasOneOf texts (run ++ utf8 (c ∷ []))
-
-pub listed_first : (all : List (ℕ × ℕ)) (run : List ℕ) → Listed all all run []
-listed_first all run c m = inl m
 
 pub listed_all : (ranges : List (ℕ × ℕ)) (run : List ℕ) (texts : List (List ℕ)) → Listed ranges [] run texts
     → (front w : List ℕ) → token_matches false (class false ranges) w → HasOneOf texts ((front ++ run) ++ utf8 w)

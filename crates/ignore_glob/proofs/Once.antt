@@ -22,15 +22,6 @@ pub get_seam : {X : Type 0} → (xs : List X) (x : X) (ys : List X) → slice_ge
 get_seam [] x ys = refl
 get_seam (y ∷ xs) x ys = get_seam xs x ys
 
-pub get_cases : {X : Type 0} → (xs ys : List X) (i : ℕ) (x : X) → slice_get (xs ++ ys) i ≡ Some x
-    → (slice_get xs i ≡ Some x) ⊎ ((j : ℕ) × (i ≡ length xs + j) × (slice_get ys j ≡ Some x))
-get_cases [] ys i x at = inr (i, omega arith, at)
-get_cases (y ∷ xs) ys zero x at = inl at
-get_cases (y ∷ xs) ys (suc i) x at = elim (get_cases xs ys i x at) [
-  | inl prefix ↦ inl prefix
-  | inr back ↦ inr (back.0, (let e : i ≡ length xs + back.0 = back.1 in omega (arith, e)), back.2)
-]
-
 -- an element stands at one place alone
 pub unique_at : {X : Type 0} → (xs : List X) (i j : ℕ) (x : X) → HasNoDuplicates xs → slice_get xs i ≡ Some x → slice_get xs j ≡ Some x
     → i ≡ j

@@ -61,16 +61,6 @@ key_longer (x ∷ xs) (q ∷ ps) lt =
     ap (λ b. nat_eq q x && b) (key_longer xs ps (omega arith))
     ∙ sym (and_assoc (nat_eq q x) (starts_with nat_eq xs ps) (eqb (get_or xs (length ps) 0) 47))
 
-and_false : (b : Bool) → (b && false) ≡ false
-and_false true = refl
-and_false false = refl
-
-pub key_short : (key dir : List ℕ) → length key ≤ length dir → starts_with nat_eq key (dir ++ 47 ∷ []) ≡ false
-key_short [] [] le = refl
-key_short [] (q ∷ ps) le = refl
-key_short (x ∷ xs) [] le = absurd (omega arith)
-key_short (x ∷ xs) (q ∷ ps) le = ap (λ b. nat_eq q x && b) (key_short xs ps (omega arith)) ∙ and_false (nat_eq q x)
-
 pub key_in : (dir key : List ℕ) → length dir ≢ 0 → length dir < length key
     → (starts_with nat_eq key dir && eqb (get_or key (length dir) 0) 47) ≡ is_key_in dir key
 key_in [] key ne lt = absurd (ne refl)

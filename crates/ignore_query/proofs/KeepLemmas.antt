@@ -176,13 +176,3 @@ put_agrees g c c' names k old clean next puts absent same right =
         | inr x ↦ let p = old.inside q r cleanq x front name is in (p.0, stays (slashed front) (Loaded p.0) p.1)
       ];
     }
-
-pub same_agrees : (g : Scene) (c c' : Cache) → Agrees g c → ((cs : List ℕ) → get_by_text c'.dirs cs ≡ get_by_text c.dirs cs)
-    → SameAbove c c' → Agrees g c'
-same_agrees g c c' old looks same = record {
-  above = above_same g c c' same old.above;
-  first = λ q r h. same.0 ∙ old.first q r (sym (looks (slashed q)) ∙ h);
-  right = λ q r clean h. old.right q r clean (sym (looks (slashed q)) ∙ h);
-  inside = λ q r clean h front name is. let p = old.inside q r clean (sym (looks (slashed q))
-      ∙ h) front name is in (p.0, looks (slashed front) ∙ p.1);
-}

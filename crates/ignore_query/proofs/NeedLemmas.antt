@@ -20,9 +20,6 @@ use Rattle.ignore_query.proofs.WayLemmas.{drop_all, drop_next, left, left_all, l
 
 -- What stays kept.
 
-pub stays_same : (c : Cache) → Stays c c
-stays_same c = record { above = λ h. (h, (refl, refl)); dirs = λ names k h. h }
-
 pub stays_then : (a b c : Cache) → Stays a b → Stays b c → Stays a c
 stays_then a b c p q = record {
   above = λ h. let x = p.above h in let y = q.above x.0 in (y.0, (y.1.0 ∙ x.1.0, y.1.1 ∙ x.1.1));

@@ -21,10 +21,6 @@ use Rattle.ignore_query.specs.Needs.{is_known}
 use Rattle.ignore_query.specs.Reports.{new_below, problem_in}
 use Rattle.ignore_query.proofs.KnownLemmas.{known_above}
 
-and_left : (a b : Bool) → (a && b) ≡ true → a ≡ true
-and_left true b h = refl
-and_left false b h = h
-
 and_right : (a b : Bool) → (a && b) ≡ true → b ≡ true
 and_right true b h = h
 and_right false b h = cc

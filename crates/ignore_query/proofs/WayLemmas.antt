@@ -170,6 +170,3 @@ last_inj (a ∷ as') (b ∷ bs) x y e =
     let s : as' ≡ bs = last_inj as' bs x y t in
     let h : a ≡ b = cc in
     cc
-
-pub no_names_last : (front : List (List ℕ)) (name : List ℕ) → [] ≢ front ++ name ∷ []
-no_names_last front name = no_last front name

@@ -12,7 +12,7 @@ ghost use Rattle.ignore_dir.specs.Soft.{IsSoft};
 ghost use Rattle.ignore_query.specs.Agrees.{Agrees};
 ghost use Rattle.ignore_query.specs.Fresh.{KeepsNothing};
 ghost use Rattle.ignore_query.specs.Needs.{KeepsNeeded, Stays, is_decided, is_known, needed};
-ghost use Rattle.ignore_query.specs.Reached.{dir_of, scene_of};
+ghost use Rattle.ignore_query.specs.Reached.{InEachScene, dir_of, scene_of};
 ghost use Rattle.ignore_query.specs.Reports.{reported, reported_by_rules};
 
 use crate::asked::Asked;
@@ -117,24 +117,18 @@ impl IncrementalIgnore {
         path: &str,
         is_dir: bool,
     ) -> Result<IncrementalMatch, Error>
-        ensures value { (tree : Tree) (loads : List ℕ → Loaded) → IsHonest F.Files files.now tree
-            → AreLoads tree self.old.asked.settings loads → let g = scene_of self.old.asked tree loads in
-            Agrees g self.old.cache → IfOk result (λ m. m ≡ (queries.query g path.now is_dir).0) }
+        ensures value { InEachScene F.Files files.now self.old.asked (λ g. Agrees g self.old.cache
+            → IfOk result (λ m. m ≡ (queries.query g path.now is_dir).0)) }
         ensures stays { Stays self.old.cache self.new.cache }
-        ensures kept { (tree : Tree) (loads : List ℕ → Loaded) → IsHonest F.Files files.now tree
-            → AreLoads tree self.old.asked.settings loads → let g = scene_of self.old.asked tree loads in
-            Agrees g self.old.cache → is_decided g path.now is_dir ≡ true
-            → OnOk result (KeepsNeeded (needed g (queries.names_of path.now)) self.old.cache self.new.cache) }
-        ensures unchanged { (tree : Tree) (loads : List ℕ → Loaded) → IsHonest F.Files files.now tree
-            → AreLoads tree self.old.asked.settings loads → let g = scene_of self.old.asked tree loads in
-            Agrees g self.old.cache → is_decided g path.now is_dir ≢ true → self.new.cache ≡ self.old.cache }
+        ensures kept { InEachScene F.Files files.now self.old.asked (λ g. Agrees g self.old.cache → is_decided g path.now is_dir ≡ true
+            → OnOk result (KeepsNeeded (needed g (queries.names_of path.now)) self.old.cache self.new.cache)) }
+        ensures unchanged { InEachScene F.Files files.now self.old.asked (λ g. Agrees g self.old.cache
+            → is_decided g path.now is_dir ≢ true → self.new.cache ≡ self.old.cache) }
         ensures from_kept { (tree : Tree) (loads : List ℕ → Loaded) → let g = scene_of self.old.asked tree loads in
             Agrees g self.old.cache → is_known g self.old.cache (queries.names_of path.now) ≡ true
             → queries.limit_of g path.now is_dir ≡ None → (self.new.cache ≡ self.old.cache)
             × IfOk result (λ m. m ≡ (queries.query g path.now is_dir).0) }
-        ensures agrees { (tree : Tree) (loads : List ℕ → Loaded) → IsHonest F.Files files.now tree
-            → AreLoads tree self.old.asked.settings loads → let g = scene_of self.old.asked tree loads in
-            Agrees g self.old.cache → Agrees g self.new.cache }
+        ensures agrees { InEachScene F.Files files.now self.old.asked (λ g. Agrees g self.old.cache → Agrees g self.new.cache) }
         ensures same { self.new.asked ≡ self.old.asked }
         ensures out_of_memory { IfErr result (λ e. problem_of e ≡ memory) }
     {
@@ -153,27 +147,20 @@ impl IncrementalIgnore {
         path: &str,
         is_dir: bool,
     ) -> Result<(IncrementalMatch, Option<Error>), Error>
-        ensures value { (tree : Tree) (loads : List ℕ → Loaded) → IsHonest F.Files files.now tree
-            → AreLoads tree self.old.asked.settings loads → let g = scene_of self.old.asked tree loads in
-            Agrees g self.old.cache → IfOk result (λ r. r.0 ≡ (queries.query g path.now is_dir).0) }
-        ensures reports { (tree : Tree) (loads : List ℕ → Loaded) → IsHonest F.Files files.now tree
-            → AreLoads tree self.old.asked.settings loads → let g = scene_of self.old.asked tree loads in
-            Agrees g self.old.cache → IfOk result (λ r. option_map problem_of r.1 ≡ reported g self.old.cache path.now is_dir) }
+        ensures value { InEachScene F.Files files.now self.old.asked (λ g. Agrees g self.old.cache
+            → IfOk result (λ r. r.0 ≡ (queries.query g path.now is_dir).0)) }
+        ensures reports { InEachScene F.Files files.now self.old.asked (λ g. Agrees g self.old.cache
+            → IfOk result (λ r. option_map problem_of r.1 ≡ reported g self.old.cache path.now is_dir)) }
         ensures stays { Stays self.old.cache self.new.cache }
-        ensures kept { (tree : Tree) (loads : List ℕ → Loaded) → IsHonest F.Files files.now tree
-            → AreLoads tree self.old.asked.settings loads → let g = scene_of self.old.asked tree loads in
-            Agrees g self.old.cache → is_decided g path.now is_dir ≡ true
-            → OnOk result (KeepsNeeded (needed g (queries.names_of path.now)) self.old.cache self.new.cache) }
-        ensures unchanged { (tree : Tree) (loads : List ℕ → Loaded) → IsHonest F.Files files.now tree
-            → AreLoads tree self.old.asked.settings loads → let g = scene_of self.old.asked tree loads in
-            Agrees g self.old.cache → is_decided g path.now is_dir ≢ true → self.new.cache ≡ self.old.cache }
+        ensures kept { InEachScene F.Files files.now self.old.asked (λ g. Agrees g self.old.cache → is_decided g path.now is_dir ≡ true
+            → OnOk result (KeepsNeeded (needed g (queries.names_of path.now)) self.old.cache self.new.cache)) }
+        ensures unchanged { InEachScene F.Files files.now self.old.asked (λ g. Agrees g self.old.cache
+            → is_decided g path.now is_dir ≢ true → self.new.cache ≡ self.old.cache) }
         ensures from_kept { (tree : Tree) (loads : List ℕ → Loaded) → let g = scene_of self.old.asked tree loads in
             Agrees g self.old.cache → is_known g self.old.cache (queries.names_of path.now) ≡ true
             → queries.limit_of g path.now is_dir ≡ None → (self.new.cache ≡ self.old.cache)
             × IfOk result (λ r. (r.0 ≡ (queries.query g path.now is_dir).0) × (r.1 ≡ None)) }
-        ensures agrees { (tree : Tree) (loads : List ℕ → Loaded) → IsHonest F.Files files.now tree
-            → AreLoads tree self.old.asked.settings loads → let g = scene_of self.old.asked tree loads in
-            Agrees g self.old.cache → Agrees g self.new.cache }
+        ensures agrees { InEachScene F.Files files.now self.old.asked (λ g. Agrees g self.old.cache → Agrees g self.new.cache) }
         ensures soft { IfOk result (λ r. IsSoft (option_map problem_of r.1)) }
         ensures same { self.new.asked ≡ self.old.asked }
         ensures out_of_memory { IfErr result (λ e. problem_of e ≡ memory) }
@@ -200,28 +187,23 @@ impl IncrementalIgnore {
         path: &str,
         is_dir: bool,
     ) -> Result<(IncrementalMatch, Option<Error>), Error>
-        ensures value { (tree : Tree) (loads : List ℕ → Loaded) → IsHonest F.Files files.now tree
-            → AreLoads tree self.old.asked.settings loads → let g = scene_of self.old.asked tree loads in
-            Agrees g self.old.cache → queries.is_asked g.root path.now ≡ true → queries.has_rules tree g.root path.now ≡ true
-            → IfOk result (λ r. r.0 ≡ (queries.answer_of_rules g path.now is_dir).0) }
-        ensures reports { (tree : Tree) (loads : List ℕ → Loaded) → IsHonest F.Files files.now tree
-            → AreLoads tree self.old.asked.settings loads → let g = scene_of self.old.asked tree loads in
-            Agrees g self.old.cache → queries.is_asked g.root path.now ≡ true → queries.has_rules tree g.root path.now ≡ true
-            → IfOk result (λ r. option_map problem_of r.1 ≡ reported_by_rules g self.old.cache path.now is_dir) }
+        ensures value { InEachScene F.Files files.now self.old.asked (λ g. Agrees g self.old.cache
+            → queries.is_asked g.root path.now ≡ true → queries.has_rules g.tree g.root path.now ≡ true
+            → IfOk result (λ r. r.0 ≡ (queries.answer_of_rules g path.now is_dir).0)) }
+        ensures reports { InEachScene F.Files files.now self.old.asked (λ g. Agrees g self.old.cache
+            → queries.is_asked g.root path.now ≡ true → queries.has_rules g.tree g.root path.now ≡ true
+            → IfOk result (λ r. option_map problem_of r.1 ≡ reported_by_rules g self.old.cache path.now is_dir)) }
         ensures stays { Stays self.old.cache self.new.cache }
-        ensures kept { (tree : Tree) (loads : List ℕ → Loaded) → IsHonest F.Files files.now tree
-            → AreLoads tree self.old.asked.settings loads → let g = scene_of self.old.asked tree loads in
-            Agrees g self.old.cache → queries.is_asked g.root path.now ≡ true → queries.has_rules tree g.root path.now ≡ true
-            → OnOk result (KeepsNeeded (needed g (queries.names_of path.now)) self.old.cache self.new.cache) }
+        ensures kept { InEachScene F.Files files.now self.old.asked (λ g. Agrees g self.old.cache
+            → queries.is_asked g.root path.now ≡ true → queries.has_rules g.tree g.root path.now ≡ true
+            → OnOk result (KeepsNeeded (needed g (queries.names_of path.now)) self.old.cache self.new.cache)) }
         ensures from_kept { (tree : Tree) (loads : List ℕ → Loaded) → let g = scene_of self.old.asked tree loads in
             Agrees g self.old.cache → queries.is_asked g.root path.now ≡ true → queries.has_rules tree g.root path.now ≡ true
             → is_known g self.old.cache (queries.names_of path.now) ≡ true → queries.limit_of g path.now is_dir ≡ None
             → (self.new.cache ≡ self.old.cache)
             × IfOk result (λ r. (r.0 ≡ (queries.answer_of_rules g path.now is_dir).0) × (r.1 ≡ None)) }
-        ensures agrees { (tree : Tree) (loads : List ℕ → Loaded) → IsHonest F.Files files.now tree
-            → AreLoads tree self.old.asked.settings loads → let g = scene_of self.old.asked tree loads in
-            Agrees g self.old.cache → queries.is_asked g.root path.now ≡ true → queries.has_rules tree g.root path.now ≡ true
-            → Agrees g self.new.cache }
+        ensures agrees { InEachScene F.Files files.now self.old.asked (λ g. Agrees g self.old.cache
+            → queries.is_asked g.root path.now ≡ true → queries.has_rules g.tree g.root path.now ≡ true → Agrees g self.new.cache) }
         ensures soft { IfOk result (λ r. IsSoft (option_map problem_of r.1)) }
         ensures same { self.new.asked ≡ self.old.asked }
         ensures out_of_memory { IfErr result (λ e. problem_of e ≡ memory) }

@@ -16,7 +16,7 @@ ghost use Rattle.ignore_files.specs.Gives.{IsHonest};
 ghost use Rattle.ignore_files.specs.Tree.{Tree};
 ghost use Rattle.ignore_query.specs.Agrees.{Agrees, IsInLoaded, IsLoaded, IsNext, IsRight};
 ghost use Rattle.ignore_query.specs.Needs.{KeepsNeeded, Stays, needed};
-ghost use Rattle.ignore_query.specs.Reached.{scene_of};
+ghost use Rattle.ignore_query.specs.Reached.{InEachScene, scene_of};
 ghost use Rattle.ignore_query.specs.Reports.{new_below, problem_in, problems_at};
 
 use crate::asked::Asked;
@@ -131,16 +131,11 @@ impl Cache {
         key: &str,
         errors: &mut Vec<Error>,
     ) -> Result<Kept, Error>
-        ensures value { (tree : Tree) (loads : List ℕ → Loaded) → IsHonest F.Files files.now tree → AreLoads tree asked.now.settings loads
-            → let g = scene_of asked.now tree loads in let front = map (λ n. n.now) names.now in
-            Agrees g self.now → All IsName front → key.now ≡ slashed front → IsNext self.now front
-            → IfOk result (λ k. IsRight g front k) }
-        ensures problems { (tree : Tree) (loads : List ℕ → Loaded) → IsHonest F.Files files.now tree
-            → AreLoads tree asked.now.settings loads
-            → let g = scene_of asked.now tree loads in let front = map (λ n. n.now) names.now in
-            Agrees g self.now → All IsName front → key.now ≡ slashed front → IsNext self.now front
-            → OnOk result (map problem_of errors.new.items ≡ map problem_of errors.old.items
-            ++ (if is_ignored g front then [] else option_to_list (problem_in g front))) }
+        ensures value { InEachScene F.Files files.now asked.now (λ g. let front = map (λ n. n.now) names.now in Agrees g self.now
+            → All IsName front → key.now ≡ slashed front → IsNext self.now front → IfOk result (λ k. IsRight g front k)) }
+        ensures problems { InEachScene F.Files files.now asked.now (λ g. let front = map (λ n. n.now) names.now in Agrees g self.now
+            → All IsName front → key.now ≡ slashed front → IsNext self.now front → OnOk result (map problem_of errors.new.items
+            ≡ map problem_of errors.old.items ++ (if is_ignored g front then [] else option_to_list (problem_in g front)))) }
         ensures soft { AllSoft (map problem_of errors.old.items) → OnOk result (AllSoft (map problem_of errors.new.items)) }
         ensures out_of_memory { IfErr result (λ e. problem_of e ≡ memory) }
     {
@@ -166,19 +161,15 @@ impl Cache {
             ≡ (is_some (get_by_text self.old.dirs text) || bytes_eq key.now text)) }
         ensures others { (text : List ℕ) → text ≢ key.now → get_by_text self.new.dirs text ≡ get_by_text self.old.dirs text }
         ensures above { (self.new.has_above ≡ self.old.has_above) × ((self.new.above ≡ self.old.above) × (self.new.base ≡ self.old.base)) }
-        ensures agrees { (tree : Tree) (loads : List ℕ → Loaded) → IsHonest F.Files files.now tree → AreLoads tree asked.now.settings loads
-            → let g = scene_of asked.now tree loads in let front = map (λ n. n.now) names.now in
-            Agrees g self.old → All IsName front → key.now ≡ slashed front → IsNext self.old front → Agrees g self.new }
-        ensures value { (tree : Tree) (loads : List ℕ → Loaded) → IsHonest F.Files files.now tree → AreLoads tree asked.now.settings loads
-            → let g = scene_of asked.now tree loads in let front = map (λ n. n.now) names.now in
-            Agrees g self.old → All IsName front → key.now ≡ slashed front → IsNext self.old front
-            → IfOk result (λ yes. yes ≡ not (is_ignored g front)) }
+        ensures agrees { InEachScene F.Files files.now asked.now (λ g. let front = map (λ n. n.now) names.now in Agrees g self.old
+            → All IsName front → key.now ≡ slashed front → IsNext self.old front → Agrees g self.new) }
+        ensures value { InEachScene F.Files files.now asked.now (λ g. let front = map (λ n. n.now) names.now in Agrees g self.old
+            → All IsName front → key.now ≡ slashed front → IsNext self.old front
+            → IfOk result (λ yes. yes ≡ not (is_ignored g front))) }
         ensures found { (names : List (List ℕ)) → key.now ≡ slashed names → IfOk result (λ yes. yes ≡ true → IsLoaded self.new names) }
-        ensures problems { (tree : Tree) (loads : List ℕ → Loaded) → IsHonest F.Files files.now tree
-            → AreLoads tree asked.now.settings loads
-            → let g = scene_of asked.now tree loads in let front = map (λ n. n.now) names.now in
-            Agrees g self.old → All IsName front → key.now ≡ slashed front → IsNext self.old front
-            → OnOk result (map problem_of errors.new.items ≡ map problem_of errors.old.items ++ problems_at g self.old front) }
+        ensures problems { InEachScene F.Files files.now asked.now (λ g. let front = map (λ n. n.now) names.now in Agrees g self.old
+            → All IsName front → key.now ≡ slashed front → IsNext self.old front
+            → OnOk result (map problem_of errors.new.items ≡ map problem_of errors.old.items ++ problems_at g self.old front)) }
         ensures soft { AllSoft (map problem_of errors.old.items) → OnOk result (AllSoft (map problem_of errors.new.items)) }
         ensures out_of_memory { IfErr result (λ e. problem_of e ≡ memory) }
     {
@@ -205,27 +196,17 @@ impl Cache {
         errors: &mut Vec<Error>,
     ) -> Result<bool, Error>
         ensures stays { Stays self.old self.new }
-        ensures kept { (tree : Tree) (loads : List ℕ → Loaded) → IsHonest F.Files files.now tree → AreLoads tree asked.now.settings loads
-            → let g = scene_of asked.now tree loads in let all = map (λ n. n.now) names.now in
-            Agrees g self.old → All IsName all → self.old.has_above ≡ true
-            → OnOk result (KeepsNeeded (needed g all) self.old self.new) }
-        ensures agrees { (tree : Tree) (loads : List ℕ → Loaded) → IsHonest F.Files files.now tree → AreLoads tree asked.now.settings loads
-            → let g = scene_of asked.now tree loads in
-            Agrees g self.old → All IsName (map (λ n. n.now) names.now) → self.old.has_above ≡ true → Agrees g self.new }
-        ensures value { (tree : Tree) (loads : List ℕ → Loaded) → IsHonest F.Files files.now tree → AreLoads tree asked.now.settings loads
-            → let g = scene_of asked.now tree loads in let all = map (λ n. n.now) names.now in
-            Agrees g self.old → All IsName all → self.old.has_above ≡ true
-            → IfOk result (λ yes. yes ≡ not (list_any (is_ignored g) (ancestors all))) }
-        ensures found { (tree : Tree) (loads : List ℕ → Loaded) → IsHonest F.Files files.now tree → AreLoads tree asked.now.settings loads
-            → let g = scene_of asked.now tree loads in let all = map (λ n. n.now) names.now in
-            Agrees g self.old → All IsName all → self.old.has_above ≡ true
-            → IfOk result (λ yes. yes ≡ true → IsInLoaded self.new all) }
-        ensures problems { (tree : Tree) (loads : List ℕ → Loaded) → IsHonest F.Files files.now tree
-            → AreLoads tree asked.now.settings loads
-            → let g = scene_of asked.now tree loads in let all = map (λ n. n.now) names.now in
-            Agrees g self.old → All IsName all → self.old.has_above ≡ true
-            → OnOk result (map problem_of errors.new.items ≡ map problem_of errors.old.items
-            ++ filter_map (λ p. p) (new_below g self.old all)) }
+        ensures kept { InEachScene F.Files files.now asked.now (λ g. let all = map (λ n. n.now) names.now in Agrees g self.old
+            → All IsName all → self.old.has_above ≡ true → OnOk result (KeepsNeeded (needed g all) self.old self.new)) }
+        ensures agrees { InEachScene F.Files files.now asked.now (λ g. Agrees g self.old → All IsName (map (λ n. n.now) names.now)
+            → self.old.has_above ≡ true → Agrees g self.new) }
+        ensures value { InEachScene F.Files files.now asked.now (λ g. let all = map (λ n. n.now) names.now in Agrees g self.old
+            → All IsName all → self.old.has_above ≡ true → IfOk result (λ yes. yes ≡ not (list_any (is_ignored g) (ancestors all)))) }
+        ensures found { InEachScene F.Files files.now asked.now (λ g. let all = map (λ n. n.now) names.now in Agrees g self.old
+            → All IsName all → self.old.has_above ≡ true → IfOk result (λ yes. yes ≡ true → IsInLoaded self.new all)) }
+        ensures problems { InEachScene F.Files files.now asked.now (λ g. let all = map (λ n. n.now) names.now in Agrees g self.old
+            → All IsName all → self.old.has_above ≡ true → OnOk result (map problem_of errors.new.items
+            ≡ map problem_of errors.old.items ++ filter_map (λ p. p) (new_below g self.old all))) }
         ensures soft { AllSoft (map problem_of errors.old.items) → OnOk result (AllSoft (map problem_of errors.new.items)) }
         ensures out_of_memory { IfErr result (λ e. problem_of e ≡ memory) }
     {
@@ -252,23 +233,17 @@ impl Cache {
         errors: &mut Vec<Error>,
     ) -> Result<Verdict, Error>
         ensures stays { Stays self.old self.new }
-        ensures kept { (tree : Tree) (loads : List ℕ → Loaded) → IsHonest F.Files files.now tree → AreLoads tree asked.now.settings loads
-            → let g = scene_of asked.now tree loads in
-            Agrees g self.old → list_all is_proper (components path.now) ≡ true → self.old.has_above ≡ true
-            → OnOk result (KeepsNeeded (needed g (components path.now)) self.old self.new) }
-        ensures agrees { (tree : Tree) (loads : List ℕ → Loaded) → IsHonest F.Files files.now tree → AreLoads tree asked.now.settings loads
-            → let g = scene_of asked.now tree loads in
-            Agrees g self.old → list_all is_proper (components path.now) ≡ true → self.old.has_above ≡ true → Agrees g self.new }
-        ensures value { (tree : Tree) (loads : List ℕ → Loaded) → IsHonest F.Files files.now tree → AreLoads tree asked.now.settings loads
-            → let g = scene_of asked.now tree loads in
-            Agrees g self.old → list_all is_proper (components path.now) ≡ true → self.old.has_above ≡ true
-            → IfOk result (λ v. v ≡ rules_verdict g (components path.now) is_dir) }
-        ensures problems { (tree : Tree) (loads : List ℕ → Loaded) → IsHonest F.Files files.now tree
-            → AreLoads tree asked.now.settings loads
-            → let g = scene_of asked.now tree loads in
-            Agrees g self.old → list_all is_proper (components path.now) ≡ true → self.old.has_above ≡ true
-            → OnOk result (map problem_of errors.new.items ≡ map problem_of errors.old.items
-            ++ filter_map (λ p. p) (new_below g self.old (components path.now))) }
+        ensures kept { InEachScene F.Files files.now asked.now (λ g. Agrees g self.old
+            → list_all is_proper (components path.now) ≡ true → self.old.has_above ≡ true
+            → OnOk result (KeepsNeeded (needed g (components path.now)) self.old self.new)) }
+        ensures agrees { InEachScene F.Files files.now asked.now (λ g. Agrees g self.old
+            → list_all is_proper (components path.now) ≡ true → self.old.has_above ≡ true → Agrees g self.new) }
+        ensures value { InEachScene F.Files files.now asked.now (λ g. Agrees g self.old
+            → list_all is_proper (components path.now) ≡ true → self.old.has_above ≡ true
+            → IfOk result (λ v. v ≡ rules_verdict g (components path.now) is_dir)) }
+        ensures problems { InEachScene F.Files files.now asked.now (λ g. Agrees g self.old → list_all is_proper (components path.now)
+            ≡ true → self.old.has_above ≡ true → OnOk result (map problem_of errors.new.items ≡ map problem_of errors.old.items
+            ++ filter_map (λ p. p) (new_below g self.old (components path.now)))) }
         ensures soft { AllSoft (map problem_of errors.old.items) → OnOk result (AllSoft (map problem_of errors.new.items)) }
         ensures out_of_memory { IfErr result (λ e. problem_of e ≡ memory) }
     {

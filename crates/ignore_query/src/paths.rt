@@ -9,7 +9,7 @@ ghost use Rattle.ignore_dir.specs.Soft.{IsSoft};
 ghost use Rattle.ignore_query.specs.Agrees.{Agrees};
 ghost use Rattle.ignore_query.specs.InTurn.{ReportInTurn};
 ghost use Rattle.ignore_query.specs.Needs.{Stays};
-ghost use Rattle.ignore_query.specs.Reached.{scene_of};
+ghost use Rattle.ignore_query.specs.Reached.{InEachScene};
 
 use crate::incremental::IncrementalIgnore;
 use ignore_base::Error;
@@ -29,18 +29,12 @@ pub fn check_paths<F: Files>(
     files: &F,
     paths: &[(String, bool)],
 ) -> Result<Vec<(IncrementalMatch, Option<Error>)>, Error>
-    ensures value { (tree : Tree) (loads : List ℕ → Loaded) → IsHonest F.Files files.now tree
-        → AreLoads tree matcher.old.asked.settings loads → let g = scene_of matcher.old.asked tree loads in
-        Agrees g matcher.old.cache
-        → IfOk result (λ rs. map (λ r. r.0) rs.items ≡ map (λ p. (queries.query g (string_bytes p.0) p.1).0) paths.now) }
-    ensures reports { (tree : Tree) (loads : List ℕ → Loaded) → IsHonest F.Files files.now tree
-        → AreLoads tree matcher.old.asked.settings loads → let g = scene_of matcher.old.asked tree loads in
-        Agrees g matcher.old.cache
+    ensures value { InEachScene F.Files files.now matcher.old.asked (λ g. Agrees g matcher.old.cache
+        → IfOk result (λ rs. map (λ r. r.0) rs.items ≡ map (λ p. (queries.query g (string_bytes p.0) p.1).0) paths.now)) }
+    ensures reports { InEachScene F.Files files.now matcher.old.asked (λ g. Agrees g matcher.old.cache
         → IfOk result (λ rs. ReportInTurn g (map (λ p. (string_bytes p.0, p.1)) paths.now)
-        (map (λ r. option_map problem_of r.1) rs.items) matcher.old.cache matcher.new.cache) }
-    ensures agrees { (tree : Tree) (loads : List ℕ → Loaded) → IsHonest F.Files files.now tree
-        → AreLoads tree matcher.old.asked.settings loads → let g = scene_of matcher.old.asked tree loads in
-        Agrees g matcher.old.cache → Agrees g matcher.new.cache }
+        (map (λ r. option_map problem_of r.1) rs.items) matcher.old.cache matcher.new.cache)) }
+    ensures agrees { InEachScene F.Files files.now matcher.old.asked (λ g. Agrees g matcher.old.cache → Agrees g matcher.new.cache) }
     ensures stays { Stays matcher.old.cache matcher.new.cache }
     ensures soft { IfOk result (λ rs. All (λ r. IsSoft (option_map problem_of r.1)) rs.items) }
     ensures same { matcher.new.asked ≡ matcher.old.asked }

@@ -18,9 +18,6 @@ use Rattle.ignore_rules.specs.declared.gitignore.file.Line.TheVariants.{Text, En
 use Rattle.ignore_rules.specs.declared.gitignore.file.Line.TheVariants.{Fault as Stop}
 use Rattle.ignore_rules.specs.RuleSteps.{IsOneSegment, IsLineRead, IsLastLineRead, IsLineAt}
 
-is_end : ℕ → Bool
-is_end = λ b. eqb b 10
-
 -- there is a first segment
 first_segment : (bytes : List ℕ) → (segment : List ℕ) × (segments : List (List ℕ))
     × (slice_split (λ b. eqb b 10) bytes ≡ segment ∷ segments)
@@ -84,9 +81,6 @@ pub one_segment : (bytes : List ℕ) → Nowhere (Passes (is_byte 10) bytes) 0 (
 one_segment bytes none =
     slice_split_none (λ b. eqb b 10) bytes (All-from_get_or (λ b. eqb b 10 ≡ false) bytes 0
     (λ i l. false_from_ne_true _ (none i (omega arith) l)))
-
-pub last_line : (bytes : List ℕ) → IsOneSegment bytes → eqb (length bytes) 0 ≡ false → lines_read bytes None ≡ decoded bytes ∷ []
-last_line bytes one some = ap (lines_read_of None) one ∙ ap (λ b. map decoded (cond b [] (bytes ∷ []))) some
 
 -- a line that is UTF-8 is read as its text, any other as a fault
 pub read_text : (line text : List ℕ) → text ≡ line → IsUtf8 line → decoded line ≡ Ok text

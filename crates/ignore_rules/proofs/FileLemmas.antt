@@ -56,19 +56,6 @@ keeps_then old between new (first, e) (second, f) = (
       (append_assoc old.rules first second)),
 )
 
--- the rules that were there first are what was kept
-pub cut_back : (old new : Building) → Keeps old new → (restored : Building)
-    → restored ≡ record { root = new.root; rules = take (length old.rules) new.rules; options = new.options } → restored ≡ old
-cut_back old new (more, e) restored r =
-    r ∙ (ap (λ (b : Building). let made : Building = record {
-      root = b.root;
-      rules = take
-          (length old.rules) b.rules;
-      options = b.options;
-    } in made) e
-    ∙ ap (λ rules. let made : Building = record { root = old.root; rules = rules; options = old.options } in made)
-    (take_at old.rules more (length old.rules) refl))
-
 -- an error other than out of memory reports the invalid glob of its line
 pub not_memory : {Refused : Type 0} → (p : Problem) → is_memory p ≡ false → (p ≡ memory) ⊎ Refused → Refused
 not_memory p h (inl e) = absurd (false≢true (sym h ∙ ap is_memory e))

@@ -33,9 +33,6 @@ set_length (z ∷ xs) (suc i) x = ap suc (set_length xs i x)
 
 -- The buckets of no needles, and of one more.
 
-pub buckets_none : (buckets : Buckets) → length buckets.long.items ≡ 4096 → AreBucketsOf buckets []
-buckets_none buckets count = record { count = count; long = λ j n got. cc; short = λ j n got. cc }
-
 pub put_long : (old new : Buckets) (needles : List IndexedText) (n : IndexedText) (was is : Vec ℕ Global)
     → 3 ≤ length n.text → slice_get old.long.items (bucket_of n.text) ≡ Some was
     → new.long.items ≡ set old.long.items (bucket_of n.text) is → is.items ≡ was.items ++ length needles ∷ []

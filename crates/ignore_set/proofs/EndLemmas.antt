@@ -17,11 +17,6 @@ found_end true end text (n, found, within, fits) utf8 e =
     (take (length text - n) text, IsUtf8-take text (length text - n) utf8 fits, found.1)
 found_end false end text h utf8 e = absurd (false≢true e)
 
-pub no_end : (r : Bool) (end text front : List ℕ) → MatchBool r (HasSuffixMatch (FindsTextSuffix end) text)
-    (FindsTextSuffix end text None) → text ≡ front ++ end → r ≡ true
-no_end true end text front h e = refl
-no_end false end text front h e = absurd (h front e)
-
 -- `strip_suffix`
 
 strips : (name text rest : List ℕ) → StripsSuffix (FindsTextSuffix name) text rest → IsUtf8 text → (text ≡ rest ++ name) × IsUtf8 rest

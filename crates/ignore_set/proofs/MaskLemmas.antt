@@ -51,18 +51,6 @@ inside_covered text needle (a, b, cut) =
     (λ i. omega (arith, front_covered needle b i, back_covered a (needle ++ b) i)) in
     covered_or (mask_of needle) (mask_of text) all
 
-pub first_three : (bytes : List ℕ) → 3 ≤ length bytes → bit_of (get_or bytes 0 0) (get_or bytes 1 0) (get_or bytes 2 0) ≡ first_bit bytes
-first_three [] long = absurd (omega (arith, long))
-first_three (a ∷ []) long = absurd (omega (arith, long))
-first_three (a ∷ b ∷ []) long = absurd (omega (arith, long))
-first_three (a ∷ b ∷ c ∷ bytes) long = refl
-
-pub no_three : (bytes : List ℕ) → length bytes < 3 → 0 ≡ first_bit bytes
-no_three [] short = refl
-no_three (a ∷ []) short = refl
-no_three (a ∷ b ∷ []) short = refl
-no_three (a ∷ b ∷ c ∷ bytes) short = absurd (omega (arith, short))
-
 pub mask_step : (bytes : List ℕ) (at : ℕ) → at < length bytes
     → mask_of (drop at bytes) ≡ bit_or (first_bit (drop at bytes)) (mask_of (drop (at + 1) bytes))
 mask_step bytes at fits =

@@ -88,13 +88,6 @@ others_put others texts ms m is has was = record {
   ];
 }
 
-pub others_none : AreOthers [] []
-others_none = record {
-  each = λ i m g is text utf8 matches. cc;
-  rising = λ j k a b less ga gb. cc;
-  formless = λ j n g. cc;
-}
-
 -- Passes.
 
 le_more : (a b c : ℕ) → a ≤ b → a ≤ c + b
@@ -139,13 +132,6 @@ NoneFrom text is_dir ms others j = (k : ℕ) (n : IndexedText) (m : Member) → 
 pub record IsTried (text : List ℕ) (is_dir : Bool) (ms : List Member) (others : List IndexedText) (j tried : ℕ) : Type 0 where
   pub failed : (m : Member) → slice_get ms tried ≡ Some m → Applies (chars text) is_dir m → ⊥
   pub below : (k : ℕ) (n : IndexedText) → k < j → slice_get others k ≡ Some n → n.index ≤ tried
-
-pub tried_none : (text : List ℕ) (is_dir : Bool) (ms : List Member) (others : List IndexedText) (j n : ℕ) → n ≡ length ms
-    → AreOthers others ms → IsTried text is_dir ms others j n
-tried_none text is_dir ms others j n size are = record {
-  failed = λ m g a. absurd (omega (arith, size, slice_get_within ms n m g));
-  below = λ k x less g. let f = are.formless k x g in omega (arith, size, slice_get_within ms x.index f.0 f.1);
-}
 
 pub tried_before : (text : List ℕ) (is_dir : Bool) (ms : List Member) (others : List IndexedText) (j tried : ℕ)
     → IsTried text is_dir ms others (j + 1) tried → IsTried text is_dir ms others j tried

@@ -62,11 +62,6 @@ decided cs name i c fits is none e =
     ∙ ap (λ b. cond b (verdict_of c) None) e in
     settled cs name i (λ f. verdict-some c c.negated (sym here ∙ f)) ∙ here
 
--- one that doesn't is passed over
-pub passed : (cs : List Chosen) (name : List ℕ) (i : ℕ) (c : Chosen) → i < length cs → c ≡ get_or cs i c
-    → choices_answer (drop (i + 1) cs) name ≡ None → does_choice_match name c ≡ false → choices_answer (drop i cs) name ≡ None
-passed cs name i c fits is none e = at_choice cs name i c fits is none ∙ ap (λ b. cond b (verdict_of c) None) e
-
 -- The law that the test of matching decides matching is handed in.
 module _ (decides : (reading : Reading) (text : List ℕ) → Decides (does_match reading text) (Matches reading text)) where
   some_decided : (name : List ℕ) (rs : List Reading) → Decides (list_any (λ r. does_match r name) rs) (SomeMatches name rs)

@@ -14,9 +14,9 @@ use Rattle.ignore_dir.specs.Above.{directories_along, path_along, paths_above, p
 use Rattle.ignore_dir.specs.Chains.{placed_along, slashed}
 use Rattle.ignore_dir.specs.Lists.{IsAfterSlash, Placed}
 use Rattle.ignore_dir.specs.Load.{Loaded, joined_some}
+use Rattle.ignore_dir.specs.Query.{is_dir_there}
 use Rattle.ignore_walk.specs.Entry.{Item}
 use Rattle.ignore_walk.specs.Scene.{Scene}
-use Rattle.ignore_walk.specs.Walked.{is_dir_found}
 use Rattle.ignore_walk.specs.Whole.{above_root, reported_before, unseen}
 use Rattle.ignore_walk.proofs.TextLemmas.{along-slashed, after_slash-first}
 
@@ -82,23 +82,6 @@ pub directories-next : (dir : List ℕ) (names : List (List ℕ)) (i : ℕ) → 
 directories-next dir names i lt = ap (directories_along dir) (take_more names i [] lt) ∙ directories_along-more dir (take i names) (get_or names i [])
 
 -- What is cut out of a text.
-
-drop-front : (front rest : List ℕ) → drop (length front) (front ++ rest) ≡ rest
-drop-front [] rest = refl
-drop-front (x ∷ front) rest = drop-front front rest
-
-take-front : (name rest : List ℕ) → take (length name) (name ++ rest) ≡ name
-take-front [] rest = refl
-take-front (x ∷ name) rest = ap (λ (l : List ℕ). x ∷ l) (take-front name rest)
-
-pub range-is : (text front name rest : List ℕ) (start end : ℕ) → text ≡ front ++ (name ++ 47 ∷ rest) → start ≡ length front
-    → end ≡ start + length name → slice_range text start end ≡ name
-range-is text front name rest start end is at ends =
-    let size : end - start ≡ length name = omega arith in
-    ap (λ (n : ℕ). take n (drop start text)) size
-    ∙ (ap (λ (t : List ℕ). take (length name) (drop start t)) is
-    ∙ (ap (λ (n : ℕ). take (length name) (drop n (front ++ (name ++ 47 ∷ rest)))) at
-    ∙ (ap (λ (t : List ℕ). take (length name) t) (drop-front front (name ++ 47 ∷ rest)) ∙ take-front name (47 ∷ rest))))
 
 pub before-slash : (text front name rest : List ℕ) (start end : ℕ) → text ≡ front ++ (name ++ 47 ∷ rest) → start ≡ length front
     → end ≡ start + length name → IsCharBoundary text end
@@ -166,13 +149,13 @@ problems-left loads paths i lt =
 
 -- What is reported before a root, and what was seen after it.
 
-pub above_root-is : (g : Scene) (root : List ℕ) → is_dir_found (g.tree.stat root true) ≡ true → above_root g root ≡ paths_above g.tree g.settings root
+pub above_root-is : (g : Scene) (root : List ℕ) → is_dir_there (g.tree.stat root true) ≡ true → above_root g root ≡ paths_above g.tree g.settings root
 above_root-is g root h = ap (λ (b : Bool). cond b (paths_above g.tree g.settings root) []) h
 
 abbrev reported : Option Problem → List Item
 reported p = map Err (option_to_list p)
 
-pub reported-is : (g : Scene) (root : List ℕ) (seen paths : List (List ℕ)) (p : Option Problem) → is_dir_found (g.tree.stat root true) ≡ true
+pub reported-is : (g : Scene) (root : List ℕ) (seen paths : List (List ℕ)) (p : Option Problem) → is_dir_there (g.tree.stat root true) ≡ true
     → paths ≡ paths_above g.tree g.settings root → p ≡ joined_some (problems_of_loads g.loads (unseen seen paths))
     → reported p ≡ reported_before g seen root
 reported-is g root seen paths p h same is =

@@ -1,7 +1,7 @@
 -- What is reachable and not below an ignored directory is visited.
 use Rattle.std.proofs.Common.{◌≡◌, ℕ, suc, Bool, true, false, not, ◌&&◌, ◌||◌, nat_lt, List, [], ◌∷◌, length, Option, None, Some, refl, sym, ap, subst, arith}
 use Rattle.std.proofs.lemmas.Bool.{not_from_false, or_from, or_parts}
-use Rattle.ignore_dir.specs.Limits.{is_below}
+use Rattle.ignore_dir.specs.Limits.{is_below, is_deepest, is_larger}
 use Rattle.ignore_walk.specs.Agreement.{IsOpen, Reachable, is_within}
 use Rattle.ignore_walk.specs.Agreement.{at_root as reach_root, listed as reach_listed}
 use Rattle.ignore_walk.specs.Branch.{Branch}
@@ -9,14 +9,14 @@ use Rattle.ignore_walk.specs.Child.{is_dir_kind}
 use Rattle.ignore_walk.specs.Entry.{Entry}
 use Rattle.ignore_walk.specs.Scene.{Scene}
 use Rattle.ignore_walk.specs.Visits.{IsVisited, at_root, listed}
-use Rattle.ignore_walk.specs.Walked.{enter, fate, ignores, is_above, is_at_most, is_skipped, is_too_large, leads_in}
+use Rattle.ignore_walk.specs.Walked.{enter, fate, ignores, is_skipped, is_too_large, leads_in}
 use Rattle.ignore_walk.proofs.KeptLemmas.{above_ignored, dir_ignored}
 use Rattle.ignore_walk.proofs.ReachLemmas.{reach_depth}
 use Rattle.ignore_walk.proofs.ShownLemmas.{enter_kept, entered_if}
 
 -- depths
 
-deeper : (most : Option ℕ) (depth size : ℕ) → is_at_most most depth ≡ false → depth ≡ size → is_below most (suc size) ≡ false
+deeper : (most : Option ℕ) (depth size : ℕ) → is_deepest most depth ≡ false → depth ≡ size → is_below most (suc size) ≡ false
 deeper None depth size h e = refl
 deeper (Some most) depth size h e = search_lt
   where
@@ -51,14 +51,14 @@ visited_clear g root [] e (at_root h) = record { reached = reach_root h; within 
 visited_clear g root (name ∷ b) e (listed {dir = d} {kind = kind} v is c h) =
     let t = visited_clear g root b d v in
     let kept = enter_kept g root b d is in
-    let leads = leads_from (leads_in g b d) (is_at_most g.settings.max_depth d.depth) kept.1 in
+    let leads = leads_from (leads_in g b d) (is_deepest g.settings.max_depth d.depth) kept.1 in
     record {
       reached = reach_listed {dir = d} {kind = kind} t.reached leads.0 c h;
       within = ap not (deeper g.settings.max_depth d.depth (length b) leads.1 (reach_depth g root b d t.reached));
       clear = or_from (above_ignored g root b) (dir_ignored g root b) t.clear (dir_kept g root b d kept.0 leads.0);
     }
 
-shallower : (most : Option ℕ) (depth size : ℕ) → is_below most (suc size) ≡ false → depth ≡ size → is_at_most most depth ≡ false
+shallower : (most : Option ℕ) (depth size : ℕ) → is_below most (suc size) ≡ false → depth ≡ size → is_deepest most depth ≡ false
 shallower None depth size h e = refl
 shallower (Some most) depth size h e = grind (arith, h, e)
 
@@ -82,7 +82,7 @@ kept_dir g root (n ∷ b) e o h l =
     let ignored : ignores g root (n ∷ b) (is_dir_kind e.kind) ≡ false =
     subst (λ (d : Bool). ignores g root (n ∷ b) d ≡ false) (sym l) h in
     not_large (ignores g root (n ∷ b) (is_dir_kind e.kind)) (is_dir_kind e.kind)
-    (is_above g.settings.max_filesize (g.tree.stat e.path g.settings.follow_links)) (g.keep e) ignored l (o.keeps_all e)
+    (is_larger g.settings.max_filesize (g.tree.stat e.path g.settings.follow_links)) (g.keep e) ignored l (o.keeps_all e)
 
 stays_not : (leads deepest : Bool) → leads ≡ true → deepest ≡ false → (not leads || deepest) ≡ false
 stays_not true deepest h k = k
@@ -96,7 +96,7 @@ dir_entered : (g : Scene) (root : List ℕ) (b : Branch) (e : Entry) → IsOpen 
     → leads_in g b e ≡ true → is_below g.settings.max_depth (suc (length b)) ≡ false → fate g root b e ≡ enter
 dir_entered g root b e o r h l next =
     entered_if g root b e (kept_dir g root b e o h l)
-    (stays_not (leads_in g b e) (is_at_most g.settings.max_depth e.depth) l
+    (stays_not (leads_in g b e) (is_deepest g.settings.max_depth e.depth) l
     (shallower g.settings.max_depth e.depth (length b) next (reach_depth g root b e r)))
     (same_device g.same_file_system _ o.all_devices)
 

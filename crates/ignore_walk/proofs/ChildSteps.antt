@@ -15,11 +15,13 @@ use Rattle.ignore_files.specs.declared.types.Identity.{Identity}
 use Rattle.ignore_files.specs.declared.types.Listed.{Listed}
 use Rattle.ignore_files.specs.declared.types.Listed.TheVariants as thing
 use Rattle.ignore_files.specs.declared.types.Metadata.{Metadata}
+use Rattle.ignore_dir.specs.Query.{is_dir_there}
+use Rattle.ignore_dir.specs.Limits.{is_deepest}
 use Rattle.ignore_walk.specs.Branch.{Branch, path_of, entered}
 use Rattle.ignore_walk.specs.Child.{or_failed, is_dir_kind, identity_at, same_among, unlooped, without_loop, with_device, followed_link, found, named, child}
 use Rattle.ignore_walk.specs.Entry.{Entry}
 use Rattle.ignore_walk.specs.Scene.{Scene}
-use Rattle.ignore_walk.specs.Walked.{skip, yield, load, enter, fate, is_skipped, leads_in, is_dir_found, is_at_most, is_foreign, listing_of}
+use Rattle.ignore_walk.specs.Walked.{skip, yield, load, enter, fate, is_skipped, leads_in, is_foreign, listing_of}
 use Rattle.ignore_walk.specs.Whole.{root_entry, root_of, root_by, stays_link}
 
 and_then_ok : {A B E : Type 0} (f : A → Result B E) (r : Result A E) (b : B) → and_then f r ≡ Ok b
@@ -215,7 +217,7 @@ led false false m f h = absurd (cc (h))
 pub fate_in : (g : Scene) (root : List ℕ) (b : Branch) (e : Entry) → fate g root b e ≡ enter → leads_in g b e ≡ true
 unfolding fate
 fate_in g root b e h =
-    led (is_skipped g root b e) (leads_in g b e) (is_at_most g.settings.max_depth e.depth) (is_foreign g root e) h
+    led (is_skipped g root b e) (leads_in g b e) (is_deepest g.settings.max_depth e.depth) (is_foreign g root e) h
 
 root_path : (b : Bool) (root : List ℕ) (x y : Entry) → x.path ≡ root → y.path ≡ root → (cond b x y).path ≡ root
 root_path true root x y h k = h
@@ -225,14 +227,14 @@ root_path false root x y h k = k
 pub root_at : (g : Scene) (root : List ℕ) (e : Entry) → root_entry g root ≡ Ok e → e.path ≡ root
 unfolding root_entry
 root_at g root e h =
-    let one = and_then_ok (with_device g (is_dir_found (g.tree.stat root true))) (or_failed root 0 (root_of g root) (g.tree.stat root false)) e h in
+    let one = and_then_ok (with_device g (is_dir_there (g.tree.stat root true))) (or_failed root 0 (root_of g root) (g.tree.stat root false)) e h in
     let own = or_failed_ok root 0 (root_of g root) (g.tree.stat root false) one.0 one.1 in
     let led_to = or_failed_ok root 0 (λ (m : Metadata). Ok (root_by g root own.0.file_type m.file_type)) (g.tree.stat root true) one.0 own.2 in
     let is : root_by g root own.0.file_type led_to.0.file_type ≡ one.0 = cc (led_to.2) in
-    ap (λ (x : Entry). x.path) (sym (is ∙ with_device_ok g (is_dir_found (g.tree.stat root true)) one.0 e one.2))
+    ap (λ (x : Entry). x.path) (sym (is ∙ with_device_ok g (is_dir_there (g.tree.stat root true)) one.0 e one.2))
     ∙ root_path (stays_link g own.0.file_type led_to.0.file_type) root _ _ refl refl
 
-pub found_dir : (r : Result Metadata Fault) → is_dir_found r ≡ true → (m : Metadata) × (r ≡ Ok m) × (is_dir m.file_type ≡ true)
+pub found_dir : (r : Result Metadata Fault) → is_dir_there r ≡ true → (m : Metadata) × (r ≡ Ok m) × (is_dir m.file_type ≡ true)
 found_dir (Ok m) h = (m, refl, h)
 found_dir (Err f) h = absurd (cc (h))
 

@@ -8,6 +8,7 @@ use Rattle.ignore_files.specs.declared.types.Identity.{Identity}
 use Rattle.ignore_dir.specs.Load.{AreLoads}
 use Rattle.ignore_dir.specs.declared.outside.Outside.{Outside}
 use Rattle.ignore_dir.specs.declared.settings.Settings.{Settings}
+use Rattle.ignore_dir.specs.Limits.{is_deepest}
 use Rattle.ignore_walk.specs.declared.callbacks.Callbacks.{Ghosts as Callbacks}
 use Rattle.ignore_walk.specs.declared.callbacks.Options.{Options}
 use Rattle.ignore_walk.specs.declared.frame.Frame.{Frame}
@@ -20,7 +21,7 @@ use Rattle.ignore_walk.specs.Frames.{AreFrames, device_of, inside, known_device,
 use Rattle.ignore_walk.specs.Opens.{Opens}
 use Rattle.ignore_walk.specs.Scene.{Scene}
 use Rattle.ignore_walk.specs.Suits.{Suits}
-use Rattle.ignore_walk.specs.Walked.{IsArranged, are_apart, enter, fate, ignores, is_at_most, is_foreign, is_skipped, is_too_large, leads_in, listing_of, load, yield}
+use Rattle.ignore_walk.specs.Walked.{IsArranged, are_apart, enter, fate, ignores, is_foreign, is_skipped, is_too_large, leads_in, listing_of, load, yield}
 
 -- Frames.
 
@@ -78,17 +79,17 @@ pub differ-foreign : (g : Scene) (root : List ℕ) (e : Entry) (a b : Option ℕ
 differ-foreign g root e a b h k = rw (h, k) (differ-by g.same_file_system (identity_at g.tree root) (identity_at g.tree e.path))
 
 pub fate-yield : (g : Scene) (root : List ℕ) (b : Branch) (e : Entry) → is_skipped g root b e ≡ false
-    → not (leads_in g b e) || is_at_most g.settings.max_depth e.depth ≡ true → fate g root b e ≡ yield
+    → not (leads_in g b e) || is_deepest g.settings.max_depth e.depth ≡ true → fate g root b e ≡ yield
 unfolding fate
 fate-yield g root b e h k = rw (h, k) refl
 
 pub fate-load : (g : Scene) (root : List ℕ) (b : Branch) (e : Entry) → is_skipped g root b e ≡ false
-    → not (leads_in g b e) || is_at_most g.settings.max_depth e.depth ≡ false → is_foreign g root e ≡ true → fate g root b e ≡ load
+    → not (leads_in g b e) || is_deepest g.settings.max_depth e.depth ≡ false → is_foreign g root e ≡ true → fate g root b e ≡ load
 unfolding fate
 fate-load g root b e h k f = rw (h, k, f) refl
 
 pub fate-enter : (g : Scene) (root : List ℕ) (b : Branch) (e : Entry) → is_skipped g root b e ≡ false
-    → not (leads_in g b e) || is_at_most g.settings.max_depth e.depth ≡ false → is_foreign g root e ≡ false → fate g root b e ≡ enter
+    → not (leads_in g b e) || is_deepest g.settings.max_depth e.depth ≡ false → is_foreign g root e ≡ false → fate g root b e ≡ enter
 unfolding fate
 fate-enter g root b e h k f = rw (h, k, f) refl
 
@@ -99,6 +100,6 @@ inner-leads false leaf h = absurd (cc (h))
 
 -- whether an entry is a leaf, as the code finds it
 pub leaf-is : (g : Scene) (b : Branch) (e : Entry) (s : Settings) (leads : Bool) (depth : ℕ) (leaf value : Bool) → g.settings ≡ s
-    → leads ≡ leads_in g b e → depth ≡ e.depth → leaf ≡ not leads || is_at_most s.max_depth depth → leaf ≡ value
-    → not (leads_in g b e) || is_at_most g.settings.max_depth e.depth ≡ value
+    → leads ≡ leads_in g b e → depth ≡ e.depth → leaf ≡ not leads || is_deepest s.max_depth depth → leaf ≡ value
+    → not (leads_in g b e) || is_deepest g.settings.max_depth e.depth ≡ value
 leaf-is g b e s leads depth leaf value same into deep is v = rw (same, sym into, sym deep) (sym is ∙ v)

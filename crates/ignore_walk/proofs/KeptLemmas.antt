@@ -21,8 +21,7 @@ use Rattle.ignore_walk.specs.Branch.{Branch, path_of}
 use Rattle.ignore_walk.specs.Child.{is_dir_kind}
 use Rattle.ignore_walk.specs.Entry.{Entry}
 use Rattle.ignore_walk.specs.Scene.{Scene, queries}
-use Rattle.ignore_walk.specs.Walked.{ignores, is_at_least, is_dir_found, is_too_large}
-use Rattle.ignore_walk.specs.Walked.{is_above as is_too_long}
+use Rattle.ignore_walk.specs.Walked.{ignores, is_at_least, is_too_large}
 use Rattle.ignore_walk.proofs.PlaceNames.{AreNames, all_proper, components-joined, filled, names-reverse, reverse-cons}
 use Rattle.ignore_walk.proofs.ReachLemmas.{path-is}
 
@@ -86,7 +85,7 @@ verdict-is g root b is_dir =
 -- sizes
 
 larger : (most : Option ℕ) (size : Result Metadata Fault) (own : Verdict) → is_ignore own ≡ false
-    → is_ignore (cond (is_larger most size) v.Ignore own) ≡ is_too_long most size
+    → is_ignore (cond (is_larger most size) v.Ignore own) ≡ is_larger most size
 larger None size own h = h
 larger (Some most) (Err f) own h = h
 larger (Some most) (Ok m) own h = by (nat_lt most m.len)
@@ -96,7 +95,7 @@ larger (Some most) (Ok m) own h = by (nat_lt most m.len)
     by false = h
 
 sized-is : (most : Option ℕ) (size : Result Metadata Fault) (is_dir : Bool) (own : Verdict)
-    → is_ignore (sized (cond (is_dir || is_ignore own) None most) size own) ≡ (is_ignore own || (not is_dir && is_too_long most size))
+    → is_ignore (sized (cond (is_dir || is_ignore own) None most) size own) ≡ (is_ignore own || (not is_dir && is_larger most size))
 sized-is most size true own = sym (or_no (is_ignore own))
 sized-is most size false v.Ignore = refl
 sized-is most size false v.None = larger most size v.None refl
@@ -136,7 +135,7 @@ chosen : (asked out rules : Bool) (a b c d : Answer) → asked ≡ true → rule
 chosen true out rules a b c d h k = asked-first out rules a b c d k
 chosen false out rules a b c d h k = absurd (cc (h))
 
-dir_there : (r : Result Metadata Fault) → is_dir_found r ≡ true → is_dir_there r ≡ true
+dir_there : (r : Result Metadata Fault) → is_dir_there r ≡ true → is_dir_there r ≡ true
 dir_there (Ok m) h = h
 dir_there (Err f) h = h
 
@@ -154,7 +153,7 @@ both false b h k = absurd (cc (h))
 -- the answer that the rules give
 rules-answer : (g : below.Scene) (path : List ℕ) (is_dir : Bool)
     → keeps (answer_of_rules g path is_dir).0
-    ≡ (not (is_ignore (rules_verdict g (names_of path) is_dir) || (not is_dir && is_too_long g.settings.max_filesize (size_of g path)))
+    ≡ (not (is_ignore (rules_verdict g (names_of path) is_dir) || (not is_dir && is_larger g.settings.max_filesize (size_of g path)))
     && not (is_above g.settings.min_depth (depth_of path)))
 unfolding answer_of_rules
 rules-answer g path is_dir =
@@ -163,9 +162,9 @@ rules-answer g path is_dir =
 
 -- the query of some names that are joined
 query-is : (g : below.Scene) (n : List ℕ) (ns : List (List ℕ)) (is_dir : Bool) → bytes_eq g.root (codes "-") ≡ false → AreNames (n ∷ ns)
-    → is_dir_found (g.tree.stat g.root true) ≡ true → not (is_below g.settings.max_depth (length (n ∷ ns))) ≡ true
+    → is_dir_there (g.tree.stat g.root true) ≡ true → not (is_below g.settings.max_depth (length (n ∷ ns))) ≡ true
     → keeps (query g (joined (n ∷ ns)) is_dir).0
-    ≡ (not (is_ignore (rules_verdict g (n ∷ ns) is_dir) || (not is_dir && is_too_long g.settings.max_filesize (size_of g (joined
+    ≡ (not (is_ignore (rules_verdict g (n ∷ ns) is_dir) || (not is_dir && is_larger g.settings.max_filesize (size_of g (joined
     (n ∷ ns)))))
     && not (is_above g.settings.min_depth (length (n ∷ ns))))
 unfolding query
@@ -183,10 +182,10 @@ query-is g n ns is_dir file names there within =
     (limited g.settings (depth_of path) is_dir v.None, None) asked rules
     ∙ (ap (λ (x : Bool). cond (is_beyond g.settings (depth_of path) is_dir) false x) (rules-answer g path is_dir)
     ∙ (ap (λ (l : List (List ℕ)). cond (is_beyond g.settings (length l) is_dir) false
-    (not (is_ignore (rules_verdict g l is_dir) || (not is_dir && is_too_long g.settings.max_filesize (size_of g path)))
+    (not (is_ignore (rules_verdict g l is_dir) || (not is_dir && is_larger g.settings.max_filesize (size_of g path)))
     && not (is_above g.settings.min_depth (length l)))) whole
     ∙ limits is_dir (is_above g.settings.min_depth (length (n ∷ ns))) (is_below g.settings.max_depth (length (n ∷ ns)))
-    (is_ignore (rules_verdict g (n ∷ ns) is_dir) || (not is_dir && is_too_long g.settings.max_filesize (size_of g path))) within))
+    (is_ignore (rules_verdict g (n ∷ ns) is_dir) || (not is_dir && is_larger g.settings.max_filesize (size_of g path))) within))
 
 -- an entry below a root, by its place
 
@@ -199,21 +198,21 @@ or-assoc true b c = refl
 or-assoc false b c = refl
 
 query-place : (g : below.Scene) (ns ms : List (List ℕ)) (m : List ℕ) (is_dir : Bool) → ns ≡ m ∷ ms → bytes_eq g.root (codes "-") ≡ false
-    → AreNames ns → is_dir_found (g.tree.stat g.root true) ≡ true → not (is_below g.settings.max_depth (length ns)) ≡ true
+    → AreNames ns → is_dir_there (g.tree.stat g.root true) ≡ true → not (is_below g.settings.max_depth (length ns)) ≡ true
     → keeps (query g (joined ns) is_dir).0
-    ≡ (not (is_ignore (rules_verdict g ns is_dir) || (not is_dir && is_too_long g.settings.max_filesize (g.tree.stat
+    ≡ (not (is_ignore (rules_verdict g ns is_dir) || (not is_dir && is_larger g.settings.max_filesize (g.tree.stat
     (directory_of g.root ns) g.settings.follow_links)))
     && not (is_above g.settings.min_depth (length ns)))
 query-place g ns ms m is_dir is file names there within =
     subst (λ (l : List (List ℕ)). keeps (query g (joined l) is_dir).0
-    ≡ (not (is_ignore (rules_verdict g l is_dir) || (not is_dir && is_too_long g.settings.max_filesize (g.tree.stat
+    ≡ (not (is_ignore (rules_verdict g l is_dir) || (not is_dir && is_larger g.settings.max_filesize (g.tree.stat
     (directory_of g.root l) g.settings.follow_links)))
     && not (is_above g.settings.min_depth (length l)))) (sym is)
     (query-is g m ms is_dir file (subst AreNames is names) there
     (subst (λ (l : List (List ℕ)). not (is_below g.settings.max_depth (length l)) ≡ true) is within))
 
 pub kept-below : JoinsName → (g : Scene) (root : List ℕ) (n : List ℕ) (b : Branch) (e : Entry) → bytes_eq root (codes "-") ≡ false
-    → AreNames (n ∷ b) → is_dir_found (g.tree.stat root true) ≡ true → is_within g (n ∷ b) ≡ true → e.path ≡ path_of root (n ∷ b)
+    → AreNames (n ∷ b) → is_dir_there (g.tree.stat root true) ≡ true → is_within g (n ∷ b) ≡ true → e.path ≡ path_of root (n ∷ b)
     → is_kept g root (n ∷ b) e
     ≡ (not (above_ignored g root (n ∷ b) || (ignores g root (n ∷ b) (is_dir_kind e.kind) || is_too_large g e))
     && is_at_least g.settings.min_depth (length (n ∷ b)))
@@ -228,7 +227,7 @@ kept-below join g root n b e file names there within at =
     (ap (λ (k : ℕ). not (is_below g.settings.max_depth k)) size ∙ within)
     ∙ (ap₂ (λ (x y : Bool). not x && y)
     (ap₂ (λ (x y : Bool). x || y) (verdict-is g root (n ∷ b) d)
-    (ap (λ (p : List ℕ). not d && is_too_long g.settings.max_filesize (g.tree.stat p g.settings.follow_links)) path)
+    (ap (λ (p : List ℕ). not d && is_larger g.settings.max_filesize (g.tree.stat p g.settings.follow_links)) path)
     ∙ or-assoc (above_ignored g root (n ∷ b)) (ignores g root (n ∷ b) d) (is_too_large g e))
     (ap (λ (k : ℕ). not (is_above g.settings.min_depth k)) size ∙ least-is g.settings.min_depth (length (n ∷ b))))
 

@@ -269,44 +269,6 @@ make_entered g s b e xs items n o next is arranged h =
 
 -- what is handed out, and when nothing is left
 
-pub hand_out : (g : Scene) (item : Item) (made : List Item) (root : List ℕ) (b : Branch) (rests : List (List Listed))
-    (seen roots : List (List ℕ)) (items : List Item) (n : ℕ) → Remains g (state (item ∷ made) root b rests seen roots) items n
-    → (others : List Item) × (items ≡ item ∷ others) × Remains g (state made root b rests seen roots) others n
-hand_out g item made root b rests seen roots items n r = (
-  made ++ (r.inner ++ r.outer),
-  r.are,
-  record {
-    inner = r.inner;
-    outer = r.outer;
-    p = r.p;
-    q = r.q;
-    within = r.within;
-    after = r.after;
-    are = refl;
-    count = r.count;
-  },
-)
-
-pub nothing_left : (g : Scene) (root : List ℕ) (b : Branch) (seen : List (List ℕ)) (items : List Item) (n : ℕ)
-    → Remains g (state [] root b [] seen []) items n → (items ≡ []) × (n ≡ 0)
-nothing_left g root b seen items n r =
-    let t = roots_none g seen r.outer r.q r.after in
-    (r.are ∙ (ap (λ (i : List Item). i ++ r.outer) r.within.0 ∙ t.0), omega (r.count, r.within.1, t.1, arith))
-
-some_roots : (g : Scene) (seen roots : List (List ℕ)) (first : List ℕ) (items : List Item) (n : ℕ)
-    → WalkedRoots g seen (first ∷ roots) items n → 0 < n
-some_roots g seen roots first items n (stdin w) = omega arith
-some_roots g seen roots first items n (other h w v) = omega arith
-
-pub more_below : (g : Scene) (made : List Item) (root : List ℕ) (b : Branch) (xs : List Listed) (rests : List (List Listed))
-    (seen roots : List (List ℕ)) (items : List Item) (n : ℕ) → Remains g (state made root b (xs ∷ rests) seen roots) items n → 0 < n
-more_below g made root b xs rests seen roots items n r =
-    omega (r.count, (innermost g root b xs rests r.inner r.p r.within).count, arith)
-
-pub more_roots : (g : Scene) (made : List Item) (root : List ℕ) (b : Branch) (rests : List (List Listed)) (seen roots : List (List ℕ))
-    (first : List ℕ) (items : List Item) (n : ℕ) → Remains g (state made root b rests seen (first ∷ roots)) items n → 0 < n
-more_roots g made root b rests seen roots first items n r = omega (r.count, some_roots g seen roots first r.outer r.q r.after, arith)
-
 pub whole_remains : (g : Scene) (root : List ℕ) (b : Branch) (roots : List (List ℕ)) (items : List Item) (n : ℕ)
     → WalkedRoots g [] roots items n → Remains g (state [] root b [] [] roots) items n
 whole_remains g root b roots items n w =

@@ -21,25 +21,12 @@ pub names-push : (ns : List (List ℕ)) (n : List ℕ) → AreNames ns → is_na
 names-push [] n h e = (e, tt)
 names-push (m ∷ ns) n h e = (h.0, names-push ns n h.1 e)
 
-pub names-append : (ns ms : List (List ℕ)) → AreNames ns → AreNames ms → AreNames (ns ++ ms)
-names-append [] ms h k = k
-names-append (n ∷ ns) ms h k = (h.0, names-append ns ms h.1 k)
-
 pub reverse-cons : (n : List ℕ) (b : List (List ℕ)) → reverse (n ∷ b) ≡ reverse b ++ n ∷ []
 reverse-cons n b = reverse-append (n ∷ []) b
 
 pub names-reverse : (b : List (List ℕ)) → AreNames b → AreNames (reverse b)
 names-reverse [] h = tt
 names-reverse (n ∷ b) h = subst AreNames (sym (reverse-cons n b)) (names-push (reverse b) n (names-reverse b h.1) h.0)
-
-has_slash-at : (xs : List ℕ) (k : ℕ) → k < length xs → is_slash (get_or xs k 47) ≡ true → has_slash xs ≡ true
-has_slash-at [] k l e = absurd (omega (arith, l))
-has_slash-at (x ∷ xs) zero l e = or_left (is_slash x) (has_slash xs) e
-has_slash-at (x ∷ xs) (suc k) l e = by (is_slash x) (has_slash-at xs k (omega (arith, l)) e)
-  where
-    by : (b : Bool) → has_slash xs ≡ true → (b || has_slash xs) ≡ true
-    by true h = refl
-    by false h = h
 
 no_slash : (xs : List ℕ) → has_slash xs ≡ false → All (λ x. is_slash x ≡ false) xs
 no_slash [] h k d l = absurd (omega (arith, l))

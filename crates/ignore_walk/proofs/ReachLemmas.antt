@@ -7,12 +7,13 @@ use Rattle.ignore_files.specs.declared.types.FileType.{FileType}
 use Rattle.ignore_files.specs.declared.types.Listed.{Listed}
 use Rattle.ignore_files.specs.declared.types.Listed.TheVariants as thing
 use Rattle.ignore_files.specs.declared.types.Metadata.{Metadata}
+use Rattle.ignore_dir.specs.Query.{is_dir_there}
 use Rattle.ignore_walk.specs.Agreement.{Reachable, at_root, listed}
 use Rattle.ignore_walk.specs.Branch.{Branch, path_of}
 use Rattle.ignore_walk.specs.Child.{named, or_failed, with_device}
 use Rattle.ignore_walk.specs.Entry.{Entry}
 use Rattle.ignore_walk.specs.Scene.{Scene}
-use Rattle.ignore_walk.specs.Walked.{is_dir_found, leads_in, listing_of}
+use Rattle.ignore_walk.specs.Walked.{leads_in, listing_of}
 use Rattle.ignore_walk.specs.Whole.{root_by, root_entry, root_of, stays_link}
 use Rattle.ignore_walk.proofs.ChildLemmas.{child_depth, child_path, device-same, ok_equal}
 use Rattle.ignore_walk.proofs.PlaceNames.{AreNames, all_names, is_name, name_from, names-reverse, reverse-cons}
@@ -25,7 +26,7 @@ either_depth false e f p q = q
 root_depth : (g : Scene) (root : List ℕ) (e : Entry) → root_entry g root ≡ Ok e → e.depth ≡ 0
 unfolding root_entry
 root_depth g root e h =
-    let is_dir = is_dir_found (g.tree.stat root true) in
+    let is_dir = is_dir_there (g.tree.stat root true) in
     let t = and_then_ok (with_device g is_dir) (or_failed root 0 (root_of g root) (g.tree.stat root false)) e h in
     let own = or_failed_ok root 0 (root_of g root) (g.tree.stat root false) t.0 t.1 in
     let found = or_failed_ok root 0 (λ (m : Metadata). Ok (root_by g root own.0.file_type m.file_type))
@@ -69,9 +70,9 @@ reach_names g root (name ∷ b) e (listed {dir = dir} {kind = kind} r l c h) =
 
 -- the root of a directory below it is one
 pub root_is_dir : (g : Scene) (root : List ℕ) (b : Branch) (e : Entry) → Reachable g root b e → leads_in g b e ≡ true
-    → is_dir_found (g.tree.stat root true) ≡ true
+    → is_dir_there (g.tree.stat root true) ≡ true
 root_is_dir g root [] e (at_root h) l =
-    subst (λ (p : List ℕ). is_dir_found (g.tree.stat p true) ≡ true) (root_path g root e h) l
+    subst (λ (p : List ℕ). is_dir_there (g.tree.stat p true) ≡ true) (root_path g root e h) l
 root_is_dir g root (name ∷ b) e (listed {dir = dir} r l c h) m = root_is_dir g root b dir r l
 
 -- the path of a place is that of the directory with its names

@@ -11,12 +11,13 @@ use Rattle.ignore_files.specs.declared.types.Listed.TheVariants as thing
 use Rattle.ignore_dir.specs.Above.{problems_of_loads}
 use Rattle.ignore_dir.specs.Load.{joined_some}
 use Rattle.ignore_dir.specs.declared.settings.Settings.{Settings}
+use Rattle.ignore_dir.specs.Limits.{is_deepest}
 use Rattle.ignore_walk.specs.Branch.{Branch}
 use Rattle.ignore_walk.specs.Child.{below, child}
 use Rattle.ignore_walk.specs.Entry.{Entry, Item, stdin_entry}
 use Rattle.ignore_walk.specs.Scene.{Scene}
 use Rattle.ignore_walk.specs.Visits.{IsShown, IsShownBelow, IsVisited, IsYielded, at_root, listed}
-use Rattle.ignore_walk.specs.Walked.{IsArranged, WalkedOne, WalkedEach, skip, yield, load, enter, closed, dir, failed, fate, is_at_least, is_at_most, is_foreign, is_skipped, leads_in, leaf, listing_of, loaded, more, none, skipped, unlisted, yielded}
+use Rattle.ignore_walk.specs.Walked.{IsArranged, WalkedOne, WalkedEach, skip, yield, load, enter, closed, dir, failed, fate, is_at_least, is_foreign, is_skipped, leads_in, leaf, listing_of, loaded, more, none, skipped, unlisted, yielded}
 use Rattle.ignore_walk.specs.Whole.{WalkedRoots, above_root, other, reported_before, root_entry, stdin, unseen}
 use Rattle.ignore_walk.specs.Whole.{none as no_roots}
 use Rattle.ignore_walk.proofs.ChildLemmas.{fault_is}
@@ -45,7 +46,7 @@ by_skip false false false h k = cc (k)
 
 module _ (g : Scene) (root : List ℕ) (b : Branch) (e : Entry) where
   abbrev pub stays : Bool
-  stays = not (leads_in g b e) || is_at_most g.settings.max_depth e.depth
+  stays = not (leads_in g b e) || is_deepest g.settings.max_depth e.depth
 
   yield_kept : fate g root b e ≡ yield → is_skipped g root b e ≡ false
   unfolding fate

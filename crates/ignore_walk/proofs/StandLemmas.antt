@@ -17,9 +17,6 @@ use Rattle.ignore_walk.specs.declared.open.Opened.{Opened}
 use Rattle.ignore_walk.specs.declared.stack.Stack.{Stack}
 use Rattle.ignore_walk.proofs.LeftLemmas.{around, state, with_made, leave, take, make_entered, whole_remains}
 
-rest_of : Frame → List Listed
-rest_of f = f.rest.items
-
 -- all but the frames and the items is the same
 pub record Same (s s' : Stack) : Type 0 where
   pub seen : s'.seen ≡ s.seen

@@ -11,6 +11,8 @@ use Rattle.ignore_files.specs.declared.types.Identity.{Identity}
 use Rattle.ignore_files.specs.declared.types.Listed.{Listed}
 use Rattle.ignore_files.specs.declared.types.Listed.TheVariants as thing
 use Rattle.ignore_files.specs.declared.types.Metadata.{Metadata}
+use Rattle.ignore_dir.specs.Query.{is_dir_there}
+use Rattle.ignore_dir.specs.Limits.{is_deepest}
 use Rattle.ignore_walk.specs.Branch.{Branch, path_of}
 use Rattle.ignore_walk.specs.Child.{child, below, or_failed, with_device, identity_at}
 use Rattle.ignore_walk.specs.Entry.{Entry}
@@ -19,7 +21,7 @@ use Rattle.ignore_walk.specs.Left.{IsNext}
 use Rattle.ignore_walk.specs.Scene.{Scene}
 use Rattle.ignore_walk.specs.Stands.{name_in}
 use Rattle.ignore_walk.specs.Suits.{IsOrderBy}
-use Rattle.ignore_walk.specs.Walked.{IsOrdered, skip, yield, load, enter, fate, is_skipped, is_dir_found, leads_in, is_at_most, is_foreign}
+use Rattle.ignore_walk.specs.Walked.{IsOrdered, skip, yield, load, enter, fate, is_skipped, leads_in, is_foreign}
 use Rattle.ignore_walk.specs.Whole.{root_by, root_of, root_entry, above_root, reported_before, stays_link}
 use Rattle.ignore_walk.specs.declared.callbacks.Order.{Order}
 use Rattle.ignore_walk.specs.declared.callbacks.Order.TheVariants.{Listed as AsListed, ByName, ByPath}
@@ -54,7 +56,7 @@ enters false false deepest foreign h = absurd (cc (h))
 
 pub enter_leads : (g : Scene) (root : List ℕ) (b : Branch) (e : Entry) → fate g root b e ≡ enter → leads_in g b e ≡ true
 unfolding fate
-enter_leads g root b e h = enters (is_skipped g root b e) (leads_in g b e) (is_at_most g.settings.max_depth e.depth) (is_foreign g root e) h
+enter_leads g root b e h = enters (is_skipped g root b e) (leads_in g b e) (is_deepest g.settings.max_depth e.depth) (is_foreign g root e) h
 
 pub root_kept : (g : Scene) (root : List ℕ) (e : Entry) → is_skipped g root [] e ≡ false
 unfolding is_skipped
@@ -103,7 +105,7 @@ either_path false e f root p q = q
 pub root_path : (g : Scene) (root : List ℕ) (e : Entry) → root_entry g root ≡ Ok e → e.path ≡ root
 unfolding root_entry
 root_path g root e h =
-    let is_dir = is_dir_found (g.tree.stat root true) in
+    let is_dir = is_dir_there (g.tree.stat root true) in
     let t = and_then_ok (with_device g is_dir) (or_failed root 0 (root_of g root) (g.tree.stat root false)) e h in
     let own = or_failed_ok root 0 (root_of g root) (g.tree.stat root false) t.0 t.1 in
     let found = or_failed_ok root 0 (λ (m : Metadata). Ok (root_by g root own.0.file_type m.file_type)) (g.tree.stat root true) t.0 own.1 in
@@ -113,10 +115,10 @@ root_path g root e h =
     (ok_path (root_by g root own.0.file_type found.0.file_type) t.0 root path found.1) t.2
 
 -- nothing is above a root that leads to no directory
-pub plain_root : (g : Scene) (root : List ℕ) → is_dir_found (g.tree.stat root true) ≡ false → above_root g root ≡ []
+pub plain_root : (g : Scene) (root : List ℕ) → is_dir_there (g.tree.stat root true) ≡ false → above_root g root ≡ []
 plain_root g root plain = rw plain refl
 
-pub plain_report : (g : Scene) (seen : List (List ℕ)) (root : List ℕ) → is_dir_found (g.tree.stat root true) ≡ false
+pub plain_report : (g : Scene) (seen : List (List ℕ)) (root : List ℕ) → is_dir_there (g.tree.stat root true) ≡ false
     → reported_before g seen root ≡ []
 plain_report g seen root plain = rw (plain_root g root plain) refl
 

@@ -1,16 +1,16 @@
 -- What an entry gives, and all below it.
-use Rattle.std.specs.Prelude.{◌≡◌, ℕ, suc, ◌+◌, Bool, true, false, ◌&&◌, ◌||◌, not, ◌==◌, nat_lt, nat_le, List, [], ◌∷◌, ◌++◌, map}
+use Rattle.std.specs.Prelude.{◌≡◌, ℕ, suc, ◌+◌, Bool, true, false, ◌&&◌, ◌||◌, not, ◌==◌, nat_le, List, [], ◌∷◌, ◌++◌, map}
 use Rattle.std.specs.Prelude.{reverse, Option, None, Some, Result, Ok, Err, IsPermutation, IsSortedBy, if◌then◌else◌}
 use Rattle.std.specs.Cmp.{IsStrictWeakOrder}
 use Rattle.std.specs.List.Sorted.{IsStableBy}
 use Rattle.ignore_base.specs.Text.{Bytes, Path}
 use Rattle.ignore_base.specs.declared.fault.Fault.{Fault}
 use Rattle.ignore_base.specs.Problem.{Problem}
-use Rattle.ignore_files.specs.Kinds.{is_dir}
 use Rattle.ignore_files.specs.declared.types.Identity.{Identity}
 use Rattle.ignore_files.specs.declared.types.Listed.{Listed}
 use Rattle.ignore_files.specs.declared.types.Listed.TheVariants as thing
-use Rattle.ignore_files.specs.declared.types.Metadata.{Metadata}
+use Rattle.ignore_dir.specs.Limits.{is_deepest, is_larger}
+use Rattle.ignore_dir.specs.Query.{is_dir_there}
 use Rattle.ignore_dir.specs.Scene.{path_verdict}
 use Rattle.ignore_dir.specs.Verdict.{is_ignore}
 use Rattle.ignore_dir.specs.declared.settings.Settings.{Settings}
@@ -19,21 +19,10 @@ use Rattle.ignore_walk.specs.Child.{is_dir_kind, identity_at, named, below, chil
 use Rattle.ignore_walk.specs.Entry.{Entry, Item, failed_at}
 use Rattle.ignore_walk.specs.Scene.{Scene, queries}
 
--- a path leads to a directory
-abbrev pub is_dir_found : Result Metadata Fault → Bool
-is_dir_found (Ok m) = is_dir m.file_type
-is_dir_found (Err fault) = false
-
 -- an entry is a directory, or a root that links to one
 abbrev pub leads_in : Scene → Branch → Entry → Bool
-leads_in g [] e = is_dir_found (g.tree.stat e.path true)
+leads_in g [] e = is_dir_there (g.tree.stat e.path true)
 leads_in g (name ∷ b) e = is_dir_kind e.kind
-
--- the size by this metadata is above the limit, if there is one; a size that faults isn't
-abbrev pub is_above : Option ℕ → Result Metadata Fault → Bool
-is_above None size = false
-is_above (Some most) (Ok m) = nat_lt most m.len
-is_above (Some most) (Err fault) = false
 
 -- the rules ignore what is at a place below a root
 unfoldable pub ignores : Scene → Path → Branch → Bool → Bool
@@ -41,7 +30,7 @@ ignores g root b is_dir = is_ignore (path_verdict (queries g root) (reverse b) i
 
 -- an entry that is no directory is too large
 abbrev pub is_too_large : Scene → Entry → Bool
-is_too_large g e = not (is_dir_kind e.kind) && is_above g.settings.max_filesize (g.tree.stat e.path g.settings.follow_links)
+is_too_large g e = not (is_dir_kind e.kind) && is_larger g.settings.max_filesize (g.tree.stat e.path g.settings.follow_links)
 
 -- an entry below a root is skipped where the rules ignore it, where it is too large, and where the
 -- filter rejects it; a root never is
@@ -49,11 +38,6 @@ unfoldable pub is_skipped : Scene → Path → Branch → Entry → Bool
 is_skipped g root [] e = false
 is_skipped g root (name ∷ b) e =
     ignores g root (name ∷ b) (is_dir_kind e.kind) || (is_too_large g e || not (g.keep e))
-
--- a depth is the greatest depth, if there is one, or below it
-abbrev pub is_at_most : Option ℕ → ℕ → Bool
-is_at_most None depth = false
-is_at_most (Some most) depth = nat_le most depth
 
 -- a depth is not above the least depth, if there is one
 abbrev pub is_at_least : Option ℕ → ℕ → Bool
@@ -82,7 +66,7 @@ pub data Fate : Type 0 where
 unfoldable pub fate : Scene → Path → Branch → Entry → Fate
 fate g root b e =
     if is_skipped g root b e then skip
-    else if not (leads_in g b e) || is_at_most g.settings.max_depth e.depth then yield
+    else if not (leads_in g b e) || is_deepest g.settings.max_depth e.depth then yield
     else if is_foreign g root e then load
     else enter
 

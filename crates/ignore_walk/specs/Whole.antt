@@ -12,10 +12,11 @@ use Rattle.ignore_files.specs.declared.types.FileType.TheVariants.{Symlink}
 use Rattle.ignore_files.specs.declared.types.Metadata.{Metadata}
 use Rattle.ignore_dir.specs.Above.{paths_above, problems_of_loads}
 use Rattle.ignore_dir.specs.Load.{joined_some}
+use Rattle.ignore_dir.specs.Query.{is_dir_there}
 use Rattle.ignore_walk.specs.Child.{or_failed, with_device}
 use Rattle.ignore_walk.specs.Entry.{Entry, Item, stdin_entry}
 use Rattle.ignore_walk.specs.Scene.{Scene}
-use Rattle.ignore_walk.specs.Walked.{is_dir_found, WalkedOne}
+use Rattle.ignore_walk.specs.Walked.{WalkedOne}
 
 -- a root is a link that stays one: links aren't followed, and it leads to no file
 abbrev pub stays_link : Scene → FileType → FileType → Bool
@@ -35,11 +36,11 @@ root_of g root own = or_failed root 0 (λ (m : Metadata). Ok (root_by g root own
 -- a root is an entry, or a problem in its place
 unfoldable pub root_entry : Scene → Path → Result Entry Problem
 root_entry g root =
-    and_then (with_device g (is_dir_found (g.tree.stat root true))) (or_failed root 0 (root_of g root) (g.tree.stat root false))
+    and_then (with_device g (is_dir_there (g.tree.stat root true))) (or_failed root 0 (root_of g root) (g.tree.stat root false))
 
 -- the directories above a root that leads to a directory
 abbrev pub above_root : Scene → Path → List Path
-above_root g root = if is_dir_found (g.tree.stat root true) then paths_above g.tree g.settings root else []
+above_root g root = if is_dir_there (g.tree.stat root true) then paths_above g.tree g.settings root else []
 
 -- those that weren't seen
 abbrev pub unseen : List Path → List Path → List Path

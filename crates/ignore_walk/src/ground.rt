@@ -4,6 +4,8 @@ ghost use Rattle.std.specs.Prelude.{OnOk, map, string_bytes};
 ghost use Rattle.std.specs.Option.{option_to_list};
 ghost use Rattle.ignore_base.specs.Problem.{problem_of, memory};
 ghost use Rattle.ignore_files.specs.Gives.{IsHonest};
+ghost use Rattle.ignore_dir.specs.Limits as limits;
+ghost use Rattle.ignore_dir.specs.Query as queries;
 ghost use Rattle.ignore_walk.specs.Branch.{Branch, path_of, placed_above, text_at};
 ghost use Rattle.ignore_walk.specs.Child as children;
 ghost use Rattle.ignore_walk.specs.Entry.{entry_of, item_of, fresh, problem_in};
@@ -66,8 +68,8 @@ pub(crate) struct AboveRoot {
 }
 
 /// Whether a depth is the greatest depth, if there is one, or below it.
-fn is_at_most(max_depth: Option<usize>, depth: usize) -> bool
-    ensures { result ≡ walked.is_at_most max_depth depth }
+fn is_deepest(max_depth: Option<usize>, depth: usize) -> bool
+    ensures { result ≡ limits.is_deepest max_depth depth }
 {
     match max_depth {
         None => false,
@@ -78,9 +80,9 @@ fn is_at_most(max_depth: Option<usize>, depth: usize) -> bool
 /// Whether nothing below an entry is yielded: whether it leads into no directory, or is at the
 /// greatest depth.
 fn is_leaf(max_depth: Option<usize>, depth: usize, leads_in: bool) -> bool
-    ensures { result ≡ not leads_in || walked.is_at_most max_depth depth }
+    ensures { result ≡ not leads_in || limits.is_deepest max_depth depth }
 {
-    !leads_in || is_at_most(max_depth, depth)
+    !leads_in || is_deepest(max_depth, depth)
 }
 
 /// Whether two devices are known and differ.
@@ -257,7 +259,7 @@ impl<'a, F: Files, S: Callbacks> Ground<'a, F, S> {
     pub(crate) fn root_entry(&self, alloc: Global, is_dir: bool, root: &str) -> Result<Item, Error>
         ensures value { (g : Scene)
             → Suits F.Files S.Callbacks self.now.files.now self.now.owner.now self.now.settings self.now.outside self.now.options g
-            → is_dir ≡ walked.is_dir_found (g.tree.stat root.now true)
+            → is_dir ≡ queries.is_dir_there (g.tree.stat root.now true)
             → IfOk result (λ item. item_of item ≡ fresh (wholes.root_entry g root.now)) }
         ensures out_of_memory { IfErr result (λ e. problem_of e ≡ memory) }
     {
@@ -280,11 +282,11 @@ impl<'a, F: Files, S: Callbacks> Ground<'a, F, S> {
             → IfOk result (λ a. string_bytes a.base ≡ text_at g root.now []) }
         ensures error { (g : Scene) (paths : List (List ℕ))
             → Suits F.Files S.Callbacks self.now.files.now self.now.owner.now self.now.settings self.now.outside self.now.options g
-            → AreSeen seen.old.items paths → walked.is_dir_found (g.tree.stat root.now true) ≡ true
+            → AreSeen seen.old.items paths → queries.is_dir_there (g.tree.stat root.now true) ≡ true
             → IfOk result (λ a. map Err (option_to_list (option_map problem_of a.error)) ≡ wholes.reported_before g paths root.now) }
         ensures seen { (g : Scene) (paths : List (List ℕ))
             → Suits F.Files S.Callbacks self.now.files.now self.now.owner.now self.now.settings self.now.outside self.now.options g
-            → AreSeen seen.old.items paths → walked.is_dir_found (g.tree.stat root.now true) ≡ true
+            → AreSeen seen.old.items paths → queries.is_dir_there (g.tree.stat root.now true) ≡ true
             → OnOk result (AreSeen seen.new.items (paths ++ wholes.above_root g root.now)) }
         ensures out_of_memory { IfErr result (λ e. problem_of e ≡ memory) }
     {

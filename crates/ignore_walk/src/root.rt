@@ -4,10 +4,10 @@ ghost use Rattle.ignore_base.specs.Problem.{Problem, problem_of, memory};
 ghost use Rattle.ignore_files.specs.Gives.{IsHonest};
 ghost use Rattle.ignore_files.specs.Memory.{and_then};
 ghost use Rattle.ignore_files.specs.Tree.{Tree};
+ghost use Rattle.ignore_dir.specs.Query.{is_dir_there};
 ghost use Rattle.ignore_walk.specs.Child.{or_failed, with_device};
 ghost use Rattle.ignore_walk.specs.Entry.{Entry, entry_of, item_of, fresh, problem_in};
 ghost use Rattle.ignore_walk.specs.Scene.{Scene};
-ghost use Rattle.ignore_walk.specs.Walked.{is_dir_found};
 ghost use Rattle.ignore_walk.specs.Whole.{root_by, root_of, root_entry};
 
 use crate::child::with_device;
@@ -18,7 +18,7 @@ use std::alloc::Global;
 
 /// Whether a path leads to a directory.
 pub(crate) fn is_dir_found<F: Files>(alloc: Global, files: &F, path: &str) -> Result<bool, Error>
-    ensures value { (tree : Tree) → IsHonest F.Files files.now tree → IfOk result (λ yes. yes ≡ is_dir_found (tree.stat path.now true)) }
+    ensures value { (tree : Tree) → IsHonest F.Files files.now tree → IfOk result (λ yes. yes ≡ is_dir_there (tree.stat path.now true)) }
     ensures out_of_memory { IfErr result (λ e. problem_of e ≡ memory) }
 {
     match files.stat(alloc, path, true) {
@@ -107,7 +107,7 @@ pub(crate) fn root_entry<F: Files>(
     root: &str,
 ) -> Result<Item, Error>
     ensures value { (g : Scene) → IsHonest F.Files files.now g.tree → g.settings.follow_links ≡ follow_links
-        → g.same_file_system ≡ same_file_system → is_dir ≡ is_dir_found (g.tree.stat root.now true)
+        → g.same_file_system ≡ same_file_system → is_dir ≡ is_dir_there (g.tree.stat root.now true)
         → IfOk result (λ item. item_of item ≡ fresh (root_entry g root.now)) }
     ensures out_of_memory { IfErr result (λ e. problem_of e ≡ memory) }
 {

@@ -5,12 +5,13 @@ ghost use Rattle.ignore_base.specs.Problem.{problem_of, memory};
 ghost use Rattle.ignore_dir.specs.Verdict.{placed_verdict, is_ignore};
 ghost use Rattle.ignore_files.specs.Gives.{IsHonest};
 ghost use Rattle.ignore_files.specs.Tree.{Tree};
+ghost use Rattle.ignore_dir.specs.Limits.{is_larger};
 ghost use Rattle.ignore_walk.specs.Branch.{Branch, path_of, placed_above, placed_at, text_at};
 ghost use Rattle.ignore_walk.specs.Child.{is_dir_kind};
 ghost use Rattle.ignore_walk.specs.Entry.{entry_of};
 ghost use Rattle.ignore_walk.specs.Frames.{counting, counts, placed_of};
 ghost use Rattle.ignore_walk.specs.Scene.{Scene};
-ghost use Rattle.ignore_walk.specs.Walked.{ignores, is_above, is_too_large};
+ghost use Rattle.ignore_walk.specs.Walked.{ignores, is_too_large};
 
 use crate::child::is_dir_kind;
 use crate::entry::DirEntry;
@@ -180,7 +181,7 @@ fn is_larger<F: Files>(
     path: &str,
 ) -> Result<bool, Error>
     ensures value { (tree : Tree) → IsHonest F.Files files.now tree
-        → IfOk result (λ yes. yes ≡ is_above (Some most) (tree.stat path.now follow_links)) }
+        → IfOk result (λ yes. yes ≡ is_larger (Some most) (tree.stat path.now follow_links)) }
     ensures out_of_memory { IfErr result (λ e. problem_of e ≡ memory) }
 {
     match files.stat(alloc, path, follow_links) {

@@ -3,6 +3,7 @@ ghost use Rattle.std.specs.Prelude.{◌≡◌, ◌+◌, ◌≤◌, ◌<◌, ◌+
 ghost use Rattle.std.specs.Prelude.{MatchOption, length, map, reverse, option_map, string_bytes};
 ghost use Rattle.std.specs.Option.{option_to_list};
 ghost use Rattle.ignore_base.specs.Problem.{problem_of, memory};
+ghost use Rattle.ignore_dir.specs.Query.{is_dir_there};
 ghost use Rattle.ignore_walk.specs.Branch.{Branch, path_of, text_at, placed_above};
 ghost use Rattle.ignore_walk.specs.Entry.{Item as Yielded, entry_of, item_of, problem_in};
 ghost use Rattle.ignore_walk.specs.Frames.{AreFrames, AreSeen};
@@ -11,7 +12,7 @@ ghost use Rattle.ignore_walk.specs.Opens.{Opens};
 ghost use Rattle.ignore_walk.specs.Scene.{Scene};
 ghost use Rattle.ignore_walk.specs.Stands.{state_of, before_root, name_in, text_below, IsAt, IsIn, Stands, Steps, Takes, Visits, Hands};
 ghost use Rattle.ignore_walk.specs.Suits.{Suits};
-ghost use Rattle.ignore_walk.specs.Walked.{IsOrdered, enter, fate, is_dir_found};
+ghost use Rattle.ignore_walk.specs.Walked.{IsOrdered, enter, fate};
 ghost use Rattle.ignore_walk.specs.Whole.{root_entry, above_root, reported_before};
 
 use crate::callbacks::Callbacks;
@@ -220,7 +221,7 @@ impl Stack {
         ensures begun { (g : Scene) (seen : List (List ℕ)) (items : List Yielded) (n : ℕ)
             → Suits F.Files S.Callbacks ground.now.files.now ground.now.owner.now ground.now.settings ground.now.outside
             ground.now.options g
-            → self.old.frames.items ≡ [] → AreSeen self.old.seen.items seen → is_dir ≡ is_dir_found (g.tree.stat root.now true)
+            → self.old.frames.items ≡ [] → AreSeen self.old.seen.items seen → is_dir ≡ is_dir_there (g.tree.stat root.now true)
             → (is_dir ≡ true → reverse self.old.above.items ≡ placed_above g root.now)
             → (is_dir ≡ true → string_bytes base ≡ text_at g root.now [])
             → InHand g (state_of self.old root.now [] seen) [] (root_entry g root.now) items n
@@ -250,12 +251,12 @@ impl Stack {
         ensures reported { (g : Scene) (seen : List (List ℕ))
             → Suits F.Files S.Callbacks ground.now.files.now ground.now.owner.now ground.now.settings ground.now.outside
             ground.now.options g
-            → AreSeen self.old.seen.items seen → is_dir_found (g.tree.stat root.now true) ≡ true
+            → AreSeen self.old.seen.items seen → is_dir_there (g.tree.stat root.now true) ≡ true
             → OnOk result (map item_of self.new.made.items ≡ map item_of self.old.made.items ++ reported_before g seen root.now) }
         ensures seen { (g : Scene) (seen : List (List ℕ))
             → Suits F.Files S.Callbacks ground.now.files.now ground.now.owner.now ground.now.settings ground.now.outside
             ground.now.options g
-            → AreSeen self.old.seen.items seen → is_dir_found (g.tree.stat root.now true) ≡ true
+            → AreSeen self.old.seen.items seen → is_dir_there (g.tree.stat root.now true) ≡ true
             → OnOk result (AreSeen self.new.seen.items (seen ++ above_root g root.now)) }
         ensures above { (g : Scene)
             → Suits F.Files S.Callbacks ground.now.files.now ground.now.owner.now ground.now.settings ground.now.outside

@@ -1,9 +1,9 @@
 use Rattle.std.proofs.Common.{◌≡◌, ◌∷◌, [], ℕ, List, Ok, Err, Result, true, refl, sym, ◌∙◌, ap, subst}
 use Rattle.ignore_base.specs.Problem.{Problem, problem_of}
+use Rattle.ignore_dir.specs.Query.{is_dir_there}
 use Rattle.ignore_walk.specs.Entry.{Entry, entry_of, item_of, fresh, problem_in}
 use Rattle.ignore_walk.specs.Left.{InHand}
 use Rattle.ignore_walk.specs.Stands.{state_of}
-use Rattle.ignore_walk.specs.Walked.{is_dir_found}
 use Rattle.ignore_walk.specs.Whole.{root_entry}
 use Rattle.ignore_walk.proofs.ChildLemmas.{fresh_ok, fresh_err}
 use Rattle.ignore_walk.proofs.LeftLemmas.{make_failed}
@@ -38,7 +38,7 @@ returns-in_ok-self-in-Ok-clause-begun g c = λ s seen items n suits empty kept i
     c.visit.ensures.visited s root [] [] seen items n suits (outside s root [] seen _ empty kept)
     (record {
       path = path;
-      leads_there = is_dir ∙ ap (λ (p : List ℕ). is_dir_found (s.tree.stat p true)) (sym path);
+      leads_there = is_dir ∙ ap (λ (p : List ℕ). is_dir_there (s.tree.stat p true)) (sym path);
       kept = root_kept s root e;
       at = λ t. record { above = above t; device = c.in_ok-self-in-Ok.ensures.value s suits t };
       seen_as = λ t. c.new.ensures ∙ base t;
