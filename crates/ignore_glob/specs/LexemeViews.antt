@@ -1,6 +1,7 @@
 -- Views: the lexemes, tokens and meanings that the program's values stand for, for contracts of the
 -- parser.
 use Rattle.std.specs.Prelude.{List, map}
+use Rattle.std.specs.Arc.{arc_slice_items}
 use Rattle.ignore_glob.specs.Lexing.{Lexeme, char, escaped, any, run, class, opening, comma, closing}
 use Rattle.ignore_glob.specs.declared.glob.lexeme.Lexeme.{Lexeme as CodeLexeme}
 use Rattle.ignore_glob.specs.declared.glob.lexeme.Lexeme.TheVariants as Code
@@ -20,7 +21,7 @@ lexeme_view (Code.Char c) = char c
 lexeme_view (Code.Escaped c) = escaped c
 lexeme_view Code.Any = any
 lexeme_view (Code.Run n) = run n
-lexeme_view (Code.Class k) = class k.negated k.ranges.items
+lexeme_view (Code.Class k) = class k.negated (arc_slice_items k.ranges)
 lexeme_view Code.Opening = opening
 lexeme_view Code.Comma = comma
 lexeme_view Code.Closing = closing
@@ -43,7 +44,7 @@ simple_token_view SimpleToken.Star = G.star
 simple_token_view SimpleToken.Start = G.start
 simple_token_view SimpleToken.Middle = G.middle
 simple_token_view SimpleToken.End = G.end
-simple_token_view (SimpleToken.Class k) = G.class k.now.negated k.now.ranges.items
+simple_token_view (SimpleToken.Class k) = G.class k.now.negated (arc_slice_items k.now.ranges)
 
 -- the meaning of a meaning of the program
 abbrev pub meaning_view : CodeMeaning → R.Meaning

@@ -1,6 +1,7 @@
 -- The nodes of tokens as a whole list, and the nodes that the program's nodes stand for.
 use Rattle.std.specs.Prelude.{◌≡◌, ◌+◌, ℕ, zero, suc, Bool, true, false, List, [], ◌∷◌, ◌++◌, map, refl, cond}
 use Rattle.std.specs.Coded.{Coded, code_by, coded×, coded_ℕ, coded_bool, coded_list}
+use Rattle.std.specs.Arc.{arc_slice_items}
 use Rattle.ignore_glob.specs.Glob.{Token, literal, any, star, start, middle, end, class, alternates, Tokens, done, then, Branches}
 use Rattle.ignore_glob.specs.Glob.{no_branch, branch}
 use Rattle.ignore_glob.specs.Nodes.{Node, literal_at, any_at, star_at, start_at, middle_at, end_at, until_slash, until_end, class_at}
@@ -55,7 +56,7 @@ node_view (Code.Middle next) = middle_at next
 node_view (Code.End next) = end_at next
 node_view (Code.UntilSlash next) = until_slash next
 node_view (Code.UntilEnd next) = until_end next
-node_view (Code.Class k next) = class_at k.negated k.ranges.items next
+node_view (Code.Class k next) = class_at k.negated (arc_slice_items k.ranges) next
 node_view (Code.Fork firsts) = fork_at firsts.items
 
 -- the nodes that nodes of the program stand for

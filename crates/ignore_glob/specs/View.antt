@@ -1,6 +1,7 @@
 -- Views: the tokens that the program's tokens stand for.
 use Rattle.std.specs.Prelude.{List, [], ◌∷◌, map, Vec}
 use Rattle.std.specs.declared.alloc.Global.{Global}
+use Rattle.std.specs.Arc.{arc_slice_items}
 use Rattle.ignore_glob.specs.Glob.{Token, literal, any, star, start, middle, end, class, alternates, Tokens, done, then, Branches}
 use Rattle.ignore_glob.specs.Glob.{no_branch, branch}
 use Rattle.ignore_glob.specs.declared.glob.token.Token.{Token as CodeToken, fold-Token}
@@ -24,7 +25,7 @@ view_step Token-F.Star = star
 view_step Token-F.RecursiveStart = start
 view_step Token-F.RecursiveMiddle = middle
 view_step Token-F.RecursiveEnd = end
-view_step (Token-F.Class class') = class class'.negated class'.ranges.items
+view_step (Token-F.Class class') = class class'.negated (arc_slice_items class'.ranges)
 view_step (Token-F.Alternates branches) = alternates (branches_of branches.items)
 
 -- the token that a token of the program stands for

@@ -20,7 +20,7 @@ impl Clone for Token {
             Token::RecursiveMiddle => Ok(Token::RecursiveMiddle),
             Token::RecursiveEnd => Ok(Token::RecursiveEnd),
             Token::Class(class) => {
-                let ranges = Vec::from_slice(*class.ranges.allocator(), &class.ranges)?;
+                let ranges = class.ranges.clone()?;
                 Ok(Token::Class(Class {
                     negated: class.negated,
                     ranges,

@@ -11,6 +11,7 @@ use crate::glob::fault::{GlobFault, PatternError};
 use crate::glob::options::Options;
 use crate::glob::token::Class;
 use std::alloc::Global;
+use std::sync::ArcSlice;
 
 /// One lexeme of a glob.
 #[derive(Drop)]
@@ -70,7 +71,14 @@ fn bracket(
         return Err(PatternError::Fault(GlobFault::UnclosedClass));
     };
     match ranges_of(alloc, body)? {
-        Some(ranges) => Ok((Lexeme::Class(Class { negated, ranges }), rest, depth)),
+        Some(ranges) => {
+            let shared = ArcSlice::from_vec(ranges)?;
+            let class = Class {
+                negated,
+                ranges: shared,
+            };
+            Ok((Lexeme::Class(class), rest, depth))
+        }
         None => Err(PatternError::Fault(GlobFault::InvalidRange)),
     }
 }

@@ -1,5 +1,6 @@
 //! Which characters a literal and a class match.
 ghost use Rattle.std.specs.Prelude.{IsTrue, ◌↔◌, ◌≡◌};
+ghost use Rattle.std.specs.Arc.{arc_slice_items};
 ghost use Rattle.ignore_glob.specs.Matches.{IsCaseOf, IsMember, other_case, in_ranges, is_listed};
 
 use crate::glob::token::Class;
@@ -43,7 +44,7 @@ fn is_listed(fold: bool, ranges: &[(char, char)], c: char) -> bool
 
 /// Whether a class matches the character.
 pub fn is_member(fold: bool, of: &Class, c: char) -> bool
-    ensures { IsTrue result ↔ IsMember fold of.now.negated of.now.ranges.items c }
+    ensures { IsTrue result ↔ IsMember fold of.now.negated (arc_slice_items of.now.ranges) c }
 {
     if of.negated {
         !is_listed(fold, &of.ranges, c)

@@ -1,5 +1,6 @@
 //! Texts that are in every text that tokens match.
 ghost use Rattle.std.specs.Prelude.{◌≡◌, ◌++◌, ◌∷◌, [], ℕ, Bool, false, List, IfOk, map, string_bytes, encode_utf8};
+ghost use Rattle.std.specs.Arc.{arc_slice_items};
 ghost use Rattle.ignore_glob.specs.Glob.{class, alternates};
 ghost use Rattle.ignore_glob.specs.Matches.{token_matches, tokens_match, glob_matches};
 ghost use Rattle.ignore_glob.specs.Needles.{utf8, BeginsWith, HasOneOf, EndsAndHas};
@@ -149,14 +150,14 @@ fn extended(alloc: Global, run: &str, token: &Token) -> Result<Vec<String>, Allo
 
 /// Texts, one of which is in each that ends with the run and then a character of the class.
 fn by_class(alloc: Global, run: &str, listed: &Class) -> Result<Vec<String>, AllocError>
-    ensures { IfOk result (λ texts. (front w : List ℕ) → token_matches false (class listed.now.negated listed.now.ranges.items) w
+    ensures { IfOk result (λ texts. (front w : List ℕ) → token_matches false (class listed.now.negated (arc_slice_items listed.now.ranges)) w
         → HasOneOf (map string_bytes texts.items) ((front ++ run.now) ++ utf8 w)) }
 {
     if listed.negated || listed.ranges.len() > MOST_CHOICES {
         return alone(alloc, run);
     }
     let mut texts = Vec::new(alloc);
-    for range in &listed.ranges {
+    for range in listed.ranges.as_slice() {
         if range.0 != range.1 {
             return alone(alloc, run);
         }

@@ -1,5 +1,6 @@
 //! The nodes of a glob: its positions in the order of writing, each with the one that comes next.
 ghost use Rattle.std.specs.Prelude.{◌≡◌, ◌+◌, ◌++◌, ◌∷◌, [], IsTrue, ◌↔◌, length, IfOk};
+ghost use Rattle.std.specs.Arc.{arc_slice_items};
 ghost use Rattle.ignore_glob.specs.Glob.{start, then, done};
 ghost use Rattle.ignore_glob.specs.Nodes.{fork_at, token_width, width, branches_width, entry, entries, fork};
 ghost use Rattle.ignore_glob.specs.NodeLists.{token_nodes, tokens_nodes, branches_nodes, glob_nodes, is_lone_start, node_view, nodes_view};
@@ -156,9 +157,9 @@ fn push_two(nodes: &mut Vec<Node>, first: Node, second: Node) -> Result<(), Allo
 
 fn copy_of(class: &Class) -> Result<Class, AllocError>
     ensures negated { IfOk result (λ copy. copy.negated ≡ class.now.negated) }
-    ensures ranges { IfOk result (λ copy. copy.ranges.items ≡ class.now.ranges.items) }
+    ensures ranges { IfOk result (λ copy. arc_slice_items copy.ranges ≡ arc_slice_items class.now.ranges) }
 {
-    let ranges = Vec::from_slice(*class.ranges.allocator(), &class.ranges)?;
+    let ranges = class.ranges.clone()?;
     Ok(Class {
         negated: class.negated,
         ranges,

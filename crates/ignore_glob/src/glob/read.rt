@@ -29,7 +29,7 @@ fn token_of(alloc: Global, given: SimpleToken) -> Result<Token, AllocError>
         SimpleToken::End => Ok(Token::RecursiveEnd),
         SimpleToken::Class(class) => {
             let negated = class.negated;
-            let ranges = Vec::from_slice(alloc, class.ranges.as_slice())?;
+            let ranges = class.ranges.clone()?;
             Ok(Token::Class(Class { negated, ranges }))
         }
     }

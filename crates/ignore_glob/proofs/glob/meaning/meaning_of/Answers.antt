@@ -1,5 +1,6 @@
 use Rattle.std.proofs.Common.{◌≡◌, ◌∷◌, [], ap, arith}
 use Rattle.std.proofs.lemmas.Grind.{common_steps}
+use Rattle.std.specs.Arc.{arc_slice_items}
 use Rattle.ignore_glob.specs.declared.glob.lexeme.Lexeme.TheVariants as Code
 use Rattle.ignore_glob.specs.Row.{question, bracket, opens, ends, of_glob, at_comma, at_closing}
 use Rattle.ignore_glob.specs.LexemeViews.{row_view, left_view}
@@ -29,7 +30,7 @@ returns-in-Any c =
 pub returns-in-Class : goal.returns-in-Class
 returns-in-Class c =
     let row : c.args.row.now ≡ Code.Class c.in-Class.class ∷ c.in-Some.rest.now = grind (arith, common_steps) in
-    rw row (bracket (left_view c.args.left) c.in-Class.class.negated c.in-Class.class.ranges.items (row_view c.in-Some.rest.now))
+    rw row (bracket (left_view c.args.left) c.in-Class.class.negated (arc_slice_items c.in-Class.class.ranges) (row_view c.in-Some.rest.now))
 
 pub returns-in-Opening : goal.returns-in-Opening
 returns-in-Opening c =
