@@ -166,7 +166,8 @@ pub fn run<F: Files, W: Write, E: Write>(
         (Appends (E.contents err.old) (E.contents err.new)))) }
     ensures unreported { (question : Question) → question_of (map string_bytes words.now) ≡ Some question
         → IfErr result (Ends question (Appends (W.contents out.old) (W.contents out.new)) (λ reported. ⊤)) }
-    ensures lists { question_of (map string_bytes words.now) ≡ None → (roots : List Path) → roots_of (map string_bytes words.now) ≡ Some roots
+    ensures lists { question_of (map string_bytes words.now) ≡ None
+        → (roots : List Path) → roots_of (map string_bytes words.now) ≡ Some roots
         → IfOk result (λ status. ((items : List Item) × Lists items status
         (Appends (W.contents out.old) (W.contents out.new)) (Appends (E.contents err.old) (E.contents err.new))
         × ((tree : Tree) → IsHonest F.Files files.now tree → AreListed tree env.now roots items)) ⊎ (status ≡ 2)) }

@@ -12,7 +12,7 @@ use std::cell::Cell;
 /// Files of which each path is a directory that lists these names, all of one kind and each with
 /// the same identity.
 #[derive(Drop)]
-struct Endless<'n> {
+pub(crate) struct Endless<'n> {
     names: &'n [&'n str],
     kind: FileType,
     identity: Option<Identity>,
@@ -75,22 +75,23 @@ const GOOD: &[&str] = &["d"];
 
 const TWO: &[&str] = &["d", "e"];
 
-/// Directories without an end, each listed with its bad names, and none with an identity.
-fn with_bad_names() -> Endless<'static> {
+/// Directories without an end, each listed with these names, and none with an identity.
+pub(crate) fn with_names<'n>(names: &'n [&'n str]) -> Endless<'n> {
     Endless {
-        names: BAD,
+        names,
         kind: FileType::Dir,
         identity: None,
     }
 }
 
+/// The same, each listed with its bad names.
+fn with_bad_names() -> Endless<'static> {
+    with_names(BAD)
+}
+
 /// The same, each listed with a good name alone.
 fn only_d() -> Endless<'static> {
-    Endless {
-        names: GOOD,
-        kind: FileType::Dir,
-        identity: None,
-    }
+    with_names(GOOD)
 }
 
 /// The same as the first where what is listed are links, all of which lead to the same directory.
@@ -190,22 +191,22 @@ fn a_thousand_levels_of_an_endless_tree(rt: HostRuntime) -> anyhow::Result<()> {
 }
 
 /// A walk at a depth that is never reached.
-fn too_deep(alloc: Global, files: &Endless<'_>) -> anyhow::Result<String> {
+fn too_deep(alloc: Global, files: &Endless<'_>, limit: u64) -> anyhow::Result<String> {
     let mut settings = Settings::standard(alloc);
     settings.min_depth = Some(usize::MAX);
-    walked(alloc, files, settings, limited(4))
+    walked(alloc, files, settings, limited(limit))
 }
 
 #[test]
 fn a_depth_that_is_never_reached(rt: HostRuntime) -> anyhow::Result<()> {
-    let text = too_deep(rt.alloc(), &only_d())?;
+    let text = too_deep(rt.alloc(), &only_d(), 1000)?;
     assert_eq!(rt; text.as_str(), "(step limit reached) .");
     Ok(())
 }
 
 #[test]
 fn bad_names_above_the_least_depth(rt: HostRuntime) -> anyhow::Result<()> {
-    let text = too_deep(rt.alloc(), &with_bad_names())?;
+    let text = too_deep(rt.alloc(), &with_bad_names(), 4)?;
     assert_eq!(rt;
         text.as_str(),
         "(file name is not UTF-8) (file name is not UTF-8) (step limit reached) ."

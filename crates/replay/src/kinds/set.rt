@@ -11,12 +11,21 @@ use vectors::{Trouble, flag, flag_at, list, text, text_at};
 /// it is for directories only.
 const PAIRS: &str = "pairs";
 
-/// Answers `last`, an index or `null`.
+/// The name of the field with the most patterns that may be tried one by one, if it is there.
+const MOST: &str = "most";
+
+/// Answers `last`, an index or `null`; and `within`, whether no more patterns than the most were
+/// tried for the same answer, where the vector says how many that are.
 pub fn answer(alloc: Global, input: &Value) -> Result<Value, Trouble> {
     let set = set(alloc, list(input, PAIRS)?)?;
-    let last = but_for_memory(set.last_match(text(input, "text")?, flag(input, "is_dir")?))?;
+    let (text, is_dir) = (text(input, "text")?, flag(input, "is_dir")?);
+    let last = but_for_memory(set.last_match(text, is_dir))?;
     let mut answer = Answer::new(alloc);
     answer.put("last", last);
+    if let Some(most) = input.get(MOST).and_then(|most| most.as_u64()) {
+        let (again, tried) = but_for_memory(set.last_match_counted(text, is_dir))?;
+        answer.put("within", again == last && tried <= most);
+    }
     Ok(answer.value()?)
 }
 
