@@ -3,19 +3,25 @@ use Rattle.std.proofs.Common.{◌≡◌, ◌∙◌, ℕ, ◌+◌, ◌<◌, suc, 
 use Rattle.std.proofs.Common.{Option, length, map, take, get_or, refl, sym, ap, subst, arith, add-one}
 use Rattle.std.proofs.lemmas.Grind.{flat_map-append}
 use Rattle.std.proofs.lemmas.List.{append-nil, map-append}
-use Rattle.std.proofs.lemmas.List.Elements.{All-push}
 use Rattle.std.proofs.lemmas.List.Folds.{list_any-append}
 use Rattle.std.specs.Io.KnownBytes.{Appends}
 use Rattle.std.specs.List.{flat_map, list_any}
 use Rattle.ignore_dir.specs.Load.{AreLoads, Loaded}
-use Rattle.ignore_dir.specs.Scene.{scene}
+use Rattle.ignore_dir.specs.Scene.{Scene, scene}
 use Rattle.ignore_dir.specs.declared.outside.Outside.{Outside}
 use Rattle.ignore_dir.specs.declared.settings.Settings.{Settings}
 use Rattle.ignore_files.specs.Tree.{Tree}
 use Rattle.ignore_files.specs.declared.env.Env.{Env}
+use Rattle.ignore_base.specs.Problem.{Problem}
+use Rattle.ignore_query.specs.Fresh.{KeepsNothing}
+use Rattle.ignore_query.specs.InTurn.{Leaves, ReportInTurn}
+use Rattle.ignore_query.specs.InTurn.{Question as Asked}
 use Rattle.ignore_query.specs.Reached.{scene_of}
+use Rattle.ignore_query.specs.Reports.{reported}
+use Rattle.ignore_query.specs.declared.kept.Cache.{Cache}
 use Rattle.ignore_query.specs.declared.incremental.IncrementalIgnore.{IncrementalIgnore}
-use Rattle.commands.specs.Checking.{AreAnswers, Checked, Checks, IsAnswer, IsMatcher, is_wrong, line_for, report_for}
+use Rattle.commands.specs.Checking.{AreAnswers, Checked, Checks, IsAnswer, IsMatcher, IsReport, ReportsInTurn}
+use Rattle.commands.specs.Checking.{is_wrong, line_for, question_at, report_for}
 use Rattle.commands.proofs.LineLemmas.{appends_nothing, appends_on, or-false}
 
 map-take-suc : {A B : Type 0} (f : A → B) (xs : List A) (i : ℕ) (x : A) → i < length xs → x ≡ get_or xs i x
@@ -62,13 +68,50 @@ checks_more paths path all one any more a b c x y z h is line report wrong = rec
       ∙ sym (list_any-append is_wrong all (one ∷ []) ∙ ap (λ r. list_any is_wrong all || r) (or-false (is_wrong one)))));
 }
 
--- the answers of a matcher are those of the bare tree by its settings and rules
-pub answers_of : (tree : Tree) (env : Env) (root : List ℕ) (m : IncrementalIgnore) (all : List Checked) → IsMatcher tree env root m
-    → ((loads : List ℕ → Loaded) → AreLoads tree m.asked.settings loads → All (IsAnswer (scene_of m.asked tree loads)) all)
+-- one question more is asked in turn
+turn_more : (g : Scene) (qs : List Asked) (ps : List (Option Problem)) (q : Asked) (p : Option Problem) (old middle new : Cache)
+    → ReportInTurn g qs ps old middle → Leaves g q middle new → p ≡ reported g middle q.0 q.1
+    → ReportInTurn g (qs ++ q ∷ []) (ps ++ p ∷ []) old new
+turn_more g [] ps q p old middle new (none, same) leaves is = (
+  new,
+  [],
+  subst (λ (c : Cache). Leaves g q c new) same leaves,
+  ap (λ xs. xs ++ p ∷ []) none ∙ ap (λ x. x ∷ []) (is ∙ ap (λ (c : Cache). reported g c q.0 q.1) same),
+  (refl, refl),
+)
+turn_more g (r ∷ qs) ps q p old middle new (between, rest, left, first, after) leaves is = (
+  between,
+  rest ++ p ∷ [],
+  left,
+  ap (λ xs. xs ++ p ∷ []) first,
+  turn_more g qs rest q p between middle new after leaves is,
+)
+
+-- one path more is asked in turn
+pub reports_more : (g : Scene) (all : List Checked) (one : Checked) (old middle new : Cache) → ReportsInTurn g all old middle
+    → IsReport g middle new one.path one.problem → ReportsInTurn g (all ++ one ∷ []) old new
+reports_more g all one old middle new h k =
+    let asked : Checked → Asked = λ c. question_at g c.path in
+    let problem : Checked → Option Problem = λ c. c.problem in
+    subst (λ (qs : List Asked). ReportInTurn g qs (map problem (all ++ one ∷ [])) old new) (sym (map-append asked all (one ∷ [])))
+    (subst (λ (ps : List (Option Problem)). ReportInTurn g (map asked all ++ asked one ∷ []) ps old new)
+    (sym (map-append problem all (one ∷ [])))
+    (turn_more g (map asked all) (map problem all) (asked one) one.problem old middle new h k.0 k.1))
+
+-- the answers of a matcher that keeps nothing are those of the bare tree by its settings and rules,
+-- and the problems those of what each path in turn loads
+pub answers_of : (tree : Tree) (env : Env) (root : List ℕ) (m : IncrementalIgnore) (last : Cache) (all : List Checked)
+    → IsMatcher tree env root m → KeepsNothing m.cache
+    → ((loads : List ℕ → Loaded) → AreLoads tree m.asked.settings loads
+    → All (IsAnswer (scene_of m.asked tree loads)) all × ReportsInTurn (scene_of m.asked tree loads) all m.cache last)
     → AreAnswers tree env root all
-answers_of tree env root m all w right = (
+answers_of tree env root m last all w empty right = (
   w.0,
   w.1,
-  λ loads are. subst (λ (t : Settings × Outside × List ℕ × Option (List ℕ)). All (IsAnswer (scene tree loads t.0 t.1 t.2)) all) w.2
-      (right loads (subst (λ (s : Settings). AreLoads tree s loads) (sym (ap (λ t. t.0) w.2)) are)),
+  λ loads are.
+      let both = subst
+      (λ (t : Settings × Outside × List ℕ × Option (List ℕ)). All (IsAnswer (scene tree loads t.0 t.1 t.2)) all
+      × ReportsInTurn (scene tree loads t.0 t.1 t.2) all m.cache last) w.2
+      (right loads (subst (λ (s : Settings). AreLoads tree s loads) (sym (ap (λ t. t.0) w.2)) are)) in
+      (both.0, m.cache, last, empty, both.1),
 )

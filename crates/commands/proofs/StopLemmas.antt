@@ -4,14 +4,13 @@ use Rattle.std.proofs.Common.{◌∙◌, subst, arith, take-append-drop}
 use Rattle.std.proofs.lemmas.List.{append-nil}
 use Rattle.std.specs.Prelude.{⊤}
 use Rattle.std.specs.Io.KnownBytes.{Appends}
-use Rattle.std.specs.Str.Lines.{lines}
 use Rattle.ignore_rules.specs.Rules.{Building}
 use Rattle.commands.specs.declared.stop.Stop.{Stop}
 use Rattle.commands.specs.declared.stop.Stop.TheVariants.{Usage, Memory, Write, Silence}
 use Rattle.commands.specs.Matching.{AddsAll}
 use Rattle.commands.specs.Words.{Question}
-use Rattle.commands.specs.Stops.{Ends, EndsAnswer, EndsLine, EndsLines, EndsReported, reason}
-use Rattle.commands.proofs.LineLemmas.{appends_nothing, appends_on}
+use Rattle.commands.specs.Stops.{Ends, EndsLine, EndsLines, EndsReported, reason}
+use Rattle.commands.proofs.LineLemmas.{appends_on}
 
 -- a list around one of its members
 around : {A : Type 0} (xs : List A) (n : ℕ) (x : A) → n < length xs → x ≡ get_or xs n x → xs ≡ take n xs ++ x ∷ drop (suc n) xs

@@ -4,7 +4,6 @@ use Rattle.std.proofs.lemmas.Cmp.{nat_list_cmp_total}
 use Rattle.std.proofs.lemmas.List.Elements.{All-contains, Contains-push}
 use Rattle.std.proofs.lemmas.List.MinMax.{ranks_by}
 use Rattle.std.specs.Cmp.Lexicographic.{slice_cmp}
-use Rattle.std.specs.List.{AllZip}
 use Rattle.std.specs.Ordering.{nat_cmp}
 use Rattle.ignore_base.specs.Problem.{memory}
 use Rattle.ignore_dir.specs.Load.{AreLoads, Loaded}
@@ -13,21 +12,14 @@ use Rattle.ignore_dir.specs.declared.outside.Outside.{Outside}
 use Rattle.ignore_dir.specs.declared.settings.Settings.{Settings}
 use Rattle.ignore_files.specs.Gives.{IsHonest}
 use Rattle.ignore_files.specs.Tree.{Tree}
-use Rattle.ignore_files.specs.declared.env.Env.{Env}
 use Rattle.ignore_files.specs.declared.files.Files.{Ghosts as Files}
 use Rattle.ignore_walk.specs.Entry.{Item}
-use Rattle.ignore_walk.specs.Nexts.{Remaining}
 use Rattle.ignore_walk.specs.Runs.{IsRun}
-use Rattle.ignore_walk.specs.Scene.{Scene}
 use Rattle.ignore_walk.specs.Suits.{Suits}
-use Rattle.ignore_walk.specs.Whole.{Whole}
 use Rattle.ignore_walk.specs.declared.callbacks.Callbacks.{Ghosts as Callbacks}
 use Rattle.ignore_walk.specs.declared.callbacks.Options.{Options}
 use Rattle.ignore_walk.specs.declared.callbacks.Order.TheVariants.{ByName}
-use Rattle.ignore_walk.specs.declared.walk.Walk.{Walk}
-use Rattle.ignore.specs.Asked.{IsOutside}
-use Rattle.ignore.specs.Builder.{unset}
-use Rattle.commands.specs.Walking.{AreListed, AreWithin, IsTrimmed, listing, most_steps}
+use Rattle.commands.specs.Walking.{AreWithin, listing, most_steps}
 
 -- a run that out of memory didn't end
 pub within : (all items : List Item) (left n : ℕ) → left ≡ most_steps → All (λ item. item ≢ Err memory) all → IsRun all items left n

@@ -14,7 +14,12 @@ use Rattle.ignore_dir.specs.declared.verdict.Verdict.{Verdict}
 use Rattle.ignore_dir.specs.declared.verdict.Verdict.TheVariants as v
 use Rattle.ignore_files.specs.Tree.{Tree}
 use Rattle.ignore_files.specs.declared.env.Env.{Env}
+use Rattle.ignore_query.specs.Fresh.{KeepsNothing}
+use Rattle.ignore_query.specs.InTurn.{Leaves, ReportInTurn}
+use Rattle.ignore_query.specs.InTurn.{Question as Asked}
+use Rattle.ignore_query.specs.Reports.{reported}
 use Rattle.ignore_query.specs.declared.incremental.IncrementalIgnore.{IncrementalIgnore}
+use Rattle.ignore_query.specs.declared.kept.Cache.{Cache}
 use Rattle.ignore.specs.Asked.{IsOutside}
 use Rattle.ignore.specs.Builder.{unset, with_root}
 use Rattle.ignore.specs.Matchers.{asked_by}
@@ -57,20 +62,35 @@ pub record Checks (paths : List Path) (all : List Checked) (status : ℕ) (out e
   pub reports : err (flat_map report_for all)
   pub ends : status ≡ (if list_any is_wrong all then 1 else 0)
 
--- what becomes of a path in the bare tree: it is asked as a directory where there is one at it, and
--- not a link to one
+-- the question about a path: as a directory where there is one at it, and not a link to one
+abbrev pub question_at : Scene → Path → Asked
+question_at g path = (path, is_dir_there (g.tree.stat (join_of g.root path) false))
+
+-- what becomes of a path in the bare tree
 abbrev pub answer_at : Scene → Path → IncrementalMatch
-answer_at g path = (query g path (is_dir_there (g.tree.stat (join_of g.root path) false))).0
+answer_at g path = (query g path (question_at g path).1).0
 
 -- an answer is that of the bare tree
 abbrev pub IsAnswer : Scene → Checked → Type 0
 IsAnswer g c = c.found ≡ answer_at g c.path
 
--- the answers are those of the bare tree, by the settings at first and the rules from outside
+-- a path is asked where `old` is kept, and `new` after it; its problem is that of what this loads
+abbrev pub IsReport : Scene → Cache → Cache → Path → Option Problem → Type 0
+IsReport g old new path problem =
+    Leaves g (question_at g path) old new × (problem ≡ reported g old path (question_at g path).1)
+
+-- the problems are those of what each path in turn loads, by what the paths before it left kept
+abbrev pub ReportsInTurn : Scene → List Checked → Cache → Cache → Type 0
+ReportsInTurn g all old new =
+    ReportInTurn g (map (λ c. question_at g c.path) all) (map (λ c. c.problem) all) old new
+
+-- the answers are those of the bare tree, by the settings at first and the rules from outside, and
+-- the problems those of what each path in turn loads, where nothing is kept at first
 abbrev pub AreAnswers : Tree → Env → Path → List Checked → Type 0
 AreAnswers tree env root all =
     (o : Outside) × IsOutside tree env (with_root unset root) o
-    × ((loads : Path → Loaded) → AreLoads tree standard loads → All (IsAnswer (scene tree loads standard o root)) all)
+    × ((loads : Path → Loaded) → AreLoads tree standard loads → let g = scene tree loads standard o root in
+    All (IsAnswer g) all × (old new : Cache) × KeepsNothing old × ReportsInTurn g all old new)
 
 -- a matcher of the paths below a root, by the same settings and rules, in the working directory
 abbrev pub IsMatcher : Tree → Env → Path → IncrementalIgnore → Type 0

@@ -3,15 +3,17 @@ ghost use Rattle.std.specs.Prelude.{◌≡◌, ◌≤◌, ◌⊎◌, ℕ, All, L
 ghost use Rattle.std.specs.Io.KnownBytes.{Appends};
 ghost use Rattle.ignore_base.specs.Paths.{join_of};
 ghost use Rattle.ignore_base.specs.Problem.{problem_of};
-ghost use Rattle.ignore_dir.specs.Load.{AreLoads, Loaded};
+ghost use Rattle.ignore_dir.specs.Load.{Loaded};
 ghost use Rattle.ignore_dir.specs.Query.{is_dir_there};
 ghost use Rattle.ignore_files.specs.Gives.{IsHonest};
 ghost use Rattle.ignore_files.specs.Tree.{Tree};
 ghost use Rattle.ignore_query.specs.Agrees.{Agrees};
+ghost use Rattle.ignore_query.specs.Fresh.{KeepsNothing};
 ghost use Rattle.ignore_query.specs.Reached.{InEachScene, scene_of};
-ghost use Rattle.commands.specs.Checking.{AreAnswers, Checked, Checks, IsAnswer, IsMatcher, answer_at, check_line};
-ghost use Rattle.commands.specs.Checking.{is_wrong, line_for, report_for};
+ghost use Rattle.commands.specs.Checking.{AreAnswers, Checked, Checks, IsAnswer, IsMatcher, IsReport, ReportsInTurn};
+ghost use Rattle.commands.specs.Checking.{answer_at, check_line, is_wrong, line_for, report_for};
 ghost use Rattle.commands.specs.Listing.{is_known, report_of};
+ghost use Rattle.commands.specs.Stops.{ReportsEnd};
 
 use crate::listing::report;
 use crate::stop::{Stop, report_stop};
@@ -38,7 +40,8 @@ pub fn check<F: Files, W: Write, E: Write>(
 ) -> Result<u8, Stop>
     ensures checks { IfOk result (λ status. ((all : List Checked) × Checks (map string_bytes paths.now) all status
         (Appends (W.contents out.old) (W.contents out.new)) (Appends (E.contents err.old) (E.contents err.new))
-        × ((tree : Tree) → IsHonest F.Files files.now tree → AreAnswers tree env.now root.now all)) ⊎ (status ≡ 2)) }
+        × ((tree : Tree) → IsHonest F.Files files.now tree → AreAnswers tree env.now root.now all))
+        ⊎ ((status ≡ 2) × ReportsEnd (E.contents err.new))) }
     ensures status { IfOk result (λ status. status ≤ 2) }
 {
     match ask_and_write(alloc, files, env, root, paths, out, err) {
@@ -77,6 +80,7 @@ fn matcher_below<F: Files>(
 ) -> Result<IncrementalIgnore, Error>
     ensures asked { (tree : Tree) → IsHonest F.Files files.now tree → IfOk result (λ m. IsMatcher tree env.now root.now m) }
     ensures fresh { (tree : Tree) (loads : List ℕ → Loaded) → IfOk result (λ m. Agrees (scene_of m.asked tree loads) m.cache) }
+    ensures empty { IfOk result (λ m. KeepsNothing m.cache) }
 {
     let builder = WalkBuilder::new(alloc, root)?;
     let mut matchers = builder.build_matchers(files, env)?;
@@ -97,8 +101,8 @@ fn check_paths<F: Files, W: Write, E: Write>(
 ) -> Result<bool, Stop>
     ensures checks { IfOk result (λ any. (all : List Checked) × Checks (map string_bytes paths.now) all (if any then 1 else 0)
         (Appends (W.contents out.old) (W.contents out.new)) (Appends (E.contents err.old) (E.contents err.new))
-        × ((tree : Tree) (loads : List ℕ → Loaded) → IsHonest F.Files files.now tree → AreLoads tree matcher.old.asked.settings loads
-        → let g = scene_of matcher.old.asked tree loads in Agrees g matcher.old.cache → All (IsAnswer g) all)) }
+        × InEachScene F.Files files.now matcher.old.asked (λ g. Agrees g matcher.old.cache
+        → All (IsAnswer g) all × ReportsInTurn g all matcher.old.cache matcher.new.cache)) }
 {
     let mut any = false;
     for path in paths {
@@ -119,8 +123,8 @@ fn check_path<F: Files, W: Write, E: Write>(
     ensures checks { IfOk result (λ any. (c : Checked) × (c.path ≡ path.now)
         × Appends (W.contents out.old) (W.contents out.new) (line_for c)
         × Appends (E.contents err.old) (E.contents err.new) (report_for c) × (any ≡ is_wrong c)
-        × ((tree : Tree) (loads : List ℕ → Loaded) → IsHonest F.Files files.now tree → AreLoads tree matcher.old.asked.settings loads
-        → let g = scene_of matcher.old.asked tree loads in Agrees g matcher.old.cache → IsAnswer g c)) }
+        × InEachScene F.Files files.now matcher.old.asked (λ g. Agrees g matcher.old.cache
+        → IsAnswer g c × IsReport g matcher.old.cache matcher.new.cache c.path c.problem)) }
     ensures agrees { InEachScene F.Files files.now matcher.old.asked (λ g. Agrees g matcher.old.cache → Agrees g matcher.new.cache) }
     ensures same { matcher.new.asked ≡ matcher.old.asked }
 {
@@ -138,6 +142,8 @@ fn ask<F: Files>(
 ) -> Result<(IncrementalMatch, Option<Error>), Stop>
     ensures value { InEachScene F.Files files.now matcher.old.asked (λ g. Agrees g matcher.old.cache
         → IfOk result (λ r. r.0 ≡ answer_at g path.now)) }
+    ensures reports { InEachScene F.Files files.now matcher.old.asked (λ g. Agrees g matcher.old.cache
+        → IfOk result (λ r. IsReport g matcher.old.cache matcher.new.cache path.now (option_map problem_of r.1))) }
     ensures agrees { InEachScene F.Files files.now matcher.old.asked (λ g. Agrees g matcher.old.cache → Agrees g matcher.new.cache) }
     ensures same { matcher.new.asked ≡ matcher.old.asked }
 {

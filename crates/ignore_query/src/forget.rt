@@ -59,6 +59,8 @@ impl IncrementalIgnore {
         ensures agrees { (before after : Tree) (loads later : List ℕ → Loaded) → let g = scene_of self.old.asked before loads in
             let h = scene_of self.old.asked after later in
             Agrees g self.old.cache → IsSameKept g h self.new.cache → Agrees h self.new.cache }
+        ensures above { (self.new.cache.has_above ≡ self.old.cache.has_above) × ((self.new.cache.above ≡ self.old.cache.above)
+            × (self.new.cache.base ≡ self.old.cache.base)) }
         ensures same { self.new.asked ≡ self.old.asked }
     {
         if !is_asked(self.root(), dir) {

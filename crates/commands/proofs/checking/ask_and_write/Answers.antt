@@ -8,7 +8,8 @@ returns g c = record {
       (λ any h. (
         h.0,
         h.1,
-        λ tree honest. answers_of tree c.args.env.now c.args.root.now c.in-Ok.matcher h.0 (c.in-Ok.ensures.asked tree honest)
+        λ tree honest. answers_of tree c.args.env.now c.args.root.now c.in-Ok.matcher c.check_paths.new.matcher.cache h.0
+            (c.in-Ok.ensures.asked tree honest) c.in-Ok.ensures.empty
             (λ loads are. h.2 tree loads honest are (c.in-Ok.ensures.fresh tree loads)),
       ))
       c.check_paths.ensures.checks;

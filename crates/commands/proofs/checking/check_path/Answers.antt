@@ -17,6 +17,9 @@ returns-clause-checks g c =
       c.in_ok-write_found.ensures,
       h.1,
       h.0,
-      λ tree loads honest are agrees. c.in_ok-found.ensures.value tree loads honest are agrees,
+      λ tree loads honest are agrees. (
+        c.in_ok-found.ensures.value tree loads honest are agrees,
+        c.in_ok-found.ensures.reports tree loads honest are agrees,
+      ),
     ))
     c.report_some.ensures

@@ -1,4 +1,4 @@
-use Rattle.std.proofs.Common.{◌≡◌, ◌∙◌, ℕ, ◌||◌, ◌∷◌, ◌++◌, [], All, List, ap, cond, map, refl, string_bytes, subst, sym}
+use Rattle.std.proofs.Common.{◌≡◌, ◌∙◌, ℕ, ◌||◌, ◌∷◌, ◌++◌, [], List, ap, cond, map, refl, string_bytes, subst, sym}
 use Rattle.std.proofs.lemmas.List.{take_all}
 use Rattle.std.proofs.lemmas.List.Elements.{All-nil, All-push}
 use Rattle.std.specs.Io.KnownBytes.{Appends}
@@ -8,8 +8,8 @@ use Rattle.ignore_files.specs.Tree.{Tree}
 use Rattle.ignore_query.specs.Agrees.{Agrees}
 use Rattle.ignore_query.specs.Reached.{scene_of}
 use Rattle.ignore_query.specs.declared.asked.Asked.{Asked}
-use Rattle.commands.specs.Checking.{Checked, Checks, IsAnswer}
-use Rattle.commands.proofs.CheckLemmas.{checks_more, checks_none, map-take-push}
+use Rattle.commands.specs.Checking.{Checked, Checks, IsAnswer, IsReport}
+use Rattle.commands.proofs.CheckLemmas.{checks_more, checks_none, map-take-push, reports_more}
 use Rattle.commands.proofs.checking.check_paths.Goals as goal
 
 pub loop-path-init : goal.loop-path-init
@@ -17,7 +17,7 @@ loop-path-init g c = record {
   checks = (
     [],
     checks_none (g.W.Write.contents c.args.out.now) (g.E.Write.contents c.args.err.now),
-    λ tree loads honest are agrees. All-nil (IsAnswer (scene_of c.args.matcher.now.asked tree loads)),
+    λ tree loads honest are agrees. (All-nil (IsAnswer (scene_of c.args.matcher.now.asked tree loads)), (refl, refl)),
   );
   agrees = λ tree loads honest are agrees. agrees;
   same = refl;
@@ -35,7 +35,8 @@ loop-path-preserved g c =
     let named : one.path ≡ path = h.1 ∙ c.as_str.ensures.value in
     let right = subst
     (λ (a : Asked). (tree : Tree) (loads : List ℕ → Loaded) → IsHonest g.F.Files c.args.files.now tree → AreLoads tree a.settings loads
-    → Agrees (scene_of a tree loads) l.matcher.cache → IsAnswer (scene_of a tree loads) one) l.invariant.same h.5 in
+    → Agrees (scene_of a tree loads) l.matcher.cache → IsAnswer (scene_of a tree loads) one
+    × IsReport (scene_of a tree loads) l.matcher.cache c.check_path.new.matcher.cache one.path one.problem) l.invariant.same h.5 in
     let keeps = subst
     (λ (a : Asked). (tree : Tree) (loads : List ℕ → Loaded) → IsHonest g.F.Files c.args.files.now tree → AreLoads tree a.settings loads
     → Agrees (scene_of a tree loads) l.matcher.cache → Agrees (scene_of a tree loads) c.check_path.new.matcher.cache) l.invariant.same
@@ -48,8 +49,13 @@ loop-path-preserved g c =
             (Appends (g.E.Write.contents c.args.err.now) (g.E.Write.contents c.check_path.new.err)))
             (sym (map-take-push string_bytes c.args.paths.now l.path-index c.path-item.result c.loop-path-test.true c.path-item.is))
             (checks_more _ path so.0 one l.any c.in_ok-any.field-0 _ _ _ _ _ _ so.1 named h.2 h.3 h.4),
-        λ tree loads honest are agrees. All-push (IsAnswer (scene_of asked tree loads)) so.0 one (so.2 tree loads honest are agrees)
-            (right tree loads honest are (l.invariant.agrees tree loads honest are agrees)),
+        λ tree loads honest are agrees.
+            let g = scene_of asked tree loads in
+            let before = so.2 tree loads honest are agrees in
+            let next = right tree loads honest are (l.invariant.agrees tree loads honest are agrees) in (
+              All-push (IsAnswer g) so.0 one before.0 next.0,
+              reports_more g so.0 one c.args.matcher.now.cache l.matcher.cache c.check_path.new.matcher.cache before.1 next.1,
+            ),
       );
       agrees = λ tree loads honest are agrees. keeps tree loads honest are (l.invariant.agrees tree loads honest are agrees);
       same = c.in_ok-any.ensures.same ∙ l.invariant.same;

@@ -1,9 +1,12 @@
-use Rattle.std.proofs.Common.{◌≡◌, ◌∙◌, Some, inr, sym, ap, subst}
+use Rattle.std.proofs.Common.{◌≡◌, ◌∙◌, ◌⊎◌, ℕ, IfOk, List, Some, ap, inr, map, string_bytes, subst, sym}
 use Rattle.std.proofs.lemmas.Result.{IfOk-weaker, IfErr-weaker}
 use Rattle.std.specs.Prelude.{⊤, option_map}
 use Rattle.std.specs.Io.KnownBytes.{Appends}
 use Rattle.commands.specs.Words.{Question, request_view}
-use Rattle.commands.specs.Stops.{Ends, EndsReported}
+use Rattle.ignore_files.specs.Gives.{IsHonest}
+use Rattle.ignore_files.specs.Tree.{Tree}
+use Rattle.commands.specs.Checking.{AreAnswers, Checked, Checks}
+use Rattle.commands.specs.Stops.{Ends, EndsReported, ReportsEnd}
 use Rattle.commands.proofs.StopLemmas.{ends_anyhow, ends_reported}
 use Rattle.commands.proofs.run.run.Goals as goal
 
@@ -36,3 +39,15 @@ returns-in-Err-clause-unreported g c = λ question is.
     (subst (λ (q : Question). Ends q out (λ reported. ⊤) c.in-Err.stop) same
     (ends_anyhow (request_view c.in-Some.request) out reported c.in-Err.stop c.in-Err.ensures.ended)))
     c.report_stop-in-Err.ensures.unreported
+
+-- the paths that are asked about are those of the words
+pub returns-in-Some-read_paths-clause-checks : goal.returns-in-Some-read_paths-clause-checks
+returns-in-Some-read_paths-clause-checks g c = λ asked listed root paths is.
+    let found : Some (c.in-Some-read_paths.root.now, map string_bytes c.in-Some-read_paths.paths.now) ≡ Some (root, paths)
+    = sym (ap (option_map (λ r. (r.0.now, map string_bytes r.1.now))) c.in-Some-read_paths.is) ∙ c.read_paths.ensures ∙ is in
+    let same : (c.in-Some-read_paths.root.now, map string_bytes c.in-Some-read_paths.paths.now) ≡ (root, paths) = cc in
+    subst (λ (q : List ℕ × List (List ℕ)). IfOk c.check.result (λ status.
+    ((all : List Checked) × Checks q.1 all status (Appends (g.W.Write.contents c.args.out.now) (g.W.Write.contents c.check.new.out))
+    (Appends (g.E.Write.contents c.args.err.now) (g.E.Write.contents c.check.new.err))
+    × ((tree : Tree) → IsHonest g.F.Files c.args.files.now tree → AreAnswers tree c.args.env.now q.0 all))
+    ⊎ ((status ≡ 2) × ReportsEnd (g.E.Write.contents c.check.new.err)))) same c.check.ensures.checks
