@@ -7,3 +7,4 @@ pub mod OtherLemmas
 pub mod AddLemmas
 mod BucketLemmas
 mod WorkedForms
+mod SetsOnly
