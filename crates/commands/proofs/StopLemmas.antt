@@ -9,7 +9,7 @@ use Rattle.commands.specs.declared.stop.Stop.{Stop}
 use Rattle.commands.specs.declared.stop.Stop.TheVariants.{Usage, Memory, Write, Silence}
 use Rattle.commands.specs.Matching.{AddsAll}
 use Rattle.commands.specs.Words.{Question}
-use Rattle.commands.specs.Stops.{Ends, EndsLine, EndsLines, EndsReported, reason}
+use Rattle.commands.specs.Stops.{Ends, EndsLine, EndsLines, EndsEarly, EndsReported, EndsWithReason, reason}
 use Rattle.commands.proofs.LineLemmas.{appends_on}
 
 -- a list around one of its members
@@ -59,6 +59,18 @@ ends_reported question out before middle after Memory h reported more =
 ends_reported question out before middle after Write h reported more =
     let so = h.1 in (Write, reported, h.0, (so.0, so.1, so.2, appends_on before middle after so.1 (reason Write) so.3 more))
 ends_reported question out before middle after Silence h reported more = absurd (reported refl)
+
+-- the reason is the last report
+pub ends_with_reason : (before middle after : Option (List ℕ)) (stop : Stop) → EndsEarly (Appends before middle) stop
+    → stop ≢ Silence → Appends middle after (reason stop) → EndsWithReason (Appends before after)
+ends_with_reason before middle after stop h reported more =
+    let so = h.1 reported in (stop, h.0, reported, so.0, appends_on before middle after so.0 (reason stop) so.1 more)
+
+-- nothing more was reported
+pub ends_early : (before middle after : Option (List ℕ)) (bs : List ℕ) (stop : Stop) → Appends before middle bs
+    → (stop ≢ Usage) × (stop ≢ Silence → Appends middle after []) → EndsEarly (Appends before after) stop
+ends_early before middle after bs stop so h =
+    (h.0, λ reported. (bs, subst (Appends before after) (append-nil bs) (appends_on before middle after bs [] so (h.1 reported))))
 
 -- less about what was reported
 pub ends_anyhow : (question : Question) (out err : List ℕ → Type 0) (stop : Stop) → Ends question out err stop

@@ -87,6 +87,14 @@ ReportedOf question err Silence = HasRefused question.root (lines question.rules
 abbrev pub Ends : Question → (Bytes → Type 0) → (Bytes → Type 0) → Stop → Type 0
 Ends question out err stop = Wrote out stop × ReportedOf question err stop
 
+-- a list or a check ended early, after these errors were reported, unless none can be
+abbrev pub EndsEarly : (Bytes → Type 0) → Stop → Type 0
+EndsEarly err stop = (stop ≢ Usage) × (stop ≢ Silence → (reported : Bytes) × err reported)
+
+-- a list or a check ended early, out of memory or by a failed write, which is the last report
+abbrev pub EndsWithReason : (Bytes → Type 0) → Type 0
+EndsWithReason err = (stop : Stop) × (stop ≢ Usage) × (stop ≢ Silence) × (reported : Bytes) × err (reported ++ reason stop)
+
 -- the run of a question ended early, and the reason was reported after the rejected lines
 abbrev pub EndsReported : Question → (Bytes → Type 0) → (Bytes → Type 0) → Type 0
 EndsReported question out err =

@@ -1,5 +1,5 @@
 //! The command `check`: what becomes of paths below a root, each on a line.
-ghost use Rattle.std.specs.Prelude.{◌≡◌, ◌≤◌, ◌⊎◌, ℕ, All, List, false, OnOk, IfOk, map, option_map, string_bytes, if◌then◌else◌};
+ghost use Rattle.std.specs.Prelude.{◌≡◌, ◌≢◌, ◌≤◌, ◌⊎◌, ℕ, All, List, [], false, OnOk, IfOk, IfErr, map, option_map, string_bytes, if◌then◌else◌};
 ghost use Rattle.std.specs.Io.KnownBytes.{Appends};
 ghost use Rattle.ignore_base.specs.Paths.{join_of};
 ghost use Rattle.ignore_base.specs.Problem.{problem_of};
@@ -13,6 +13,7 @@ ghost use Rattle.ignore_query.specs.Reached.{InEachScene, scene_of};
 ghost use Rattle.commands.specs.Checking.{AreAnswers, Checked, Checks, IsAnswer, IsMatcher, IsReport, ReportsInTurn};
 ghost use Rattle.commands.specs.Checking.{answer_at, check_line, is_wrong, line_for, report_for};
 ghost use Rattle.commands.specs.Listing.{is_known, report_of};
+ghost use Rattle.commands.specs.Stops.{EndsEarly, EndsWithReason};
 
 use crate::listing::report;
 use crate::stop::{Stop, report_stop};
@@ -39,7 +40,9 @@ pub fn check<F: Files, W: Write, E: Write>(
 ) -> Result<u8, Stop>
     ensures checks { IfOk result (λ status. ((all : List Checked) × Checks (map string_bytes paths.now) all status
         (Appends (W.contents out.old) (W.contents out.new)) (Appends (E.contents err.old) (E.contents err.new))
-        × ((tree : Tree) → IsHonest F.Files files.now tree → AreAnswers tree env.now root.now all)) ⊎ (status ≡ 2)) }
+        × ((tree : Tree) → IsHonest F.Files files.now tree → AreAnswers tree env.now root.now all))
+        ⊎ ((status ≡ 2) × EndsWithReason (Appends (E.contents err.old) (E.contents err.new)))) }
+    ensures unreported { IfErr result (λ stop. stop ≢ Stop.Usage) }
     ensures status { IfOk result (λ status. status ≤ 2) }
 {
     match ask_and_write(alloc, files, env, root, paths, out, err) {
@@ -62,6 +65,7 @@ fn ask_and_write<F: Files, W: Write, E: Write>(
     ensures checks { IfOk result (λ any. (all : List Checked) × Checks (map string_bytes paths.now) all (if any then 1 else 0)
         (Appends (W.contents out.old) (W.contents out.new)) (Appends (E.contents err.old) (E.contents err.new))
         × ((tree : Tree) → IsHonest F.Files files.now tree → AreAnswers tree env.now root.now all)) }
+    ensures ended { IfErr result (EndsEarly (Appends (E.contents err.old) (E.contents err.new))) }
 {
     let Ok(mut matcher) = matcher_below(alloc, files, env, root) else {
         return Err(Stop::Memory);
@@ -101,6 +105,7 @@ fn check_paths<F: Files, W: Write, E: Write>(
         (Appends (W.contents out.old) (W.contents out.new)) (Appends (E.contents err.old) (E.contents err.new))
         × InEachScene F.Files files.now matcher.old.asked (λ g. Agrees g matcher.old.cache
         → All (IsAnswer g) all × ReportsInTurn g all matcher.old.cache matcher.new.cache)) }
+    ensures ended { IfErr result (EndsEarly (Appends (E.contents err.old) (E.contents err.new))) }
 {
     let mut any = false;
     for path in paths {
@@ -123,6 +128,7 @@ fn check_path<F: Files, W: Write, E: Write>(
         × Appends (E.contents err.old) (E.contents err.new) (report_for c) × (any ≡ is_wrong c)
         × InEachScene F.Files files.now matcher.old.asked (λ g. Agrees g matcher.old.cache
         → IsAnswer g c × IsReport g matcher.old.cache matcher.new.cache c.path c.problem)) }
+    ensures ended { IfErr result (λ stop. (stop ≢ Stop.Usage) × (stop ≢ Stop.Silence → Appends (E.contents err.old) (E.contents err.new) [])) }
     ensures agrees { InEachScene F.Files files.now matcher.old.asked (λ g. Agrees g matcher.old.cache → Agrees g matcher.new.cache) }
     ensures same { matcher.new.asked ≡ matcher.old.asked }
 {
@@ -142,6 +148,7 @@ fn ask<F: Files>(
         → IfOk result (λ r. r.0 ≡ answer_at g path.now)) }
     ensures reports { InEachScene F.Files files.now matcher.old.asked (λ g. Agrees g matcher.old.cache
         → IfOk result (λ r. IsReport g matcher.old.cache matcher.new.cache path.now (option_map problem_of r.1))) }
+    ensures ended { IfErr result (λ stop. stop ≡ Stop.Memory) }
     ensures agrees { InEachScene F.Files files.now matcher.old.asked (λ g. Agrees g matcher.old.cache → Agrees g matcher.new.cache) }
     ensures same { matcher.new.asked ≡ matcher.old.asked }
 {
@@ -156,6 +163,7 @@ fn ask<F: Files>(
 fn is_dir_at<F: Files>(alloc: Global, files: &F, root: &str, path: &str) -> Result<bool, Stop>
     ensures value { (tree : Tree) → IsHonest F.Files files.now tree
         → IfOk result (λ yes. yes ≡ is_dir_there (tree.stat (join_of root.now path.now) false)) }
+    ensures ended { IfErr result (λ stop. stop ≡ Stop.Memory) }
 {
     let Ok(joined) = text::join(alloc, root, path) else {
         return Err(Stop::Memory);
@@ -169,7 +177,8 @@ fn is_dir_at<F: Files>(alloc: Global, files: &F, root: &str, path: &str) -> Resu
 
 /// Writes the word of an answer and its path, on a line.
 fn write_found<W: Write>(found: IncrementalMatch, path: &str, out: &mut W) -> Result<(), Stop>
-    ensures { OnOk result (Appends (W.contents out.old) (W.contents out.new) (check_line found path.now)) }
+    ensures writes { OnOk result (Appends (W.contents out.old) (W.contents out.new) (check_line found path.now)) }
+    ensures ended { IfErr result (λ stop. stop ≡ Stop.Write) }
 {
     let word = if found.is_ignore() {
         "ignore"
@@ -186,8 +195,9 @@ fn write_found<W: Write>(found: IncrementalMatch, path: &str, out: &mut W) -> Re
 
 /// Reports an error, if there is one. It returns whether there is.
 fn report_some<E: Write>(error: Option<Error>, err: &mut E) -> Result<bool, Stop>
-    ensures { IfOk result (λ any. (any ≡ is_known (option_map problem_of error))
+    ensures reports { IfOk result (λ any. (any ≡ is_known (option_map problem_of error))
         × Appends (E.contents err.old) (E.contents err.new) (report_of (option_map problem_of error))) }
+    ensures ended { IfErr result (λ stop. stop ≡ Stop.Silence) }
 {
     match error {
         None => Ok(false),

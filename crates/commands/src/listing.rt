@@ -1,5 +1,5 @@
 //! The command `list`: the entries of a walk, each on a line.
-ghost use Rattle.std.specs.Prelude.{◌≡◌, ◌≢◌, ◌≤◌, ◌⊎◌, List, Result, Ok, Err, true, map, OnOk, IfOk, if◌then◌else◌, string_bytes};
+ghost use Rattle.std.specs.Prelude.{◌≡◌, ◌≢◌, ◌≤◌, ◌⊎◌, List, Result, Ok, Err, true, map, OnOk, IfOk, IfErr, if◌then◌else◌, string_bytes, []};
 ghost use Rattle.std.specs.Io.KnownBytes.{Appends};
 ghost use Rattle.std.specs.Iterator.{Drains, IsFinite};
 ghost use Rattle.std.specs.List.{AllZip};
@@ -10,6 +10,7 @@ ghost use Rattle.ignore_files.specs.Tree.{Tree};
 ghost use Rattle.ignore_walk.specs.Entry.{Item, item_of};
 ghost use Rattle.ignore_walk.specs.declared.entry.DirEntry.{DirEntry};
 ghost use Rattle.commands.specs.Listing.{Lists, path_line, report_line, lines_of, reports_of, is_reported};
+ghost use Rattle.commands.specs.Stops.{EndsEarly, EndsWithReason};
 ghost use Rattle.commands.specs.Walking.{AreListed, IsTrimmed};
 
 use crate::by_name::ByName;
@@ -46,7 +47,8 @@ pub fn list<F: Files, W: Write, E: Write>(
     ensures lists { IfOk result (λ status. ((items : List Item) × Lists items status
         (Appends (W.contents out.old) (W.contents out.new)) (Appends (E.contents err.old) (E.contents err.new))
         × ((tree : Tree) → IsHonest F.Files files.now tree → AreListed tree env.now (map string_bytes roots.now) items))
-        ⊎ (status ≡ 2)) }
+        ⊎ ((status ≡ 2) × EndsWithReason (Appends (E.contents err.old) (E.contents err.new)))) }
+    ensures unreported { IfErr result (λ stop. stop ≢ Stop.Usage) }
     ensures status { IfOk result (λ status. status ≤ 2) }
 {
     match walk_and_write(alloc, files, env, roots, out, err) {
@@ -68,6 +70,7 @@ fn walk_and_write<F: Files, W: Write, E: Write>(
     ensures lists { IfOk result (λ any. (items : List Item) × Lists items (if any then 1 else 0)
         (Appends (W.contents out.old) (W.contents out.new)) (Appends (E.contents err.old) (E.contents err.new))
         × ((tree : Tree) → IsHonest F.Files files.now tree → AreListed tree env.now (map string_bytes roots.now) items)) }
+    ensures ended { IfErr result (EndsEarly (Appends (E.contents err.old) (E.contents err.new))) }
 {
     let Ok(names) = trimmed_roots(alloc, roots) else {
         return Err(Stop::Memory);
@@ -113,6 +116,7 @@ fn write_items<I: Iterator<Item = Item>, W: Write, E: Write>(
     requires ends { I.can_next items × IsFinite (I.remaining items) }
     ensures lists { IfOk result (λ any. (all : List (Result DirEntry Error)) × Drains I.next_gives items all × Lists (map item_of all)
         (if any then 1 else 0) (Appends (W.contents out.old) (W.contents out.new)) (Appends (E.contents err.old) (E.contents err.new))) }
+    ensures ended { IfErr result (EndsEarly (Appends (E.contents err.old) (E.contents err.new))) }
 {
     let mut any = false;
     for item in items {
@@ -126,6 +130,7 @@ fn write_item<W: Write, E: Write>(item: Item, out: &mut W, err: &mut E) -> Resul
     ensures lists { IfOk result (λ any. Appends (W.contents out.old) (W.contents out.new) (lines_of (item_of item))
         × Appends (E.contents err.old) (E.contents err.new) (reports_of (item_of item)) × (any ≡ is_reported (item_of item))) }
     ensures enough { OnOk result (item_of item ≢ Err memory) }
+    ensures ended { IfErr result (λ stop. (stop ≢ Stop.Usage) × (stop ≢ Stop.Silence → Appends (E.contents err.old) (E.contents err.new) [])) }
 {
     match item {
         Ok(entry) => write_entry(&entry, out, err),
@@ -139,6 +144,7 @@ fn write_entry<W: Write, E: Write>(entry: &DirEntry, out: &mut W, err: &mut E) -
     ensures lists { IfOk result (λ any. Appends (W.contents out.old) (W.contents out.new) (lines_of (item_of (Ok entry.now)))
         × Appends (E.contents err.old) (E.contents err.new) (reports_of (item_of (Ok entry.now)))
         × (any ≡ is_reported (item_of (Ok entry.now)))) }
+    ensures ended { IfErr result (λ stop. (stop ≢ Stop.Usage) × (stop ≢ Stop.Silence → Appends (E.contents err.old) (E.contents err.new) [])) }
 {
     write_path(entry.path(), out)?;
     match entry.error() {
@@ -149,14 +155,16 @@ fn write_entry<W: Write, E: Write>(entry: &DirEntry, out: &mut W, err: &mut E) -
 
 /// Writes a path on a line.
 fn write_path<W: Write>(path: &str, out: &mut W) -> Result<(), Stop>
-    ensures { OnOk result (Appends (W.contents out.old) (W.contents out.new) (path_line path.now)) }
+    ensures writes { OnOk result (Appends (W.contents out.old) (W.contents out.new) (path_line path.now)) }
+    ensures ended { IfErr result (λ stop. stop ≡ Stop.Write) }
 {
     write_bytes(path.as_bytes(), out)?;
     write_bytes(b"\n", out)
 }
 
 fn write_bytes<W: Write>(bytes: &[u8], out: &mut W) -> Result<(), Stop>
-    ensures { OnOk result (Appends (W.contents out.old) (W.contents out.new) bytes.now) }
+    ensures writes { OnOk result (Appends (W.contents out.old) (W.contents out.new) bytes.now) }
+    ensures ended { IfErr result (λ stop. stop ≡ Stop.Write) }
 {
     match out.write_all(bytes) {
         Ok(()) => Ok(()),
@@ -166,7 +174,8 @@ fn write_bytes<W: Write>(bytes: &[u8], out: &mut W) -> Result<(), Stop>
 
 /// Reports an error. It returns that it did.
 pub fn report<E: Write>(error: &Error, err: &mut E) -> Result<bool, Stop>
-    ensures { IfOk result (λ any. (any ≡ true) × Appends (E.contents err.old) (E.contents err.new) (report_line (problem_of error.now))) }
+    ensures reports { IfOk result (λ any. (any ≡ true) × Appends (E.contents err.old) (E.contents err.new) (report_line (problem_of error.now))) }
+    ensures ended { IfErr result (λ stop. stop ≡ Stop.Silence) }
 {
     match writeln!(err, "igwalk: {error}") {
         Ok(()) => Ok(true),

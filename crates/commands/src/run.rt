@@ -14,7 +14,7 @@ ghost use Rattle.commands.specs.Listing.{Lists};
 ghost use Rattle.commands.specs.Checking.{AreAnswers, Checked, Checks};
 ghost use Rattle.commands.specs.Walking.{AreListed};
 ghost use Rattle.commands.specs.Words.{Question, question_of, request_view, roots_of, paths_of};
-ghost use Rattle.commands.specs.Stops.{Ends, EndsAnswer, EndsLine, EndsLines, EndsReported, line_stop, reason};
+ghost use Rattle.commands.specs.Stops.{Ends, EndsAnswer, EndsLine, EndsLines, EndsReported, EndsWithReason, line_stop, reason};
 ghost use Rattle.commands.specs.Matching.{AddsAll, AddsOne, Prints, answer_line, answer_of, refusal};
 
 use crate::checking::check;
@@ -170,12 +170,14 @@ pub fn run<F: Files, W: Write, E: Write>(
         → (roots : List Path) → roots_of (map string_bytes words.now) ≡ Some roots
         → IfOk result (λ status. ((items : List Item) × Lists items status
         (Appends (W.contents out.old) (W.contents out.new)) (Appends (E.contents err.old) (E.contents err.new))
-        × ((tree : Tree) → IsHonest F.Files files.now tree → AreListed tree env.now roots items)) ⊎ (status ≡ 2)) }
+        × ((tree : Tree) → IsHonest F.Files files.now tree → AreListed tree env.now roots items))
+        ⊎ ((status ≡ 2) × EndsWithReason (Appends (E.contents err.old) (E.contents err.new)))) }
     ensures checks { question_of (map string_bytes words.now) ≡ None → roots_of (map string_bytes words.now) ≡ None
         → (root : Path) (paths : List Path) → paths_of (map string_bytes words.now) ≡ Some (root, paths)
         → IfOk result (λ status. ((all : List Checked) × Checks paths all status
         (Appends (W.contents out.old) (W.contents out.new)) (Appends (E.contents err.old) (E.contents err.new))
-        × ((tree : Tree) → IsHonest F.Files files.now tree → AreAnswers tree env.now root all)) ⊎ (status ≡ 2)) }
+        × ((tree : Tree) → IsHonest F.Files files.now tree → AreAnswers tree env.now root all))
+        ⊎ ((status ≡ 2) × EndsWithReason (Appends (E.contents err.old) (E.contents err.new)))) }
     ensures status { IfOk result (λ status. status ≤ 2) }
 {
     let Some(request) = read_words(words) else {

@@ -2,15 +2,14 @@ use Rattle.std.proofs.lemmas.Result.{IfOk-weaker}
 use Rattle.commands.proofs.CheckLemmas.{answers_of}
 use Rattle.commands.proofs.checking.ask_and_write.Goals as goal
 
-pub returns : goal.returns
-returns g c = record {
-  checks = IfOk-weaker c.check_paths.result _ _
-      (λ any h. (
-        h.0,
-        h.1,
-        λ tree honest. answers_of tree c.args.env.now c.args.root.now c.in-Ok.matcher c.check_paths.new.matcher.cache h.0
-            (c.in-Ok.ensures.asked tree honest) c.in-Ok.ensures.empty
-            (λ loads are. h.2 tree loads honest are (c.in-Ok.ensures.fresh tree loads)),
-      ))
-      c.check_paths.ensures.checks;
-}
+pub returns-clause-checks : goal.returns-clause-checks
+returns-clause-checks g c =
+    IfOk-weaker c.check_paths.result _ _
+    (λ any h. (
+      h.0,
+      h.1,
+      λ tree honest. answers_of tree c.args.env.now c.args.root.now c.in-Ok.matcher c.check_paths.new.matcher.cache h.0
+          (c.in-Ok.ensures.asked tree honest) c.in-Ok.ensures.empty
+          (λ loads are. h.2 tree loads honest are (c.in-Ok.ensures.fresh tree loads)),
+    ))
+    c.check_paths.ensures.checks

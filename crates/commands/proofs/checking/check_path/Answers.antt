@@ -14,7 +14,7 @@ returns-clause-checks g c =
     (λ any h. (
       one,
       refl,
-      c.in_ok-write_found.ensures,
+      c.in_ok-write_found.ensures.writes,
       h.1,
       h.0,
       λ tree loads honest are agrees. (
@@ -22,4 +22,4 @@ returns-clause-checks g c =
         c.in_ok-found.ensures.reports tree loads honest are agrees,
       ),
     ))
-    c.report_some.ensures
+    c.report_some.ensures.reports

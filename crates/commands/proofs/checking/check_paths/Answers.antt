@@ -61,16 +61,13 @@ loop-path-preserved g c =
       same = c.in_ok-any.ensures.same ∙ l.invariant.same;
     }
 
-pub returns : goal.returns
-returns g c =
-    let so = c.loop-path.invariant.checks in
-    record {
-      checks = (
-        so.0,
-        subst (λ (ps : List (List ℕ)). Checks ps so.0 (cond c.loop-path.any 1 0)
-            (Appends (g.W.Write.contents c.args.out.now) (g.W.Write.contents c.loop-path.out))
-            (Appends (g.E.Write.contents c.args.err.now) (g.E.Write.contents c.loop-path.err)))
-            (ap (map string_bytes) (take_all c.loop-path.path-index c.args.paths.now c.loop-path-test.false)) so.1,
-        so.2,
-      );
-    }
+pub returns-clause-checks : goal.returns-clause-checks
+returns-clause-checks g c =
+    let so = c.loop-path.invariant.checks in (
+      so.0,
+      subst (λ (ps : List (List ℕ)). Checks ps so.0 (cond c.loop-path.any 1 0)
+          (Appends (g.W.Write.contents c.args.out.now) (g.W.Write.contents c.loop-path.out))
+          (Appends (g.E.Write.contents c.args.err.now) (g.E.Write.contents c.loop-path.err)))
+          (ap (map string_bytes) (take_all c.loop-path.path-index c.args.paths.now c.loop-path-test.false)) so.1,
+      so.2,
+    )

@@ -7,25 +7,24 @@ use Rattle.commands.specs.Walking.{listing}
 use Rattle.commands.proofs.WalkLemmas.{suits_listing, within}
 use Rattle.commands.proofs.listing.walk_and_write.Goals as goal
 
-pub returns : goal.returns
-returns g c = record {
-  lists = IfOk-weaker c.write_items.result _ _
-      (λ any h. (
-        map item_of h.0,
-        h.2,
-        λ tree honest. (
-          c.in-Ok.names.items,
-          c.in-Ok.ensures,
-          c.in-Ok-outside.outside,
-          subst (λ (b : WalkOptions). IsOutside tree c.args.env.now b c.in-Ok-outside.outside) c.empty.ensures.options
-              (c.in-Ok-outside.ensures.read tree honest),
-          λ loads items n are whole.
-              let scene = listing tree loads c.in-Ok-outside.outside in
-              let suits = suits_listing g.F.Files _ c.args.files.now _ _ tree loads c.standard-settings.result c.in-Ok-outside.outside honest are
-              c.standard-settings.ensures refl refl (λ e. refl) (λ a b. refl) in
-              within (map item_of h.0) items c.new-walk.result.left n c.new-walk.ensures.limit h.2.enough
-              (c.a_run_yields_the_list.ensures scene c.new-walk.result h.0 items n h.1 (c.new-walk.ensures.whole scene items n suits whole)),
-        ),
-      ))
-      c.write_items.ensures.lists;
-}
+pub returns-clause-lists : goal.returns-clause-lists
+returns-clause-lists g c =
+    IfOk-weaker c.write_items.result _ _
+    (λ any h. (
+      map item_of h.0,
+      h.2,
+      λ tree honest. (
+        c.in-Ok.names.items,
+        c.in-Ok.ensures,
+        c.in-Ok-outside.outside,
+        subst (λ (b : WalkOptions). IsOutside tree c.args.env.now b c.in-Ok-outside.outside) c.empty.ensures.options
+            (c.in-Ok-outside.ensures.read tree honest),
+        λ loads items n are whole.
+            let scene = listing tree loads c.in-Ok-outside.outside in
+            let suits = suits_listing g.F.Files _ c.args.files.now _ _ tree loads c.standard-settings.result c.in-Ok-outside.outside honest are
+            c.standard-settings.ensures refl refl (λ e. refl) (λ a b. refl) in
+            within (map item_of h.0) items c.new-walk.result.left n c.new-walk.ensures.limit h.2.enough
+            (c.a_run_yields_the_list.ensures scene c.new-walk.result h.0 items n h.1 (c.new-walk.ensures.whole scene items n suits whole)),
+      ),
+    ))
+    c.write_items.ensures.lists

@@ -6,7 +6,7 @@ use Rattle.commands.specs.Words.{Question, request_view}
 use Rattle.ignore_files.specs.Gives.{IsHonest}
 use Rattle.ignore_files.specs.Tree.{Tree}
 use Rattle.commands.specs.Checking.{AreAnswers, Checked, Checks}
-use Rattle.commands.specs.Stops.{Ends, EndsReported}
+use Rattle.commands.specs.Stops.{Ends, EndsReported, EndsWithReason}
 use Rattle.commands.proofs.StopLemmas.{ends_anyhow, ends_reported}
 use Rattle.commands.proofs.run.run.Goals as goal
 
@@ -50,4 +50,4 @@ returns-in-Some-read_paths-clause-checks g c = λ asked listed root paths is.
     ((all : List Checked) × Checks q.1 all status (Appends (g.W.Write.contents c.args.out.now) (g.W.Write.contents c.check.new.out))
     (Appends (g.E.Write.contents c.args.err.now) (g.E.Write.contents c.check.new.err))
     × ((tree : Tree) → IsHonest g.F.Files c.args.files.now tree → AreAnswers tree c.args.env.now q.0 all))
-    ⊎ (status ≡ 2))) same c.check.ensures.checks
+    ⊎ ((status ≡ 2) × EndsWithReason (Appends (g.E.Write.contents c.args.err.now) (g.E.Write.contents c.check.new.err))))) same c.check.ensures.checks
