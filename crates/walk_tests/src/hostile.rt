@@ -1,5 +1,7 @@
 //! Walks over files that answer as no tree does, and over a tree of which one call is refused.
-use crate::walks::{Plain, items_of, options, tree_of};
+use crate::refusing::Refusing;
+use crate::trees::tree_of;
+use crate::walks::{Plain, items_of, options};
 use ignore_base::Fault;
 use ignore_dir::{Outside, Settings};
 use ignore_files::{
@@ -274,54 +276,6 @@ fn one_file_system_without_an_identity(rt: HostRuntime) -> anyhow::Result<()> {
     let text = walked(alloc, &with_bad_names(), Settings::standard(alloc), options)?;
     assert_eq!(rt; text.as_str(), "(/r: identity unknown) .");
     Ok(())
-}
-
-/// A tree in memory of which one call is refused, the next one where `turn` is 1.
-#[derive(Drop)]
-struct Refusing<'t> {
-    tree: &'t MemoryTree,
-    refusal: Refusal,
-    turn: Cell<u64>,
-}
-
-impl Refusing<'_> {
-    fn take_turn(&self) -> Result<(), Refusal> {
-        let turn = self.turn.get();
-        self.turn.set(turn.saturating_sub(1));
-        if turn == 1 { Err(self.refusal) } else { Ok(()) }
-    }
-}
-
-impl Files for Refusing<'_> {
-    fn stat(&self, alloc: Global, path: &str, follow: bool) -> Result<Metadata, Refusal> {
-        self.take_turn()?;
-        self.tree.stat(alloc, path, follow)
-    }
-
-    fn list(&self, alloc: Global, path: &str) -> Result<Listing, Refusal> {
-        self.take_turn()?;
-        self.tree.list(alloc, path)
-    }
-
-    fn contents(&self, alloc: Global, path: &str) -> Result<Contents, Refusal> {
-        self.take_turn()?;
-        self.tree.contents(alloc, path)
-    }
-
-    fn canonical(&self, alloc: Global, path: &str) -> Result<Name, Refusal> {
-        self.take_turn()?;
-        self.tree.canonical(alloc, path)
-    }
-
-    fn identity(
-        &self,
-        alloc: Global,
-        path: &str,
-        follow: bool,
-    ) -> Result<Option<Identity>, Refusal> {
-        self.take_turn()?;
-        self.tree.identity(alloc, path, follow)
-    }
 }
 
 /// The items of a walk that makes calls of each kind, whose call of this number is refused, and

@@ -1,5 +1,6 @@
 //! A directory is listed when it is entered, and not before.
-use crate::walks::{Plain, options, tree_of};
+use crate::trees::tree_of;
+use crate::walks::{Plain, options};
 use ignore_dir::{Outside, Settings};
 use ignore_files::{Contents, Files, Identity, Listing, MemoryTree, Metadata, Name, Refusal};
 use ignore_walk::Walk;

@@ -1,6 +1,8 @@
-//! Tests of entries and of walks, with ample memory.
+//! Tests of what directories hold, of single paths, of walks and of builders.
 #![tactic(auto)]
 
+#[cfg(test)]
+mod builders;
 #[cfg(test)]
 mod deep;
 #[cfg(test)]
@@ -8,6 +10,22 @@ mod entries;
 #[cfg(test)]
 mod hostile;
 #[cfg(test)]
+mod kept;
+#[cfg(test)]
 mod lazy;
+#[cfg(test)]
+mod loads;
+#[cfg(test)]
+mod matchers;
+#[cfg(test)]
+mod queries;
+#[cfg(test)]
+mod refused_builders;
+#[cfg(test)]
+mod refused_matchers;
+#[cfg(test)]
+mod refusing;
+#[cfg(test)]
+mod trees;
 #[cfg(test)]
 mod walks;

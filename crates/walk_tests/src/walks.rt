@@ -1,6 +1,7 @@
 //! Walks of trees in memory, by steps.
+use crate::trees::tree_of;
 use ignore_dir::{Outside, Settings};
-use ignore_files::{Files, MemoryTree, Name};
+use ignore_files::{Files, Name};
 use ignore_walk::{Callbacks, DirEntry, Item, Options, Order, Walk};
 use std::alloc::Global;
 use std::cmp::Ordering;
@@ -34,25 +35,6 @@ pub fn options() -> Options {
         same_file_system: false,
         limit: 1000,
     }
-}
-
-/// A tree of lines: a path alone is a directory, `PATH=CONTENTS` a file, `PATH>TARGET` a link.
-pub fn tree_of(alloc: Global, lines: &[&str]) -> anyhow::Result<MemoryTree> {
-    let mut tree = MemoryTree::new(alloc, "/")?;
-    for line in lines {
-        add_line(&mut tree, *line)?;
-    }
-    Ok(tree)
-}
-
-fn add_line(tree: &mut MemoryTree, line: &str) -> anyhow::Result<()> {
-    if let Some((path, contents)) = line.split_once('=') {
-        return Ok(tree.add_file(path, contents.as_bytes())?);
-    }
-    if let Some((path, target)) = line.split_once('>') {
-        return Ok(tree.add_link(path, target)?);
-    }
-    Ok(tree.add_dir(line)?)
 }
 
 /// An item as text: the path of an entry, or an error in brackets.

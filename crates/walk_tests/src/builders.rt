@@ -1,11 +1,19 @@
-//! Walks that are made without a builder, and one by an order and a filter.
-use crate::matchers::UNKNOWN;
-use ignore::files::{MemoryTree, TreeError};
-use ignore::{Callbacks, DirEntry, Error, Item, Walk, WalkBuilder, collect_walk};
+//! What a builder makes, and walks that are made without one.
+use ignore::files::{Env, MemoryTree, TreeError};
+use ignore::{Callbacks, Error, IncrementalIgnore, Item, Walk, WalkBuilder};
 use std::alloc::{AllocError, Global};
 
+/// An environment of which nothing is known.
+const UNKNOWN: Env = Env {
+    current_dir: None,
+    home: None,
+    xdg_config_home: None,
+    git_config_global: None,
+    git_config_system: None,
+};
+
 /// A directory with rules, an ignored file, and two others.
-fn tree(alloc: Global) -> Result<MemoryTree, TreeError> {
+pub(crate) fn tree(alloc: Global) -> Result<MemoryTree, TreeError> {
     let mut tree = MemoryTree::new(alloc, "/")?;
     tree.add_dir("/t")?;
     tree.add_file("/t/.ignore", b"c\n")?;
@@ -63,27 +71,38 @@ fn a_walk_of_some_roots(rt: HostRuntime) -> anyhow::Result<()> {
     Ok(())
 }
 
-/// A list of items as text.
-fn listed(alloc: Global, items: Vec<Item>) -> Result<String, AllocError> {
+/// The matchers of some roots.
+fn matchers(
+    alloc: Global,
+    tree: &MemoryTree,
+    roots: &[&str],
+) -> Result<Vec<IncrementalIgnore>, Error> {
+    let builder = WalkBuilder::from_iter(alloc, roots.iter().copied())?;
+    builder.build_matchers(tree, &UNKNOWN)
+}
+
+/// The roots of some matchers, each followed by a space.
+fn roots_of(alloc: Global, matchers: &[IncrementalIgnore]) -> Result<String, Error> {
     let mut text = String::new(alloc);
-    for item in items {
-        put(alloc, item, &mut text)?;
+    for matcher in matchers {
+        text.push_str(matcher.root())?;
+        text.push(' ')?;
     }
     Ok(text)
 }
 
-/// The whole list by an order and a filter.
-fn chosen(alloc: Global, tree: &MemoryTree) -> Result<String, Error> {
-    let mut builder = WalkBuilder::new(alloc, "/t")?;
-    builder.sort_by_file_name(Box::new(alloc, |x: &str, y: &str| x.cmp(y))?);
-    builder.filter_entry(Box::new(alloc, |e: &DirEntry| e.file_name() != "a")?);
-    let items = collect_walk(&builder, tree, &UNKNOWN)?;
-    Ok(listed(alloc, items)?)
+/// The roots of the matchers of three roots.
+fn roots_of_three(alloc: Global, tree: &MemoryTree) -> Result<String, Error> {
+    let matchers = matchers(alloc, tree, &["/w/a", "/w/b", "/w/a"])?;
+    roots_of(alloc, matchers.as_slice())
 }
 
 #[test]
-fn an_order_and_a_filter(rt: HostRuntime) -> anyhow::Result<()> {
+fn roots_in_order(rt: HostRuntime) -> anyhow::Result<()> {
     let tree = tree(rt.alloc())?;
-    assert_eq!(rt; chosen(rt.alloc(), &tree)?.as_str(), "/t /t/b ");
+    assert_eq!(rt;
+        roots_of_three(rt.alloc(), &tree)?.as_str(),
+        "/w/a /w/b /w/a "
+    );
     Ok(())
 }
