@@ -1,5 +1,7 @@
 //! Runs over memory: each status and each message.
 
+mod refusing;
+
 use commands::Stop;
 use commands::run::run;
 use ignore_base::Fault;
@@ -9,7 +11,7 @@ use std::io;
 use std::io::Write;
 use std::test::Fail;
 
-fn words_of(alloc: Global, texts: &[&str]) -> Result<Vec<String>, AllocError> {
+pub(crate) fn words_of(alloc: Global, texts: &[&str]) -> Result<Vec<String>, AllocError> {
     let mut words = Vec::new(alloc);
     for text in texts {
         words.push(String::from_str(alloc, text)?)?;
@@ -233,7 +235,7 @@ fn writes_fail_from_the_first_to_none(rt: HostRuntime) -> Result<(), Fail> {
 }
 
 /// A folder with rules, whose directory `d` can't be listed and whose `{` is no glob.
-fn folder(alloc: Global) -> Result<MemoryTree, Fail> {
+pub(crate) fn folder(alloc: Global) -> Result<MemoryTree, Fail> {
     let mut tree = MemoryTree::new(alloc, "/")?;
     for path in ["/t", "/t/d", "/t/c", "/t/.h"] {
         tree.add_dir(path)?;

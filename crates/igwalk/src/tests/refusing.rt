@@ -1,0 +1,142 @@
+//! Runs of `list` and `check` over a folder of which one call is refused.
+use crate::tests::{folder, words_of};
+use commands::run::run;
+use ignore_base::Fault;
+use ignore_files::{Contents, Env, Files, Identity, Listing, MemoryTree, Metadata, Name, Refusal};
+use std::alloc::{AllocError, Global};
+use std::cell::Cell;
+use std::test::Fail;
+
+/// A folder of which one call is refused, the next one where `turn` is 1.
+#[derive(Drop)]
+struct Refusing<'t> {
+    tree: &'t MemoryTree,
+    refusal: Refusal,
+    turn: Cell<u64>,
+}
+
+impl Refusing<'_> {
+    fn take_turn(&self) -> Result<(), Refusal> {
+        let turn = self.turn.get();
+        self.turn.set(turn.saturating_sub(1));
+        if turn == 1 { Err(self.refusal) } else { Ok(()) }
+    }
+}
+
+impl Files for Refusing<'_> {
+    fn stat(&self, alloc: Global, path: &str, follow: bool) -> Result<Metadata, Refusal> {
+        self.take_turn()?;
+        self.tree.stat(alloc, path, follow)
+    }
+
+    fn list(&self, alloc: Global, path: &str) -> Result<Listing, Refusal> {
+        self.take_turn()?;
+        self.tree.list(alloc, path)
+    }
+
+    fn contents(&self, alloc: Global, path: &str) -> Result<Contents, Refusal> {
+        self.take_turn()?;
+        self.tree.contents(alloc, path)
+    }
+
+    fn canonical(&self, alloc: Global, path: &str) -> Result<Name, Refusal> {
+        self.take_turn()?;
+        self.tree.canonical(alloc, path)
+    }
+
+    fn identity(
+        &self,
+        alloc: Global,
+        path: &str,
+        follow: bool,
+    ) -> Result<Option<Identity>, Refusal> {
+        self.take_turn()?;
+        self.tree.identity(alloc, path, follow)
+    }
+}
+
+fn name(alloc: Global, text: &str) -> Result<Option<Name>, AllocError> {
+    Ok(Some(Name::new(String::from_str(alloc, text)?)))
+}
+
+/// An environment in which the global file is looked for in each of its places.
+fn at_home(alloc: Global) -> Result<Env, AllocError> {
+    Ok(Env {
+        current_dir: name(alloc, "/")?,
+        home: name(alloc, "/h")?,
+        xdg_config_home: None,
+        git_config_global: None,
+        git_config_system: None,
+    })
+}
+
+/// The status of a run, and whether the last that it reports is that memory ran out.
+fn end<F: Files>(alloc: Global, files: &F, env: &Env, words: &[String]) -> (u8, bool) {
+    let mut out: Vec<u8> = Vec::new(alloc);
+    let mut err: Vec<u8> = Vec::new(alloc);
+    let status = run(alloc, files, env, words, &mut out, &mut err).unwrap_or(2);
+    (status, err.ends_with(b"igwalk: out of memory\n"))
+}
+
+/// The same of a run of these words, at home.
+fn end_at_home<F: Files>(
+    alloc: Global,
+    files: &F,
+    texts: &[&str],
+) -> Result<(u8, bool), AllocError> {
+    let env = at_home(alloc)?;
+    let words = words_of(alloc, texts)?;
+    Ok(end(alloc, files, &env, words.as_slice()))
+}
+
+/// The same over a folder where the call with this number is refused, and whether that call was
+/// made.
+fn refused(
+    alloc: Global,
+    texts: &[&str],
+    refusal: Refusal,
+    turn: u64,
+) -> Result<(u8, bool, bool), Fail> {
+    let tree = folder(alloc)?;
+    let files = Refusing {
+        tree: &tree,
+        refusal,
+        turn: Cell::new(turn),
+    };
+    let (status, is_out) = end_at_home(alloc, &files, texts)?;
+    Ok((status, is_out, files.turn.get() == 0))
+}
+
+/// A list and a check, each of which reports what is wrong with rules.
+const RUNS: [&[&str]; 2] = [&["list", "/t"], &["check", "/t", "b.o", "c/x", "d"]];
+
+/// Each call that is made is refused in turn, and at last none is.
+#[test]
+fn each_call_out_of_memory(rt: HostRuntime) -> Result<(), Fail> {
+    for texts in RUNS {
+        let mut calls = 0u64;
+        for turn in 1..200u64 {
+            let (status, is_out, made) = refused(rt.alloc(), texts, Refusal::Memory, turn)?;
+            let wanted = if made { 2 } else { 1 };
+            assert!(rt; status == wanted && is_out == made, "{turn}: {status}");
+            if made {
+                calls = turn;
+            }
+        }
+        assert!(rt; calls > 10 && calls < 199, "{calls}");
+    }
+    Ok(())
+}
+
+/// No fault ends a run.
+#[test]
+fn each_call_with_a_fault(rt: HostRuntime) -> Result<(), Fail> {
+    let refusal = Refusal::Fault(Fault::PermissionDenied);
+    for texts in RUNS {
+        for turn in 1..200u64 {
+            let (status, is_out, _) = refused(rt.alloc(), texts, refusal, turn)?;
+            assert!(rt; status < 2 && !is_out, "{turn}: {status}");
+        }
+    }
+    Ok(())
+}
