@@ -1,11 +1,14 @@
-//! The program `replay_walks`: asks walks and matchers of single paths what vectors ask, and
-//! compares whole answers.
+//! The program `replay_walks`: asks walks, matchers of single paths and the commands of `igwalk` what
+//! vectors ask, and compares whole answers.
 #![tactic(auto)]
 
+mod igwalk;
+mod kinds;
+
+use crate::kinds::Programs;
 use answers::replay_all;
 use std::process::ExitCode;
-use walk_vectors::Library;
 
 fn main(rt: HostRuntime) -> ExitCode {
-    ExitCode::from(replay_all(&rt, &Library))
+    ExitCode::from(replay_all(&rt, &Programs))
 }

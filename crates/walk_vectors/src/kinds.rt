@@ -1,17 +1,14 @@
 //! The kinds of vectors, and the one function that has a builder.
 ghost use Rattle.std.specs.Prelude.{◌≡◌, []};
 
-mod igwalk;
 mod normalize;
 mod query;
 mod walk;
 
-use crate::chosen::Choice;
-use crate::machine::{Machine, machine_of};
-use crate::set::{Flag, Named, Number, Rules, play};
 use ignore::{DirEntry, WalkBuilder};
 use serde_json::Value;
 use std::alloc::Global;
+use vector_settings::{Choice, Flag, Machine, Named, Number, Rules, machine_of, play};
 use vectors::{Kinds, Trouble};
 
 /// The library, asked by the kinds.
@@ -23,7 +20,6 @@ impl Kinds for Library {
 
     fn answer(&self, alloc: Global, kind: &str, input: &Value) -> Option<Result<Value, Trouble>> {
         match kind {
-            "igwalk" => Some(igwalk::answer(alloc, input)),
             "normalize" => Some(normalize::answer(alloc, input)),
             "query" => Some(answer(alloc, input, false)),
             "walk" => Some(answer(alloc, input, true)),

@@ -1,13 +1,13 @@
 //! The text by which a matcher knows a path.
 
 use super::query::matcher;
-use crate::machine::Machine;
 use answers::{Answer, CALLS, but_for_memory, unrefused, variable};
 use ignore::WalkBuilder;
 use ignore::files::{Env, MemoryTree, Name};
 use ignore::text::normalize;
 use serde_json::Value;
 use std::alloc::Global;
+use vector_settings::Machine;
 use vectors::{Trouble, text};
 
 /// The name of the field with the working directory.

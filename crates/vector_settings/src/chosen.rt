@@ -1,8 +1,8 @@
 //! The filter and the order of the entries of a walk, as a vector chooses them.
 
 use crate::set::SET;
-use ignore::DirEntry;
-use ignore::files::FileType;
+use ignore_files::FileType;
+use ignore_walk::DirEntry;
 use serde_json::Value;
 use std::alloc::Global;
 use std::cmp::Ordering;
@@ -10,7 +10,7 @@ use vectors::{Trouble, item, text_at};
 
 /// Which entries a filter accepts.
 #[derive(Drop)]
-pub(crate) enum Filter {
+pub enum Filter {
     /// Those with another file name.
     NameNot(String),
     /// Those of a smaller depth.
@@ -23,7 +23,7 @@ pub(crate) enum Filter {
 
 impl Filter {
     /// Whether it accepts an entry.
-    pub(crate) fn accepts(&self, entry: &DirEntry) -> bool {
+    pub fn accepts(&self, entry: &DirEntry) -> bool {
         match self {
             Filter::NameNot(name) => entry.file_name() != name.as_str(),
             Filter::DepthBelow(depth) => (entry.depth() as u64) < *depth,
@@ -35,7 +35,7 @@ impl Filter {
 
 /// How two texts compare.
 #[derive(Clone, Copy, Drop)]
-pub(crate) enum By {
+pub enum By {
     /// As texts.
     Text,
     /// As texts, the greatest first.
@@ -48,7 +48,7 @@ pub(crate) enum By {
 
 impl By {
     /// The order of two texts.
-    pub(crate) fn compare(self, a: &str, b: &str) -> Ordering {
+    pub fn compare(self, a: &str, b: &str) -> Ordering {
         match self {
             By::Text => a.cmp(b),
             By::Reverse => b.cmp(a),
@@ -60,7 +60,7 @@ impl By {
 
 /// A filter, or an order of names or paths.
 #[derive(Drop)]
-pub(crate) enum Choice {
+pub enum Choice {
     Filter(Filter),
     Names(By),
     Paths(By),

@@ -2,15 +2,15 @@
 
 use crate::set::SET;
 use answers::{but_for_memory, change_types, problem};
-use ignore::Error;
-use ignore::overrides::{Override, OverrideBuilder};
-use ignore::types::{Types, TypesBuilder};
+use ignore_base::Error;
+use ignore_rules::overrides::{Override, OverrideBuilder};
+use ignore_types::types::{Types, TypesBuilder};
 use serde_json::Value;
 use std::alloc::Global;
 use vectors::{Trouble, item, text_at};
 
 /// The items of the list at a place of a list, which stands in the field of this name.
-pub(crate) fn items_at<'v>(
+pub fn items_at<'v>(
     list: &'v Value,
     place: usize,
     name: &'static str,

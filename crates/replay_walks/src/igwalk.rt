@@ -1,11 +1,11 @@
 //! Runs of the program `igwalk`, with writers in memory.
 
-use crate::machine::{Machine, machine_of};
 use answers::Answer;
 use commands::run::run;
 use serde_json::Value;
 use std::alloc::{AllocError, Global};
 use std::str::from_utf8;
+use vector_settings::{Machine, machine_of};
 use vectors::{Trouble, list};
 
 /// The name of the field with the words after the program's name.
