@@ -2,9 +2,11 @@
 
 use crate::input::first_lines;
 use crate::matcher::{Matcher, time};
-use ignore::files::{DiskFiles, Env, Files};
-use ignore::{Error, IncrementalIgnore, WalkBuilder};
-use std::alloc::Global;
+use ignore_base::Error;
+use ignore_dir::{Outside, Settings};
+use ignore_files::{DiskFiles, Files};
+use ignore_query::IncrementalIgnore;
+use std::alloc::{AllocError, Global};
 use std::fs;
 
 /// A matcher of paths below a root, with the files that it asks.
@@ -20,16 +22,11 @@ impl<F: Files> Matcher for Below<'_, F> {
     }
 }
 
-/// The matcher of a root by the settings at first, if there is one.
-fn matcher_at<F: Files>(
-    alloc: Global,
-    files: &F,
-    env: &Env,
-    root: &str,
-) -> Result<Option<IncrementalIgnore>, Error> {
-    let builder = WalkBuilder::new(alloc, root)?;
-    let mut matchers = builder.build_matchers(files, env)?;
-    Ok(matchers.pop())
+/// The matcher of a root by the settings at first, without a global file.
+fn matcher_at(alloc: Global, root: &str) -> Result<IncrementalIgnore, AllocError> {
+    let root = String::from_str(alloc, root)?;
+    let settings = Settings::standard(alloc);
+    Ok(IncrementalIgnore::new(settings, Outside::empty(alloc), root, None))
 }
 
 /// Prints what it costs to ask about each line of a file, as a path below a root of the disk: by a
@@ -42,17 +39,14 @@ pub(crate) fn time_queries(
 ) -> Result<(), Error> {
     let text = fs::read_to_string(rt, paths)?;
     let texts = first_lines(rt.alloc(), text.as_str(), usize::MAX)?;
-    let env = Env::of_process(rt)?;
     let files = DiskFiles::new(rt);
     for _ in 0..rounds {
-        if let Some(matcher) = matcher_at(rt.alloc(), &files, &env, root)? {
-            let mut below = Below {
-                files: &files,
-                matcher,
-            };
-            time(rt, "first", &mut below, texts.as_slice())?;
-            time(rt, "kept", &mut below, texts.as_slice())?;
-        }
+        let mut below = Below {
+            files: &files,
+            matcher: matcher_at(rt.alloc(), root)?,
+        };
+        time(rt, "first", &mut below, texts.as_slice())?;
+        time(rt, "kept", &mut below, texts.as_slice())?;
     }
     Ok(())
 }
