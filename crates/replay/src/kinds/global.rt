@@ -1,8 +1,8 @@
 //! The global file: where it is, and the rules that stand in it.
 
 use crate::refusing::Refusing;
-use crate::rules::{LINES, builder_of_lines, put_read};
-use answers::{Answer, CALLS, environment, tree_of_calls};
+use crate::rules::{LINES, builder_of_lines, match_value, put_read};
+use answers::{Answer, CALLS, Items, but_for_memory, environment, tree_of_calls};
 use ignore_base::Error;
 use ignore_files::{Env, MemoryTree};
 use ignore_rules::gitignore::{Gitignore, gitconfig_excludes_path};
@@ -10,10 +10,14 @@ use serde_json::Value;
 use std::alloc::Global;
 use vectors::{Trouble, field, list, text};
 
-/// Answers `path`, the path of the excludes file, and of the matcher its `root`, its `rules` and
-/// the `error` of its file. The matcher is that of a builder with the lines, or that of the
-/// working directory where there is no field of lines. Of a call that ran out of memory there is
-/// its error alone, as `path` or as `error`.
+/// The name of the field with the files that the matcher is asked about. Where it is missing, it is
+/// asked about none.
+const FILES: &str = "files";
+
+/// Answers `path`, the path of the excludes file, and of the matcher its `root`, its `rules`, the
+/// `error` of its file and its `answers` for files, where the vector has any. The matcher is that
+/// of a builder with the lines, or that of the working directory where there is no field of lines.
+/// Of a call that ran out of memory there is its error alone, as `path` or as `error`.
 pub fn answer(alloc: Global, input: &Value) -> Result<Value, Trouble> {
     let tree = tree_of_calls(alloc, text(input, "cwd")?, list(input, CALLS)?)?;
     let env = environment(alloc, field(input, "env")?)?;
@@ -48,9 +52,45 @@ fn put_matcher(
     env: &Env,
 ) -> Result<(), Trouble> {
     match matcher(alloc, input, files, env)? {
-        Ok((matcher, error)) => put_read(answer, &matcher, &error),
-        Err(error) => answer.put("error", files.reported(&error)?),
+        Ok((matcher, error)) => {
+            put_read(answer, &matcher, &error);
+            put_answers(answer, alloc, input, &matcher)
+        }
+        Err(error) => {
+            answer.put("error", files.reported(&error)?);
+            Ok(())
+        }
     }
+}
+
+/// Puts what a matcher answers for the files of a vector, where it has any.
+fn put_answers(
+    answer: &mut Answer,
+    alloc: Global,
+    input: &Value,
+    matcher: &Gitignore,
+) -> Result<(), Trouble> {
+    if input.get(FILES).is_some() {
+        let mut answers = Items::new(alloc);
+        for file in list(input, FILES)? {
+            put_answer(&mut answers, alloc, file, matcher)?;
+        }
+        answer.put_value("answers", answers.value());
+    }
+    Ok(())
+}
+
+fn put_answer(
+    answers: &mut Items,
+    alloc: Global,
+    file: &Value,
+    matcher: &Gitignore,
+) -> Result<(), Trouble> {
+    let Some(file) = file.as_str() else {
+        return Err(Trouble::Field(FILES));
+    };
+    let found = but_for_memory(matcher.matched(file, false))?;
+    answers.put_value(match_value(alloc, matcher, found));
     Ok(())
 }
 
