@@ -1,6 +1,7 @@
 -- A value that is consistent with two trees gives answers on which the two agree; and an error or
 -- an entry of the machine's is reported as one item.
 use Rattle.std.proofs.Common.{◌≡◌, ◌⊎◌, inl, inr, ℕ, suc, Bool, List, [], ◌∷◌, length, Option, Result, Ok, Err, refl, sym, ap, ◌∙◌}
+use Rattle.std.proofs.Common.{subst, arith}
 use Rattle.std.specs.declared.io.Error.{Error}
 use Rattle.std.specs.Fs.{IsDir, IsFile, IsSymlink}
 use Rattle.std.specs.declared.fs.FileType.{FileType as MachineType}
@@ -8,14 +9,14 @@ use Rattle.ignore_base.specs.declared.fault.Fault.{Fault}
 use Rattle.ignore_files.specs.Tree.{Tree, Answers}
 use Rattle.ignore_files.specs.Gives.{IsHonest}
 use Rattle.ignore_files.specs.Reported.{IsReportedAs, IsFaultOf, IsEntryOf}
-use Rattle.ignore_files.specs.Machine.{AreReported}
+use Rattle.ignore_files.specs.Machine.{IsReported, AreReported}
 use Rattle.ignore_files.specs.declared.machine.Machine.{Ghosts as MachineGhosts}
 use Rattle.ignore_files.specs.declared.files.Files.{Ghosts}
 use Rattle.ignore_files.specs.declared.types.Refusal.{Refusal}
 use Rattle.ignore_files.specs.declared.types.Refusal.TheVariants.{Fault as Refused}
 use Rattle.ignore_files.specs.declared.types.Contents.{Contents}
 use Rattle.ignore_files.specs.declared.types.FileType.{FileType}
-use Rattle.ignore_files.specs.declared.types.FileType.TheVariants.{Other}
+use Rattle.ignore_files.specs.declared.types.FileType.TheVariants.{File, Dir, Symlink, Other}
 use Rattle.ignore_files.specs.declared.types.Identity.{Identity}
 use Rattle.ignore_files.specs.declared.types.Listed.{Listed}
 use Rattle.ignore_files.specs.declared.types.Listed.TheVariants as listed
@@ -72,6 +73,52 @@ IsReportedAs-other : (t : MachineType) → IsReportedAs t Other → (IsDir t ⊎
 IsReportedAs-other t h (inl e) = h.0 e
 IsReportedAs-other t h (inr (inl e)) = h.1 e
 IsReportedAs-other t h (inr (inr e)) = h.2 e
+
+-- a type of the machine's is reported as one kind
+IsReportedAs-one : (t : MachineType) (kind other : FileType) → IsReportedAs t kind → IsReportedAs t other → kind ≡ other
+IsReportedAs-one t File File h k = refl
+IsReportedAs-one t File Dir h k = let clash : ⊥ = omega arith in absurd clash
+IsReportedAs-one t File Symlink h k = let clash : ⊥ = omega arith in absurd clash
+IsReportedAs-one t File Other h k = absurd (k.1 h)
+IsReportedAs-one t Dir File h k = let clash : ⊥ = omega arith in absurd clash
+IsReportedAs-one t Dir Dir h k = refl
+IsReportedAs-one t Dir Symlink h k = let clash : ⊥ = omega arith in absurd clash
+IsReportedAs-one t Dir Other h k = absurd (k.0 h)
+IsReportedAs-one t Symlink File h k = let clash : ⊥ = omega arith in absurd clash
+IsReportedAs-one t Symlink Dir h k = let clash : ⊥ = omega arith in absurd clash
+IsReportedAs-one t Symlink Symlink h k = refl
+IsReportedAs-one t Symlink Other h k = absurd (k.2 h)
+IsReportedAs-one t Other File h k = absurd (h.1 k)
+IsReportedAs-one t Other Dir h k = absurd (h.0 k)
+IsReportedAs-one t Other Symlink h k = absurd (h.2 k)
+IsReportedAs-one t Other Other h k = refl
+
+-- an entry with one name is reported as one item, and so is one without a kind
+IsEntryOf-one : (IsName : List ℕ → Type 0) (type : Result MachineType Error) (one other : Listed)
+    → ((n m : List ℕ) → IsName n → IsName m → n ≡ m) → IsEntryOf IsName type one → IsEntryOf IsName type other → one ≡ other
+IsEntryOf-one IsName (Ok t) (listed.Entry n a) (listed.Entry m b) named h k =
+    ap (λ x. listed.Entry x a) (named n m h.0 k.0) ∙ ap (λ x. listed.Entry m x) (IsReportedAs-one t a b h.1 k.1)
+IsEntryOf-one IsName (Ok t) (listed.Entry n a) (listed.Fault f) named h k = absurd k
+IsEntryOf-one IsName (Ok t) (listed.Fault f) other named h k = absurd h
+IsEntryOf-one IsName (Err error) one other named h k = IsFaultOf-one error one other h k
+
+-- what a directory gives is reported as one item, where the machine gives an entry one name and one
+-- type
+IsReported-one : {R M E D F : Type 0} (machine : MachineGhosts R M E D F) (given : Result E Error) (one other : Listed)
+    → ((entry : E) (n m : List ℕ) → machine.file_name_gives entry n → machine.file_name_gives entry m → n ≡ m)
+    → ((entry : E) (a b : Result MachineType Error) → machine.entry_type_gives entry a → machine.entry_type_gives entry b → a ≡ b)
+    → IsReported machine given one → IsReported machine given other → one ≡ other
+IsReported-one machine (Ok entry) one other named typed h k =
+    IsEntryOf-one (machine.file_name_gives entry) h.0 one other (named entry) h.2
+    (subst (λ (x : Result MachineType Error). IsEntryOf (machine.file_name_gives entry) x other) (typed entry k.0 h.0 k.1 h.1) k.2)
+IsReported-one machine (Err error) one other named typed h k = IsFaultOf-one error one other h k
+
+-- an entry is listed under the name that the machine gives for it, and with a kind of its type
+IsReported-named : {R M E D F : Type 0} (machine : MachineGhosts R M E D F) (entry : E) (name : List ℕ) (kind : FileType)
+    → IsReported machine (Ok entry) (listed.Entry name kind)
+    → machine.file_name_gives entry name × ((t : MachineType) × machine.entry_type_gives entry (Ok t) × IsReportedAs t kind)
+IsReported-named machine entry name kind (Ok t, given, h) = (h.0, (t, given, h.1))
+IsReported-named machine entry name kind (Err error, given, h) = absurd h
 
 -- each item is reported, and nothing else
 AreReported-length : {R M E D F : Type 0} (machine : MachineGhosts R M E D F) (all : List (Result E Error)) (items : List Listed)

@@ -1,6 +1,6 @@
--- A file adds one thing, with one problem; so does each matcher that is built from it. The answer
--- of a value that is consistent with a tree adds what the tree's file adds.
-use Rattle.std.proofs.Common.{◌≡◌, ℕ, ◌+◌, List, ◌∷◌, Option, Some, None, Result, Ok, Err, refl, sym, ap, ◌∙◌, subst}
+-- A file adds one thing, with one problem; so does each matcher that is built from it, or from one
+-- answer for it. The answer of a value that is consistent with a tree adds what the tree's file adds.
+use Rattle.std.proofs.Common.{◌≡◌, ◌⊎◌, inl, inr, ℕ, ◌+◌, List, ◌∷◌, Option, Some, None, Result, Ok, Err, refl, sym, ap, ◌∙◌, subst}
 use Rattle.ignore_base.specs.declared.fault.Fault.{Fault}
 use Rattle.ignore_base.specs.Errors.{without_fault}
 use Rattle.ignore_base.specs.Problem.{Problem, joined}
@@ -12,12 +12,12 @@ use Rattle.ignore_files.specs.declared.types.Refusal.TheVariants.{Fault as Refus
 use Rattle.ignore_files.specs.declared.files.Files.{Ghosts}
 use Rattle.ignore_files.specs.Gives.{IsHonest}
 use Rattle.ignore_files.specs.Tree.{Tree, Answers}
-use Rattle.ignore_rules.specs.Rules.{Building, Ruleset, begun, built}
+use Rattle.ignore_rules.specs.Rules.{Building, Ruleset, begun, built, empty}
 use Rattle.ignore_rules.specs.RuleFile.{AddsLines, done, stopped, added, refused, AddsContents, AddsFile, AddsAnswer, at_line_of}
 use Rattle.ignore_rules.specs.RuleFile.{line_content, lines_read}
 use Rattle.ignore_base.specs.Paths.{folder_of}
 use Rattle.ignore_rules.specs.Matchers.{BuildsFile, BuildsWith, BuildsGlobal, IsMatcherOf, IsGlobalIn, IsGlobalMatcher}
-use Rattle.ignore_rules.specs.Matchers.{global_file}
+use Rattle.ignore_rules.specs.Matchers.{BuildsAnswer, BuildsAnyAnswer, global_file}
 use Rattle.ignore_rules.proofs.LinesOnly.{AddsLine-one, Refuses-one, AddsLine-never}
 use Rattle.ignore_excludes.proofs.ExcludesPlaces.{IsExcludesPath-one}
 
@@ -66,6 +66,35 @@ BuildsFile-one : (tree : Tree) (path : List ℕ) (builder : Building) (a b : Rul
 BuildsFile-one tree path builder a b p q h k =
     let same = AddsContents-one path (tree.contents path) builder h.0 k.0 h.1 k.1 h.2 k.2 in
     (h.3 ∙ (ap (λ (x : Building). built x) same.0 ∙ sym k.3), h.4 ∙ (ap (λ (x : Option Problem). without_fault x) same.1 ∙ sym k.4))
+
+-- one answer for a file adds one thing
+AddsAnswer-one : (path : List ℕ) (answer : Result Contents Refusal) (old a b : Building) (p q : Option Problem)
+    → AddsAnswer path answer old a p → AddsAnswer path answer old b q → (a ≡ b) × (p ≡ q)
+AddsAnswer-one path (Ok contents) old a b p q h k = AddsContents-one path (Ok contents) old a b p q h k
+AddsAnswer-one path (Err (Refused fault)) old a b p q h k = AddsContents-one path (Err fault) old a b p q h k
+AddsAnswer-one path (Err Memory) old a b p q h k = absurd h
+
+-- one answer for a file gives one matcher, whatever tree there is
+BuildsAnswer-one : (path : List ℕ) (answer : Result Contents Refusal) (builder : Building) (a b : Ruleset) (p q : Option Problem)
+    → BuildsAnswer path answer builder a p → BuildsAnswer path answer builder b q → (a ≡ b) × (p ≡ q)
+BuildsAnswer-one path answer builder a b p q h k =
+    let same = AddsAnswer-one path answer builder h.0 k.0 h.1 k.1 h.2 k.2 in
+    (h.3 ∙ (ap (λ (x : Building). built x) same.0 ∙ sym k.3), h.4 ∙ (ap (λ (x : Option Problem). without_fault x) same.1 ∙ sym k.4))
+
+-- the matcher of one answer is that of the file in a tree with which the files are consistent
+BuildsFile-answered : {F : Type 0} (files : Ghosts F) (f : F) (tree : Tree) (path : List ℕ) (answer : Result Contents Refusal)
+    (builder : Building) (matcher : Ruleset) (reported : Option Problem) → IsHonest files f tree → files.contents_gives f path answer
+    → BuildsAnswer path answer builder matcher reported → BuildsFile tree path builder matcher reported
+BuildsFile-answered files f tree path answer builder matcher reported honest gives h =
+    (h.0, h.1, AddsFile-answered files f tree path answer builder h.0 h.1 honest gives h.2, h.3, h.4)
+
+-- the matcher of some answer is empty, or that of some file in such a tree
+BuildsAnyAnswer-honest : {F : Type 0} (files : Ghosts F) (f : F) (tree : Tree) (builder : Building) (matcher : Ruleset)
+    (reported : Option Problem) → IsHonest files f tree → BuildsAnyAnswer (files.contents_gives f) builder matcher reported
+    → ((matcher ≡ empty) × (reported ≡ None)) ⊎ ((path : List ℕ) × BuildsFile tree path builder matcher reported)
+BuildsAnyAnswer-honest files f tree builder matcher reported honest (inl h) = inl h
+BuildsAnyAnswer-honest files f tree builder matcher reported honest (inr (path, answer, gives, h)) =
+    inr (path, BuildsFile-answered files f tree path answer builder matcher reported honest gives h)
 
 -- a file has one matcher
 IsMatcherOf-one : (tree : Tree) (path : List ℕ) (a b : Ruleset) (p q : Option Problem) → IsMatcherOf tree path a p

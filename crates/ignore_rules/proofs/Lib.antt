@@ -11,4 +11,5 @@ pub mod TrailingLemmas
 mod WorkedLines
 pub mod LinesOnly
 pub mod FilesOnly
+mod AnswersOnly
 pub mod FileResult

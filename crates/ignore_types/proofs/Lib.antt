@@ -1,6 +1,7 @@
 mod TextOrder
 mod TypeLemmas
 mod ListLemmas
+mod SortedTexts
 mod ChoiceLemmas
 mod TypesOnly
 mod TypeAnswers

@@ -1,8 +1,9 @@
--- A path has one answer of types. A draft is built with one list of choices, or is rejected with
--- one problem; the text of a definition changes a draft in one way, or is rejected.
+-- A path has one answer of types. A draft is built as one matcher, or is rejected with one problem;
+-- the text of a definition changes a draft in one way, or is rejected.
 use Rattle.std.proofs.Common.{◌≡◌, ◌⊎◌, ℕ, Bool, true, false, List, [], ◌∷◌, ◌++◌, map, Option, Some, None, refl, sym, ap, ◌∙◌, subst, inl}
 use Rattle.std.proofs.Common.{inr}
 use Rattle.std.specs.List.{AllZip}
+use Rattle.std.proofs.lemmas.List.Sorted.{sum_by-IsPermutation}
 use Rattle.std.specs.Str.{chars}
 use Rattle.ignore_glob.specs.Glob.{Tokens}
 use Rattle.ignore_glob.specs.GlobFaults.{glob_fault_text}
@@ -17,6 +18,7 @@ use Rattle.ignore_types.specs.Types.{Definition, Choice, Draft, Becomes, IsSorte
 use Rattle.ignore_types.specs.TypeMatch.{Chosen, Matcher, SomeMatches, NoneMatches, IsNameAnswer, IsTypeAnswer, verdict_of}
 use Rattle.ignore_types.specs.Building.{plain, IsReadAs, IsChosen, IsBuilt, FirstBad, IsGlobProblem, IsChoiceProblem, IsRefusedWith}
 use Rattle.ignore_types.specs.Refusals.{IsRefusal}
+use Rattle.ignore_types.proofs.SortedTexts.{sorted_one}
 
 -- The answer.
 
@@ -181,6 +183,24 @@ choices_one definitions (x ∷ choices) (c ∷ cs) (d ∷ ds) h k =
     ap (λ (y : Chosen). y ∷ cs) (IsChosen-one definitions x c d h.0 k.0)
     ∙ ap (λ (ys : List Chosen). d ∷ ys) (choices_one definitions choices cs ds h.1 k.1)
 
+-- a definition has one sorted copy
+IsSortedCopy-one : (d a b : Definition) → IsSortedCopy d a → IsSortedCopy d b → a ≡ b
+IsSortedCopy-one d a b h k =
+    let same : a.globs ≡ b.globs = sorted_one a.globs b.globs (λ f. sum_by-IsPermutation f d.globs a.globs h.same_globs
+    ∙ sym (sum_by-IsPermutation f d.globs b.globs k.same_globs)) h.in_order k.in_order in
+    ap (λ (name : List ℕ). let e : Definition = record { name = name; globs = a.globs } in e) (h.same_name ∙ sym k.same_name)
+    ∙ ap (λ (globs : List (List ℕ)). let e : Definition = record { name = b.name; globs = globs } in e) same
+
+copies_one : (ds es bs : List Definition) → AllZip IsSortedCopy ds es → AllZip IsSortedCopy ds bs → es ≡ bs
+copies_one [] [] [] h k = refl
+copies_one [] [] (b ∷ bs) h k = absurd k
+copies_one [] (a ∷ es) bs h k = absurd h
+copies_one (d ∷ ds) [] bs h k = absurd h
+copies_one (d ∷ ds) (a ∷ es) [] h k = absurd k
+copies_one (d ∷ ds) (a ∷ es) (b ∷ bs) h k =
+    ap (λ (x : Definition). x ∷ es) (IsSortedCopy-one d a b h.0 k.0)
+    ∙ ap (λ (xs : List Definition). b ∷ xs) (copies_one ds es bs h.1 k.1)
+
 names_one : (ds es : List Definition) → AllZip IsSortedCopy ds es
     → map (λ (d : Definition). d.name) es ≡ map (λ (d : Definition). d.name) ds
 names_one [] [] h = refl
@@ -190,11 +210,14 @@ names_one (d ∷ ds) (e ∷ es) h =
     ap (λ (name : List ℕ). name ∷ map (λ (x : Definition). x.name) es) h.0.same_name
     ∙ ap (λ (names : List (List ℕ)). d.name ∷ names) (names_one ds es h.1)
 
--- a draft is built with one list of choices, and with the names that it has
+-- a draft is built as one matcher, with the names that it has
 IsBuilt-one : (draft : Draft) (a b : Matcher) → IsBuilt draft a → IsBuilt draft b
-    → (a.choices ≡ b.choices) × (map (λ (d : Definition). d.name) a.definitions ≡ map (λ (d : Definition). d.name) draft.definitions)
+    → (a ≡ b) × (map (λ (d : Definition). d.name) a.definitions ≡ map (λ (d : Definition). d.name) draft.definitions)
 IsBuilt-one draft a b h k = (
-  choices_one draft.definitions draft.choices a.choices b.choices h.choices k.choices,
+  ap (λ (ds : List Definition). let m : Matcher = record { definitions = ds; choices = a.choices } in m)
+      (copies_one draft.definitions a.definitions b.definitions h.definitions k.definitions)
+      ∙ ap (λ (cs : List Chosen). let m : Matcher = record { definitions = b.definitions; choices = cs } in m)
+      (choices_one draft.definitions draft.choices a.choices b.choices h.choices k.choices),
   names_one draft.definitions a.definitions h.definitions,
 )
 
