@@ -9,4 +9,5 @@ pub mod SlashLemmas
 pub mod SoftLemmas
 pub mod StepLemmas
 pub mod WholeLemmas
+pub mod WorkedProblems
 pub mod WorkedQueries

@@ -7,3 +7,5 @@ pub mod WayLemmas
 pub mod QueryLemmas
 pub mod FreshLemmas
 pub mod TurnLemmas
+pub mod TurnsOnly
+pub mod CopiesOnly
