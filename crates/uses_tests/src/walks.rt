@@ -2,9 +2,8 @@
 use crate::rules::machine;
 use crate::trees::{UNKNOWN, tree_of};
 use ignore::files::{MemoryTree, TreeError};
-use ignore::{DirEntry, Error, Fault, IncrementalIgnore, WalkBuilder};
+use ignore::{DirEntry, Error, IncrementalIgnore, WalkBuilder};
 use std::alloc::{AllocError, Global};
-use std::fmt;
 use std::test::Fail;
 use uses::backup::{complete_entries, complete_entries_on_disk};
 use uses::search::{Found, search_below, show};
@@ -89,14 +88,6 @@ fn a_backup_has_all_entries(rt: HostRuntime) -> Result<(), Fail> {
     Ok(())
 }
 
-#[test]
-fn a_backup_of_a_missing_folder_fails(rt: HostRuntime) -> Result<(), Fail> {
-    let tree = tree_of(rt.alloc(), FOLDER)?;
-    let result = backed_up(rt.alloc(), &tree, "/no");
-    assert!(rt; result.is_err_and(|error| error.is_io()));
-    Ok(())
-}
-
 /// The paths of a backup of a file of the machine.
 fn backup_of_machine(alloc: Global) -> Result<String, Error> {
     let (machine, builder) = (machine(alloc)?, WalkBuilder::new(alloc, "/p/.gitignore")?);
@@ -128,15 +119,6 @@ fn searched(alloc: Global, tree: &MemoryTree, word: &str) -> Result<Found, Error
     search_below(alloc, &builder, tree, &UNKNOWN, word)
 }
 
-/// The problems of a search, each on a line.
-fn problems(alloc: Global, problems: &[Error]) -> Result<String, fmt::Error> {
-    let mut text = String::new(alloc);
-    for problem in problems {
-        write!(text, "{problem}\n")?;
-    }
-    Ok(text)
-}
-
 /// What a search for `needle` finds: its hits, each on a line.
 fn hits(alloc: Global, found: &Found) -> Result<Vec<u8>, Fail> {
     let mut out: Vec<u8> = Vec::new(alloc);
@@ -149,38 +131,5 @@ fn a_search_tool_finds_lines(rt: HostRuntime) -> Result<(), Fail> {
     let found = searched(rt.alloc(), &tree_of(rt.alloc(), SOURCES)?, "needle")?;
     let wanted = b"/p/src/c.c:1\n/p/a.c:2\n/p/a.c:4\n";
     assert_eq!(rt; hits(rt.alloc(), &found)?.as_slice(), wanted.as_slice());
-    Ok(())
-}
-
-#[test]
-fn a_search_tool_reports_what_is_no_text(rt: HostRuntime) -> Result<(), Fail> {
-    let found = searched(rt.alloc(), &tree_of(rt.alloc(), SOURCES)?, "needle")?;
-    let text = problems(rt.alloc(), found.problems.as_slice())?;
-    assert_eq!(rt; text.as_str(), "/p/b.c: invalid data\n");
-    Ok(())
-}
-
-#[test]
-fn an_empty_word_is_in_each_line(rt: HostRuntime) -> Result<(), Fail> {
-    let found = searched(rt.alloc(), &tree_of(rt.alloc(), SOURCES)?, "")?;
-    assert_eq!(rt; found.hits.len(), 5);
-    Ok(())
-}
-
-/// The same folder, of which one file can't be read to its end.
-fn faulty(alloc: Global) -> Result<MemoryTree, TreeError> {
-    let mut tree = tree_of(alloc, SOURCES)?;
-    tree.cut_contents("/p/a.c", 15, Fault::Other)?;
-    Ok(tree)
-}
-
-#[test]
-fn a_search_goes_on_past_a_fault(rt: HostRuntime) -> Result<(), Fail> {
-    let found = searched(rt.alloc(), &faulty(rt.alloc())?, "needle")?;
-    assert_eq!(rt;
-        hits(rt.alloc(), &found)?.as_slice(),
-        b"/p/src/c.c:1\n".as_slice()
-    );
-    assert_eq!(rt; found.problems.len(), 2);
     Ok(())
 }
