@@ -135,7 +135,8 @@ same_not_kept c d (front ∷ fronts) alike h =
     ap (λ b. cond (not b) (front ∷ not_kept c fronts) (not_kept c fronts)) (alike.dirs front h.0)
     ∙ ap (λ l. cond (not (is_kept d front)) (front ∷ l) l) (same_not_kept c d fronts alike h.1)
 
-same_below : (g : Scene) (c d : Cache) (names : List (List ℕ)) → KeepAlike c d → All IsName names → new_below g c names ≡ new_below g d names
+same_below : (g : Scene) (c d : Cache) (names : List (List ℕ)) → KeepAlike c d → All IsName names
+    → new_below g c names ≡ new_below g d names
 unfolding new_below
 same_below g c d names alike are =
     ap (map (problem_in g))
@@ -157,7 +158,8 @@ by_cases true false true x y h = h refl refl
 by_cases true false false x y h = refl
 
 -- a question reports one problem, by the directories that are kept
-pub reported-one : (g : Scene) (c d : Cache) (path : List ℕ) (is_dir : Bool) → KeepAlike c d → reported g c path is_dir ≡ reported g d path is_dir
+pub reported-one : (g : Scene) (c d : Cache) (path : List ℕ) (is_dir : Bool) → KeepAlike c d
+    → reported g c path is_dir ≡ reported g d path is_dir
 unfolding reported
 reported-one g c d path is_dir alike =
     by_cases (is_asked g.root path) (is_beyond g.settings (depth_of path) is_dir) (has_rules g.tree g.root path)
