@@ -1,5 +1,6 @@
 -- A file adds one thing, with one problem; so does each matcher that is built from it, or from one
--- answer for it. The answer of a value that is consistent with a tree adds what the tree's file adds.
+-- answer for it. The answer of a value that is consistent with a tree adds what the tree's file
+-- adds.
 use Rattle.std.proofs.Common.{◌≡◌, ◌⊎◌, inl, inr, ℕ, ◌+◌, List, ◌∷◌, Option, Some, None, Result, Ok, Err, refl, sym, ap, ◌∙◌, subst}
 use Rattle.ignore_base.specs.declared.fault.Fault.{Fault}
 use Rattle.ignore_base.specs.Errors.{without_fault}

@@ -1,5 +1,6 @@
 -- Texts that are sorted stand in one order.
-use Rattle.std.proofs.Common.{◌≡◌, ℕ, suc, ◌≤◌, Bool, true, false, cond, List, [], ◌∷◌, get_or, IsSorted, refl, sym, ap, ◌∙◌, arith, add-one}
+use Rattle.std.proofs.Common.{◌≡◌, ℕ, suc, ◌≤◌, Bool, true, false, cond, List, [], ◌∷◌, get_or, IsSorted, refl, sym, ap, ◌∙◌, arith}
+use Rattle.std.proofs.Common.{add-one}
 use Rattle.std.specs.List.{sum_by}
 use Rattle.std.specs.Ordering.{is_lt}
 use Rattle.std.specs.declared.cmp.Ordering.{Ordering}
