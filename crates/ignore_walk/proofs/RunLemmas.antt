@@ -1,10 +1,10 @@
--- What a walk has yielded when it answers none.
-use Rattle.std.proofs.Common.{◌≡◌, ◌+◌, ℕ, List, [], ◌∷◌, Option, None, option_map, map, inl, inr, refl, sym, ◌∙◌, ap, subst, arith}
-use Rattle.std.specs.Iterator.{Drains, Yields}
+-- What a walk has yielded when it answers none, and before.
+use Rattle.std.proofs.Common.{◌≡◌, ◌+◌, ℕ, List, [], ◌∷◌, Option, None, Some, option_map, map, inl, inr, refl, sym, ◌∙◌, ap, subst, arith}
+use Rattle.std.specs.Iterator.{Drains, Yields, YieldsThen}
 use Rattle.ignore_files.specs.declared.files.Files.{Ghosts as Files}
 use Rattle.ignore_walk.specs.Entry.{Item}
 use Rattle.ignore_walk.specs.Nexts.{IsOver, NextGives, Remaining}
-use Rattle.ignore_walk.specs.Runs.{IsRun}
+use Rattle.ignore_walk.specs.Runs.{IsBegun, IsRun}
 use Rattle.ignore_walk.specs.Scene.{Scene}
 use Rattle.ignore_walk.specs.declared.callbacks.Callbacks.{Ghosts as Callbacks}
 use Rattle.ignore_walk.specs.declared.walk.Walk.{Walk}
@@ -56,4 +56,46 @@ run_is_list files calls item g a (x ∷ xs) items n (u, (t, (j, s, y), e)) r =
             begins = refl;
             ended = ended;
           })
+    ]
+
+-- before the end
+
+-- a walk that is over yields nothing, whatever it is asked for
+no_more : {F S A : Type 0} (files : Files F) (calls : Callbacks S) (item : A → Item) (a v : Walk F S) (xs : List A) (x : A) → IsOver a
+    → YieldsThen (Step files calls item) a xs (Some x) v → ⊥
+no_more files calls item a v [] x over (t, same, s) =
+    let e = (subst (λ (t : Walk _ _). Step files calls item t (Some x) v) (sym same) s).over over in cc (e)
+no_more files calls item a v (y ∷ xs) x over (t, (j, s, ys), last) = let e = s.over over in cc (e)
+
+-- an item before a beginning
+one_before : (x item : Item) (all items others : List Item) (left n now k : ℕ) → items ≡ x ∷ others → n + now ≡ k + left
+    → IsBegun all item others now k → IsBegun (x ∷ all) item items left n
+one_before x item all items others left n now k are taken b =
+    record {
+      rest = b.rest;
+      begins = are ∙ ap (λ (i : List Item). x ∷ i) b.begins;
+      next = elim b.next [
+        | inl next ↦ inl next
+        | inr (inl m) ↦ inr (inl m)
+        | inr (inr (l, few)) ↦ inr (inr (l, omega (few, taken, arith)))
+      ];
+    }
+
+pub run_begins : {F S A : Type 0} (files : Files F) (calls : Callbacks S) (item : A → Item) (g : Scene) (a v : Walk F S) (xs : List A)
+    (x : A) (items : List Item) (n : ℕ) → YieldsThen (Step files calls item) a xs (Some x) v → Remaining files calls g a items n
+    → IsBegun (map item xs) (item x) items a.left n
+run_begins files calls item g a v [] x items n (t, same, s) r =
+    record {
+      rest = items;
+      begins = refl;
+      next = elim ((subst (λ (t : Walk _ _). Step files calls item t (Some x) v) (sym same) s).given g items n r) [
+        | inl h ↦ inl (h.others, h.are)
+        | inr (ended, over) ↦ inr ended
+      ];
+    }
+run_begins files calls item g a v (y ∷ xs) x items n (t, (j, s, ys), last) r =
+    elim (s.given g items n r) [
+      | inl h ↦ one_before (item y) (item x) (map item xs) items h.others a.left n j.left h.k h.are h.taken
+          (run_begins files calls item g j v xs x h.others h.k (t, ys, last) h.rest)
+      | inr (ended, over) ↦ absurd (no_more files calls item j v xs x (s.last r.goes_on over).0 (t, ys, last))
     ]

@@ -1,4 +1,4 @@
--- What a walk has yielded when it answers none.
+-- What a walk has yielded when it answers none, and before.
 use Rattle.std.specs.Prelude.{◌≡◌, ◌≤◌, ◌⊎◌, ℕ, List, [], ◌∷◌, ◌++◌}
 use Rattle.ignore_walk.specs.Entry.{Item}
 use Rattle.ignore_walk.specs.Nexts.{EndsBy}
@@ -17,3 +17,10 @@ pub record EndsEarly (all items : List Item) (left n : ℕ) : Type 0 where
 -- then what ended it
 abbrev pub IsRun : List Item → List Item → ℕ → ℕ → Type 0
 IsRun all items left n = ((all ≡ items) × (n ≤ left)) ⊎ EndsEarly all items left n
+
+-- these, and then one item more, are what a walk has yielded so far, where these items remained, in
+-- so many steps: they are a beginning of them, and the item is the next of them, or ended the walk
+pub record IsBegun (all : List Item) (item : Item) (items : List Item) (left n : ℕ) : Type 0 where
+  pub rest : List Item
+  pub begins : items ≡ all ++ rest
+  pub next : ((others : List Item) × (rest ≡ item ∷ others)) ⊎ EndsBy item left n

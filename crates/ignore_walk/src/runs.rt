@@ -1,11 +1,11 @@
-//! What a walk has yielded when it answers none, as a call that does nothing: its contract is the
-//! law.
-ghost use Rattle.std.specs.Prelude.{ℕ, List, Result, map, option_map};
-ghost use Rattle.std.specs.Iterator.{Drains};
+//! What a walk has yielded when it answers none, and before, as calls that do nothing: each contract
+//! is the law.
+ghost use Rattle.std.specs.Prelude.{ℕ, List, Some, Result, map, option_map};
+ghost use Rattle.std.specs.Iterator.{Drains, YieldsThen};
 ghost use Rattle.ignore_base.specs.declared.error.Error.{Error};
 ghost use Rattle.ignore_walk.specs.Entry.{Item, item_of};
 ghost use Rattle.ignore_walk.specs.Nexts.{NextGives, Remaining};
-ghost use Rattle.ignore_walk.specs.Runs.{IsRun};
+ghost use Rattle.ignore_walk.specs.Runs.{IsBegun, IsRun};
 ghost use Rattle.ignore_walk.specs.Scene.{Scene};
 ghost use Rattle.ignore_walk.specs.declared.entry.DirEntry.{DirEntry};
 ghost use Rattle.ignore_walk.specs.declared.walk.Walk.{Walk};
@@ -19,4 +19,13 @@ pub fn a_run_yields_the_list<F: Files, S: Callbacks>()
     ensures { (g : Scene) (w : Walk F S) (all : List (Result DirEntry Error)) (items : List Item) (n : ℕ)
         → Drains (λ a answer b. NextGives F.Files S.Callbacks a (option_map item_of answer) b) w all
         → Remaining F.Files S.Callbacks g w items n → IsRun (map item_of all) items w.left n }
+{}
+
+/// A walk that has yielded some items and then one more, and isn't asked to its end, as by a loop
+/// that stops there: those are a beginning of what remained of it, and the one more is the next of
+/// that, or it is out of memory or the limit of steps, and ended the walk.
+pub fn a_run_begins_the_list<F: Files, S: Callbacks>()
+    ensures { (g : Scene) (w v : Walk F S) (all : List (Result DirEntry Error)) (x : Result DirEntry Error) (items : List Item) (n : ℕ)
+        → YieldsThen (λ a answer b. NextGives F.Files S.Callbacks a (option_map item_of answer) b) w all (Some x) v
+        → Remaining F.Files S.Callbacks g w items n → IsBegun (map item_of all) (item_of x) items w.left n }
 {}

@@ -1,5 +1,5 @@
 //! A walk, as an iterator.
-ghost use Rattle.std.specs.Prelude.{◌≡◌, ◌<◌, ◌≤◌, ◌⊎◌, [], ℕ, List, true, false, None, Some, Err, IfSome, IfOk, IfErr, map, option_map};
+ghost use Rattle.std.specs.Prelude.{◌≡◌, ◌<◌, ◌≤◌, ◌⊎◌, [], ℕ, List, true, false, None, Some, Err, IfSome, IfOk, IfErr, IsOkAnd, map, option_map};
 ghost use Rattle.ignore_base.specs.declared.fault.Fault.TheVariants.{StepLimit};
 ghost use Rattle.ignore_base.specs.Problem.{Problem, problem_of, io, memory};
 ghost use Rattle.ignore_walk.specs.Entry.{Item as Yielded, item_of};
@@ -166,7 +166,7 @@ fn error_of(item: Item) -> Error
 }
 
 impl<'a, F: Files, S: Callbacks> Walk<'a, F, S> {
-    ghost use Rattle.ignore_walk.specs.Nexts.{Remaining};
+    ghost use Rattle.ignore_walk.specs.Nexts.{Remaining, IsOver};
 
     /// All items that the walk still gives, in their order.
     /// For dependents.
@@ -182,6 +182,7 @@ impl<'a, F: Files, S: Callbacks> Walk<'a, F, S> {
         ensures ended { (g : Scene) (items : List Yielded) (n : ℕ) → Remaining F.Files S.Callbacks g self.entry items n
             → IfErr result (λ e. (problem_of e ≡ memory) ⊎ ((problem_of e ≡ io StepLimit) × (self.entry.left < n))) }
         ensures errors { self.entry.ended ≡ false → IfErr result (λ e. (problem_of e ≡ memory) ⊎ (problem_of e ≡ io StepLimit)) }
+        ensures over { IsOver self.entry → IsOkAnd result (λ all. all.items ≡ []) }
     {
         let mut all = Vec::new(*self.stack.frames.allocator());
         while let Some(item) = self.advance() {

@@ -22,9 +22,15 @@ returns-then-self-clause-errors g c = λ on.
       | inr l ↦ inr (c.error_of.ensures (io StepLimit) l.0)
     ]
 
+-- a walk that was over gives no item
+pub returns-then-self-clause-over : goal.returns-then-self-clause-over
+returns-then-self-clause-over g c = λ over.
+    absurd (let e = c.in-Some.ensures.over (c.loop-item.invariant.over over).0 in cc (e))
+
 pub loop-item-preserved : goal.loop-item-preserved
 loop-item-preserved g c = record {
   goes_on = λ on. c.if-self.false;
+  over = λ over. absurd (let e = c.in-Some.ensures.over (c.loop-item.invariant.over over).0 in cc (e));
   remaining = λ s items n r.
       let i = c.loop-item.invariant.remaining s items n r in
       let all = map item_of c.loop-item.all.items in
