@@ -1,1 +1,4 @@
 mod HeadlineLemmas
+mod OutsideOnly
+mod SceneLemmas
+mod WorkedSettings

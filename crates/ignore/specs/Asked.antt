@@ -11,7 +11,7 @@ use Rattle.ignore_files.specs.declared.env.Env.{Env}
 use Rattle.ignore_files.specs.declared.types.Contents.{Contents}
 use Rattle.ignore_files.specs.declared.types.Refusal.{Refusal}
 use Rattle.ignore_files.specs.Tree.{Tree}
-use Rattle.ignore_rules.specs.Matchers.{BuildsGlobal}
+use Rattle.ignore_rules.specs.Matchers.{BuildsAnyAnswer, BuildsGlobal}
 use Rattle.ignore_rules.specs.RuleFile.{AddsAnswer, AddsFile}
 use Rattle.ignore_rules.specs.Rules.{Building, Ruleset, begun, built, empty, with_git_trailing_spaces}
 use Rattle.ignore.specs.declared.options.WalkOptions.{WalkOptions}
@@ -71,3 +71,22 @@ pub record IsOutside (tree : Tree) (env : Env) (b : WalkOptions) (outside : Outs
   pub types : outside.types ≡ b.types
   pub explicit : outside.explicit ≡ b.explicit
   pub global : IsGlobal tree env b outside.global
+
+-- the rules of the global file by what any files answer, if it is asked for and its directory is
+-- known: those of one answer that they gave for some file, or none
+abbrev pub IsGlobalByIf : Bool → (Path → Result Contents Refusal → Type 0) → WalkOptions → Option Path → Ruleset → Type 0
+IsGlobalByIf false Gives b dir rules = rules ≡ empty
+IsGlobalByIf true Gives b None rules = rules ≡ empty
+IsGlobalByIf true Gives b (Some dir) rules = (problem : Option Problem) × BuildsAnyAnswer Gives (started b.settings dir) rules problem
+
+-- the same for a builder: case and trailing spaces as set when it is asked
+abbrev pub IsGlobalBy : (Path → Result Contents Refusal → Type 0) → Env → WalkOptions → Ruleset → Type 0
+IsGlobalBy Gives env b rules = IsGlobalByIf b.settings.git_global Gives b (base_dir b env) rules
+
+-- the rules from outside by what any files answer
+pub record IsOutsideBy (Gives : Path → Result Contents Refusal → Type 0) (env : Env) (b : WalkOptions)
+    (outside : Outside) : Type 0 where
+  pub overrides : outside.overrides ≡ b.overrides
+  pub types : outside.types ≡ b.types
+  pub explicit : outside.explicit ≡ b.explicit
+  pub global : IsGlobalBy Gives env b outside.global

@@ -1,16 +1,24 @@
 //! Laws of walks, as calls that do nothing: each contract is the law.
-ghost use Rattle.std.specs.Prelude.{◌≡◌, ℕ, List, None, Result, map, option_map};
+ghost use Rattle.std.specs.Prelude.{◌≡◌, ℕ, Bool, List, MatchOption, None, Result, map, option_map, true};
+ghost use Rattle.std.specs.Cmp.{IsStrictWeakOrder};
 ghost use Rattle.std.specs.Iterator.{Drains};
+ghost use Rattle.std.specs.Ordering.{is_lt};
+ghost use Rattle.std.specs.declared.cmp.Ordering.{Ordering};
+ghost use Rattle.std.specs.declared.cmp.Ordering.TheVariants.{Equal};
+ghost use denote.Bor.{Bor};
+ghost use Rattle.ignore_base.specs.Text.{Path};
 ghost use Rattle.ignore_base.specs.declared.error.Error.{Error};
 ghost use Rattle.ignore_dir.specs.declared.outside.Outside.{Outside};
 ghost use Rattle.ignore_files.specs.Tree.{Tree};
 ghost use Rattle.ignore_files.specs.declared.env.Env.{Env};
-ghost use Rattle.ignore_walk.specs.Entry.{Item, item_of};
+ghost use Rattle.ignore_walk.specs.Entry.{Entry, Item, entry_of, item_of, problem_in};
 ghost use Rattle.ignore_walk.specs.Nexts.{NextGives, Remaining};
 ghost use Rattle.ignore_walk.specs.Runs.{IsRun};
 ghost use Rattle.ignore_walk.specs.Scene.{Scene};
+ghost use Rattle.ignore_walk.specs.Suits.{order_by};
 ghost use Rattle.ignore_walk.specs.declared.callbacks.Order.{Order};
 ghost use Rattle.ignore_walk.specs.declared.entry.DirEntry.{DirEntry};
+ghost use Rattle.ignore.specs.Asked.{IsOutside};
 ghost use Rattle.ignore.specs.Closures.{order_of};
 ghost use Rattle.ignore.specs.Finished.{IsFinished};
 ghost use Rattle.ignore.specs.Headline.{Headline, IsSceneOf};
@@ -19,6 +27,7 @@ ghost use Rattle.ignore.specs.declared.options.WalkOptions.{WalkOptions};
 ghost use Rattle.ignore.specs.declared.walk.Walk.{Walk};
 
 use crate::builder::WalkBuilder;
+use crate::closures::{Compare, Keep};
 use ignore_dir::laws::one_load;
 use ignore_files::Files;
 use ignore_walk::{Callbacks, runs};
@@ -53,3 +62,26 @@ pub fn a_scene_without_closures(builder: &WalkBuilder)
 {
     one_load();
 }
+
+/// The same of a builder with closures that answer by functions: its comparison by one of an order
+/// in which two may tie, and its filter by one of entries, where it is asked about those without an
+/// error. The scene has this filter and this order. Where none is set, all texts tie, and each
+/// entry passes.
+pub fn a_scene_with_closures(builder: &WalkBuilder)
+    ensures { (tree : Tree) (outside : Outside) (keep : Entry → Bool) (cmp : Path → Path → Ordering)
+        → IsStrictWeakOrder (λ a b. is_lt (cmp a b))
+        → MatchOption builder.now.sorter ((a b : Path) → cmp a b ≡ Equal)
+        (λ s. (a b : Bor Path) (order : Ordering) → Compare.post s.compare a b order → order ≡ cmp a.now b.now)
+        → MatchOption builder.now.filter ((e : Entry) → keep e ≡ true)
+        (λ f. (e : Bor DirEntry) (yes : Bool) → problem_in e.now ≡ None → Keep.post f.keep e yes → yes ≡ keep (entry_of e.now))
+        → (g : Scene) × IsSceneOf ⟦<WalkBuilder as Callbacks>⟧ builder.now builder.now.options
+        (order_of (λ s. s.order) builder.now.sorter) tree outside g
+        × (g.keep ≡ keep) × (g.order ≡ order_by (order_of (λ s. s.order) builder.now.sorter) cmp) }
+{
+    one_load();
+}
+
+/// A tree has one list of rules from outside, by which walks and matchers of a builder go.
+pub fn one_outside()
+    ensures { (tree : Tree) (env : Env) (b : WalkOptions) (o p : Outside) → IsOutside tree env b o → IsOutside tree env b p → o ≡ p }
+{}

@@ -107,7 +107,8 @@ BuildsWith-one : (tree : Tree) (found : Option (List ℕ)) (builder : Building) 
 BuildsWith-one tree None builder a b p q h k = (h.0 ∙ sym k.0, h.1 ∙ sym k.1)
 BuildsWith-one tree (Some path) builder a b p q h k = BuildsFile-one tree path builder a b p q h k
 
-BuildsGlobal-one : (tree : Tree) (env : Env) (builder : Building) (a b : Ruleset) (p q : Option Problem)
+-- a builder, a tree and an environment have one matcher of the global file
+pub BuildsGlobal-one : (tree : Tree) (env : Env) (builder : Building) (a b : Ruleset) (p q : Option Problem)
     → BuildsGlobal tree env builder a p → BuildsGlobal tree env builder b q → (a ≡ b) × (p ≡ q)
 BuildsGlobal-one tree env builder a b p q h k =
     let same = IsExcludesPath-one tree env h.0 k.0 h.1 k.1 in

@@ -7,7 +7,8 @@ ghost use Rattle.ignore_dir.specs.Load.{started};
 ghost use Rattle.ignore_files.specs.Gives.{IsHonest};
 ghost use Rattle.ignore_files.specs.Tree.{Tree};
 ghost use Rattle.std.specs.Option.{option_copied};
-ghost use Rattle.ignore.specs.Asked.{AddsIgnore, AddsIgnoreBy, base_dir, explicit_start, IsAnswerOf, IsFileOf, IsGlobal, IsOutside};
+ghost use Rattle.ignore.specs.Asked.{AddsIgnore, AddsIgnoreBy, base_dir, explicit_start};
+ghost use Rattle.ignore.specs.Asked.{IsAnswerOf, IsFileOf, IsGlobal, IsOutside, IsOutsideBy};
 ghost use Rattle.ignore.specs.Builder.{with_overrides, with_types, with_custom, with_current_dir};
 
 use crate::builder::WalkBuilder;
@@ -121,6 +122,7 @@ impl WalkBuilder {
     pub fn outside<F: Files>(&self, files: &F, env: &Env) -> Result<Outside, Error>
         ensures read { (tree : Tree) → IsHonest F.Files files.now tree
             → IfOk result (λ o. IsOutside tree env.now self.now.options o) }
+        ensures answered { IfOk result (λ o. IsOutsideBy (F.contents_gives files.now) env.now self.now.options o) }
         ensures out_of_memory { IfErr result (λ e. problem_of e ≡ memory) }
     {
         self.options.outside(files, env)

@@ -5,7 +5,7 @@ ghost use Rattle.ignore_dir.specs.Load.{started};
 ghost use Rattle.ignore_files.specs.Gives.{IsHonest};
 ghost use Rattle.ignore_files.specs.Tree.{Tree};
 ghost use Rattle.std.specs.Option.{option_copied};
-ghost use Rattle.ignore.specs.Asked.{base_dir, explicit_start, IsAnswerOf, IsFileOf, IsGlobal, IsOutside};
+ghost use Rattle.ignore.specs.Asked.{base_dir, explicit_start, IsAnswerOf, IsFileOf, IsGlobal, IsGlobalBy, IsOutside, IsOutsideBy};
 
 use crate::options::WalkOptions;
 use ignore_base::Error;
@@ -53,6 +53,7 @@ impl WalkOptions {
     pub(crate) fn outside<F: Files>(&self, files: &F, env: &Env) -> Result<Outside, Error>
         ensures read { (tree : Tree) → IsHonest F.Files files.now tree
             → IfOk result (λ o. IsOutside tree env.now self.now o) }
+        ensures answered { IfOk result (λ o. IsOutsideBy (F.contents_gives files.now) env.now self.now o) }
         ensures out_of_memory { IfErr result (λ e. problem_of e ≡ memory) }
     {
         let global = self.global_rules(files, env)?;
@@ -68,6 +69,7 @@ impl WalkOptions {
     fn global_rules<F: Files>(&self, files: &F, env: &Env) -> Result<Gitignore, Error>
         ensures read { (tree : Tree) → IsHonest F.Files files.now tree
             → IfOk result (λ rules. IsGlobal tree env.now self.now rules) }
+        ensures answered { IfOk result (λ rules. IsGlobalBy (F.contents_gives files.now) env.now self.now rules) }
         ensures out_of_memory { IfErr result (λ e. problem_of e ≡ memory) }
     {
         if !self.settings.get().git_global {
