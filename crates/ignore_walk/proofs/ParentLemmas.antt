@@ -67,18 +67,20 @@ after_more g root first before front e is t =
       kind = t.kind;
       visited = t.visited;
       enters = t.enters;
+      lists = t.lists;
       is = t.is;
       after = λ deep. later_items first before t.dir (t.after deep);
     })
 
 -- an entry is one that the directory at a place lists
-record IsChild (g : Scene) (root : List ℕ) (b : Branch) (e : Entry) : Type 0 where
+record IsChild (g : Scene) (root : List ℕ) (b : Branch) (d e : Entry) : Type 0 where
   name : List ℕ
   kind : FileType
+  lists : Contains (listing_of (g.tree.list d.path)) (thing.Entry name kind)
   is : child g root b (thing.Entry name kind) ≡ Ok e
 
 child_after : (g : Scene) (root : List ℕ) (b : Branch) (d f : Entry) (front others : List Item) → IsVisited g root b d
-    → fate g root b d ≡ enter → front ≡ loaded g d ++ others → IsChild g root b f → IsAfterParent g root front f
+    → fate g root b d ≡ enter → front ≡ loaded g d ++ others → IsChild g root b d f → IsAfterParent g root front f
 child_after g root b d f front others v enters is t =
     record {
       place = b;
@@ -87,6 +89,7 @@ child_after g root b d f front others v enters is t =
       kind = t.kind;
       visited = v;
       enters = enters;
+      lists = t.lists;
       is = t.is;
       after = λ deep. (
         (g.loads d.path).1,
@@ -95,10 +98,10 @@ child_after g root b d f front others v enters is t =
       );
     }
 
-parent_later : (g : Scene) (root : List ℕ) (b : Branch) (first before front : List Item) (f : Entry) → front ≡ first ++ before
-    → IsChild g root b f ⊎ IsAfterParent g root before f → IsChild g root b f ⊎ IsAfterParent g root front f
-parent_later g root b first before front f is (inl c) = inl c
-parent_later g root b first before front f is (inr c) = inr (after_more g root first before front f is c)
+parent_later : (g : Scene) (root : List ℕ) (b : Branch) (d : Entry) (first before front : List Item) (f : Entry) → front ≡ first ++ before
+    → IsChild g root b d f ⊎ IsAfterParent g root before f → IsChild g root b d f ⊎ IsAfterParent g root front f
+parent_later g root b d first before front f is (inl c) = inl c
+parent_later g root b d first before front f is (inr c) = inr (after_more g root first before front f is c)
 
 abbrev ok : Entry → Result Entry Problem
 ok e = Ok e
@@ -130,7 +133,7 @@ mutual
       absurd (no_entry_of e f q (g.tree.list e.path) (contains-is fault t.before (Ok (f, q)) u.rest u.are)))
       (λ (u : InSecond fault items t.before (Ok (f, q)) back).
       inr (⊎_elim
-      (λ (c : IsChild g root b f). child_after g root b e f front t.before (visit e refl) is t.first c)
+      (λ (c : IsChild g root b e f). child_after g root b e f front t.before (visit e refl) is t.first c)
       (λ (c : IsAfterParent g root u.before f).
       after_more g root (loaded g e) t.before front f t.first (after_more g root fault u.before t.before f u.first c))
       (parent_each g root b e xs items k u.before back f q w (visit e refl) is
@@ -142,7 +145,7 @@ mutual
       → (front back : List Item) (f : Entry) (q : Option Problem)
       → WalkedEach g root b xs items m → IsVisited g root b d → fate g root b d ≡ enter
       → ((x : Listed) → Contains xs x → Contains (listing_of (g.tree.list d.path)) x) → items ≡ front ++ Ok (f, q) ∷ back
-      → IsChild g root b f ⊎ IsAfterParent g root front f
+      → IsChild g root b d f ⊎ IsAfterParent g root front f
   parent_each g root b d [] items m front back f q none v is among h = absurd (no_item (contains-is [] front (Ok (f, q)) back h))
   parent_each g root b d (thing.Fault x ∷ xs) items m front back f q
       (more {own = own} {others = others} {m = i} {n = j} w rest) v is among h =
@@ -151,7 +154,7 @@ mutual
       ⊎_elim
       (λ (t : InFirst own front (Ok (f, q))). absurd (none_in _ f q own failing.0 (contains-is own front (Ok (f, q)) t.rest t.are)))
       (λ (t : InSecond own others front (Ok (f, q)) back).
-      parent_later g root b own t.before front f t.first
+      parent_later g root b d own t.before front f t.first
       (parent_each g root b d xs others j t.before back f q rest v is
       (λ (y : Listed) (s : Contains xs y). among y (one_more (thing.Fault x) xs y s)) t.second))
       (split own others front (Ok (f, q)) back h)
@@ -160,13 +163,18 @@ mutual
       ⊎_elim
       (λ (t : InFirst own front (Ok (f, q))).
       ⊎_elim
-      (λ (s : child g root b (thing.Entry name kind) ≡ Ok f). inl (record { name = name; kind = kind; is = s }))
+      (λ (s : child g root b (thing.Entry name kind) ≡ Ok f). inl (record {
+        name = name;
+        kind = kind;
+        lists = among (thing.Entry name kind) (the_first (thing.Entry name kind) xs);
+        is = s;
+      }))
       (λ (s : IsAfterParent g root front f). inr s)
       (parent_one g root (name ∷ b) (child g root b (thing.Entry name kind)) own i front t.rest f q w
       (λ (e : Entry) (s : child g root b (thing.Entry name kind) ≡ Ok e).
       listed v is (among (thing.Entry name kind) (the_first (thing.Entry name kind) xs)) s) t.are))
       (λ (t : InSecond own others front (Ok (f, q)) back).
-      parent_later g root b own t.before front f t.first
+      parent_later g root b d own t.before front f t.first
       (parent_each g root b d xs others j t.before back f q rest v is
       (λ (y : Listed) (s : Contains xs y). among y (one_more (thing.Entry name kind) xs y s)) t.second))
       (split own others front (Ok (f, q)) back h)
@@ -177,3 +185,12 @@ pub parents : (g : Scene) (root : List ℕ) (e : Entry) (p : Option Problem) (fr
 parents g root e p front back n w =
     parent_one g root [] (root_entry g root) (front ++ Ok (e, p) ∷ back) n front back e p w
     (λ (d : Entry) (h : root_entry g root ≡ Ok d). at_root h) refl
+
+-- an entry that comes after the directory that lists it is visited at a place below it
+pub after_visited : (g : Scene) (root : List ℕ) (front : List Item) (e : Entry) (t : IsAfterParent g root front e)
+    → IsVisited g root (t.name ∷ t.place) e
+after_visited g root front e t = listed t.visited t.enters t.lists t.is
+
+-- without a least depth no such entry comes first of all, since its directory is before it
+pub none_first : (g : Scene) (root : List ℕ) (e : Entry) → g.settings.min_depth ≡ None → IsAfterParent g root [] e → ⊥
+none_first g root e unset t = no_item (t.after (rw unset refl)).1

@@ -1,9 +1,11 @@
--- What a walk has yielded when it answers none, and before.
-use Rattle.std.proofs.Common.{◌≡◌, ◌+◌, ℕ, List, [], ◌∷◌, Option, None, Some, option_map, map, inl, inr, refl, sym, ◌∙◌, ap, subst, arith}
+-- What a walk has yielded when it answers none, before, and after.
+use Rattle.std.proofs.Common.{◌≡◌, ◌≢◌, ◌+◌, ◌++◌, ℕ, List, [], ◌∷◌, Option, None, Some, Ok, Err, option_map, map, inl, inr, refl, sym, ◌∙◌, ap, subst, arith}
 use Rattle.std.specs.Iterator.{Drains, Yields, YieldsThen}
+use Rattle.ignore_base.specs.Problem.{Problem, io, memory}
+use Rattle.ignore_base.specs.declared.fault.Fault.TheVariants.{StepLimit}
 use Rattle.ignore_files.specs.declared.files.Files.{Ghosts as Files}
-use Rattle.ignore_walk.specs.Entry.{Item}
-use Rattle.ignore_walk.specs.Nexts.{IsOver, NextGives, Remaining}
+use Rattle.ignore_walk.specs.Entry.{Entry, Item}
+use Rattle.ignore_walk.specs.Nexts.{IsLast, IsOver, NextGives, Remaining}
 use Rattle.ignore_walk.specs.Runs.{IsBegun, IsRun}
 use Rattle.ignore_walk.specs.Scene.{Scene}
 use Rattle.ignore_walk.specs.declared.callbacks.Callbacks.{Ghosts as Callbacks}
@@ -99,3 +101,34 @@ run_begins files calls item g a v (y ∷ xs) x items n (t, (j, s, ys), last) r =
           (run_begins files calls item g j v xs x h.others h.k (t, ys, last) h.rest)
       | inr (ended, over) ↦ absurd (no_more files calls item j v xs x (s.last r.goes_on over).0 (t, ys, last))
     ]
+
+-- an item that is neither of the errors that end a walk is one of those that remained
+pub begins_and_next : (all items : List Item) (item : Item) (left n : ℕ) → item ≢ Err memory → item ≢ Err (io StepLimit)
+    → IsBegun all item items left n → (others : List Item) × (items ≡ all ++ item ∷ others)
+begins_and_next all items item left n enough within b =
+    elim b.next [
+      | inl (others, is) ↦ (others, b.begins ∙ ap (λ (o : List Item). all ++ o) is)
+      | inr (inl m) ↦ absurd (enough m)
+      | inr (inr (l, few)) ↦ absurd (within l)
+    ]
+
+-- after none, and at an early end
+
+unmapped : {A B : Type 0} (f : A → B) (answer : Option A) → option_map f answer ≡ None → answer ≡ None
+unmapped f None h = refl
+unmapped f (Some x) h = absurd (cc (h))
+
+-- none follows none
+pub none_again : {F S A : Type 0} (files : Files F) (calls : Callbacks S) (item : A → Item) (a b c : Walk F S) (answer : Option A)
+    → NextGives files calls a None b → Step files calls item b answer c → answer ≡ None
+none_again files calls item a b c answer first second = unmapped item answer (second.over (first.none refl))
+
+-- a walk that ends by the limit, whatever the files answer, has no step left
+pub limit_ends : (left : ℕ) → IsLast (Some (Err (io StepLimit))) left → left ≡ 0
+limit_ends left (inl m) = absurd (cc (m))
+limit_ends left (inr l) = l.1
+
+-- no walk ends by an entry
+pub no_entry_ends : (e : Entry × Option Problem) (left : ℕ) → IsLast (Some (Ok e)) left → ⊥
+no_entry_ends e left (inl m) = cc (m)
+no_entry_ends e left (inr l) = let o = l.0 in cc (o)

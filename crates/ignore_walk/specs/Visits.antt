@@ -46,5 +46,6 @@ pub record IsAfterParent (g : Scene) (root : Path) (front : List Item) (e : Entr
   pub kind : FileType
   pub visited : IsVisited g root place dir
   pub enters : fate g root place dir ≡ enter
+  pub lists : Contains (listing_of (g.tree.list dir.path)) (thing.Entry name kind)
   pub is : child g root place (thing.Entry name kind) ≡ Ok e
   pub after : is_at_least g.settings.min_depth dir.depth ≡ true → IsYielded front dir

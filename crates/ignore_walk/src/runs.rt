@@ -1,6 +1,6 @@
-//! What a walk has yielded when it answers none, and before, as calls that do nothing: each contract
-//! is the law.
-ghost use Rattle.std.specs.Prelude.{ℕ, List, Some, Result, map, option_map};
+//! What a walk has yielded when it answers none, before, and after, as calls that do nothing: each
+//! contract is the law.
+ghost use Rattle.std.specs.Prelude.{◌≡◌, ℕ, List, Option, None, Some, Result, map, option_map};
 ghost use Rattle.std.specs.Iterator.{Drains, YieldsThen};
 ghost use Rattle.ignore_base.specs.declared.error.Error.{Error};
 ghost use Rattle.ignore_walk.specs.Entry.{Item, item_of};
@@ -28,4 +28,11 @@ pub fn a_run_begins_the_list<F: Files, S: Callbacks>()
     ensures { (g : Scene) (w v : Walk F S) (all : List (Result DirEntry Error)) (x : Result DirEntry Error) (items : List Item) (n : ℕ)
         → YieldsThen (λ a answer b. NextGives F.Files S.Callbacks a (option_map item_of answer) b) w all (Some x) v
         → Remaining F.Files S.Callbacks g w items n → IsBegun (map item_of all) (item_of x) items w.left n }
+{}
+
+/// After a walk has answered none it answers none, whatever the files answer: the next time, and so
+/// each time after that.
+pub fn none_is_the_end<F: Files, S: Callbacks>()
+    ensures { (a b c : Walk F S) (answer : Option (Result DirEntry Error))
+        → NextGives F.Files S.Callbacks a None b → NextGives F.Files S.Callbacks b (option_map item_of answer) c → answer ≡ None }
 {}

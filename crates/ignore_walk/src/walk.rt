@@ -1,5 +1,5 @@
 //! A walk, as an iterator.
-ghost use Rattle.std.specs.Prelude.{◌≡◌, ◌<◌, ◌≤◌, ◌⊎◌, [], ℕ, List, true, false, None, Some, Err, IfSome, IfOk, IfErr, IsOkAnd, map, option_map};
+ghost use Rattle.std.specs.Prelude.{◌≡◌, ◌<◌, ◌≤◌, ◌⊎◌, [], ℕ, List, true, false, None, Some, Err, IfSome, IfOk, IfErr, map, option_map};
 ghost use Rattle.ignore_base.specs.declared.fault.Fault.TheVariants.{StepLimit};
 ghost use Rattle.ignore_base.specs.Problem.{Problem, problem_of, io, memory};
 ghost use Rattle.ignore_walk.specs.Entry.{Item as Yielded, item_of};
@@ -166,6 +166,7 @@ fn error_of(item: Item) -> Error
 }
 
 impl<'a, F: Files, S: Callbacks> Walk<'a, F, S> {
+    ghost use Rattle.std.specs.Prelude.{IsOkAnd};
     ghost use Rattle.ignore_walk.specs.Nexts.{Remaining, IsOver};
 
     /// All items that the walk still gives, in their order.
