@@ -32,8 +32,8 @@ void *realloc(void *block, size_t size) {
 __attribute__((destructor)) static void end(void) {
     const char *path = getenv("COUNT");
     unsigned long total = count;
-    FILE *file = path ? fopen(path, "w") : NULL;
     refused = 0;
+    FILE *file = path ? fopen(path, "w") : NULL;
     if (file) {
         fprintf(file, "%lu\n", total);
         fclose(file);
