@@ -6,3 +6,4 @@ pub mod StopLemmas
 pub mod CheckLemmas
 mod PrintsOnly
 mod TrimsOnly
+mod EndsOnly

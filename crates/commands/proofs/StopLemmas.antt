@@ -9,7 +9,7 @@ use Rattle.commands.specs.declared.stop.Stop.{Stop}
 use Rattle.commands.specs.declared.stop.Stop.TheVariants.{Usage, Memory, Write, Silence}
 use Rattle.commands.specs.Matching.{AddsAll}
 use Rattle.commands.specs.Words.{Question}
-use Rattle.commands.specs.Stops.{Ends, EndsLine, EndsLines, EndsEarly, EndsReported, EndsWithReason, reason}
+use Rattle.commands.specs.Stops.{Ends, EndsLine, EndsLines, EndsAfter, EndsReported, EndsReportedAfter, reason}
 use Rattle.commands.proofs.LineLemmas.{appends_on}
 
 -- a list around one of its members
@@ -60,17 +60,28 @@ ends_reported question out before middle after Write h reported more =
     let so = h.1 in (Write, reported, h.0, (so.0, so.1, so.2, appends_on before middle after so.1 (reason Write) so.3 more))
 ends_reported question out before middle after Silence h reported more = absurd (reported refl)
 
--- the reason is the last report
-pub ends_with_reason : (before middle after : Option (List ℕ)) (stop : Stop) → EndsEarly (Appends before middle) stop
-    → stop ≢ Silence → Appends middle after (reason stop) → EndsWithReason (Appends before after)
-ends_with_reason before middle after stop h reported more =
-    let so = h.1 reported in (stop, h.0, reported, so.0, appends_on before middle after so.0 (reason stop) so.1 more)
+-- the reason is the last report of a list or a check
+pub ends_reported_after : (written reported : List ℕ) (out : List ℕ → Type 0) (before middle after : Option (List ℕ)) (stop : Stop)
+    → EndsAfter written reported out (Appends before middle) stop → stop ≢ Silence → Appends middle after (reason stop)
+    → EndsReportedAfter written reported out (Appends before after)
+ends_reported_after written reported out before middle after Usage h can more = absurd h
+ends_reported_after written reported out before middle after Memory h can more =
+    (Memory, can, (h.0, appends_on before middle after reported (reason Memory) h.1 more))
+ends_reported_after written reported out before middle after Write h can more =
+    (Write, can, appends_on before middle after reported (reason Write) h more)
+ends_reported_after written reported out before middle after Silence h can more = absurd (can refl)
 
--- nothing more was reported
-pub ends_early : (before middle after : Option (List ℕ)) (bs : List ℕ) (stop : Stop) → Appends before middle bs
-    → (stop ≢ Usage) × (stop ≢ Silence → Appends middle after []) → EndsEarly (Appends before after) stop
-ends_early before middle after bs stop so h =
-    (h.0, λ reported. (bs, subst (Appends before after) (append-nil bs) (appends_on before middle after bs [] so (h.1 reported))))
+-- what ended it before anything of one more thing was written ended it after the things before
+pub ends_after : (written reported : List ℕ) (a b c x y z : Option (List ℕ)) (stop : Stop) → Appends a b written → Appends x y reported
+    → EndsAfter [] [] (Appends b c) (Appends y z) stop → EndsAfter written reported (Appends a c) (Appends x z) stop
+ends_after written reported a b c x y z Usage out err h = absurd h
+ends_after written reported a b c x y z Memory out err h = (
+  subst (Appends a c) (append-nil written) (appends_on a b c written [] out h.0),
+  subst (Appends x z) (append-nil reported) (appends_on x y z reported [] err h.1),
+)
+ends_after written reported a b c x y z Write out err h =
+    subst (Appends x z) (append-nil reported) (appends_on x y z reported [] err h)
+ends_after written reported a b c x y z Silence out err h = tt
 
 -- less about what was reported
 pub ends_anyhow : (question : Question) (out err : List ℕ → Type 0) (stop : Stop) → Ends question out err stop

@@ -1,5 +1,5 @@
 -- What the program answers about paths below a root.
-use Rattle.std.specs.Prelude.{◌≡◌, ℕ, All, List, [], ◌∷◌, ◌++◌, Bool, codes, false, map, Option, if◌then◌else◌}
+use Rattle.std.specs.Prelude.{◌≡◌, ◌⊎◌, ℕ, All, List, [], ◌∷◌, ◌++◌, Bool, codes, false, map, Option, if◌then◌else◌}
 use Rattle.std.specs.List.{flat_map, list_any}
 use Rattle.ignore_base.specs.Text.{Bytes, Path}
 use Rattle.ignore_base.specs.Paths.{join_of}
@@ -91,6 +91,14 @@ AreAnswers tree env root all =
     (o : Outside) × IsOutside tree env (with_root unset root) o
     × ((loads : Path → Loaded) → AreLoads tree standard loads → let g = scene tree loads standard o root in
     All (IsAnswer g) all × (old new : Cache) × KeepsNothing old × ReportsInTurn g all old new)
+
+-- these are the answers about the first of the paths
+abbrev pub AreFirst : List Path → List Checked → Type 0
+AreFirst paths all = (rest : List Path) × (paths ≡ map (λ c. c.path) all ++ rest)
+
+-- the same for the first paths alone, or for none of them
+abbrev pub AreAnswersSoFar : Tree → Env → Path → List Checked → Type 0
+AreAnswersSoFar tree env root all = (all ≡ []) ⊎ AreAnswers tree env root all
 
 -- a matcher of the paths below a root, by the same settings and rules, in the working directory
 abbrev pub IsMatcher : Tree → Env → Path → IncrementalIgnore → Type 0

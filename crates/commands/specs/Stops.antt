@@ -87,13 +87,19 @@ ReportedOf question err Silence = HasRefused question.root (lines question.rules
 abbrev pub Ends : Question → (Bytes → Type 0) → (Bytes → Type 0) → Stop → Type 0
 Ends question out err stop = Wrote out stop × ReportedOf question err stop
 
--- a list or a check ended early, after these errors were reported, unless none can be
-abbrev pub EndsEarly : (Bytes → Type 0) → Stop → Type 0
-EndsEarly err stop = (stop ≢ Usage) × (stop ≢ Silence → (reported : Bytes) × err reported)
+-- a list or a check ended early, at one more thing to write, after these lines were written and
+-- these reported: out of memory, with nothing more written or reported; by a failed write, with
+-- nothing more reported; or by a report that can't be written
+abbrev pub EndsAfter : Bytes → Bytes → (Bytes → Type 0) → (Bytes → Type 0) → Stop → Type 0
+EndsAfter written reported out err Usage = ⊥
+EndsAfter written reported out err Memory = out written × err reported
+EndsAfter written reported out err Write = err reported
+EndsAfter written reported out err Silence = ⊤
 
--- a list or a check ended early, out of memory or by a failed write, which is the last report
-abbrev pub EndsWithReason : (Bytes → Type 0) → Type 0
-EndsWithReason err = (stop : Stop) × (stop ≢ Usage) × (stop ≢ Silence) × (reported : Bytes) × err (reported ++ reason stop)
+-- the same, and the reason was reported after the other reports
+abbrev pub EndsReportedAfter : Bytes → Bytes → (Bytes → Type 0) → (Bytes → Type 0) → Type 0
+EndsReportedAfter written reported out err =
+    (stop : Stop) × (stop ≢ Silence) × EndsAfter written reported out (λ bs. err (bs ++ reason stop)) stop
 
 -- the run of a question ended early, and the reason was reported after the rejected lines
 abbrev pub EndsReported : Question → (Bytes → Type 0) → (Bytes → Type 0) → Type 0

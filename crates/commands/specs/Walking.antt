@@ -57,6 +57,13 @@ pub record IsCut (all items : List Item) : Type 0 where
 abbrev pub AreWithin : List Item → List Item → ℕ → Type 0
 AreWithin all items steps = ((steps ≤ most_steps) × (all ≡ items)) ⊎ ((most_steps < steps) × IsCut all items)
 
+-- these are none, or a beginning of the items of the walk of the given roots, as below
+abbrev pub AreBegun : Tree → Env → List Path → List Item → Type 0
+AreBegun tree env given all =
+    (all ≡ []) ⊎ ((roots : List Path) × AllZip IsTrimmed given roots × (o : Outside) × IsOutside tree env unset o
+    × ((loads : Path → Loaded) (items : List Item) (n : ℕ) → AreLoads tree standard loads → Whole (listing tree loads o) roots items n
+    → (rest : List Item) × (items ≡ all ++ rest)))
+
 -- these are the items of the walk of the given roots, each without the slashes at its end, in the
 -- bare tree: there are rules from outside, as they were read, by which they are what the roots give
 abbrev pub AreListed : Tree → Env → List Path → List Item → Type 0

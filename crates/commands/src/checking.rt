@@ -1,6 +1,7 @@
 //! The command `check`: what becomes of paths below a root, each on a line.
 ghost use Rattle.std.specs.Prelude.{◌≡◌, ◌≢◌, ◌≤◌, ◌⊎◌, ℕ, All, List, [], false, OnOk, IfOk, IfErr, map, option_map, string_bytes, if◌then◌else◌};
 ghost use Rattle.std.specs.Io.KnownBytes.{Appends};
+ghost use Rattle.std.specs.List.{flat_map};
 ghost use Rattle.ignore_base.specs.Paths.{join_of};
 ghost use Rattle.ignore_base.specs.Problem.{problem_of};
 ghost use Rattle.ignore_dir.specs.Load.{Loaded};
@@ -10,10 +11,11 @@ ghost use Rattle.ignore_files.specs.Tree.{Tree};
 ghost use Rattle.ignore_query.specs.Agrees.{Agrees};
 ghost use Rattle.ignore_query.specs.Fresh.{KeepsNothing};
 ghost use Rattle.ignore_query.specs.Reached.{InEachScene, scene_of};
-ghost use Rattle.commands.specs.Checking.{AreAnswers, Checked, Checks, IsAnswer, IsMatcher, IsReport, ReportsInTurn};
+ghost use Rattle.ignore_query.specs.declared.kept.Cache.{Cache};
+ghost use Rattle.commands.specs.Checking.{AreAnswers, AreAnswersSoFar, AreFirst, Checked, Checks, IsAnswer, IsMatcher, IsReport, ReportsInTurn};
 ghost use Rattle.commands.specs.Checking.{answer_at, check_line, is_wrong, line_for, report_for};
 ghost use Rattle.commands.specs.Listing.{is_known, report_of};
-ghost use Rattle.commands.specs.Stops.{EndsEarly, EndsWithReason};
+ghost use Rattle.commands.specs.Stops.{EndsAfter, EndsReportedAfter};
 
 use crate::listing::report;
 use crate::stop::{Stop, report_stop};
@@ -41,7 +43,10 @@ pub fn check<F: Files, W: Write, E: Write>(
     ensures checks { IfOk result (λ status. ((all : List Checked) × Checks (map string_bytes paths.now) all status
         (Appends (W.contents out.old) (W.contents out.new)) (Appends (E.contents err.old) (E.contents err.new))
         × ((tree : Tree) → IsHonest F.Files files.now tree → AreAnswers tree env.now root.now all))
-        ⊎ ((status ≡ 2) × EndsWithReason (Appends (E.contents err.old) (E.contents err.new)))) }
+        ⊎ ((status ≡ 2) × (all : List Checked) × AreFirst (map string_bytes paths.now) all
+        × EndsReportedAfter (flat_map line_for all) (flat_map report_for all) (Appends (W.contents out.old) (W.contents out.new))
+        (Appends (E.contents err.old) (E.contents err.new))
+        × ((tree : Tree) → IsHonest F.Files files.now tree → AreAnswersSoFar tree env.now root.now all))) }
     ensures unreported { IfErr result (λ stop. stop ≢ Stop.Usage) }
     ensures status { IfOk result (λ status. status ≤ 2) }
 {
@@ -65,7 +70,10 @@ fn ask_and_write<F: Files, W: Write, E: Write>(
     ensures checks { IfOk result (λ any. (all : List Checked) × Checks (map string_bytes paths.now) all (if any then 1 else 0)
         (Appends (W.contents out.old) (W.contents out.new)) (Appends (E.contents err.old) (E.contents err.new))
         × ((tree : Tree) → IsHonest F.Files files.now tree → AreAnswers tree env.now root.now all)) }
-    ensures ended { IfErr result (EndsEarly (Appends (E.contents err.old) (E.contents err.new))) }
+    ensures ended { IfErr result (λ stop. (all : List Checked) × AreFirst (map string_bytes paths.now) all
+        × EndsAfter (flat_map line_for all) (flat_map report_for all) (Appends (W.contents out.old) (W.contents out.new))
+        (Appends (E.contents err.old) (E.contents err.new)) stop
+        × ((tree : Tree) → IsHonest F.Files files.now tree → AreAnswersSoFar tree env.now root.now all)) }
 {
     let Ok(mut matcher) = matcher_below(alloc, files, env, root) else {
         return Err(Stop::Memory);
@@ -105,7 +113,11 @@ fn check_paths<F: Files, W: Write, E: Write>(
         (Appends (W.contents out.old) (W.contents out.new)) (Appends (E.contents err.old) (E.contents err.new))
         × InEachScene F.Files files.now matcher.old.asked (λ g. Agrees g matcher.old.cache
         → All (IsAnswer g) all × ReportsInTurn g all matcher.old.cache matcher.new.cache)) }
-    ensures ended { IfErr result (EndsEarly (Appends (E.contents err.old) (E.contents err.new))) }
+    ensures ended { IfErr result (λ stop. (all : List Checked) × (last : Cache) × AreFirst (map string_bytes paths.now) all
+        × EndsAfter (flat_map line_for all) (flat_map report_for all) (Appends (W.contents out.old) (W.contents out.new))
+        (Appends (E.contents err.old) (E.contents err.new)) stop
+        × InEachScene F.Files files.now matcher.old.asked (λ g. Agrees g matcher.old.cache
+        → All (IsAnswer g) all × ReportsInTurn g all matcher.old.cache last)) }
 {
     let mut any = false;
     for path in paths {
@@ -128,7 +140,8 @@ fn check_path<F: Files, W: Write, E: Write>(
         × Appends (E.contents err.old) (E.contents err.new) (report_for c) × (any ≡ is_wrong c)
         × InEachScene F.Files files.now matcher.old.asked (λ g. Agrees g matcher.old.cache
         → IsAnswer g c × IsReport g matcher.old.cache matcher.new.cache c.path c.problem)) }
-    ensures ended { IfErr result (λ stop. (stop ≢ Stop.Usage) × (stop ≢ Stop.Silence → Appends (E.contents err.old) (E.contents err.new) [])) }
+    ensures ended { IfErr result (EndsAfter [] [] (Appends (W.contents out.old) (W.contents out.new))
+        (Appends (E.contents err.old) (E.contents err.new))) }
     ensures agrees { InEachScene F.Files files.now matcher.old.asked (λ g. Agrees g matcher.old.cache → Agrees g matcher.new.cache) }
     ensures same { matcher.new.asked ≡ matcher.old.asked }
 {

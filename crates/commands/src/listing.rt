@@ -1,8 +1,8 @@
 //! The command `list`: the entries of a walk, each on a line.
-ghost use Rattle.std.specs.Prelude.{◌≡◌, ◌≢◌, ◌≤◌, ◌⊎◌, List, Result, Ok, Err, true, map, OnOk, IfOk, IfErr, if◌then◌else◌, string_bytes, []};
+ghost use Rattle.std.specs.Prelude.{◌≡◌, ◌≢◌, ◌≤◌, ◌⊎◌, List, Result, Ok, Err, Some, true, map, OnOk, IfOk, IfErr, if◌then◌else◌, string_bytes, []};
 ghost use Rattle.std.specs.Io.KnownBytes.{Appends};
-ghost use Rattle.std.specs.Iterator.{Drains, IsFinite};
-ghost use Rattle.std.specs.List.{AllZip};
+ghost use Rattle.std.specs.Iterator.{Drains, IsFinite, YieldsThen};
+ghost use Rattle.std.specs.List.{AllZip, flat_map};
 ghost use Rattle.ignore_base.specs.Problem.{memory, problem_of};
 ghost use Rattle.ignore_base.specs.declared.error.Error.{Error};
 ghost use Rattle.ignore_files.specs.Gives.{IsHonest};
@@ -10,8 +10,8 @@ ghost use Rattle.ignore_files.specs.Tree.{Tree};
 ghost use Rattle.ignore_walk.specs.Entry.{Item, item_of};
 ghost use Rattle.ignore_walk.specs.declared.entry.DirEntry.{DirEntry};
 ghost use Rattle.commands.specs.Listing.{Lists, path_line, report_line, lines_of, reports_of, is_reported};
-ghost use Rattle.commands.specs.Stops.{EndsEarly, EndsWithReason};
-ghost use Rattle.commands.specs.Walking.{AreListed, IsTrimmed};
+ghost use Rattle.commands.specs.Stops.{EndsAfter, EndsReportedAfter};
+ghost use Rattle.commands.specs.Walking.{AreBegun, AreListed, IsTrimmed};
 
 use crate::by_name::ByName;
 use crate::stop::{Stop, report_stop};
@@ -47,7 +47,9 @@ pub fn list<F: Files, W: Write, E: Write>(
     ensures lists { IfOk result (λ status. ((items : List Item) × Lists items status
         (Appends (W.contents out.old) (W.contents out.new)) (Appends (E.contents err.old) (E.contents err.new))
         × ((tree : Tree) → IsHonest F.Files files.now tree → AreListed tree env.now (map string_bytes roots.now) items))
-        ⊎ ((status ≡ 2) × EndsWithReason (Appends (E.contents err.old) (E.contents err.new)))) }
+        ⊎ ((status ≡ 2) × (items : List Item) × EndsReportedAfter (flat_map lines_of items) (flat_map reports_of items)
+        (Appends (W.contents out.old) (W.contents out.new)) (Appends (E.contents err.old) (E.contents err.new))
+        × ((tree : Tree) → IsHonest F.Files files.now tree → AreBegun tree env.now (map string_bytes roots.now) items))) }
     ensures unreported { IfErr result (λ stop. stop ≢ Stop.Usage) }
     ensures status { IfOk result (λ status. status ≤ 2) }
 {
@@ -70,7 +72,9 @@ fn walk_and_write<F: Files, W: Write, E: Write>(
     ensures lists { IfOk result (λ any. (items : List Item) × Lists items (if any then 1 else 0)
         (Appends (W.contents out.old) (W.contents out.new)) (Appends (E.contents err.old) (E.contents err.new))
         × ((tree : Tree) → IsHonest F.Files files.now tree → AreListed tree env.now (map string_bytes roots.now) items)) }
-    ensures ended { IfErr result (EndsEarly (Appends (E.contents err.old) (E.contents err.new))) }
+    ensures ended { IfErr result (λ stop. (items : List Item) × EndsAfter (flat_map lines_of items) (flat_map reports_of items)
+        (Appends (W.contents out.old) (W.contents out.new)) (Appends (E.contents err.old) (E.contents err.new)) stop
+        × ((tree : Tree) → IsHonest F.Files files.now tree → AreBegun tree env.now (map string_bytes roots.now) items)) }
 {
     let Ok(names) = trimmed_roots(alloc, roots) else {
         return Err(Stop::Memory);
@@ -81,6 +85,7 @@ fn walk_and_write<F: Files, W: Write, E: Write>(
     let settings = Settings::standard(alloc);
     let walk = Walk::new(alloc, files, &ByName, settings, outside, OPTIONS, names);
     runs::a_run_yields_the_list::<F, ByName>();
+    runs::a_run_begins_the_list::<F, ByName>();
     write_items(walk, out, err)
 }
 
@@ -116,7 +121,10 @@ fn write_items<I: Iterator<Item = Item>, W: Write, E: Write>(
     requires ends { I.can_next items × IsFinite (I.remaining items) }
     ensures lists { IfOk result (λ any. (all : List (Result DirEntry Error)) × Drains I.next_gives items all × Lists (map item_of all)
         (if any then 1 else 0) (Appends (W.contents out.old) (W.contents out.new)) (Appends (E.contents err.old) (E.contents err.new))) }
-    ensures ended { IfErr result (EndsEarly (Appends (E.contents err.old) (E.contents err.new))) }
+    ensures ended { IfErr result (λ stop. (all : List (Result DirEntry Error)) × (x : Result DirEntry Error) × (v : I)
+        × YieldsThen I.next_gives items all (Some x) v
+        × EndsAfter (flat_map lines_of (map item_of all)) (flat_map reports_of (map item_of all))
+        (Appends (W.contents out.old) (W.contents out.new)) (Appends (E.contents err.old) (E.contents err.new)) stop) }
 {
     let mut any = false;
     for item in items {
@@ -130,7 +138,9 @@ fn write_item<W: Write, E: Write>(item: Item, out: &mut W, err: &mut E) -> Resul
     ensures lists { IfOk result (λ any. Appends (W.contents out.old) (W.contents out.new) (lines_of (item_of item))
         × Appends (E.contents err.old) (E.contents err.new) (reports_of (item_of item)) × (any ≡ is_reported (item_of item))) }
     ensures enough { OnOk result (item_of item ≢ Err memory) }
-    ensures ended { IfErr result (λ stop. (stop ≢ Stop.Usage) × (stop ≢ Stop.Silence → Appends (E.contents err.old) (E.contents err.new) [])) }
+    ensures cause { item_of item ≡ Err memory → IfErr result (λ stop. stop ≡ Stop.Memory) }
+    ensures ended { IfErr result (EndsAfter [] [] (Appends (W.contents out.old) (W.contents out.new))
+        (Appends (E.contents err.old) (E.contents err.new))) }
 {
     match item {
         Ok(entry) => write_entry(&entry, out, err),
@@ -144,7 +154,8 @@ fn write_entry<W: Write, E: Write>(entry: &DirEntry, out: &mut W, err: &mut E) -
     ensures lists { IfOk result (λ any. Appends (W.contents out.old) (W.contents out.new) (lines_of (item_of (Ok entry.now)))
         × Appends (E.contents err.old) (E.contents err.new) (reports_of (item_of (Ok entry.now)))
         × (any ≡ is_reported (item_of (Ok entry.now)))) }
-    ensures ended { IfErr result (λ stop. (stop ≢ Stop.Usage) × (stop ≢ Stop.Silence → Appends (E.contents err.old) (E.contents err.new) [])) }
+    ensures ended { IfErr result (EndsAfter [] [] (Appends (W.contents out.old) (W.contents out.new))
+        (Appends (E.contents err.old) (E.contents err.new))) }
 {
     write_path(entry.path(), out)?;
     match entry.error() {

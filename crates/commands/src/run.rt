@@ -2,6 +2,7 @@
 ghost use Rattle.std.specs.Prelude.{◌≡◌, ◌≢◌, ◌≤◌, ◌⊎◌, ◌==◌, [], ℕ, List, None, Some, true, false, ⊤, OnOk, IfOk, IfErr, codes, length};
 ghost use Rattle.std.specs.Prelude.{map, string_bytes, if◌then◌else◌};
 ghost use Rattle.std.specs.Io.KnownBytes.{Appends};
+ghost use Rattle.std.specs.List.{flat_map};
 ghost use Rattle.std.specs.Str.Lines.{lines};
 ghost use Rattle.ignore_base.specs.Text.{Path};
 ghost use Rattle.ignore_base.specs.Errors.{problem_text};
@@ -10,11 +11,11 @@ ghost use Rattle.ignore_files.specs.Gives.{IsHonest};
 ghost use Rattle.ignore_files.specs.Tree.{Tree};
 ghost use Rattle.ignore_rules.specs.Rules.{begun, built};
 ghost use Rattle.ignore_walk.specs.Entry.{Item};
-ghost use Rattle.commands.specs.Listing.{Lists};
-ghost use Rattle.commands.specs.Checking.{AreAnswers, Checked, Checks};
-ghost use Rattle.commands.specs.Walking.{AreListed};
+ghost use Rattle.commands.specs.Listing.{Lists, lines_of, reports_of};
+ghost use Rattle.commands.specs.Checking.{AreAnswers, AreAnswersSoFar, AreFirst, Checked, Checks, line_for, report_for};
+ghost use Rattle.commands.specs.Walking.{AreBegun, AreListed};
 ghost use Rattle.commands.specs.Words.{Question, question_of, request_view, roots_of, paths_of};
-ghost use Rattle.commands.specs.Stops.{Ends, EndsAnswer, EndsLine, EndsLines, EndsReported, EndsWithReason, line_stop, reason};
+ghost use Rattle.commands.specs.Stops.{Ends, EndsAnswer, EndsLine, EndsLines, EndsReported, EndsReportedAfter, line_stop, reason};
 ghost use Rattle.commands.specs.Matching.{AddsAll, AddsOne, Prints, answer_line, answer_of, refusal};
 
 use crate::checking::check;
@@ -171,13 +172,18 @@ pub fn run<F: Files, W: Write, E: Write>(
         → IfOk result (λ status. ((items : List Item) × Lists items status
         (Appends (W.contents out.old) (W.contents out.new)) (Appends (E.contents err.old) (E.contents err.new))
         × ((tree : Tree) → IsHonest F.Files files.now tree → AreListed tree env.now roots items))
-        ⊎ ((status ≡ 2) × EndsWithReason (Appends (E.contents err.old) (E.contents err.new)))) }
+        ⊎ ((status ≡ 2) × (items : List Item) × EndsReportedAfter (flat_map lines_of items) (flat_map reports_of items)
+        (Appends (W.contents out.old) (W.contents out.new)) (Appends (E.contents err.old) (E.contents err.new))
+        × ((tree : Tree) → IsHonest F.Files files.now tree → AreBegun tree env.now roots items))) }
     ensures checks { question_of (map string_bytes words.now) ≡ None → roots_of (map string_bytes words.now) ≡ None
         → (root : Path) (paths : List Path) → paths_of (map string_bytes words.now) ≡ Some (root, paths)
         → IfOk result (λ status. ((all : List Checked) × Checks paths all status
         (Appends (W.contents out.old) (W.contents out.new)) (Appends (E.contents err.old) (E.contents err.new))
         × ((tree : Tree) → IsHonest F.Files files.now tree → AreAnswers tree env.now root all))
-        ⊎ ((status ≡ 2) × EndsWithReason (Appends (E.contents err.old) (E.contents err.new)))) }
+        ⊎ ((status ≡ 2) × (all : List Checked) × AreFirst paths all
+        × EndsReportedAfter (flat_map line_for all) (flat_map report_for all) (Appends (W.contents out.old) (W.contents out.new))
+        (Appends (E.contents err.old) (E.contents err.new))
+        × ((tree : Tree) → IsHonest F.Files files.now tree → AreAnswersSoFar tree env.now root all))) }
     ensures status { IfOk result (λ status. status ≤ 2) }
 {
     let Some(request) = read_words(words) else {

@@ -1,4 +1,5 @@
-use Rattle.std.proofs.lemmas.Result.{IfOk-weaker}
+use Rattle.std.proofs.Common.{inr}
+use Rattle.std.proofs.lemmas.Result.{IfErr-weaker, IfOk-weaker}
 use Rattle.commands.proofs.CheckLemmas.{answers_of}
 use Rattle.commands.proofs.checking.ask_and_write.Goals as goal
 
@@ -13,3 +14,16 @@ returns-clause-checks g c =
           (λ loads are. h.2 tree loads honest are (c.in-Ok.ensures.fresh tree loads)),
     ))
     c.check_paths.ensures.checks
+
+-- the first paths are answered, as they are where the check doesn't end early
+pub returns-clause-ended : goal.returns-clause-ended
+returns-clause-ended g c =
+    IfErr-weaker c.check_paths.result _ _
+    (λ stop h. (
+      h.0,
+      h.2,
+      h.3,
+      λ tree honest. inr (answers_of tree c.args.env.now c.args.root.now c.in-Ok.matcher h.1 h.0 (c.in-Ok.ensures.asked tree honest)
+          c.in-Ok.ensures.empty (λ loads are. h.4 tree loads honest are (c.in-Ok.ensures.fresh tree loads))),
+    ))
+    c.check_paths.ensures.ended

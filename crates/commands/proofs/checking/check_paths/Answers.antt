@@ -1,15 +1,19 @@
-use Rattle.std.proofs.Common.{◌≡◌, ◌∙◌, ℕ, ◌||◌, ◌∷◌, ◌++◌, [], List, ap, cond, map, refl, string_bytes, subst, sym}
-use Rattle.std.proofs.lemmas.List.{take_all}
+use Rattle.std.proofs.Common.{◌≡◌, ◌∙◌, ℕ, ◌||◌, ◌∷◌, ◌++◌, [], List, ap, cond, drop, map, refl, string_bytes, subst, sym, take}
+use Rattle.std.proofs.Common.{take-append-drop}
+use Rattle.std.proofs.lemmas.List.{map-append, take_all}
 use Rattle.std.proofs.lemmas.List.Elements.{All-nil, All-push}
+use Rattle.std.proofs.lemmas.Result.{err_from_is_err_and}
 use Rattle.std.specs.Io.KnownBytes.{Appends}
+use Rattle.std.specs.List.{flat_map}
 use Rattle.ignore_dir.specs.Load.{AreLoads, Loaded}
 use Rattle.ignore_files.specs.Gives.{IsHonest}
 use Rattle.ignore_files.specs.Tree.{Tree}
 use Rattle.ignore_query.specs.Agrees.{Agrees}
 use Rattle.ignore_query.specs.Reached.{scene_of}
 use Rattle.ignore_query.specs.declared.asked.Asked.{Asked}
-use Rattle.commands.specs.Checking.{Checked, Checks, IsAnswer, IsReport}
+use Rattle.commands.specs.Checking.{Checked, Checks, IsAnswer, IsReport, line_for, report_for}
 use Rattle.commands.proofs.CheckLemmas.{checks_more, checks_none, map-take-push, reports_more}
+use Rattle.commands.proofs.StopLemmas.{ends_after}
 use Rattle.commands.proofs.checking.check_paths.Goals as goal
 
 pub loop-path-init : goal.loop-path-init
@@ -69,5 +73,28 @@ returns-clause-checks g c =
           (Appends (g.W.Write.contents c.args.out.now) (g.W.Write.contents c.loop-path.out))
           (Appends (g.E.Write.contents c.args.err.now) (g.E.Write.contents c.loop-path.err)))
           (ap (map string_bytes) (take_all c.loop-path.path-index c.args.paths.now c.loop-path-test.false)) so.1,
+      so.2,
+    )
+
+-- the paths before the one that ended it are answered
+pub returns-in_err-any-clause-ended : goal.returns-in_err-any-clause-ended
+returns-in_err-any-clause-ended g c =
+    let l = c.loop-path in
+    let so = l.invariant.checks in
+    let left = map string_bytes (drop l.path-index c.args.paths.now) in
+    let p = err_from_is_err_and c.from_residual.result c.from_residual.ensures.1 in
+    rw (p.1, p.2) (
+      so.0,
+      l.matcher.cache,
+      (
+        left,
+        ap (map string_bytes) (sym (take-append-drop l.path-index c.args.paths.now))
+            ∙ (map-append string_bytes (take l.path-index c.args.paths.now) (drop l.path-index c.args.paths.now)
+            ∙ ap (λ ps. ps ++ left) (sym so.1.asked)),
+      ),
+      ends_after (flat_map line_for so.0) (flat_map report_for so.0)
+          (g.W.Write.contents c.args.out.now) (g.W.Write.contents l.out) (g.W.Write.contents c.check_path.new.out)
+          (g.E.Write.contents c.args.err.now) (g.E.Write.contents l.err) (g.E.Write.contents c.check_path.new.err)
+          c.in_err-any.field-0.0 so.1.answers so.1.reports c.in_err-any.ensures.ended,
       so.2,
     )

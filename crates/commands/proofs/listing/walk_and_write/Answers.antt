@@ -1,5 +1,5 @@
-use Rattle.std.proofs.Common.{map, refl, subst}
-use Rattle.std.proofs.lemmas.Result.{IfOk-weaker}
+use Rattle.std.proofs.Common.{inr, map, refl, subst}
+use Rattle.std.proofs.lemmas.Result.{IfErr-weaker, IfOk-weaker}
 use Rattle.ignore_walk.specs.Entry.{item_of}
 use Rattle.ignore.specs.Asked.{IsOutside}
 use Rattle.ignore.specs.declared.options.WalkOptions.{WalkOptions}
@@ -28,3 +28,27 @@ returns-clause-lists g c =
       ),
     ))
     c.write_items.ensures.lists
+
+-- what was written before the item that ended it is of a beginning of the walk's items
+pub returns-clause-ended : goal.returns-clause-ended
+returns-clause-ended g c =
+    IfErr-weaker c.write_items.result _ _
+    (λ stop h. (
+      map item_of h.0,
+      h.4,
+      λ tree honest. inr (
+        c.in-Ok.names.items,
+        c.in-Ok.ensures,
+        c.in-Ok-outside.outside,
+        subst (λ (b : WalkOptions). IsOutside tree c.args.env.now b c.in-Ok-outside.outside) c.empty.ensures.options
+            (c.in-Ok-outside.ensures.read tree honest),
+        λ loads items n are whole.
+            let scene = listing tree loads c.in-Ok-outside.outside in
+            let suits = suits_listing g.F.Files _ c.args.files.now _ _ tree loads c.standard-settings.result c.in-Ok-outside.outside honest are
+            c.standard-settings.ensures refl refl (λ e. refl) (λ a b. refl) in
+            let begun = c.a_run_begins_the_list.ensures scene c.new-walk.result h.2 h.0 h.1 items n h.3
+            (c.new-walk.ensures.whole scene items n suits whole) in
+            (begun.rest, begun.begins),
+      ),
+    ))
+    c.write_items.ensures.ended

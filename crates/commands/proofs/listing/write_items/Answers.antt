@@ -1,10 +1,14 @@
-use Rattle.std.proofs.Common.{◌≢◌, Err, refl}
+use Rattle.std.proofs.Common.{◌≢◌, Err, map, refl, subst}
 use Rattle.std.proofs.lemmas.List.Elements.{All-nil}
+use Rattle.std.proofs.lemmas.Result.{err_from_is_err_and}
+use Rattle.std.specs.List.{flat_map}
+use Rattle.std.specs.Iterator.{Yields}
 use Rattle.ignore_base.specs.Problem.{memory}
-use Rattle.ignore_walk.specs.Entry.{Item}
+use Rattle.ignore_walk.specs.Entry.{Item, item_of}
 use Rattle.commands.specs.Listing.{lines_of, reports_of}
 use Rattle.commands.proofs.ItemLemmas.{enough_more, grown, reported_more}
 use Rattle.commands.proofs.LineLemmas.{appends_nothing}
+use Rattle.commands.proofs.StopLemmas.{ends_after}
 use Rattle.commands.proofs.listing.write_items.Goals as goal
 
 pub loop-item-init : goal.loop-item-init
@@ -25,3 +29,19 @@ loop-item-preserved g c =
       reported = reported_more l.yielded c.in-Some.item _ _ l.invariant.reported h.2;
       enough = enough_more l.yielded c.in-Some.item l.invariant.enough c.in_ok-any.ensures.enough;
     }
+
+-- at the item that ended it
+pub returns-in_err-any-clause-ended : goal.returns-in_err-any-clause-ended
+returns-in_err-any-clause-ended g c =
+    let l = c.loop-item in
+    let p = err_from_is_err_and c.from_residual.result c.from_residual.ensures.1 in
+    rw (p.1, p.2) (
+      l.yielded,
+      c.in-Some.item,
+      c.next.new.self,
+      (l.item-iterator, subst (λ t. Yields g.I.Iterator.next_gives t l.yielded l.item-iterator) c.into_iter-item-iterator.ensures.into_iter_gives l.yielded_by, subst (λ r. g.I.Iterator.next_gives l.item-iterator r c.next.new.self) c.in-Some.is c.next.ensures.steps),
+      ends_after (flat_map lines_of (map item_of l.yielded)) (flat_map reports_of (map item_of l.yielded))
+          (g.W.Write.contents c.args.out.now) (g.W.Write.contents l.out) (g.W.Write.contents c.write_item.new.out)
+          (g.E.Write.contents c.args.err.now) (g.E.Write.contents l.err) (g.E.Write.contents c.write_item.new.err)
+          c.in_err-any.field-0.0 l.invariant.lists l.invariant.reports c.in_err-any.ensures.ended,
+    )

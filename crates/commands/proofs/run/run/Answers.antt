@@ -2,11 +2,12 @@ use Rattle.std.proofs.Common.{◌≡◌, ◌∙◌, ◌⊎◌, ℕ, IfOk, List, 
 use Rattle.std.proofs.lemmas.Result.{IfOk-weaker, IfErr-weaker}
 use Rattle.std.specs.Prelude.{⊤, option_map}
 use Rattle.std.specs.Io.KnownBytes.{Appends}
+use Rattle.std.specs.List.{flat_map}
 use Rattle.commands.specs.Words.{Question, request_view}
 use Rattle.ignore_files.specs.Gives.{IsHonest}
 use Rattle.ignore_files.specs.Tree.{Tree}
-use Rattle.commands.specs.Checking.{AreAnswers, Checked, Checks}
-use Rattle.commands.specs.Stops.{Ends, EndsReported, EndsWithReason}
+use Rattle.commands.specs.Checking.{AreAnswers, AreAnswersSoFar, AreFirst, Checked, Checks, line_for, report_for}
+use Rattle.commands.specs.Stops.{Ends, EndsReported, EndsReportedAfter}
 use Rattle.commands.proofs.StopLemmas.{ends_anyhow, ends_reported}
 use Rattle.commands.proofs.run.run.Goals as goal
 
@@ -50,4 +51,7 @@ returns-in-Some-read_paths-clause-checks g c = λ asked listed root paths is.
     ((all : List Checked) × Checks q.1 all status (Appends (g.W.Write.contents c.args.out.now) (g.W.Write.contents c.check.new.out))
     (Appends (g.E.Write.contents c.args.err.now) (g.E.Write.contents c.check.new.err))
     × ((tree : Tree) → IsHonest g.F.Files c.args.files.now tree → AreAnswers tree c.args.env.now q.0 all))
-    ⊎ ((status ≡ 2) × EndsWithReason (Appends (g.E.Write.contents c.args.err.now) (g.E.Write.contents c.check.new.err))))) same c.check.ensures.checks
+    ⊎ ((status ≡ 2) × (all : List Checked) × AreFirst q.1 all × EndsReportedAfter (flat_map line_for all) (flat_map report_for all)
+    (Appends (g.W.Write.contents c.args.out.now) (g.W.Write.contents c.check.new.out))
+    (Appends (g.E.Write.contents c.args.err.now) (g.E.Write.contents c.check.new.err))
+    × ((tree : Tree) → IsHonest g.F.Files c.args.files.now tree → AreAnswersSoFar tree c.args.env.now q.0 all)))) same c.check.ensures.checks
