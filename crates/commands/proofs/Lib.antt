@@ -7,3 +7,5 @@ pub mod CheckLemmas
 mod PrintsOnly
 mod TrimsOnly
 mod EndsOnly
+mod ListsOnly
+mod PromisesOnly

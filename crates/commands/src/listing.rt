@@ -139,6 +139,7 @@ fn write_item<W: Write, E: Write>(item: Item, out: &mut W, err: &mut E) -> Resul
         × Appends (E.contents err.old) (E.contents err.new) (reports_of (item_of item)) × (any ≡ is_reported (item_of item))) }
     ensures enough { OnOk result (item_of item ≢ Err memory) }
     ensures cause { item_of item ≡ Err memory → IfErr result (λ stop. stop ≡ Stop.Memory) }
+    ensures only { IfErr result (λ stop. stop ≡ Stop.Memory → item_of item ≡ Err memory) }
     ensures ended { IfErr result (EndsAfter [] [] (Appends (W.contents out.old) (W.contents out.new))
         (Appends (E.contents err.old) (E.contents err.new))) }
 {
@@ -156,6 +157,7 @@ fn write_entry<W: Write, E: Write>(entry: &DirEntry, out: &mut W, err: &mut E) -
         × (any ≡ is_reported (item_of (Ok entry.now)))) }
     ensures ended { IfErr result (EndsAfter [] [] (Appends (W.contents out.old) (W.contents out.new))
         (Appends (E.contents err.old) (E.contents err.new))) }
+    ensures enough { IfErr result (λ stop. stop ≢ Stop.Memory) }
 {
     write_path(entry.path(), out)?;
     match entry.error() {
