@@ -39,14 +39,19 @@ pub(crate) fn time_queries(
 ) -> Result<(), Error> {
     let text = fs::read_to_string(rt, paths)?;
     let texts = first_lines(rt.alloc(), text.as_str(), usize::MAX)?;
-    let files = DiskFiles::new(rt);
     for _ in 0..rounds {
-        let mut below = Below {
-            files: &files,
-            matcher: matcher_at(rt.alloc(), root)?,
-        };
-        time(rt, "first", &mut below, texts.as_slice())?;
-        time(rt, "kept", &mut below, texts.as_slice())?;
+        time_round(rt, root, texts.as_slice())?;
     }
     Ok(())
+}
+
+fn time_round(rt: &HostRuntime, root: &str, texts: &[&str]) -> Result<(), Error> {
+    let files = DiskFiles::new(rt);
+    let matcher = matcher_at(rt.alloc(), root)?;
+    let mut below = Below {
+        files: &files,
+        matcher,
+    };
+    time(rt, "first", &mut below, texts)?;
+    time(rt, "kept", &mut below, texts)
 }

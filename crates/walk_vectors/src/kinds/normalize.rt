@@ -2,9 +2,9 @@
 
 use super::query::matcher;
 use answers::{Answer, CALLS, but_for_memory, unrefused, variable};
-use ignore::WalkBuilder;
 use ignore::files::{Env, MemoryTree, Name};
 use ignore::text::normalize;
+use ignore::{IncrementalIgnore, WalkBuilder};
 use serde_json::Value;
 use std::alloc::Global;
 use vector_settings::Machine;
@@ -17,14 +17,24 @@ const CWD: &str = "cwd";
 pub(crate) fn answer(alloc: Global, input: &Value) -> Result<Value, Trouble> {
     let (root, path) = (text(input, "root")?, text(input, "path")?);
     let value = by_matcher(alloc, input, root, path)?;
-    let dir = variable(alloc, input, CWD)?;
-    let other = but_for_memory(normalize(alloc, dir.as_ref().map(Name::as_str), root, path))?;
+    let other = by_text(alloc, input, root, path)?;
     let mut answer = Answer::new(alloc);
     answer.put("value", value.as_ref());
     if value != other {
         answer.put("value without a matcher", other.as_ref());
     }
     Ok(answer.value()?)
+}
+
+/// The same without a matcher.
+fn by_text(
+    alloc: Global,
+    input: &Value,
+    root: &str,
+    path: &str,
+) -> Result<Option<String>, Trouble> {
+    let dir = variable(alloc, input, CWD)?;
+    but_for_memory(normalize(alloc, dir.as_ref().map(Name::as_str), root, path))
 }
 
 /// The answer of the matcher of a root, where there are no files.
@@ -34,10 +44,14 @@ fn by_matcher(
     root: &str,
     path: &str,
 ) -> Result<Option<String>, Trouble> {
-    let machine = machine(alloc, input)?;
-    let builder = but_for_memory(WalkBuilder::new(alloc, root))?;
-    let matcher = matcher(&machine, &builder)?;
+    let matcher = matcher_at(alloc, &machine(alloc, input)?, root)?;
     but_for_memory(matcher.normalize(path))
+}
+
+/// The matcher of a root on a machine.
+fn matcher_at(alloc: Global, machine: &Machine, root: &str) -> Result<IncrementalIgnore, Trouble> {
+    let builder = but_for_memory(WalkBuilder::new(alloc, root))?;
+    matcher(machine, &builder)
 }
 
 /// A machine without files, of which only the working directory is known.

@@ -33,26 +33,43 @@ fn stepped(
     machine: &Machine,
     builder: &WalkBuilder,
 ) -> Result<Items, Trouble> {
-    let mut matcher = matcher(machine, builder)?;
+    let mut subject = Subject {
+        matcher: matcher(machine, builder)?,
+        later: None,
+    };
     let mut items = Items::new(alloc);
-    let mut later = None;
     for step in list(input, STEPS)? {
-        match text_at(step, 0, STEPS)? {
-            "clone" => {
-                matcher = matcher.clone()?;
-                items.put_value(Ok(Value::Null));
-            }
-            "tree" => {
-                later = Some(later_tree(alloc, input, step)?);
-                items.put_value(Ok(Value::Null));
-            }
-            _ => {
-                let tree = later.as_ref().unwrap_or(&machine.tree);
-                items.put_value(Ok(done(alloc, tree, &mut matcher, step)?));
-            }
-        }
+        items.put_value(Ok(subject.take(alloc, input, machine, step)?));
     }
     Ok(items)
+}
+
+/// A matcher that is asked, and the tree that is there from a step `tree` on.
+#[derive(Drop)]
+struct Subject {
+    matcher: IncrementalIgnore,
+    later: Option<MemoryTree>,
+}
+
+impl Subject {
+    /// Takes a step, and returns its answer.
+    fn take(
+        &mut self,
+        alloc: Global,
+        input: &Value,
+        machine: &Machine,
+        step: &Value,
+    ) -> Result<Value, Trouble> {
+        match text_at(step, 0, STEPS)? {
+            "clone" => self.matcher = self.matcher.clone()?,
+            "tree" => self.later = Some(later_tree(alloc, input, step)?),
+            _ => {
+                let tree = self.later.as_ref().unwrap_or(&machine.tree);
+                return done(alloc, tree, &mut self.matcher, step);
+            }
+        }
+        Ok(Value::Null)
+    }
 }
 
 /// The tree that is there from a step `["tree", calls]` on.
