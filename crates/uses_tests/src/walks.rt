@@ -90,9 +90,13 @@ fn a_backup_has_all_entries(rt: HostRuntime) -> Result<(), Fail> {
 
 /// The paths of a backup of a file of the machine.
 fn backup_of_machine(alloc: Global) -> Result<String, Error> {
-    let (machine, builder) = (machine(alloc)?, WalkBuilder::new(alloc, "/p/.gitignore")?);
-    let entries = complete_entries_on_disk(alloc, &builder, &machine, &UNKNOWN)?;
+    let entries = entries_of_machine(alloc, &WalkBuilder::new(alloc, "/p/.gitignore")?)?;
     Ok(paths_of(alloc, entries.as_slice())?)
+}
+
+fn entries_of_machine(alloc: Global, builder: &WalkBuilder) -> Result<Vec<DirEntry>, Error> {
+    let machine = machine(alloc)?;
+    complete_entries_on_disk(alloc, builder, &machine, &UNKNOWN)
 }
 
 #[test]

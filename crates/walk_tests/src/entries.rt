@@ -1,4 +1,5 @@
 //! Entries, with ample memory.
+use crate::trees::tree_of;
 use ignore_base::{Error, Fault};
 use ignore_files::{FileType, MemoryTree};
 use ignore_walk::DirEntry;
@@ -6,11 +7,7 @@ use std::alloc::Global;
 
 /// A link to a file, and a link that leads nowhere.
 fn links(alloc: Global) -> anyhow::Result<MemoryTree> {
-    let mut tree = MemoryTree::new(alloc, "/")?;
-    tree.add_file("/f", b"abc")?;
-    tree.add_link("/l", "/f")?;
-    tree.add_link("/n", "/no")?;
-    Ok(tree)
+    tree_of(alloc, &["/f=abc", "/l>/f", "/n>/no"])
 }
 
 fn entry(alloc: Global, path: &str, followed: bool) -> anyhow::Result<DirEntry> {
@@ -33,12 +30,18 @@ fn reported(alloc: Global, entry: &DirEntry) -> anyhow::Result<String> {
 }
 
 #[test]
-fn followed_and_not(rt: HostRuntime) -> anyhow::Result<()> {
+fn followed(rt: HostRuntime) -> anyhow::Result<()> {
     let alloc = rt.alloc();
-    let followed = reported(alloc, &entry(alloc, "/l", true)?)?;
-    assert_eq!(rt; followed.as_str(), "File 3 Some(2)");
-    let link = reported(alloc, &entry(alloc, "/n", false)?)?;
-    assert_eq!(rt; link.as_str(), "Symlink 3 Some(4)");
+    let text = reported(alloc, &entry(alloc, "/l", true)?)?;
+    assert_eq!(rt; text.as_str(), "File 3 Some(2)");
+    Ok(())
+}
+
+#[test]
+fn not_followed(rt: HostRuntime) -> anyhow::Result<()> {
+    let alloc = rt.alloc();
+    let text = reported(alloc, &entry(alloc, "/n", false)?)?;
+    assert_eq!(rt; text.as_str(), "Symlink 3 Some(4)");
     Ok(())
 }
 
