@@ -2,9 +2,6 @@
 //! of a tree, and answers about paths below a root.
 #![tactic(auto)]
 
-#[cfg(test)]
-mod tests;
-
 use commands::run::run;
 use commands::{Stop, report_stop};
 use ignore_files::{DiskFiles, Env};

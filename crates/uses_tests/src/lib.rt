@@ -1,6 +1,11 @@
-//! Tests of the callers in `uses`: each once, with ample memory.
+//! Tests of the callers in `uses`, each once with ample memory, and of the commands of `igwalk`, of
+//! which a write or a call of the files fails.
 #![tactic(auto)]
 
+#[cfg(test)]
+mod failing_writers;
+#[cfg(test)]
+mod refused_runs;
 #[cfg(test)]
 mod rules;
 #[cfg(test)]

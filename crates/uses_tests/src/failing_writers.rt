@@ -1,11 +1,8 @@
-//! Runs over memory of which a write or a call of the files fails. Vectors say what other runs write.
-
-mod refusing;
-
+//! Runs of the commands of which a write fails. Vectors say what other runs write.
+use crate::trees::UNKNOWN;
 use commands::Stop;
 use commands::run::run;
-use ignore_base::Fault;
-use ignore_files::{Env, MemoryTree};
+use ignore::files::MemoryTree;
 use std::alloc::{AllocError, Global};
 use std::io;
 use std::io::Write;
@@ -19,17 +16,6 @@ pub(crate) fn words_of(alloc: Global, texts: &[&str]) -> Result<Vec<String>, All
     Ok(words)
 }
 
-/// An environment in which nothing is known.
-fn env() -> Env {
-    Env {
-        current_dir: None,
-        home: None,
-        xdg_config_home: None,
-        git_config_global: None,
-        git_config_system: None,
-    }
-}
-
 /// A run of `match` or of wrong words, which asks no file.
 fn run_words<W: Write, E: Write>(
     alloc: Global,
@@ -38,7 +24,7 @@ fn run_words<W: Write, E: Write>(
     err: &mut E,
 ) -> Result<u8, Stop> {
     match MemoryTree::new(alloc, "/") {
-        Ok(tree) => run(alloc, &tree, &env(), words, out, err),
+        Ok(tree) => run(alloc, &tree, &UNKNOWN, words, out, err),
         Err(_) => Err(Stop::Memory),
     }
 }
@@ -165,25 +151,5 @@ fn writes_fail_from_the_first_to_none(rt: HostRuntime) -> Result<(), Fail> {
     assert_eq!(rt; status, 1);
     let (status, _, _) = with_failing_output(rt.alloc(), 9, false)?;
     assert_eq!(rt; status, 1);
-    Ok(())
-}
-
-/// A folder with rules, whose directory `d` can't be listed and whose `{` is no glob.
-pub(crate) fn folder(alloc: Global) -> Result<MemoryTree, Fail> {
-    let mut tree = MemoryTree::new(alloc, "/")?;
-    for path in ["/t", "/t/d", "/t/c", "/t/.h"] {
-        tree.add_dir(path)?;
-    }
-    add_files(&mut tree)?;
-    tree.fault_list("/t/d", Fault::PermissionDenied)?;
-    Ok(tree)
-}
-
-fn add_files(tree: &mut MemoryTree) -> Result<(), Fail> {
-    tree.add_file("/t/.ignore", b"*.o\n")?;
-    tree.add_file("/t/c/.ignore", b"{\n")?;
-    for path in ["/t/b.o", "/t/b", "/t/a", "/t/c/x", "/t/.h/y"] {
-        tree.add_file(path, b"")?;
-    }
     Ok(())
 }

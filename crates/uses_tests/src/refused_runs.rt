@@ -1,8 +1,11 @@
 //! Runs of `list` and `check` over a folder of which one call is refused.
-use crate::tests::{folder, words_of};
+use crate::failing_writers::words_of;
+use crate::trees::tree_of;
 use commands::run::run;
-use ignore_base::Fault;
-use ignore_files::{Contents, Env, Files, Identity, Listing, MemoryTree, Metadata, Name, Refusal};
+use ignore::Fault;
+use ignore::files::{
+    Contents, Env, Files, Identity, Listing, MemoryTree, Metadata, Name, Refusal, TreeError,
+};
 use std::alloc::{AllocError, Global};
 use std::cell::Cell;
 use std::test::Fail;
@@ -53,6 +56,28 @@ impl Files for Refusing<'_> {
         self.take_turn()?;
         self.tree.identity(alloc, path, follow)
     }
+}
+
+/// A folder with rules, of which one line is no glob.
+const FOLDER: &[(&str, &[u8])] = &[
+    ("/t/", b""),
+    ("/t/d/", b""),
+    ("/t/c/", b""),
+    ("/t/.h/", b""),
+    ("/t/.ignore", b"*.o\n"),
+    ("/t/c/.ignore", b"{\n"),
+    ("/t/b.o", b""),
+    ("/t/b", b""),
+    ("/t/a", b""),
+    ("/t/c/x", b""),
+    ("/t/.h/y", b""),
+];
+
+/// That folder, whose directory `d` can't be listed.
+fn folder(alloc: Global) -> Result<MemoryTree, TreeError> {
+    let mut tree = tree_of(alloc, FOLDER)?;
+    tree.fault_list("/t/d", Fault::PermissionDenied)?;
+    Ok(tree)
 }
 
 fn name(alloc: Global, text: &str) -> Result<Option<Name>, AllocError> {
