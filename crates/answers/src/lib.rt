@@ -10,7 +10,6 @@ mod files;
 mod hex_digits;
 mod program;
 mod results;
-mod rules;
 mod tree_calls;
 mod types;
 
@@ -21,4 +20,4 @@ pub use hex_digits::bytes_of;
 pub use program::replay_all;
 pub use results::{but_for_memory, problem};
 pub use tree_calls::{CALLS, make_call, tree_of_calls, unrefused};
-pub use types::change_types;
+pub use types::{TypesCall, types_call};

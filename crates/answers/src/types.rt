@@ -1,41 +1,32 @@
 //! Operations on builders of file types, as vectors write them.
 
-use crate::results::problem;
-use ignore_base::Error;
-use ignore_types::types::TypesBuilder;
 use serde_json::Value;
 use vectors::{Trouble, text_at};
 
-/// Does an operation on a builder, as `["select", "rust"]`, which stands in the field of this name.
-/// It returns what is wrong with it; the builder is then as before.
-pub fn change_types(
-    builder: &mut TypesBuilder,
-    op: &Value,
-    name: &'static str,
-) -> Result<Option<Error>, Trouble> {
-    match text_at(op, 0, name)? {
-        "add_defaults" => problem(builder.add_defaults()),
-        call => change_type(builder, call, op, name),
-    }
+/// An operation on a builder of file types: `["add", type, glob]`, `["select", type]` and so on.
+#[derive(Clone, Copy)]
+pub enum TypesCall<'v> {
+    AddDefaults,
+    Add(&'v str, &'v str),
+    AddDef(&'v str),
+    Select(&'v str),
+    Negate(&'v str),
+    Clear(&'v str),
 }
 
-/// Does an operation whose first word is a type's name or its definition.
-fn change_type(
-    builder: &mut TypesBuilder,
-    call: &str,
-    op: &Value,
-    name: &'static str,
-) -> Result<Option<Error>, Trouble> {
+/// Reads an operation, which stands in the field of this name.
+pub fn types_call<'v>(op: &'v Value, name: &'static str) -> Result<TypesCall<'v>, Trouble> {
+    let call = text_at(op, 0, name)?;
+    if call == "add_defaults" {
+        return Ok(TypesCall::AddDefaults);
+    }
     let word = text_at(op, 1, name)?;
     match call {
-        "add" => problem(builder.add(word, text_at(op, 2, name)?)),
-        "add_def" => problem(builder.add_def(word)),
-        "select" => problem(builder.select(word)),
-        "negate" => problem(builder.negate(word)),
-        "clear" => {
-            builder.clear(word);
-            Ok(None)
-        }
+        "add" => Ok(TypesCall::Add(word, text_at(op, 2, name)?)),
+        "add_def" => Ok(TypesCall::AddDef(word)),
+        "select" => Ok(TypesCall::Select(word)),
+        "negate" => Ok(TypesCall::Negate(word)),
+        "clear" => Ok(TypesCall::Clear(word)),
         _ => Err(Trouble::Field(name)),
     }
 }

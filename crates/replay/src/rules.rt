@@ -74,10 +74,29 @@ impl Changed for GitignoreBuilder {
 }
 
 /// Puts the root and the rules of a matcher, and what is reported of its file.
-pub fn put_read(answer: &mut Answer, matcher: &Gitignore, error: &Option<Error>) {
+pub fn put_read(answer: &mut Answer, alloc: Global, matcher: &Gitignore, error: &Option<Error>) {
     answer.put("root", matcher.path());
-    answer.put("rules", matcher.rules());
+    answer.put_value("rules", rules_value(alloc, matcher.rules()));
     answer.put("error", error.as_ref());
+}
+
+/// The rules of a matcher, each with all that can be read of it.
+pub fn rules_value(alloc: Global, rules: &[Glob]) -> Result<Value, AllocError> {
+    let mut items = Items::new(alloc);
+    for rule in rules {
+        items.put_value(rule_value(alloc, rule));
+    }
+    items.value()
+}
+
+fn rule_value(alloc: Global, rule: &Glob) -> Result<Value, AllocError> {
+    let mut items = Items::new(alloc);
+    items.put(rule.original());
+    items.put(rule.actual());
+    items.put(rule.is_whitelist());
+    items.put(rule.is_only_dir());
+    items.put(rule.from());
+    items.value()
 }
 
 /// What a matcher answered: the kind of the match, and the texts and the place of the rule that

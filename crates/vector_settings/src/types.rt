@@ -1,7 +1,7 @@
 //! Overrides and file types, as settings of vectors write them.
 
 use crate::set::SET;
-use answers::{but_for_memory, change_types, problem};
+use answers::{TypesCall, but_for_memory, problem, types_call};
 use ignore_base::Error;
 use ignore_rules::overrides::{Override, OverrideBuilder};
 use ignore_types::types::{Types, TypesBuilder};
@@ -52,8 +52,23 @@ pub(crate) fn types(alloc: Global, op: &Value) -> Result<Types, Trouble> {
 
 /// Does an operation, and again where it is out of memory, on the same builder.
 fn change(builder: &mut TypesBuilder, op: &Value) -> Result<Option<Error>, Trouble> {
-    match change_types(builder, op, SET) {
-        Err(Trouble::Memory) => change_types(builder, op, SET),
+    let call = types_call(op, SET)?;
+    match changed(builder, call) {
+        Err(_) => changed(builder, call),
         changed => changed,
+    }
+}
+
+fn changed(builder: &mut TypesBuilder, call: TypesCall<'_>) -> Result<Option<Error>, Trouble> {
+    match call {
+        TypesCall::AddDefaults => problem(builder.add_defaults()),
+        TypesCall::Add(name, glob) => problem(builder.add(name, glob)),
+        TypesCall::AddDef(definition) => problem(builder.add_def(definition)),
+        TypesCall::Select(name) => problem(builder.select(name)),
+        TypesCall::Negate(name) => problem(builder.negate(name)),
+        TypesCall::Clear(name) => {
+            builder.clear(name);
+            Ok(None)
+        }
     }
 }

@@ -20,7 +20,7 @@ fn read(alloc: Global, files: &Refusing<'_>, path: &str) -> Result<Value, Troubl
     let mut answer = Answer::new(alloc);
     match Gitignore::new(alloc, files, path) {
         Ok((matcher, error)) => {
-            put_read(&mut answer, &matcher, &error);
+            put_read(&mut answer, alloc, &matcher, &error);
             answer.put("is_empty", matcher.is_empty());
             answer.put("len", matcher.len());
         }

@@ -53,7 +53,7 @@ fn put_matcher(
 ) -> Result<(), Trouble> {
     match matcher(alloc, input, files, env)? {
         Ok((matcher, error)) => {
-            put_read(answer, &matcher, &error);
+            put_read(answer, alloc, &matcher, &error);
             put_answers(answer, alloc, input, &matcher)
         }
         Err(error) => {

@@ -1,7 +1,7 @@
 //! The rules of a file, and its errors.
 
 use crate::refusing::Refusing;
-use crate::rules::builder_of_lines;
+use crate::rules::{builder_of_lines, rules_value};
 use answers::{Answer, but_for_memory, bytes_of, fault_of, problem, unrefused};
 use ignore_base::Error;
 use ignore_files::MemoryTree;
@@ -53,7 +53,7 @@ fn reported(
 ) -> Result<Value, Trouble> {
     let matcher = but_for_memory(builder.build())?;
     let mut answer = Answer::new(alloc);
-    answer.put("rules", matcher.rules());
+    answer.put_value("rules", rules_value(alloc, matcher.rules()));
     answer.put("error", error.as_ref());
     answer.put("is_io", is_io(error));
     answer.put("is_partial", is_partial(error));

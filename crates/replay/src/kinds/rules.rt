@@ -1,7 +1,7 @@
 //! The answer of the lines of gitignore files for a path, and all that can be read of their
 //! matcher.
 
-use crate::rules::{Built, after_operations, match_value};
+use crate::rules::{Built, after_operations, match_value, rules_value};
 use answers::{Answer, but_for_memory};
 use serde_json::Value;
 use std::alloc::Global;
@@ -20,7 +20,7 @@ fn asked(alloc: Global, path: &str, is_dir: bool, built: Built) -> Result<Value,
     let found = but_for_memory(matcher.matched(path, is_dir))?;
     let mut answer = Answer::new(alloc);
     answer.put_value("answer", match_value(alloc, &matcher, found));
-    answer.put("rules", matcher.rules());
+    answer.put_value("rules", rules_value(alloc, matcher.rules()));
     answer.put_value("refused", refused.value());
     answer.put("path", matcher.path());
     answer.put("num_ignores", matcher.num_ignores());

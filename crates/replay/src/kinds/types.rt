@@ -2,7 +2,7 @@
 
 use crate::clones::asked;
 use crate::operations::{Changed, OPS, apply_all};
-use answers::{Answer, Items, but_for_memory, change_types};
+use answers::{Answer, Items, TypesCall, but_for_memory, problem, types_call};
 use ignore_base::{Error, Match};
 use ignore_types::types::{FileTypeDef, Glob, Types, TypesBuilder};
 use serde_json::Value;
@@ -31,7 +31,7 @@ fn reported_built(
 ) -> Result<Value, Trouble> {
     let mut answer = Answer::new(alloc);
     answer.put_value("refused", refused.value());
-    answer.put("definitions", definitions);
+    answer.put_value("definitions", definitions_value(alloc, definitions));
     match built {
         Built::Types(types) => {
             reported_types(alloc, input, answer, definitions, &asked(input, types)?)
@@ -58,16 +58,38 @@ fn reported_types(
     answer.put_value("build", Ok(Value::Null));
     answer.put("len", types.len());
     answer.put_value("answers", answers.value());
-    put_other_definitions(&mut answer, types, definitions);
+    put_other_definitions(&mut answer, alloc, types, definitions);
     Ok(answer.value()?)
 }
 
 /// The definitions of the matcher are a field of their own, which isn't wanted, where they aren't
 /// those of the builder.
-fn put_other_definitions(answer: &mut Answer, types: &Types, definitions: &[FileTypeDef]) {
+fn put_other_definitions(
+    answer: &mut Answer,
+    alloc: Global,
+    types: &Types,
+    definitions: &[FileTypeDef],
+) {
     if types.definitions() != definitions {
-        answer.put("definitions of the matcher", types.definitions());
+        let others = definitions_value(alloc, types.definitions());
+        answer.put_value("definitions of the matcher", others);
     }
+}
+
+fn definitions_value(alloc: Global, definitions: &[FileTypeDef]) -> Result<Value, AllocError> {
+    let mut items = Items::new(alloc);
+    for definition in definitions {
+        items.put_value(definition_value(alloc, definition));
+    }
+    items.value()
+}
+
+/// A type's name and its globs.
+fn definition_value(alloc: Global, definition: &FileTypeDef) -> Result<Value, AllocError> {
+    let mut items = Items::new(alloc);
+    items.put(definition.name());
+    items.put(definition.globs());
+    items.value()
 }
 
 fn reported_refused(mut answer: Answer, error: Error) -> Result<Value, Trouble> {
@@ -78,7 +100,17 @@ fn reported_refused(mut answer: Answer, error: Error) -> Result<Value, Trouble> 
 
 impl Changed for TypesBuilder {
     fn apply(&mut self, op: &Value) -> Result<Option<Error>, Trouble> {
-        change_types(self, op, OPS)
+        match types_call(op, OPS)? {
+            TypesCall::AddDefaults => problem(self.add_defaults()),
+            TypesCall::Add(name, glob) => problem(self.add(name, glob)),
+            TypesCall::AddDef(definition) => problem(self.add_def(definition)),
+            TypesCall::Select(name) => problem(self.select(name)),
+            TypesCall::Negate(name) => problem(self.negate(name)),
+            TypesCall::Clear(name) => {
+                self.clear(name);
+                Ok(None)
+            }
+        }
     }
 }
 
@@ -111,14 +143,17 @@ fn answered(alloc: Global, input: &Value, types: &Types, ask: &Value) -> Result<
 fn match_value(alloc: Global, found: Match<Glob<'_>>) -> Result<Value, AllocError> {
     let mut items = Items::new(alloc);
     match found {
-        Match::None => put_match(&mut items, "none", None),
-        Match::Ignore(glob) => put_match(&mut items, "ignore", glob.file_type_def()),
-        Match::Whitelist(glob) => put_match(&mut items, "whitelist", glob.file_type_def()),
+        Match::None => put_match(&mut items, alloc, "none", None),
+        Match::Ignore(glob) => put_match(&mut items, alloc, "ignore", glob.file_type_def()),
+        Match::Whitelist(glob) => put_match(&mut items, alloc, "whitelist", glob.file_type_def()),
     }
     items.value()
 }
 
-fn put_match(items: &mut Items, kind: &str, definition: Option<&FileTypeDef>) {
+fn put_match(items: &mut Items, alloc: Global, kind: &str, definition: Option<&FileTypeDef>) {
     items.put(kind);
-    items.put(definition);
+    match definition {
+        Some(definition) => items.put_value(definition_value(alloc, definition)),
+        None => items.put_value(Ok(Value::Null)),
+    }
 }
