@@ -1,11 +1,17 @@
-//! Tests of the callers in `uses`, each once with ample memory, and of the commands of `igwalk`, of
-//! which a write or a call of the files fails.
+//! Tests of builders of walks, of the callers in `uses`, each once with ample memory, and of the
+//! commands of `igwalk`, of which a write or a call of the files fails.
 #![tactic(auto)]
 
 #[cfg(test)]
+mod builders;
+#[cfg(test)]
 mod failing_writers;
 #[cfg(test)]
+mod refused_builders;
+#[cfg(test)]
 mod refused_runs;
+#[cfg(test)]
+mod refusing;
 #[cfg(test)]
 mod rules;
 #[cfg(test)]

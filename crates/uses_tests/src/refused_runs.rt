@@ -1,62 +1,13 @@
 //! Runs of `list` and `check` over a folder of which one call is refused.
 use crate::failing_writers::words_of;
-use crate::trees::tree_of;
+use crate::refusing::Refusing;
+use crate::trees::{at_home, tree_of};
 use commands::run::run;
 use ignore::Fault;
-use ignore::files::{
-    Contents, Env, Files, Identity, Listing, MemoryTree, Metadata, Name, Refusal, TreeError,
-};
+use ignore::files::{Env, Files, MemoryTree, Refusal, TreeError};
 use std::alloc::{AllocError, Global};
 use std::cell::Cell;
 use std::test::Fail;
-
-/// A folder of which one call is refused, the next one where `turn` is 1.
-#[derive(Drop)]
-struct Refusing<'t> {
-    tree: &'t MemoryTree,
-    refusal: Refusal,
-    turn: Cell<u64>,
-}
-
-impl Refusing<'_> {
-    fn take_turn(&self) -> Result<(), Refusal> {
-        let turn = self.turn.get();
-        self.turn.set(turn.saturating_sub(1));
-        if turn == 1 { Err(self.refusal) } else { Ok(()) }
-    }
-}
-
-impl Files for Refusing<'_> {
-    fn stat(&self, alloc: Global, path: &str, follow: bool) -> Result<Metadata, Refusal> {
-        self.take_turn()?;
-        self.tree.stat(alloc, path, follow)
-    }
-
-    fn list(&self, alloc: Global, path: &str) -> Result<Listing, Refusal> {
-        self.take_turn()?;
-        self.tree.list(alloc, path)
-    }
-
-    fn contents(&self, alloc: Global, path: &str) -> Result<Contents, Refusal> {
-        self.take_turn()?;
-        self.tree.contents(alloc, path)
-    }
-
-    fn canonical(&self, alloc: Global, path: &str) -> Result<Name, Refusal> {
-        self.take_turn()?;
-        self.tree.canonical(alloc, path)
-    }
-
-    fn identity(
-        &self,
-        alloc: Global,
-        path: &str,
-        follow: bool,
-    ) -> Result<Option<Identity>, Refusal> {
-        self.take_turn()?;
-        self.tree.identity(alloc, path, follow)
-    }
-}
 
 /// A folder with rules, of which one line is no glob.
 const FOLDER: &[(&str, &[u8])] = &[
@@ -78,21 +29,6 @@ fn folder(alloc: Global) -> Result<MemoryTree, TreeError> {
     let mut tree = tree_of(alloc, FOLDER)?;
     tree.fault_list("/t/d", Fault::PermissionDenied)?;
     Ok(tree)
-}
-
-fn name(alloc: Global, text: &str) -> Result<Option<Name>, AllocError> {
-    Ok(Some(Name::new(String::from_str(alloc, text)?)))
-}
-
-/// An environment in which the global file is looked for in each of its places.
-fn at_home(alloc: Global) -> Result<Env, AllocError> {
-    Ok(Env {
-        current_dir: name(alloc, "/")?,
-        home: name(alloc, "/h")?,
-        xdg_config_home: None,
-        git_config_global: None,
-        git_config_system: None,
-    })
 }
 
 /// The status of a run, and whether the last that it reports is that memory ran out.

@@ -1,6 +1,6 @@
-//! Trees in memory, and an environment of which nothing is known.
-use ignore::files::{Env, MemoryTree, TreeError};
-use std::alloc::Global;
+//! Trees in memory, and environments.
+use ignore::files::{Env, MemoryTree, Name, TreeError};
+use std::alloc::{AllocError, Global};
 
 /// An environment of which nothing is known.
 pub(crate) const UNKNOWN: Env = Env {
@@ -10,6 +10,21 @@ pub(crate) const UNKNOWN: Env = Env {
     git_config_global: None,
     git_config_system: None,
 };
+
+fn name(alloc: Global, text: &str) -> Result<Option<Name>, AllocError> {
+    Ok(Some(Name::new(String::from_str(alloc, text)?)))
+}
+
+/// An environment in which the global file is looked for in each of its places.
+pub(crate) fn at_home(alloc: Global) -> Result<Env, AllocError> {
+    Ok(Env {
+        current_dir: name(alloc, "/")?,
+        home: name(alloc, "/h")?,
+        xdg_config_home: None,
+        git_config_global: None,
+        git_config_system: None,
+    })
+}
 
 /// Adds a directory, whose path ends with a slash, or a file with these contents.
 fn add(tree: &mut MemoryTree, path: &str, contents: &[u8]) -> Result<(), TreeError> {

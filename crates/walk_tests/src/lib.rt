@@ -1,8 +1,6 @@
-//! Tests of what directories hold, of single paths, of walks and of builders.
+//! Tests of what directories hold, of single paths and of walks.
 #![tactic(auto)]
 
-#[cfg(test)]
-mod builders;
 #[cfg(test)]
 mod deep;
 #[cfg(test)]
@@ -19,8 +17,6 @@ mod loads;
 mod matchers;
 #[cfg(test)]
 mod queries;
-#[cfg(test)]
-mod refused_builders;
 #[cfg(test)]
 mod refused_matchers;
 #[cfg(test)]

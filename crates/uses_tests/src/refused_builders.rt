@@ -1,25 +1,12 @@
 //! What a builder reads, over a tree of which one call is refused.
 use crate::builders::tree;
 use crate::refusing::Refusing;
-use ignore::files::{Env, Files, Name, Refusal};
+use crate::trees::at_home;
+use ignore::files::{Env, Files, Refusal};
 use ignore::{Error, Fault, WalkBuilder};
-use std::alloc::{AllocError, Global};
+use std::alloc::Global;
 use std::cell::Cell;
-
-fn name(alloc: Global, text: &str) -> Result<Option<Name>, AllocError> {
-    Ok(Some(Name::new(String::from_str(alloc, text)?)))
-}
-
-/// An environment in which the global file is looked for in each of its places.
-fn at_home(alloc: Global) -> Result<Env, AllocError> {
-    Ok(Env {
-        current_dir: name(alloc, "/")?,
-        home: name(alloc, "/h")?,
-        xdg_config_home: None,
-        git_config_global: None,
-        git_config_system: None,
-    })
-}
+use std::test::Fail;
 
 /// How many matchers a builder makes to which a file of rules is added.
 fn count<F: Files>(alloc: Global, files: &F, env: &Env) -> Result<usize, Error> {
@@ -29,7 +16,7 @@ fn count<F: Files>(alloc: Global, files: &F, env: &Env) -> Result<usize, Error> 
 }
 
 /// What becomes of it where the call with this number is refused, and whether that call was made.
-fn refused(alloc: Global, refusal: Refusal, turn: u64) -> anyhow::Result<(&'static str, bool)> {
+fn refused(alloc: Global, refusal: Refusal, turn: u64) -> Result<(&'static str, bool), Fail> {
     let env = at_home(alloc)?;
     let tree = tree(alloc)?;
     let files = Refusing {
@@ -48,7 +35,7 @@ fn refused(alloc: Global, refusal: Refusal, turn: u64) -> anyhow::Result<(&'stat
 /// The file that is added is read first. Each call that is made is refused in turn, and at last
 /// none is.
 #[test]
-fn each_call_out_of_memory(rt: HostRuntime) -> anyhow::Result<()> {
+fn each_call_out_of_memory(rt: HostRuntime) -> Result<(), Fail> {
     let mut calls = 0u64;
     for turn in 1..20u64 {
         let (outcome, made) = refused(rt.alloc(), Refusal::Memory, turn)?;
@@ -64,7 +51,7 @@ fn each_call_out_of_memory(rt: HostRuntime) -> anyhow::Result<()> {
 
 /// A fault is no error of the builder.
 #[test]
-fn each_call_with_a_fault(rt: HostRuntime) -> anyhow::Result<()> {
+fn each_call_with_a_fault(rt: HostRuntime) -> Result<(), Fail> {
     let refusal = Refusal::Fault(Fault::PermissionDenied);
     for turn in 1..20u64 {
         let (outcome, _) = refused(rt.alloc(), refusal, turn)?;

@@ -1,26 +1,22 @@
 //! What a builder makes, and walks that are made without one.
-use ignore::files::{Env, MemoryTree, TreeError};
+use crate::trees::{UNKNOWN, tree_of};
+use ignore::files::{MemoryTree, TreeError};
 use ignore::{Callbacks, Error, IncrementalIgnore, Item, Walk, WalkBuilder};
 use std::alloc::{AllocError, Global};
-
-/// An environment of which nothing is known.
-const UNKNOWN: Env = Env {
-    current_dir: None,
-    home: None,
-    xdg_config_home: None,
-    git_config_global: None,
-    git_config_system: None,
-};
+use std::test::Fail;
 
 /// A directory with rules, an ignored file, and two others.
+const TREE: &[(&str, &[u8])] = &[
+    ("/t/", b""),
+    ("/t/.ignore", b"c\n"),
+    ("/t/c", b""),
+    ("/t/b", b""),
+    ("/t/a", b""),
+];
+
+/// That directory.
 pub(crate) fn tree(alloc: Global) -> Result<MemoryTree, TreeError> {
-    let mut tree = MemoryTree::new(alloc, "/")?;
-    tree.add_dir("/t")?;
-    tree.add_file("/t/.ignore", b"c\n")?;
-    for path in ["/t/c", "/t/b", "/t/a"] {
-        tree.add_file(path, b"")?;
-    }
-    Ok(tree)
+    tree_of(alloc, TREE)
 }
 
 /// Appends the path of an entry, or an error, and a space.
@@ -52,7 +48,7 @@ fn of_one_root(alloc: Global, tree: &MemoryTree) -> Result<String, Error> {
 }
 
 #[test]
-fn a_walk_of_one_root(rt: HostRuntime) -> anyhow::Result<()> {
+fn a_walk_of_one_root(rt: HostRuntime) -> Result<(), Fail> {
     let tree = tree(rt.alloc())?;
     assert_eq!(rt; of_one_root(rt.alloc(), &tree)?.as_str(), "/t /t/b /t/a ");
     Ok(())
@@ -65,7 +61,7 @@ fn of_some_roots(alloc: Global, tree: &MemoryTree) -> Result<String, Error> {
 }
 
 #[test]
-fn a_walk_of_some_roots(rt: HostRuntime) -> anyhow::Result<()> {
+fn a_walk_of_some_roots(rt: HostRuntime) -> Result<(), Fail> {
     let tree = tree(rt.alloc())?;
     assert_eq!(rt; of_some_roots(rt.alloc(), &tree)?.as_str(), "/t/b <stdin> ");
     Ok(())
@@ -98,7 +94,7 @@ fn roots_of_three(alloc: Global, tree: &MemoryTree) -> Result<String, Error> {
 }
 
 #[test]
-fn roots_in_order(rt: HostRuntime) -> anyhow::Result<()> {
+fn roots_in_order(rt: HostRuntime) -> Result<(), Fail> {
     let tree = tree(rt.alloc())?;
     assert_eq!(rt;
         roots_of_three(rt.alloc(), &tree)?.as_str(),
