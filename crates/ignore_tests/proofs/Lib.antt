@@ -1,2 +1,1 @@
 mod WorkedSets
-mod WorkedListings

@@ -1,5 +1,5 @@
-//! Tests that need code: the machine's files beside a tree in memory, the
-//! environment of a process, and very long globs and files.
+//! Tests that need code: very long and deep globs, rules in files that fail, large files, and the
+//! queries of matches.
 #![tactic(auto)]
 
 #[cfg(test)]
@@ -7,16 +7,10 @@ mod brackets;
 #[cfg(test)]
 mod deep;
 #[cfg(test)]
-mod disk;
-#[cfg(test)]
-mod environment;
-#[cfg(test)]
 mod faults;
 #[cfg(test)]
 mod large;
 #[cfg(test)]
 mod long_globs;
-#[cfg(test)]
-mod machines;
 #[cfg(test)]
 mod queries;

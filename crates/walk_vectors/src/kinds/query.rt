@@ -37,6 +37,15 @@ fn stepped(
         matcher: matcher(machine, builder)?,
         later: None,
     };
+    steps(alloc, input, machine, &mut subject)
+}
+
+fn steps(
+    alloc: Global,
+    input: &Value,
+    machine: &Machine,
+    subject: &mut Subject,
+) -> Result<Items, Trouble> {
     let mut items = Items::new(alloc);
     for step in list(input, STEPS)? {
         items.put_value(Ok(subject.take(alloc, input, machine, step)?));

@@ -48,7 +48,7 @@ fn make(rt: &HostRuntime, thing: &str) -> io::Result<()> {
 
 /// The path of a folder in this one, for the process with this number.
 fn numbered(alloc: Global, temp: &str, id: u32) -> Result<String, AllocError> {
-    format!(in alloc; "{temp}/ignore_tests-{id}")
+    format!(in alloc; "{temp}/files_tests-{id}")
 }
 
 /// The path of a folder of this process alone. (Each test is a process.)

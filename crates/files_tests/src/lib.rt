@@ -1,0 +1,9 @@
+//! Tests of the machine's files beside a tree in memory, and of the environment of a process.
+#![tactic(auto)]
+
+#[cfg(test)]
+mod disk;
+#[cfg(test)]
+mod environment;
+#[cfg(test)]
+mod machines;
