@@ -5,8 +5,8 @@ use commands::run::run;
 use serde_json::Value;
 use std::alloc::{AllocError, Global};
 use std::str::from_utf8;
-use vector_settings::{Machine, machine_of};
 use vectors::{Trouble, list};
+use walk_vectors::{Machine, machine_of};
 
 /// The name of the field with the words after the program's name.
 const WORDS: &str = "words";

@@ -140,16 +140,32 @@ fn errors_that_cannot_be_written_end_the_run(rt: HostRuntime) -> Result<(), Fail
     Ok(())
 }
 
-/// The tests above let each write in turn fail: they begin at the first, and at last none fails.
+/// The status of a run of which a write of the output fails after so many, as do those after it;
+/// and how much it has written.
+fn end_of_output(alloc: Global, calls: usize) -> Result<(u8, usize), AllocError> {
+    let (status, written, _) = with_failing_output(alloc, calls, false)?;
+    Ok((status, written.len()))
+}
+
+/// The same of a write of the errors, and how much was reported.
+fn end_of_errors(alloc: Global, calls: usize) -> Result<(u8, usize), AllocError> {
+    let (status, _, reported) = with_failing_errors(alloc, calls, false)?;
+    Ok((status, reported.len()))
+}
+
+/// The tests above let each write in turn fail: they begin at the first.
 #[test]
-fn writes_fail_from_the_first_to_none(rt: HostRuntime) -> Result<(), Fail> {
-    let (status, written, _) = with_failing_output(rt.alloc(), 0, false)?;
-    assert_eq!(rt; (status, written.len()), (2, 0));
-    let (status, _, reported) = with_failing_errors(rt.alloc(), 0, false)?;
-    assert_eq!(rt; (status, reported.len()), (2, 0));
-    let (status, _, _) = with_failing_errors(rt.alloc(), 19, false)?;
-    assert_eq!(rt; status, 1);
-    let (status, _, _) = with_failing_output(rt.alloc(), 9, false)?;
-    assert_eq!(rt; status, 1);
+fn the_first_write_fails(rt: HostRuntime) -> Result<(), Fail> {
+    assert_eq!(rt; end_of_output(rt.alloc(), 0)?, (2, 0));
+    assert_eq!(rt; end_of_errors(rt.alloc(), 0)?, (2, 0));
+    Ok(())
+}
+
+/// And at last none fails.
+#[test]
+fn at_last_no_write_fails(rt: HostRuntime) -> Result<(), Fail> {
+    let (of_errors, _) = end_of_errors(rt.alloc(), 19)?;
+    let (of_output, _) = end_of_output(rt.alloc(), 9)?;
+    assert_eq!(rt; (of_errors, of_output), (1, 1));
     Ok(())
 }

@@ -5,10 +5,10 @@ mod normalize;
 mod query;
 mod walk;
 
+use crate::settings::{Choice, Flag, Machine, Named, Number, Rules, machine_of, play};
 use ignore::{DirEntry, WalkBuilder};
 use serde_json::Value;
 use std::alloc::Global;
-use vector_settings::{Choice, Flag, Machine, Named, Number, Rules, machine_of, play};
 use vectors::{Kinds, Trouble};
 
 /// The library, asked by the kinds.

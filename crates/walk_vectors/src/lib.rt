@@ -2,5 +2,7 @@
 #![tactic(auto)]
 
 mod kinds;
+mod settings;
 
 pub use kinds::Library;
+pub use settings::{Machine, machine_of};

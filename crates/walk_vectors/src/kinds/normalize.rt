@@ -1,13 +1,13 @@
 //! The text by which a matcher knows a path.
 
 use super::query::matcher;
+use crate::settings::Machine;
 use answers::{Answer, CALLS, but_for_memory, unrefused, variable};
 use ignore::files::{Env, MemoryTree, Name};
 use ignore::text::normalize;
 use ignore::{IncrementalIgnore, WalkBuilder};
 use serde_json::Value;
 use std::alloc::Global;
-use vector_settings::Machine;
 use vectors::{Trouble, text};
 
 /// The name of the field with the working directory.

@@ -1,11 +1,11 @@
 //! The answers of a matcher for paths in turn.
 
+use crate::settings::{Machine, items_at};
 use answers::{Answer, Items, but_for_memory, tree_of_calls};
 use ignore::files::MemoryTree;
 use ignore::{Error, IncrementalIgnore, IncrementalMatch, WalkBuilder, check_paths};
 use serde_json::Value;
 use std::alloc::{AllocError, Global};
-use vector_settings::{Machine, items_at};
 use vectors::{Trouble, flag_at, list, text, text_at};
 
 /// The name of the field with what is done in turn.

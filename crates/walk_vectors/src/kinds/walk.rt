@@ -1,11 +1,11 @@
 //! The items of a walk, and its steps.
 
+use crate::settings::{Machine, limit_of};
 use answers::{Answer, Items, but_for_memory};
 use ignore::files::MemoryTree;
 use ignore::{Callbacks, DirEntry, Error, Fault, Item, Walk, WalkBuilder, collect_walk};
 use serde_json::Value;
 use std::alloc::{AllocError, Global};
-use vector_settings::{Machine, limit_of};
 use vectors::{Trouble, is_equal, text};
 
 /// The name of the field that says which call is asked for the items. Where it is missing both are.

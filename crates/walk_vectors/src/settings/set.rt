@@ -3,12 +3,12 @@
 //! The builder is a type parameter here, and its calls are closures: they are made in the one
 //! function that has the builder.
 
-use crate::chosen::{Choice, filter_of, order_of};
-use crate::types::{overrides, types};
+use super::chosen::{Choice, filter_of, order_of};
+use super::types::{overrides, types};
 use answers::{Items, but_for_memory};
-use ignore_base::Error;
-use ignore_rules::overrides::Override;
-use ignore_types::types::Types;
+use ignore::Error;
+use ignore::overrides::Override;
+use ignore::types::Types;
 use serde_json::Value;
 use std::alloc::{AllocError, Global};
 use vectors::{Trouble, flag_at, item, list, text, text_at};
@@ -24,7 +24,7 @@ const ROOTS: &str = "roots";
 
 /// What is on or off.
 #[derive(Clone, Copy, Drop)]
-pub enum Flag {
+pub(crate) enum Flag {
     StandardFilters,
     Hidden,
     Parents,
@@ -41,7 +41,7 @@ pub enum Flag {
 
 /// What has a number, or none.
 #[derive(Clone, Copy, Drop)]
-pub enum Number {
+pub(crate) enum Number {
     MaxDepth,
     MinDepth,
     MaxFilesize,
@@ -50,7 +50,7 @@ pub enum Number {
 
 /// Rules from outside, and the directory that they are relative to.
 #[derive(Drop)]
-pub enum Rules {
+pub(crate) enum Rules {
     CurrentDir(String),
     Overrides(Override),
     Types(Types),
@@ -58,7 +58,7 @@ pub enum Rules {
 
 /// What is added by its name.
 #[derive(Clone, Copy, Drop)]
-pub enum Named {
+pub(crate) enum Named {
     Root,
     Custom,
     File,
@@ -76,7 +76,7 @@ enum Setting<'v> {
 
 /// Plays the settings of a vector, and then adds its roots. It returns what was reported of each
 /// file that was added. A call that was out of memory is made again, on the same builder.
-pub fn play<B, F, N, R, C, A>(
+pub(crate) fn play<B, F, N, R, C, A>(
     alloc: Global,
     input: &Value,
     builder: &mut B,
@@ -145,7 +145,7 @@ fn push_roots<'v>(input: &'v Value, settings: &mut Vec<Setting<'v>>) -> Result<(
 }
 
 /// The limit of steps that a vector sets last.
-pub fn limit_of(input: &Value) -> Result<u64, Trouble> {
+pub(crate) fn limit_of(input: &Value) -> Result<u64, Trouble> {
     let mut limit = u64::MAX;
     for op in list(input, SET)? {
         if text_at(op, 0, SET)? == "limit" {

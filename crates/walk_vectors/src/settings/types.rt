@@ -1,16 +1,16 @@
 //! Overrides and file types, as settings of vectors write them.
 
-use crate::set::SET;
+use super::set::SET;
 use answers::{TypesCall, but_for_memory, problem, types_call};
-use ignore_base::Error;
-use ignore_rules::overrides::{Override, OverrideBuilder};
-use ignore_types::types::{Types, TypesBuilder};
+use ignore::Error;
+use ignore::overrides::{Override, OverrideBuilder};
+use ignore::types::{Types, TypesBuilder};
 use serde_json::Value;
 use std::alloc::Global;
 use vectors::{Trouble, item, text_at};
 
 /// The items of the list at a place of a list, which stands in the field of this name.
-pub fn items_at<'v>(
+pub(crate) fn items_at<'v>(
     list: &'v Value,
     place: usize,
     name: &'static str,

@@ -1,7 +1,7 @@
 //! The machine of a vector: a tree of files in memory, and the environment of a run.
 
 use answers::{CALLS, environment, tree_of_calls};
-use ignore_files::{Env, MemoryTree};
+use ignore::files::{Env, MemoryTree};
 use serde_json::Value;
 use std::alloc::Global;
 use vectors::{Trouble, field, list, text};

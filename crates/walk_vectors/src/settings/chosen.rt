@@ -1,8 +1,8 @@
 //! The filter and the order of the entries of a walk, as a vector chooses them.
 
-use crate::set::SET;
-use ignore_files::FileType;
-use ignore_walk::DirEntry;
+use super::set::SET;
+use ignore::DirEntry;
+use ignore::files::FileType;
 use serde_json::Value;
 use std::alloc::Global;
 use std::cmp::Ordering;
@@ -10,7 +10,7 @@ use vectors::{Trouble, item, text_at};
 
 /// Which entries a filter accepts.
 #[derive(Drop)]
-pub enum Filter {
+pub(crate) enum Filter {
     /// Those with another file name.
     NameNot(String),
     /// Those of a smaller depth.
@@ -23,7 +23,7 @@ pub enum Filter {
 
 impl Filter {
     /// Whether it accepts an entry.
-    pub fn accepts(&self, entry: &DirEntry) -> bool {
+    pub(crate) fn accepts(&self, entry: &DirEntry) -> bool {
         match self {
             Filter::NameNot(name) => entry.file_name() != name.as_str(),
             Filter::DepthBelow(depth) => (entry.depth() as u64) < *depth,
@@ -35,7 +35,7 @@ impl Filter {
 
 /// How two texts compare.
 #[derive(Clone, Copy, Drop)]
-pub enum By {
+pub(crate) enum By {
     /// As texts.
     Text,
     /// As texts, the greatest first.
@@ -48,7 +48,7 @@ pub enum By {
 
 impl By {
     /// The order of two texts.
-    pub fn compare(self, a: &str, b: &str) -> Ordering {
+    pub(crate) fn compare(self, a: &str, b: &str) -> Ordering {
         match self {
             By::Text => a.cmp(b),
             By::Reverse => b.cmp(a),
@@ -60,7 +60,7 @@ impl By {
 
 /// A filter, or an order of names or paths.
 #[derive(Drop)]
-pub enum Choice {
+pub(crate) enum Choice {
     Filter(Filter),
     Names(By),
     Paths(By),
