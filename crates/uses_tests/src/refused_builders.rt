@@ -8,11 +8,16 @@ use std::alloc::Global;
 use std::cell::Cell;
 use std::test::Fail;
 
-/// How many matchers a builder makes to which a file of rules is added.
+/// How many matchers a builder makes.
+fn made<F: Files>(builder: &WalkBuilder, files: &F, env: &Env) -> Result<usize, Error> {
+    Ok(builder.build_matchers(files, env)?.len())
+}
+
+/// The same of a builder to which a file of rules is added.
 fn count<F: Files>(alloc: Global, files: &F, env: &Env) -> Result<usize, Error> {
     let mut builder = WalkBuilder::new(alloc, "/t")?;
     builder.add_ignore(files, env, "/t/.ignore")?;
-    Ok(builder.build_matchers(files, env)?.len())
+    made(&builder, files, env)
 }
 
 /// What becomes of it where the call with this number is refused, and whether that call was made.
