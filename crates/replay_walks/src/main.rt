@@ -2,13 +2,13 @@
 //! vectors ask, and compares whole answers.
 #![tactic(auto)]
 
-mod igwalk;
 mod kinds;
+mod settings;
 
-use crate::kinds::Programs;
+use crate::kinds::Library;
 use answers::replay_all;
 use std::process::ExitCode;
 
 fn main(rt: HostRuntime) -> ExitCode {
-    ExitCode::from(replay_all(&rt, &Programs))
+    ExitCode::from(replay_all(&rt, &Library))
 }

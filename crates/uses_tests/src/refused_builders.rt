@@ -9,7 +9,7 @@ use std::cell::Cell;
 use std::test::Fail;
 
 /// How many matchers a builder makes.
-fn made<F: Files>(builder: &WalkBuilder, files: &F, env: &Env) -> Result<usize, Error> {
+fn matcher_count<F: Files>(builder: &WalkBuilder, files: &F, env: &Env) -> Result<usize, Error> {
     Ok(builder.build_matchers(files, env)?.len())
 }
 
@@ -17,7 +17,7 @@ fn made<F: Files>(builder: &WalkBuilder, files: &F, env: &Env) -> Result<usize, 
 fn count<F: Files>(alloc: Global, files: &F, env: &Env) -> Result<usize, Error> {
     let mut builder = WalkBuilder::new(alloc, "/t")?;
     builder.add_ignore(files, env, "/t/.ignore")?;
-    made(&builder, files, env)
+    matcher_count(&builder, files, env)
 }
 
 /// What becomes of it where the call with this number is refused, and whether that call was made.

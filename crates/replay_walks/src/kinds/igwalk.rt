@@ -1,12 +1,12 @@
 //! Runs of the program `igwalk`, with writers in memory.
 
+use crate::settings::{Machine, machine_of};
 use answers::Answer;
 use commands::run::run;
 use serde_json::Value;
 use std::alloc::{AllocError, Global};
 use std::str::from_utf8;
 use vectors::{Trouble, list};
-use walk_vectors::{Machine, machine_of};
 
 /// The name of the field with the words after the program's name.
 const WORDS: &str = "words";

@@ -7,6 +7,6 @@ mod set;
 mod types;
 
 pub(crate) use chosen::Choice;
-pub use machine::{Machine, machine_of};
+pub(crate) use machine::{Machine, machine_of};
 pub(crate) use set::{Flag, Named, Number, Rules, limit_of, play};
 pub(crate) use types::items_at;

@@ -8,15 +8,15 @@ use vectors::{Trouble, field, list, text};
 
 /// A tree in memory and an environment.
 #[derive(Drop)]
-pub struct Machine {
+pub(crate) struct Machine {
     /// The tree.
-    pub tree: MemoryTree,
+    pub(crate) tree: MemoryTree,
     /// The environment.
-    pub env: Env,
+    pub(crate) env: Env,
 }
 
 /// The machine of a vector.
-pub fn machine_of(alloc: Global, input: &Value) -> Result<Machine, Trouble> {
+pub(crate) fn machine_of(alloc: Global, input: &Value) -> Result<Machine, Trouble> {
     let tree = tree_of_calls(alloc, text(input, "cwd")?, list(input, CALLS)?)?;
     let env = environment(alloc, field(input, "env")?)?;
     Ok(Machine { tree, env })
