@@ -6,7 +6,7 @@ ghost use Rattle.ignore_base.specs.Paths.{join_of};
 ghost use Rattle.ignore_base.specs.Problem.{problem_of, memory};
 ghost use Rattle.ignore_rules.specs.Matchers.{is_file_there};
 ghost use Rattle.ignore_dir.specs.Exclude.{exclude_place, exclude_by};
-ghost use Rattle.ignore_dir.specs.Load.{Loads, IsExclude, is_marked, is_there, joined_some, needs_marks};
+ghost use Rattle.ignore_dir.specs.Load.{Loads, IsExclude, IsRules, custom_paths, path_if, is_marked, is_there, joined_some, needs_marks};
 ghost use Rattle.ignore_dir.specs.Places.{place_of};
 ghost use Rattle.ignore_dir.specs.Soft.{IsSoft, IsSoftPlace};
 
@@ -40,27 +40,102 @@ pub fn load_directory<F: Files>(
     ensures soft { IfOk result (λ r. IsSoft (option_map problem_of r.1)) }
     ensures out_of_memory { IfErr result (λ e. problem_of e ≡ memory) }
 {
-    let (custom, of_custom) = rules_of_names(
+    let own = own_rules(alloc, files, settings, dir)?;
+    let git = git_rules(alloc, files, settings, dir)?;
+    let error = joined_four(
         alloc,
-        files,
-        settings,
-        dir,
-        settings.custom.as_slice(),
+        own.of_custom,
+        own.of_ignore,
+        own.of_gitignore,
+        git.of_exclude,
     )?;
+    let loaded = Dir {
+        custom: own.custom,
+        ignore: own.ignore,
+        gitignore: own.gitignore,
+        exclude: git.exclude,
+        mark: git.mark,
+    };
+    Ok((loaded, error))
+}
+
+/// The rules of the files that stand in a directory, and their errors.
+#[derive(Drop)]
+struct OwnRules {
+    custom: Gitignore,
+    of_custom: Option<Error>,
+    ignore: Gitignore,
+    of_ignore: Option<Error>,
+    gitignore: Gitignore,
+    of_gitignore: Option<Error>,
+}
+
+/// The rules of the files that stand in a directory, each where its filter is on.
+fn own_rules<F: Files>(
+    alloc: Global,
+    files: &F,
+    settings: &Settings,
+    dir: &str,
+) -> Result<OwnRules, Error>
+    ensures custom { (tree : Tree) → IsHonest F.Files files.now tree
+        → IfOk result (λ own. IsRules tree settings.now dir.now (custom_paths settings.now dir.now) own.custom (option_map problem_of own.of_custom)) }
+    ensures ignore { (tree : Tree) → IsHonest F.Files files.now tree
+        → IfOk result (λ own. IsRules tree settings.now dir.now (path_if settings.now.ignore dir.now (codes ".ignore"))
+        own.ignore (option_map problem_of own.of_ignore)) }
+    ensures gitignore { (tree : Tree) → IsHonest F.Files files.now tree
+        → IfOk result (λ own. IsRules tree settings.now dir.now (path_if settings.now.git_ignore dir.now (codes ".gitignore"))
+        own.gitignore (option_map problem_of own.of_gitignore)) }
+    ensures soft_custom { IfOk result (λ own. IsSoft (option_map problem_of own.of_custom)) }
+    ensures soft_ignore { IfOk result (λ own. IsSoft (option_map problem_of own.of_ignore)) }
+    ensures soft_gitignore { IfOk result (λ own. IsSoft (option_map problem_of own.of_gitignore)) }
+    ensures out_of_memory { IfErr result (λ e. problem_of e ≡ memory) }
+{
+    let names = settings.custom.as_slice();
+    let (custom, of_custom) = rules_of_names(alloc, files, settings, dir, names)?;
     let (ignore, of_ignore) = rules_if(alloc, files, settings, dir, settings.ignore, ".ignore")?;
     let on = settings.git_ignore;
     let (gitignore, of_gitignore) = rules_if(alloc, files, settings, dir, on, ".gitignore")?;
-    let repository = repository_of(alloc, files, settings, dir)?;
-    let (exclude, of_exclude) = exclude_rules(alloc, files, settings, dir, repository.exclude)?;
-    let loaded = Dir {
+    Ok(OwnRules {
         custom,
+        of_custom,
         ignore,
+        of_ignore,
         gitignore,
+        of_gitignore,
+    })
+}
+
+/// What a directory's repository has for the rules.
+#[derive(Drop)]
+struct GitRules {
+    mark: bool,
+    exclude: Gitignore,
+    of_exclude: Option<Error>,
+}
+
+/// Whether a repository begins at a directory, and the rules of its exclude file.
+fn git_rules<F: Files>(
+    alloc: Global,
+    files: &F,
+    settings: &Settings,
+    dir: &str,
+) -> Result<GitRules, Error>
+    ensures mark { (tree : Tree) → IsHonest F.Files files.now tree
+        → IfOk result (λ git. git.mark ≡ is_marked tree settings.now dir.now) }
+    ensures exclude { (tree : Tree) → IsHonest F.Files files.now tree
+        → IfOk result (λ git. IsExclude tree settings.now dir.now (exclude_place tree settings.now dir.now)
+        git.exclude (option_map problem_of git.of_exclude)) }
+    ensures soft { IfOk result (λ git. IsSoft (option_map problem_of git.of_exclude)) }
+    ensures out_of_memory { IfErr result (λ e. problem_of e ≡ memory) }
+{
+    let repository = repository_of(alloc, files, settings, dir)?;
+    let mark = repository.mark;
+    let (exclude, of_exclude) = exclude_rules(alloc, files, settings, dir, repository.exclude)?;
+    Ok(GitRules {
+        mark,
         exclude,
-        mark: repository.mark,
-    };
-    let error = joined_four(alloc, of_custom, of_ignore, of_gitignore, of_exclude)?;
-    Ok((loaded, error))
+        of_exclude,
+    })
 }
 
 /// What a directory's `.git` and `.jj` say of a repository.

@@ -1,6 +1,6 @@
 //! What one listed thing is.
 ghost use Rattle.std.specs.Prelude.{◌≡◌, ◌+◌, ◌&&◌, not, ℕ, Bool, List, Result, length, map, reverse, take, option_map, IfOk, IfErr};
-ghost use Rattle.std.specs.Prelude.{None, Ok, Err, string_bytes, true};
+ghost use Rattle.std.specs.Prelude.{None, Ok, Err, MatchOption, string_bytes, true};
 ghost use Rattle.std.specs.Option.{option_copied};
 ghost use Rattle.ignore_base.specs.Paths.{is_proper, has_slash, join_of};
 ghost use Rattle.ignore_base.specs.Problem.{Problem, problem_of, at_depth, io, memory};
@@ -177,6 +177,37 @@ fn loop_at(alloc: Global, depth: usize, ancestor: &str, child: &str) -> Result<E
     Ok(Error::WithDepth { depth, err })
 }
 
+/// The error in the place of a followed link to a directory, where it leads to one of those that
+/// were entered, or that isn't known.
+fn loop_of<F: Files>(
+    alloc: Global,
+    files: &F,
+    frames: &[Frame],
+    entry: &DirEntry,
+) -> Result<Option<Error>, Error>
+    ensures value { (tree : Tree) → IsHonest F.Files files.now tree → IfOk result (λ found. MatchOption found
+        (or_failed (entry_of entry.now).path (entry_of entry.now).depth (Rattle.ignore_walk.specs.Child.unlooped (entry_of entry.now))
+        (and_then (λ id. same_among tree id (map (λ f. f.path) (reverse frames.now))) (identity_at tree (entry_of entry.now).path))
+        ≡ Ok (entry_of entry.now))
+        (λ e. or_failed (entry_of entry.now).path (entry_of entry.now).depth (Rattle.ignore_walk.specs.Child.unlooped (entry_of entry.now))
+        (and_then (λ id. same_among tree id (map (λ f. f.path) (reverse frames.now))) (identity_at tree (entry_of entry.now).path))
+        ≡ Err (problem_of e))) }
+    ensures out_of_memory { IfErr result (λ e. problem_of e ≡ memory) }
+{
+    let ancestor = match identity_at(alloc, files, entry.path()) {
+        Ok(identity) => same_among(alloc, files, identity, frames),
+        Err(refusal) => Err(refusal),
+    };
+    match ancestor {
+        Ok(None) => Ok(None),
+        Ok(Some(ancestor)) => Ok(Some(loop_at(alloc, entry.depth(), ancestor, entry.path())?)),
+        Err(Refusal::Fault(fault)) => {
+            Ok(Some(failed_at(alloc, entry.path(), entry.depth(), fault)?))
+        }
+        Err(Refusal::Memory) => Err(Error::Memory),
+    }
+}
+
 /// A followed link to a directory, unless it leads to one of those that were entered.
 fn unlooped<F: Files>(
     alloc: Global,
@@ -189,17 +220,9 @@ fn unlooped<F: Files>(
         (and_then (λ id. same_among tree id (map (λ f. f.path) (reverse frames.now))) (identity_at tree (entry_of entry).path)))) }
     ensures out_of_memory { IfErr result (λ e. problem_of e ≡ memory) }
 {
-    let ancestor = match identity_at(alloc, files, entry.path()) {
-        Ok(identity) => same_among(alloc, files, identity, frames),
-        Err(refusal) => Err(refusal),
-    };
-    match ancestor {
-        Ok(None) => Ok(Ok(entry)),
-        Ok(Some(ancestor)) => Ok(Err(loop_at(alloc, entry.depth(), ancestor, entry.path())?)),
-        Err(Refusal::Fault(fault)) => {
-            Ok(Err(failed_at(alloc, entry.path(), entry.depth(), fault)?))
-        }
-        Err(Refusal::Memory) => Err(Error::Memory),
+    match loop_of(alloc, files, frames, &entry)? {
+        None => Ok(Ok(entry)),
+        Some(error) => Ok(Err(error)),
     }
 }
 

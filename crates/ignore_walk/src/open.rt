@@ -62,6 +62,25 @@ fn listing_of<F: Files>(
     }
 }
 
+/// What a directory lists, in the order of the walk; and the fault of the listing.
+fn listed<F: Files, S: Callbacks>(
+    alloc: Global,
+    files: &F,
+    owner: &S,
+    order: Order,
+    path: &str,
+) -> Result<(VecDeque<Listed>, Option<Fault>), Error>
+    ensures rest { (tree : Tree) (chosen : Option (List ℕ → List ℕ → List ℕ → Bool)) → IsHonest F.Files files.now tree
+        → IsOrderBy order (S.compares owner.now) chosen
+        → IfOk result (λ r. IsArranged chosen path.now (listing_of (tree.list path.now)) r.0.items) }
+    ensures fault { (tree : Tree) → IsHonest F.Files files.now tree → IfOk result (λ r. r.1 ≡ result_err (tree.list path.now)) }
+    ensures out_of_memory { IfErr result (λ e. problem_of e ≡ memory) }
+{
+    let (listing, fault) = listing_of(alloc, files, path)?;
+    let listing = arranged(alloc, owner, order, path, listing)?;
+    Ok((VecDeque::from_vec(listing), fault))
+}
+
 /// Loads and lists a directory. `text` is its path as the directories around it see it.
 pub(crate) fn open<F: Files, S: Callbacks>(
     alloc: Global,
@@ -84,10 +103,8 @@ pub(crate) fn open<F: Files, S: Callbacks>(
     ensures fault { (tree : Tree) → IsHonest F.Files files.now tree → IfOk result (λ o. o.fault ≡ result_err (tree.list path)) }
     ensures out_of_memory { IfErr result (λ e. problem_of e ≡ memory) }
 {
+    let (rest, fault) = listed(alloc, files, owner, order, path.as_str())?;
     let (dir, error) = loaded(alloc, files, settings, path.as_str())?;
-    let (listing, fault) = listing_of(alloc, files, path.as_str())?;
-    let listing = arranged(alloc, owner, order, path.as_str(), listing)?;
-    let rest = VecDeque::from_vec(listing);
     let dir = Box::new(alloc, dir)?;
     let frame = Frame {
         path,

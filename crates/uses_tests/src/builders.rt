@@ -19,12 +19,17 @@ pub(crate) fn tree(alloc: Global) -> Result<MemoryTree, TreeError> {
     tree_of(alloc, TREE)
 }
 
+/// The path of an entry, or an error.
+fn text_of(alloc: Global, item: &Item) -> Result<String, AllocError> {
+    match item {
+        Ok(entry) => String::from_str(alloc, entry.path()),
+        Err(error) => format!(in alloc; "[{error}]"),
+    }
+}
+
 /// Appends the path of an entry, or an error, and a space.
-fn put(alloc: Global, item: Item, text: &mut String) -> Result<(), AllocError> {
-    let line = match item {
-        Ok(entry) => String::from_str(alloc, entry.path())?,
-        Err(error) => format!(in alloc; "[{error}]")?,
-    };
+fn put(alloc: Global, item: &Item, text: &mut String) -> Result<(), AllocError> {
+    let line = text_of(alloc, item)?;
     text.push_str(line.as_str())?;
     text.push(' ')
 }
@@ -36,7 +41,7 @@ fn items_of<S: Callbacks>(
 ) -> Result<String, AllocError> {
     let mut text = String::new(alloc);
     for item in walk {
-        put(alloc, item, &mut text)?;
+        put(alloc, &item, &mut text)?;
     }
     Ok(text)
 }

@@ -10,15 +10,19 @@ use std::alloc::Global;
 fn loaded(alloc: Global, lines: &[&str], dir: &str) -> anyhow::Result<String> {
     let tree = tree_of(alloc, lines)?;
     let (loaded, error) = load_directory(alloc, &tree, &Settings::standard(alloc), dir)?;
-    shown(alloc, &loaded, error)
+    with_error(alloc, shown(alloc, &loaded)?, &error)
 }
 
-fn shown(alloc: Global, dir: &Dir, error: Option<Error>) -> anyhow::Result<String> {
+fn shown(alloc: Global, dir: &Dir) -> anyhow::Result<String> {
     let (ignore, gitignore) = (dir.ignore.len(), dir.gitignore.len());
     let (exclude, mark) = (dir.exclude.len(), if dir.mark { " m" } else { "" });
+    Ok(format!(in alloc; "{ignore} {gitignore} {exclude}{mark}")?)
+}
+
+fn with_error(alloc: Global, text: String, error: &Option<Error>) -> anyhow::Result<String> {
     match error {
-        None => Ok(format!(in alloc; "{ignore} {gitignore} {exclude}{mark}")?),
-        Some(error) => Ok(format!(in alloc; "{ignore} {gitignore} {exclude}{mark}: {error}")?),
+        None => Ok(text),
+        Some(error) => Ok(format!(in alloc; "{text}: {error}")?),
     }
 }
 
@@ -74,7 +78,7 @@ fn above(alloc: Global, settings: &Settings, lines: &[&str]) -> anyhow::Result<S
 fn shown_above(alloc: Global, above: &Above) -> anyhow::Result<String> {
     let mut text = String::from_str(alloc, above.base.as_str())?;
     for placed in above.dirs.as_slice() {
-        let dir = shown(alloc, &placed.dir, None)?;
+        let dir = shown(alloc, &placed.dir)?;
         let line = format!(in alloc; "; {}: {dir}", placed.offset)?;
         text.push_str(line.as_str())?;
     }

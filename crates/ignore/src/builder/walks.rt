@@ -67,9 +67,9 @@ impl WalkOptions {
         ensures goes_on { IfOk result (λ w. w.inner.ended ≡ false) }
         ensures out_of_memory { IfErr result (λ e. problem_of e ≡ memory) }
     {
-        let outside = self.outside(files, env)?;
-        let settings = self.settings.get().clone()?;
         let roots = self.root_names()?;
+        let settings = self.settings.get().clone()?;
+        let outside = self.outside(files, env)?;
         let alloc = self.settings.allocator();
         let options = self.walk_options(order);
         let inner = ignore_walk::Walk::new(alloc, files, owner, settings, outside, options, roots);

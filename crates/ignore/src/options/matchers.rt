@@ -36,10 +36,10 @@ impl WalkOptions {
         ensures out_of_memory { IfErr result (λ e. problem_of e ≡ memory) }
     {
         let alloc = self.settings.allocator();
-        let settings = self.settings.get().clone()?;
-        let outside = outside.clone()?;
         let root = String::from_str(alloc, root)?;
         let dir = dir_of(alloc, env)?;
+        let settings = self.settings.get().clone()?;
+        let outside = outside.clone()?;
         Ok(IncrementalIgnore::new(settings, outside, root, dir))
     }
 }

@@ -6,5 +6,5 @@ use Rattle.ignore_dir.proofs.load.load_directory.Goals as goal
 pub returns-clause-soft : goal.returns-clause-soft
 returns-clause-soft g c =
     subst IsSoft (sym c.in_ok-error.ensures.value)
-    (joined_four-soft _ _ _ _ c.in_ok-custom.ensures.soft c.in_ok-ignore.ensures.soft c.in_ok-gitignore.ensures.soft
-    (c.in_ok-exclude.ensures.soft c.in_ok-repository.ensures.soft))
+    (joined_four-soft _ _ _ _ c.in_ok-own.ensures.soft_custom c.in_ok-own.ensures.soft_ignore c.in_ok-own.ensures.soft_gitignore
+    c.in_ok-git.ensures.soft)
