@@ -8,6 +8,8 @@ ghost use Rattle.ignore_base.specs.declared.error.Error.{Error};
 ghost use Rattle.ignore_files.specs.Gives.{IsHonest};
 ghost use Rattle.ignore_files.specs.Tree.{Tree};
 ghost use Rattle.ignore_walk.specs.Entry.{Item, item_of};
+ghost use Rattle.ignore.specs.Asked.{IsOutside};
+ghost use Rattle.ignore.specs.Builder.{unset};
 ghost use Rattle.ignore_walk.specs.declared.entry.DirEntry.{DirEntry};
 ghost use Rattle.commands.specs.Listing.{Lists, path_line, report_line, lines_of, reports_of, is_reported};
 ghost use Rattle.commands.specs.Stops.{EndsAfter, EndsReportedAfter};
@@ -17,7 +19,7 @@ use crate::by_name::ByName;
 use crate::stop::{Stop, report_stop};
 use ignore::WalkBuilder;
 use ignore_base::Error;
-use ignore_dir::Settings;
+use ignore_dir::{Outside, Settings};
 use ignore_files::{Env, Files, Name};
 use ignore_walk::{DirEntry, Item, Options, Order, Walk, runs};
 use std::alloc::{AllocError, Global};
@@ -79,7 +81,7 @@ fn walk_and_write<F: Files, W: Write, E: Write>(
     let Ok(names) = trimmed_roots(alloc, roots) else {
         return Err(Stop::Memory);
     };
-    let Ok(outside) = WalkBuilder::empty(alloc).outside(files, env) else {
+    let Ok(outside) = outside_of(alloc, files, env) else {
         return Err(Stop::Memory);
     };
     let settings = Settings::standard(alloc);
@@ -87,6 +89,14 @@ fn walk_and_write<F: Files, W: Write, E: Write>(
     runs::a_run_yields_the_list::<F, ByName>();
     runs::a_run_begins_the_list::<F, ByName>();
     write_items(walk, out, err)
+}
+
+/// The rules from outside of the directories, by the settings of a new builder.
+fn outside_of<F: Files>(alloc: Global, files: &F, env: &Env) -> Result<Outside, Error>
+    ensures read { (tree : Tree) → IsHonest F.Files files.now tree → IfOk result (IsOutside tree env.now unset) }
+{
+    let builder = WalkBuilder::empty(alloc);
+    builder.outside(files, env)
 }
 
 /// The roots without the slashes at their ends.

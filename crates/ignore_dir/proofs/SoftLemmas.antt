@@ -87,3 +87,11 @@ collected_soft (Some p ∷ ts) h = (All-head IsSoft (Some p) ts h, collected_sof
 
 pub joined_all-soft : (ts : List (Option Problem)) → All IsSoft ts → AllSoft (option_to_list (joined_some ts))
 joined_all-soft ts h = more_soft [] (joined_some ts) tt (joined-soft (filter_map (λ q. q) ts) (collected_soft ts h))
+
+-- the errors that there are, with one more, which may be none
+pub collected-more : (ts : List (Option Problem)) (t : Option Problem)
+    → filter_map (λ q. q) (ts ++ t ∷ []) ≡ filter_map (λ q. q) ts ++ option_to_list t
+collected-more [] None = refl
+collected-more [] (Some p) = refl
+collected-more (None ∷ ts) t = collected-more ts t
+collected-more (Some p ∷ ts) t = ap (λ (l : List Problem). p ∷ l) (collected-more ts t)

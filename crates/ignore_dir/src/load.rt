@@ -286,9 +286,8 @@ fn joined_four(
     ensures out_of_memory { IfErr result (λ e. problem_of e ≡ memory) }
 {
     let mut errors = Vec::new(alloc);
-    push_some(&mut errors, first)?;
-    push_some(&mut errors, second)?;
-    push_some(&mut errors, third)?;
-    push_some(&mut errors, fourth)?;
+    for error in [first, second, third, fourth] {
+        push_some(&mut errors, error)?;
+    }
     Ok(Error::joined(errors))
 }

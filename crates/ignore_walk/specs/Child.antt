@@ -60,6 +60,11 @@ without_loop tree ancestors e =
     then or_failed e.path e.depth (unlooped e) (and_then (λ id. same_among tree id ancestors) (identity_at tree e.path))
     else Ok e
 
+-- an entry, or the error in its place, if there is one
+abbrev pub unless : Entry → Option Problem → Result Entry Problem
+unless e None = Ok e
+unless e (Some problem) = Err problem
+
 -- where the walk stays on one device, the identity of a directory has to be known
 abbrev pub with_device : Scene → Bool → Entry → Result Entry Problem
 with_device g is_dir e =

@@ -1,6 +1,6 @@
 //! What one listed thing is.
 ghost use Rattle.std.specs.Prelude.{◌≡◌, ◌+◌, ◌&&◌, not, ℕ, Bool, List, Result, length, map, reverse, take, option_map, IfOk, IfErr};
-ghost use Rattle.std.specs.Prelude.{None, Ok, Err, MatchOption, string_bytes, true};
+ghost use Rattle.std.specs.Prelude.{None, Ok, Err, string_bytes, true};
 ghost use Rattle.std.specs.Option.{option_copied};
 ghost use Rattle.ignore_base.specs.Paths.{is_proper, has_slash, join_of};
 ghost use Rattle.ignore_base.specs.Problem.{Problem, problem_of, at_depth, io, memory};
@@ -9,7 +9,7 @@ ghost use Rattle.ignore_files.specs.Memory.{and_then};
 ghost use Rattle.ignore_files.specs.Tree.{Tree, Answers};
 ghost use Rattle.ignore_walk.specs.Branch.{Branch, path_of, entered};
 ghost use Rattle.ignore_walk.specs.Child.{child, found, followed_link, or_failed, is_dir_kind, is_same, identity_at, known, named};
-ghost use Rattle.ignore_walk.specs.Child.{same_among, with_device, without_loop};
+ghost use Rattle.ignore_walk.specs.Child.{same_among, unless, with_device, without_loop};
 ghost use Rattle.ignore_walk.specs.Entry.{Entry, entry_of, item_of, fresh, problem_in};
 ghost use Rattle.ignore_walk.specs.Scene.{Scene};
 
@@ -185,13 +185,10 @@ fn loop_of<F: Files>(
     frames: &[Frame],
     entry: &DirEntry,
 ) -> Result<Option<Error>, Error>
-    ensures value { (tree : Tree) → IsHonest F.Files files.now tree → IfOk result (λ found. MatchOption found
-        (or_failed (entry_of entry.now).path (entry_of entry.now).depth (Rattle.ignore_walk.specs.Child.unlooped (entry_of entry.now))
-        (and_then (λ id. same_among tree id (map (λ f. f.path) (reverse frames.now))) (identity_at tree (entry_of entry.now).path))
-        ≡ Ok (entry_of entry.now))
-        (λ e. or_failed (entry_of entry.now).path (entry_of entry.now).depth (Rattle.ignore_walk.specs.Child.unlooped (entry_of entry.now))
-        (and_then (λ id. same_among tree id (map (λ f. f.path) (reverse frames.now))) (identity_at tree (entry_of entry.now).path))
-        ≡ Err (problem_of e))) }
+    ensures value { (tree : Tree) → IsHonest F.Files files.now tree
+        → IfOk result (λ error. unless (entry_of entry.now) (option_map problem_of error)
+        ≡ or_failed (entry_of entry.now).path (entry_of entry.now).depth (Rattle.ignore_walk.specs.Child.unlooped (entry_of entry.now))
+        (and_then (λ id. same_among tree id (map (λ f. f.path) (reverse frames.now))) (identity_at tree (entry_of entry.now).path))) }
     ensures out_of_memory { IfErr result (λ e. problem_of e ≡ memory) }
 {
     let ancestor = match identity_at(alloc, files, entry.path()) {
@@ -243,6 +240,27 @@ fn without_loop<F: Files>(
     Ok(Ok(entry))
 }
 
+/// The error in the place of an entry whose identity has to be known and isn't.
+fn unknown_device<F: Files>(
+    alloc: Global,
+    files: &F,
+    entry: &DirEntry,
+) -> Result<Option<Error>, Error>
+    ensures value { (tree : Tree) → IsHonest F.Files files.now tree
+        → IfOk result (λ error. unless (entry_of entry.now) (option_map problem_of error)
+        ≡ or_failed (entry_of entry.now).path (entry_of entry.now).depth (λ id. Ok (entry_of entry.now))
+        (identity_at tree (entry_of entry.now).path)) }
+    ensures out_of_memory { IfErr result (λ e. problem_of e ≡ memory) }
+{
+    match identity_at(alloc, files, entry.path()) {
+        Ok(_) => Ok(None),
+        Err(Refusal::Fault(fault)) => {
+            Ok(Some(failed_at(alloc, entry.path(), entry.depth(), fault)?))
+        }
+        Err(Refusal::Memory) => Err(Error::Memory),
+    }
+}
+
 /// An entry, unless the identity of a directory has to be known and isn't.
 pub(crate) fn with_device<F: Files>(
     alloc: Global,
@@ -258,12 +276,9 @@ pub(crate) fn with_device<F: Files>(
     if !same_file_system || !is_dir {
         return Ok(Ok(entry));
     }
-    match identity_at(alloc, files, entry.path()) {
-        Ok(_) => Ok(Ok(entry)),
-        Err(Refusal::Fault(fault)) => {
-            Ok(Err(failed_at(alloc, entry.path(), entry.depth(), fault)?))
-        }
-        Err(Refusal::Memory) => Err(Error::Memory),
+    match unknown_device(alloc, files, &entry)? {
+        None => Ok(Ok(entry)),
+        Some(error) => Ok(Err(error)),
     }
 }
 

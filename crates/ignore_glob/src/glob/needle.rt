@@ -139,12 +139,7 @@ fn extended(alloc: Global, run: &str, token: &Token) -> Result<Vec<String>, Allo
     match token {
         Token::Class(class) => by_class(alloc, run, class),
         Token::Alternates(branches) => by_branches(alloc, run, branches),
-        Token::Literal(_) => alone(alloc, run),
-        Token::Any => alone(alloc, run),
-        Token::Star => alone(alloc, run),
-        Token::RecursiveStart => alone(alloc, run),
-        Token::RecursiveMiddle => alone(alloc, run),
-        Token::RecursiveEnd => alone(alloc, run),
+        _ => alone(alloc, run),
     }
 }
 

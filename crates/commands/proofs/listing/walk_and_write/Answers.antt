@@ -1,8 +1,6 @@
-use Rattle.std.proofs.Common.{inr, map, refl, subst}
+use Rattle.std.proofs.Common.{inr, map, refl}
 use Rattle.std.proofs.lemmas.Result.{IfErr-weaker, IfOk-weaker}
 use Rattle.ignore_walk.specs.Entry.{item_of}
-use Rattle.ignore.specs.Asked.{IsOutside}
-use Rattle.ignore.specs.declared.options.WalkOptions.{WalkOptions}
 use Rattle.commands.specs.Walking.{listing}
 use Rattle.commands.proofs.WalkLemmas.{suits_listing, within}
 use Rattle.commands.proofs.listing.walk_and_write.Goals as goal
@@ -16,12 +14,11 @@ returns-clause-lists g c =
       λ tree honest. (
         c.in-Ok.names.items,
         c.in-Ok.ensures,
-        c.in-Ok-outside.outside,
-        subst (λ (b : WalkOptions). IsOutside tree c.args.env.now b c.in-Ok-outside.outside) c.empty.ensures.options
-            (c.in-Ok-outside.ensures.read tree honest),
+        c.in-Ok-outside_of.outside,
+        c.in-Ok-outside_of.ensures.read tree honest,
         λ loads items n are whole.
-            let scene = listing tree loads c.in-Ok-outside.outside in
-            let suits = suits_listing g.F.Files _ c.args.files.now _ _ tree loads c.standard-settings.result c.in-Ok-outside.outside honest are
+            let scene = listing tree loads c.in-Ok-outside_of.outside in
+            let suits = suits_listing g.F.Files _ c.args.files.now _ _ tree loads c.standard-settings.result c.in-Ok-outside_of.outside honest are
             c.standard-settings.ensures refl refl (λ e. refl) (λ a b. refl) in
             within (map item_of h.0) items c.new-walk.result.left n c.new-walk.ensures.limit h.2.enough
             (c.a_run_yields_the_list.ensures scene c.new-walk.result h.0 items n h.1 (c.new-walk.ensures.whole scene items n suits whole)),
@@ -39,12 +36,11 @@ returns-clause-ended g c =
       λ tree honest. inr (
         c.in-Ok.names.items,
         c.in-Ok.ensures,
-        c.in-Ok-outside.outside,
-        subst (λ (b : WalkOptions). IsOutside tree c.args.env.now b c.in-Ok-outside.outside) c.empty.ensures.options
-            (c.in-Ok-outside.ensures.read tree honest),
+        c.in-Ok-outside_of.outside,
+        c.in-Ok-outside_of.ensures.read tree honest,
         λ loads items n are whole.
-            let scene = listing tree loads c.in-Ok-outside.outside in
-            let suits = suits_listing g.F.Files _ c.args.files.now _ _ tree loads c.standard-settings.result c.in-Ok-outside.outside honest are
+            let scene = listing tree loads c.in-Ok-outside_of.outside in
+            let suits = suits_listing g.F.Files _ c.args.files.now _ _ tree loads c.standard-settings.result c.in-Ok-outside_of.outside honest are
             c.standard-settings.ensures refl refl (λ e. refl) (λ a b. refl) in
             let begun = c.a_run_begins_the_list.ensures scene c.new-walk.result h.2 h.0 h.1 items n h.3
             (c.new-walk.ensures.whole scene items n suits whole) in

@@ -1,16 +1,10 @@
-use Rattle.std.proofs.Common.{◌≡◌, ◌++◌, [], ◌∷◌, List, Option, None, Some, map, refl, sym, ap, ◌∙◌}
+use Rattle.std.proofs.Common.{◌++◌, [], ◌∷◌, List, map, sym, ap, ◌∙◌}
 use Rattle.std.proofs.lemmas.List.{map-append}
 use Rattle.std.specs.List.{filter_map}
 use Rattle.std.specs.Option.{option_map, option_to_list}
 use Rattle.ignore_base.specs.Problem.{Problem, problem_of}
+use Rattle.ignore_dir.proofs.SoftLemmas.{collected-more}
 use Rattle.ignore_dir.proofs.descent.as_one.Goals as goal
-
-collected-more : (ts : List (Option Problem)) (t : Option Problem)
-    → filter_map (λ q. q) (ts ++ t ∷ []) ≡ filter_map (λ q. q) ts ++ option_to_list t
-collected-more [] None = refl
-collected-more [] (Some p) = refl
-collected-more (None ∷ ts) t = collected-more ts t
-collected-more (Some p ∷ ts) t = ap (λ (l : List Problem). p ∷ l) (collected-more ts t)
 
 pub loop-error-preserved : goal.loop-error-preserved
 loop-error-preserved c =

@@ -1,0 +1,9 @@
+use Rattle.std.proofs.Common.{◌≡◌, map}
+use Rattle.std.specs.List.{filter_map}
+use Rattle.std.specs.Option.{option_map}
+use Rattle.ignore_base.specs.Problem.{problem_of}
+use Rattle.ignore_dir.proofs.load.joined_four.Given as goal
+
+-- the errors are those that there are of the ones before
+abbrev pub invariant-loop-error : goal.invariant-loop-error
+invariant-loop-error l = map problem_of l.errors.items ≡ filter_map (λ p. p) (map (option_map problem_of) l.yielded)
