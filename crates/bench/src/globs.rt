@@ -43,7 +43,11 @@ pub(crate) fn time_globs(
 ) -> Result<(), Error> {
     let globs = fs::read_to_string(rt, globs)?;
     let text = fs::read_to_string(rt, texts)?;
-    let texts = first_lines(rt.alloc(), text.as_str(), usize::MAX)?;
+    time_rows(rt, globs.as_str(), text.as_str(), rounds)
+}
+
+fn time_rows(rt: &HostRuntime, globs: &str, text: &str, rounds: usize) -> Result<(), Error> {
+    let texts = first_lines(rt.alloc(), text, usize::MAX)?;
     for line in globs.lines() {
         time_row(rt, Row::of(line), texts.as_slice(), rounds)?;
     }
@@ -53,16 +57,40 @@ pub(crate) fn time_globs(
 /// The same of one glob: `plain`; `pattern`, as the library matches it; and `braced`, the glob in
 /// braces, which has the library match it by flags.
 fn time_row(rt: &HostRuntime, row: Row<'_>, texts: &[&str], rounds: usize) -> Result<(), Error> {
-    let alloc = rt.alloc();
     let glob = row.glob;
     println!(rt; "glob {glob}")?;
-    let mut plain = row.plain(alloc)?;
-    let mut pattern = pattern_of(alloc, glob)?;
-    let mut braced = braced(alloc, glob)?;
+    let mut ways = Ways::of(rt.alloc(), row)?;
+    time_ways(rt, &mut ways, texts, rounds)
+}
+
+/// The same glob, in each way that it is matched.
+#[derive(Drop)]
+struct Ways {
+    plain: Plain,
+    pattern: Pattern,
+    braced: Pattern,
+}
+
+impl Ways {
+    fn of(alloc: Global, row: Row<'_>) -> Result<Ways, Error> {
+        Ok(Ways {
+            plain: row.plain(alloc)?,
+            pattern: pattern_of(alloc, row.glob)?,
+            braced: braced(alloc, row.glob)?,
+        })
+    }
+}
+
+fn time_ways(
+    rt: &HostRuntime,
+    ways: &mut Ways,
+    texts: &[&str],
+    rounds: usize,
+) -> Result<(), Error> {
     for _ in 0..rounds {
-        time(rt, "plain", &mut plain, texts)?;
-        time(rt, "pattern", &mut pattern, texts)?;
-        time(rt, "braced", &mut braced, texts)?;
+        time(rt, "plain", &mut ways.plain, texts)?;
+        time(rt, "pattern", &mut ways.pattern, texts)?;
+        time(rt, "braced", &mut ways.braced, texts)?;
     }
     Ok(())
 }

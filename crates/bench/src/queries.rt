@@ -52,6 +52,10 @@ fn time_round(rt: &HostRuntime, root: &str, texts: &[&str]) -> Result<(), Error>
         files: &files,
         matcher,
     };
-    time(rt, "first", &mut below, texts)?;
-    time(rt, "kept", &mut below, texts)
+    time_twice(rt, &mut below, texts)
+}
+
+fn time_twice<M: Matcher>(rt: &HostRuntime, matcher: &mut M, texts: &[&str]) -> Result<(), Error> {
+    time(rt, "first", matcher, texts)?;
+    time(rt, "kept", matcher, texts)
 }

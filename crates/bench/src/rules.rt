@@ -39,6 +39,24 @@ pub(crate) fn time_rules(
     time_first(rt, rules.as_str(), texts.as_slice(), count, rounds)
 }
 
+/// The same rules, in each way that they are asked.
+#[derive(Drop)]
+struct Ways {
+    matcher: Gitignore,
+    set: PatternSet,
+    list: OneByOne,
+}
+
+impl Ways {
+    /// The first rules of a text, so many.
+    fn of(alloc: Global, rules: &str, count: usize) -> Result<Ways, Error> {
+        let matcher = matcher_of(alloc, rules, count)?;
+        let list = OneByOne(patterns_of(alloc, &matcher)?);
+        let set = set_of(alloc, &matcher)?;
+        Ok(Ways { matcher, set, list })
+    }
+}
+
 fn time_first(
     rt: &HostRuntime,
     rules: &str,
@@ -46,16 +64,22 @@ fn time_first(
     count: usize,
     rounds: usize,
 ) -> Result<(), Error> {
-    let alloc = rt.alloc();
-    let mut matcher = matcher_of(alloc, rules, count)?;
-    let mut set = set_of(alloc, &matcher)?;
-    let mut list = OneByOne(patterns_of(alloc, &matcher)?);
-    let (rules, passes) = (matcher.len(), passes(&set, texts)?);
+    let mut ways = Ways::of(rt.alloc(), rules, count)?;
+    time_ways(rt, &mut ways, texts, rounds)
+}
+
+fn time_ways(
+    rt: &HostRuntime,
+    ways: &mut Ways,
+    texts: &[&str],
+    rounds: usize,
+) -> Result<(), Error> {
+    let (rules, passes) = (ways.matcher.len(), passes(&ways.set, texts)?);
     println!(rt; "rules {rules} passes {passes}")?;
     for _ in 0..rounds {
-        time(rt, "set", &mut set, texts)?;
-        time(rt, "matcher", &mut matcher, texts)?;
-        time(rt, "one-by-one", &mut list, texts)?;
+        time(rt, "set", &mut ways.set, texts)?;
+        time(rt, "matcher", &mut ways.matcher, texts)?;
+        time(rt, "one-by-one", &mut ways.list, texts)?;
     }
     Ok(())
 }

@@ -2,6 +2,7 @@
 
 use crate::clones::asked;
 use crate::operations::{Changed, OPS, apply_all};
+use crate::refusing::Refusing;
 use answers::{Answer, Items, but_for_memory, problem};
 use ignore_base::{Error, Match};
 use ignore_rules::gitignore::{Gitignore, GitignoreBuilder, Glob};
@@ -16,12 +17,17 @@ pub const LINES: &str = "lines";
 /// reported.
 pub fn builder_of_lines(alloc: Global, input: &Value) -> Result<GitignoreBuilder, Trouble> {
     let mut builder = but_for_memory(GitignoreBuilder::new(alloc, "/r"))?;
+    add_texts(&mut builder, input)?;
+    asked(input, builder)
+}
+
+fn add_texts(builder: &mut GitignoreBuilder, input: &Value) -> Result<(), Trouble> {
     if input.get(LINES).is_some() {
         for line in list(input, LINES)? {
-            add_text(&mut builder, line)?;
+            add_text(builder, line)?;
         }
     }
-    asked(input, builder)
+    Ok(())
 }
 
 /// Adds a line, and again where it is out of memory.
@@ -78,6 +84,17 @@ pub fn put_read(answer: &mut Answer, alloc: Global, matcher: &Gitignore, error: 
     answer.put("root", matcher.path());
     answer.put_value("rules", rules_value(alloc, matcher.rules()));
     answer.put("error", error.as_ref());
+}
+
+/// Puts the error of a call that was out of memory, where it was the files that reported this.
+pub fn put_error(
+    answer: &mut Answer,
+    name: &str,
+    files: &Refusing<'_>,
+    error: &Error,
+) -> Result<(), Trouble> {
+    answer.put(name, files.reported(error)?);
+    Ok(())
 }
 
 /// The rules of a matcher, each with all that can be read of it.

@@ -49,6 +49,7 @@ fn answered(
     machine: &Machine,
     is_walk: bool,
 ) -> Result<Value, Trouble> {
+    let by = walk::by_of(input)?;
     let mut builder = WalkBuilder::empty(alloc);
     let added = play(
         alloc,
@@ -110,11 +111,10 @@ fn answered(
             }
             Named::File => b.add_ignore(&machine.tree, &machine.env, name),
         },
-    )?;
+    );
     if !is_walk {
         return query::asked(alloc, input, machine, &builder, added);
     }
-    let by = walk::by_of(input)?;
     walk::asked(
         alloc,
         input,

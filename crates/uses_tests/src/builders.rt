@@ -1,7 +1,9 @@
 //! What a builder makes, and walks that are made without one.
+ghost use Rattle.std.specs.Iterator.{IsFinite};
+
 use crate::trees::{UNKNOWN, tree_of};
 use ignore::files::{MemoryTree, TreeError};
-use ignore::{Callbacks, Error, IncrementalIgnore, Item, Walk, WalkBuilder};
+use ignore::{Error, IncrementalIgnore, Item, Walk, WalkBuilder};
 use std::alloc::{AllocError, Global};
 use std::test::Fail;
 
@@ -34,16 +36,26 @@ fn put(alloc: Global, item: &Item, text: &mut String) -> Result<(), AllocError> 
     text.push(' ')
 }
 
-/// The items of a walk.
-fn items_of<S: Callbacks>(
+/// A text to which an item is appended, where there was memory for it so far.
+fn with(
     alloc: Global,
-    walk: Walk<'_, MemoryTree, S>,
+    text: Result<String, AllocError>,
+    item: &Item,
 ) -> Result<String, AllocError> {
-    let mut text = String::new(alloc);
-    for item in walk {
-        put(alloc, &item, &mut text)?;
-    }
+    let mut text = text?;
+    put(alloc, item, &mut text)?;
     Ok(text)
+}
+
+/// The items of a walk.
+fn items_of<I: Iterator<Item = Item> + Drop>(alloc: Global, walk: I) -> Result<String, AllocError>
+    requires ends { I.can_next walk × IsFinite (I.remaining walk) }
+{
+    let mut text = Ok(String::new(alloc));
+    for item in walk {
+        text = with(alloc, text, &item);
+    }
+    text
 }
 
 /// The items of a walk of one root.

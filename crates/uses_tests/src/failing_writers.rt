@@ -91,6 +91,8 @@ fn with_failing_errors(
     Ok((status, out, err.kept))
 }
 
+const NOTHING: &[u8] = b"";
+
 const WRITTEN: &[u8] = b"ignore *.rs\n";
 
 const REPORTED: &[u8] = b"igwalk: line 1: error parsing glob '{': unclosed alternates\n";
@@ -107,14 +109,13 @@ fn an_answer_that_cannot_be_written_is_reported(rt: HostRuntime) -> Result<(), F
             calls / 2,
             calls % 2 == 1,
         )?;
-        assert!(rt; WRITTEN.starts_with(&written));
-        if written.as_slice() == WRITTEN {
-            assert_eq!(rt; status, 1);
-            assert_eq!(rt; reported.as_slice(), REPORTED);
+        let wanted = if written.as_slice() == WRITTEN {
+            (1, REPORTED)
         } else {
-            assert_eq!(rt; status, 2);
-            assert_eq!(rt; reported.as_slice(), REPORTED_AND_ENDED);
-        }
+            (2, REPORTED_AND_ENDED)
+        };
+        assert!(rt; WRITTEN.starts_with(&written));
+        assert_eq!(rt; (status, reported.as_slice()), wanted);
     }
     Ok(())
 }
@@ -128,14 +129,13 @@ fn errors_that_cannot_be_written_end_the_run(rt: HostRuntime) -> Result<(), Fail
             calls / 2,
             calls % 2 == 1,
         )?;
-        assert!(rt; REPORTED.starts_with(&reported));
-        if reported.as_slice() == REPORTED {
-            assert_eq!(rt; status, 1);
-            assert_eq!(rt; written.as_slice(), WRITTEN);
+        let wanted = if reported.as_slice() == REPORTED {
+            (1, WRITTEN)
         } else {
-            assert_eq!(rt; status, 2);
-            assert_eq!(rt; written.len(), 0);
-        }
+            (2, NOTHING)
+        };
+        assert!(rt; REPORTED.starts_with(&reported));
+        assert_eq!(rt; (status, written.as_slice()), wanted);
     }
     Ok(())
 }

@@ -18,11 +18,16 @@ const FOLDER: &[(&str, &[u8])] = &[
     ("/p/a.c", b""),
 ];
 
+/// Whether a tree's hidden folder is ignored.
+fn is_hidden_ignored(alloc: Global, tree: &MemoryTree) -> Result<bool, Error> {
+    let (found, error) = ask_once(alloc, tree, &UNKNOWN, "/p", ".git", true)?;
+    Ok(found.is_ignore() && error.is_none())
+}
+
 #[test]
 fn a_tool_asks_about_one_path(rt: HostRuntime) -> Result<(), Fail> {
     let tree = tree_of(rt.alloc(), FOLDER)?;
-    let (found, error) = ask_once(rt.alloc(), &tree, &UNKNOWN, "/p", ".git", true)?;
-    assert!(rt; found.is_ignore() && error.is_none());
+    assert!(rt; is_hidden_ignored(rt.alloc(), &tree)?);
     Ok(())
 }
 
@@ -51,11 +56,21 @@ fn matcher(alloc: Global, rules: &[u8]) -> Result<IncrementalIgnore, Fail> {
     Ok(matcher_below(alloc, &tree, &UNKNOWN, "/p")?)
 }
 
+/// Whether it is ignored, before and after a change of the rules.
+fn watched(alloc: Global, matcher: &mut IncrementalIgnore) -> Result<(bool, bool), Fail> {
+    let before = ignored_after(alloc, matcher, b"*.o\n")?;
+    let after = ignored_after(alloc, matcher, b"*.c\n")?;
+    Ok((before, after))
+}
+
+fn watched_by_one(alloc: Global) -> Result<(bool, bool), Fail> {
+    let mut matcher = matcher(alloc, b"*.o\n")?;
+    watched(alloc, &mut matcher)
+}
+
 #[test]
 fn a_watcher_asks_again(rt: HostRuntime) -> Result<(), Fail> {
-    let mut matcher = matcher(rt.alloc(), b"*.o\n")?;
-    assert!(rt; ignored_after(rt.alloc(), &mut matcher, b"*.o\n")?);
-    assert!(rt; !ignored_after(rt.alloc(), &mut matcher, b"*.c\n")?);
+    assert_eq!(rt; watched_by_one(rt.alloc())?, (true, false));
     Ok(())
 }
 
@@ -90,11 +105,16 @@ fn a_backup_has_all_entries(rt: HostRuntime) -> Result<(), Fail> {
 
 /// The paths of a backup of a file of the machine.
 fn backup_of_machine(alloc: Global) -> Result<String, Error> {
-    let entries = entries_of_machine(alloc, &WalkBuilder::new(alloc, "/p/.gitignore")?)?;
+    let entries = entries_of_machine(alloc)?;
     Ok(paths_of(alloc, entries.as_slice())?)
 }
 
-fn entries_of_machine(alloc: Global, builder: &WalkBuilder) -> Result<Vec<DirEntry>, Error> {
+fn entries_of_machine(alloc: Global) -> Result<Vec<DirEntry>, Error> {
+    let builder = WalkBuilder::new(alloc, "/p/.gitignore")?;
+    entries_by(alloc, &builder)
+}
+
+fn entries_by(alloc: Global, builder: &WalkBuilder) -> Result<Vec<DirEntry>, Error> {
     let machine = machine(alloc)?;
     complete_entries_on_disk(alloc, builder, &machine, &UNKNOWN)
 }
@@ -130,9 +150,14 @@ fn hits(alloc: Global, found: &Found) -> Result<Vec<u8>, Fail> {
     Ok(out)
 }
 
+fn found(alloc: Global) -> Result<Found, Fail> {
+    let tree = tree_of(alloc, SOURCES)?;
+    Ok(searched(alloc, &tree, "needle")?)
+}
+
 #[test]
 fn a_search_tool_finds_lines(rt: HostRuntime) -> Result<(), Fail> {
-    let found = searched(rt.alloc(), &tree_of(rt.alloc(), SOURCES)?, "needle")?;
+    let found = found(rt.alloc())?;
     let wanted = b"/p/src/c.c:1\n/p/a.c:2\n/p/a.c:4\n";
     assert_eq!(rt; hits(rt.alloc(), &found)?.as_slice(), wanted.as_slice());
     Ok(())

@@ -1,7 +1,9 @@
 //! Names that none may have, and a tree of a thousand levels.
+ghost use Rattle.std.specs.Iterator.{IsFinite};
+
 use crate::hostile::with_names;
 use crate::walks::{Plain, options};
-use ignore_base::Fault;
+use ignore_base::{Error, Fault};
 use ignore_dir::{Outside, Settings};
 use ignore_files::{Files, MemoryTree, Name};
 use ignore_walk::{Item, Walk};
@@ -14,39 +16,42 @@ fn roots(alloc: Global) -> anyhow::Result<Vec<Name>> {
     Ok(names)
 }
 
-/// Whether an item is the fault of a name that none may have, one level below the root.
-fn is_bad_name(item: Item) -> bool {
+/// Whether an error is the fault of a name that none may have, one level below the root.
+fn is_bad_name(error: &Error) -> bool {
+    error.depth() == Some(1) && error.io_error().copied() == Some(Fault::BadName)
+}
+
+/// How many entries a walk yields, and how many such faults; and whether there is anything else.
+type Counts = (u32, u32, bool);
+
+/// The counts with one item more.
+fn with(counts: Counts, item: &Item) -> Counts {
+    let (entries, faults, others) = counts;
     match item {
-        Ok(_) => false,
-        Err(error) => error.depth() == Some(1) && error.io_error().copied() == Some(Fault::BadName),
+        Ok(_) => (entries.saturating_add(1), faults, others),
+        Err(error) if is_bad_name(error) => (entries, faults.saturating_add(1), others),
+        Err(_) => (entries, faults, true),
     }
 }
 
-/// How many entries a walk of `/t` yields, and how many such faults; and then that there is nothing
-/// else.
-fn counted<F: Files>(alloc: Global, files: &F) -> anyhow::Result<(u32, u32, bool)> {
-    let (settings, outside) = (Settings::standard(alloc), Outside::empty(alloc));
+/// The counts of a walk of `/t`.
+fn counted<F: Files>(alloc: Global, files: &F) -> anyhow::Result<Counts> {
     let names = roots(alloc)?;
     let mut options = options();
     options.limit = u64::MAX;
+    let (settings, outside) = (Settings::standard(alloc), Outside::empty(alloc));
     let walk = Walk::new(alloc, files, &Plain, settings, outside, options, names);
-    Ok(counts(walk))
+    Ok(counts_of(walk))
 }
 
-fn counts<F: Files>(walk: Walk<'_, F, Plain>) -> (u32, u32, bool) {
-    let mut entries = 0u32;
-    let mut faults = 0u32;
-    let mut others = false;
+fn counts_of<I: Iterator<Item = Item> + Drop>(walk: I) -> Counts
+    requires ends { I.can_next walk × IsFinite (I.remaining walk) }
+{
+    let mut counts = (0, 0, false);
     for item in walk {
-        if item.is_ok() {
-            entries = entries.saturating_add(1);
-        } else if is_bad_name(item) {
-            faults = faults.saturating_add(1);
-        } else {
-            others = true;
-        }
+        counts = with(counts, &item);
     }
-    (entries, faults, others)
+    counts
 }
 
 #[test]

@@ -1,9 +1,9 @@
 //! Entries, with ample memory.
 use crate::trees::tree_of;
 use ignore_base::{Error, Fault};
-use ignore_files::{FileType, MemoryTree};
+use ignore_files::{FileType, MemoryTree, Metadata};
 use ignore_walk::DirEntry;
-use std::alloc::Global;
+use std::alloc::{AllocError, Global};
 
 /// A link to a file, and a link that leads nowhere.
 fn links(alloc: Global) -> anyhow::Result<MemoryTree> {
@@ -22,10 +22,22 @@ fn entry(alloc: Global, path: &str, followed: bool) -> anyhow::Result<DirEntry> 
 /// What the tree reports of an entry: its type, size and inode, or the fault.
 fn reported(alloc: Global, entry: &DirEntry) -> anyhow::Result<String> {
     let tree = links(alloc)?;
-    let inode = entry.ino(&tree)?;
-    match entry.metadata(&tree) {
-        Ok(m) => Ok(format!(in alloc; "{:?} {} {:?}", m.file_type(), m.len(), inode)?),
-        Err(error) => Ok(format!(in alloc; "{error} {:?}", inode)?),
+    reported_by(alloc, &tree, entry)
+}
+
+fn reported_by(alloc: Global, tree: &MemoryTree, entry: &DirEntry) -> anyhow::Result<String> {
+    let inode = entry.ino(tree)?;
+    Ok(text_of(alloc, entry.metadata(tree), inode)?)
+}
+
+fn text_of(
+    alloc: Global,
+    metadata: Result<Metadata, Error>,
+    inode: Option<u64>,
+) -> Result<String, AllocError> {
+    match metadata {
+        Ok(m) => format!(in alloc; "{:?} {} {:?}", m.file_type(), m.len(), inode),
+        Err(error) => format!(in alloc; "{error} {:?}", inode),
     }
 }
 
@@ -63,14 +75,17 @@ fn standard_input(rt: HostRuntime) -> anyhow::Result<()> {
     Ok(())
 }
 
+/// A clone of a link that has an error.
+fn cloned(alloc: Global) -> anyhow::Result<DirEntry> {
+    let entry = entry(alloc, "/a/l/", false)?.with_error(Some(Error::Io(Fault::Other)));
+    Ok(entry.clone()?)
+}
+
 #[test]
 fn a_clone_keeps_the_error(rt: HostRuntime) -> anyhow::Result<()> {
-    let alloc = rt.alloc();
-    let entry = entry(alloc, "/a/l/", false)?.with_error(Some(Error::Io(Fault::Other)));
-    let copy = entry.clone()?;
+    let copy = cloned(rt.alloc())?;
+    assert!(rt; copy.path_is_symlink() && copy.error().is_some());
     assert_eq!(rt; copy.file_name(), "/a/l/");
-    assert!(rt; copy.path_is_symlink());
-    assert!(rt; copy.error().is_some());
     let path = copy.into_path();
     assert_eq!(rt; path.as_str(), "/a/l/");
     Ok(())

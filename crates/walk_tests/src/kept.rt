@@ -24,15 +24,23 @@ fn ask_first(alloc: Global, matcher: &mut IncrementalIgnore) -> anyhow::Result<(
 
 /// The answer for another path where the first call is out of memory, and whether it is made.
 fn then(alloc: Global, path: &str) -> anyhow::Result<(Option<IncrementalMatch>, bool)> {
-    let mut matcher = asked_once(alloc)?;
     let tree = MemoryTree::new(alloc, "/")?;
     let files = Refusing {
         tree: &tree,
         refusal: Refusal::Memory,
         turn: Cell::new(1),
     };
-    let answer = matcher.matched(&files, path, false).ok();
+    let answer = asked_again(alloc, &files, path)?;
     Ok((answer, files.turn.get() == 0))
+}
+
+fn asked_again(
+    alloc: Global,
+    files: &Refusing<'_>,
+    path: &str,
+) -> anyhow::Result<Option<IncrementalMatch>> {
+    let mut matcher = asked_once(alloc)?;
+    Ok(matcher.matched(files, path, false).ok())
 }
 
 #[test]

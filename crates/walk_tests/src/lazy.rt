@@ -1,9 +1,11 @@
 //! A directory is listed when it is entered, and not before.
+ghost use Rattle.std.specs.Iterator.{IsFinite};
+
 use crate::trees::tree_of;
 use crate::walks::{Plain, options};
 use ignore_dir::{Outside, Settings};
 use ignore_files::{Contents, Files, Identity, Listing, MemoryTree, Metadata, Name, Refusal};
-use ignore_walk::Walk;
+use ignore_walk::{Item, Walk};
 use std::alloc::Global;
 use std::cell::Cell;
 
@@ -50,11 +52,22 @@ fn take(alloc: Global, files: &Watched<'_>, items: u8) -> anyhow::Result<()> {
     let mut names = Vec::new(alloc);
     names.push(Name::new(String::from_str(alloc, "/t")?))?;
     let (settings, outside) = (Settings::standard(alloc), Outside::empty(alloc));
-    let mut walk = Walk::new(alloc, files, &Plain, settings, outside, options(), names);
-    for _ in 0..items {
-        let _ = walk.next();
-    }
+    let walk = Walk::new(alloc, files, &Plain, settings, outside, options(), names);
+    take_first(walk, items);
     Ok(())
+}
+
+/// Takes this many items, at least one.
+fn take_first<I: Iterator<Item = Item> + Drop>(walk: I, items: u8)
+    requires ends { I.can_next walk × IsFinite (I.remaining walk) }
+{
+    let mut taken = 0u8;
+    for _ in walk {
+        taken = taken.saturating_add(1);
+        if taken >= items {
+            break;
+        }
+    }
 }
 
 /// Whether this directory was listed once so many items were taken.

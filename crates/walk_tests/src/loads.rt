@@ -4,13 +4,19 @@ use ignore_base::Error;
 use ignore_dir::above::{Above, load_above};
 use ignore_dir::load::load_directory;
 use ignore_dir::{Dir, Settings};
+use ignore_files::MemoryTree;
 use std::alloc::Global;
 
 /// How many rules each list of a directory has, `m` where it has a mark, and its error.
 fn loaded(alloc: Global, lines: &[&str], dir: &str) -> anyhow::Result<String> {
     let tree = tree_of(alloc, lines)?;
-    let (loaded, error) = load_directory(alloc, &tree, &Settings::standard(alloc), dir)?;
-    with_error(alloc, shown(alloc, &loaded)?, &error)
+    loaded_in(alloc, &tree, dir)
+}
+
+fn loaded_in(alloc: Global, tree: &MemoryTree, dir: &str) -> anyhow::Result<String> {
+    let settings = Settings::standard(alloc);
+    let (loaded, error) = load_directory(alloc, tree, &settings, dir)?;
+    with_error(alloc, &loaded, &error)
 }
 
 fn shown(alloc: Global, dir: &Dir) -> anyhow::Result<String> {
@@ -19,7 +25,8 @@ fn shown(alloc: Global, dir: &Dir) -> anyhow::Result<String> {
     Ok(format!(in alloc; "{ignore} {gitignore} {exclude}{mark}")?)
 }
 
-fn with_error(alloc: Global, text: String, error: &Option<Error>) -> anyhow::Result<String> {
+fn with_error(alloc: Global, dir: &Dir, error: &Option<Error>) -> anyhow::Result<String> {
+    let text = shown(alloc, dir)?;
     match error {
         None => Ok(text),
         Some(error) => Ok(format!(in alloc; "{text}: {error}")?),

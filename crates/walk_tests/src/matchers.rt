@@ -9,9 +9,14 @@ fn matcher(alloc: Global) -> anyhow::Result<IncrementalIgnore> {
     Ok(IncrementalIgnore::new(settings, Outside::empty(alloc), root, None))
 }
 
+fn cloned(alloc: Global) -> anyhow::Result<IncrementalIgnore> {
+    let matcher = matcher(alloc)?;
+    Ok(matcher.clone()?)
+}
+
 #[test]
 fn the_root_of_a_clone(rt: HostRuntime) -> anyhow::Result<()> {
-    let clone = matcher(rt.alloc())?.clone()?;
+    let clone = cloned(rt.alloc())?;
     assert_eq!(rt; clone.root(), "/t");
     Ok(())
 }

@@ -54,15 +54,19 @@ fn refused(
     turn: u64,
 ) -> anyhow::Result<(&'static str, &'static str, bool)> {
     let tree = tree_of(alloc, TREE)?;
-    let mut matcher = matcher(alloc)?;
     let files = Refusing {
         tree: &tree,
         refusal,
         turn: Cell::new(turn),
     };
-    let first = answer(&mut matcher, &files);
-    let second = answer(&mut matcher, &tree);
+    let (first, second) = answers(alloc, &files)?;
     Ok((first, second, files.turn.get() == 0))
+}
+
+fn answers(alloc: Global, files: &Refusing<'_>) -> anyhow::Result<(&'static str, &'static str)> {
+    let mut matcher = matcher(alloc)?;
+    let first = answer(&mut matcher, files);
+    Ok((first, answer(&mut matcher, files.tree)))
 }
 
 /// Each call that is made is refused in turn, and at last none is.

@@ -1,5 +1,5 @@
 //! Trees in memory, written as lines.
-use ignore_files::MemoryTree;
+use ignore_files::{MemoryTree, TreeError};
 use std::alloc::Global;
 
 /// A tree of lines: a path alone is a directory, `PATH=CONTENTS` a file, `PATH>TARGET` a link.
@@ -11,12 +11,12 @@ pub fn tree_of(alloc: Global, lines: &[&str]) -> anyhow::Result<MemoryTree> {
     Ok(tree)
 }
 
-fn add_line(tree: &mut MemoryTree, line: &str) -> anyhow::Result<()> {
+fn add_line(tree: &mut MemoryTree, line: &str) -> Result<(), TreeError> {
     if let Some((path, contents)) = line.split_once('=') {
-        return Ok(tree.add_file(path, contents.as_bytes())?);
+        tree.add_file(path, contents.as_bytes())
+    } else if let Some((path, target)) = line.split_once('>') {
+        tree.add_link(path, target)
+    } else {
+        tree.add_dir(line)
     }
-    if let Some((path, target)) = line.split_once('>') {
-        return Ok(tree.add_link(path, target)?);
-    }
-    Ok(tree.add_dir(line)?)
 }

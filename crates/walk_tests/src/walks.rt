@@ -1,9 +1,11 @@
 //! Walks of trees in memory, by steps.
+ghost use Rattle.std.specs.Iterator.{IsFinite};
+
 use crate::trees::tree_of;
 use ignore_dir::{Outside, Settings};
-use ignore_files::{Files, Name};
+use ignore_files::Name;
 use ignore_walk::{Callbacks, DirEntry, Item, Options, Order, Walk};
-use std::alloc::Global;
+use std::alloc::{AllocError, Global};
 use std::cmp::Ordering;
 
 /// No filter, and names in the order of their bytes.
@@ -38,32 +40,46 @@ pub fn options() -> Options {
 }
 
 /// An item as text: the path of an entry, or an error in brackets.
-fn push_item(alloc: Global, text: &mut String, item: Item) -> anyhow::Result<()> {
+fn text_of(alloc: Global, item: &Item) -> Result<String, AllocError> {
     match item {
-        Ok(entry) => text.push_str(entry.path())?,
-        Err(error) => {
-            let line = format!(in alloc; "({error})")?;
-            text.push_str(line.as_str())?;
-        }
+        Ok(entry) => String::from_str(alloc, entry.path()),
+        Err(error) => format!(in alloc; "({error})"),
     }
-    text.push(' ')?;
-    Ok(())
 }
 
-/// The items of a walk up to its end, which is a full stop.
-pub fn items_of<F: Files>(alloc: Global, walk: Walk<'_, F, Plain>) -> anyhow::Result<String> {
-    let mut walk = walk;
-    let mut text = String::new(alloc);
-    for _ in 0..2000u16 {
-        match walk.next() {
-            None => {
-                text.push('.')?;
-                return Ok(text);
-            }
-            Some(item) => push_item(alloc, &mut text, item)?,
-        }
-    }
+fn push_item(alloc: Global, text: &mut String, item: &Item) -> Result<(), AllocError> {
+    let line = text_of(alloc, item)?;
+    text.push_str(line.as_str())?;
+    text.push(' ')
+}
+
+/// A text to which an item is appended, where there was memory for it so far.
+fn with(
+    alloc: Global,
+    text: Result<String, AllocError>,
+    item: &Item,
+) -> Result<String, AllocError> {
+    let mut text = text?;
+    push_item(alloc, &mut text, item)?;
     Ok(text)
+}
+
+/// A text to which a full stop is appended.
+fn ended(text: Result<String, AllocError>) -> anyhow::Result<String> {
+    let mut text = text?;
+    text.push('.')?;
+    Ok(text)
+}
+
+/// The items of a walk, and after its end a full stop.
+pub fn items_of<I: Iterator<Item = Item> + Drop>(alloc: Global, walk: I) -> anyhow::Result<String>
+    requires ends { I.can_next walk × IsFinite (I.remaining walk) }
+{
+    let mut text = Ok(String::new(alloc));
+    for item in walk {
+        text = with(alloc, text, &item);
+    }
+    ended(text)
 }
 
 /// The items of a walk of `/t` with this many steps, in a tree of two files.

@@ -1,8 +1,10 @@
 //! The matcher of one file of rules, relative to the directory of the file.
 
 use crate::refusing::Refusing;
-use crate::rules::put_read;
+use crate::rules::{put_error, put_read};
 use answers::{Answer, CALLS, tree_of_calls};
+use ignore_base::Error;
+use ignore_files::MemoryTree;
 use ignore_rules::gitignore::Gitignore;
 use serde_json::Value;
 use std::alloc::Global;
@@ -13,18 +15,27 @@ use vectors::{Trouble, list, text};
 pub fn answer(alloc: Global, input: &Value) -> Result<Value, Trouble> {
     let path = text(input, "path")?;
     let tree = tree_of_calls(alloc, text(input, "cwd")?, list(input, CALLS)?)?;
-    read(alloc, &Refusing::of(&tree, input)?, path)
+    read(alloc, input, &tree, path)
 }
 
-fn read(alloc: Global, files: &Refusing<'_>, path: &str) -> Result<Value, Trouble> {
-    let mut answer = Answer::new(alloc);
-    match Gitignore::new(alloc, files, path) {
-        Ok((matcher, error)) => {
-            put_read(&mut answer, alloc, &matcher, &error);
-            answer.put("is_empty", matcher.is_empty());
-            answer.put("len", matcher.len());
-        }
-        Err(error) => answer.put("error", files.reported(&error)?),
+fn read(alloc: Global, input: &Value, tree: &MemoryTree, path: &str) -> Result<Value, Trouble> {
+    let files = Refusing::of(tree, input)?;
+    match Gitignore::new(alloc, &files, path) {
+        Ok((matcher, error)) => reported(alloc, &matcher, &error),
+        Err(error) => failed(alloc, &files, &error),
     }
+}
+
+fn reported(alloc: Global, matcher: &Gitignore, error: &Option<Error>) -> Result<Value, Trouble> {
+    let mut answer = Answer::new(alloc);
+    put_read(&mut answer, alloc, matcher, error);
+    answer.put("is_empty", matcher.is_empty());
+    answer.put("len", matcher.len());
+    Ok(answer.value()?)
+}
+
+fn failed(alloc: Global, files: &Refusing<'_>, error: &Error) -> Result<Value, Trouble> {
+    let mut answer = Answer::new(alloc);
+    put_error(&mut answer, "error", files, error)?;
     Ok(answer.value()?)
 }

@@ -1,7 +1,7 @@
 //! The global file: where it is, and the rules that stand in it.
 
 use crate::refusing::Refusing;
-use crate::rules::{LINES, builder_of_lines, match_value, put_read};
+use crate::rules::{LINES, builder_of_lines, match_value, put_error, put_read};
 use answers::{Answer, CALLS, Items, but_for_memory, environment, tree_of_calls};
 use ignore_base::Error;
 use ignore_files::{Env, MemoryTree};
@@ -19,8 +19,9 @@ const FILES: &str = "files";
 /// of a builder with the lines, or that of the working directory where there is no field of lines.
 /// Of a call that ran out of memory there is its error alone, as `path` or as `error`.
 pub fn answer(alloc: Global, input: &Value) -> Result<Value, Trouble> {
-    let tree = tree_of_calls(alloc, text(input, "cwd")?, list(input, CALLS)?)?;
+    let (cwd, calls) = (text(input, "cwd")?, list(input, CALLS)?);
     let env = environment(alloc, field(input, "env")?)?;
+    let tree = tree_of_calls(alloc, cwd, calls)?;
     reported(alloc, input, &tree, &env)
 }
 
@@ -38,10 +39,12 @@ fn put_path(
     env: &Env,
 ) -> Result<(), Trouble> {
     match gitconfig_excludes_path(alloc, files, env) {
-        Ok(path) => answer.put("path", path.as_deref()),
-        Err(error) => answer.put("path", files.reported(&error)?),
+        Ok(path) => {
+            answer.put("path", path.as_deref());
+            Ok(())
+        }
+        Err(error) => put_error(answer, "path", files, &error),
     }
-    Ok(())
 }
 
 fn put_matcher(
@@ -56,10 +59,7 @@ fn put_matcher(
             put_read(answer, alloc, &matcher, &error);
             put_answers(answer, alloc, input, &matcher)
         }
-        Err(error) => {
-            answer.put("error", files.reported(&error)?);
-            Ok(())
-        }
+        Err(error) => put_error(answer, "error", files, &error),
     }
 }
 

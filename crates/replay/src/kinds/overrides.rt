@@ -14,11 +14,16 @@ pub fn answer(alloc: Global, input: &Value) -> Result<Value, Trouble> {
     let mut builder = but_for_memory(OverrideBuilder::new(alloc, text(input, "root")?))?;
     let refused = apply_all(alloc, &mut builder, input)?;
     let globs = globs_of(input, builder)?;
-    asked(alloc, input, &globs, refused)
+    asked(alloc, kind(input, &globs), &globs, refused)
 }
 
-fn asked(alloc: Global, input: &Value, globs: &Override, refused: Items) -> Result<Value, Trouble> {
-    let kind = kind(input, globs, text(input, "path")?, flag(input, "is_dir")?)?;
+fn asked(
+    alloc: Global,
+    kind: Result<&'static str, Trouble>,
+    globs: &Override,
+    refused: Items,
+) -> Result<Value, Trouble> {
+    let kind = kind?;
     let mut answer = Answer::new(alloc);
     answer.put("kind", kind);
     answer.put_value("refused", refused.value());
@@ -50,12 +55,8 @@ fn globs_of(input: &Value, builder: OverrideBuilder) -> Result<Override, Trouble
 }
 
 /// The answer of globs for a path.
-fn kind(
-    input: &Value,
-    globs: &Override,
-    path: &str,
-    is_dir: bool,
-) -> Result<&'static str, Trouble> {
+fn kind(input: &Value, globs: &Override) -> Result<&'static str, Trouble> {
+    let (path, is_dir) = (text(input, "path")?, flag(input, "is_dir")?);
     let found = but_for_memory(globs.matched(path, is_dir))?;
     match clones::asked(input, found)? {
         Match::None => Ok("none"),

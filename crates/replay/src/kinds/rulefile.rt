@@ -24,8 +24,13 @@ const CUT: &str = "cut";
 pub fn answer(alloc: Global, input: &Value) -> Result<Value, Trouble> {
     let path = text(input, "path")?;
     let tree = tree_of(alloc, path, input)?;
+    asked_of(alloc, input, &tree, path)
+}
+
+fn asked_of(alloc: Global, input: &Value, tree: &MemoryTree, path: &str) -> Result<Value, Trouble> {
+    let files = Refusing::of(tree, input)?;
     let mut builder = builder_of_options(alloc, input)?;
-    asked(alloc, &Refusing::of(&tree, input)?, path, &mut builder)
+    asked(alloc, &files, path, &mut builder)
 }
 
 fn asked(
@@ -40,9 +45,10 @@ fn asked(
 
 /// A builder with the lines and then the options of a vector.
 fn builder_of_options(alloc: Global, input: &Value) -> Result<GitignoreBuilder, Trouble> {
+    let (folds, trims) = (flag(input, "ci")?, flag(input, "gts")?);
     let mut builder = builder_of_lines(alloc, input)?;
-    problem(builder.case_insensitive(flag(input, "ci")?))?;
-    builder.git_trailing_spaces(flag(input, "gts")?);
+    problem(builder.case_insensitive(folds))?;
+    builder.git_trailing_spaces(trims);
     Ok(builder)
 }
 

@@ -2,7 +2,8 @@
 //! matcher.
 
 use crate::rules::{Built, after_operations, match_value, rules_value};
-use answers::{Answer, but_for_memory};
+use answers::{Answer, Items, but_for_memory};
+use ignore_rules::gitignore::Gitignore;
 use serde_json::Value;
 use std::alloc::Global;
 use vectors::{Trouble, flag, text};
@@ -11,15 +12,20 @@ use vectors::{Trouble, flag, text};
 pub fn answer(alloc: Global, input: &Value) -> Result<Value, Trouble> {
     let path = text(input, "path")?;
     let is_dir = flag(input, "is_dir")?;
-    let built = after_operations(alloc, input)?;
-    asked(alloc, path, is_dir, built)
+    let Built { matcher, refused } = after_operations(alloc, input)?;
+    asked(alloc, path, is_dir, &matcher, refused)
 }
 
-fn asked(alloc: Global, path: &str, is_dir: bool, built: Built) -> Result<Value, Trouble> {
-    let Built { matcher, refused } = built;
+fn asked(
+    alloc: Global,
+    path: &str,
+    is_dir: bool,
+    matcher: &Gitignore,
+    refused: Items,
+) -> Result<Value, Trouble> {
     let found = but_for_memory(matcher.matched(path, is_dir))?;
     let mut answer = Answer::new(alloc);
-    answer.put_value("answer", match_value(alloc, &matcher, found));
+    answer.put_value("answer", match_value(alloc, matcher, found));
     answer.put_value("rules", rules_value(alloc, matcher.rules()));
     answer.put_value("refused", refused.value());
     answer.put("path", matcher.path());

@@ -17,8 +17,17 @@ const ASKS: &str = "asks";
 pub fn answer(alloc: Global, input: &Value) -> Result<Value, Trouble> {
     let mut builder = TypesBuilder::new(alloc);
     let refused = apply_all(alloc, &mut builder, input)?;
+    reported(alloc, input, refused, &builder)
+}
+
+fn reported(
+    alloc: Global,
+    input: &Value,
+    refused: Items,
+    builder: &TypesBuilder,
+) -> Result<Value, Trouble> {
     let definitions = asked(input, but_for_memory(builder.definitions())?)?;
-    let built = build(&builder)?;
+    let built = build(builder)?;
     reported_built(alloc, input, refused, &definitions, built)
 }
 

@@ -25,14 +25,23 @@ struct Outcome {
 /// Answers `status`, and `stdout` and `stderr`, what was written: texts, or `null` for what is
 /// none.
 pub(crate) fn answer(alloc: Global, input: &Value) -> Result<Value, Trouble> {
-    let machine = machine_of(alloc, input)?;
     let words = words_of(alloc, list(input, WORDS)?)?;
-    let left = repeated(alloc, &machine, words.as_slice());
+    let left = left_by(alloc, input, words.as_slice())?;
+    Ok(shown(alloc, &left)?)
+}
+
+/// What a run of these words leaves on the machine of a vector.
+fn left_by(alloc: Global, input: &Value, words: &[String]) -> Result<Outcome, Trouble> {
+    let machine = machine_of(alloc, input)?;
+    Ok(repeated(alloc, &machine, words))
+}
+
+fn shown(alloc: Global, left: &Outcome) -> Result<Value, AllocError> {
     let mut answer = Answer::new(alloc);
     answer.put("status", left.status as u64);
     answer.put_value("stdout", text_of(alloc, left.out.as_slice()));
     answer.put_value("stderr", text_of(alloc, left.err.as_slice()));
-    Ok(answer.value()?)
+    answer.value()
 }
 
 fn words_of(alloc: Global, items: &[Value]) -> Result<Vec<String>, Trouble> {

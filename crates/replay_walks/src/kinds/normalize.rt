@@ -44,7 +44,17 @@ fn by_matcher(
     root: &str,
     path: &str,
 ) -> Result<Option<String>, Trouble> {
-    let matcher = matcher_at(alloc, &machine(alloc, input)?, root)?;
+    let machine = machine(alloc, input)?;
+    normalized(alloc, &machine, root, path)
+}
+
+fn normalized(
+    alloc: Global,
+    machine: &Machine,
+    root: &str,
+    path: &str,
+) -> Result<Option<String>, Trouble> {
+    let matcher = matcher_at(alloc, machine, root)?;
     but_for_memory(matcher.normalize(path))
 }
 
@@ -56,9 +66,10 @@ fn matcher_at(alloc: Global, machine: &Machine, root: &str) -> Result<Incrementa
 
 /// A machine without files, of which only the working directory is known.
 fn machine(alloc: Global, input: &Value) -> Result<Machine, Trouble> {
+    let current_dir = variable(alloc, input, CWD)?;
     let tree = unrefused(MemoryTree::new(alloc, "/"), CALLS)?;
     let env = Env {
-        current_dir: variable(alloc, input, CWD)?,
+        current_dir,
         home: None,
         xdg_config_home: None,
         git_config_global: None,

@@ -18,8 +18,9 @@ pub(crate) fn asked(
     input: &Value,
     machine: &Machine,
     builder: &WalkBuilder,
-    added: Items,
+    added: Result<Items, Trouble>,
 ) -> Result<Value, Trouble> {
+    let added = added?;
     let steps = stepped(alloc, input, machine, builder)?;
     let mut answer = Answer::new(alloc);
     answer.put_value("added", added.value());
@@ -132,11 +133,20 @@ fn answer(
     step: &Value,
 ) -> Result<Value, Trouble> {
     let (path, is_dir) = (text_at(step, 1, STEPS)?, flag_at(step, 2, STEPS)?);
-    let (found, error) = match matcher.matched_with_errors(tree, path, is_dir) {
-        Ok(answer) => answer,
-        Err(_) => but_for_memory(matcher.matched_with_errors(tree, path, is_dir))?,
-    };
+    let (found, error) = matched(tree, matcher, path, is_dir)?;
     Ok(shown(alloc, found, &error)?)
+}
+
+fn matched(
+    tree: &MemoryTree,
+    matcher: &mut IncrementalIgnore,
+    path: &str,
+    is_dir: bool,
+) -> Result<(IncrementalMatch, Option<Error>), Trouble> {
+    match matcher.matched_with_errors(tree, path, is_dir) {
+        Ok(answer) => Ok(answer),
+        Err(_) => but_for_memory(matcher.matched_with_errors(tree, path, is_dir)),
+    }
 }
 
 /// The answer of `matched`, which has no error.
@@ -148,10 +158,10 @@ fn plain_answer(
 ) -> Result<Value, Trouble> {
     let (path, is_dir) = (text_at(step, 1, STEPS)?, flag_at(step, 2, STEPS)?);
     let found = match matcher.matched(tree, path, is_dir) {
-        Ok(found) => found,
-        Err(_) => but_for_memory(matcher.matched(tree, path, is_dir))?,
+        Ok(found) => Ok(found),
+        Err(_) => but_for_memory(matcher.matched(tree, path, is_dir)),
     };
-    Ok(match_value(alloc, found)?)
+    Ok(match_value(alloc, found?)?)
 }
 
 /// The answers for several paths by one call.
@@ -162,11 +172,19 @@ fn checked(
     step: &Value,
 ) -> Result<Value, Trouble> {
     let paths = paths_of(alloc, items_at(step, 1, STEPS)?)?;
-    let answers = match check_paths(matcher, tree, paths.as_slice()) {
-        Ok(answers) => answers,
-        Err(_) => but_for_memory(check_paths(matcher, tree, paths.as_slice()))?,
-    };
+    let answers = checked_in(tree, matcher, paths.as_slice())?;
     Ok(shown_all(alloc, answers.as_slice())?)
+}
+
+fn checked_in(
+    tree: &MemoryTree,
+    matcher: &mut IncrementalIgnore,
+    paths: &[(String, bool)],
+) -> Result<Vec<(IncrementalMatch, Option<Error>)>, Trouble> {
+    match check_paths(matcher, tree, paths) {
+        Ok(answers) => Ok(answers),
+        Err(_) => but_for_memory(check_paths(matcher, tree, paths)),
+    }
 }
 
 /// The paths of `[["a", true], ["b", false]]`, of which the first is a directory.

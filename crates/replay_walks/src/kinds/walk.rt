@@ -1,9 +1,10 @@
 //! The items of a walk, and its steps.
+ghost use Rattle.std.specs.Iterator.{IsFinite};
 
 use crate::settings::{Machine, limit_of};
 use answers::{Answer, Items, but_for_memory};
 use ignore::files::MemoryTree;
-use ignore::{Callbacks, DirEntry, Error, Fault, Item, Walk, WalkBuilder, collect_walk};
+use ignore::{DirEntry, Error, Fault, Item, WalkBuilder, collect_walk};
 use serde_json::Value;
 use std::alloc::{AllocError, Global};
 use vectors::{Trouble, is_equal, text};
@@ -20,7 +21,7 @@ pub(crate) fn asked<B, L, I>(
     alloc: Global,
     input: &Value,
     builder: &mut B,
-    added: Items,
+    added: Result<Items, Trouble>,
     set_limit: L,
     list: I,
 ) -> Result<Value, Trouble>
@@ -31,6 +32,7 @@ where
     requires list { I.IsAlwaysCallable list }
 {
     let most = limit_of(input)?.min(MOST);
+    let added = added?;
     let all = list(builder)?;
     let steps = steps(builder, most, all.items.as_slice(), set_limit, list)?;
     let mut answer = Answer::new(alloc);
@@ -181,11 +183,13 @@ fn walked(alloc: Global, machine: &Machine, builder: &WalkBuilder) -> Result<Lis
     drained(alloc, &machine.tree, walk)
 }
 
-fn drained<S: Callbacks>(
+fn drained<I: Iterator<Item = Item> + Drop>(
     alloc: Global,
     tree: &MemoryTree,
-    walk: Walk<'_, MemoryTree, S>,
-) -> Result<Listed, Trouble> {
+    walk: I,
+) -> Result<Listed, Trouble>
+    requires ends { I.can_next walk × IsFinite (I.remaining walk) }
+{
     let mut items = Vec::new(alloc);
     let mut end = End::Whole;
     for item in walk {
@@ -226,11 +230,21 @@ fn end_of(item: &Item) -> End {
 }
 
 fn shown(alloc: Global, tree: &MemoryTree, item: Item) -> Result<Value, Trouble> {
-    let mut answer = Answer::new(alloc);
     match item {
-        Err(error) => answer.put("error", &error),
-        Ok(entry) => put_entry(&mut answer, tree, &entry)?,
+        Err(error) => Ok(shown_error(alloc, &error)?),
+        Ok(entry) => shown_entry(alloc, tree, &entry),
     }
+}
+
+fn shown_error(alloc: Global, error: &Error) -> Result<Value, AllocError> {
+    let mut answer = Answer::new(alloc);
+    answer.put("error", error);
+    answer.value()
+}
+
+fn shown_entry(alloc: Global, tree: &MemoryTree, entry: &DirEntry) -> Result<Value, Trouble> {
+    let mut answer = Answer::new(alloc);
+    put_entry(&mut answer, tree, entry)?;
     Ok(answer.value()?)
 }
 

@@ -17,7 +17,8 @@ pub(crate) struct Machine {
 
 /// The machine of a vector.
 pub(crate) fn machine_of(alloc: Global, input: &Value) -> Result<Machine, Trouble> {
-    let tree = tree_of_calls(alloc, text(input, "cwd")?, list(input, CALLS)?)?;
+    let (cwd, calls) = (text(input, "cwd")?, list(input, CALLS)?);
     let env = environment(alloc, field(input, "env")?)?;
+    let tree = tree_of_calls(alloc, cwd, calls)?;
     Ok(Machine { tree, env })
 }

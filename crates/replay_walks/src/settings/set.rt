@@ -74,6 +74,21 @@ enum Setting<'v> {
     Named(Named, &'v str),
 }
 
+impl Setting<'_> {
+    /// Whether it adds a file of rules.
+    fn is_file(&self) -> bool {
+        matches!(self, Setting::Named(Named::File, _))
+    }
+}
+
+/// No error of a file, or out of memory.
+fn none_of(chosen: Result<(), AllocError>) -> Result<Option<Error>, Trouble> {
+    match chosen {
+        Ok(()) => Ok(None),
+        Err(AllocError) => Err(Trouble::Memory),
+    }
+}
+
 /// Plays the settings of a vector, and then adds its roots. It returns what was reported of each
 /// file that was added. A call that was out of memory is made again, on the same builder.
 pub(crate) fn play<B, F, N, R, C, A>(
@@ -98,31 +113,53 @@ where
     requires chosen { C.IsAlwaysCallable choose }
     requires named { A.IsAlwaysCallable add }
 {
-    let mut added = Items::new(alloc);
+    let mut added = Ok(Items::new(alloc));
     for setting in settings_of(alloc, input)? {
-        match setting {
-            Setting::Flag(flag, yes) => set_flag(builder, flag, yes),
-            Setting::Number(number, value) => set_number(builder, number, value),
-            Setting::Rules(rules) => set_rules(builder, rules),
-            Setting::Chosen(choice) => choose(builder, choice)?,
-            Setting::Named(named, name) => {
-                let error = match add(builder, named, name) {
-                    Ok(error) => error,
-                    Err(_) => but_for_memory(add(builder, named, name))?,
-                };
-                if let Named::File = named {
-                    added.put(error.as_ref());
-                }
+        let is_file = setting.is_file();
+        let played = match setting {
+            Setting::Flag(flag, yes) => {
+                set_flag(builder, flag, yes);
+                Ok(None)
             }
-        }
+            Setting::Number(number, value) => {
+                set_number(builder, number, value);
+                Ok(None)
+            }
+            Setting::Rules(rules) => {
+                set_rules(builder, rules);
+                Ok(None)
+            }
+            Setting::Chosen(choice) => none_of(choose(builder, choice)),
+            Setting::Named(named, name) => match add(builder, named, name) {
+                Ok(error) => Ok(error),
+                Err(_) => but_for_memory(add(builder, named, name)),
+            },
+        };
+        added = with(added, is_file, played);
+    }
+    added
+}
+
+/// What was reported of each file so far, and of this one too, where it is one; or why the settings
+/// can't be played.
+fn with(
+    added: Result<Items, Trouble>,
+    is_file: bool,
+    played: Result<Option<Error>, Trouble>,
+) -> Result<Items, Trouble> {
+    let mut added = added?;
+    let error = played?;
+    if is_file {
+        added.put(error.as_ref());
     }
     Ok(added)
 }
 
 /// The settings of a vector in turn, and then its roots.
 fn settings_of<'v>(alloc: Global, input: &'v Value) -> Result<Vec<Setting<'v>>, Trouble> {
+    let ops = list(input, SET)?;
     let mut settings = Vec::new(alloc);
-    for op in list(input, SET)? {
+    for op in ops {
         settings.push(setting_of(alloc, op)?)?;
     }
     push_roots(input, &mut settings)?;

@@ -23,8 +23,9 @@ pub(crate) fn items_at<'v>(
 
 /// The overrides of `["overrides", root, globs]`. Globs that are refused are left out.
 pub(crate) fn overrides(alloc: Global, op: &Value) -> Result<Override, Trouble> {
+    let globs = items_at(op, 2, SET)?;
     let mut builder = but_for_memory(OverrideBuilder::new(alloc, text_at(op, 1, SET)?))?;
-    for glob in items_at(op, 2, SET)? {
+    for glob in globs {
         add_glob(&mut builder, glob)?;
     }
     but_for_memory(builder.build())
@@ -43,8 +44,9 @@ fn add_glob(builder: &mut OverrideBuilder, glob: &Value) -> Result<Option<Error>
 
 /// The types of `["types", ops]`.
 pub(crate) fn types(alloc: Global, op: &Value) -> Result<Types, Trouble> {
+    let ops = items_at(op, 1, SET)?;
     let mut builder = TypesBuilder::new(alloc);
-    for op in items_at(op, 1, SET)? {
+    for op in ops {
         change(&mut builder, op)?;
     }
     but_for_memory(builder.build())
