@@ -6,11 +6,12 @@ use std::env::FillError;
 use std::test::Fail;
 use std::{io, rt};
 
-/// A runtime in which the value of each variable is its name, unless that begins with this text,
-/// and the working directory is `/here`.
+/// A runtime in which the value of each variable is its name, unless that begins with one of these
+/// texts, and the working directory is `/here`.
 #[derive(Clone, Copy)]
 struct Named {
     unset: &'static str,
+    empty: &'static str,
 }
 
 /// Copies a text to the start of a buffer, and returns its length.
@@ -34,6 +35,9 @@ impl rt::Env for Named {
         if name.starts_with(self.unset) {
             return Err(FillError::NotPresent);
         }
+        if name.starts_with(self.empty) {
+            return fill("", buf);
+        }
         fill(name, buf)
     }
 
@@ -49,15 +53,18 @@ impl rt::Env for Named {
     }
 }
 
+/// The start of no variable's name.
+const NONE: &str = "no such name";
+
 /// The environment as a text.
-fn reported(rt: &HostRuntime, unset: &'static str) -> Result<String, Fail> {
-    let env = Env::of_process(&(Named { unset }, rt.alloc()))?;
+fn reported(rt: &HostRuntime, unset: &'static str, empty: &'static str) -> Result<String, Fail> {
+    let env = Env::of_process(&(Named { unset, empty }, rt.alloc()))?;
     Ok(format!(in rt.alloc(); "{env:?}")?)
 }
 
 #[test]
 fn each_field_is_of_its_own_variable(rt: HostRuntime) -> Result<(), Fail> {
-    let text = reported(&rt, "no such name")?;
+    let text = reported(&rt, NONE, NONE)?;
     assert_eq!(rt;
         text.as_str(),
         "Env { current_dir: Some(Name { text: \"/here\" }), home: Some(Name { text: \"HOME\" }), \
@@ -70,10 +77,35 @@ fn each_field_is_of_its_own_variable(rt: HostRuntime) -> Result<(), Fail> {
 
 #[test]
 fn a_variable_that_is_not_set_is_none(rt: HostRuntime) -> Result<(), Fail> {
-    let text = reported(&rt, "")?;
+    let text = reported(&rt, "", NONE)?;
     assert_eq!(rt;
         text.as_str(),
         "Env { current_dir: Some(Name { text: \"/here\" }), home: None, xdg_config_home: None, \
+        git_config_global: None, git_config_system: None }"
+    );
+    Ok(())
+}
+
+#[test]
+fn a_folder_that_is_empty_is_none(rt: HostRuntime) -> Result<(), Fail> {
+    let text = reported(&rt, NONE, "")?;
+    assert_eq!(rt;
+        text.as_str(),
+        "Env { current_dir: Some(Name { text: \"/here\" }), home: None, xdg_config_home: None, \
+        git_config_global: Some(Name { text: \"\" }), \
+        git_config_system: Some(Name { text: \"\" }) }"
+    );
+    Ok(())
+}
+
+#[test]
+fn an_environment_by_hand(rt: HostRuntime) -> Result<(), Fail> {
+    let path = String::from_str(rt.alloc(), "/r")?;
+    let env = Env::empty().with_xdg_config_home(path);
+    let text = format!(in rt.alloc(); "{env:?}")?;
+    assert_eq!(rt;
+        text.as_str(),
+        "Env { current_dir: None, home: None, xdg_config_home: Some(Name { text: \"/r\" }), \
         git_config_global: None, git_config_system: None }"
     );
     Ok(())

@@ -1,10 +1,11 @@
 //! The environment of a run, handed in; `Env::of_process` asks the system for it.
-ghost use Rattle.std.specs.Prelude.{IfOk, IfErr, ◌≡◌};
+ghost use Rattle.std.specs.Prelude.{IfOk, IfErr, ◌≡◌, ◌≢◌, [], None, Some, string_bytes};
 ghost use Rattle.ignore_base.specs.Problem.{problem_of, memory};
-ghost use Rattle.ignore_files.specs.Variables.{IsReportedAs};
+ghost use Rattle.ignore_files.specs.Variables.{IsReportedAs, IsDirReportedAs, filled};
 
 use crate::types::Name;
 use ignore_base::Error;
+use std::alloc::AllocError;
 use std::env::VarError;
 use std::path::PathBuf;
 use std::{env, io, rt};
@@ -26,18 +27,81 @@ pub struct Env {
 }
 
 impl Env {
+    /// An environment of which nothing is known: no variable is set.
+    pub fn empty() -> Env
+        ensures { result ≡ record {
+          current_dir = None;
+          home = None;
+          xdg_config_home = None;
+          git_config_global = None;
+          git_config_system = None;
+        } }
+    {
+        Env {
+            current_dir: None,
+            home: None,
+            xdg_config_home: None,
+            git_config_global: None,
+            git_config_system: None,
+        }
+    }
+
+    /// The same environment with this working directory. It allocates nothing.
+    pub fn with_current_dir(mut self, path: String) -> Env
+        ensures { result ≡ record self { current_dir = Some (string_bytes path) } }
+    {
+        self.current_dir = Some(Name::new(path));
+        self
+    }
+
+    /// The same environment with this home directory. It allocates nothing.
+    pub fn with_home(mut self, path: String) -> Env
+        ensures { result ≡ record self { home = Some (string_bytes path) } }
+    {
+        self.home = Some(Name::new(path));
+        self
+    }
+
+    /// The same environment with this folder of the user's configuration. It allocates nothing.
+    pub fn with_xdg_config_home(mut self, path: String) -> Env
+        ensures { result ≡ record self { xdg_config_home = Some (string_bytes path) } }
+    {
+        self.xdg_config_home = Some(Name::new(path));
+        self
+    }
+
+    /// The same environment with this file in place of the user's configuration. It allocates
+    /// nothing.
+    pub fn with_git_config_global(mut self, path: String) -> Env
+        ensures { result ≡ record self { git_config_global = Some (string_bytes path) } }
+    {
+        self.git_config_global = Some(Name::new(path));
+        self
+    }
+
+    /// The same environment with this file in place of the system's configuration. It allocates
+    /// nothing.
+    pub fn with_git_config_system(mut self, path: String) -> Env
+        ensures { result ≡ record self { git_config_system = Some (string_bytes path) } }
+    {
+        self.git_config_system = Some(Name::new(path));
+        self
+    }
+
     /// The environment of this process, as std reports it through a runtime: the working directory
     /// and the variables `HOME`, `XDG_CONFIG_HOME`, `GIT_CONFIG_GLOBAL` and `GIT_CONFIG_SYSTEM`.
-    /// What isn't UTF-8 counts as unknown, or as not set.
+    /// What isn't UTF-8 counts as unknown, or as not set, and so does an empty `HOME` or
+    /// `XDG_CONFIG_HOME`: else the folder that a run begins in would stand for the user's own.
     ///
     /// # Errors
     /// `Error::Memory` alone.
     pub fn of_process<R: rt::Env + AllocGlobal>(rt: &R) -> Result<Env, Error>
+        ensures filled { IfOk result (λ env. (env.home ≢ Some []) × (env.xdg_config_home ≢ Some [])) }
         ensures out_of_memory { IfErr result (λ e. problem_of e ≡ memory) }
     {
         let current_dir = directory(env::current_dir(rt))?;
-        let home = value(env::var(rt, "HOME"))?;
-        let xdg_config_home = value(env::var(rt, "XDG_CONFIG_HOME"))?;
+        let home = filled(value(env::var(rt, "HOME"))?);
+        let xdg_config_home = filled(value(env::var(rt, "XDG_CONFIG_HOME"))?);
         let git_config_global = value(env::var(rt, "GIT_CONFIG_GLOBAL"))?;
         let git_config_system = value(env::var(rt, "GIT_CONFIG_SYSTEM"))?;
         Ok(Env {
@@ -51,25 +115,41 @@ impl Env {
 }
 
 /// The value of a variable, where it is set and UTF-8.
-fn value(variable: Result<String, VarError>) -> Result<Option<Name>, Error>
-    ensures reported { IfOk result (λ name. IsReportedAs name variable) }
-    ensures out_of_memory { IfErr result (λ e. problem_of e ≡ memory) }
+fn value(variable: Result<String, VarError>) -> Result<Option<Name>, AllocError>
+    ensures { IfOk result (λ name. IsReportedAs name variable) }
 {
     match variable {
         Ok(text) => Ok(Some(Name::new(text))),
         Err(VarError::NotPresent) => Ok(None),
         Err(VarError::NotUnicode) => Ok(None),
-        Err(VarError::OutOfMemory) => Err(Error::Memory),
+        Err(VarError::OutOfMemory) => Err(AllocError),
+    }
+}
+
+/// The value of a variable that is set and not empty.
+fn filled(value: Option<Name>) -> Option<Name>
+    ensures value { result ≡ filled value }
+    ensures filled { result ≢ Some [] }
+{
+    match value {
+        None => None,
+        Some(name) => {
+            if name.as_str().is_empty() {
+                None
+            } else {
+                Some(name)
+            }
+        }
     }
 }
 
 /// The path of the working directory, where it is known and UTF-8.
-fn directory(path: io::Result<PathBuf>) -> Result<Option<Name>, Error>
-    ensures out_of_memory { IfErr result (λ e. problem_of e ≡ memory) }
+fn directory(path: io::Result<PathBuf>) -> Result<Option<Name>, AllocError>
+    ensures { IfOk result (λ dir. IsDirReportedAs dir path) }
 {
     match path {
         Ok(path) => Ok(Some(Name::new(path.into_string()))),
-        Err(error) if error.kind() == io::ErrorKind::OutOfMemory => Err(Error::Memory),
+        Err(error) if error.kind() == io::ErrorKind::OutOfMemory => Err(AllocError),
         Err(_) => Ok(None),
     }
 }

@@ -6,6 +6,7 @@ mod ask;
 mod disk;
 mod env;
 mod files;
+pub mod internal;
 mod machine;
 mod memory;
 mod stat;

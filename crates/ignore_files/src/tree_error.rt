@@ -19,9 +19,9 @@ pub enum TreeError {
 
 impl fmt::Display for TreeError {
     ghost use Rattle.std.specs.Prelude.{Some};
-    ghost use Rattle.ignore_files.specs.Refusals.{refusal_text};
+    ghost use Rattle.ignore_files.specs.Refusals.{tree_error_text};
 
-    ghost output = { λ e. Some (refusal_text e) };
+    ghost output = { λ e. Some (tree_error_text e) };
 
     fn fmt<W: fmt::Write>(&self, f: &mut fmt::Formatter<W>) -> fmt::Result {
         match self {

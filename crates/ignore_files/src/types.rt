@@ -1,10 +1,11 @@
 //! The answers of a tree of files.
-ghost use Rattle.std.specs.Prelude.{◌≡◌, ℕ, List, length, string_bytes};
+ghost use Rattle.std.specs.Prelude.{◌≡◌, ℕ, List, length, string_bytes, IfOk};
 ghost use Rattle.ignore_files.specs.Kinds.{is_file, is_dir, is_symlink};
 
 use ignore_base::Fault;
-use std::alloc::{AllocError, AllocFailed};
+use std::alloc::{AllocError, AllocFailed, Global};
 use std::marker::Model;
+use std::{error, fmt};
 
 /// Why a tree of files gives no answer.
 #[derive(Clone, Copy, Debug, PartialEq, Eq)]
@@ -14,6 +15,23 @@ pub enum Refusal {
     /// Out of memory, whatever the answer of the tree is.
     Memory,
 }
+
+/// The text of its fault, or `out of memory`.
+impl fmt::Display for Refusal {
+    ghost use Rattle.std.specs.Prelude.{Some};
+    ghost use Rattle.ignore_files.specs.Refusals.{refusal_text};
+
+    ghost output = { λ refusal. Some (refusal_text refusal) };
+
+    fn fmt<W: fmt::Write>(&self, f: &mut fmt::Formatter<W>) -> fmt::Result {
+        match self {
+            Refusal::Fault(fault) => write!(f, "{fault}"),
+            Refusal::Memory => write!(f, "out of memory"),
+        }
+    }
+}
+
+impl error::Error for Refusal {}
 
 impl From<Fault> for Refusal {
     ghost use Rattle.std.specs.Prelude.{◌≡◌};
@@ -159,7 +177,25 @@ impl Model for Name {
     ghost view = { λ s. string_bytes s.text };
 }
 
+/// The name with this text. It allocates nothing.
+impl From<String> for Name {
+    ghost use Rattle.std.specs.Prelude.{◌≡◌, string_bytes};
+
+    ghost from_gives = { λ text name. name ≡ string_bytes text };
+
+    fn from(text: String) -> Name {
+        Name::new(text)
+    }
+}
+
 impl Name {
+    /// The name with a copy of this text.
+    pub fn from_str(alloc: Global, text: &str) -> Result<Name, AllocError>
+        ensures { IfOk result (λ name. name ≡ text.now) }
+    {
+        Ok(Name::new(String::from_str(alloc, text)?))
+    }
+
     /// The name with this text. It allocates nothing.
     pub fn new(text: String) -> Name
         ensures { result ≡ string_bytes text }
