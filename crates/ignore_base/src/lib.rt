@@ -3,6 +3,7 @@
 
 mod error;
 mod fault;
+pub mod internal;
 pub mod match_laws;
 mod match_result;
 pub mod text;

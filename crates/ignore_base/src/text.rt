@@ -9,7 +9,7 @@ mod laws;
 mod normal;
 mod prefix;
 
-use crate::Error;
+use crate::{Error, internal};
 pub use clean::{is_clean_path, is_clean_root, is_name, is_proper};
 pub use laws::{join_law, normalize_law, offset_law, strip_law};
 use memchr::memrchr;
@@ -27,17 +27,7 @@ pub fn join(alloc: Global, base: &str, path: &str) -> Result<String, Error>
     ensures joins { IfOk result (λ text. string_bytes text ≡ join_of base.now path.now) }
     ensures out_of_memory { IfErr result (λ error. problem_of error ≡ memory) }
 {
-    if path.starts_with('/') || base.is_empty() {
-        return Ok(String::from_str(alloc, path)?);
-    }
-    let len = base.len().saturating_add(path.len()).saturating_add(1);
-    let mut text = String::with_capacity(alloc, len)?;
-    text.push_str(base)?;
-    if !base.ends_with('/') {
-        text.push('/')?;
-    }
-    text.push_str(path)?;
-    Ok(text)
+    Ok(internal::join(alloc, base, path)?)
 }
 
 /// The last component of a path, after its last `/`: empty where the path ends with one, none where

@@ -1,5 +1,5 @@
 -- The first configuration that gives a value, one place at a time.
-use Rattle.std.proofs.Common.{◌≡◌, refl, inl, inr, ℕ, List, [], ◌∷◌, Option, None, Some, Result, Ok, Err, is_some, codes, IfOk, false, sym}
+use Rattle.std.proofs.Common.{◌≡◌, refl, inl, inr, ℕ, List, [], ◌∷◌, Option, None, Some, Result, Ok, Err, is_some, codes, false, sym}
 use Rattle.std.proofs.Common.{ap, ◌∙◌, subst}
 use Rattle.std.proofs.lemmas.Bool.{true≢false}
 use Rattle.std.specs.Option.{option_or}
@@ -15,7 +15,8 @@ use Rattle.ignore_files.specs.declared.types.Refusal.TheVariants.{Fault as Refus
 use Rattle.ignore_excludes.specs.Excludes.{IsValue}
 use Rattle.ignore_excludes.proofs.ExcludesOnly.{IsValue-one}
 use Rattle.ignore_excludes.specs.ExcludesSearch.{ReadGives, ContentsGive, TreeGives, AnswerGives, FilesGive, Gives, IsFirstValue, LeadsTo}
-use Rattle.ignore_excludes.specs.ExcludesSearch.{filled, below, xdg_folder, configurations, path_of, expanded, IsFirstPath}
+use Rattle.ignore_files.specs.Variables.{filled}
+use Rattle.ignore_excludes.specs.ExcludesSearch.{below, xdg_folder, configurations, path_of, expanded, IsFirstPath}
 use Rattle.ignore_excludes.specs.ExcludesSearch.{IsExcludesPath}
 use Rattle.ignore_files.specs.declared.env.Env.{Env}
 
@@ -82,10 +83,6 @@ IsExcludesPath-answered files f tree env found honest h = (
       (λ path value k. AnswerGives-tree (tree.contents path) k.0 value (honest.contents path k.0 k.1) k.2) (configurations env) h.0 h.1,
   h.2,
 )
-
-pub IfOk-map : {T E : Type 0} (r : Result T E) (P Q : T → Type 0) → ((x : T) → P x → Q x) → IfOk r P → IfOk r Q
-IfOk-map (Ok x) P Q f h = f x h
-IfOk-map (Err e) P Q f h = tt
 
 -- a tree and an environment have one excludes file at most
 ReadGives-one : (bytes : List ℕ) (fault : Option Fault) (a b : Option (List ℕ)) → ReadGives bytes fault a → ReadGives bytes fault b → a ≡ b

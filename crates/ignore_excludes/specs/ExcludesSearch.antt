@@ -7,18 +7,13 @@ use Rattle.ignore_base.specs.Text.{Bytes, Path}
 use Rattle.ignore_base.specs.Paths.{join_of}
 use Rattle.ignore_base.specs.declared.fault.Fault.{Fault}
 use Rattle.ignore_files.specs.Tree.{Tree}
+use Rattle.ignore_files.specs.Variables.{filled}
 use Rattle.ignore_files.specs.declared.env.Env.{Env}
 use Rattle.ignore_files.specs.declared.types.Contents.{Contents}
 use Rattle.ignore_files.specs.declared.types.Refusal.{Refusal}
 use Rattle.ignore_files.specs.declared.types.Refusal.TheVariants.{Memory}
 use Rattle.ignore_files.specs.declared.types.Refusal.TheVariants.{Fault as Refused}
 use Rattle.ignore_excludes.specs.Excludes.{IsValue}
-
--- the value of a variable that is set and not empty
-abbrev pub filled : Option Bytes → Option Bytes
-filled None = None
-filled (Some []) = None
-filled (Some (b ∷ bs)) = Some (b ∷ bs)
 
 -- a path below a folder, where the folder is known
 abbrev pub below : Option Path → Path → Option Path

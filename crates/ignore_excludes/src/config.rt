@@ -5,14 +5,16 @@ ghost use Rattle.ignore_base.specs.Text.{Path};
 ghost use Rattle.ignore_base.specs.Problem.{problem_of, memory};
 ghost use Rattle.ignore_files.specs.Tree.{Tree};
 ghost use Rattle.ignore_files.specs.Gives.{IsHonest};
-ghost use Rattle.ignore_excludes.specs.ExcludesSearch.{filled, below, xdg_folder, expanded, FilesGive, GivesPath, IsFirstPath};
+ghost use Rattle.ignore_files.specs.Variables.{filled};
+ghost use Rattle.ignore_excludes.specs.ExcludesSearch.{below, xdg_folder, expanded, FilesGive, GivesPath, IsFirstPath};
 ghost use Rattle.ignore_excludes.specs.ExcludesSearch.{LeadsTo, IsExcludesPath};
 
 use crate::excludes::excludes_value;
 use ignore_base::Error;
-use ignore_base::text::join;
-use ignore_files::{Env, Files, Name, Refusal};
-use std::alloc::Global;
+use ignore_base::internal::join;
+use ignore_files::internal::answered;
+use ignore_files::{Env, Files, Name};
+use std::alloc::{AllocError, Global};
 
 /// The text of a variable that is set.
 fn known(variable: &Option<Name>) -> Option<&str>
@@ -44,9 +46,8 @@ fn text_of(path: &Option<String>) -> Option<&str>
 }
 
 /// The path below the folder, where the folder is known.
-fn below(alloc: Global, folder: Option<&str>, path: &str) -> Result<Option<String>, Error>
-    ensures joins { IfOk result (λ found. option_map string_bytes found ≡ below (option_copied folder.entry) path.now) }
-    ensures out_of_memory { IfErr result (λ error. problem_of error ≡ memory) }
+fn below(alloc: Global, folder: Option<&str>, path: &str) -> Result<Option<String>, AllocError>
+    ensures { IfOk result (λ found. option_map string_bytes found ≡ below (option_copied folder.entry) path.now) }
 {
     match folder {
         None => Ok(None),
@@ -55,9 +56,8 @@ fn below(alloc: Global, folder: Option<&str>, path: &str) -> Result<Option<Strin
 }
 
 /// The folder of the user's configuration.
-fn xdg_folder(alloc: Global, env: &Env) -> Result<Option<String>, Error>
-    ensures folder { IfOk result (λ found. option_map string_bytes found ≡ xdg_folder env.now) }
-    ensures out_of_memory { IfErr result (λ error. problem_of error ≡ memory) }
+fn xdg_folder(alloc: Global, env: &Env) -> Result<Option<String>, AllocError>
+    ensures { IfOk result (λ found. option_map string_bytes found ≡ xdg_folder env.now) }
 {
     match filled(&env.xdg_config_home) {
         Some(folder) => Ok(Some(String::from_str(alloc, folder)?)),
@@ -76,9 +76,8 @@ fn system_config(env: &Env) -> &str
 }
 
 /// The value with `home` in place of each `~`.
-fn with_home(alloc: Global, home: &str, value: &str) -> Result<String, Error>
-    ensures text { IfOk result (λ text. string_bytes text ≡ expanded (Some home.now) value.now) }
-    ensures out_of_memory { IfErr result (λ error. problem_of error ≡ memory) }
+fn with_home(alloc: Global, home: &str, value: &str) -> Result<String, AllocError>
+    ensures { IfOk result (λ text. string_bytes text ≡ expanded (Some home.now) value.now) }
 {
     let mut text = String::new(alloc);
     let mut rest = value;
@@ -92,12 +91,11 @@ fn with_home(alloc: Global, home: &str, value: &str) -> Result<String, Error>
 }
 
 /// The value with the home directory in place of each `~`, where that is known.
-fn expanded(alloc: Global, home: Option<&str>, value: &str) -> Result<String, Error>
-    ensures text { IfOk result (λ text. string_bytes text ≡ expanded (option_copied home.entry) value.now) }
-    ensures out_of_memory { IfErr result (λ error. problem_of error ≡ memory) }
+fn expanded(alloc: Global, home: Option<&str>, value: &str) -> Result<String, AllocError>
+    ensures { IfOk result (λ text. string_bytes text ≡ expanded (option_copied home.entry) value.now) }
 {
     match home {
-        None => Ok(String::from_str(alloc, value)?),
+        None => String::from_str(alloc, value),
         Some(home) => with_home(alloc, home, value),
     }
 }
@@ -109,14 +107,12 @@ fn path_from<F: Files>(
     files: &F,
     home: Option<&str>,
     path: &str,
-) -> Result<Option<String>, Error>
-    ensures gives { IfOk result (λ found.
+) -> Result<Option<String>, AllocError>
+    ensures { IfOk result (λ found.
         GivesPath (FilesGive (F.contents_gives files.now)) (option_copied home.entry) (Some path.now) (option_map string_bytes found)) }
-    ensures out_of_memory { IfErr result (λ error. problem_of error ≡ memory) }
 {
-    match files.contents(alloc, path) {
-        Err(Refusal::Memory) => Err(Error::Memory),
-        Err(Refusal::Fault(_)) => Ok(None),
+    match answered(files.contents(alloc, path))? {
+        Err(_) => Ok(None),
         Ok(contents) => {
             if contents.fault.is_some() {
                 return Ok(None);
@@ -135,11 +131,10 @@ fn first_path<F: Files>(
     files: &F,
     home: Option<&str>,
     places: &[Option<&str>],
-) -> Result<Option<String>, Error>
-    ensures first { IfOk result (λ found.
+) -> Result<Option<String>, AllocError>
+    ensures { IfOk result (λ found.
         IsFirstPath (FilesGive (F.contents_gives files.now)) (option_copied home.entry) (map option_copied places.now)
         (option_map string_bytes found)) }
-    ensures out_of_memory { IfErr result (λ error. problem_of error ≡ memory) }
 {
     for place in places {
         if let Some(path) = *place {
@@ -191,7 +186,7 @@ pub fn gitconfig_excludes_path<F: Files>(
         Some(system_config(env)),
     ];
     match first_path(alloc, files, home, &places)? {
-        None => below(alloc, text_of(&folder), "git/ignore"),
+        None => Ok(below(alloc, text_of(&folder), "git/ignore")?),
         Some(path) => Ok(Some(path)),
     }
 }

@@ -8,12 +8,12 @@ use std::alloc::Global;
 /// the call may give. A value is consistent with a tree (`IsHonest`) where each of these answers,
 /// other than `Refusal::Memory`, is the tree's.
 ///
-/// **An own type states its relations**, in the `impl`: a member that isn't given allows every
-/// answer, so a value of a type that gives none is consistent with no tree. It can be asked and
+/// **An own type states all five relations**, in its `impl`. A member that isn't given allows every
+/// answer, so a value of a type that leaves one out is consistent with no tree. It can be asked and
 /// walked like any other, but what contracts promise for each tree that it is consistent with
 /// (each clause with `IsHonest`) then says nothing. `MemoryTree` and `DiskFiles` show the form. A
-/// type that asks another `Files` and only refuses more often takes that one's relations, or
-/// `Refusal::Memory`.
+/// type that asks another `Files`, and is only out of memory more often, takes that one's
+/// relations, or `Refusal::Memory`.
 pub trait Files {
     ghost use Rattle.std.specs.Prelude.{Bool, List, Result, Option, ⊤};
     ghost use Rattle.ignore_base.specs.Text.{Path};

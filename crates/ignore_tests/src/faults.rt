@@ -51,19 +51,11 @@ const FAULTS: [Fault; 12] = [
     Fault::Other,
 ];
 
-fn name(alloc: Global, text: &str) -> Result<Option<Name>, AllocError> {
-    Ok(Some(Name::new(String::from_str(alloc, text)?)))
-}
-
 /// An environment of which the working directory and the home directory are known.
 fn at_home(alloc: Global) -> Result<Env, AllocError> {
-    Ok(Env {
-        current_dir: name(alloc, "/c")?,
-        home: name(alloc, "/h")?,
-        xdg_config_home: None,
-        git_config_global: None,
-        git_config_system: None,
-    })
+    let dir = String::from_str(alloc, "/c")?;
+    let home = String::from_str(alloc, "/h")?;
+    Ok(Env::empty().with_current_dir(dir).with_home(home))
 }
 
 /// Where the search for the excludes file leads.

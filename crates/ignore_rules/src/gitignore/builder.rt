@@ -102,15 +102,14 @@ impl GitignoreBuilder {
     {
         let alloc = *self.root.allocator();
         match Pattern::parse(alloc, parsed_line.actual(), self.options) {
-            Ok(pattern) => self.push_glob(Glob::new(from, parsed_line, pattern)),
+            Ok(pattern) => Ok(self.push_glob(Glob::new(from, parsed_line, pattern))?),
             Err(PatternError::Fault(fault)) => Err(parsed_line.refused(alloc, fault)),
             Err(PatternError::Memory) => Err(Error::Memory),
         }
     }
 
-    fn push_glob(&mut self, glob: Glob) -> Result<(), Error>
+    fn push_glob(&mut self, glob: Glob) -> Result<(), AllocError>
         ensures added { OnOk result (self.new ≡ with_rule self.old (Some glob)) }
-        ensures out_of_memory { IfErr result (λ e. problem_of e ≡ memory) }
         ensures unchanged { OnErr result (self.new ≡ self.old) }
     {
         Ok(self.globs.push(glob)?)

@@ -15,7 +15,8 @@ ghost use Rattle.ignore_rules.specs.RuleSteps.{IsOneSegment, IsLineRead, IsLastL
 
 use crate::gitignore::builder::GitignoreBuilder;
 use ignore_base::Error;
-use ignore_files::{Contents, Fault, Files, Refusal};
+use ignore_files::internal::answered;
+use ignore_files::{Contents, Fault, Files};
 use memchr::memchr;
 use std::alloc::{AllocError, Global};
 use std::str;
@@ -53,27 +54,25 @@ impl GitignoreBuilder {
         ensures out_of_memory { IfErr result (λ e. problem_of e ≡ memory) }
         ensures unchanged { OnErr result (self.new ≡ self.old) }
     {
-        match files.contents(self.allocator(), path) {
-            Ok(contents) => self.add_contents(path, &contents),
-            Err(Refusal::Fault(fault)) => {
+        match answered(files.contents(self.allocator(), path))? {
+            Ok(contents) => Ok(self.add_contents(path, &contents)?),
+            Err(fault) => {
                 let error = Error::from(fault).with_path(self.allocator(), path)?;
                 Ok(Some(error))
             }
-            Err(Refusal::Memory) => Err(Error::Memory),
         }
     }
 
-    fn add_contents(&mut self, path: &str, contents: &Contents) -> Result<Option<Error>, Error>
+    fn add_contents(&mut self, path: &str, contents: &Contents) -> Result<Option<Error>, AllocError>
         ensures added { IfOk result (λ problem. AddsContents path.now (Ok contents.now) self.old self.new (option_map problem_of problem)) }
-        ensures out_of_memory { IfErr result (λ e. problem_of e ≡ memory) }
         ensures unchanged { OnErr result (self.new ≡ self.old) }
     {
         let count = self.rule_count();
         match self.add_lines(path, contents.bytes.as_slice(), contents.fault) {
             Ok(problems) => Ok(Error::joined(problems)),
-            Err(_) => {
+            Err(error) => {
                 self.truncate_rules(count);
-                Err(Error::Memory)
+                Err(error)
             }
         }
     }

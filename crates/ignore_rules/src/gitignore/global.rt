@@ -13,8 +13,9 @@ use crate::gitignore::builder::GitignoreBuilder;
 use crate::gitignore::matcher::Gitignore;
 use ignore_base::Error;
 use ignore_excludes::gitconfig_excludes_path;
-use ignore_files::{Env, Fault, Files, Refusal};
-use std::alloc::Global;
+use ignore_files::internal::answered;
+use ignore_files::{Env, Fault, Files};
+use std::alloc::{AllocError, Global};
 
 impl GitignoreBuilder {
     /// The matcher of this builder's rules and then those of the global file, and the errors of
@@ -96,13 +97,11 @@ fn global_file<F: Files>(alloc: Global, files: &F, env: &Env) -> Result<Option<S
     }
 }
 
-fn is_file<F: Files>(alloc: Global, files: &F, path: &str) -> Result<bool, Error>
-    ensures kind { (tree : Tree) → IsHonest F.Files files.now tree → IfOk result (λ yes. yes ≡ is_file_there (tree.stat path.now true)) }
-    ensures out_of_memory { IfErr result (λ e. problem_of e ≡ memory) }
+fn is_file<F: Files>(alloc: Global, files: &F, path: &str) -> Result<bool, AllocError>
+    ensures { (tree : Tree) → IsHonest F.Files files.now tree → IfOk result (λ yes. yes ≡ is_file_there (tree.stat path.now true)) }
 {
-    match files.stat(alloc, path, true) {
+    match answered(files.stat(alloc, path, true))? {
         Ok(metadata) => Ok(metadata.is_file()),
-        Err(Refusal::Fault(_)) => Ok(false),
-        Err(Refusal::Memory) => Err(Error::Memory),
+        Err(_) => Ok(false),
     }
 }

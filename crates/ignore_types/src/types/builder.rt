@@ -284,19 +284,16 @@ fn chosen_type(
     ensures refused { IfErr result (λ e. (problem_of e ≡ memory) ⊎ IsChoiceProblem types.now (problem_of e) selection.now) }
 {
     let Some(definition) = types.get(selection.name()) else {
-        return Err(unrecognized(alloc, selection.name()));
+        return Err(unrecognized(alloc, selection.name())?);
     };
     let globs = read_globs(alloc, definition.globs())?;
     let copy = definition.clone()?;
     Ok(ChosenType::new(copy, globs, selection.is_negated())?)
 }
 
-/// The error of a choice whose name no type has, or `Error::Memory`.
-fn unrecognized(alloc: Global, name: &str) -> Error
-    ensures { (problem_of result ≡ memory) ⊎ (problem_of result ≡ unrecognized name.now) }
+/// The error of a choice whose name no type has.
+fn unrecognized(alloc: Global, name: &str) -> Result<Error, AllocError>
+    ensures { IfOk result (λ e. problem_of e ≡ unrecognized name.now) }
 {
-    match String::from_str(alloc, name) {
-        Ok(name) => Error::UnrecognizedFileType(name),
-        Err(_) => Error::Memory,
-    }
+    Ok(Error::UnrecognizedFileType(String::from_str(alloc, name)?))
 }

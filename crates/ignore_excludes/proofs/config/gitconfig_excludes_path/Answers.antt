@@ -3,7 +3,7 @@ use Rattle.std.proofs.Common.{◌≡◌, ℕ, List, [], ◌∷◌, Option, None,
 use Rattle.std.specs.Option.{option_copied}
 use Rattle.ignore_excludes.specs.ExcludesSearch.{below, xdg_folder, configurations, FilesGive, IsFirstPath, LeadsTo, IsExcludesPath}
 use Rattle.ignore_excludes.proofs.ExcludesPlaces.{configurations-same, LeadsTo-some, LeadsTo-none, IsExcludesPath-answered}
-use Rattle.ignore_excludes.proofs.ExcludesPlaces.{IsExcludesPath-one, IfOk-map}
+use Rattle.ignore_excludes.proofs.ExcludesPlaces.{IsExcludesPath-one}
 use Rattle.ignore_excludes.proofs.config.gitconfig_excludes_path.Goals as goal
 
 pub returns-clause-answered : goal.returns-clause-answered
@@ -12,10 +12,10 @@ returns-clause-answered g c =
     let env = c.args.env.now in
     let home = option_copied c.known-home.result in
     let user : option_copied c.text_of-2.result ≡ below env.home (codes ".gitconfig") = c.text_of-2.ensures
-    ∙ (c.in_ok-user.ensures.joins ∙ ap (λ t. below t (codes ".gitconfig")) c.known-home.ensures) in
-    let folder : option_copied c.text_of.result ≡ xdg_folder env = c.text_of.ensures ∙ c.in_ok-folder.ensures.folder in
+    ∙ (c.in_ok-user.ensures ∙ ap (λ t. below t (codes ".gitconfig")) c.known-home.ensures) in
+    let folder : option_copied c.text_of.result ≡ xdg_folder env = c.text_of.ensures ∙ c.in_ok-folder.ensures in
     let config : option_copied c.text_of-3.result ≡ below (xdg_folder env) (codes "git/config") = c.text_of-3.ensures
-    ∙ (c.in_ok-config.ensures.joins ∙ ap (λ t. below t (codes "git/config")) folder) in
+    ∙ (c.in_ok-config.ensures ∙ ap (λ t. below t (codes "git/config")) folder) in
     let places : List (Option (List ℕ)) = option_copied c.filled.result ∷
     (option_copied c.text_of-2.result ∷ (option_copied c.text_of-3.result ∷ (Some c.system_config.result.now ∷ []))) in
     let same : places ≡ configurations env = configurations-same env (option_copied c.filled.result)
@@ -23,7 +23,7 @@ returns-clause-answered g c =
     config c.system_config.ensures in
     let first : IsFirstPath Says home places (Some (string_bytes c.in-Some.path)) =
     subst (λ (o : Option (String Global)). IsFirstPath Says home places (option_map string_bytes o)) c.in-Some.is
-    c.in_ok-first_path.ensures.first in
+    c.in_ok-first_path.ensures in
     LeadsTo-some Says env home places (string_bytes c.in-Some.path) c.known-home.ensures same first
 
 pub returns-in-None-clause-answered : goal.returns-in-None-clause-answered
@@ -32,10 +32,10 @@ returns-in-None-clause-answered g c =
     let env = c.args.env.now in
     let home = option_copied c.known-home.result in
     let user : option_copied c.text_of-2.result ≡ below env.home (codes ".gitconfig") = c.text_of-2.ensures
-    ∙ (c.in_ok-user.ensures.joins ∙ ap (λ t. below t (codes ".gitconfig")) c.known-home.ensures) in
-    let folder : option_copied c.text_of.result ≡ xdg_folder env = c.text_of.ensures ∙ c.in_ok-folder.ensures.folder in
+    ∙ (c.in_ok-user.ensures ∙ ap (λ t. below t (codes ".gitconfig")) c.known-home.ensures) in
+    let folder : option_copied c.text_of.result ≡ xdg_folder env = c.text_of.ensures ∙ c.in_ok-folder.ensures in
     let config : option_copied c.text_of-3.result ≡ below (xdg_folder env) (codes "git/config") = c.text_of-3.ensures
-    ∙ (c.in_ok-config.ensures.joins ∙ ap (λ t. below t (codes "git/config")) folder) in
+    ∙ (c.in_ok-config.ensures ∙ ap (λ t. below t (codes "git/config")) folder) in
     let places : List (Option (List ℕ)) = option_copied c.filled.result ∷
     (option_copied c.text_of-2.result ∷ (option_copied c.text_of-3.result ∷ (Some c.system_config.result.now ∷ []))) in
     let same : places ≡ configurations env = configurations-same env (option_copied c.filled.result)
@@ -43,32 +43,23 @@ returns-in-None-clause-answered g c =
     config c.system_config.ensures in
     let first : IsFirstPath Says home places None =
     subst (λ (o : Option (String Global)). IsFirstPath Says home places (option_map string_bytes o)) c.in-None.is
-    c.in_ok-first_path.ensures.first in
-    let again : option_copied c.text_of-in-None.result ≡ xdg_folder env = c.text_of-in-None.ensures ∙ c.in_ok-folder.ensures.folder in
-    IfOk-map c.below-in-None.result (λ found. option_map string_bytes found
-    ≡ below (option_copied c.text_of-in-None.result) (codes "git/ignore")) (λ found. LeadsTo Says env (option_map string_bytes found))
-    (λ found e. LeadsTo-none Says env home places (option_map string_bytes found) same first
-    (e ∙ ap (λ t. below t (codes "git/ignore")) again))
-    c.below-in-None.ensures.joins
+    c.in_ok-first_path.ensures in
+    let again : option_copied c.text_of-in-None.result ≡ xdg_folder env = c.text_of-in-None.ensures ∙ c.in_ok-folder.ensures in
+    LeadsTo-none Says env home places (option_map string_bytes c.in_ok-below-in-None.field-0) same first
+    (c.in_ok-below-in-None.ensures ∙ ap (λ t. below t (codes "git/ignore")) again)
 
 pub returns-clause-found : goal.returns-clause-found
 returns-clause-found g c = λ tree honest. IsExcludesPath-answered g.F.Files c.args.files.now tree c.args.env.now
     (Some (string_bytes c.in-Some.path)) honest (returns-clause-answered g c)
 
 pub returns-in-None-clause-found : goal.returns-in-None-clause-found
-returns-in-None-clause-found g c = λ tree honest. IfOk-map c.below-in-None.result
-    (λ found. LeadsTo (FilesGive (g.F.Files.contents_gives c.args.files.now)) c.args.env.now (option_map string_bytes found))
-    (λ found. IsExcludesPath tree c.args.env.now (option_map string_bytes found))
-    (λ found h. IsExcludesPath-answered g.F.Files c.args.files.now tree c.args.env.now (option_map string_bytes found) honest h)
-    (returns-in-None-clause-answered g c)
+returns-in-None-clause-found g c = λ tree honest. IsExcludesPath-answered g.F.Files c.args.files.now tree c.args.env.now
+    (option_map string_bytes c.in_ok-below-in-None.field-0) honest (returns-in-None-clause-answered g c)
 
 pub returns-clause-only : goal.returns-clause-only
 returns-clause-only g c = λ tree honest other h. IsExcludesPath-one tree c.args.env.now (Some (string_bytes c.in-Some.path)) other
     (returns-clause-found g c tree honest) h
 
 pub returns-in-None-clause-only : goal.returns-in-None-clause-only
-returns-in-None-clause-only g c = λ tree honest. IfOk-map c.below-in-None.result
-    (λ found. IsExcludesPath tree c.args.env.now (option_map string_bytes found))
-    (λ found. (other : Option (List ℕ)) → IsExcludesPath tree c.args.env.now other → option_map string_bytes found ≡ other)
-    (λ found h other k. IsExcludesPath-one tree c.args.env.now (option_map string_bytes found) other h k)
-    (returns-in-None-clause-found g c tree honest)
+returns-in-None-clause-only g c = λ tree honest other h. IsExcludesPath-one tree c.args.env.now
+    (option_map string_bytes c.in_ok-below-in-None.field-0) other (returns-in-None-clause-found g c tree honest) h

@@ -17,8 +17,8 @@ loop-before-preserved c =
       text = search rules;
     }
 
-pub returns-clause-text : goal.returns-clause-text
-returns-clause-text c =
+pub returns : goal.returns
+returns c =
     let rest = c.loop-before.rest.now in
     let none = flat_map-no_tilde c.args.home.now rest (split_once_first 126 rest None c.in_default.ensures.cases (lit< tt)) in
     c.in_ok-push_str-3.ensures.bytes ∙ (ap (λ t. string_bytes c.loop-before.text ++ t) (sym none) ∙ c.loop-before.invariant.written)

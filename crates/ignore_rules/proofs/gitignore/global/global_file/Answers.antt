@@ -14,7 +14,7 @@ chosen tree path text is_file same kind = ap (λ b. cond b (Some path) None) (sy
 pub returns-then-branch-clause-found : goal.returns-then-branch-clause-found
 returns-then-branch-clause-found g c = λ tree honest.
     let path = string_bytes c.in-Some.path in
-    let here = chosen tree path c.as_str.result.now _ c.as_str.ensures.value (c.in_ok-is_file-in-Some.ensures.kind tree honest) in (
+    let here = chosen tree path c.as_str.result.now _ c.as_str.ensures.value (c.in_ok-is_file-in-Some.ensures tree honest) in (
       Some path,
       subst (λ (found : Option (List ℕ)). IsExcludesPath tree c.args.env.now found) (ap (option_map string_bytes) c.in-Some.is)
           (c.in_ok-gitconfig_excludes_path.ensures.found tree honest),
@@ -24,7 +24,7 @@ returns-then-branch-clause-found g c = λ tree honest.
 pub returns-else-branch-clause-found : goal.returns-else-branch-clause-found
 returns-else-branch-clause-found g c = λ tree honest.
     let path = string_bytes c.in-Some.path in
-    let here = chosen tree path c.as_str.result.now _ c.as_str.ensures.value (c.in_ok-is_file-in-Some.ensures.kind tree honest) in (
+    let here = chosen tree path c.as_str.result.now _ c.as_str.ensures.value (c.in_ok-is_file-in-Some.ensures tree honest) in (
       Some path,
       subst (λ (found : Option (List ℕ)). IsExcludesPath tree c.args.env.now found) (ap (option_map string_bytes) c.in-Some.is)
           (c.in_ok-gitconfig_excludes_path.ensures.found tree honest),

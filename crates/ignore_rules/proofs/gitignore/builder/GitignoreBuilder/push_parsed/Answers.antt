@@ -1,5 +1,4 @@
 use Rattle.std.proofs.Common.{ap, Some}
-use Rattle.std.proofs.lemmas.Result.{on_ok_weaker}
 use Rattle.ignore_rules.specs.Rules.{Building}
 use Rattle.ignore_rules.proofs.BuilderLemmas.{gives_rule}
 use Rattle.ignore_rules.proofs.gitignore.builder.GitignoreBuilder.push_parsed.Goals as goal
@@ -9,4 +8,4 @@ returns-in-Ok-clause-added c =
     let same = ap (λ (b : Building). b.options.glob) c.self.view_is in
     let parsed = gives_rule c.args.self.now.options c.self.inside.options _ c.args.parsed_line c.actual.result.now c.in-Ok.pattern
     c.new.result same c.actual.ensures c.in-Ok.ensures.reading c.in-Ok.ensures.case c.new.ensures in
-    on_ok_weaker c.push_glob.result (λ e. (Some c.new.result, parsed, e)) c.push_glob.ensures.added
+    (Some c.new.result, parsed, c.in_ok-push_glob-in-Ok.ensures.added)

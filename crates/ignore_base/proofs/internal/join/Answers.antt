@@ -5,12 +5,12 @@ use Rattle.std.proofs.lemmas.Str.{encode_ascii}
 use Rattle.std.proofs.lemmas.Str.Pattern.{starts_char, ends_char}
 use Rattle.ignore_base.specs.Paths.{is_absolute, join_of}
 use Rattle.ignore_base.proofs.JoinLemmas.{join_of-absolute, join_of-nil, join_of-added, join_of-kept}
-use Rattle.ignore_base.proofs.text.join.Goals as goal
-use Rattle.ignore_base.proofs.text.join.Goals.{then-starts_with-via-then-starts_with, then-starts_with-via-else-starts_with+then-is_empty}
-use Rattle.ignore_base.proofs.text.join.Goals.{then-not-ends_with+in_ok-push, else-not-ends_with}
+use Rattle.ignore_base.proofs.internal.join.Goals as goal
+use Rattle.ignore_base.proofs.internal.join.Goals.{then-starts_with-via-then-starts_with, then-starts_with-via-else-starts_with+then-is_empty}
+use Rattle.ignore_base.proofs.internal.join.Goals.{then-not-ends_with+in_ok-push, else-not-ends_with}
 
-pub returns-then-starts_with-clause-joins : goal.returns-then-starts_with-clause-joins
-returns-then-starts_with-clause-joins c =
+pub returns-then-starts_with : goal.returns-then-starts_with
+returns-then-starts_with c =
     let base = c.args.base.now in
     let path = c.args.path.now in
     let starts = starts_char 47 path c.starts_with.result c.starts_with.ensures.cases (lit< tt) (lit< tt) in
@@ -21,8 +21,8 @@ returns-then-starts_with-clause-joins c =
           sym (ap (λ b. join_of b path) none ∙ join_of-nil path)
     ]
 
-pub returns-clause-joins : goal.returns-clause-joins
-returns-clause-joins c =
+pub returns : goal.returns
+returns c =
     let base = c.args.base.now in
     let path = c.args.path.now in
     let starts = starts_char 47 path c.starts_with.result c.starts_with.ensures.cases (lit< tt) (lit< tt) in
