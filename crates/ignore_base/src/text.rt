@@ -30,7 +30,9 @@ pub fn join(alloc: Global, base: &str, path: &str) -> Result<String, Error>
     if path.starts_with('/') || base.is_empty() {
         return Ok(String::from_str(alloc, path)?);
     }
-    let mut text = String::from_str(alloc, base)?;
+    let len = base.len().saturating_add(path.len()).saturating_add(1);
+    let mut text = String::with_capacity(alloc, len)?;
+    text.push_str(base)?;
     if !base.ends_with('/') {
         text.push('/')?;
     }

@@ -29,12 +29,14 @@ returns-clause-joins c =
     let relative : is_absolute path ≡ false = ne_eqb _ 47 (λ e. both_ways _ c.if-starts_with.false (starts.1 e)) in
     let ends = ends_char 47 base c.ends_with.result c.ends_with.ensures.cases (lit< tt) in
     let some : base ≢ [] = λ e. both_ways _ c.if-is_empty.false (c.is_empty.ensures ∙ eq-eqb _ 0 (ap length e)) in
-    c.in_ok-push_str.ensures.bytes ∙ elim c.if-not-ends_with.branch [
+    let started : string_bytes c.push_str.new.self ≡ base =
+    c.in_ok-push_str.ensures.bytes ∙ ap (λ t. t ++ base) c.in_ok-text.ensures.bytes in
+    c.in_ok-push_str-2.ensures.bytes ∙ elim c.if-not-ends_with.branch [
       | then-not-ends_with+in_ok-push w ↦
           join_of-added base path (string_bytes c.if-not-ends_with.text) c.ends_with.result relative some w.if-not-ends_with.true ends.1
           (ap string_bytes w.text-is ∙ w.in_ok-push.ensures.bytes
-          ∙ ap (λ s. string_bytes c.in_ok-text.text ++ s) (encode_ascii 47 (lit< tt)) ∙ ap (λ t. t ++ 47 ∷ []) c.in_ok-text.ensures.ok)
+          ∙ ap (λ s. string_bytes c.push_str.new.self ++ s) (encode_ascii 47 (lit< tt)) ∙ ap (λ t. t ++ 47 ∷ []) started)
       | else-not-ends_with w ↦
           join_of-kept base path (string_bytes c.if-not-ends_with.text) (take (length base - 1) base) relative
-          (ends.0 w.if-not-ends_with.false) (ap string_bytes w.text-is ∙ c.in_ok-text.ensures.ok)
+          (ends.0 w.if-not-ends_with.false) (ap string_bytes w.text-is ∙ started)
     ]
