@@ -1,15 +1,13 @@
 -- What tokens leave known of the texts that they match.
-use Rattle.std.proofs.Common.{◌≡◌, ◌≢◌, ◌⊎◌, ℕ, ◌+◌, ◌<◌, ◌≤◌, Bool, true, false, IsTrue, List, [], ◌∷◌, ◌++◌, length, take}
-use Rattle.std.proofs.Common.{drop, drop-cons, add-one, get_or, map, Option, None, Some, refl, sym, ap, subst, ◌∙◌, inl}
+use Rattle.std.proofs.Common.{◌≡◌, ◌≢◌, ◌⊎◌, ℕ, ◌+◌, ◌<◌, ◌≤◌, Bool, true, false, IsTrue, List, [], ◌∷◌, ◌++◌, length}
+use Rattle.std.proofs.Common.{drop, drop-cons, add-one, get_or, map, refl, sym, ap, subst, ◌∙◌, inl}
 use Rattle.std.proofs.Common.{inr, encode_utf8, append_assoc, nat_le, ◌&&◌, ◌||◌, string_bytes, suc, arith, Vec, Global}
 use Rattle.std.proofs.Common.{String}
 use Rattle.std.specs.Str.{chars, IsUtf8}
-use Rattle.std.specs.Str.Iter.{HasSubslice}
 use Rattle.std.proofs.lemmas.List.{append-nil, drop_all, map-append}
 use Rattle.std.proofs.lemmas.Str.{encodes-chars}
 use Rattle.ignore_glob.specs.declared.glob.token.Token.{Token as CodeToken}
-use Rattle.ignore_glob.specs.Forms.{literal_of}
-use Rattle.ignore_glob.specs.Glob.{Token, literal, any, star, start, middle, end, class, alternates, Tokens, done, then}
+use Rattle.ignore_glob.specs.Glob.{Token, class, alternates, Tokens}
 use Rattle.ignore_glob.specs.Glob.{Branches, no_branch, branch}
 use Rattle.ignore_glob.specs.Matches.{token_matches, tokens_match, branch_matches, glob_matches, in_ranges}
 use Rattle.ignore_glob.specs.Needles.{utf8, BeginsWith, HasOneOf, EndsAndHas}

@@ -16,3 +16,6 @@ pub mod DoesMatch
 pub mod Forms
 pub mod Needles
 pub mod Words
+pub mod Ends
+pub mod Exact
+pub mod Matcher

@@ -1,5 +1,5 @@
 -- Texts that are in every text that a pattern matches.
-use Rattle.std.specs.Prelude.{◌≡◌, ◌⊎◌, ℕ, List, [], ◌∷◌, ◌++◌, encode_utf8}
+use Rattle.std.specs.Prelude.{◌≡◌, ◌⊎◌, List, [], ◌∷◌, ◌++◌, encode_utf8}
 use Rattle.std.specs.List.{flat_map}
 use Rattle.std.specs.Str.Iter.{HasSubslice}
 use Rattle.ignore_base.specs.Text.{Bytes, Chars}

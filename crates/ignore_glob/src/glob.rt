@@ -1,13 +1,18 @@
 //! The glob dialect: how a glob is written, and what it matches.
 
+mod automaton;
 mod class;
 mod copies;
+mod ending;
+mod exact;
 mod fault;
 mod flags;
 mod key;
+mod kind;
 pub mod laws;
 mod lexeme;
 mod marks;
+mod matcher;
 mod meaning;
 mod member;
 mod needle;
@@ -17,9 +22,11 @@ mod options;
 mod pass;
 mod pattern;
 mod read;
+mod spelled;
 mod token;
 mod word;
 
+pub use ending::{has_end, has_name};
 pub use fault::{GlobFault, PatternError};
 pub use key::Key;
 pub use options::Options;

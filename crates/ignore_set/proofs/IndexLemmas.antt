@@ -12,11 +12,11 @@ use Rattle.ignore_set.specs.declared.index.Index.{Index}
 use Rattle.ignore_set.specs.declared.table.Table.{Table}
 use Rattle.ignore_set.specs.declared.text.Ending.{Ending}
 use Rattle.ignore_set.specs.declared.text.Ending.TheVariants.{Name, End}
-use Rattle.ignore_set.specs.Ends.{HasEnd, HasName}
+use Rattle.ignore_glob.specs.Ends.{HasEnd, HasName}
 use Rattle.ignore_set.specs.Index.{Fits, IsMarked, IsNoted, IsTableOf, IsIndexOf, IsExactOf, StandsUnderEnd, slot_at, after}
 use Rattle.ignore_set.specs.Others.{IsFoundFrom}
 use Rattle.ignore_set.specs.Sets.{Member, Applies, IsLastMatch}
-use Rattle.ignore_set.proofs.FormLemmas.{slash_byte, whole_matches, matches_whole, name_matches, matches_name, end_matches, matches_end}
+use Rattle.ignore_glob.proofs.FormLemmas.{slash_byte, whole_matches, matches_whole, name_matches, matches_name, end_matches, matches_end}
 
 -- Ends of a text.
 

@@ -1,5 +1,3 @@
-pub mod FormLemmas
-pub mod EndLemmas
 pub mod IndexLemmas
 pub mod SlotLemmas
 pub mod MaskLemmas

@@ -6,7 +6,7 @@ use Rattle.std.specs.Option.{unwrap_or}
 use Rattle.std.specs.Str.{chars, IsUtf8}
 use Rattle.ignore_glob.specs.Forms.{Form, whole, name, ending, other, form_of}
 use Rattle.ignore_set.specs.Buckets.{AreBucketsOf}
-use Rattle.ignore_set.specs.Ends.{HasEnd, HasName}
+use Rattle.ignore_glob.specs.Ends.{HasEnd, HasName}
 use Rattle.ignore_set.specs.Others.{AreOthers, bit_of}
 use Rattle.ignore_set.specs.Sets.{Member, Allows, Applies}
 use Rattle.ignore_set.specs.declared.index.Index.{Index}

@@ -1,5 +1,4 @@
 pub mod Buckets
-pub mod Ends
 pub mod Index
 pub mod Others
 pub mod Sets

@@ -1,9 +1,11 @@
 //! How a text ends.
-ghost use Rattle.std.specs.Prelude.{◌≡◌, ◌↔◌, ◌++◌, ◌∷◌, ℕ, IsTrue, List, length, Some, IfSome};
+ghost use Rattle.std.specs.Prelude.{◌≡◌, ◌++◌, ℕ, IsTrue, List, length, Some, IfSome};
 ghost use Rattle.std.specs.Option.{option_map};
 ghost use Rattle.std.specs.Str.{IsUtf8};
-ghost use Rattle.ignore_set.specs.Ends.{HasEnd, HasName};
+ghost use Rattle.ignore_glob.specs.Ends.{HasEnd};
 ghost use Rattle.ignore_set.specs.Index.{Fits};
+
+use ignore_glob::glob::{has_end, has_name};
 
 /// How a text may end with another.
 #[derive(Clone, Copy)]
@@ -35,24 +37,5 @@ pub(crate) fn end_of(text: &str, size: usize) -> Option<&str>
         Some(&text[at..])
     } else {
         None
-    }
-}
-
-fn has_end(text: &str, end: &str) -> bool
-    ensures yes { IsTrue result → HasEnd end.now text.now }
-    ensures no { (front : List ℕ) → text.now ≡ front ++ end.now → IsTrue result }
-{
-    text.ends_with(end)
-}
-
-/// Whether the text is this one, or ends with a slash and this one.
-fn has_name(text: &str, name: &str) -> bool
-    ensures yes { IsTrue result → HasName name.now text.now }
-    ensures same { text.now ≡ name.now → IsTrue result }
-    ensures after { (front : List ℕ) → text.now ≡ front ++ 47 ∷ name.now → IsTrue result }
-{
-    match text.strip_suffix(name) {
-        Some(rest) => rest.is_empty() || rest.ends_with('/'),
-        None => false,
     }
 }

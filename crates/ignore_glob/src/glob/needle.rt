@@ -118,7 +118,8 @@ fn least(texts: &[String]) -> usize {
     least
 }
 
-fn alone(alloc: Global, text: &str) -> Result<Vec<String>, AllocError>
+/// This text alone.
+pub(crate) fn alone(alloc: Global, text: &str) -> Result<Vec<String>, AllocError>
     ensures { IfOk result (λ texts. map string_bytes texts.items ≡ text.now ∷ []) }
 {
     let text = String::from_str(alloc, text)?;

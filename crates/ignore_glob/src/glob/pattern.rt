@@ -1,31 +1,24 @@
 //! A parsed glob, and the texts that it matches.
 ghost use Rattle.std.specs.Prelude.{◌≡◌, ◌+◌, ◌-◌, ◌*◌, ◌^◌, ◌≤◌, ◌↔◌, ℕ, false, IsTrue, IsOk, IfOk, IfErr, List, length};
 ghost use Rattle.std.specs.Prelude.{map, min, string_bytes};
-ghost use Rattle.std.specs.Coded.{Coded-set, coded_list, coded_option};
 ghost use Rattle.std.specs.Str.{chars, IsUtf8};
 ghost use Rattle.ignore_glob.specs.DoesMatch.{does_match};
 ghost use Rattle.ignore_glob.specs.Forms.{key_form, form_of};
 ghost use Rattle.ignore_glob.specs.Positions.{CountsMarks, positions};
 ghost use Rattle.ignore_glob.specs.Needles.{HasOneOf};
-ghost use Rattle.ignore_glob.specs.NodeLists.{glob_nodes, node_code, nodes_view};
 ghost use Rattle.ignore_glob.specs.GlobFaults.{IfFault};
 ghost use Rattle.ignore_base.specs.Problem.{problem_of, memory};
 ghost use Rattle.ignore_glob.specs.Reading.{Matches};
 ghost use Rattle.ignore_glob.specs.Row.{Reads, IsFaulty};
 ghost use Rattle.ignore_glob.specs.View.{tokens_view};
-ghost use Rattle.ignore_glob.specs.Words.{has_braces, masks_code, word_of};
+ghost use Rattle.ignore_glob.specs.Words.{has_braces};
 
-use crate::glob::copies::copied;
 use crate::glob::fault::PatternError;
-use crate::glob::key::{Key, key_of};
-use crate::glob::needle::{anything, needles_of};
-use crate::glob::node::Node;
-use crate::glob::nodes::nodes_of;
+use crate::glob::key::Key;
+use crate::glob::matcher::Matcher;
 use crate::glob::options::Options;
-use crate::glob::pass;
 use crate::glob::read::read;
 use crate::glob::token::Token;
-use crate::glob::word::{Masks, word_of};
 use ignore_base::Error;
 use std::alloc::{AllocError, Global};
 use std::marker::Model;
@@ -36,25 +29,19 @@ use std::marker::Model;
 /// matches everything.
 #[derive(Debug, Drop)]
 pub struct Pattern {
-    tokens: Vec<Token>,
-    nodes: Vec<Node>,
-    masks: Option<Masks>,
-    case_insensitive: bool,
-    ghost compiled: { nodes_view nodes.items ≡ glob_nodes (tokens_view tokens.items) } by { Coded-set (coded_list node_code) _ _ },
-    ghost masked: { masks ≡ word_of (nodes_view nodes.items) } by { Coded-set (coded_option masks_code) _ _ },
+    matcher: Matcher,
 }
 
 impl Model for Pattern {
-    ghost use Rattle.ignore_glob.specs.Reading.{Reading};
     ghost use Rattle.ignore_glob.specs.Codes.{reading_code};
+    ghost use Rattle.ignore_glob.specs.Matcher.{reading_of};
+    ghost use Rattle.ignore_glob.specs.Reading.{Reading};
 
     ghost Value = { Reading };
 
     ghost coded = { reading_code };
 
-    ghost use Rattle.ignore_glob.specs.View.{tokens_view};
-
-    ghost view = { λ p. record { tokens = tokens_view p.tokens.items; case_insensitive = p.case_insensitive } };
+    ghost view = { λ p. reading_of p.matcher };
 }
 
 impl Pattern {
@@ -65,13 +52,8 @@ impl Pattern {
     ) -> Result<Pattern, AllocError>
         ensures { IfOk result (λ p. p ≡ record { tokens = tokens_view tokens.items; case_insensitive = case_insensitive }) }
     {
-        let nodes = nodes_of(*tokens.allocator(), &tokens)?;
-        let masks = word_of(&nodes);
         Ok(Pattern {
-            tokens,
-            nodes,
-            masks,
-            case_insensitive,
+            matcher: Matcher::of(tokens, case_insensitive)?,
         })
     }
 
@@ -102,8 +84,7 @@ impl Pattern {
         ensures decided { IfOk result (λ yes. yes ≡ does_match self.now (chars text.now)) }
         ensures succeeds { has_braces self.now.tokens ≡ false → positions self.now.tokens ≤ 62 → IsOk result }
     {
-        let alloc = *self.nodes.allocator();
-        Ok(pass::matches(alloc, self.case_insensitive, &self.nodes, self.masks, text)?)
+        Ok(self.matcher.matches(text)?)
     }
 
     /// As `matches`, with the number of marks: the pairs of a position of the glob and an offset in
@@ -123,8 +104,7 @@ impl Pattern {
         ensures most { IfOk result (λ found. found.1 ≤ (positions self.now.tokens + 1) * (length (chars text.now) + 1)) }
         ensures succeeds { has_braces self.now.tokens ≡ false → positions self.now.tokens ≤ 62 → IsOk result }
     {
-        let alloc = *self.nodes.allocator();
-        Ok(pass::matches_counted(alloc, self.case_insensitive, &self.nodes, self.masks, text)?)
+        Ok(self.matcher.matches_counted(text)?)
     }
 
     /// How many positions the glob has: one for each token, inside branches too, and a second one
@@ -132,18 +112,14 @@ impl Pattern {
     pub fn positions(&self) -> usize
         ensures { result ≡ positions self.now.tokens }
     {
-        self.nodes.len()
+        self.matcher.positions()
     }
 
     /// For dependents: the text by which the pattern can be looked up, if it has a form for that.
     pub fn key(&self) -> Result<Key, AllocError>
         ensures { IfOk result (λ key. key_form key ≡ form_of self.now) }
     {
-        if self.case_insensitive {
-            Ok(Key::Other)
-        } else {
-            key_of(*self.tokens.allocator(), &self.tokens)
-        }
+        self.matcher.key()
     }
 
     /// For dependents: texts, one of which is in each text that the pattern matches; where none is
@@ -152,12 +128,7 @@ impl Pattern {
         ensures { IfOk result (λ needles. (text : List ℕ) → IsUtf8 text → Matches self.now (chars text)
             → HasOneOf (map string_bytes needles.items) text) }
     {
-        let alloc = *self.tokens.allocator();
-        if self.case_insensitive {
-            anything(alloc)
-        } else {
-            needles_of(alloc, &self.tokens)
-        }
+        self.matcher.needles()
     }
 }
 
@@ -167,7 +138,8 @@ impl Clone for Pattern {
     ghost is_clone = { λ p q. q ≡ p };
 
     fn clone(&self) -> Result<Pattern, AllocError> {
-        let tokens = copied(&self.tokens)?;
-        Pattern::from_tokens(tokens, self.case_insensitive)
+        Ok(Pattern {
+            matcher: self.matcher.clone()?,
+        })
     }
 }

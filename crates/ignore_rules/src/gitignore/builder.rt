@@ -1,6 +1,7 @@
 //! Lines added to rules.
 ghost use Rattle.std.specs.Prelude.{◌≡◌, ◌⊎◌, ◌++◌, ◌∷◌, [], None, Some, IfOk, IfErr, OnOk, OnErr, IsOk, option_map, string_bytes, length};
 ghost use Rattle.std.specs.Prelude.{take};
+ghost use Rattle.std.specs.Arc.{arc_str_bytes};
 ghost use Rattle.ignore_base.specs.Problem.{problem_of, memory};
 ghost use Rattle.ignore_rules.specs.Line.{parsed_line};
 ghost use Rattle.ignore_rules.specs.Rules.{begun, AddsLine, Refuses, AddsParsed, GivesProblem, built, with_rule, with_case_insensitive};
@@ -14,6 +15,7 @@ use ignore_base::text::trim_root;
 use ignore_glob::glob::{Options, Pattern, PatternError};
 use std::alloc::{AllocError, Global};
 use std::marker::Model;
+use std::sync::ArcStr;
 
 /// Builds a matcher from the lines of gitignore files, in order.
 #[derive(Debug, Drop)]
@@ -86,17 +88,20 @@ impl GitignoreBuilder {
         ensures unchanged { OnErr result (self.new ≡ self.old) }
     {
         match self.parsed_line(line)? {
-            Some(parsed_line) => self.push_parsed(from, parsed_line),
+            Some(parsed_line) => {
+                let from = shared(from)?;
+                self.push_parsed(from, parsed_line)
+            }
             None => Ok(()),
         }
     }
 
     pub(crate) fn push_parsed(
         &mut self,
-        from: Option<String>,
+        from: Option<ArcStr>,
         parsed_line: ParsedLine,
     ) -> Result<(), Error>
-        ensures added { OnOk result (AddsParsed self.old (option_map string_bytes from) (Some parsed_line) self.new) }
+        ensures added { OnOk result (AddsParsed self.old (option_map arc_str_bytes from) (Some parsed_line) self.new) }
         ensures refused { IfErr result (λ e. (problem_of e ≡ memory) ⊎ GivesProblem self.old.options (Some parsed_line) (problem_of e)) }
         ensures unchanged { OnErr result (self.new ≡ self.old) }
     {
@@ -170,6 +175,16 @@ impl GitignoreBuilder {
     {
         self.git_trailing_spaces = yes;
         self
+    }
+}
+
+/// The text, to be shared.
+fn shared(text: Option<String>) -> Result<Option<ArcStr>, AllocError>
+    ensures { IfOk result (λ shared. option_map arc_str_bytes shared ≡ option_map string_bytes text) }
+{
+    match text {
+        Some(text) => Ok(Some(ArcStr::from_string(text)?)),
+        None => Ok(None),
     }
 }
 

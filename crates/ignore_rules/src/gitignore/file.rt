@@ -1,6 +1,7 @@
 //! Adding files of rules to a builder.
 ghost use Rattle.std.specs.Prelude.{◌≡◌, ◌⊎◌, ◌++◌, ◌∷◌, [], ◌<◌, ◌≤◌, ◌+◌, length, take, drop, map, None, Some, Ok, Err, IfOk, IfErr};
 ghost use Rattle.std.specs.Prelude.{OnOk, OnErr, option_map, List, Result};
+ghost use Rattle.std.specs.Arc.{arc_str_bytes};
 ghost use Rattle.std.specs.Option.{option_copied};
 ghost use Rattle.std.specs.Str.Lines.{strip_carriage_return};
 ghost use Rattle.ignore_files.specs.declared.types.Contents.{Contents};
@@ -20,6 +21,7 @@ use ignore_files::{Contents, Fault, Files};
 use memchr::memchr;
 use std::alloc::{AllocError, Global};
 use std::str;
+use std::sync::ArcStr;
 
 /// What is read at a place where a line begins.
 #[derive(Drop)]
@@ -87,6 +89,7 @@ impl GitignoreBuilder {
             (map problem_of problems.items)) }
         ensures kept { Keeps self.old self.new }
     {
+        let from = ArcStr::from_str(self.allocator(), path)?;
         let mut problems = Vec::new(self.allocator());
         let mut at = 0;
         let mut number = 0;
@@ -95,7 +98,7 @@ impl GitignoreBuilder {
                 Line::Text(text, next) => {
                     at = next;
                     number += 1;
-                    self.add_or_report(path, number, text, &mut problems)?;
+                    self.add_or_report(&from, number, text, &mut problems)?;
                 }
                 Line::Fault(fault) => {
                     let error = at_line(self.allocator(), path, number + 1, Error::from(fault))?;
@@ -110,39 +113,38 @@ impl GitignoreBuilder {
     /// Adds the line with a number; its error, if any, is appended to the problems.
     fn add_or_report(
         &mut self,
-        path: &str,
+        from: &ArcStr,
         number: u64,
         line: &str,
         problems: &mut Vec<Error>,
     ) -> Result<(), AllocError>
-        ensures added_or_reported { OnOk result (AddsOrReports path.now number line.now self.old self.new
+        ensures added_or_reported { OnOk result (AddsOrReports (arc_str_bytes from.now) number line.now self.old self.new
             (map problem_of problems.old.items) (map problem_of problems.new.items)) }
         ensures kept { Keeps self.old self.new }
     {
-        match self.push_line_of(path, line_content(number, line)) {
+        match self.push_line_of(from, line_content(number, line)) {
             Ok(()) => Ok(()),
             Err(error) => {
                 if is_memory(&error) {
                     return Err(AllocError);
                 }
-                let error = at_line(self.allocator(), path, number, error)?;
+                let error = at_line(self.allocator(), from.as_str(), number, error)?;
                 problems.push(error)?;
                 Ok(())
             }
         }
     }
 
-    /// As `push_line`, with a path as `from`, which is copied only for a rule.
-    fn push_line_of(&mut self, path: &str, line: &str) -> Result<(), Error>
-        ensures added { OnOk result (AddsLine self.old (Some path.now) line.now self.new) }
+    /// As `push_line`, with a path as `from`, which the rules of its file share.
+    fn push_line_of(&mut self, from: &ArcStr, line: &str) -> Result<(), Error>
+        ensures added { OnOk result (AddsLine self.old (Some (arc_str_bytes from.now)) line.now self.new) }
         ensures refused { IfErr result (λ e. (problem_of e ≡ memory) ⊎ Refuses self.old.options line.now (problem_of e)) }
         ensures unchanged { OnErr result (self.new ≡ self.old) }
     {
         let Some(parsed_line) = self.parsed_line(line)? else {
             return Ok(());
         };
-        let from = String::from_str(self.allocator(), path)?;
-        self.push_parsed(Some(from), parsed_line)
+        self.push_parsed(Some(from.clone()?), parsed_line)
     }
 }
 

@@ -1,5 +1,6 @@
 //! One rule of a line, which the original calls a glob.
-ghost use Rattle.std.specs.Prelude.{◌≡◌, option_map, string_bytes, IfOk, IfErr, IsOk};
+ghost use Rattle.std.specs.Prelude.{◌≡◌, option_map, IfOk, IfErr, IsOk};
+ghost use Rattle.std.specs.Arc.{arc_str_bytes};
 ghost use Rattle.std.specs.Option.{option_copied};
 ghost use Rattle.std.specs.Str.{chars};
 ghost use Rattle.ignore_base.specs.Match.{match_map};
@@ -15,6 +16,7 @@ use ignore_glob::glob::Pattern;
 use ignore_set::HasPattern;
 use std::alloc::AllocError;
 use std::marker::Model;
+use std::sync::ArcStr;
 
 /// A rule: one line of a gitignore file, which ignores or whitelists the paths that its glob
 /// matches.
@@ -22,7 +24,8 @@ use std::marker::Model;
 /// A matcher returns the rule that decided, so that a user can learn why a path is ignored.
 #[derive(Debug, Drop)]
 pub struct Glob {
-    from: Option<String>,
+    /// Shared by the rules of a file.
+    from: Option<ArcStr>,
     original: String,
     actual: String,
     is_whitelist: bool,
@@ -32,6 +35,7 @@ pub struct Glob {
 
 impl Model for Glob {
     ghost use Rattle.std.specs.Prelude.{option_map, string_bytes};
+    ghost use Rattle.std.specs.Arc.{arc_str_bytes};
     ghost use Rattle.ignore_rules.specs.Rules.{Rule};
     ghost use Rattle.ignore_rules.specs.RuleCodes.{rule_code};
 
@@ -40,7 +44,7 @@ impl Model for Glob {
     ghost coded = { rule_code };
 
     ghost view = { λ g. record {
-      from = option_map string_bytes g.from;
+      from = option_map arc_str_bytes g.from;
       original = string_bytes g.original;
       actual = string_bytes g.actual;
       is_whitelist = g.is_whitelist;
@@ -51,8 +55,8 @@ impl Model for Glob {
 
 impl Glob {
     /// The rule of a line, with its parsed glob.
-    pub(crate) fn new(from: Option<String>, parsed_line: ParsedLine, pattern: Pattern) -> Glob
-        ensures { result ≡ read_rule (option_map string_bytes from) parsed_line pattern }
+    pub(crate) fn new(from: Option<ArcStr>, parsed_line: ParsedLine, pattern: Pattern) -> Glob
+        ensures { result ≡ read_rule (option_map arc_str_bytes from) parsed_line pattern }
     {
         let ParsedLine {
             original,

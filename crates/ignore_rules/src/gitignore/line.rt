@@ -49,13 +49,14 @@ impl ParsedLine {
         if has_prefix(line, "#") || text.is_empty() {
             return Ok(None);
         }
+        let rest = body(text);
         let original = String::from_str(alloc, text)?;
-        let actual = actual(alloc, text)?;
+        let actual = actual(alloc, text, pattern(text, rest))?;
         Ok(Some(ParsedLine {
             original,
             actual,
             is_whitelist: has_prefix(text, "!"),
-            is_only_dir: has_suffix(body(text), "/"),
+            is_only_dir: has_suffix(rest, "/"),
         }))
     }
 
@@ -74,43 +75,47 @@ impl ParsedLine {
     }
 }
 
-fn actual(alloc: Global, line: &str) -> Result<String, AllocError>
+/// The glob of a line, of which this is the pattern.
+fn actual(alloc: Global, line: &str, bare: &str) -> Result<String, AllocError>
+    requires { bare.now ≡ pattern line.now }
     ensures { IfOk result (λ text. string_bytes text ≡ actual line.now) }
 {
-    let mut text = placed(alloc, line)?;
+    let mut text = placed(alloc, line, bare)?;
     if has_suffix(text.as_str(), "/**") {
         text.push_str("/*")?;
     }
     Ok(text)
 }
 
-fn placed(alloc: Global, line: &str) -> Result<String, AllocError>
+fn placed(alloc: Global, line: &str, bare: &str) -> Result<String, AllocError>
+    requires { bare.now ≡ pattern line.now }
     ensures { IfOk result (λ text. string_bytes text ≡ placed line.now) }
 {
-    let pattern = pattern(line);
-    if !is_floating(line) {
-        return String::from_str(alloc, pattern);
+    if !is_floating(line, bare) {
+        return String::from_str(alloc, bare);
     }
-    let mut text = String::from_str(alloc, "**/")?;
-    text.push_str(pattern)?;
+    let mut text = String::with_capacity(alloc, bare.len().saturating_add(3))?;
+    text.push_str("**/")?;
+    text.push_str(bare)?;
     Ok(text)
 }
 
-fn is_floating(line: &str) -> bool
+fn is_floating(line: &str, bare: &str) -> bool
+    requires { bare.now ≡ pattern line.now }
     ensures { result ≡ is_floating line.now }
 {
-    let pattern = pattern(line);
-    !is_anchored(line) && !has_slash(pattern) && pattern != "**"
+    !is_anchored(line) && !has_slash(bare) && bare != "**"
 }
 
-fn pattern(line: &str) -> &str
+/// The pattern of a line, of which this is the body.
+fn pattern<'a>(line: &str, rest: &'a str) -> &'a str
+    requires { rest.now ≡ body line.now }
     ensures { result.now ≡ pattern line.now }
 {
-    let body = body(line);
-    if has_suffix(body, "/") {
-        without_suffix(without_suffix(body, "/"), "\\")
+    if has_suffix(rest, "/") {
+        without_suffix(without_suffix(rest, "/"), "\\")
     } else {
-        body
+        rest
     }
 }
 

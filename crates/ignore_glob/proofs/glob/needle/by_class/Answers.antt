@@ -1,9 +1,8 @@
-use Rattle.std.proofs.Common.{◌≡◌, ◌++◌, ◌∷◌, [], ◌+◌, map, string_bytes, drop, get_or, ap, sym, subst, ◌∙◌, false}
+use Rattle.std.proofs.Common.{◌∷◌, ◌+◌, map, string_bytes, drop, get_or, ap, sym, subst, ◌∙◌, false}
 use Rattle.std.proofs.lemmas.List.{drop_all}
 use Rattle.std.specs.Arc.{arc_slice_items}
 use Rattle.ignore_glob.specs.Glob.{class}
 use Rattle.ignore_glob.specs.Matches.{token_matches}
-use Rattle.ignore_glob.specs.Needles.{utf8, HasOneOf}
 use Rattle.ignore_glob.proofs.NeedleLemmas.{Listed, listed_more, listed_all, pushed_text, range_place}
 use Rattle.ignore_glob.proofs.glob.needle.by_class.Goals as goal
 

@@ -1,4 +1,4 @@
-use Rattle.std.proofs.Common.{◌++◌, ap, map, string_bytes, subst}
+use Rattle.std.proofs.Common.{◌++◌, map, string_bytes, subst}
 use Rattle.ignore_glob.specs.Needles.{utf8, HasOneOf}
 use Rattle.ignore_glob.specs.View.{view}
 use Rattle.ignore_glob.proofs.NeedleLemmas.{known_past}

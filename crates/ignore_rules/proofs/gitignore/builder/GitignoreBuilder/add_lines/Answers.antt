@@ -14,7 +14,7 @@ loop-text-preserved c =
       leads =
           one_more c.args.path.now _ c.args.self.now
           (c.loop-text.number + 1) c.in-Text.text.now _ _ c.loop-text.self _ _ _ c.loop-text.invariant.leads line.0
-          c.in_ok-add_or_report-in-Text.ensures.added_or_reported;
+          (rw c.in_ok-from.ensures.ok at c.in_ok-add_or_report-in-Text.ensures.added_or_reported);
       kept = keeps_then c.args.self.now c.loop-text.self c.add_or_report.new.self c.loop-text.invariant.kept c.add_or_report.ensures.kept;
     }
 

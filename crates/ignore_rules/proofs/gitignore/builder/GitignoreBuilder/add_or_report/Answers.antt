@@ -1,6 +1,8 @@
 use Rattle.std.proofs.Common.{Some, List, ℕ, [], ◌∷◌, ◌++◌, map, refl, sym, ap, subst, ◌∙◌, inl, inr}
+use Rattle.std.specs.Arc.{arc_str_bytes}
 use Rattle.std.proofs.lemmas.List.{map-append}
 use Rattle.ignore_base.specs.Problem.{problem_of}
+use Rattle.ignore_rules.specs.RuleFile.{at_line_of}
 use Rattle.ignore_rules.specs.Rules.{AddsLine, Refuses}
 use Rattle.ignore_rules.proofs.FileLemmas.{not_memory}
 use Rattle.ignore_rules.proofs.gitignore.builder.GitignoreBuilder.add_or_report.Goals as goal
@@ -9,7 +11,7 @@ pub returns-in-Ok-clause-added_or_reported : goal.returns-in-Ok-clause-added_or_
 returns-in-Ok-clause-added_or_reported c =
     inl (
       subst (λ (l : List ℕ). AddsLine c.args.self.now
-          (Some c.args.path.now) l c.push_line_of.new.self) c.line_content.ensures c.in-Ok.ensures.added,
+          (Some (arc_str_bytes c.args.from.now)) l c.push_line_of.new.self) c.line_content.ensures c.in-Ok.ensures.added,
       refl,
     )
 
@@ -23,5 +25,6 @@ returns-in_ok-push-in-Err-clause-added_or_reported c =
       c.in-Err.ensures.unchanged,
       ap (map problem_of) c.in_ok-push-in-Err.ensures.items
           ∙ (map-append problem_of c.args.problems.now.items (c.in_ok-error-in-Err.error ∷ [])
-          ∙ ap (λ q. map problem_of c.args.problems.now.items ++ q ∷ []) c.in_ok-error-in-Err.ensures),
+          ∙ ap (λ q. map problem_of c.args.problems.now.items ++ q ∷ []) (c.in_ok-error-in-Err.ensures
+          ∙ ap (λ (path : List ℕ). at_line_of path c.args.number p) c.as_str.ensures.value)),
     )

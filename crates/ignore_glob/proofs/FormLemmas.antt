@@ -11,20 +11,21 @@ use Rattle.ignore_glob.specs.Glob.{literal, any, star, start, middle, end, class
 use Rattle.ignore_glob.specs.Matches.{slash, EndsWithSlash, tokens_match}
 use Rattle.ignore_glob.specs.Reading.{Reading, Matches}
 use Rattle.ignore_glob.specs.Forms.{Form, whole, name, ending, other, literals, keyed, below_form, tokens_form, form_of}
-use Rattle.ignore_set.specs.Ends.{HasEnd, HasName}
+use Rattle.ignore_glob.specs.Ends.{HasEnd, HasName}
 use lib.Utf8.{encodes}
 
 -- what the tokens of a form are
-abbrev Says : Bool → Tokens → Form → Type 0
-Says fold ts (whole text) = (fold ≡ false) × (literals ts ≡ Some text)
+abbrev pub Says : Bool → Tokens → Form → Type 0
+Says fold ts (whole text) = (fold ≡ false) × (literals ts ≡ Some text) × (text ≢ [])
 Says fold ts (name text) = (fold ≡ false) × (rest : Tokens) × (ts ≡ then start rest) × (literals rest ≡ Some text) × (text ≢ [])
-Says fold ts (ending text) = (fold ≡ false) × (rest : Tokens) × (ts ≡ then start (then star rest)) × (literals rest ≡ Some text)
+Says fold ts (ending text) =
+    (fold ≡ false) × (rest : Tokens) × (ts ≡ then start (then star rest)) × (literals rest ≡ Some text) × (text ≢ [])
 Says fold ts other = Unit {0}
 
 says_whole : (ts : Tokens) (o : Option (List ℕ)) → literals ts ≡ o → Says false ts (keyed whole o)
 says_whole ts None e = tt
 says_whole ts (Some []) e = tt
-says_whole ts (Some (b ∷ bs)) e = (refl, e)
+says_whole ts (Some (b ∷ bs)) e = (refl, e, λ wrong. cc)
 
 says_name : (rest : Tokens) (o : Option (List ℕ)) → literals rest ≡ o → Says false (then start rest) (keyed name o)
 says_name rest None e = tt
@@ -34,7 +35,7 @@ says_name rest (Some (b ∷ bs)) e = (refl, rest, refl, e, λ wrong. cc)
 says_ending : (rest : Tokens) (o : Option (List ℕ)) → literals rest ≡ o → Says false (then start (then star rest)) (keyed ending o)
 says_ending rest None e = tt
 says_ending rest (Some []) e = tt
-says_ending rest (Some (b ∷ bs)) e = (refl, rest, refl, e)
+says_ending rest (Some (b ∷ bs)) e = (refl, rest, refl, e, λ wrong. cc)
 
 says_below : (ts : Tokens) → Says false (then start ts) (below_form ts)
 says_below done = tt
@@ -47,7 +48,7 @@ says_below (then end ts) = tt
 says_below (then (class negated ranges) ts) = tt
 says_below (then (alternates bs) ts) = tt
 
-says_tokens : (ts : Tokens) → Says false ts (tokens_form ts)
+pub says_tokens : (ts : Tokens) → Says false ts (tokens_form ts)
 says_tokens done = tt
 says_tokens (then (literal c) ts) = says_whole (then (literal c) ts) (literals (then (literal c) ts)) refl
 says_tokens (then any ts) = tt
@@ -67,7 +68,7 @@ says r = by_case r.case_insensitive
 
 -- literals match the one text that they spell
 
-from_some : (c : ℕ) (o : Option (List ℕ)) (text : List ℕ) → option_map (λ bytes. encode_utf8 c ++ bytes) o ≡ Some text
+pub from_some : (c : ℕ) (o : Option (List ℕ)) (text : List ℕ) → option_map (λ bytes. encode_utf8 c ++ bytes) o ≡ Some text
     → (rest : List ℕ) × (o ≡ Some rest) × (text ≡ encode_utf8 c ++ rest)
 from_some c None text e = cc
 from_some c (Some rest) text e = (rest, refl, cc)

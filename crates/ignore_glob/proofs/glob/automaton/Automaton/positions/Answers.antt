@@ -6,7 +6,7 @@ use Rattle.ignore_glob.specs.Reading.{Reading}
 use Rattle.ignore_glob.specs.View.{tokens_view}
 use Rattle.ignore_glob.proofs.Numbering.{positions_width}
 use Rattle.ignore_glob.proofs.NodeListLemmas.{glob_nodes-length}
-use Rattle.ignore_glob.proofs.glob.pattern.Pattern.positions.Goals as goal
+use Rattle.ignore_glob.proofs.glob.automaton.Automaton.positions.Goals as goal
 
 pub returns : goal.returns
 returns c =

@@ -7,7 +7,7 @@ use Rattle.std.proofs.lemmas.Bool.{false≢true}
 use Rattle.std.proofs.lemmas.List.{length-take-le}
 use Rattle.std.proofs.lemmas.Str.{IsUtf8-take, IsCharBoundary-before_ascii}
 use Rattle.std.proofs.lemmas.Str.Pattern.{ends_char}
-use Rattle.ignore_set.specs.Ends.{HasEnd, HasName}
+use Rattle.ignore_glob.specs.Ends.{HasEnd, HasName}
 
 -- `ends_with`
 

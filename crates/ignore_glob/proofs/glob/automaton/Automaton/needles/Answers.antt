@@ -5,7 +5,7 @@ use Rattle.ignore_glob.specs.Matches.{glob_matches}
 use Rattle.ignore_glob.specs.Reading.{Reading, Matches}
 use Rattle.ignore_glob.specs.View.{tokens_view}
 use Rattle.ignore_glob.proofs.NeedleLemmas.{of_text}
-use Rattle.ignore_glob.proofs.glob.pattern.Pattern.needles.Goals as goal
+use Rattle.ignore_glob.proofs.glob.automaton.Automaton.needles.Goals as goal
 
 pub returns-else-self : goal.returns-else-self
 returns-else-self c =

@@ -1,6 +1,6 @@
 use Rattle.std.proofs.Common.{[], ◌∷◌, ◌++◌, sym, ◌∙◌, append_assoc}
-use Rattle.ignore_set.proofs.EndLemmas.{found_name}
-use Rattle.ignore_set.proofs.text.has_name.Goals as goal
+use Rattle.ignore_glob.proofs.EndLemmas.{found_name}
+use Rattle.ignore_glob.proofs.glob.ending.has_name.Goals as goal
 
 pub returns-else-is_empty-clause-yes : goal.returns-else-is_empty-clause-yes
 returns-else-is_empty-clause-yes c =
