@@ -1,5 +1,4 @@
 pub mod AboveLemmas
-pub mod BoundaryLemmas
 pub mod ChainLemmas
 pub mod LoadLemmas
 pub mod LoadsOnly
@@ -7,7 +6,6 @@ pub mod PathLemmas
 pub mod RankLemmas
 pub mod SlashLemmas
 pub mod SoftLemmas
-pub mod StepLemmas
 pub mod WholeLemmas
 pub mod WorkedProblems
 pub mod WorkedQueries

@@ -10,7 +10,7 @@ use Rattle.ignore_rules.specs.Parents.{first_match}
 use Rattle.ignore_rules.specs.Rules.{Rule, Ruleset}
 use Rattle.ignore_dir.specs.Ranks.{explicit_answer, rules_answer}
 
-pub front_of : {A : Type 0} (xs : List A) (i : ℕ) (x : A) → i < length xs → x ≡ get_or xs i x → drop i xs ≡ x ∷ drop (i + 1) xs
+front_of : {A : Type 0} (xs : List A) (i : ℕ) (x : A) → i < length xs → x ≡ get_or xs i x → drop i xs ≡ x ∷ drop (i + 1) xs
 front_of xs i x lt is = rw add-one (drop-cons xs i x lt ∙ ap (λ y. y ∷ drop (suc i) xs) (sym is))
 
 match_or-assoc : (a b c : Match Rule) → match_or (match_or a b) c ≡ match_or a (match_or b c)

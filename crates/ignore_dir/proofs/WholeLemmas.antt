@@ -4,9 +4,8 @@ use Rattle.std.proofs.Common.{◌++◌, length, map, drop, reverse, refl, sym, a
 use Rattle.std.proofs.Math.Seq.{drop-append-add, drop-nil}
 use Rattle.std.proofs.lemmas.List.{append-nil, length-append, length-map, map-append, reverse-append}
 use Rattle.std.proofs.lemmas.List.Sums.{take_while-cons}
-use Rattle.std.specs.List.{list_any, onto_first, slice_split, take_while}
-use Rattle.ignore_base.specs.Paths.{components, join_of, joined}
-use Rattle.ignore_base.specs.Text.{is_slash}
+use Rattle.std.specs.List.{list_any, take_while}
+use Rattle.ignore_base.specs.Paths.{join_of, joined}
 use Rattle.ignore_base.specs.Problem.{Problem}
 use Rattle.ignore_dir.specs.declared.dir.Dir.{Dir}
 use Rattle.ignore_dir.specs.declared.verdict.Verdict.{Verdict}
@@ -14,7 +13,7 @@ use Rattle.ignore_dir.specs.declared.verdict.Verdict.TheVariants.{Ignore}
 use Rattle.ignore_dir.specs.Above.{directories_along, dirs_above, kept_above, names_above, path_along, paths_above}
 use Rattle.ignore_dir.specs.Chains.{placed_along, slashed}
 use Rattle.ignore_dir.specs.Lists.{Asked, Placed, asked_in}
-use Rattle.ignore_dir.specs.Query.{ancestors, is_ignored, names_of, problems_below, rules_verdict}
+use Rattle.ignore_dir.specs.Query.{ancestors, is_ignored, problems_below, rules_verdict}
 use Rattle.ignore_dir.specs.Scene.{Scene, asked_along, chain, dirs_at, dirs_to, path_verdict}
 use Rattle.ignore_dir.specs.Steps.{Reached, entered, entry, problems_from, reached_in, verdict_at, verdict_from}
 use Rattle.ignore_dir.specs.Verdict.{is_ignore, placed_verdict, verdict}
@@ -338,41 +337,3 @@ root-reached g dirs text path placed is at =
     ∙ (ap (λ k. placed_along 1 (above_of g) names ++ (root, k) ∷ []) size
     ∙ (sym (placed_along-end 1 (above_of g) names root (length-above g)) ∙ ap (placed_along 1 (dirs_in g [])) (sym none))) in
     same_reached _ _ _ _ _ _ (ap reverse grown) (is ∙ ap (λ (l : List (List ℕ)). 47 ∷ slashed l) (sym none)) at
-
--- A path that isn't empty has a name.
-
-first_of : (l : List (List ℕ)) → 0 < length l → (n : List ℕ) × (ns : List (List ℕ)) × (l ≡ n ∷ ns)
-first_of [] h = absurd (omega arith)
-first_of (n ∷ ns) h = (n, ns, refl)
-
-onto_some : (x : ℕ) (l : List (List ℕ)) → 0 < length (onto_first x l)
-onto_some x [] = omega arith
-onto_some x (n ∷ ns) = omega arith
-
-some_component : (path : List ℕ) → 0 < length (components path)
-some_component [] = omega arith
-some_component (x ∷ xs) = either (is_slash x)
-  where
-    either : (b : Bool) → 0 < length (cond b ([] ∷ slice_split is_slash xs) (onto_first x (slice_split is_slash xs)))
-    either true = omega arith
-    either false = onto_some x (slice_split is_slash xs)
-
-pub rules_steps : (g : Scene) (is_dir : Bool) (at : Reached) (path : List ℕ) (names : List (List ℕ))
-    → length path ≢ 0 → names ≡ components path → at ≡ reached_in g []
-    → verdict_from g.loads g.settings g.outside is_dir at names ≡ rules_verdict g (names_of path) is_dir
-rules_steps g is_dir at [] names h are is = absurd (h refl)
-rules_steps g is_dir at (b ∷ bs) names h are is =
-    let first = first_of (components (b ∷ bs)) (some_component (b ∷ bs)) in
-    ap (λ (r : Reached). verdict_from g.loads g.settings g.outside is_dir r names) is
-    ∙ (ap (verdict_from g.loads g.settings g.outside is_dir (reached_in g [])) (are ∙ first.2)
-    ∙ (sym (rules_verdict-is g is_dir first.0 first.1) ∙ ap (λ l. rules_verdict g l is_dir) (sym first.2)))
-
-pub problems_steps : (g : Scene) (at : Reached) (path : List ℕ) (names : List (List ℕ))
-    → length path ≢ 0 → names ≡ components path → at ≡ reached_in g []
-    → (g.loads g.root).1 ∷ problems_from g.loads g.settings g.outside at names ≡ problems_below g (names_of path)
-problems_steps g at [] names h are is = absurd (h refl)
-problems_steps g at (b ∷ bs) names h are is =
-    let first = first_of (components (b ∷ bs)) (some_component (b ∷ bs)) in
-    ap (λ (r : Reached). (g.loads g.root).1 ∷ problems_from g.loads g.settings g.outside r names) is
-    ∙ (ap (λ (l : List (List ℕ)). (g.loads g.root).1 ∷ problems_from g.loads g.settings g.outside (reached_in g []) l) (are ∙ first.2)
-    ∙ (sym (problems_below-is g first.0 first.1) ∙ ap (problems_below g) (sym first.2)))

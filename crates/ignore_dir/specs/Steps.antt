@@ -1,9 +1,8 @@
 -- The answer of the rules one name at a time.
-use Rattle.std.specs.Prelude.{Bool, true, List, [], ◌∷◌, ◌++◌, length, reverse, Option, string_bytes, if◌then◌else◌}
+use Rattle.std.specs.Prelude.{Bool, true, List, [], ◌∷◌, ◌++◌, length, reverse, Option, if◌then◌else◌}
 use Rattle.ignore_base.specs.Text.{Bytes, Path}
 use Rattle.ignore_base.specs.Paths.{join_of}
 use Rattle.ignore_base.specs.Problem.{Problem}
-use Rattle.ignore_dir.specs.declared.descent.Descent.{Descent}
 use Rattle.ignore_dir.specs.declared.outside.Outside.{Outside}
 use Rattle.ignore_dir.specs.declared.settings.Settings.{Settings}
 use Rattle.ignore_dir.specs.declared.verdict.Verdict.{Verdict}
@@ -21,10 +20,6 @@ pub record Reached : Type 0 where
   pub chain : List Placed
   pub text : Path
   pub path : Path
-
--- what a descent has reached
-abbrev pub reached : Descent → Reached
-reached d = record { chain = reverse d.dirs.items; text = string_bytes d.text; path = string_bytes d.path }
 
 -- what is reached in the directory with these names below the root, with all on the way loaded
 abbrev pub reached_in : Scene → List Bytes → Reached

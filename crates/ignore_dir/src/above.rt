@@ -1,9 +1,8 @@
 //! The load of the directories above a root.
 ghost use Rattle.std.specs.Prelude.{◌≡◌, ◌++◌, [], ◌∷◌, ℕ, List, All, IfOk, IfErr, OnOk, Ok, map, codes, length, option_map, string_bytes};
-ghost use Rattle.std.specs.List.{list_all};
 ghost use Rattle.ignore_files.specs.Gives.{IsHonest};
 ghost use Rattle.ignore_files.specs.Tree.{Tree};
-ghost use Rattle.ignore_base.specs.Paths.{components, is_proper, without_slash};
+ghost use Rattle.ignore_base.specs.Paths.{without_slash};
 ghost use Rattle.ignore_base.specs.Problem.{problem_of, memory};
 ghost use Rattle.ignore_dir.specs.Above.{needs_above, directories_along, canonical_names, names_above, paths_above};
 ghost use Rattle.ignore_dir.specs.Above.{kept_above, dirs_above, problems_of_loads, rules_if};
@@ -16,9 +15,10 @@ use crate::dir::Dir;
 use crate::laws::one_load;
 use crate::link::Placed;
 use crate::load::load_directory;
+use crate::names::{are_names, components};
 use crate::settings::Settings;
 use ignore_base::Error;
-use ignore_base::text::{is_absolute, is_proper, join};
+use ignore_base::text::{is_absolute, join};
 use ignore_files::{Files, Refusal};
 use ignore_rules::gitignore::Gitignore;
 use std::alloc::{AllocError, Global};
@@ -62,20 +62,6 @@ fn kept_above(alloc: Global, settings: &Settings, dir: Dir) -> Dir
         exclude: rules_if(alloc, on, dir.exclude),
         mark: dir.mark && settings.git_ignore,
     }
-}
-
-/// The components of a path.
-pub(crate) fn components(alloc: Global, path: &str) -> Result<Vec<&str>, AllocError>
-    ensures { IfOk result (λ all. map (λ c. c.now) all.items ≡ components path.now) }
-{
-    path.split('/').collect(alloc)
-}
-
-/// Whether each component of a path is a name.
-pub(crate) fn are_names(path: &str) -> bool
-    ensures { result ≡ list_all is_proper (components path.now) }
-{
-    path.split('/').all(|component| is_proper(component))
 }
 
 /// A path without one leading slash.

@@ -3,6 +3,7 @@ ghost use Rattle.std.specs.Prelude.{◌≡◌, not, ◌&&◌};
 ghost use Rattle.ignore_dir.specs.Limits as limits;
 ghost use Rattle.ignore_dir.specs.Verdict as verdicts;
 
+use crate::limits::{is_above, is_deepest};
 use crate::settings::Settings;
 use crate::verdict::Verdict;
 
@@ -123,43 +124,4 @@ fn inverted(verdict: Verdict) -> Verdict
         Verdict::Ignore => Verdict::Whitelist,
         Verdict::Whitelist => Verdict::Ignore,
     }
-}
-
-/// Whether a depth is above the least one, if there is one.
-fn is_above(least: Option<usize>, depth: usize) -> bool
-    ensures { result ≡ limits.is_above least depth }
-{
-    match least {
-        Some(least) => depth < least,
-        None => false,
-    }
-}
-
-/// Whether a depth is the greatest one, if there is one, or below it.
-fn is_deepest(most: Option<usize>, depth: usize) -> bool
-    ensures { result ≡ limits.is_deepest most depth }
-{
-    match most {
-        Some(most) => most <= depth,
-        None => false,
-    }
-}
-
-/// Whether a depth is below the greatest one, if there is one.
-fn is_below(most: Option<usize>, depth: usize) -> bool
-    ensures { result ≡ limits.is_below most depth }
-{
-    match most {
-        Some(most) => most < depth,
-        None => false,
-    }
-}
-
-/// Whether a path is beyond the limits on depth: a file above the least one, or anything below the
-/// greatest.
-/// For dependents.
-pub fn is_beyond(settings: &Settings, depth: usize, is_dir: bool) -> bool
-    ensures { result ≡ limits.is_beyond settings.now depth is_dir }
-{
-    (!is_dir && is_above(settings.min_depth, depth)) || is_below(settings.max_depth, depth)
 }

@@ -3,14 +3,15 @@
 #![tactic(auto)]
 
 pub mod above;
-mod descent;
 mod dir;
+pub mod errors;
 pub mod exclude;
-pub mod fresh;
 pub mod incremental;
 pub mod laws;
+pub mod limits;
 mod link;
 pub mod load;
+pub mod names;
 mod outside;
 pub mod ranks;
 mod rule_files;

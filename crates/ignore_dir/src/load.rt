@@ -11,8 +11,9 @@ ghost use Rattle.ignore_dir.specs.Places.{place_of};
 ghost use Rattle.ignore_dir.specs.Soft.{IsSoft, IsSoftPlace};
 
 use crate::dir::Dir;
+use crate::errors::push_some;
 use crate::exclude::{ExcludePlace, by_git_file, excludes_in};
-use crate::rule_files::{is_there, push_some, rules_if, rules_of_file, rules_of_names};
+use crate::rule_files::{is_there, rules_if, rules_of_file, rules_of_names};
 use crate::settings::Settings;
 use ignore_base::Error;
 use ignore_base::text::join;

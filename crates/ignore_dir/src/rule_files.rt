@@ -1,6 +1,5 @@
 //! The rules of files of one directory.
-ghost use Rattle.std.specs.Prelude.{◌≡◌, [], ◌∷◌, ◌++◌, map, IfOk, IfErr, OnOk, option_map};
-ghost use Rattle.std.specs.Option.{option_to_list};
+ghost use Rattle.std.specs.Prelude.{◌≡◌, [], ◌∷◌, map, IfOk, IfErr, option_map};
 ghost use Rattle.ignore_files.specs.Gives.{IsHonest};
 ghost use Rattle.ignore_files.specs.Tree.{Tree};
 ghost use Rattle.ignore_base.specs.Paths.{join_of};
@@ -8,6 +7,7 @@ ghost use Rattle.ignore_base.specs.Problem.{problem_of, memory};
 ghost use Rattle.ignore_dir.specs.Soft.{IsSoft};
 ghost use Rattle.ignore_dir.specs.Load.{is_there, started, AddsPresent, IsRules, path_if};
 
+use crate::errors::push_some;
 use crate::settings::Settings;
 use ignore_base::Error;
 use ignore_base::text::join;
@@ -25,18 +25,6 @@ pub(crate) fn is_there<F: Files>(alloc: Global, files: &F, path: &str) -> Result
         Err(Refusal::Fault(_)) => Ok(false),
         Err(Refusal::Memory) => Err(Error::Memory),
     }
-}
-
-/// Appends an error, if there is one.
-pub(crate) fn push_some(errors: &mut Vec<Error>, error: Option<Error>) -> Result<(), Error>
-    ensures added { OnOk result (map problem_of errors.new.items ≡ map problem_of errors.old.items
-        ++ option_to_list (option_map problem_of error)) }
-    ensures out_of_memory { IfErr result (λ e. problem_of e ≡ memory) }
-{
-    if let Some(error) = error {
-        errors.push(error)?;
-    }
-    Ok(())
 }
 
 /// A builder for the rules of a directory.

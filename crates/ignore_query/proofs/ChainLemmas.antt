@@ -13,7 +13,7 @@ use Rattle.ignore_dir.specs.Steps.{Reached, entered, entry, reached_in, verdict_
 use Rattle.ignore_dir.specs.declared.outside.Outside.{Outside}
 use Rattle.ignore_dir.specs.declared.settings.Settings.{Settings}
 use Rattle.ignore_dir.specs.Verdict.{placed_verdict}
-use Rattle.ignore_dir.proofs.BoundaryLemmas.{All-reverse, boundaries-after_slashes}
+use Rattle.ignore_query.proofs.BoundaryLemmas.{All-reverse, boundaries-after_slashes}
 use Rattle.ignore_dir.proofs.SlashLemmas.{after_slash-end, after_slash-longer, placed-longer}
 use Rattle.ignore_query.specs.declared.kept.Cache.{Cache}
 use Rattle.ignore_query.specs.declared.kept.Kept.TheVariants.{Loaded}

@@ -1,3 +1,4 @@
+pub mod BoundaryLemmas
 pub mod ChainLemmas
 pub mod ForgetLemmas
 pub mod KeepLemmas

@@ -1,10 +1,9 @@
 //! What the rules say of a path, from what is kept or else from files.
-ghost use Rattle.std.specs.Prelude.{◌≡◌, ◌++◌, ℕ, List, None, IfOk, IfErr, OnOk, true, is_some, map, string_bytes};
+ghost use Rattle.std.specs.Prelude.{◌≡◌, ◌++◌, ℕ, List, IfOk, IfErr, OnOk, true, map, string_bytes};
 ghost use Rattle.std.specs.List.{filter_map, list_all};
 ghost use Rattle.std.specs.Option.{option_to_list};
-ghost use Rattle.ignore_base.specs.Paths.{components, is_proper, join_of};
+ghost use Rattle.ignore_base.specs.Paths.{components, is_proper};
 ghost use Rattle.ignore_base.specs.Problem.{problem_of, memory};
-ghost use Rattle.ignore_dir.specs.Limits as limits;
 ghost use Rattle.ignore_dir.specs.Load.{Loaded, AreLoads};
 ghost use Rattle.ignore_dir.specs.Query as queries;
 ghost use Rattle.ignore_dir.specs.Soft.{AllSoft};
@@ -18,51 +17,9 @@ ghost use Rattle.ignore_query.specs.Reports.{new_above, new_below};
 use crate::asked::Asked;
 use crate::kept::Cache;
 use ignore_base::Error;
-use ignore_dir::Settings;
-use ignore_dir::fresh::judge_size;
 use ignore_dir::verdict::Verdict;
 use ignore_files::Files;
 use std::alloc::Global;
-
-/// Whether a path with this verdict has a greatest size.
-fn has_limit(settings: &Settings, is_dir: bool, verdict: Verdict) -> bool
-    ensures { result ≡ is_some (limits.size_limit settings.now is_dir verdict) }
-{
-    if is_dir || verdict.is_ignore() {
-        return false;
-    }
-    settings.max_filesize.is_some()
-}
-
-/// The verdict on a path by its size, too. No file is asked where it has no greatest size.
-pub(crate) fn by_size<F: Files>(
-    alloc: Global,
-    files: &F,
-    asked: &Asked,
-    path: &str,
-    is_dir: bool,
-    verdict: Verdict,
-    errors: &mut Vec<Error>,
-) -> Result<Verdict, Error>
-    ensures value { (tree : Tree) → IsHonest F.Files files.now tree → let s = asked.now.settings in IfOk result (λ v. v
-        ≡ limits.sized (limits.size_limit s is_dir verdict)
-        (tree.stat (join_of (string_bytes asked.now.root) path.now) s.follow_links) verdict) }
-    ensures problem { (tree : Tree) → IsHonest F.Files files.now tree → let s = asked.now.settings in
-        let file = join_of (string_bytes asked.now.root) path.now in OnOk result (map problem_of errors.new.items
-        ≡ map problem_of errors.old.items ++ option_to_list (limits.size_problem file
-        (limits.size_limit s is_dir verdict) (tree.stat file s.follow_links))) }
-    ensures unasked { limits.size_limit asked.now.settings is_dir verdict ≡ None
-        → (errors.new ≡ errors.old) × IfOk result (λ v. v ≡ verdict) }
-    ensures soft { AllSoft (map problem_of errors.old.items) → OnOk result (AllSoft (map problem_of errors.new.items)) }
-    ensures out_of_memory { IfErr result (λ e. problem_of e ≡ memory) }
-{
-    let settings = &asked.settings;
-    if !has_limit(settings, is_dir, verdict) {
-        return Ok(verdict);
-    }
-    let root = asked.root.as_str();
-    judge_size(alloc, files, settings, root, path, is_dir, verdict, errors)
-}
 
 impl Cache {
     /// What the rules say of a path of names below a root that is a directory. What the answer

@@ -9,9 +9,9 @@ ghost use Rattle.ignore_query.specs.Agrees.{Agrees, kept_at};
 ghost use Rattle.ignore_query.specs.Forget.{IsSameKept, is_at_or_below, is_key_in};
 ghost use Rattle.ignore_query.specs.Reached.{scene_of};
 
+use crate::clean::is_asked;
 use crate::incremental::IncrementalIgnore;
 use crate::kept::{Cache, Kept};
-use ignore_dir::fresh::is_asked;
 
 /// Whether a key is that of the directory at a clean path, or of one below it.
 fn is_key_in(dir: &str, key: &str) -> bool

@@ -16,11 +16,11 @@ ghost use Rattle.ignore_query.specs.Reached.{InEachScene, dir_of, scene_of};
 ghost use Rattle.ignore_query.specs.Reports.{reported, reported_by_rules};
 
 use crate::asked::Asked;
-use crate::decide::by_size;
+use crate::clean::{depth_of, is_asked};
 use crate::kept::Cache;
+use crate::size::by_size;
 use ignore_base::{Error, text};
-use ignore_dir::fresh::{depth_of, is_asked};
-use ignore_dir::incremental::is_beyond;
+use ignore_dir::limits::is_beyond;
 use ignore_dir::verdict::Verdict;
 use ignore_dir::{IncrementalMatch, Outside, Settings};
 use ignore_files::Files;

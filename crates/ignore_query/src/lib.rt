@@ -3,6 +3,7 @@
 
 mod asked;
 mod chain;
+mod clean;
 mod decide;
 mod forget;
 mod incremental;
@@ -12,6 +13,7 @@ pub mod laws;
 mod load;
 mod paths;
 mod root;
+mod size;
 
 pub use asked::Asked;
 pub use ignore_dir::IncrementalMatch;

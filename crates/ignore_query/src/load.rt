@@ -24,30 +24,13 @@ use crate::kept::{Cache, Kept};
 use ignore_base::Error;
 use ignore_base::text::{join, join_law};
 use ignore_dir::Dir;
+use ignore_dir::errors::push_some;
 use ignore_dir::laws::one_load;
 use ignore_dir::load::load_directory;
+use ignore_dir::names::components;
 use ignore_dir::verdict::Verdict;
 use ignore_files::Files;
-use std::alloc::{AllocError, Global};
-
-/// Appends an error, if there is one.
-pub(crate) fn push_some(errors: &mut Vec<Error>, error: Option<Error>) -> Result<(), Error>
-    ensures added { OnOk result (map problem_of errors.new.items ≡ map problem_of errors.old.items
-        ++ option_to_list (option_map problem_of error)) }
-    ensures out_of_memory { IfErr result (λ e. problem_of e ≡ memory) }
-{
-    if let Some(error) = error {
-        errors.push(error)?;
-    }
-    Ok(())
-}
-
-/// The names of a path.
-fn names_of(alloc: Global, path: &str) -> Result<Vec<&str>, AllocError>
-    ensures { IfOk result (λ names. map (λ n. n.now) names.items ≡ components path.now) }
-{
-    path.split('/').collect(alloc)
-}
+use std::alloc::Global;
 
 /// The names of a directory below the root, joined, by its key.
 fn without_slash(key: &str) -> &str
@@ -247,7 +230,7 @@ impl Cache {
         ensures soft { AllSoft (map problem_of errors.old.items) → OnOk result (AllSoft (map problem_of errors.new.items)) }
         ensures out_of_memory { IfErr result (λ e. problem_of e ≡ memory) }
     {
-        let names = names_of(alloc, path)?;
+        let names = components(alloc, path)?;
         let names = names.as_slice();
         if !self.keep_way(alloc, files, asked, names, errors)? {
             return Ok(Verdict::Ignore);

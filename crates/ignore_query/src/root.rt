@@ -1,11 +1,10 @@
 //! What is above a root, and whether the root is a directory.
-ghost use Rattle.std.specs.Prelude.{◌≡◌, ◌≢◌, ◌++◌, ◌==◌, ℕ, List, IfOk, IfErr, OnOk, true, not, map, length, option_map, string_bytes};
-ghost use Rattle.std.specs.List.{filter_map};
+ghost use Rattle.std.specs.Prelude.{◌≡◌, ◌≢◌, ◌++◌, ◌==◌, ℕ, List, IfOk, IfErr, OnOk, true, not, map, length, string_bytes};
 ghost use Rattle.std.specs.Option.{option_to_list};
 ghost use Rattle.ignore_base.specs.Problem.{problem_of, memory};
-ghost use Rattle.ignore_dir.specs.Load.{Loaded, AreLoads, joined_some};
+ghost use Rattle.ignore_dir.specs.Load.{Loaded, AreLoads};
 ghost use Rattle.ignore_dir.specs.Query as queries;
-ghost use Rattle.ignore_dir.specs.Soft.{AllSoft, IsSoft};
+ghost use Rattle.ignore_dir.specs.Soft.{AllSoft};
 ghost use Rattle.ignore_files.specs.Gives.{IsHonest};
 ghost use Rattle.ignore_files.specs.Tree.{Tree};
 ghost use Rattle.ignore_query.specs.Agrees.{Agrees};
@@ -15,23 +14,23 @@ ghost use Rattle.ignore_query.specs.Reports.{new_above};
 
 use crate::asked::Asked;
 use crate::kept::Cache;
-use crate::load::push_some;
 use ignore_base::Error;
 use ignore_dir::above::load_above;
-use ignore_dir::fresh::has_rules;
-use ignore_files::Files;
+use ignore_dir::errors::{joined_some, push_some};
+use ignore_files::{Files, Refusal};
 use std::alloc::Global;
 
-/// The errors that there are, as one.
-fn as_one(alloc: Global, errors: Vec<Option<Error>>) -> Result<Option<Error>, Error>
-    ensures value { IfOk result (λ error. option_map problem_of error ≡ joined_some (map (option_map problem_of) errors.items)) }
+/// Whether a path leads to a directory.
+fn is_dir_there<F: Files>(alloc: Global, files: &F, path: &str) -> Result<bool, Error>
+    ensures value { (tree : Tree) → IsHonest F.Files files.now tree
+        → IfOk result (λ yes. yes ≡ queries.is_dir_there (tree.stat path.now true)) }
     ensures out_of_memory { IfErr result (λ e. problem_of e ≡ memory) }
 {
-    let mut all = Vec::new(alloc);
-    for error in errors {
-        push_some(&mut all, error)?;
+    match files.stat(alloc, path, true) {
+        Ok(metadata) => Ok(metadata.is_dir()),
+        Err(Refusal::Fault(_)) => Ok(false),
+        Err(Refusal::Memory) => Err(Error::Memory),
     }
-    Ok(Error::joined(all))
 }
 
 impl Cache {
@@ -50,10 +49,13 @@ impl Cache {
         ensures named { IfOk result (λ yes. yes ≡ true → length path.now ≢ 0) }
         ensures out_of_memory { IfErr result (λ e. problem_of e ≡ memory) }
     {
-        if self.has_above {
-            return Ok(!path.is_empty());
+        if path.is_empty() {
+            return Ok(false);
         }
-        has_rules(alloc, files, asked.root.as_str(), path)
+        if self.has_above {
+            return Ok(true);
+        }
+        is_dir_there(alloc, files, asked.root.as_str())
     }
 
     /// Keeps what is above the root, which is a directory.
@@ -81,7 +83,7 @@ impl Cache {
             return Ok(());
         }
         let found = load_above(alloc, files, &asked.settings, asked.root.as_str())?;
-        push_some(errors, as_one(alloc, found.errors)?)?;
+        push_some(errors, joined_some(alloc, found.errors)?)?;
         self.above = found.dirs;
         self.base = found.base;
         self.has_above = true;

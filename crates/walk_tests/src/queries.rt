@@ -1,10 +1,9 @@
-//! Questions of a bare tree, with ample memory. What they answer is that of a matcher which keeps
-//! nothing yet, so the vectors of matchers cover it.
+//! The first question of a matcher, with ample memory.
 use crate::trees::tree_of;
 use ignore_base::Error;
-use ignore_dir::fresh::fresh_match;
 use ignore_dir::{IncrementalMatch, Outside, Settings};
 use ignore_files::MemoryTree;
+use ignore_query::IncrementalIgnore;
 use std::alloc::Global;
 
 /// The answer for a file below a root.
@@ -15,7 +14,9 @@ fn asked(
     path: &str,
 ) -> Result<(IncrementalMatch, Option<Error>), Error> {
     let (settings, outside) = (Settings::standard(alloc), Outside::empty(alloc));
-    fresh_match(alloc, tree, &settings, &outside, root, path, false)
+    let root = String::from_str(alloc, root)?;
+    let mut matcher = IncrementalIgnore::new(settings, outside, root, None);
+    matcher.matched_with_errors(tree, path, false)
 }
 
 /// A directory that is ignored, with rules of its own, of which one line is invalid.

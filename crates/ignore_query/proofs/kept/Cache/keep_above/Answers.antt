@@ -12,6 +12,6 @@ soft_from (Some p) h = h.0
 pub returns-clause-soft : goal.returns-clause-soft
 returns-clause-soft g c = λ soft.
     let found = map (option_map problem_of) c.in_ok-found.found.errors.items in
-    let one = subst IsSoft (sym c.in_ok-as_one.ensures.value) (soft_from _ (joined_all-soft found c.in_ok-found.ensures.soft)) in
+    let one = subst IsSoft (sym c.in_ok-joined_some.ensures) (soft_from _ (joined_all-soft found c.in_ok-found.ensures.soft)) in
     subst AllSoft (sym c.in_ok-push_some.ensures.added) (more_soft (map problem_of c.args.errors.now.items)
-    (option_map problem_of c.in_ok-as_one.field-0) soft one)
+    (option_map problem_of c.in_ok-joined_some.field-0) soft one)

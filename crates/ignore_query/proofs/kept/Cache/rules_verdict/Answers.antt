@@ -1,5 +1,5 @@
 use Rattle.std.proofs.Common.{◌≡◌, ◌++◌, ◌∷◌, [], ℕ, Bool, true, false, not, cond, List, All, map, length, refl, sym, ap, ◌∙◌}
-use Rattle.std.proofs.Common.{subst, IfOk, arith}
+use Rattle.std.proofs.Common.{subst, IfOk, OnOk, Result, Ok, Err, arith}
 use Rattle.std.proofs.lemmas.List.{length-map, map-append}
 use Rattle.std.proofs.lemmas.List.Splits.{join_with_byte-slice_split, length-slice_split}
 use Rattle.std.specs.List.{filter_map, list_any}
@@ -11,7 +11,6 @@ use Rattle.ignore_dir.specs.declared.verdict.Verdict.{Verdict}
 use Rattle.ignore_dir.specs.declared.verdict.Verdict.TheVariants as v
 use Rattle.ignore_dir.specs.Query.{ancestors, is_ignored, rules_verdict}
 use Rattle.ignore_dir.specs.Scene.{Scene, path_verdict}
-use Rattle.ignore_dir.proofs.StepLemmas.{on_ok}
 use Rattle.ignore_query.specs.Needs.{KeepsNeeded, needed}
 use Rattle.ignore_query.specs.Reached.{scene_of}
 use Rattle.ignore_query.specs.Reports.{new_below}
@@ -34,6 +33,11 @@ was_true false h = cc
 was_false : (b : Bool) → not b ≡ true → b ≡ false
 was_false true h = cc
 was_false false h = refl
+
+-- what holds anyway holds on `Ok`
+on_ok : {A E : Type 0} {P : Type 0} (r : Result A E) → P → OnOk r P
+on_ok (Ok a) p = p
+on_ok (Err e) p = tt
 
 no_components : (path : List ℕ) (n : ℕ) → n ≡ length (components path) → n ≡ 0 → ⊥
 no_components path n e z = omega (arith, e, z, length-slice_split is_slash path)
