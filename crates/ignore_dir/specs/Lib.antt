@@ -1,6 +1,7 @@
 pub mod Above
 pub mod Chains
 pub mod Exclude
+pub mod Ground
 pub mod Limits
 pub mod Lists
 pub mod Places

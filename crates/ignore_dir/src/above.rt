@@ -1,17 +1,16 @@
 //! The load of the directories above a root.
 ghost use Rattle.std.specs.Prelude.{◌≡◌, ◌++◌, [], ◌∷◌, ℕ, List, All, IfOk, IfErr, OnOk, Ok, map, codes, length, option_map, string_bytes};
-ghost use Rattle.ignore_files.specs.Gives.{IsHonest};
-ghost use Rattle.ignore_files.specs.Tree.{Tree};
 ghost use Rattle.ignore_base.specs.Paths.{without_slash};
 ghost use Rattle.ignore_base.specs.Problem.{problem_of, memory};
 ghost use Rattle.ignore_dir.specs.Above.{needs_above, directories_along, canonical_names, names_above, paths_above};
 ghost use Rattle.ignore_dir.specs.Above.{kept_above, dirs_above, problems_of_loads, rules_if};
 ghost use Rattle.ignore_dir.specs.Chains.{placed_along, slashed};
+ghost use Rattle.ignore_dir.specs.Ground.{InLoads, InTree};
 ghost use Rattle.ignore_dir.specs.Lists.{IsAfterSlash};
-ghost use Rattle.ignore_dir.specs.Load.{Loaded, AreLoads};
 ghost use Rattle.ignore_dir.specs.Soft.{IsSoft};
 
 use crate::dir::Dir;
+use crate::ground::Ground;
 use crate::laws::one_load;
 use crate::link::Placed;
 use crate::load::load_directory;
@@ -114,19 +113,14 @@ impl Above {
 }
 
 /// Loads the directories from `/` along some names.
-fn load_along<F: Files>(
-    alloc: Global,
-    files: &F,
-    settings: &Settings,
-    names: &[&str],
-) -> Result<Above, Error>
-    ensures dirs { (tree : Tree) (loads : List ℕ → Loaded) → IsHonest F.Files files.now tree → AreLoads tree settings.now loads
-        → IfOk result (λ a. a.dirs.items
-        ≡ placed_along 1 (dirs_above loads settings.now (directories_along (codes "/") (map (λ n. n.now) names.now)))
-        (map (λ n. n.now) names.now)) }
-    ensures errors { (tree : Tree) (loads : List ℕ → Loaded) → IsHonest F.Files files.now tree → AreLoads tree settings.now loads
-        → IfOk result (λ a. map (option_map problem_of) a.errors.items
-        ≡ problems_of_loads loads (directories_along (codes "/") (map (λ n. n.now) names.now))) }
+fn load_along<F: Files>(ground: &Ground<'_, F>, names: &[&str]) -> Result<Above, Error>
+    ensures dirs { InLoads F.Files ground.now (λ tree loads.
+        IfOk result (λ a. a.dirs.items
+        ≡ placed_along 1 (dirs_above loads ground.now.settings.now (directories_along (codes "/") (map (λ n. n.now) names.now)))
+        (map (λ n. n.now) names.now))) }
+    ensures errors { InLoads F.Files ground.now (λ tree loads.
+        IfOk result (λ a. map (option_map problem_of) a.errors.items
+        ≡ problems_of_loads loads (directories_along (codes "/") (map (λ n. n.now) names.now)))) }
     ensures base { IfOk result (λ a. string_bytes a.base ≡ 47 ∷ slashed (map (λ n. n.now) names.now)) }
     ensures ends { IfOk result (λ a. IsAfterSlash (string_bytes a.base) (length (string_bytes a.base))) }
     ensures placed { IfOk result (λ a. All (λ p. IsAfterSlash (string_bytes a.base) p.1) a.dirs.items) }
@@ -134,12 +128,16 @@ fn load_along<F: Files>(
     ensures out_of_memory { IfErr result (λ e. problem_of e ≡ memory) }
 {
     one_load();
-    let mut above = Above::new(alloc)?;
-    let mut dir = String::from_str(alloc, "/")?;
+    let mut above = Above::new(ground.alloc)?;
+    let mut dir = String::from_str(ground.alloc, "/")?;
     for name in names {
-        let (loaded, error) = load_directory(alloc, files, settings, dir.as_str())?;
-        above.push(kept_above(alloc, settings, loaded), error, *name)?;
-        dir = join(alloc, dir.as_str(), *name)?;
+        let (loaded, error) = load_directory(ground, dir.as_str())?;
+        above.push(
+            kept_above(ground.alloc, ground.settings, loaded),
+            error,
+            *name,
+        )?;
+        dir = join(ground.alloc, dir.as_str(), *name)?;
     }
     Ok(above)
 }
@@ -151,34 +149,29 @@ fn load_along<F: Files>(
 ///
 /// # Errors
 /// `Error::Memory` alone.
-pub fn load_above<F: Files>(
-    alloc: Global,
-    files: &F,
-    settings: &Settings,
-    root: &str,
-) -> Result<Above, Error>
-    ensures dirs { (tree : Tree) (loads : List ℕ → Loaded) → IsHonest F.Files files.now tree → AreLoads tree settings.now loads
-        → IfOk result (λ a. a.dirs.items
-        ≡ placed_along 1 (dirs_above loads settings.now (paths_above tree settings.now root.now))
-        (names_above tree settings.now root.now)) }
-    ensures errors { (tree : Tree) (loads : List ℕ → Loaded) → IsHonest F.Files files.now tree → AreLoads tree settings.now loads
-        → IfOk result (λ a. map (option_map problem_of) a.errors.items ≡ problems_of_loads loads (paths_above tree settings.now root.now)) }
-    ensures base { (tree : Tree) → IsHonest F.Files files.now tree
-        → IfOk result (λ a. string_bytes a.base ≡ 47 ∷ slashed (names_above tree settings.now root.now)) }
+pub fn load_above<F: Files>(ground: &Ground<'_, F>, root: &str) -> Result<Above, Error>
+    ensures dirs { InLoads F.Files ground.now (λ tree loads.
+        IfOk result (λ a. a.dirs.items
+        ≡ placed_along 1 (dirs_above loads ground.now.settings.now (paths_above tree ground.now.settings.now root.now))
+        (names_above tree ground.now.settings.now root.now))) }
+    ensures errors { InLoads F.Files ground.now (λ tree loads.
+        IfOk result (λ a. map (option_map problem_of) a.errors.items ≡ problems_of_loads loads (paths_above tree ground.now.settings.now root.now))) }
+    ensures base { InTree F.Files ground.now (λ tree.
+        IfOk result (λ a. string_bytes a.base ≡ 47 ∷ slashed (names_above tree ground.now.settings.now root.now))) }
     ensures ends { IfOk result (λ a. IsAfterSlash (string_bytes a.base) (length (string_bytes a.base))) }
     ensures placed { IfOk result (λ a. All (λ p. IsAfterSlash (string_bytes a.base) p.1) a.dirs.items) }
     ensures soft { IfOk result (λ a. All IsSoft (map (option_map problem_of) a.errors.items)) }
     ensures out_of_memory { IfErr result (λ e. problem_of e ≡ memory) }
 {
-    if !needs_above(settings) {
-        return Above::new(alloc);
+    if !needs_above(ground.settings) {
+        return Above::new(ground.alloc);
     }
-    match files.canonical(alloc, root) {
+    match ground.files.canonical(ground.alloc, root) {
         Ok(path) => {
-            let names = canonical_names(alloc, path.as_str())?;
-            load_along(alloc, files, settings, names.as_slice())
+            let names = canonical_names(ground.alloc, path.as_str())?;
+            load_along(ground, names.as_slice())
         }
-        Err(Refusal::Fault(_)) => Above::new(alloc),
+        Err(Refusal::Fault(_)) => Above::new(ground.alloc),
         Err(Refusal::Memory) => Err(Error::Memory),
     }
 }

@@ -1,13 +1,13 @@
 //! The way to the exclude file of a directory's repository.
 ghost use Rattle.std.specs.Prelude.{◌≡◌, IfOk, IfErr, MatchResult, string_bytes, codes};
-ghost use Rattle.ignore_files.specs.Gives.{IsHonest};
-ghost use Rattle.ignore_files.specs.Tree.{Tree};
 ghost use Rattle.ignore_base.specs.Paths.{join_of};
 ghost use Rattle.ignore_base.specs.Problem.{problem_of, memory};
 ghost use Rattle.ignore_dir.specs.Exclude.{common_folder, excludes_in, by_commondir, by_gitdir, by_git_file, failed_at};
+ghost use Rattle.ignore_dir.specs.Ground.{InTree};
 ghost use Rattle.ignore_dir.specs.Places.{place_of};
 ghost use Rattle.ignore_dir.specs.Soft.{IsSoftPlace};
 
+use crate::ground::Ground;
 use ignore_base::Error;
 use ignore_base::text::join;
 use ignore_files::{Fault, Files, Refusal};
@@ -57,21 +57,21 @@ fn common_folder(alloc: Global, folder: &str, line: &str) -> Result<String, Erro
 }
 
 /// From the folder that a `.git` file names, by its `commondir`.
-fn by_commondir<F: Files>(alloc: Global, files: &F, folder: &str) -> Result<ExcludePlace, Error>
-    ensures value { (tree : Tree) → IsHonest F.Files files.now tree
-        → IfOk result (λ place. place_of place ≡ by_commondir folder.now (tree.contents (join_of folder.now (codes "commondir")))) }
+fn by_commondir<F: Files>(ground: &Ground<'_, F>, folder: &str) -> Result<ExcludePlace, Error>
+    ensures value { InTree F.Files ground.now (λ tree.
+        IfOk result (λ place. place_of place ≡ by_commondir folder.now (tree.contents (join_of folder.now (codes "commondir"))))) }
     ensures soft { IfOk result (λ place. IsSoftPlace (place_of place)) }
     ensures out_of_memory { IfErr result (λ e. problem_of e ≡ memory) }
 {
-    let path = join(alloc, folder, "commondir")?;
-    match files.contents(alloc, path.as_str()) {
+    let path = join(ground.alloc, folder, "commondir")?;
+    match ground.files.contents(ground.alloc, path.as_str()) {
         Ok(contents) => match first_line(&contents) {
             Ok(Some(line)) => {
-                let common = common_folder(alloc, folder, line)?;
-                excludes_in(alloc, common.as_str())
+                let common = common_folder(ground.alloc, folder, line)?;
+                excludes_in(ground.alloc, common.as_str())
             }
             Ok(None) => Ok(ExcludePlace::Nowhere),
-            Err(fault) => failed_at(alloc, path.as_str(), fault),
+            Err(fault) => failed_at(ground.alloc, path.as_str(), fault),
         },
         Err(Refusal::Fault(_)) => Ok(ExcludePlace::Nowhere),
         Err(Refusal::Memory) => Err(Error::Memory),
@@ -79,36 +79,35 @@ fn by_commondir<F: Files>(alloc: Global, files: &F, folder: &str) -> Result<Excl
 }
 
 /// By the first line of a `.git` file.
-fn by_gitdir<F: Files>(alloc: Global, files: &F, line: &str) -> Result<ExcludePlace, Error>
-    ensures value { (tree : Tree) → IsHonest F.Files files.now tree
-        → IfOk result (λ place. place_of place ≡ by_gitdir tree line.now) }
+fn by_gitdir<F: Files>(ground: &Ground<'_, F>, line: &str) -> Result<ExcludePlace, Error>
+    ensures value { InTree F.Files ground.now (λ tree.
+        IfOk result (λ place. place_of place ≡ by_gitdir tree line.now)) }
     ensures soft { IfOk result (λ place. IsSoftPlace (place_of place)) }
     ensures out_of_memory { IfErr result (λ e. problem_of e ≡ memory) }
 {
     match line.strip_prefix("gitdir: ") {
-        Some(folder) => by_commondir(alloc, files, folder),
+        Some(folder) => by_commondir(ground, folder),
         None => Ok(ExcludePlace::Nowhere),
     }
 }
 
 /// By a `.git` that is a file.
 pub(crate) fn by_git_file<F: Files>(
-    alloc: Global,
-    files: &F,
+    ground: &Ground<'_, F>,
     git: &str,
 ) -> Result<ExcludePlace, Error>
-    ensures value { (tree : Tree) → IsHonest F.Files files.now tree
-        → IfOk result (λ place. place_of place ≡ by_git_file tree git.now (tree.contents git.now)) }
+    ensures value { InTree F.Files ground.now (λ tree.
+        IfOk result (λ place. place_of place ≡ by_git_file tree git.now (tree.contents git.now))) }
     ensures soft { IfOk result (λ place. IsSoftPlace (place_of place)) }
     ensures out_of_memory { IfErr result (λ e. problem_of e ≡ memory) }
 {
-    match files.contents(alloc, git) {
+    match ground.files.contents(ground.alloc, git) {
         Ok(contents) => match first_line(&contents) {
-            Ok(Some(line)) => by_gitdir(alloc, files, line),
+            Ok(Some(line)) => by_gitdir(ground, line),
             Ok(None) => Ok(ExcludePlace::Nowhere),
-            Err(fault) => failed_at(alloc, git, fault),
+            Err(fault) => failed_at(ground.alloc, git, fault),
         },
-        Err(Refusal::Fault(fault)) => failed_at(alloc, git, fault),
+        Err(Refusal::Fault(fault)) => failed_at(ground.alloc, git, fault),
         Err(Refusal::Memory) => Err(Error::Memory),
     }
 }

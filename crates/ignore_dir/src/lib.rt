@@ -6,6 +6,7 @@ pub mod above;
 mod dir;
 pub mod errors;
 pub mod exclude;
+mod ground;
 pub mod incremental;
 pub mod laws;
 pub mod limits;
@@ -19,6 +20,7 @@ mod settings;
 pub mod verdict;
 
 pub use dir::{Dir, Rank};
+pub use ground::{Asked, Ground};
 pub use incremental::IncrementalMatch;
 pub use link::{Link, Placed};
 pub use outside::{Matchers, Outside};

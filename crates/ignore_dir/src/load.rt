@@ -1,11 +1,10 @@
 //! The load of one directory.
 ghost use Rattle.std.specs.Prelude.{◌≡◌, [], ◌∷◌, codes, true, IfOk, IfErr, None, Ok, option_map, if◌then◌else◌};
-ghost use Rattle.ignore_files.specs.Gives.{IsHonest};
-ghost use Rattle.ignore_files.specs.Tree.{Tree};
 ghost use Rattle.ignore_base.specs.Paths.{join_of};
 ghost use Rattle.ignore_base.specs.Problem.{problem_of, memory};
 ghost use Rattle.ignore_rules.specs.Matchers.{is_file_there};
 ghost use Rattle.ignore_dir.specs.Exclude.{exclude_place, exclude_by};
+ghost use Rattle.ignore_dir.specs.Ground.{InTree};
 ghost use Rattle.ignore_dir.specs.Load.{Loads, IsExclude, IsRules, custom_paths, path_if, is_marked, is_there, joined_some, needs_marks};
 ghost use Rattle.ignore_dir.specs.Places.{place_of};
 ghost use Rattle.ignore_dir.specs.Soft.{IsSoft, IsSoftPlace};
@@ -13,6 +12,7 @@ ghost use Rattle.ignore_dir.specs.Soft.{IsSoft, IsSoftPlace};
 use crate::dir::Dir;
 use crate::errors::push_some;
 use crate::exclude::{ExcludePlace, by_git_file, excludes_in};
+use crate::ground::Ground;
 use crate::rule_files::{is_there, rules_if, rules_of_file, rules_of_names};
 use crate::settings::Settings;
 use ignore_base::Error;
@@ -31,20 +31,18 @@ use std::alloc::Global;
 /// # Errors
 /// `Error::Memory` alone.
 pub fn load_directory<F: Files>(
-    alloc: Global,
-    files: &F,
-    settings: &Settings,
+    ground: &Ground<'_, F>,
     dir: &str,
 ) -> Result<(Dir, Option<Error>), Error>
-    ensures read { (tree : Tree) → IsHonest F.Files files.now tree
-        → IfOk result (λ r. Loads tree settings.now dir.now r.0 (option_map problem_of r.1)) }
+    ensures read { InTree F.Files ground.now (λ tree.
+        IfOk result (λ r. Loads tree ground.now.settings.now dir.now r.0 (option_map problem_of r.1))) }
     ensures soft { IfOk result (λ r. IsSoft (option_map problem_of r.1)) }
     ensures out_of_memory { IfErr result (λ e. problem_of e ≡ memory) }
 {
-    let own = own_rules(alloc, files, settings, dir)?;
-    let git = git_rules(alloc, files, settings, dir)?;
+    let own = own_rules(ground, dir)?;
+    let git = git_rules(ground, dir)?;
     let error = joined_four(
-        alloc,
+        ground.alloc,
         own.of_custom,
         own.of_ignore,
         own.of_gitignore,
@@ -72,30 +70,25 @@ struct OwnRules {
 }
 
 /// The rules of the files that stand in a directory, each where its filter is on.
-fn own_rules<F: Files>(
-    alloc: Global,
-    files: &F,
-    settings: &Settings,
-    dir: &str,
-) -> Result<OwnRules, Error>
-    ensures custom { (tree : Tree) → IsHonest F.Files files.now tree
-        → IfOk result (λ own. IsRules tree settings.now dir.now (custom_paths settings.now dir.now) own.custom (option_map problem_of own.of_custom)) }
-    ensures ignore { (tree : Tree) → IsHonest F.Files files.now tree
-        → IfOk result (λ own. IsRules tree settings.now dir.now (path_if settings.now.ignore dir.now (codes ".ignore"))
-        own.ignore (option_map problem_of own.of_ignore)) }
-    ensures gitignore { (tree : Tree) → IsHonest F.Files files.now tree
-        → IfOk result (λ own. IsRules tree settings.now dir.now (path_if settings.now.git_ignore dir.now (codes ".gitignore"))
-        own.gitignore (option_map problem_of own.of_gitignore)) }
+fn own_rules<F: Files>(ground: &Ground<'_, F>, dir: &str) -> Result<OwnRules, Error>
+    ensures custom { InTree F.Files ground.now (λ tree.
+        IfOk result (λ own. IsRules tree ground.now.settings.now dir.now (custom_paths ground.now.settings.now dir.now) own.custom (option_map problem_of own.of_custom))) }
+    ensures ignore { InTree F.Files ground.now (λ tree.
+        IfOk result (λ own. IsRules tree ground.now.settings.now dir.now (path_if ground.now.settings.now.ignore dir.now (codes ".ignore"))
+        own.ignore (option_map problem_of own.of_ignore))) }
+    ensures gitignore { InTree F.Files ground.now (λ tree.
+        IfOk result (λ own. IsRules tree ground.now.settings.now dir.now (path_if ground.now.settings.now.git_ignore dir.now (codes ".gitignore"))
+        own.gitignore (option_map problem_of own.of_gitignore))) }
     ensures soft_custom { IfOk result (λ own. IsSoft (option_map problem_of own.of_custom)) }
     ensures soft_ignore { IfOk result (λ own. IsSoft (option_map problem_of own.of_ignore)) }
     ensures soft_gitignore { IfOk result (λ own. IsSoft (option_map problem_of own.of_gitignore)) }
     ensures out_of_memory { IfErr result (λ e. problem_of e ≡ memory) }
 {
-    let names = settings.custom.as_slice();
-    let (custom, of_custom) = rules_of_names(alloc, files, settings, dir, names)?;
-    let (ignore, of_ignore) = rules_if(alloc, files, settings, dir, settings.ignore, ".ignore")?;
-    let on = settings.git_ignore;
-    let (gitignore, of_gitignore) = rules_if(alloc, files, settings, dir, on, ".gitignore")?;
+    let names = ground.settings.custom.as_slice();
+    let (custom, of_custom) = rules_of_names(ground, dir, names)?;
+    let (ignore, of_ignore) = rules_if(ground, dir, ground.settings.ignore, ".ignore")?;
+    let on = ground.settings.git_ignore;
+    let (gitignore, of_gitignore) = rules_if(ground, dir, on, ".gitignore")?;
     Ok(OwnRules {
         custom,
         of_custom,
@@ -115,23 +108,18 @@ struct GitRules {
 }
 
 /// Whether a repository begins at a directory, and the rules of its exclude file.
-fn git_rules<F: Files>(
-    alloc: Global,
-    files: &F,
-    settings: &Settings,
-    dir: &str,
-) -> Result<GitRules, Error>
-    ensures mark { (tree : Tree) → IsHonest F.Files files.now tree
-        → IfOk result (λ git. git.mark ≡ is_marked tree settings.now dir.now) }
-    ensures exclude { (tree : Tree) → IsHonest F.Files files.now tree
-        → IfOk result (λ git. IsExclude tree settings.now dir.now (exclude_place tree settings.now dir.now)
-        git.exclude (option_map problem_of git.of_exclude)) }
+fn git_rules<F: Files>(ground: &Ground<'_, F>, dir: &str) -> Result<GitRules, Error>
+    ensures mark { InTree F.Files ground.now (λ tree.
+        IfOk result (λ git. git.mark ≡ is_marked tree ground.now.settings.now dir.now)) }
+    ensures exclude { InTree F.Files ground.now (λ tree.
+        IfOk result (λ git. IsExclude tree ground.now.settings.now dir.now (exclude_place tree ground.now.settings.now dir.now)
+        git.exclude (option_map problem_of git.of_exclude))) }
     ensures soft { IfOk result (λ git. IsSoft (option_map problem_of git.of_exclude)) }
     ensures out_of_memory { IfErr result (λ e. problem_of e ≡ memory) }
 {
-    let repository = repository_of(alloc, files, settings, dir)?;
+    let repository = repository_of(ground, dir)?;
     let mark = repository.mark;
-    let (exclude, of_exclude) = exclude_rules(alloc, files, settings, dir, repository.exclude)?;
+    let (exclude, of_exclude) = exclude_rules(ground, dir, repository.exclude)?;
     Ok(GitRules {
         mark,
         exclude,
@@ -148,30 +136,25 @@ struct Repository {
 
 /// What the `.git` and the `.jj` of a directory say, as far as that is asked for. `.git` is asked
 /// once, for the mark and for the exclude file.
-fn repository_of<F: Files>(
-    alloc: Global,
-    files: &F,
-    settings: &Settings,
-    dir: &str,
-) -> Result<Repository, Error>
-    ensures mark { (tree : Tree) → IsHonest F.Files files.now tree
-        → IfOk result (λ r. r.mark ≡ is_marked tree settings.now dir.now) }
-    ensures exclude { (tree : Tree) → IsHonest F.Files files.now tree
-        → IfOk result (λ r. place_of r.exclude ≡ exclude_place tree settings.now dir.now) }
+fn repository_of<F: Files>(ground: &Ground<'_, F>, dir: &str) -> Result<Repository, Error>
+    ensures mark { InTree F.Files ground.now (λ tree.
+        IfOk result (λ r. r.mark ≡ is_marked tree ground.now.settings.now dir.now)) }
+    ensures exclude { InTree F.Files ground.now (λ tree.
+        IfOk result (λ r. place_of r.exclude ≡ exclude_place tree ground.now.settings.now dir.now)) }
     ensures soft { IfOk result (λ r. IsSoftPlace (place_of r.exclude)) }
     ensures out_of_memory { IfErr result (λ e. problem_of e ≡ memory) }
 {
-    if !settings.git_exclude && !needs_marks(settings) {
+    if !ground.settings.git_exclude && !needs_marks(ground.settings) {
         return Ok(Repository {
             mark: false,
             exclude: ExcludePlace::Nowhere,
         });
     }
-    let git = join(alloc, dir, ".git")?;
+    let git = join(ground.alloc, dir, ".git")?;
     let path = git.as_str();
-    let kind = kind_of(alloc, files, path)?;
-    let exclude = exclude_place(alloc, files, settings, path, kind.is_file)?;
-    let mark = is_marked(alloc, files, settings, dir, kind.is_there)?;
+    let kind = kind_of(ground, path)?;
+    let exclude = exclude_place(ground, path, kind.is_file)?;
+    let mark = is_marked(ground, dir, kind.is_there)?;
     Ok(Repository { mark, exclude })
 }
 
@@ -190,13 +173,13 @@ struct Kind {
 }
 
 /// What a followed `stat` says of a path.
-fn kind_of<F: Files>(alloc: Global, files: &F, path: &str) -> Result<Kind, Error>
-    ensures there { (tree : Tree) → IsHonest F.Files files.now tree → IfOk result (λ k. k.is_there ≡ is_there tree path.now) }
-    ensures file { (tree : Tree) → IsHonest F.Files files.now tree
-        → IfOk result (λ k. k.is_file ≡ is_file_there (tree.stat path.now true)) }
+fn kind_of<F: Files>(ground: &Ground<'_, F>, path: &str) -> Result<Kind, Error>
+    ensures there { InTree F.Files ground.now (λ tree. IfOk result (λ k. k.is_there ≡ is_there tree path.now)) }
+    ensures file { InTree F.Files ground.now (λ tree.
+        IfOk result (λ k. k.is_file ≡ is_file_there (tree.stat path.now true))) }
     ensures out_of_memory { IfErr result (λ e. problem_of e ≡ memory) }
 {
-    match files.stat(alloc, path, true) {
+    match ground.files.stat(ground.alloc, path, true) {
         Ok(metadata) => Ok(Kind {
             is_there: true,
             is_file: metadata.is_file(),
@@ -211,66 +194,56 @@ fn kind_of<F: Files>(alloc: Global, files: &F, path: &str) -> Result<Kind, Error
 
 /// Where the exclude file of the repository with this `.git` is, where that filter is on.
 fn exclude_place<F: Files>(
-    alloc: Global,
-    files: &F,
-    settings: &Settings,
+    ground: &Ground<'_, F>,
     git: &str,
     is_file: bool,
 ) -> Result<ExcludePlace, Error>
-    ensures value { (tree : Tree) → IsHonest F.Files files.now tree → is_file ≡ is_file_there (tree.stat git.now true)
-        → IfOk result (λ place. place_of place ≡ (if settings.now.git_exclude then exclude_by tree git.now else Ok None)) }
+    ensures value { InTree F.Files ground.now (λ tree. is_file ≡ is_file_there (tree.stat git.now true)
+        → IfOk result (λ place. place_of place ≡ (if ground.now.settings.now.git_exclude then exclude_by tree git.now else Ok None))) }
     ensures soft { IfOk result (λ place. IsSoftPlace (place_of place)) }
     ensures out_of_memory { IfErr result (λ e. problem_of e ≡ memory) }
 {
-    if !settings.git_exclude {
+    if !ground.settings.git_exclude {
         return Ok(ExcludePlace::Nowhere);
     }
     if is_file {
-        by_git_file(alloc, files, git)
+        by_git_file(ground, git)
     } else {
-        excludes_in(alloc, git)
+        excludes_in(ground.alloc, git)
     }
 }
 
 /// Whether a repository begins at the directory, where marks matter.
-fn is_marked<F: Files>(
-    alloc: Global,
-    files: &F,
-    settings: &Settings,
-    dir: &str,
-    has_git: bool,
-) -> Result<bool, Error>
-    ensures value { (tree : Tree) → IsHonest F.Files files.now tree → has_git ≡ is_there tree (join_of dir.now (codes ".git"))
-        → IfOk result (λ yes. yes ≡ is_marked tree settings.now dir.now) }
+fn is_marked<F: Files>(ground: &Ground<'_, F>, dir: &str, has_git: bool) -> Result<bool, Error>
+    ensures value { InTree F.Files ground.now (λ tree. has_git ≡ is_there tree (join_of dir.now (codes ".git"))
+        → IfOk result (λ yes. yes ≡ is_marked tree ground.now.settings.now dir.now)) }
     ensures out_of_memory { IfErr result (λ e. problem_of e ≡ memory) }
 {
-    if !needs_marks(settings) {
+    if !needs_marks(ground.settings) {
         return Ok(false);
     }
     if has_git {
         return Ok(true);
     }
-    let jj = join(alloc, dir, ".jj")?;
-    is_there(alloc, files, jj.as_str())
+    let jj = join(ground.alloc, dir, ".jj")?;
+    is_there(ground, jj.as_str())
 }
 
 /// The rules of the exclude file, if there is one, and its error or that of the way there.
 fn exclude_rules<F: Files>(
-    alloc: Global,
-    files: &F,
-    settings: &Settings,
+    ground: &Ground<'_, F>,
     dir: &str,
     place: ExcludePlace,
 ) -> Result<(Gitignore, Option<Error>), Error>
-    ensures read { (tree : Tree) → IsHonest F.Files files.now tree
-        → IfOk result (λ r. IsExclude tree settings.now dir.now (place_of place) r.0 (option_map problem_of r.1)) }
+    ensures read { InTree F.Files ground.now (λ tree.
+        IfOk result (λ r. IsExclude tree ground.now.settings.now dir.now (place_of place) r.0 (option_map problem_of r.1))) }
     ensures soft { IsSoftPlace (place_of place) → IfOk result (λ r. IsSoft (option_map problem_of r.1)) }
     ensures out_of_memory { IfErr result (λ e. problem_of e ≡ memory) }
 {
     match place {
-        ExcludePlace::At(path) => rules_of_file(alloc, files, settings, dir, path.as_str()),
-        ExcludePlace::Nowhere => Ok((Gitignore::empty(alloc), None)),
-        ExcludePlace::Failed(error) => Ok((Gitignore::empty(alloc), Some(error))),
+        ExcludePlace::At(path) => rules_of_file(ground, dir, path.as_str()),
+        ExcludePlace::Nowhere => Ok((Gitignore::empty(ground.alloc), None)),
+        ExcludePlace::Failed(error) => Ok((Gitignore::empty(ground.alloc), Some(error))),
     }
 }
 

@@ -7,6 +7,7 @@ ghost use Rattle.ignore_dir.specs.Lists.{asked_in};
 ghost use Rattle.ignore_dir.specs.Ranks.{nearest, cut, has_mark, has_git, explicit_answer, git_answer, git_ranks, ranks_answer};
 
 use crate::dir::Rank;
+use crate::ground::Asked;
 use crate::link::{Link, list_of};
 use crate::outside::Outside;
 use crate::settings::Settings;
@@ -22,15 +23,14 @@ use ignore_rules::gitignore::{Gitignore, Glob};
 pub fn nearest<'d>(
     rank: Rank,
     chain: &[Link<'d>],
-    text: &str,
-    is_dir: bool,
+    asked: &Asked<'_>,
 ) -> Result<Match<&'d Glob>, Error>
-    requires boundaries { All (λ link. IsCharBoundary text.now link.1) chain.now }
-    ensures answered { IfOk result (λ m. match_map (λ g. g.now) m ≡ nearest rank (asked_in text.now chain.now) is_dir) }
+    requires boundaries { All (λ link. IsCharBoundary asked.now.text.now link.1) chain.now }
+    ensures answered { IfOk result (λ m. match_map (λ g. g.now) m ≡ nearest rank (asked_in asked.now.text.now chain.now) asked.now.is_dir) }
     ensures out_of_memory { IfErr result (λ e. problem_of e ≡ memory) }
 {
     for link in chain {
-        let answer = list_of(link.dir, rank).answer(&text[link.offset..], is_dir)?;
+        let answer = list_of(link.dir, rank).answer(&asked.text[link.offset..], asked.is_dir)?;
         if !answer.is_none() {
             return Ok(answer);
         }
@@ -92,23 +92,21 @@ fn explicit_answer<'d>(
 fn git_answer<'d>(
     global: &'d Gitignore,
     chain: &[Link<'d>],
-    text: &str,
-    path: &str,
-    is_dir: bool,
+    asked: &Asked<'_>,
 ) -> Result<Match<&'d Glob>, Error>
-    requires boundaries { All (λ link. IsCharBoundary text.now link.1) chain.now }
-    ensures answered { IfOk result (λ m. match_map (λ g. g.now) m ≡ git_answer global.now (asked_in text.now chain.now) path.now is_dir) }
+    requires boundaries { All (λ link. IsCharBoundary asked.now.text.now link.1) chain.now }
+    ensures answered { IfOk result (λ m. match_map (λ g. g.now) m ≡ git_answer global.now (asked_in asked.now.text.now chain.now) asked.now.path.now asked.now.is_dir) }
     ensures out_of_memory { IfErr result (λ e. problem_of e ≡ memory) }
 {
-    let answer = nearest(Rank::Gitignore, chain, text, is_dir)?;
+    let answer = nearest(Rank::Gitignore, chain, asked)?;
     if !answer.is_none() {
         return Ok(answer);
     }
-    let answer = nearest(Rank::Exclude, chain, text, is_dir)?;
+    let answer = nearest(Rank::Exclude, chain, asked)?;
     if !answer.is_none() {
         return Ok(answer);
     }
-    global.matched(path, is_dir)
+    global.matched(asked.path, asked.is_dir)
 }
 
 /// The answer of git's ranks where they apply, else none.
@@ -116,19 +114,17 @@ fn git_ranks<'d>(
     settings: &Settings,
     global: &'d Gitignore,
     chain: &[Link<'d>],
-    text: &str,
-    path: &str,
-    is_dir: bool,
+    asked: &Asked<'_>,
 ) -> Result<Match<&'d Glob>, Error>
-    requires boundaries { All (λ link. IsCharBoundary text.now link.1) chain.now }
+    requires boundaries { All (λ link. IsCharBoundary asked.now.text.now link.1) chain.now }
     ensures answered { IfOk result (λ m. match_map (λ g. g.now) m
-        ≡ git_ranks settings.now global.now (asked_in text.now chain.now) path.now is_dir) }
+        ≡ git_ranks settings.now global.now (asked_in asked.now.text.now chain.now) asked.now.path.now asked.now.is_dir) }
     ensures out_of_memory { IfErr result (λ e. problem_of e ≡ memory) }
 {
-    if !has_git(settings, chain, text) {
+    if !has_git(settings, chain, asked.text) {
         return Ok(Match::None);
     }
-    git_answer(global, &chain[..cut_len(chain, text)], text, path, is_dir)
+    git_answer(global, &chain[..cut_len(chain, asked.text)], asked)
 }
 
 /// The answer of the first rank that has a match, for a path: custom files, `.ignore`,
@@ -141,27 +137,29 @@ pub fn ranks_answer<'d>(
     settings: &Settings,
     outside: &'d Outside,
     chain: &[Link<'d>],
-    text: &str,
-    path: &str,
-    is_dir: bool,
+    asked: &Asked<'_>,
 ) -> Result<Match<&'d Glob>, Error>
-    requires boundaries { All (λ link. IsCharBoundary text.now link.1) chain.now }
+    requires boundaries { All (λ link. IsCharBoundary asked.now.text.now link.1) chain.now }
     ensures answered { IfOk result (λ m. match_map (λ g. g.now) m
-        ≡ ranks_answer settings.now outside.now (asked_in text.now chain.now) path.now is_dir) }
+        ≡ ranks_answer settings.now outside.now (asked_in asked.now.text.now chain.now) asked.now.path.now asked.now.is_dir) }
     ensures out_of_memory { IfErr result (λ e. problem_of e ≡ memory) }
 {
-    let answer = nearest(Rank::Custom, chain, text, is_dir)?;
+    let answer = nearest(Rank::Custom, chain, asked)?;
     if !answer.is_none() {
         return Ok(answer);
     }
-    let answer = nearest(Rank::Ignore, chain, text, is_dir)?;
+    let answer = nearest(Rank::Ignore, chain, asked)?;
     if !answer.is_none() {
         return Ok(answer);
     }
-    let path = trim_root(path);
-    let answer = git_ranks(settings, &outside.global, chain, text, path, is_dir)?;
+    let asked = Asked {
+        text: asked.text,
+        path: trim_root(asked.path),
+        is_dir: asked.is_dir,
+    };
+    let answer = git_ranks(settings, &outside.global, chain, &asked)?;
     if !answer.is_none() {
         return Ok(answer);
     }
-    explicit_answer(outside.explicit.as_slice(), path, is_dir)
+    explicit_answer(outside.explicit.as_slice(), asked.path, asked.is_dir)
 }

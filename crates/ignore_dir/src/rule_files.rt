@@ -1,13 +1,13 @@
 //! The rules of files of one directory.
 ghost use Rattle.std.specs.Prelude.{◌≡◌, [], ◌∷◌, map, IfOk, IfErr, option_map};
-ghost use Rattle.ignore_files.specs.Gives.{IsHonest};
-ghost use Rattle.ignore_files.specs.Tree.{Tree};
 ghost use Rattle.ignore_base.specs.Paths.{join_of};
 ghost use Rattle.ignore_base.specs.Problem.{problem_of, memory};
+ghost use Rattle.ignore_dir.specs.Ground.{InTree};
 ghost use Rattle.ignore_dir.specs.Soft.{IsSoft};
 ghost use Rattle.ignore_dir.specs.Load.{is_there, started, AddsPresent, IsRules, path_if};
 
 use crate::errors::push_some;
+use crate::ground::Ground;
 use crate::settings::Settings;
 use ignore_base::Error;
 use ignore_base::text::join;
@@ -16,11 +16,11 @@ use ignore_rules::gitignore::{Gitignore, GitignoreBuilder};
 use std::alloc::Global;
 
 /// Whether a followed `stat` answers.
-pub(crate) fn is_there<F: Files>(alloc: Global, files: &F, path: &str) -> Result<bool, Error>
-    ensures value { (tree : Tree) → IsHonest F.Files files.now tree → IfOk result (λ yes. yes ≡ is_there tree path.now) }
+pub(crate) fn is_there<F: Files>(ground: &Ground<'_, F>, path: &str) -> Result<bool, Error>
+    ensures value { InTree F.Files ground.now (λ tree. IfOk result (λ yes. yes ≡ is_there tree path.now)) }
     ensures out_of_memory { IfErr result (λ e. problem_of e ≡ memory) }
 {
-    match files.stat(alloc, path, true) {
+    match ground.files.stat(ground.alloc, path, true) {
         Ok(_) => Ok(true),
         Err(Refusal::Fault(_)) => Ok(false),
         Err(Refusal::Memory) => Err(Error::Memory),
@@ -40,86 +40,79 @@ fn start(alloc: Global, settings: &Settings, dir: &str) -> Result<GitignoreBuild
 
 /// Adds a file, if it is there. The result is its error, unless that is a fault.
 fn add_present<F: Files>(
-    alloc: Global,
-    files: &F,
+    ground: &Ground<'_, F>,
     path: &str,
     builder: &mut GitignoreBuilder,
 ) -> Result<Option<Error>, Error>
-    ensures added { (tree : Tree) → IsHonest F.Files files.now tree
-        → IfOk result (λ e. AddsPresent (is_there tree path.now) tree path.now builder.old builder.new (option_map problem_of e)) }
+    ensures added { InTree F.Files ground.now (λ tree.
+        IfOk result (λ e. AddsPresent (is_there tree path.now) tree path.now builder.old builder.new (option_map problem_of e))) }
     ensures soft { IfOk result (λ e. IsSoft (option_map problem_of e)) }
     ensures out_of_memory { IfErr result (λ e. problem_of e ≡ memory) }
 {
-    if !is_there(alloc, files, path)? {
+    if !is_there(ground, path)? {
         return Ok(None);
     }
-    let error = builder.add(files, path)?;
+    let error = builder.add(ground.files, path)?;
     Ok(Error::without_fault(error))
 }
 
 /// The rules of the file at a path, relative to a directory, and the error of the file.
 pub(crate) fn rules_of_file<F: Files>(
-    alloc: Global,
-    files: &F,
-    settings: &Settings,
+    ground: &Ground<'_, F>,
     dir: &str,
     path: &str,
 ) -> Result<(Gitignore, Option<Error>), Error>
-    ensures read { (tree : Tree) → IsHonest F.Files files.now tree
-        → IfOk result (λ r. IsRules tree settings.now dir.now (path.now ∷ []) r.0 (option_map problem_of r.1)) }
+    ensures read { InTree F.Files ground.now (λ tree.
+        IfOk result (λ r. IsRules tree ground.now.settings.now dir.now (path.now ∷ []) r.0 (option_map problem_of r.1))) }
     ensures soft { IfOk result (λ r. IsSoft (option_map problem_of r.1)) }
     ensures out_of_memory { IfErr result (λ e. problem_of e ≡ memory) }
 {
-    if !is_there(alloc, files, path)? {
-        return Ok((Gitignore::empty(alloc), None));
+    if !is_there(ground, path)? {
+        return Ok((Gitignore::empty(ground.alloc), None));
     }
-    let mut builder = start(alloc, settings, dir)?;
-    let error = Error::without_fault(builder.add(files, path)?);
+    let mut builder = start(ground.alloc, ground.settings, dir)?;
+    let error = Error::without_fault(builder.add(ground.files, path)?);
     Ok((builder.into_gitignore(), error))
 }
 
 /// The rules of the file of the directory with a name, where its filter is on, and its error.
 pub(crate) fn rules_if<F: Files>(
-    alloc: Global,
-    files: &F,
-    settings: &Settings,
+    ground: &Ground<'_, F>,
     dir: &str,
     on: bool,
     name: &str,
 ) -> Result<(Gitignore, Option<Error>), Error>
-    ensures read { (tree : Tree) → IsHonest F.Files files.now tree
-        → IfOk result (λ r. IsRules tree settings.now dir.now (path_if on dir.now name.now) r.0 (option_map problem_of r.1)) }
+    ensures read { InTree F.Files ground.now (λ tree.
+        IfOk result (λ r. IsRules tree ground.now.settings.now dir.now (path_if on dir.now name.now) r.0 (option_map problem_of r.1))) }
     ensures soft { IfOk result (λ r. IsSoft (option_map problem_of r.1)) }
     ensures out_of_memory { IfErr result (λ e. problem_of e ≡ memory) }
 {
     if !on {
-        return Ok((Gitignore::empty(alloc), None));
+        return Ok((Gitignore::empty(ground.alloc), None));
     }
-    let path = join(alloc, dir, name)?;
-    rules_of_file(alloc, files, settings, dir, path.as_str())
+    let path = join(ground.alloc, dir, name)?;
+    rules_of_file(ground, dir, path.as_str())
 }
 
 /// The rules of the files of the directory with these names, in turn, and their errors as one.
 pub(crate) fn rules_of_names<F: Files>(
-    alloc: Global,
-    files: &F,
-    settings: &Settings,
+    ground: &Ground<'_, F>,
     dir: &str,
     names: &[Name],
 ) -> Result<(Gitignore, Option<Error>), Error>
-    ensures read { (tree : Tree) → IsHonest F.Files files.now tree
-        → IfOk result (λ r. IsRules tree settings.now dir.now (map (join_of dir.now) names.now) r.0 (option_map problem_of r.1)) }
+    ensures read { InTree F.Files ground.now (λ tree.
+        IfOk result (λ r. IsRules tree ground.now.settings.now dir.now (map (join_of dir.now) names.now) r.0 (option_map problem_of r.1))) }
     ensures soft { IfOk result (λ r. IsSoft (option_map problem_of r.1)) }
     ensures out_of_memory { IfErr result (λ e. problem_of e ≡ memory) }
 {
     if names.is_empty() {
-        return Ok((Gitignore::empty(alloc), None));
+        return Ok((Gitignore::empty(ground.alloc), None));
     }
-    let mut builder = start(alloc, settings, dir)?;
-    let mut errors = Vec::new(alloc);
+    let mut builder = start(ground.alloc, ground.settings, dir)?;
+    let mut errors = Vec::new(ground.alloc);
     for name in names {
-        let path = join(alloc, dir, name.as_str())?;
-        let error = add_present(alloc, files, path.as_str(), &mut builder)?;
+        let path = join(ground.alloc, dir, name.as_str())?;
+        let error = add_present(ground, path.as_str(), &mut builder)?;
         push_some(&mut errors, error)?;
     }
     Ok((builder.into_gitignore(), Error::joined(errors)))

@@ -7,6 +7,7 @@ ghost use Rattle.std.specs.Str.{IsCharBoundary};
 ghost use Rattle.ignore_dir.specs.Lists.{asked_in};
 ghost use Rattle.ignore_dir.specs.Verdict.{placed_verdict, file_verdict, verdict_of, or_else, is_dotted, is_ignore};
 
+use crate::ground::Asked;
 use crate::link::Link;
 use crate::outside::Outside;
 use crate::ranks::ranks_answer;
@@ -84,16 +85,15 @@ fn file_verdict(
     settings: &Settings,
     outside: &Outside,
     chain: &[Link<'_>],
-    text: &str,
-    path: &str,
-    is_dir: bool,
+    asked: &Asked<'_>,
 ) -> Result<Verdict, Error>
-    requires boundaries { All (λ link. IsCharBoundary text.now link.1) chain.now }
-    ensures value { IfOk result (λ v. v ≡ file_verdict settings.now outside.now (asked_in text.now chain.now) path.now is_dir) }
+    requires boundaries { All (λ link. IsCharBoundary asked.now.text.now link.1) chain.now }
+    ensures value { IfOk result (λ v. v ≡ file_verdict settings.now outside.now (asked_in asked.now.text.now chain.now) asked.now.path.now asked.now.is_dir) }
     ensures out_of_memory { IfErr result (λ e. problem_of e ≡ memory) }
 {
+    let (path, is_dir) = (asked.path, asked.is_dir);
     let shown = trim_root(path);
-    match verdict_of(ranks_answer(settings, outside, chain, text, path, is_dir)?) {
+    match verdict_of(ranks_answer(settings, outside, chain, asked)?) {
         Verdict::Ignore => Ok(Verdict::Ignore),
         Verdict::Whitelist => by_types_or(&outside.types, shown, is_dir, Verdict::Whitelist),
         Verdict::None => by_types_or(&outside.types, shown, is_dir, by_hidden(settings, path)),
@@ -101,8 +101,7 @@ fn file_verdict(
 }
 
 /// What becomes of a path, by the settings, the rules from outside and those of a chain of
-/// directories, the nearest first. `text` is the path as the directories see it: each is asked
-/// about what follows its offset.
+/// directories, the nearest first.
 ///
 /// An override decides; else the ranks, where they ignore; else the file types; else the ranks; and
 /// else a hidden name is ignored, where that filter is on.
@@ -114,17 +113,16 @@ pub fn judge(
     settings: &Settings,
     outside: &Outside,
     chain: &[Link<'_>],
-    text: &str,
-    path: &str,
-    is_dir: bool,
+    asked: &Asked<'_>,
 ) -> Result<Verdict, Error>
-    requires boundaries { All (λ link. IsCharBoundary text.now link.1) chain.now }
-    ensures value { IfOk result (λ v. v ≡ placed_verdict settings.now outside.now chain.now text.now path.now is_dir) }
+    requires boundaries { All (λ link. IsCharBoundary asked.now.text.now link.1) chain.now }
+    ensures value { IfOk result (λ v. v ≡ placed_verdict settings.now outside.now chain.now asked.now.text.now asked.now.path.now asked.now.is_dir) }
     ensures out_of_memory { IfErr result (λ e. problem_of e ≡ memory) }
 {
-    match verdict_of(outside.overrides.matched(trim_root(path), is_dir)?) {
+    let path = trim_root(asked.path);
+    match verdict_of(outside.overrides.matched(path, asked.is_dir)?) {
         Verdict::Ignore => Ok(Verdict::Ignore),
         Verdict::Whitelist => Ok(Verdict::Whitelist),
-        Verdict::None => file_verdict(settings, outside, chain, text, path, is_dir),
+        Verdict::None => file_verdict(settings, outside, chain, asked),
     }
 }

@@ -6,3 +6,4 @@ pub mod Known
 pub mod Needs
 pub mod Reached
 pub mod Reports
+pub mod Where

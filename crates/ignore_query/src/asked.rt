@@ -1,7 +1,9 @@
-//! What all queries of a matcher share.
+//! What all queries of a matcher share, and what one call goes by.
+ghost use Rattle.std.specs.Prelude.{◌≡◌};
 
-use ignore_dir::{Outside, Settings};
-use std::alloc::AllocError;
+use ignore_dir::{Ground, Outside, Settings};
+use ignore_files::Files;
+use std::alloc::{AllocError, Global};
 
 /// What all queries of a matcher share: the settings, the rules from outside, the root, and the
 /// working directory.
@@ -29,5 +31,32 @@ impl Clone for Asked {
             root: self.root.clone()?,
             current_dir: self.current_dir.clone()?,
         })
+    }
+}
+
+/// What one call goes by: the files at hand, and what all queries of the matcher share.
+#[derive(Drop)]
+pub(crate) struct Call<'a, F: Files> {
+    pub(crate) files: &'a F,
+    pub(crate) asked: &'a Asked,
+}
+
+impl<'a, F: Files> Call<'a, F> {
+    /// The allocator.
+    pub(crate) fn alloc(&self) -> Global {
+        *self.asked.root.allocator()
+    }
+
+    /// The ground of its loads.
+    pub(crate) fn ground(&self) -> Ground<'a, F>
+        ensures files { result.files.now ≡ self.now.files.now }
+        ensures settings { result.settings.now ≡ self.now.asked.now.settings }
+    {
+        Ground {
+            alloc: self.alloc(),
+            files: self.files,
+            settings: &self.asked.settings,
+            outside: &self.asked.outside,
+        }
     }
 }

@@ -88,7 +88,6 @@ impl Cache {
     /// The verdict on a path by its chain of directories.
     pub(crate) fn verdict_by(
         &self,
-        alloc: Global,
         asked: &Asked,
         chain: &[Link<'_>],
         path: &str,
@@ -102,6 +101,7 @@ impl Cache {
     {
         join_law();
         steps_are_whole();
+        let alloc = *asked.root.allocator();
         let mut text = String::with_capacity(alloc, self.base.len() + path.len())?;
         text.push_str(self.base.as_str())?;
         text.push_str(path)?;
@@ -109,21 +109,18 @@ impl Cache {
             return Ok(Verdict::None);
         }
         let path = join(alloc, asked.root.as_str(), path)?;
-        judge(
-            &asked.settings,
-            &asked.outside,
-            chain,
-            text.as_str(),
-            path.as_str(),
+        let entry = ignore_dir::Asked {
+            text: text.as_str(),
+            path: path.as_str(),
             is_dir,
-        )
+        };
+        judge(&asked.settings, &asked.outside, chain, &entry)
     }
 
     /// The verdict on a path by the directories that are kept: it is an entry of the directory with
     /// these names.
     pub(crate) fn verdict_in(
         &self,
-        alloc: Global,
         asked: &Asked,
         names: &[&str],
         path: &str,
@@ -134,7 +131,7 @@ impl Cache {
             → path.now ≡ joined (front ++ name ∷ []) → IfOk result (λ v. v ≡ path_verdict g (front ++ name ∷ []) is_dir) }
         ensures out_of_memory { IfErr result (λ e. problem_of e ≡ memory) }
     {
-        let chain = self.chain_in(alloc, names)?;
-        self.verdict_by(alloc, asked, chain.as_slice(), path, is_dir)
+        let chain = self.chain_in(*asked.root.allocator(), names)?;
+        self.verdict_by(asked, chain.as_slice(), path, is_dir)
     }
 }

@@ -12,10 +12,11 @@ ghost use Rattle.ignore_dir.specs.Soft.{IsSoft};
 ghost use Rattle.ignore_query.specs.Agrees.{Agrees};
 ghost use Rattle.ignore_query.specs.Fresh.{KeepsNothing};
 ghost use Rattle.ignore_query.specs.Needs.{KeepsNeeded, Stays, is_decided, is_known, needed};
-ghost use Rattle.ignore_query.specs.Reached.{InEachScene, dir_of, scene_of};
+ghost use Rattle.ignore_query.specs.Reached.{dir_of, scene_of};
 ghost use Rattle.ignore_query.specs.Reports.{reported, reported_by_rules};
+ghost use Rattle.ignore_query.specs.Where.{WhereAgrees, WhereDecided};
 
-use crate::asked::Asked;
+use crate::asked::{Asked, Call};
 use crate::clean::{depth_of, is_asked};
 use crate::kept::Cache;
 use crate::size::by_size;
@@ -117,18 +118,16 @@ impl IncrementalIgnore {
         path: &str,
         is_dir: bool,
     ) -> Result<IncrementalMatch, Error>
-        ensures value { InEachScene F.Files files.now self.old.asked (λ g. Agrees g self.old.cache
-            → IfOk result (λ m. m ≡ (queries.query g path.now is_dir).0)) }
+        ensures value { WhereAgrees F.Files files.now self.old (λ g. IfOk result (λ m. m ≡ (queries.query g path.now is_dir).0)) }
         ensures stays { Stays self.old.cache self.new.cache }
-        ensures kept { InEachScene F.Files files.now self.old.asked (λ g. Agrees g self.old.cache → is_decided g path.now is_dir ≡ true
+        ensures kept { WhereAgrees F.Files files.now self.old (λ g. is_decided g path.now is_dir ≡ true
             → OnOk result (KeepsNeeded (needed g (queries.names_of path.now)) self.old.cache self.new.cache)) }
-        ensures unchanged { InEachScene F.Files files.now self.old.asked (λ g. Agrees g self.old.cache
-            → is_decided g path.now is_dir ≢ true → self.new.cache ≡ self.old.cache) }
+        ensures unchanged { WhereAgrees F.Files files.now self.old (λ g. is_decided g path.now is_dir ≢ true → self.new.cache ≡ self.old.cache) }
         ensures from_kept { (tree : Tree) (loads : List ℕ → Loaded) → let g = scene_of self.old.asked tree loads in
             Agrees g self.old.cache → is_known g self.old.cache (queries.names_of path.now) ≡ true
             → queries.limit_of g path.now is_dir ≡ None → (self.new.cache ≡ self.old.cache)
             × IfOk result (λ m. m ≡ (queries.query g path.now is_dir).0) }
-        ensures agrees { InEachScene F.Files files.now self.old.asked (λ g. Agrees g self.old.cache → Agrees g self.new.cache) }
+        ensures agrees { WhereAgrees F.Files files.now self.old (λ g. Agrees g self.new.cache) }
         ensures same { self.new.asked ≡ self.old.asked }
         ensures out_of_memory { IfErr result (λ e. problem_of e ≡ memory) }
     {
@@ -147,20 +146,17 @@ impl IncrementalIgnore {
         path: &str,
         is_dir: bool,
     ) -> Result<(IncrementalMatch, Option<Error>), Error>
-        ensures value { InEachScene F.Files files.now self.old.asked (λ g. Agrees g self.old.cache
-            → IfOk result (λ r. r.0 ≡ (queries.query g path.now is_dir).0)) }
-        ensures reports { InEachScene F.Files files.now self.old.asked (λ g. Agrees g self.old.cache
-            → IfOk result (λ r. option_map problem_of r.1 ≡ reported g self.old.cache path.now is_dir)) }
+        ensures value { WhereAgrees F.Files files.now self.old (λ g. IfOk result (λ r. r.0 ≡ (queries.query g path.now is_dir).0)) }
+        ensures reports { WhereAgrees F.Files files.now self.old (λ g. IfOk result (λ r. option_map problem_of r.1 ≡ reported g self.old.cache path.now is_dir)) }
         ensures stays { Stays self.old.cache self.new.cache }
-        ensures kept { InEachScene F.Files files.now self.old.asked (λ g. Agrees g self.old.cache → is_decided g path.now is_dir ≡ true
+        ensures kept { WhereAgrees F.Files files.now self.old (λ g. is_decided g path.now is_dir ≡ true
             → OnOk result (KeepsNeeded (needed g (queries.names_of path.now)) self.old.cache self.new.cache)) }
-        ensures unchanged { InEachScene F.Files files.now self.old.asked (λ g. Agrees g self.old.cache
-            → is_decided g path.now is_dir ≢ true → self.new.cache ≡ self.old.cache) }
+        ensures unchanged { WhereAgrees F.Files files.now self.old (λ g. is_decided g path.now is_dir ≢ true → self.new.cache ≡ self.old.cache) }
         ensures from_kept { (tree : Tree) (loads : List ℕ → Loaded) → let g = scene_of self.old.asked tree loads in
             Agrees g self.old.cache → is_known g self.old.cache (queries.names_of path.now) ≡ true
             → queries.limit_of g path.now is_dir ≡ None → (self.new.cache ≡ self.old.cache)
             × IfOk result (λ r. (r.0 ≡ (queries.query g path.now is_dir).0) × (r.1 ≡ None)) }
-        ensures agrees { InEachScene F.Files files.now self.old.asked (λ g. Agrees g self.old.cache → Agrees g self.new.cache) }
+        ensures agrees { WhereAgrees F.Files files.now self.old (λ g. Agrees g self.new.cache) }
         ensures soft { IfOk result (λ r. IsSoft (option_map problem_of r.1)) }
         ensures same { self.new.asked ≡ self.old.asked }
         ensures out_of_memory { IfErr result (λ e. problem_of e ≡ memory) }
@@ -168,12 +164,15 @@ impl IncrementalIgnore {
         if !is_asked(self.root(), path) {
             return Ok((IncrementalMatch::no_match(is_dir), None));
         }
-        let alloc = *self.asked.root.allocator();
         let depth = depth_of(path);
         if is_beyond(&self.asked.settings, depth, is_dir) {
             return Ok((IncrementalMatch::beyond(), None));
         }
-        if self.cache.has_rules(alloc, files, &self.asked, path)? {
+        let call = Call {
+            files,
+            asked: &self.asked,
+        };
+        if self.cache.has_rules(&call, path)? {
             return self.answer_of_rules(files, path, is_dir);
         }
         let answer = IncrementalMatch::limited(&self.asked.settings, depth, is_dir, Verdict::None);
@@ -187,32 +186,29 @@ impl IncrementalIgnore {
         path: &str,
         is_dir: bool,
     ) -> Result<(IncrementalMatch, Option<Error>), Error>
-        ensures value { InEachScene F.Files files.now self.old.asked (λ g. Agrees g self.old.cache
-            → queries.is_asked g.root path.now ≡ true → queries.has_rules g.tree g.root path.now ≡ true
-            → IfOk result (λ r. r.0 ≡ (queries.answer_of_rules g path.now is_dir).0)) }
-        ensures reports { InEachScene F.Files files.now self.old.asked (λ g. Agrees g self.old.cache
-            → queries.is_asked g.root path.now ≡ true → queries.has_rules g.tree g.root path.now ≡ true
-            → IfOk result (λ r. option_map problem_of r.1 ≡ reported_by_rules g self.old.cache path.now is_dir)) }
+        ensures value { WhereDecided F.Files files.now self.old path.now (λ g.
+            IfOk result (λ r. r.0 ≡ (queries.answer_of_rules g path.now is_dir).0)) }
+        ensures reports { WhereDecided F.Files files.now self.old path.now (λ g.
+            IfOk result (λ r. option_map problem_of r.1 ≡ reported_by_rules g self.old.cache path.now is_dir)) }
         ensures stays { Stays self.old.cache self.new.cache }
-        ensures kept { InEachScene F.Files files.now self.old.asked (λ g. Agrees g self.old.cache
-            → queries.is_asked g.root path.now ≡ true → queries.has_rules g.tree g.root path.now ≡ true
-            → OnOk result (KeepsNeeded (needed g (queries.names_of path.now)) self.old.cache self.new.cache)) }
+        ensures kept { WhereDecided F.Files files.now self.old path.now (λ g.
+            OnOk result (KeepsNeeded (needed g (queries.names_of path.now)) self.old.cache self.new.cache)) }
         ensures from_kept { (tree : Tree) (loads : List ℕ → Loaded) → let g = scene_of self.old.asked tree loads in
             Agrees g self.old.cache → queries.is_asked g.root path.now ≡ true → queries.has_rules tree g.root path.now ≡ true
             → is_known g self.old.cache (queries.names_of path.now) ≡ true → queries.limit_of g path.now is_dir ≡ None
             → (self.new.cache ≡ self.old.cache)
             × IfOk result (λ r. (r.0 ≡ (queries.answer_of_rules g path.now is_dir).0) × (r.1 ≡ None)) }
-        ensures agrees { InEachScene F.Files files.now self.old.asked (λ g. Agrees g self.old.cache
-            → queries.is_asked g.root path.now ≡ true → queries.has_rules g.tree g.root path.now ≡ true → Agrees g self.new.cache) }
+        ensures agrees { WhereDecided F.Files files.now self.old path.now (λ g.
+            Agrees g self.new.cache) }
         ensures soft { IfOk result (λ r. IsSoft (option_map problem_of r.1)) }
         ensures same { self.new.asked ≡ self.old.asked }
         ensures out_of_memory { IfErr result (λ e. problem_of e ≡ memory) }
     {
-        let alloc = *self.asked.root.allocator();
         let (asked, cache) = (&self.asked, &mut self.cache);
-        let mut errors = Vec::new(alloc);
-        let verdict = cache.decide(alloc, files, asked, path, is_dir, &mut errors)?;
-        let verdict = by_size(alloc, files, asked, path, is_dir, verdict, &mut errors)?;
+        let call = Call { files, asked };
+        let mut errors = Vec::new(call.alloc());
+        let verdict = cache.decide(&call, path, is_dir, &mut errors)?;
+        let verdict = by_size(&call, path, is_dir, verdict, &mut errors)?;
         let settings = &asked.settings;
         let answer = IncrementalMatch::limited(settings, depth_of(path), is_dir, verdict);
         Ok((answer, Error::joined(errors)))

@@ -23,7 +23,6 @@ use ignore_base::Error;
 use ignore_dir::Link;
 use ignore_dir::laws::steps_are_whole;
 use ignore_dir::verdict::Verdict;
-use std::alloc::Global;
 
 /// What is kept of the directories on the way to a path.
 #[derive(Clone, Copy, Debug, PartialEq, Eq)]
@@ -103,7 +102,6 @@ impl Cache {
     /// What the rules say of a path of names, where all directories that the answer needs are kept.
     pub(crate) fn known_verdict(
         &self,
-        alloc: Global,
         asked: &Asked,
         path: &str,
         is_dir: bool,
@@ -118,12 +116,12 @@ impl Cache {
         if !self.has_above {
             return Ok(None);
         }
-        let mut chain = Vec::new(alloc);
+        let mut chain = Vec::new(*asked.root.allocator());
         push_all(&mut chain, self.above.as_slice())?;
         match self.follow(&mut chain, path)? {
             Way::Open => {
                 chain.reverse();
-                let verdict = self.verdict_by(alloc, asked, chain.as_slice(), path, is_dir)?;
+                let verdict = self.verdict_by(asked, chain.as_slice(), path, is_dir)?;
                 Ok(Some(verdict))
             }
             Way::Shut => Ok(Some(Verdict::Ignore)),

@@ -9,17 +9,17 @@ ghost use Rattle.ignore_base.specs.Paths.{IsName, components, is_proper};
 ghost use Rattle.ignore_base.specs.Problem.{problem_of, memory};
 ghost use Rattle.ignore_dir.specs.Above.{path_along};
 ghost use Rattle.ignore_dir.specs.Chains.{slashed};
-ghost use Rattle.ignore_dir.specs.Load.{Loaded, AreLoads};
+ghost use Rattle.ignore_dir.specs.Load.{Loaded};
 ghost use Rattle.ignore_dir.specs.Query.{ancestors, is_ignored, rules_verdict};
 ghost use Rattle.ignore_dir.specs.Soft.{AllSoft};
-ghost use Rattle.ignore_files.specs.Gives.{IsHonest};
 ghost use Rattle.ignore_files.specs.Tree.{Tree};
 ghost use Rattle.ignore_query.specs.Agrees.{Agrees, IsInLoaded, IsLoaded, IsNext, IsRight};
 ghost use Rattle.ignore_query.specs.Needs.{KeepsNeeded, Stays, needed};
-ghost use Rattle.ignore_query.specs.Reached.{InEachScene, scene_of};
+ghost use Rattle.ignore_query.specs.Reached.{scene_of};
 ghost use Rattle.ignore_query.specs.Reports.{new_below, problem_in, problems_at};
+ghost use Rattle.ignore_query.specs.Where.{InCall, WhereKept, WhereNext, WhereRooted};
 
-use crate::asked::Asked;
+use crate::asked::{Asked, Call};
 use crate::kept::{Cache, Kept};
 use ignore_base::Error;
 use ignore_base::text::{join, join_law};
@@ -57,39 +57,24 @@ fn path_of(alloc: Global, root: &str, key: &str) -> Result<String, Error>
 }
 
 /// Loads a directory, by its key.
-fn load<F: Files>(
-    alloc: Global,
-    files: &F,
-    asked: &Asked,
-    key: &str,
-    errors: &mut Vec<Error>,
-) -> Result<Dir, Error>
-    ensures value { (tree : Tree) (loads : List ℕ → Loaded) (names : List (List ℕ)) → IsHonest F.Files files.now tree
-        → AreLoads tree asked.now.settings loads → All IsName names → key.now ≡ slashed names
-        → IfOk result (λ dir. dir ≡ (loads (path_along (string_bytes asked.now.root) names)).0) }
-    ensures problems { (tree : Tree) (loads : List ℕ → Loaded) (names : List (List ℕ)) → IsHonest F.Files files.now tree
-        → AreLoads tree asked.now.settings loads → All IsName names → key.now ≡ slashed names
-        → OnOk result (map problem_of errors.new.items ≡ map problem_of errors.old.items
-        ++ option_to_list (problem_in (scene_of asked.now tree loads) names)) }
+fn load<F: Files>(call: &Call<'_, F>, key: &str, errors: &mut Vec<Error>) -> Result<Dir, Error>
+    ensures value { InCall F.Files call.now (λ g. (names : List (List ℕ)) → All IsName names → key.now ≡ slashed names
+        → IfOk result (λ dir. dir ≡ (g.loads (path_along g.root names)).0)) }
+    ensures problems { InCall F.Files call.now (λ g. (names : List (List ℕ)) → All IsName names → key.now ≡ slashed names
+        → OnOk result (map problem_of errors.new.items ≡ map problem_of errors.old.items ++ option_to_list (problem_in g names))) }
     ensures soft { AllSoft (map problem_of errors.old.items) → OnOk result (AllSoft (map problem_of errors.new.items)) }
     ensures out_of_memory { IfErr result (λ e. problem_of e ≡ memory) }
 {
     one_load();
-    let path = path_of(alloc, asked.root.as_str(), key)?;
-    let (dir, error) = load_directory(alloc, files, &asked.settings, path.as_str())?;
+    let path = path_of(call.alloc(), call.asked.root.as_str(), key)?;
+    let (dir, error) = load_directory(&call.ground(), path.as_str())?;
     push_some(errors, error)?;
     Ok(dir)
 }
 
 impl Cache {
     /// Whether the directory with these names and this key is ignored. The root never is.
-    fn is_ignored(
-        &self,
-        alloc: Global,
-        asked: &Asked,
-        names: &[&str],
-        key: &str,
-    ) -> Result<bool, Error>
+    fn is_ignored(&self, asked: &Asked, names: &[&str], key: &str) -> Result<bool, Error>
         ensures value { (tree : Tree) (loads : List ℕ → Loaded) → let g = scene_of asked.now tree loads in
             let front = map (λ n. n.now) names.now in Agrees g self.now → All IsName front → key.now ≡ slashed front
             → IsNext self.now front → IfOk result (λ yes. yes ≡ is_ignored g front) }
@@ -97,7 +82,7 @@ impl Cache {
     {
         match names.split_last() {
             Some((_, front)) => {
-                let verdict = self.verdict_in(alloc, asked, front, without_slash(key), true)?;
+                let verdict = self.verdict_in(asked, front, without_slash(key), true)?;
                 Ok(verdict.is_ignore())
             }
             None => Ok(false),
@@ -107,34 +92,30 @@ impl Cache {
     /// What is to be kept of the directory with these names and this key.
     fn find<F: Files>(
         &self,
-        alloc: Global,
-        files: &F,
-        asked: &Asked,
+        call: &Call<'_, F>,
         names: &[&str],
         key: &str,
         errors: &mut Vec<Error>,
     ) -> Result<Kept, Error>
-        ensures value { InEachScene F.Files files.now asked.now (λ g. let front = map (λ n. n.now) names.now in Agrees g self.now
-            → All IsName front → key.now ≡ slashed front → IsNext self.now front → IfOk result (λ k. IsRight g front k)) }
-        ensures problems { InEachScene F.Files files.now asked.now (λ g. let front = map (λ n. n.now) names.now in Agrees g self.now
-            → All IsName front → key.now ≡ slashed front → IsNext self.now front → OnOk result (map problem_of errors.new.items
+        ensures value { WhereNext F.Files call.now self.now (map (λ n. n.now) names.now) key.now (λ g front.
+            IfOk result (λ k. IsRight g front k)) }
+        ensures problems { WhereNext F.Files call.now self.now (map (λ n. n.now) names.now) key.now (λ g front.
+            OnOk result (map problem_of errors.new.items
             ≡ map problem_of errors.old.items ++ (if is_ignored g front then [] else option_to_list (problem_in g front)))) }
         ensures soft { AllSoft (map problem_of errors.old.items) → OnOk result (AllSoft (map problem_of errors.new.items)) }
         ensures out_of_memory { IfErr result (λ e. problem_of e ≡ memory) }
     {
-        if self.is_ignored(alloc, asked, names, key)? {
+        if self.is_ignored(call.asked, names, key)? {
             return Ok(Kept::Ignored);
         }
-        Ok(Kept::Loaded(load(alloc, files, asked, key, errors)?))
+        Ok(Kept::Loaded(load(call, key, errors)?))
     }
 
     /// Looks the directory with these names and this key up. Where nothing is kept of it, judges
     /// it, loads it unless it is ignored, and keeps it. Returns whether it is loaded.
     fn keep<F: Files>(
         &mut self,
-        alloc: Global,
-        files: &F,
-        asked: &Asked,
+        call: &Call<'_, F>,
         names: &[&str],
         key: &str,
         errors: &mut Vec<Error>,
@@ -144,23 +125,21 @@ impl Cache {
             ≡ (is_some (get_by_text self.old.dirs text) || bytes_eq key.now text)) }
         ensures others { (text : List ℕ) → text ≢ key.now → get_by_text self.new.dirs text ≡ get_by_text self.old.dirs text }
         ensures above { (self.new.has_above ≡ self.old.has_above) × ((self.new.above ≡ self.old.above) × (self.new.base ≡ self.old.base)) }
-        ensures agrees { InEachScene F.Files files.now asked.now (λ g. let front = map (λ n. n.now) names.now in Agrees g self.old
-            → All IsName front → key.now ≡ slashed front → IsNext self.old front → Agrees g self.new) }
-        ensures value { InEachScene F.Files files.now asked.now (λ g. let front = map (λ n. n.now) names.now in Agrees g self.old
-            → All IsName front → key.now ≡ slashed front → IsNext self.old front
-            → IfOk result (λ yes. yes ≡ not (is_ignored g front))) }
+        ensures agrees { WhereNext F.Files call.now self.old (map (λ n. n.now) names.now) key.now (λ g front.
+            Agrees g self.new) }
+        ensures value { WhereNext F.Files call.now self.old (map (λ n. n.now) names.now) key.now (λ g front.
+            IfOk result (λ yes. yes ≡ not (is_ignored g front))) }
         ensures found { (names : List (List ℕ)) → key.now ≡ slashed names → IfOk result (λ yes. yes ≡ true → IsLoaded self.new names) }
-        ensures problems { InEachScene F.Files files.now asked.now (λ g. let front = map (λ n. n.now) names.now in Agrees g self.old
-            → All IsName front → key.now ≡ slashed front → IsNext self.old front
-            → OnOk result (map problem_of errors.new.items ≡ map problem_of errors.old.items ++ problems_at g self.old front)) }
+        ensures problems { WhereNext F.Files call.now self.old (map (λ n. n.now) names.now) key.now (λ g front.
+            OnOk result (map problem_of errors.new.items ≡ map problem_of errors.old.items ++ problems_at g self.old front)) }
         ensures soft { AllSoft (map problem_of errors.old.items) → OnOk result (AllSoft (map problem_of errors.new.items)) }
         ensures out_of_memory { IfErr result (λ e. problem_of e ≡ memory) }
     {
         if let Some(kept) = self.dirs.get(key) {
             return Ok(kept.is_loaded());
         }
-        let text = String::from_str(alloc, key)?;
-        let kept = self.find(alloc, files, asked, names, key, errors)?;
+        let text = String::from_str(call.alloc(), key)?;
+        let kept = self.find(call, names, key, errors)?;
         let is_loaded = kept.is_loaded();
         self.dirs.insert(text, kept)?;
         Ok(is_loaded)
@@ -172,30 +151,28 @@ impl Cache {
     /// one. Returns whether none is ignored.
     fn keep_way<F: Files>(
         &mut self,
-        alloc: Global,
-        files: &F,
-        asked: &Asked,
+        call: &Call<'_, F>,
         names: &[&str],
         errors: &mut Vec<Error>,
     ) -> Result<bool, Error>
         ensures stays { Stays self.old self.new }
-        ensures kept { InEachScene F.Files files.now asked.now (λ g. let all = map (λ n. n.now) names.now in Agrees g self.old
-            → All IsName all → self.old.has_above ≡ true → OnOk result (KeepsNeeded (needed g all) self.old self.new)) }
-        ensures agrees { InEachScene F.Files files.now asked.now (λ g. Agrees g self.old → All IsName (map (λ n. n.now) names.now)
-            → self.old.has_above ≡ true → Agrees g self.new) }
-        ensures value { InEachScene F.Files files.now asked.now (λ g. let all = map (λ n. n.now) names.now in Agrees g self.old
-            → All IsName all → self.old.has_above ≡ true → IfOk result (λ yes. yes ≡ not (list_any (is_ignored g) (ancestors all)))) }
-        ensures found { InEachScene F.Files files.now asked.now (λ g. let all = map (λ n. n.now) names.now in Agrees g self.old
-            → All IsName all → self.old.has_above ≡ true → IfOk result (λ yes. yes ≡ true → IsInLoaded self.new all)) }
-        ensures problems { InEachScene F.Files files.now asked.now (λ g. let all = map (λ n. n.now) names.now in Agrees g self.old
-            → All IsName all → self.old.has_above ≡ true → OnOk result (map problem_of errors.new.items
+        ensures kept { WhereRooted F.Files call.now self.old (map (λ n. n.now) names.now) (λ g all.
+            OnOk result (KeepsNeeded (needed g all) self.old self.new)) }
+        ensures agrees { WhereRooted F.Files call.now self.old (map (λ n. n.now) names.now) (λ g all.
+            Agrees g self.new) }
+        ensures value { WhereRooted F.Files call.now self.old (map (λ n. n.now) names.now) (λ g all.
+            IfOk result (λ yes. yes ≡ not (list_any (is_ignored g) (ancestors all)))) }
+        ensures found { WhereRooted F.Files call.now self.old (map (λ n. n.now) names.now) (λ g all.
+            IfOk result (λ yes. yes ≡ true → IsInLoaded self.new all)) }
+        ensures problems { WhereRooted F.Files call.now self.old (map (λ n. n.now) names.now) (λ g all.
+            OnOk result (map problem_of errors.new.items
             ≡ map problem_of errors.old.items ++ filter_map (λ p. p) (new_below g self.old all))) }
         ensures soft { AllSoft (map problem_of errors.old.items) → OnOk result (AllSoft (map problem_of errors.new.items)) }
         ensures out_of_memory { IfErr result (λ e. problem_of e ≡ memory) }
     {
-        let mut key = String::new(alloc);
+        let mut key = String::new(call.alloc());
         for (i, name) in names.iter().enumerate() {
-            if !self.keep(alloc, files, asked, &names[..i], key.as_str(), errors)? {
+            if !self.keep(call, &names[..i], key.as_str(), errors)? {
                 return Ok(false);
             }
             key.push_str(*name)?;
@@ -208,35 +185,31 @@ impl Cache {
     /// ignored one.
     pub(crate) fn rules_verdict<F: Files>(
         &mut self,
-        alloc: Global,
-        files: &F,
-        asked: &Asked,
+        call: &Call<'_, F>,
         path: &str,
         is_dir: bool,
         errors: &mut Vec<Error>,
     ) -> Result<Verdict, Error>
         ensures stays { Stays self.old self.new }
-        ensures kept { InEachScene F.Files files.now asked.now (λ g. Agrees g self.old
-            → list_all is_proper (components path.now) ≡ true → self.old.has_above ≡ true
-            → OnOk result (KeepsNeeded (needed g (components path.now)) self.old self.new)) }
-        ensures agrees { InEachScene F.Files files.now asked.now (λ g. Agrees g self.old
-            → list_all is_proper (components path.now) ≡ true → self.old.has_above ≡ true → Agrees g self.new) }
-        ensures value { InEachScene F.Files files.now asked.now (λ g. Agrees g self.old
-            → list_all is_proper (components path.now) ≡ true → self.old.has_above ≡ true
-            → IfOk result (λ v. v ≡ rules_verdict g (components path.now) is_dir)) }
-        ensures problems { InEachScene F.Files files.now asked.now (λ g. Agrees g self.old → list_all is_proper (components path.now)
-            ≡ true → self.old.has_above ≡ true → OnOk result (map problem_of errors.new.items ≡ map problem_of errors.old.items
+        ensures kept { WhereKept F.Files call.now self.old path.now (λ g.
+            OnOk result (KeepsNeeded (needed g (components path.now)) self.old self.new)) }
+        ensures agrees { WhereKept F.Files call.now self.old path.now (λ g.
+            Agrees g self.new) }
+        ensures value { WhereKept F.Files call.now self.old path.now (λ g.
+            IfOk result (λ v. v ≡ rules_verdict g (components path.now) is_dir)) }
+        ensures problems { WhereKept F.Files call.now self.old path.now (λ g.
+            OnOk result (map problem_of errors.new.items ≡ map problem_of errors.old.items
             ++ filter_map (λ p. p) (new_below g self.old (components path.now)))) }
         ensures soft { AllSoft (map problem_of errors.old.items) → OnOk result (AllSoft (map problem_of errors.new.items)) }
         ensures out_of_memory { IfErr result (λ e. problem_of e ≡ memory) }
     {
-        let names = components(alloc, path)?;
+        let names = components(call.alloc(), path)?;
         let names = names.as_slice();
-        if !self.keep_way(alloc, files, asked, names, errors)? {
+        if !self.keep_way(call, names, errors)? {
             return Ok(Verdict::Ignore);
         }
         match names.split_last() {
-            Some((_, front)) => self.verdict_in(alloc, asked, front, path, is_dir),
+            Some((_, front)) => self.verdict_in(call.asked, front, path, is_dir),
             None => Ok(Verdict::None),
         }
     }

@@ -9,7 +9,7 @@ ghost use Rattle.ignore_dir.specs.Soft.{IsSoft};
 ghost use Rattle.ignore_query.specs.Agrees.{Agrees};
 ghost use Rattle.ignore_query.specs.InTurn.{ReportInTurn};
 ghost use Rattle.ignore_query.specs.Needs.{Stays};
-ghost use Rattle.ignore_query.specs.Reached.{InEachScene};
+ghost use Rattle.ignore_query.specs.Where.{WhereAgrees};
 
 use crate::incremental::IncrementalIgnore;
 use ignore_base::Error;
@@ -29,12 +29,10 @@ pub fn check_paths<F: Files>(
     files: &F,
     paths: &[(String, bool)],
 ) -> Result<Vec<(IncrementalMatch, Option<Error>)>, Error>
-    ensures value { InEachScene F.Files files.now matcher.old.asked (λ g. Agrees g matcher.old.cache
-        → IfOk result (λ rs. map (λ r. r.0) rs.items ≡ map (λ p. (queries.query g (string_bytes p.0) p.1).0) paths.now)) }
-    ensures reports { InEachScene F.Files files.now matcher.old.asked (λ g. Agrees g matcher.old.cache
-        → IfOk result (λ rs. ReportInTurn g (map (λ p. (string_bytes p.0, p.1)) paths.now)
+    ensures value { WhereAgrees F.Files files.now matcher.old (λ g. IfOk result (λ rs. map (λ r. r.0) rs.items ≡ map (λ p. (queries.query g (string_bytes p.0) p.1).0) paths.now)) }
+    ensures reports { WhereAgrees F.Files files.now matcher.old (λ g. IfOk result (λ rs. ReportInTurn g (map (λ p. (string_bytes p.0, p.1)) paths.now)
         (map (λ r. option_map problem_of r.1) rs.items) matcher.old.cache matcher.new.cache)) }
-    ensures agrees { InEachScene F.Files files.now matcher.old.asked (λ g. Agrees g matcher.old.cache → Agrees g matcher.new.cache) }
+    ensures agrees { WhereAgrees F.Files files.now matcher.old (λ g. Agrees g matcher.new.cache) }
     ensures stays { Stays matcher.old.cache matcher.new.cache }
     ensures soft { IfOk result (λ rs. All (λ r. IsSoft (option_map problem_of r.1)) rs.items) }
     ensures same { matcher.new.asked ≡ matcher.old.asked }

@@ -2,7 +2,7 @@
 ghost use Rattle.std.specs.Prelude.{◌≡◌, ◌≢◌, ◌++◌, ◌==◌, ℕ, List, IfOk, IfErr, OnOk, true, not, map, length, string_bytes};
 ghost use Rattle.std.specs.Option.{option_to_list};
 ghost use Rattle.ignore_base.specs.Problem.{problem_of, memory};
-ghost use Rattle.ignore_dir.specs.Load.{Loaded, AreLoads};
+ghost use Rattle.ignore_dir.specs.Load.{Loaded};
 ghost use Rattle.ignore_dir.specs.Query as queries;
 ghost use Rattle.ignore_dir.specs.Soft.{AllSoft};
 ghost use Rattle.ignore_files.specs.Gives.{IsHonest};
@@ -11,8 +11,9 @@ ghost use Rattle.ignore_query.specs.Agrees.{Agrees};
 ghost use Rattle.ignore_query.specs.Needs.{Stays};
 ghost use Rattle.ignore_query.specs.Reached.{scene_of};
 ghost use Rattle.ignore_query.specs.Reports.{new_above};
+ghost use Rattle.ignore_query.specs.Where.{InCall};
 
-use crate::asked::Asked;
+use crate::asked::Call;
 use crate::kept::Cache;
 use ignore_base::Error;
 use ignore_dir::above::load_above;
@@ -35,16 +36,10 @@ fn is_dir_there<F: Files>(alloc: Global, files: &F, path: &str) -> Result<bool, 
 
 impl Cache {
     /// Whether the rules decide on a path: whether it has a name, and the root is a directory.
-    pub(crate) fn has_rules<F: Files>(
-        &self,
-        alloc: Global,
-        files: &F,
-        asked: &Asked,
-        path: &str,
-    ) -> Result<bool, Error>
-        ensures value { (tree : Tree) (loads : List ℕ → Loaded) → IsHonest F.Files files.now tree
-            → Agrees (scene_of asked.now tree loads) self.now
-            → IfOk result (λ yes. yes ≡ queries.has_rules tree (string_bytes asked.now.root) path.now) }
+    pub(crate) fn has_rules<F: Files>(&self, call: &Call<'_, F>, path: &str) -> Result<bool, Error>
+        ensures value { (tree : Tree) (loads : List ℕ → Loaded) → IsHonest F.Files call.now.files.now tree
+            → Agrees (scene_of call.now.asked.now tree loads) self.now
+            → IfOk result (λ yes. yes ≡ queries.has_rules tree (string_bytes call.now.asked.now.root) path.now) }
         ensures known { self.now.has_above ≡ true → IfOk result (λ yes. yes ≡ not (length path.now == 0)) }
         ensures named { IfOk result (λ yes. yes ≡ true → length path.now ≢ 0) }
         ensures out_of_memory { IfErr result (λ e. problem_of e ≡ memory) }
@@ -55,35 +50,30 @@ impl Cache {
         if self.has_above {
             return Ok(true);
         }
-        is_dir_there(alloc, files, asked.root.as_str())
+        is_dir_there(call.alloc(), call.files, call.asked.root.as_str())
     }
 
     /// Keeps what is above the root, which is a directory.
     pub(crate) fn keep_above<F: Files>(
         &mut self,
-        alloc: Global,
-        files: &F,
-        asked: &Asked,
+        call: &Call<'_, F>,
         errors: &mut Vec<Error>,
     ) -> Result<(), Error>
-        ensures agrees { (tree : Tree) (loads : List ℕ → Loaded) → IsHonest F.Files files.now tree → AreLoads tree asked.now.settings loads
-            → queries.is_dir_there (tree.stat (string_bytes asked.now.root) true) ≡ true → let g = scene_of asked.now tree loads in
-            Agrees g self.old → Agrees g self.new }
+        ensures agrees { InCall F.Files call.now (λ g. queries.is_dir_there (g.tree.stat g.root true) ≡ true
+            → Agrees g self.old → Agrees g self.new) }
         ensures stays { Stays self.old self.new }
         ensures kept { OnOk result (self.new.has_above ≡ true) }
         ensures same { self.new.dirs ≡ self.old.dirs }
-        ensures problems { (tree : Tree) (loads : List ℕ → Loaded) → IsHonest F.Files files.now tree
-            → AreLoads tree asked.now.settings loads
-            → OnOk result (map problem_of errors.new.items ≡ map problem_of errors.old.items
-            ++ option_to_list (new_above (scene_of asked.now tree loads) self.old)) }
+        ensures problems { InCall F.Files call.now (λ g. OnOk result (map problem_of errors.new.items ≡ map problem_of errors.old.items
+            ++ option_to_list (new_above g self.old))) }
         ensures soft { AllSoft (map problem_of errors.old.items) → OnOk result (AllSoft (map problem_of errors.new.items)) }
         ensures out_of_memory { IfErr result (λ e. problem_of e ≡ memory) }
     {
         if self.has_above {
             return Ok(());
         }
-        let found = load_above(alloc, files, &asked.settings, asked.root.as_str())?;
-        push_some(errors, joined_some(alloc, found.errors)?)?;
+        let found = load_above(&call.ground(), call.asked.root.as_str())?;
+        push_some(errors, joined_some(call.alloc(), found.errors)?)?;
         self.above = found.dirs;
         self.base = found.base;
         self.has_above = true;

@@ -8,7 +8,7 @@ ghost use Rattle.ignore_base.specs.Problem.{at_path, io, problem_of, memory};
 ghost use Rattle.ignore_dir.specs.Limits as limits;
 ghost use Rattle.ignore_dir.specs.Soft.{AllSoft};
 
-use crate::asked::Asked;
+use crate::asked::Call;
 use ignore_base::text::join;
 use ignore_base::{Error, Fault};
 use ignore_dir::limits::size_limit;
@@ -27,32 +27,33 @@ fn fault_at(alloc: Global, path: &str, fault: Fault) -> Result<Error, AllocError
 /// size isn't known, the fault is appended to the errors. No file is asked where there is no
 /// greatest size.
 pub(crate) fn by_size<F: Files>(
-    alloc: Global,
-    files: &F,
-    asked: &Asked,
+    call: &Call<'_, F>,
     path: &str,
     is_dir: bool,
     verdict: Verdict,
     errors: &mut Vec<Error>,
 ) -> Result<Verdict, Error>
-    ensures value { (tree : Tree) → IsHonest F.Files files.now tree → let s = asked.now.settings in IfOk result (λ v. v
+    ensures value { (tree : Tree) → IsHonest F.Files call.now.files.now tree → let s = call.now.asked.now.settings in IfOk result (λ v. v
         ≡ limits.sized (limits.size_limit s is_dir verdict)
-        (tree.stat (join_of (string_bytes asked.now.root) path.now) s.follow_links) verdict) }
-    ensures problem { (tree : Tree) → IsHonest F.Files files.now tree → let s = asked.now.settings in
-        let file = join_of (string_bytes asked.now.root) path.now in OnOk result (map problem_of errors.new.items
+        (tree.stat (join_of (string_bytes call.now.asked.now.root) path.now) s.follow_links) verdict) }
+    ensures problem { (tree : Tree) → IsHonest F.Files call.now.files.now tree → let s = call.now.asked.now.settings in
+        let file = join_of (string_bytes call.now.asked.now.root) path.now in OnOk result (map problem_of errors.new.items
         ≡ map problem_of errors.old.items ++ option_to_list (limits.size_problem file
         (limits.size_limit s is_dir verdict) (tree.stat file s.follow_links))) }
-    ensures unasked { limits.size_limit asked.now.settings is_dir verdict ≡ None
+    ensures unasked { limits.size_limit call.now.asked.now.settings is_dir verdict ≡ None
         → (errors.new ≡ errors.old) × IfOk result (λ v. v ≡ verdict) }
     ensures soft { AllSoft (map problem_of errors.old.items) → OnOk result (AllSoft (map problem_of errors.new.items)) }
     ensures out_of_memory { IfErr result (λ e. problem_of e ≡ memory) }
 {
-    let settings = &asked.settings;
+    let settings = &call.asked.settings;
     let Some(limit) = size_limit(settings, is_dir, verdict) else {
         return Ok(verdict);
     };
-    let path = join(alloc, asked.root.as_str(), path)?;
-    match files.stat(alloc, path.as_str(), settings.follow_links) {
+    let path = join(call.alloc(), call.asked.root.as_str(), path)?;
+    match call
+        .files
+        .stat(call.alloc(), path.as_str(), settings.follow_links)
+    {
         Ok(metadata) => {
             if limit < metadata.len() {
                 Ok(Verdict::Ignore)
@@ -61,7 +62,7 @@ pub(crate) fn by_size<F: Files>(
             }
         }
         Err(Refusal::Fault(fault)) => {
-            errors.push(fault_at(alloc, path.as_str(), fault)?)?;
+            errors.push(fault_at(call.alloc(), path.as_str(), fault)?)?;
             Ok(verdict)
         }
         Err(Refusal::Memory) => Err(Error::Memory),

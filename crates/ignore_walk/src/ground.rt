@@ -127,6 +127,20 @@ fn named(alloc: Global, path: &str) -> Result<Name, AllocError>
 }
 
 impl<'a, F: Files, S: Callbacks> Ground<'a, F, S> {
+    /// What directories are loaded and paths are judged by.
+    fn lent(&self, alloc: Global) -> ignore_dir::Ground<'_, F>
+        ensures { (g : Scene)
+            → Suits F.Files S.Callbacks self.now.files.now self.now.owner.now self.now.settings self.now.outside self.now.options g
+            → Suits F.Files S.Callbacks result.files.now self.now.owner.now result.settings.now result.outside.now self.now.options g }
+    {
+        ignore_dir::Ground {
+            alloc,
+            files: self.files,
+            settings: &self.settings,
+            outside: &self.outside,
+        }
+    }
+
     /// What becomes of an entry that isn't skipped. `device` is that of its root.
     pub(crate) fn fate(
         &self,
@@ -180,7 +194,7 @@ impl<'a, F: Files, S: Callbacks> Ground<'a, F, S> {
             → IfOk result (λ e. option_map problem_of e ≡ (g.loads path.now).1) }
         ensures out_of_memory { IfErr result (λ e. problem_of e ≡ memory) }
     {
-        let (_, error) = loaded(alloc, self.files, &self.settings, path)?;
+        let (_, error) = loaded(&self.lent(alloc), path)?;
         Ok(error)
     }
 
@@ -193,15 +207,7 @@ impl<'a, F: Files, S: Callbacks> Ground<'a, F, S> {
     {
         let path = named(alloc, path)?;
         let order = self.options.order;
-        let opened = open(
-            alloc,
-            self.files,
-            self.owner,
-            &self.settings,
-            order,
-            path,
-            text,
-        )?;
+        let opened = open(&self.lent(alloc), self.owner, order, path, text)?;
         Ok(opened)
     }
 
@@ -222,15 +228,7 @@ impl<'a, F: Files, S: Callbacks> Ground<'a, F, S> {
             → IfOk result (λ yes. yes ≡ walked.is_skipped g root (name ∷ b) (entry_of entry.now)) }
         ensures out_of_memory { IfErr result (λ e. problem_of e ≡ memory) }
     {
-        if is_ignored(
-            alloc,
-            &self.settings,
-            &self.outside,
-            above,
-            frames,
-            text,
-            entry,
-        )? {
+        if is_ignored(&self.lent(alloc), above, frames, text, entry)? {
             return Ok(true);
         }
         if is_too_large(alloc, self.files, &self.settings, entry)? {
@@ -290,7 +288,7 @@ impl<'a, F: Files, S: Callbacks> Ground<'a, F, S> {
             → OnOk result (AreSeen seen.new.items (paths ++ wholes.above_root g root.now)) }
         ensures out_of_memory { IfErr result (λ e. problem_of e ≡ memory) }
     {
-        let above = load_above(alloc, self.files, &self.settings, root)?;
+        let above = load_above(&self.lent(alloc), root)?;
         let paths = paths_of(alloc, above.base.as_str(), above.dirs.as_slice())?;
         let errors = VecDeque::from_vec(above.errors);
         let error = unseen_error(alloc, seen.as_slice(), paths.as_slice(), errors)?;

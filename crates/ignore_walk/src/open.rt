@@ -4,7 +4,7 @@ ghost use Rattle.std.specs.Result.{result_err};
 ghost use Rattle.ignore_base.specs.Problem.{problem_of, memory};
 ghost use Rattle.ignore_files.specs.Gives.{IsHonest};
 ghost use Rattle.ignore_files.specs.Tree.{Tree};
-ghost use Rattle.ignore_dir.specs.Load.{Loaded, AreLoads};
+ghost use Rattle.ignore_dir.specs.Ground.{InLoads};
 ghost use Rattle.ignore_walk.specs.Suits.{IsOrderBy};
 ghost use Rattle.ignore_walk.specs.Walked.{IsArranged, listing_of};
 
@@ -15,7 +15,7 @@ use crate::frame::Frame;
 use ignore_base::{Error, Fault};
 use ignore_dir::laws::one_load;
 use ignore_dir::load::load_directory;
-use ignore_dir::{Dir, Settings};
+use ignore_dir::{Dir, Ground};
 use ignore_files::{Files, Listed, Name, Refusal};
 use std::alloc::Global;
 use std::collections::VecDeque;
@@ -30,19 +30,15 @@ pub(crate) struct Opened {
 
 /// What a directory holds for the rules, and what is wrong with its files.
 pub(crate) fn loaded<F: Files>(
-    alloc: Global,
-    files: &F,
-    settings: &Settings,
+    ground: &Ground<'_, F>,
     path: &str,
 ) -> Result<(Dir, Option<Error>), Error>
-    ensures dir { (tree : Tree) (loads : List ℕ → Loaded) → IsHonest F.Files files.now tree → AreLoads tree settings.now loads
-        → IfOk result (λ r. r.0 ≡ (loads path.now).0) }
-    ensures problem { (tree : Tree) (loads : List ℕ → Loaded) → IsHonest F.Files files.now tree → AreLoads tree settings.now loads
-        → IfOk result (λ r. option_map problem_of r.1 ≡ (loads path.now).1) }
+    ensures dir { InLoads F.Files ground.now (λ tree loads. IfOk result (λ r. r.0 ≡ (loads path.now).0)) }
+    ensures problem { InLoads F.Files ground.now (λ tree loads. IfOk result (λ r. option_map problem_of r.1 ≡ (loads path.now).1)) }
     ensures out_of_memory { IfErr result (λ e. problem_of e ≡ memory) }
 {
     one_load();
-    load_directory(alloc, files, settings, path)
+    load_directory(ground, path)
 }
 
 /// What a directory lists, each name that is none as a fault; or the fault of the listing.
@@ -83,29 +79,25 @@ fn listed<F: Files, S: Callbacks>(
 
 /// Loads and lists a directory. `text` is its path as the directories around it see it.
 pub(crate) fn open<F: Files, S: Callbacks>(
-    alloc: Global,
-    files: &F,
+    ground: &Ground<'_, F>,
     owner: &S,
-    settings: &Settings,
     order: Order,
     path: Name,
     text: Name,
 ) -> Result<Opened, Error>
     ensures path { IfOk result (λ o. o.frame.path ≡ path) }
     ensures text { IfOk result (λ o. o.frame.text ≡ text) }
-    ensures dir { (tree : Tree) (loads : List ℕ → Loaded) → IsHonest F.Files files.now tree → AreLoads tree settings.now loads
-        → IfOk result (λ o. o.frame.dir.value ≡ (loads path).0) }
-    ensures problem { (tree : Tree) (loads : List ℕ → Loaded) → IsHonest F.Files files.now tree → AreLoads tree settings.now loads
-        → IfOk result (λ o. option_map problem_of o.error ≡ (loads path).1) }
-    ensures rest { (tree : Tree) (chosen : Option (List ℕ → List ℕ → List ℕ → Bool)) → IsHonest F.Files files.now tree
+    ensures dir { InLoads F.Files ground.now (λ tree loads. IfOk result (λ o. o.frame.dir.value ≡ (loads path).0)) }
+    ensures problem { InLoads F.Files ground.now (λ tree loads. IfOk result (λ o. option_map problem_of o.error ≡ (loads path).1)) }
+    ensures rest { (tree : Tree) (chosen : Option (List ℕ → List ℕ → List ℕ → Bool)) → IsHonest F.Files ground.now.files.now tree
         → IsOrderBy order (S.compares owner.now) chosen
         → IfOk result (λ o. IsArranged chosen path (listing_of (tree.list path)) o.frame.rest.items) }
-    ensures fault { (tree : Tree) → IsHonest F.Files files.now tree → IfOk result (λ o. o.fault ≡ result_err (tree.list path)) }
+    ensures fault { (tree : Tree) → IsHonest F.Files ground.now.files.now tree → IfOk result (λ o. o.fault ≡ result_err (tree.list path)) }
     ensures out_of_memory { IfErr result (λ e. problem_of e ≡ memory) }
 {
-    let (rest, fault) = listed(alloc, files, owner, order, path.as_str())?;
-    let (dir, error) = loaded(alloc, files, settings, path.as_str())?;
-    let dir = Box::new(alloc, dir)?;
+    let (rest, fault) = listed(ground.alloc, ground.files, owner, order, path.as_str())?;
+    let (dir, error) = loaded(ground, path.as_str())?;
+    let dir = Box::new(ground.alloc, dir)?;
     let frame = Frame {
         path,
         text,

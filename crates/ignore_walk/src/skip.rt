@@ -19,7 +19,7 @@ use crate::frame::Frame;
 use ignore_base::Error;
 use ignore_dir::laws::steps_are_whole;
 use ignore_dir::verdict::judge;
-use ignore_dir::{Dir, Link, Outside, Placed, Settings};
+use ignore_dir::{Asked, Dir, Ground, Link, Placed, Settings};
 use ignore_files::{Files, Refusal};
 use std::alloc::Global;
 
@@ -104,52 +104,46 @@ fn links_of<'d>(
 }
 
 /// Whether the rules of these directories ignore an entry. `text` is its path as they see it.
-fn is_ignored_in(
-    alloc: Global,
-    settings: &Settings,
-    outside: &Outside,
+fn is_ignored_in<F: Files>(
+    ground: &Ground<'_, F>,
     above: &[Placed],
     frames: &[Frame],
     text: &str,
     entry: &DirEntry,
 ) -> Result<bool, Error>
     ensures value { All (λ f. IsCharBoundary text.now (length f.text)) frames.now → All (λ p. IsCharBoundary text.now p.1) above.now
-        → IfOk result (λ yes. yes ≡ is_ignore (placed_verdict settings.now outside.now
+        → IfOk result (λ yes. yes ≡ is_ignore (placed_verdict ground.now.settings.now ground.now.outside.now
         (map placed_of (reverse frames.now) ++ reverse above.now) text.now
         (entry_of entry.now).path (is_dir_kind (entry_of entry.now).kind))) }
     ensures out_of_memory { IfErr result (λ e. problem_of e ≡ memory) }
 {
-    let links = links_of(alloc, above, frames, text)?;
-    let is_dir = is_dir_kind(entry.file_type());
-    let verdict = judge(
-        settings,
-        outside,
-        links.as_slice(),
+    let links = links_of(ground.alloc, above, frames, text)?;
+    let asked = Asked {
         text,
-        entry.path(),
-        is_dir,
-    )?;
+        path: entry.path(),
+        is_dir: is_dir_kind(entry.file_type()),
+    };
+    let verdict = judge(ground.settings, ground.outside, links.as_slice(), &asked)?;
     Ok(verdict.is_ignore())
 }
 
 /// Whether the rules ignore an entry below the root. `text` is its path as the directories see it.
-pub(crate) fn is_ignored(
-    alloc: Global,
-    settings: &Settings,
-    outside: &Outside,
+pub(crate) fn is_ignored<F: Files>(
+    ground: &Ground<'_, F>,
     above: &[Placed],
     frames: &[Frame],
     text: &str,
     entry: &DirEntry,
 ) -> Result<bool, Error>
-    ensures value { (g : Scene) (root : List ℕ) (b : Branch) (name : List ℕ) → g.settings ≡ settings.now → g.outside ≡ outside.now
+    ensures value { (g : Scene) (root : List ℕ) (b : Branch) (name : List ℕ) → g.settings ≡ ground.now.settings.now
+        → g.outside ≡ ground.now.outside.now
         → map placed_of (reverse frames.now) ≡ placed_at g root b → reverse above.now ≡ placed_above g root
         → text.now ≡ text_at g root b ++ name → (entry_of entry.now).path ≡ path_of root (name ∷ b)
         → IfOk result (λ yes. yes ≡ ignores g root (name ∷ b) (is_dir_kind (entry_of entry.now).kind)) }
     ensures out_of_memory { IfErr result (λ e. problem_of e ≡ memory) }
 {
     steps_are_whole();
-    is_ignored_in(alloc, settings, outside, above, frames, text, entry)
+    is_ignored_in(ground, above, frames, text, entry)
 }
 
 /// Whether an entry that is no directory is larger than the settings allow.

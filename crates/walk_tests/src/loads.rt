@@ -3,7 +3,7 @@ use crate::trees::tree_of;
 use ignore_base::Error;
 use ignore_dir::above::{Above, load_above};
 use ignore_dir::load::load_directory;
-use ignore_dir::{Dir, Settings};
+use ignore_dir::{Dir, Ground, Outside, Settings};
 use ignore_files::MemoryTree;
 use std::alloc::Global;
 
@@ -15,7 +15,14 @@ fn loaded(alloc: Global, lines: &[&str], dir: &str) -> anyhow::Result<String> {
 
 fn loaded_in(alloc: Global, tree: &MemoryTree, dir: &str) -> anyhow::Result<String> {
     let settings = Settings::standard(alloc);
-    let (loaded, error) = load_directory(alloc, tree, &settings, dir)?;
+    let outside = Outside::empty(alloc);
+    let ground = Ground {
+        alloc,
+        files: tree,
+        settings: &settings,
+        outside: &outside,
+    };
+    let (loaded, error) = load_directory(&ground, dir)?;
     with_error(alloc, &loaded, &error)
 }
 
@@ -78,7 +85,14 @@ fn a_worktree_with_a_relative_folder(rt: HostRuntime) -> anyhow::Result<()> {
 /// The text of what is above `/w/a/d`, and then, for each directory, its offset and what it holds.
 fn above(alloc: Global, settings: &Settings, lines: &[&str]) -> anyhow::Result<String> {
     let tree = tree_of(alloc, lines)?;
-    let above = load_above(alloc, &tree, settings, "/w/a/d")?;
+    let outside = Outside::empty(alloc);
+    let ground = Ground {
+        alloc,
+        files: &tree,
+        settings,
+        outside: &outside,
+    };
+    let above = load_above(&ground, "/w/a/d")?;
     shown_above(alloc, &above)
 }
 

@@ -7,7 +7,7 @@ use Rattle.ignore_dir.proofs.above.load_above.Goals as goal
 
 pub returns-in_ok-names-in-Ok-clause-dirs : goal.returns-in_ok-names-in-Ok-clause-dirs
 returns-in_ok-names-in-Ok-clause-dirs g c = λ tree loads honest are.
-    let s = c.args.settings.now in
+    let s = c.args.ground.now.settings.now in
     let is : map (λ n. n.now) c.as_slice.result.now ≡ canonical_names (Ok c.in-Ok.path) =
     ap (map (λ n. n.now)) c.as_slice.ensures.value ∙ (c.in_ok-names-in-Ok.ensures ∙ ap (λ p. canonical_names (Ok p)) c.as_str.ensures) in
     let names = names_above-is tree s c.args.root.now c.in-Ok.path (map (λ n. n.now) c.as_slice.result.now)
@@ -18,7 +18,7 @@ returns-in_ok-names-in-Ok-clause-dirs g c = λ tree loads honest are.
 
 pub returns-in_ok-names-in-Ok-clause-errors : goal.returns-in_ok-names-in-Ok-clause-errors
 returns-in_ok-names-in-Ok-clause-errors g c = λ tree loads honest are.
-    let s = c.args.settings.now in
+    let s = c.args.ground.now.settings.now in
     let is : map (λ n. n.now) c.as_slice.result.now ≡ canonical_names (Ok c.in-Ok.path) =
     ap (map (λ n. n.now)) c.as_slice.ensures.value ∙ (c.in_ok-names-in-Ok.ensures ∙ ap (λ p. canonical_names (Ok p)) c.as_str.ensures) in
     let names = names_above-is tree s c.args.root.now c.in-Ok.path (map (λ n. n.now) c.as_slice.result.now)

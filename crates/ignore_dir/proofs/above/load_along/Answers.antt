@@ -17,7 +17,7 @@ use Rattle.ignore_dir.proofs.above.load_along.Goals as goal
 
 pub loop-name-preserved : goal.loop-name-preserved
 loop-name-preserved g c =
-    let s = c.args.settings.now in
+    let s = c.args.ground.now.settings.now in
     let names = c.args.names.now in
     let i = c.loop-name.name-index in
     let nothing : Bor (List ℕ) = record { ref_ptr = (0, 0); now = [] } in

@@ -1,12 +1,10 @@
-use Rattle.std.proofs.Common.{◌≡◌, ◌∷◌, take, map, length, ℕ, List, codes, All, option_map}
+use Rattle.std.proofs.Common.{◌≡◌, ◌∷◌, take, map, length, codes, All, option_map}
 use Rattle.std.specs.String.{string_bytes}
 use Rattle.ignore_base.specs.Problem.{problem_of}
-use Rattle.ignore_files.specs.Tree.{Tree}
-use Rattle.ignore_files.specs.Gives.{IsHonest}
 use Rattle.ignore_dir.specs.Above.{path_along, directories_along, dirs_above, problems_of_loads}
 use Rattle.ignore_dir.specs.Chains.{placed_along, slashed}
+use Rattle.ignore_dir.specs.Ground.{InLoads}
 use Rattle.ignore_dir.specs.Lists.{IsAfterSlash}
-use Rattle.ignore_dir.specs.Load.{Loaded, AreLoads}
 use Rattle.ignore_dir.specs.Soft.{IsSoft}
 use Rattle.ignore_dir.proofs.above.load_along.Given as goal
 
@@ -17,11 +15,11 @@ invariant-loop-name g l = record {
   ends : IsAfterSlash (string_bytes l.above.base) (length (string_bytes l.above.base));
   placed : All (λ p. IsAfterSlash (string_bytes l.above.base) p.1) l.above.dirs.items;
   soft : All IsSoft (map (option_map problem_of) l.above.errors.items);
-  dirs : (tree : Tree) (loads : List ℕ → Loaded) → IsHonest g.F.Files l.files tree → AreLoads tree l.settings loads
-      → l.above.dirs.items ≡ placed_along 1 (dirs_above loads l.settings
+  dirs : InLoads g.F.Files l.ground (λ tree loads.
+      l.above.dirs.items ≡ placed_along 1 (dirs_above loads l.ground.settings.now
       (directories_along (codes "/") (map (λ n. n.now) (take l.name-index l.names))))
-      (map (λ n. n.now) (take l.name-index l.names));
-  errors : (tree : Tree) (loads : List ℕ → Loaded) → IsHonest g.F.Files l.files tree → AreLoads tree l.settings loads
-      → map (option_map problem_of) l.above.errors.items
-      ≡ problems_of_loads loads (directories_along (codes "/") (map (λ n. n.now) (take l.name-index l.names)));
+      (map (λ n. n.now) (take l.name-index l.names)));
+  errors : InLoads g.F.Files l.ground (λ tree loads.
+      map (option_map problem_of) l.above.errors.items
+      ≡ problems_of_loads loads (directories_along (codes "/") (map (λ n. n.now) (take l.name-index l.names))));
 }

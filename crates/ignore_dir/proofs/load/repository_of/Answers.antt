@@ -11,5 +11,5 @@ returns-clause-mark g c = λ tree h.
 pub returns-clause-exclude : goal.returns-clause-exclude
 returns-clause-exclude g c = λ tree h.
     c.in_ok-exclude.ensures.value tree h (c.in_ok-kind.ensures.file tree h)
-    ∙ ap (λ p. let place : Place = cond c.args.settings.now.git_exclude (exclude_by tree p) (Ok None) in place)
+    ∙ ap (λ p. let place : Place = cond c.args.ground.now.settings.now.git_exclude (exclude_by tree p) (Ok None) in place)
     (c.as_str-path.ensures.value ∙ c.in_ok-git.ensures.joins)

@@ -5,4 +5,4 @@ use Rattle.ignore_dir.proofs.ranks.nearest.Given as goal
 
 abbrev pub invariant-loop-link : goal.invariant-loop-link
 invariant-loop-link l =
-    nearest l.rank (asked_in l.text l.chain) l.is_dir ≡ nearest l.rank (asked_in l.text (drop l.link-index l.chain)) l.is_dir
+    nearest l.rank (asked_in l.asked.text.now l.chain) l.asked.is_dir ≡ nearest l.rank (asked_in l.asked.text.now (drop l.link-index l.chain)) l.asked.is_dir

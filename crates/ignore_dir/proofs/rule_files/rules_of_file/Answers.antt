@@ -9,12 +9,12 @@ use Rattle.ignore_dir.proofs.rule_files.rules_of_file.Goals as goal
 
 pub returns-then-not-branch-clause-read : goal.returns-then-not-branch-clause-read
 returns-then-not-branch-clause-read g c = λ tree h.
-    rules_absent tree c.args.settings.now c.args.dir.now c.args.path.now c.empty.result
+    rules_absent tree c.args.ground.now.settings.now c.args.dir.now c.args.path.now c.empty.result
     (sym (c.in_ok-is_there.ensures.value tree h) ∙ c.if-not-branch.true) c.empty.ensures
 
 pub returns-clause-read : goal.returns-clause-read
 returns-clause-read g c = λ tree h.
-    rules_present tree c.args.settings.now c.args.dir.now c.args.path.now c.in_ok-builder.builder _ _ _ _
+    rules_present tree c.args.ground.now.settings.now c.args.dir.now c.args.path.now c.in_ok-builder.builder _ _ _ _
     (sym (c.in_ok-is_there.ensures.value tree h) ∙ c.if-not-branch.false) c.in_ok-builder.ensures.value
     (c.in_ok-add.ensures.added tree h) c.without_fault-error.ensures c.into_gitignore.ensures
 

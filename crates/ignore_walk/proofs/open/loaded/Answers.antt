@@ -6,7 +6,7 @@ use Rattle.ignore_walk.proofs.open.loaded.Goals as goal
 
 pub returns-clause-dir : goal.returns-clause-dir
 returns-clause-dir g c = λ tree loads honest are.
-    let s = c.args.settings.now in
+    let s = c.args.ground.now.settings.now in
     let path = c.args.path.now in
     IfOk-weaker c.load_directory.result (λ r. Loads tree s path r.0 (option_map problem_of r.1)) (λ r. r.0 ≡ (loads path).0)
     (λ r h. (c.one_load.ensures.one tree s path r.0 (loads path).0 (option_map problem_of r.1) (loads path).1 h (are path)).0)
@@ -14,7 +14,7 @@ returns-clause-dir g c = λ tree loads honest are.
 
 pub returns-clause-problem : goal.returns-clause-problem
 returns-clause-problem g c = λ tree loads honest are.
-    let s = c.args.settings.now in
+    let s = c.args.ground.now.settings.now in
     let path = c.args.path.now in
     IfOk-weaker c.load_directory.result (λ r. Loads tree s path r.0 (option_map problem_of r.1)) (λ r. option_map problem_of r.1 ≡ (loads path).1)
     (λ r h. (c.one_load.ensures.one tree s path r.0 (loads path).0 (option_map problem_of r.1) (loads path).1 h (are path)).1)

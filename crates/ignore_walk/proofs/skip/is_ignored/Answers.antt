@@ -8,10 +8,10 @@ use Rattle.ignore_walk.proofs.TextLemmas.{above-boundaries, frame-boundaries}
 use Rattle.ignore_walk.proofs.skip.is_ignored.Goals as goal
 
 pub returns-clause-value : goal.returns-clause-value
-returns-clause-value c = λ s root b name settings outside frames above text path.
+returns-clause-value g c = λ s root b name settings outside frames above text path.
     let e = entry_of c.args.entry.now in
     let same = ignores-is s root (c.steps_are_whole.ensures.entered (queries s root)) (c.steps_are_whole.ensures.verdict (queries s root))
-    b name e.path c.args.text.now (is_dir_kind e.kind) c.args.settings.now c.args.outside.now
+    b name e.path c.args.text.now (is_dir_kind e.kind) c.args.ground.now.settings.now c.args.ground.now.outside.now
     (map placed_of (reverse c.args.frames.now)) (reverse c.args.above.now) settings outside frames above text path in
     subst (λ (v : Bool). IfOk c.is_ignored_in.result (λ yes. yes ≡ v)) same
     (c.is_ignored_in.ensures.value

@@ -14,7 +14,7 @@ use Rattle.ignore_query.proofs.kept.Cache.decide.Goals as goal
 
 pub returns-in-Some-clause-kept : goal.returns-in-Some-clause-kept
 returns-in-Some-clause-kept g c = λ tree loads honest are there agrees proper.
-    let scene = scene_of c.args.asked.now tree loads in
+    let scene = scene_of c.args.call.now.asked.now tree loads in
     let names = components c.args.path.now in
     let all = sym (sym (ap is_some c.in-Some.is) ∙ c.in_ok-verdict.ensures.known scene agrees (names-components c.args.path.now proper)) in
     keeps_known scene c.args.self.now names (known_above scene c.args.self.now c.args.path.now agrees all) all
@@ -25,7 +25,7 @@ returns-in-Some-clause-value g c = λ tree loads honest are there agrees proper.
 
 pub returns-in-Some-clause-problems : goal.returns-in-Some-clause-problems
 returns-in-Some-clause-problems g c = λ tree loads honest are there agrees proper.
-    let scene = scene_of c.args.asked.now tree loads in
+    let scene = scene_of c.args.call.now.asked.now tree loads in
     let names = components c.args.path.now in
     let old = map problem_of c.args.errors.now.items in
     let all = sym (sym (ap is_some c.in-Some.is) ∙ c.in_ok-verdict.ensures.known scene agrees (names-components c.args.path.now proper)) in
@@ -41,7 +41,7 @@ returns-in-Some-clause-from_kept g c = λ tree loads agrees proper all. (
 
 pub returns-in_err-keep_above-clause-from_kept : goal.returns-in_err-keep_above-clause-from_kept
 returns-in_err-keep_above-clause-from_kept g c = λ tree loads agrees proper all.
-    let scene = scene_of c.args.asked.now tree loads in
+    let scene = scene_of c.args.call.now.asked.now tree loads in
     absurd (none_known _ c.in_default.not-Some (c.in_ok-verdict.ensures.known scene agrees (names-components c.args.path.now proper) ∙ all))
 
 pub returns-clause-stays : goal.returns-clause-stays
@@ -50,7 +50,7 @@ returns-clause-stays g c =
 
 pub returns-clause-kept : goal.returns-clause-kept
 returns-clause-kept g c = λ tree loads honest are there agrees proper.
-    let scene = scene_of c.args.asked.now tree loads in
+    let scene = scene_of c.args.call.now.asked.now tree loads in
     let names = components c.args.path.now in
     let above = c.keep_above.ensures.agrees tree loads honest are there agrees in
     ok_then c.rules_verdict.result
@@ -60,7 +60,7 @@ returns-clause-kept g c = λ tree loads honest are there agrees proper.
 
 pub returns-clause-problems : goal.returns-clause-problems
 returns-clause-problems g c = λ tree loads honest are there agrees proper.
-    let scene = scene_of c.args.asked.now tree loads in
+    let scene = scene_of c.args.call.now.asked.now tree loads in
     let names = components c.args.path.now in
     let old = map problem_of c.args.errors.now.items in
     let first = option_to_list (new_above scene c.args.self.now) in
@@ -76,5 +76,5 @@ returns-clause-problems g c = λ tree loads honest are there agrees proper.
 
 pub returns-clause-from_kept : goal.returns-clause-from_kept
 returns-clause-from_kept g c = λ tree loads agrees proper all.
-    let scene = scene_of c.args.asked.now tree loads in
+    let scene = scene_of c.args.call.now.asked.now tree loads in
     absurd (none_known _ c.in_default.not-Some (c.in_ok-verdict.ensures.known scene agrees (names-components c.args.path.now proper) ∙ all))

@@ -12,7 +12,7 @@ use Rattle.ignore_query.proofs.kept.Cache.keep.Goals as goal
 
 pub returns-in-Some-clause-value : goal.returns-in-Some-clause-value
 returns-in-Some-clause-value g c = λ tree loads honest are agrees clean key next.
-    let scene = scene_of c.args.asked.now tree loads in
+    let scene = scene_of c.args.call.now.asked.now tree loads in
     let front = map (λ n. n.now) c.args.names.now in
     let found = ap (λ t. get_by_text c.args.self.now.dirs t) (sym key) ∙ sym c.in-Some.ensures.value in
     c.is_loaded.ensures ∙ right_loaded scene front c.in-Some.kept.now (agrees.right front c.in-Some.kept.now clean found)
@@ -24,7 +24,7 @@ returns-in-Some-clause-found g c = λ names key yes.
 
 pub returns-in-Some-clause-problems : goal.returns-in-Some-clause-problems
 returns-in-Some-clause-problems g c = λ tree loads honest are agrees clean key next.
-    let scene = scene_of c.args.asked.now tree loads in
+    let scene = scene_of c.args.call.now.asked.now tree loads in
     let front = map (λ n. n.now) c.args.names.now in
     let old = map problem_of c.args.errors.now.items in
     let found = ap (λ t. get_by_text c.args.self.now.dirs t) (sym key) ∙ sym c.in-Some.ensures.value in
@@ -65,7 +65,7 @@ returns-clause-others g c = λ text ne.
 
 pub returns-clause-agrees : goal.returns-clause-agrees
 returns-clause-agrees g c = λ tree loads honest are agrees clean key next.
-    let scene = scene_of c.args.asked.now tree loads in
+    let scene = scene_of c.args.call.now.asked.now tree loads in
     let front = map (λ n. n.now) c.args.names.now in
     let before = c.args.self.now in
     let after : Cache = record before { dirs = c.insert.new.self } in
@@ -80,7 +80,7 @@ returns-clause-agrees g c = λ tree loads honest are agrees clean key next.
 
 pub returns-clause-value : goal.returns-clause-value
 returns-clause-value g c = λ tree loads honest are agrees clean key next.
-    let scene = scene_of c.args.asked.now tree loads in
+    let scene = scene_of c.args.call.now.asked.now tree loads in
     let front = map (λ n. n.now) c.args.names.now in
     c.is_loaded-is_loaded.ensures ∙ right_loaded scene front c.in_ok-kept.kept
     (c.in_ok-kept.ensures.value tree loads honest are agrees clean key next)
@@ -98,7 +98,7 @@ returns-clause-found g c = λ names key yes.
 
 pub returns-clause-problems : goal.returns-clause-problems
 returns-clause-problems g c = λ tree loads honest are agrees clean key next.
-    let scene = scene_of c.args.asked.now tree loads in
+    let scene = scene_of c.args.call.now.asked.now tree loads in
     let front = map (λ n. n.now) c.args.names.now in
     let before = c.args.self.now in
     let absent : kept_at before front ≡ None = ap (λ t. get_by_text before.dirs t) (sym key) ∙ sym c.in_default.ensures.value in

@@ -93,7 +93,7 @@ returns-in_err-push-clause-stays g c =
 
 pub returns-then-not-branch-clause-kept : goal.returns-then-not-branch-clause-kept
 returns-then-not-branch-clause-kept g c = λ tree loads honest are agrees clean rooted.
-    let scene = scene_of c.args.asked.now tree loads in
+    let scene = scene_of c.args.call.now.asked.now tree loads in
     let names = c.args.names.now in
     let p = map (λ n. n.now) names in
     let i = c.loop-i.i in
@@ -125,7 +125,7 @@ returns-then-not-branch-clause-kept g c = λ tree loads honest are agrees clean 
 
 pub returns-clause-kept : goal.returns-clause-kept
 returns-clause-kept g c = λ tree loads honest are agrees clean rooted.
-    let scene = scene_of c.args.asked.now tree loads in
+    let scene = scene_of c.args.call.now.asked.now tree loads in
     let names = c.args.names.now in
     let p = map (λ n. n.now) names in
     let i = c.loop-i.i in
@@ -145,7 +145,7 @@ returns-clause-kept g c = λ tree loads honest are agrees clean rooted.
 
 pub returns-then-not-branch-clause-value : goal.returns-then-not-branch-clause-value
 returns-then-not-branch-clause-value g c = λ tree loads honest are agrees clean rooted.
-    let scene = scene_of c.args.asked.now tree loads in
+    let scene = scene_of c.args.call.now.asked.now tree loads in
     let names = c.args.names.now in
     let p = map (λ n. n.now) names in
     let i = c.loop-i.i in
@@ -166,7 +166,7 @@ returns-then-not-branch-clause-value g c = λ tree loads honest are agrees clean
 
 pub returns-then-not-branch-clause-problems : goal.returns-then-not-branch-clause-problems
 returns-then-not-branch-clause-problems g c = λ tree loads honest are agrees clean rooted.
-    let scene = scene_of c.args.asked.now tree loads in
+    let scene = scene_of c.args.call.now.asked.now tree loads in
     let names = c.args.names.now in
     let p = map (λ n. n.now) names in
     let i = c.loop-i.i in
@@ -227,7 +227,7 @@ loop-i-preserved g c =
           ∙ inv.others j (omega (arith, le));
       soft = λ h. c.in_ok-keep.ensures.soft (inv.soft h);
       way = λ tree loads honest are agrees clean rooted.
-          let scene = scene_of c.args.asked.now tree loads in
+          let scene = scene_of c.args.call.now.asked.now tree loads in
           let w = inv.way tree loads honest are agrees clean rooted in
           let clean1 = subst (All IsName) (sym mt) (take_names p i clean) in
           let key1 = c.as_str.ensures.value ∙ (inv.key ∙ ap slashed (sym mt)) in
@@ -268,7 +268,7 @@ loop-i-preserved g c =
 
 pub returns-clause-value : goal.returns-clause-value
 returns-clause-value g c = λ tree loads honest are agrees clean rooted.
-    let scene = scene_of c.args.asked.now tree loads in
+    let scene = scene_of c.args.call.now.asked.now tree loads in
     let names = c.args.names.now in
     let p = map (λ n. n.now) names in
     let i = c.loop-i.i in
@@ -280,7 +280,7 @@ returns-clause-value g c = λ tree loads honest are agrees clean rooted.
 
 pub returns-clause-problems : goal.returns-clause-problems
 returns-clause-problems g c = λ tree loads honest are agrees clean rooted.
-    let scene = scene_of c.args.asked.now tree loads in
+    let scene = scene_of c.args.call.now.asked.now tree loads in
     let names = c.args.names.now in
     let p = map (λ n. n.now) names in
     let i = c.loop-i.i in

@@ -23,20 +23,20 @@ invariant-loop-i g l = record {
   above : SameAbove l.fn.self l.self;
   others : (j : ℕ) → l.i ≤ j → kept_at l.self (take j (map (λ n. n.now) l.names)) ≡ kept_at l.fn.self (take j (map (λ n. n.now) l.names));
   soft : AllSoft (map problem_of l.fn.errors.items) → AllSoft (map problem_of l.errors.items);
-  way : (tree : Tree) (loads : List ℕ → Loaded) → IsHonest g.F.Files l.files tree → AreLoads tree l.asked.settings loads
-      → Agrees (scene_of l.asked tree loads) l.fn.self → All IsName (map (λ n. n.now) l.names) → l.fn.self.has_above ≡ true → record {
-        agrees : Agrees (scene_of l.asked tree loads) l.self;
+  way : (tree : Tree) (loads : List ℕ → Loaded) → IsHonest g.F.Files l.call.files.now tree → AreLoads tree l.call.asked.now.settings loads
+      → Agrees (scene_of l.call.asked.now tree loads) l.fn.self → All IsName (map (λ n. n.now) l.names) → l.fn.self.has_above ≡ true → record {
+        agrees : Agrees (scene_of l.call.asked.now tree loads) l.self;
         inside : IsInLoaded l.self (take l.i (map (λ n. n.now) l.names));
-        none : list_any (is_ignored (scene_of l.asked tree loads)) (left [] (map (λ n. n.now) l.names))
-            ≡ list_any (is_ignored (scene_of l.asked tree loads)) (left (take l.i (map (λ n. n.now) l.names)) (drop l.i (map
+        none : list_any (is_ignored (scene_of l.call.asked.now tree loads)) (left [] (map (λ n. n.now) l.names))
+            ≡ list_any (is_ignored (scene_of l.call.asked.now tree loads)) (left (take l.i (map (λ n. n.now) l.names)) (drop l.i (map
             (λ n. n.now) l.names)));
         kept : (q : List (List ℕ)) → All IsName q
-            → (is_kept l.fn.self q || is_among (way (scene_of l.asked tree loads) [] (map (λ n. n.now) l.names)) q)
-            ≡ (is_kept l.self q || is_among (way (scene_of l.asked tree loads) (take l.i (map (λ n. n.now) l.names)) (drop l.i (map
+            → (is_kept l.fn.self q || is_among (way (scene_of l.call.asked.now tree loads) [] (map (λ n. n.now) l.names)) q)
+            ≡ (is_kept l.self q || is_among (way (scene_of l.call.asked.now tree loads) (take l.i (map (λ n. n.now) l.names)) (drop l.i (map
             (λ n. n.now) l.names))) q);
-        problems : map problem_of l.fn.errors.items ++ collected (problems_of (scene_of l.asked tree loads) l.fn.self (left [] (map
+        problems : map problem_of l.fn.errors.items ++ collected (problems_of (scene_of l.call.asked.now tree loads) l.fn.self (left [] (map
             (λ n. n.now) l.names)))
-            ≡ map problem_of l.errors.items ++ collected (problems_of (scene_of l.asked tree loads) l.fn.self
+            ≡ map problem_of l.errors.items ++ collected (problems_of (scene_of l.call.asked.now tree loads) l.fn.self
             (left (take l.i (map (λ n. n.now) l.names)) (drop l.i (map (λ n. n.now) l.names))));
       };
 }

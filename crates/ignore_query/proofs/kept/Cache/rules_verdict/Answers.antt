@@ -56,7 +56,7 @@ returns-then-not-branch-clause-agrees g c = λ tree loads honest are agrees prop
 
 pub returns-then-not-branch-clause-kept : goal.returns-then-not-branch-clause-kept
 returns-then-not-branch-clause-kept g c = λ tree loads honest are agrees proper rooted.
-    let scene = scene_of c.args.asked.now tree loads in
+    let scene = scene_of c.args.call.now.asked.now tree loads in
     let is = ap (map (λ n. n.now)) c.as_slice-names.ensures.value ∙ c.in_ok-names.ensures in
     let clean = subst (All IsName) (sym is) (names-components c.args.path.now proper) in
     subst (λ l. KeepsNeeded (needed scene l) c.args.self.now c.keep_way.new.self) is
@@ -64,7 +64,7 @@ returns-then-not-branch-clause-kept g c = λ tree loads honest are agrees proper
 
 pub returns-in-Some-clause-kept : goal.returns-in-Some-clause-kept
 returns-in-Some-clause-kept g c = λ tree loads honest are agrees proper rooted.
-    let scene = scene_of c.args.asked.now tree loads in
+    let scene = scene_of c.args.call.now.asked.now tree loads in
     let is = ap (map (λ n. n.now)) c.as_slice-names.ensures.value ∙ c.in_ok-names.ensures in
     let clean = subst (All IsName) (sym is) (names-components c.args.path.now proper) in
     on_ok c.verdict_in.result
@@ -73,7 +73,7 @@ returns-in-Some-clause-kept g c = λ tree loads honest are agrees proper rooted.
 
 pub returns-then-not-branch-clause-value : goal.returns-then-not-branch-clause-value
 returns-then-not-branch-clause-value g c = λ tree loads honest are agrees proper rooted.
-    let scene = scene_of c.args.asked.now tree loads in
+    let scene = scene_of c.args.call.now.asked.now tree loads in
     let is = ap (map (λ n. n.now)) c.as_slice-names.ensures.value ∙ c.in_ok-names.ensures in
     let clean = subst (All IsName) (sym is) (names-components c.args.path.now proper) in
     let yes = c.in_ok-keep_way.ensures.value tree loads honest are agrees clean rooted in
@@ -83,7 +83,7 @@ returns-then-not-branch-clause-value g c = λ tree loads honest are agrees prope
 
 pub returns-then-not-branch-clause-problems : goal.returns-then-not-branch-clause-problems
 returns-then-not-branch-clause-problems g c = λ tree loads honest are agrees proper rooted.
-    let scene = scene_of c.args.asked.now tree loads in
+    let scene = scene_of c.args.call.now.asked.now tree loads in
     let is = ap (map (λ n. n.now)) c.as_slice-names.ensures.value ∙ c.in_ok-names.ensures in
     let clean = subst (All IsName) (sym is) (names-components c.args.path.now proper) in
     c.in_ok-keep_way.ensures.problems tree loads honest are agrees clean rooted
@@ -97,7 +97,7 @@ returns-in-Some-clause-agrees g c = λ tree loads honest are agrees proper roote
 
 pub returns-in-Some-clause-value : goal.returns-in-Some-clause-value
 returns-in-Some-clause-value g c = λ tree loads honest are agrees proper rooted.
-    let scene = scene_of c.args.asked.now tree loads in
+    let scene = scene_of c.args.call.now.asked.now tree loads in
     let names = map (λ n. n.now) c.as_slice-names.result.now in
     let is = ap (map (λ n. n.now)) c.as_slice-names.ensures.value ∙ c.in_ok-names.ensures in
     let clean = subst (All IsName) (sym is) (names-components c.args.path.now proper) in
@@ -119,7 +119,7 @@ returns-in-Some-clause-value g c = λ tree loads honest are agrees proper rooted
 
 pub returns-in-Some-clause-problems : goal.returns-in-Some-clause-problems
 returns-in-Some-clause-problems g c = λ tree loads honest are agrees proper rooted.
-    let scene = scene_of c.args.asked.now tree loads in
+    let scene = scene_of c.args.call.now.asked.now tree loads in
     let is = ap (map (λ n. n.now)) c.as_slice-names.ensures.value ∙ c.in_ok-names.ensures in
     let clean = subst (All IsName) (sym is) (names-components c.args.path.now proper) in
     on_ok c.verdict_in.result

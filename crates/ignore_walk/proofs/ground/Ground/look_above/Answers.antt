@@ -11,10 +11,12 @@ use Rattle.ignore_walk.proofs.PlaceLemmas.{length-above}
 use Rattle.ignore_walk.proofs.ground.Ground.look_above.Goals as goal
 
 pub returns-clause-error : goal.returns-clause-error
-returns-clause-error g c = λ s seen suits kept found.
+returns-clause-error g c = λ s seen given kept found.
+    let suits = c.lent.ensures s given in
+    let lent = c.lent.result in
     let self = c.args.self.now in
     let root = c.args.root.now in
-    let are = suited-loads g.F.Files g.S.Callbacks self.files.now self.owner.now self.settings self.outside self.options s suits in
+    let are = suited-loads g.F.Files g.S.Callbacks lent.files.now self.owner.now lent.settings.now lent.outside.now self.options s suits in
     let names = names_above s.tree s.settings root in
     let held = dirs_above s.loads s.settings (paths_above s.tree s.settings root) in
     let dirs : c.in_ok-above.above.dirs.items ≡ placed_along 1 held names =
@@ -36,10 +38,12 @@ returns-clause-error g c = λ s seen suits kept found.
     (value ∙ ap (λ (l : List (List ℕ)). joined_some (problems_of_loads s.loads (unseen l c.as_slice-3.result.now))) (c.as_slice-2.ensures.value ∙ kept))
 
 pub returns-clause-seen : goal.returns-clause-seen
-returns-clause-seen g c = λ s seen suits kept found.
+returns-clause-seen g c = λ s seen given kept found.
+    let suits = c.lent.ensures s given in
+    let lent = c.lent.result in
     let self = c.args.self.now in
     let root = c.args.root.now in
-    let are = suited-loads g.F.Files g.S.Callbacks self.files.now self.owner.now self.settings self.outside self.options s suits in
+    let are = suited-loads g.F.Files g.S.Callbacks lent.files.now self.owner.now lent.settings.now lent.outside.now self.options s suits in
     let names = names_above s.tree s.settings root in
     let held = dirs_above s.loads s.settings (paths_above s.tree s.settings root) in
     let dirs : c.in_ok-above.above.dirs.items ≡ placed_along 1 held names =
