@@ -14,14 +14,14 @@ ghost use Rattle.ignore_walk.specs.Entry.{Item};
 ghost use Rattle.commands.specs.Listing.{Lists, lines_of, reports_of};
 ghost use Rattle.commands.specs.Checking.{AreAnswers, AreAnswersSoFar, AreFirst, Checked, Checks, line_for, report_for};
 ghost use Rattle.commands.specs.Walking.{AreBegun, AreListed};
-ghost use Rattle.commands.specs.Words.{Question, question_of, request_view, roots_of, paths_of};
+ghost use Rattle.commands.specs.Words.{Question, command_of, of_check, of_list, of_match, request_view};
 ghost use Rattle.commands.specs.Stops.{Ends, EndsAnswer, EndsLine, EndsLines, EndsReported, EndsReportedAfter, line_stop, reason};
 ghost use Rattle.commands.specs.Matching.{AddsAll, AddsOne, Prints, answer_line, answer_of, refusal};
 
 use crate::checking::check;
 use crate::listing::list;
 use crate::stop::{Stop, report_stop};
-use crate::words::{Request, read_paths, read_roots, read_words};
+use crate::words::{Command, Request, read_command};
 use ignore_base::{Error, Match};
 use ignore_files::{Env, Files};
 use ignore_rules::gitignore::{Gitignore, GitignoreBuilder};
@@ -128,6 +128,28 @@ fn answer<W: Write, E: Write>(
     Ok(refused)
 }
 
+/// Answers a question, and reports why that ended early. It returns the status.
+fn answer_or_report<W: Write, E: Write>(
+    alloc: Global,
+    request: Request<'_>,
+    out: &mut W,
+    err: &mut E,
+) -> Result<u8, Stop>
+    ensures prints { IfOk result (λ status. Prints (request_view request.entry) status
+        (Appends (W.contents out.old) (W.contents out.new)) (Appends (E.contents err.old) (E.contents err.new))
+        ⊎ ((status ≡ 2) × EndsReported (request_view request.entry) (Appends (W.contents out.old) (W.contents out.new))
+        (Appends (E.contents err.old) (E.contents err.new)))) }
+    ensures unreported { IfErr result (Ends (request_view request.entry)
+        (Appends (W.contents out.old) (W.contents out.new)) (λ reported. ⊤)) }
+    ensures status { IfOk result (λ status. status ≤ 2) }
+{
+    match answer(alloc, request, out, err) {
+        Ok(false) => Ok(0),
+        Ok(true) => Ok(1),
+        Err(stop) => report_stop(err, stop),
+    }
+}
+
 /// Runs the command in the words after the program's name.
 ///
 /// - `match ROOT RULES PATH d|f` writes the answer of the lines of RULES, relative to ROOT, for
@@ -153,30 +175,25 @@ pub fn run<F: Files, W: Write, E: Write>(
     out: &mut W,
     err: &mut E,
 ) -> Result<u8, Stop>
-    ensures wrong { question_of (map string_bytes words.now) ≡ None → roots_of (map string_bytes words.now) ≡ None
-        → paths_of (map string_bytes words.now) ≡ None → Appends (W.contents out.old) (W.contents out.new) [] }
-    ensures usage { question_of (map string_bytes words.now) ≡ None → roots_of (map string_bytes words.now) ≡ None
-        → paths_of (map string_bytes words.now) ≡ None
+    ensures wrong { command_of (map string_bytes words.now) ≡ None → Appends (W.contents out.old) (W.contents out.new) [] }
+    ensures usage { command_of (map string_bytes words.now) ≡ None
         → IfOk result (λ status. (status ≡ 2) × Appends (E.contents err.old) (E.contents err.new) (reason Stop.Usage)) }
-    ensures usage_unreported { question_of (map string_bytes words.now) ≡ None → roots_of (map string_bytes words.now) ≡ None
-        → paths_of (map string_bytes words.now) ≡ None → IfErr result (λ stop. stop ≡ Stop.Usage) }
-    ensures prints { (question : Question) → question_of (map string_bytes words.now) ≡ Some question
+    ensures usage_unreported { command_of (map string_bytes words.now) ≡ None → IfErr result (λ stop. stop ≡ Stop.Usage) }
+    ensures prints { (question : Question) → command_of (map string_bytes words.now) ≡ Some (of_match question)
         → IfOk result (λ status. Prints question status (Appends (W.contents out.old) (W.contents out.new))
         (Appends (E.contents err.old) (E.contents err.new))
         ⊎ ((status ≡ 2) × EndsReported question (Appends (W.contents out.old) (W.contents out.new))
         (Appends (E.contents err.old) (E.contents err.new)))) }
-    ensures unreported { (question : Question) → question_of (map string_bytes words.now) ≡ Some question
+    ensures unreported { (question : Question) → command_of (map string_bytes words.now) ≡ Some (of_match question)
         → IfErr result (Ends question (Appends (W.contents out.old) (W.contents out.new)) (λ reported. ⊤)) }
-    ensures lists { question_of (map string_bytes words.now) ≡ None
-        → (roots : List Path) → roots_of (map string_bytes words.now) ≡ Some roots
+    ensures lists { (roots : List Path) → command_of (map string_bytes words.now) ≡ Some (of_list roots)
         → IfOk result (λ status. ((items : List Item) × Lists items status
         (Appends (W.contents out.old) (W.contents out.new)) (Appends (E.contents err.old) (E.contents err.new))
         × ((tree : Tree) → IsHonest F.Files files.now tree → AreListed tree env.now roots items))
         ⊎ ((status ≡ 2) × (items : List Item) × EndsReportedAfter (flat_map lines_of items) (flat_map reports_of items)
         (Appends (W.contents out.old) (W.contents out.new)) (Appends (E.contents err.old) (E.contents err.new))
         × ((tree : Tree) → IsHonest F.Files files.now tree → AreBegun tree env.now roots items))) }
-    ensures checks { question_of (map string_bytes words.now) ≡ None → roots_of (map string_bytes words.now) ≡ None
-        → (root : Path) (paths : List Path) → paths_of (map string_bytes words.now) ≡ Some (root, paths)
+    ensures checks { (root : Path) (paths : List Path) → command_of (map string_bytes words.now) ≡ Some (of_check root paths)
         → IfOk result (λ status. ((all : List Checked) × Checks paths all status
         (Appends (W.contents out.old) (W.contents out.new)) (Appends (E.contents err.old) (E.contents err.new))
         × ((tree : Tree) → IsHonest F.Files files.now tree → AreAnswers tree env.now root all))
@@ -186,18 +203,10 @@ pub fn run<F: Files, W: Write, E: Write>(
         × ((tree : Tree) → IsHonest F.Files files.now tree → AreAnswersSoFar tree env.now root all))) }
     ensures status { IfOk result (λ status. status ≤ 2) }
 {
-    let Some(request) = read_words(words) else {
-        if let Some(roots) = read_roots(words) {
-            return list(alloc, files, env, roots, out, err);
-        }
-        if let Some((root, paths)) = read_paths(words) {
-            return check(alloc, files, env, root, paths, out, err);
-        }
-        return report_stop(err, Stop::Usage);
-    };
-    match answer(alloc, request, out, err) {
-        Ok(false) => Ok(0),
-        Ok(true) => Ok(1),
-        Err(stop) => report_stop(err, stop),
+    match read_command(words) {
+        Some(Command::Match(request)) => answer_or_report(alloc, request, out, err),
+        Some(Command::List(roots)) => list(alloc, files, env, roots, out, err),
+        Some(Command::Check(root, paths)) => check(alloc, files, env, root, paths, out, err),
+        None => report_stop(err, Stop::Usage),
     }
 }
