@@ -54,8 +54,7 @@ impl Automaton {
     ) -> Result<Automaton, AllocError>
         ensures { IfOk result (λ p. p ≡ record { tokens = tokens_view tokens.items; case_insensitive = case_insensitive }) }
     {
-        let mut nodes = nodes_of(*tokens.allocator(), &tokens)?;
-        nodes.shrink_to_fit();
+        let nodes = nodes_of(*tokens.allocator(), &tokens)?;
         let mut tokens = tokens;
         tokens.shrink_to_fit();
         let masks = word_of(&nodes);

@@ -84,7 +84,7 @@ fn some_text(alloc: Global, tokens: &[Token]) -> Result<Option<String>, AllocErr
 fn literal_text(alloc: Global, tokens: &[Token]) -> Result<Option<String>, AllocError>
     ensures { IfOk result (λ text. option_map string_bytes text ≡ literals (tokens_view tokens.now)) }
 {
-    let mut text = String::new(alloc);
+    let mut text = String::with_capacity(alloc, tokens.len())?;
     for token in tokens {
         match literal_of(token) {
             Some(c) => text.push(c)?,

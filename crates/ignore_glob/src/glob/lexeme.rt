@@ -151,7 +151,7 @@ pub fn lexemes(alloc: Global, options: Options, text: &[char]) -> Result<Vec<Lex
     ensures fault { IfErr result (λ e. IfFault e (λ f. Lexed options 0 text.now (Err f))) }
 {
     let after_last = after_last_closing(text);
-    let mut row = Vec::new(alloc);
+    let mut row = Vec::with_capacity(alloc, text.len())?;
     let mut rest = text;
     let mut depth = 0;
     while let Some((first, after)) = rest.split_first() {

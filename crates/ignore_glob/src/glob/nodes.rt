@@ -232,12 +232,12 @@ fn is_start(token: &Token) -> bool
 pub fn nodes_of(alloc: Global, tokens: &[Token]) -> Result<Vec<Node>, AllocError>
     ensures { IfOk result (λ nodes. nodes_view nodes.items ≡ glob_nodes (tokens_view tokens.now)) }
 {
-    let mut nodes = Vec::new(alloc);
+    let end = width(tokens)?;
+    let mut nodes = Vec::with_capacity(alloc, end)?;
     if is_lone_start(tokens) {
         push_two(&mut nodes, Node::Start(2), Node::UntilEnd(2))?;
         return Ok(nodes);
     }
-    let end = width(tokens)?;
     push_tokens(&mut nodes, tokens, end)?;
     Ok(nodes)
 }

@@ -17,7 +17,7 @@ use crate::glob::token::{Class, Token};
 use std::alloc::{AllocError, Global};
 
 /// The token of a simple token.
-fn token_of(alloc: Global, given: SimpleToken) -> Result<Token, AllocError>
+fn token_of(given: SimpleToken) -> Result<Token, AllocError>
     ensures { IfOk result (λ token. view token ≡ simple_token_view given.entry) }
 {
     match given {
@@ -36,17 +36,12 @@ fn token_of(alloc: Global, given: SimpleToken) -> Result<Token, AllocError>
 }
 
 /// Appends a token so many times.
-fn push_times(
-    alloc: Global,
-    tokens: &mut Vec<Token>,
-    n: usize,
-    given: SimpleToken,
-) -> Result<(), AllocError>
+fn push_times(tokens: &mut Vec<Token>, n: usize, given: SimpleToken) -> Result<(), AllocError>
     ensures { IfOk result (λ _. (ts : Tokens) → put_tokens tokens.new.items ts
         ≡ put_tokens tokens.old.items (times n (simple_token_view given.entry) ts)) }
 {
     for _i in 0..n {
-        let token = token_of(alloc, given)?;
+        let token = token_of(given)?;
         tokens.push(token)?;
     }
     Ok(())
@@ -85,6 +80,15 @@ fn past_branch(row: &[Lexeme]) -> (bool, &[Lexeme])
     }
 }
 
+/// Room for the tokens of a glob, of which each lexeme gives one at the most, but for runs of
+/// stars; a branch has none at first.
+fn room(left: Left, row: &[Lexeme]) -> usize {
+    match left {
+        Left::GlobStart => row.len(),
+        Left::BranchStart | Left::Lexeme => 0,
+    }
+}
+
 /// The tokens of a glob or a branch up to its end, and what follows.
 #[cycle(read)]
 fn read_level(
@@ -98,13 +102,13 @@ fn read_level(
     ensures balance { IfOk result (λ found. (d : ℕ) → Balanced (row_view row.now) d → Balanced (row_view found.1.now) d) }
     ensures shorter { IfOk result (λ found. length (row_view found.1.now) ≤ length (row_view row.now)) }
 {
-    let mut tokens = Vec::new(alloc);
+    let mut tokens = Vec::with_capacity(alloc, room(left, row))?;
     let mut here = left;
     let mut rest = row;
     loop {
         match meaning_of(here, rest) {
             Meaning::Gives(n, given, more) => {
-                push_times(alloc, &mut tokens, n, given)?;
+                push_times(&mut tokens, n, given)?;
                 rest = more;
             }
             Meaning::Braces(inner) => {

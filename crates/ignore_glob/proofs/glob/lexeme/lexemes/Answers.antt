@@ -19,7 +19,7 @@ lexeme_from-requires c =
 pub returns-in_err-lexeme-clause-fault : goal.returns-in_err-lexeme-clause-fault
 returns-in_err-lexeme-clause-fault c =
     let rest : c.loop-first.rest.now ≡ c.in-Some.first.now ∷ c.in-Some.after.now = grind (arith, common_steps) in
-    let p = err_from_is_err_and c.from_residual.result c.from_residual.ensures.1 in
+    let p = err_from_is_err_and c.from_residual-in_err-lexeme.result c.from_residual-in_err-lexeme.ensures.1 in
     rw (p.1, p.2) (fault_at c.args.options c.loop-first.depth c.args.text.now c.loop-first.rest.now _ c.in_err-lexeme.field-0.0
     (row_view c.loop-first.row.items) rest c.in_err-lexeme.ensures.fault c.loop-first.invariant.written)
 
