@@ -85,7 +85,7 @@ fn walk_and_write<F: Files, W: Write, E: Write>(
         return Err(Stop::Memory);
     };
     let settings = Settings::standard(alloc);
-    let walk = Walk::new(alloc, files, &ByName, settings, outside, OPTIONS, names);
+    let walk = Walk::new(alloc, files, ByName, settings, outside, OPTIONS, names);
     runs::a_run_yields_the_list::<F, ByName>();
     runs::a_run_begins_the_list::<F, ByName>();
     write_items(walk, out, err)

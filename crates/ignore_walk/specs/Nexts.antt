@@ -14,7 +14,7 @@ use Rattle.ignore_walk.specs.declared.walk.Walk.{Walk}
 -- a walk that wasn't ended suits a scene, and still gives these items, in so many steps
 pub record Remaining {F S : Type 0} (files : Files F) (calls : Callbacks S) (g : Scene) (w : Walk F S) (items : List Item) (n : ℕ)
     : Type 0 where
-  pub suits : Suits files calls w.ground.files.now w.ground.owner.now w.ground.settings w.ground.outside w.ground.options g
+  pub suits : Suits files calls w.ground.files.now w.ground.owner w.ground.settings w.ground.outside w.ground.options g
   pub goes_on : w.ended ≡ false
   pub stands : Stands g w.stack items n
 

@@ -11,6 +11,7 @@ mod frame;
 mod ground;
 pub mod laws;
 mod made;
+mod memory;
 mod open;
 mod root;
 pub mod runs;

@@ -47,14 +47,14 @@ impl<'a, F: Files, S: Callbacks> Walk<'a, F, S> {
     pub fn new(
         alloc: Global,
         files: &'a F,
-        owner: &'a S,
+        owner: S,
         settings: Settings,
         outside: Outside,
         options: Options,
         roots: Vec<Name>,
     ) -> Walk<'a, F, S>
         ensures whole { (g : Scene) (items : List Yielded) (n : ℕ)
-            → Suits F.Files S.Callbacks files.now owner.now settings outside options g → Whole g roots.items items n
+            → Suits F.Files S.Callbacks files.now owner settings outside options g → Whole g roots.items items n
             → Remaining F.Files S.Callbacks g result items n }
         ensures limit { result.left ≡ options.limit }
         ensures goes_on { result.ended ≡ false }

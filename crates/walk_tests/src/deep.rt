@@ -40,7 +40,7 @@ fn counted<F: Files>(alloc: Global, files: &F) -> anyhow::Result<Counts> {
     let mut options = options();
     options.limit = u64::MAX;
     let (settings, outside) = (Settings::standard(alloc), Outside::empty(alloc));
-    let walk = Walk::new(alloc, files, &Plain, settings, outside, options, names);
+    let walk = Walk::new(alloc, files, Plain, settings, outside, options, names);
     Ok(counts_of(walk))
 }
 

@@ -130,7 +130,7 @@ fn walked<F: Files>(
     let outside = Outside::empty(alloc);
     items_of(
         alloc,
-        Walk::new(alloc, files, &Plain, settings, outside, options, names),
+        Walk::new(alloc, files, Plain, settings, outside, options, names),
     )
 }
 

@@ -52,7 +52,7 @@ fn take(alloc: Global, files: &Watched<'_>, items: u8) -> anyhow::Result<()> {
     let mut names = Vec::new(alloc);
     names.push(Name::new(String::from_str(alloc, "/t")?))?;
     let (settings, outside) = (Settings::standard(alloc), Outside::empty(alloc));
-    let walk = Walk::new(alloc, files, &Plain, settings, outside, options(), names);
+    let walk = Walk::new(alloc, files, Plain, settings, outside, options(), names);
     take_first(walk, items);
     Ok(())
 }

@@ -9,6 +9,7 @@ use std::alloc::{AllocError, Global};
 use std::cmp::Ordering;
 
 /// No filter, and names in the order of their bytes.
+#[derive(Clone, Copy, Drop)]
 pub struct Plain;
 
 impl Callbacks for Plain {
@@ -92,7 +93,7 @@ fn limited(alloc: Global, limit: u64) -> anyhow::Result<String> {
     let (settings, outside) = (Settings::standard(alloc), Outside::empty(alloc));
     items_of(
         alloc,
-        Walk::new(alloc, &tree, &Plain, settings, outside, options, names),
+        Walk::new(alloc, &tree, Plain, settings, outside, options, names),
     )
 }
 
