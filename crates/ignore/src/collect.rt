@@ -27,10 +27,10 @@ pub fn collect_walk<F: Files>(
     files: &F,
     env: &Env,
 ) -> Result<Vec<Item>, Error>
-    ensures headline { IfOk result (λ all. Headline F.Files ⟦<Owner<'static> as Callbacks>⟧ files.now (record { builder = Some builder }) env.now
+    ensures headline { IfOk result (λ all. Headline F.Files ⟦<Owner<'static> as Callbacks>⟧ files.now (record { builder = Some builder.entry }) env.now
         builder.now.options (order_of (λ s. s.order) builder.now.sorter) (map item_of all.items)) }
     ensures ended { IfErr result (λ e. (problem_of e ≡ memory) ⊎ ((problem_of e ≡ io StepLimit)
-        × IsAboveLimit F.Files ⟦<Owner<'static> as Callbacks>⟧ files.now (record { builder = Some builder }) env.now builder.now.options
+        × IsAboveLimit F.Files ⟦<Owner<'static> as Callbacks>⟧ files.now (record { builder = Some builder.entry }) env.now builder.now.options
         (order_of (λ s. s.order) builder.now.sorter))) }
 {
     builder.build(files, env)?.all_items()

@@ -22,7 +22,7 @@ pub fn complete_entries<F: Files>(
     files: &F,
     env: &Env,
 ) -> Result<Vec<DirEntry>, Error>
-    ensures complete { IfOk result (λ entries. Headline F.Files ⟦<Owner<'static> as Callbacks>⟧ files.now (record { builder = Some builder }) env.now
+    ensures complete { IfOk result (λ entries. Headline F.Files ⟦<Owner<'static> as Callbacks>⟧ files.now (record { builder = Some builder.entry }) env.now
         builder.now.options (order_of (λ s. s.order) builder.now.sorter) (map (λ e. item_of (Ok e)) entries.items)) }
 {
     entries_of(alloc, collect_walk(builder, files, env)?)
@@ -51,7 +51,7 @@ pub fn complete_entries_on_disk<R: Machine>(
     env: &Env,
 ) -> Result<Vec<DirEntry>, Error>
     ensures complete { (disk : Disk) → IsTruthful R.Machine R.Dir.next_gives machine.now disk
-        → IfOk result (λ entries. IsListIn ⟦<Owner<'static> as Callbacks>⟧ (record { builder = Some builder }) env.now builder.now.options
+        → IfOk result (λ entries. IsListIn ⟦<Owner<'static> as Callbacks>⟧ (record { builder = Some builder.entry }) env.now builder.now.options
         (order_of (λ s. s.order) builder.now.sorter) (tree_on disk) (map (λ e. item_of (Ok e)) entries.items)) }
 {
     let files = DiskFiles::new(machine);

@@ -60,7 +60,7 @@ pub fn search_below<F: Files>(
     env: &Env,
     word: &str,
 ) -> Result<Found, Error>
-    ensures whole { IfOk result (λ found. (items : List Item) × Headline F.Files ⟦<Owner<'static> as Callbacks>⟧ files.now (record { builder = Some builder })
+    ensures whole { IfOk result (λ found. (items : List Item) × Headline F.Files ⟦<Owner<'static> as Callbacks>⟧ files.now (record { builder = Some builder.entry })
         env.now builder.now.options (order_of (λ s. s.order) builder.now.sorter) items
         × ((tree : Tree) → IsHonest F.Files files.now tree → Finds tree word.now items found)) }
     ensures ended { IfErr result (λ e. IsEnd (Err (problem_of e))) }

@@ -28,7 +28,7 @@ impl WalkBuilder {
     /// # Errors
     /// `Error::Memory` alone.
     pub fn build<'a, F: Files>(&'a self, files: &'a F, env: &Env) -> Result<Walk<'a, F>, Error>
-        ensures whole { IfOk result (λ w. IsWalkBy F.Files ⟦<Owner<'a> as Callbacks>⟧ files.now (record { builder = Some self }) env.now self.now.options
+        ensures whole { IfOk result (λ w. IsWalkBy F.Files ⟦<Owner<'a> as Callbacks>⟧ files.now (record { builder = Some self.entry }) env.now self.now.options
             (order_of (λ s. s.order) self.now.sorter) w.inner) }
         ensures limit { IfOk result (λ w. w.inner.left ≡ self.now.options.limit) }
         ensures goes_on { IfOk result (λ w. w.inner.ended ≡ false) }
@@ -65,7 +65,7 @@ impl WalkOptions {
         env: &Env,
         order: Order,
     ) -> Result<Walk<'a, F>, Error>
-        ensures whole { IfOk result (λ w. IsWalkBy F.Files ⟦<Owner<'a> as Callbacks>⟧ files.now owner env.now self.now order w.inner) }
+        ensures whole { IfOk result (λ w. IsWalkBy F.Files ⟦<Owner<'a> as Callbacks>⟧ files.now owner.entry env.now self.now order w.inner) }
         ensures limit { IfOk result (λ w. w.inner.left ≡ self.now.limit) }
         ensures goes_on { IfOk result (λ w. w.inner.ended ≡ false) }
         ensures out_of_memory { IfErr result (λ e. problem_of e ≡ memory) }
