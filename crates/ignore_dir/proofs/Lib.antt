@@ -1,5 +1,6 @@
 pub mod AboveLemmas
 pub mod ChainLemmas
+pub mod LevelLemmas
 pub mod LoadLemmas
 pub mod LoadsOnly
 pub mod PathLemmas

@@ -3,6 +3,7 @@ pub mod Chains
 pub mod Exclude
 pub mod Ground
 pub mod Limits
+pub mod Levels
 pub mod Lists
 pub mod Places
 pub mod Load

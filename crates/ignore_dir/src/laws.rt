@@ -1,5 +1,6 @@
 //! Laws of the definitions, as calls that do nothing: each contract is the law.
-ghost use Rattle.std.specs.Prelude.{◌≡◌, ◌++◌, [], ◌∷◌, ℕ, Bool, List, Option, length, reverse};
+ghost use Rattle.std.specs.Prelude.{◌≡◌, ◌<◌, ◌++◌, [], ◌∷◌, ℕ, Bool, true, false, List, Option, None, Some, filter, is_some, length, reverse};
+ghost use Rattle.std.specs.List.{list_any};
 ghost use Rattle.ignore_files.specs.Tree.{Tree};
 ghost use Rattle.ignore_base.specs.Problem.{Problem};
 ghost use Rattle.ignore_dir.specs.declared.dir.Dir.{Dir};
@@ -11,6 +12,8 @@ ghost use Rattle.ignore_dir.specs.Load.{Loads, Loaded, AreLoads};
 ghost use Rattle.ignore_dir.specs.Query.{problems_below, rules_verdict};
 ghost use Rattle.ignore_dir.specs.Scene.{Scene, path_verdict};
 ghost use Rattle.ignore_dir.specs.Steps.{entered, entry, problems_from, reached_in, verdict_at, verdict_from};
+ghost use Rattle.ignore_dir.specs.Levels.{AreLevels, IsChain, IsLoadedIn, IsPlaceOf, IsPut, IsRuledChain, Level, Levels, Place};
+ghost use Rattle.ignore_dir.specs.Levels.{has_level, is_ruled, level_at, level_of, mark_of};
 
 use ignore_rules::gitignore::laws::a_file_adds_one_thing;
 
@@ -41,4 +44,25 @@ pub fn steps_are_whole()
         → rules_verdict g (n ∷ ns) is_dir ≡ verdict_from g.loads g.settings g.outside is_dir (reached_in g []) (n ∷ ns) }
     ensures problems { (g : Scene) (n : List ℕ) (ns : List (List ℕ))
         → problems_below g (n ∷ ns) ≡ (g.loads g.root).1 ∷ problems_from g.loads g.settings g.outside (reached_in g []) (n ∷ ns) }
+{}
+
+/// Places and chains: a place has one chain (`one`), the directories with rules and the nearest mark
+/// are those of the chain (`ruled`, `marked`), a directory that is loaded in that of a place stands
+/// for that place, or gets one of its own, and no other place changes (`none`, `put`), and so the
+/// place of a directory has the chain of the definition (`next`).
+pub fn places_are_chains()
+    ensures one { (ls : Levels) (p : Option Place) (c d : List Placed) → IsChain ls p c → IsChain ls p d → c ≡ d }
+    ensures ruled { (ls : Levels) (p : Option Place) (c : List Placed) → AreLevels ls → IsChain ls p c
+        → IsRuledChain ls p (filter (λ d. is_ruled d.0) c) }
+    ensures marked { (ls : Levels) (p : Option Place) (c : List Placed) → AreLevels ls → IsChain ls p c
+        → is_some (mark_of ls p) ≡ list_any (λ d. d.0.mark) c }
+    ensures none { (ls : Levels) (around : Option Place) (d : Dir) (offset : ℕ) → has_level d ≡ false
+        → IsLoadedIn ls ls around around d offset }
+    ensures put { (old new : Levels) (p : Place) (around : Option Place) (d : Dir) (offset : ℕ) (rest : List Placed)
+        → has_level d ≡ true → IsPut old new p (level_of old around p d offset) → IsChain old around rest
+        → ((q : Place) (m : Level) → around ≡ Some q → level_at old q ≡ Some m → m.offset < offset)
+        → IsLoadedIn old new around (Some p) d offset }
+    ensures next { (g : Scene) (old new : Levels) (names : List (List ℕ)) (name : List ℕ) (around found : Option Place) (d : Dir) (offset : ℕ)
+        → (reached_in g (names ++ name ∷ [])).chain ≡ (d, offset) ∷ (reached_in g names).chain → IsPlaceOf g old names around
+        → IsLoadedIn old new around found d offset → IsPlaceOf g new (names ++ name ∷ []) found }
 {}
