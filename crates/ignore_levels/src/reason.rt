@@ -1,13 +1,13 @@
 //! What decides on a path, and what becomes of it.
 ghost use Rattle.std.specs.Prelude.{◌≡◌, ◌&&◌, IfOk, IfErr, if◌then◌else◌};
-ghost use Rattle.ignore_base.specs.Paths.{file_name_of, trim_of};
+ghost use Rattle.ignore_base.specs.Paths.{file_name_of};
 ghost use Rattle.ignore_base.specs.Problem.{problem_of, memory};
-ghost use Rattle.ignore_types.specs.TypeMatch.{type_answer};
-ghost use Rattle.ignore_rules.specs.Overrides.{override_answer};
 ghost use Rattle.ignore_dir.specs.Lists.{asked_in};
-ghost use Rattle.ignore_dir.specs.Verdict.{placed_verdict, file_verdict, verdict_of, or_else, is_dotted};
-ghost use Rattle.ignore_dir.specs.declared.verdict.Verdict.TheVariants as v;
-ghost use Rattle.ignore_levels.specs.Reasons.{OverChain};
+ghost use Rattle.ignore_dir.specs.Verdict.{placed_verdict, verdict_of, is_dotted};
+ghost use Rattle.ignore_base.specs.Match.{match_map};
+ghost use Rattle.ignore_base.specs.declared.match_result.Match.TheVariants as decided;
+ghost use Rattle.ignore_levels.specs.Reasons.{OverChain, file_reason, placed_why, rule_of, why_of};
+ghost use Rattle.ignore_levels.specs.Reasons.Why.{by_override, by_rule, by_type, by_name};
 
 use crate::list::{Levels, Place};
 use crate::ranks::{Asked, Ruling, ranks_answer};
@@ -31,7 +31,7 @@ pub enum Reason<'d> {
 }
 
 fn by_override<'d>(answer: Match<overrides::Glob<'d>>) -> Match<Reason<'d>>
-    ensures { verdict_of result ≡ verdict_of answer.entry }
+    ensures { match_map why_of result ≡ match_map by_override answer.entry }
 {
     match answer {
         Match::None => Match::None,
@@ -41,7 +41,7 @@ fn by_override<'d>(answer: Match<overrides::Glob<'d>>) -> Match<Reason<'d>>
 }
 
 fn by_rule<'d>(answer: Match<Ruling<'d>>) -> Match<Reason<'d>>
-    ensures { verdict_of result ≡ verdict_of answer.entry }
+    ensures { match_map why_of result ≡ match_map (λ r. by_rule (rule_of r)) answer.entry }
 {
     match answer {
         Match::None => Match::None,
@@ -51,7 +51,7 @@ fn by_rule<'d>(answer: Match<Ruling<'d>>) -> Match<Reason<'d>>
 }
 
 fn by_type<'d>(answer: Match<types::Glob<'d>>) -> Match<Reason<'d>>
-    ensures { verdict_of result ≡ verdict_of answer.entry }
+    ensures { match_map why_of result ≡ match_map by_type answer.entry }
 {
     match answer {
         Match::None => Match::None,
@@ -69,7 +69,7 @@ fn is_dotted(path: &str) -> bool
 
 /// What a hidden name decides, where that filter is on.
 fn by_name<'d>(settings: &Settings, path: &str) -> Match<Reason<'d>>
-    ensures { verdict_of result ≡ (if settings.now.hidden && is_dotted (file_name_of path.now) then v.Ignore else v.None) }
+    ensures { match_map why_of result ≡ (if settings.now.hidden && is_dotted (file_name_of path.now) then decided.Ignore by_name else decided.None) }
 {
     if settings.hidden && is_dotted(path) {
         Match::Ignore(Reason::Hidden)
@@ -86,8 +86,8 @@ fn by_file<'d>(
     place: Option<Place>,
     asked: &Asked<'_>,
 ) -> Result<Match<Reason<'d>>, Error>
-    ensures value { OverChain levels.now.slots.items place asked.now.text.now (λ chain. IfOk result (λ m. verdict_of m
-        ≡ file_verdict settings.now outside.now (asked_in asked.now.text.now chain) asked.now.path.now asked.now.is_dir)) }
+    ensures why { OverChain levels.now.slots.items place asked.now.text.now (λ chain. IfOk result (λ m. match_map why_of m
+        ≡ file_reason settings.now outside.now (asked_in asked.now.text.now chain) asked.now.path.now asked.now.is_dir)) }
     ensures out_of_memory { IfErr result (λ e. problem_of e ≡ memory) }
 {
     let ruled = ranks_answer(settings, outside, levels, place, asked)?;
@@ -120,6 +120,8 @@ pub fn judge<'d>(
     place: Option<Place>,
     asked: &Asked<'_>,
 ) -> Result<Match<Reason<'d>>, Error>
+    ensures why { OverChain levels.now.slots.items place asked.now.text.now (λ chain. IfOk result (λ m. match_map why_of m
+        ≡ placed_why settings.now outside.now chain asked.now.text.now asked.now.path.now asked.now.is_dir)) }
     ensures value { OverChain levels.now.slots.items place asked.now.text.now (λ chain. IfOk result (λ m. verdict_of m
         ≡ placed_verdict settings.now outside.now chain asked.now.text.now asked.now.path.now asked.now.is_dir)) }
     ensures out_of_memory { IfErr result (λ e. problem_of e ≡ memory) }
