@@ -181,9 +181,9 @@ impl Levels {
     }
 
     /// Adds a directory below a place: its parent's, or the nearest above that has one. `offset` is
-    /// where the path past it begins in a text; it is greater than the parent's. A directory without
-    /// rules and without a mark gets no place of its own, and its parent's is returned. A free place
-    /// is filled before the list grows.
+    /// where the path past it begins in a text; it is greater than the parent's. A directory that
+    /// has no rules and no mark gets no place of its own, and its parent's is returned. A free
+    /// place is filled before the list grows.
     ///
     /// # Errors
     /// Out of memory, and then each place stands for the same chain as before.
@@ -221,7 +221,8 @@ impl Levels {
         Ok(Some(place))
     }
 
-    /// Drops the levels from a length on, as a walk does when it leaves a directory.
+    /// Drops the levels from a length on, as a walk does when it leaves a directory. Free places may
+    /// be forgotten then: a list is either cut, or has its levels freed.
     pub fn cut(&mut self, len: usize)
         ensures cut { self.new.slots.items ≡ take len self.old.slots.items }
     {
