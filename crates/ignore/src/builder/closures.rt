@@ -11,6 +11,10 @@ impl WalkBuilder {
     /// Sorts the entries of each directory by their names, by a comparison that the caller has
     /// boxed. It replaces any order that was chosen before; at first there is none, and entries
     /// come as they are listed. Entries that tie stay as they are listed, and faults come first.
+    ///
+    /// What is promised of a walk counts where the contract of the comparison allows one answer to
+    /// each question: `walk_laws::a_scene_with_closures` shows what it has to meet. With a loop in
+    /// it, or a call of a function without clauses, a closure needs an `ensures` of its own.
     pub fn sort_by_file_name(&mut self, compare: Compare) -> &mut Self
         requires { Compare.IsAlwaysCallable compare }
         ensures same_reference { result.ghost_name ≡ self.entry.ghost_name }
@@ -34,7 +38,8 @@ impl WalkBuilder {
 
     /// Yields only the entries below a root that a filter accepts, which the caller has boxed; a
     /// directory that it rejects isn't entered. It is asked after all rules, and replaces any
-    /// filter that was set before.
+    /// filter that was set before. What is promised of a walk counts where the contract of the
+    /// filter allows one answer to each question, as for `sort_by_file_name`.
     pub fn filter_entry(&mut self, keep: Keep) -> &mut Self
         requires { Keep.IsAlwaysCallable keep }
         ensures same_reference { result.ghost_name ≡ self.entry.ghost_name }
