@@ -37,13 +37,15 @@ def kit():
     return os.path.dirname(page.strip())
 
 
-def kit_line():
-    """The line that names the kit."""
+def logic():
+    """The name of the kit's logic, as its line ends: kits that differ in their tools alone have the
+    same, and all of its line where it names none."""
     try:
         said = subprocess.run(["rt", "version"], capture_output=True, text=True, check=True).stdout
     except (OSError, subprocess.CalledProcessError) as error:
         raise Stop(f"the kit isn't found: rt version: {error}") from None
-    return said.split("\n")[0]
+    line = said.split("\n")[0]
+    return line[line.find("logic "):] if "logic " in line else line
 
 
 def lanes():

@@ -297,11 +297,11 @@ def files_of(crate, part):
     return sorted(it for it in found if it.endswith((".rt", ".antt", ".edit")))
 
 
-def checksum(crates, crate, kit):
-    """One sum over all that the verdicts on the crate's mutants rest on: the kit, the crate's line
-    of `crates.txt`, its sources, definitions, proofs and mutants, and of the crates below it the
-    definitions and contracts."""
-    summed = hashlib.sha256(repr((kit, crate.name, crate.uses)).encode())
+def checksum(crates, crate, logic):
+    """One sum over all that the verdicts on the crate's mutants rest on: the kit's logic, the
+    crate's line of `crates.txt`, its sources, definitions, proofs and mutants, and of the crates
+    below it the definitions and contracts."""
+    summed = hashlib.sha256(repr((logic, crate.name, crate.uses)).encode())
     for part in ("src", "specs", "proofs", *EDITS):
         for path in files_of(crate, part):
             text = without_layout(path, read(f"{crate.folder}/{path}"))
