@@ -7,11 +7,12 @@ use std::test::Fail;
 use std::{io, rt};
 
 /// A runtime in which the value of each variable is its name, unless that begins with one of these
-/// texts, and the working directory is `/here`.
+/// texts, and the working directory is `/here` or unknown.
 #[derive(Clone, Copy)]
 struct Named {
     unset: &'static str,
     empty: &'static str,
+    is_removed: bool,
 }
 
 /// Copies a text to the start of a buffer, and returns its length.
@@ -46,6 +47,9 @@ impl rt::Env for Named {
     }
 
     fn current_dir(&self, buf: &mut [u8]) -> io::Result<usize> {
+        if self.is_removed {
+            return Err(io::Error::from(io::ErrorKind::NotFound));
+        }
         match fill("/here", buf) {
             Ok(len) => Ok(len),
             Err(_) => Err(io::Error::from(io::ErrorKind::NotFound)),
@@ -58,8 +62,26 @@ const NONE: &str = "no such name";
 
 /// The environment as a text.
 fn reported(rt: &HostRuntime, unset: &'static str, empty: &'static str) -> Result<String, Fail> {
-    let env = Env::of_process(&(Named { unset, empty }, rt.alloc()))?;
+    let named = Named {
+        unset,
+        empty,
+        is_removed: false,
+    };
+    let env = Env::of_process(&(named, rt.alloc()))?;
     Ok(format!(in rt.alloc(); "{env:?}")?)
+}
+
+#[test]
+fn a_working_directory_that_is_unknown_is_none(rt: HostRuntime) -> Result<(), Fail> {
+    let named = Named {
+        unset: NONE,
+        empty: NONE,
+        is_removed: true,
+    };
+    let env = Env::of_process(&(named, rt.alloc()))?;
+    assert!(rt; env.current_dir.is_none());
+    assert!(rt; env.home.is_some());
+    Ok(())
 }
 
 #[test]

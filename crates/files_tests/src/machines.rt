@@ -79,13 +79,16 @@ impl Fake {
     }
 
     /// An entry, or an interruption in its place; an empty name stands for one that isn't UTF-8,
-    /// and `lost` for an entry that is gone when its kind is asked.
+    /// `broken` for one that can't be had, and `lost` for one that is gone when its kind is asked.
     fn entry(&self) -> io::Result<Entry> {
         if self.is_interrupted() {
             return Err(io::Error::from(io::ErrorKind::Interrupted));
         }
         if self.name.is_empty() {
             return Err(io::Error::from(io::ErrorKind::InvalidFilename));
+        }
+        if self.name == "broken" {
+            return Err(io::Error::from(io::ErrorKind::PermissionDenied));
         }
         Ok(Entry {
             name: self.name,
@@ -253,7 +256,12 @@ fn each_refused_question_ends_its_call_alone(rt: HostRuntime) -> Result<(), Fail
 
 /// What a directory with this name in it is listed as.
 fn listed(rt: &HostRuntime, name: &'static str) -> Result<String, Fail> {
-    let machine = Fake::new(rt.alloc(), directory(), 1, name);
+    listed_times(rt, name, 1)
+}
+
+/// The same of a directory that has the name so often.
+fn listed_times(rt: &HostRuntime, name: &'static str, count: u32) -> Result<String, Fail> {
+    let machine = Fake::new(rt.alloc(), directory(), count, name);
     let listing = DiskFiles::new(&machine).list(rt.alloc(), "path")?;
     Ok(format!(in rt.alloc(); "{:?}", listing.as_slice())?)
 }
@@ -262,6 +270,17 @@ fn listed(rt: &HostRuntime, name: &'static str) -> Result<String, Fail> {
 fn an_entry_that_is_lost_before_its_kind_is_a_fault(rt: HostRuntime) -> Result<(), Fail> {
     let text = listed(&rt, "lost")?;
     assert_eq!(rt; text.as_str(), "[Fault(NotFound)]");
+    Ok(())
+}
+
+/// Such a listing ends: what can't be had isn't asked for again.
+#[test]
+fn entries_that_cannot_be_had_are_faults_in_their_places(rt: HostRuntime) -> Result<(), Fail> {
+    let text = listed_times(&rt, "broken", 2)?;
+    assert_eq!(rt;
+        text.as_str(),
+        "[Fault(PermissionDenied), Fault(PermissionDenied)]"
+    );
     Ok(())
 }
 
