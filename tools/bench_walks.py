@@ -1,0 +1,118 @@
+"""Measurements of walks by the proved program `igwalk`, for `tools/bench`: what further roots below
+one file of rules cost, and what a walk costs beside ripgrep, in time and in system calls.
+"""
+import os
+import re
+import shutil
+import statistics
+import subprocess
+import sys
+import tempfile
+import time
+
+TOP = os.path.dirname(os.path.dirname(os.path.abspath(__file__)))
+# A proved program, as the gate or `tools/launch --prove igwalk` leaves it, or another to compare.
+IGWALK = os.environ.get("IGWALK") or f"{TOP}/crates/igwalk/out/igwalk"
+ROUNDS = 9
+# The system calls that are counted beside all.
+CALLS = ("statx", "newfstatat", "getdents64", "openat", "read")
+
+
+def wanted(*programs):
+    """Ends where a program isn't there."""
+    for it in programs:
+        if not (os.access(it, os.X_OK) or shutil.which(it)):
+            sys.exit(f"bench: there is no {it}")
+
+
+def timed(words, cwd):
+    """The wall seconds, the processor seconds and the peak memory in bytes of a program."""
+    start = time.perf_counter()
+    with open(os.devnull, "wb") as out:
+        process = subprocess.Popen(words, cwd=cwd, stdout=out, stderr=out)
+        _, status, used = os.wait4(process.pid, 0)
+    process.returncode = os.waitstatus_to_exitcode(status)
+    return time.perf_counter() - start, used.ru_utime + used.ru_stime, used.ru_maxrss * 1024
+
+
+# Roots below one file of rules
+
+
+def allocations(words, cwd, folder):
+    """How many allocations a program makes."""
+    env = {**os.environ, "COUNT": f"{folder}/count", "LD_PRELOAD": f"{folder}/count.so"}
+    with open(os.devnull, "wb") as out:
+        subprocess.run(words, cwd=cwd, stdout=out, stderr=out, env=env, check=True)
+    with open(f"{folder}/count", encoding="ascii") as it:
+        return int(it.read())
+
+
+def lay_out_roots(folder, lines, most):
+    """A repository with so many lines of rules, and folders with a file each below it."""
+    os.makedirs(f"{folder}/.git")
+    with open(f"{folder}/.gitignore", "w", encoding="utf-8") as it:
+        it.write("".join(f"name_{number}.c\n" for number in range(lines)))
+    for number in range(most):
+        os.mkdir(f"{folder}/r{number}")
+        with open(f"{folder}/r{number}/a", "w", encoding="utf-8"):
+            pass
+
+
+def roots():
+    compiler = os.environ.get("CC") or "cc"
+    wanted(IGWALK, compiler)
+    print("igwalk list r0 r1 .., below one .gitignore\n")
+    print(f"{'lines':>6} {'roots':>6} {'allocations':>12} {'a further root':>15} {'ms':>8} {'to one':>7}")
+    further = {}
+    with tempfile.TemporaryDirectory() as folder:
+        flags = ["-O2", "-shared", "-fPIC", "-o", f"{folder}/count.so"]
+        subprocess.run([compiler, *flags, f"{TOP}/tools/refuse.c", "-ldl"], check=True)
+        for lines in (0, 1_000):
+            place = f"{folder}/{lines}"
+            lay_out_roots(place, lines, 40)
+            first = time_of_one = None
+            for count in (1, 10, 40):
+                words = [IGWALK, "list", *(f"r{number}" for number in range(count))]
+                made = allocations(words, place, folder)
+                seconds = statistics.median(timed(words, place)[0] for _ in range(ROUNDS))
+                first, time_of_one = first or made, time_of_one or seconds
+                more = (made - first) / (count - 1) if count > 1 else 0
+                further[lines] = more
+                print(f"{lines:6} {count:6} {made:12} {more:15.0f} {seconds * 1000:8.2f} {seconds / time_of_one:7.2f}")
+    print(f"a further root costs {further[1_000] - further[0]:.0f} allocations more below 1,000 lines than below none")
+
+
+# A walk beside ripgrep
+
+
+def calls_of(words, cwd):
+    """How many system calls of each name a program makes."""
+    ran = subprocess.run(["strace", "-f", "-c", "-o", "/dev/stdout", *words], cwd=cwd, stdout=subprocess.PIPE,
+                         stderr=subprocess.DEVNULL, text=True, errors="replace")
+    found = re.findall(r"^\s*[\d.]+\s+[\d.]+\s+\d+\s+(\d+)\s+(?:\d+\s+)?(\w+)$", ran.stdout, re.M)
+    return {name: int(count) for count, name in found if name != "total"}
+
+
+def walks(tree):
+    wanted(IGWALK, "rg", "strace")
+    ways = {
+        "igwalk list": [IGWALK, "list", "."],
+        "rg --files -j1 --sort path": ["rg", "--files", "-j1", "--sort", "path", "."],
+        "rg --files -j1": ["rg", "--files", "-j1", "."],
+    }
+    found = {name: [] for name in ways}
+    for _ in range(ROUNDS):
+        for name, words in ways.items():
+            found[name].append(timed(words, tree))
+    listed = subprocess.run(ways["igwalk list"], cwd=tree, stdout=subprocess.PIPE, stderr=subprocess.DEVNULL)
+    count = listed.stdout.count(b"\n")
+    print(f"{tree}: {count} entries are listed\n")
+    print(f"{'':28} {'ms':>8} {'processor':>10} {'MB':>7} {'to rg':>6} {' '.join(f'{it:>11}' for it in CALLS)} {'all calls':>10}")
+    base = statistics.median(it[0] for it in found["rg --files -j1 --sort path"])
+    for name, ones in found.items():
+        wall, used, memory = (statistics.median(it[at] for it in ones) for at in range(3))
+        calls = calls_of(ways[name], tree)
+        shown = " ".join(f"{calls.get(it, 0):11}" for it in CALLS)
+        print(f"{name:28} {wall * 1000:8.1f} {used * 1000:10.1f} {memory / 1e6:7.1f} {wall / base:6.2f} {shown} {sum(calls.values()):10}")
+        if name == "igwalk list":
+            print(f"{'':28} {calls.get('statx', 0) / max(count, 1):.3f} statx for each listed entry")
