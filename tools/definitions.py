@@ -1,0 +1,130 @@
+"""The definitions in `specs/` with the comments above them, and which of them a clause rests on.
+
+`tools/statements` writes a page of them.
+"""
+import functools
+import os
+import re
+
+from edits import read
+
+NAMES = re.compile(r"(?:^|\s)pub (?:record |data )?(?!use\b|mod\b|record\b|data\b)([^\s:(]+)")
+IMPORT = re.compile(r"use Rattle\.(\w+)\.specs\.([\w.]+?)\.\{([^}]*)\}")
+WORD = re.compile(r"[^\s(){}\[\],;.]+")
+
+
+class Definition:
+    """A definition, or several that name each other: where it stands, its names, the comment above
+    it, and its text."""
+
+    def __init__(self, place, names, comment, text):
+        self.place, self.names, self.comment, self.text = place, names, comment, text
+
+    def heads(self):
+        """Its names without those of the fields of a record."""
+        return self.names[:1] if "pub record " in self.text.split("\n")[0] else self.names
+
+    def words(self):
+        """The words of its text that may be names of other definitions."""
+        return set(WORD.findall(self.text))
+
+
+class File:
+    """A file of definitions: what its first comment says, what it defines, and what it imports."""
+
+    def __init__(self, crates, place):
+        self.place = place
+        self.lines = read(f"{crates[place[0]].folder}/{place[1]}").split("\n")
+        self.head, self.definitions = self.parts()
+        self.imports = imports(crates, "\n".join(self.lines))
+        self.own = {name: it for it in self.definitions for name in it.names}
+
+    def parts(self):
+        """The first comment, and the definitions in their order."""
+        said, item, head, found = [], [], None, []
+
+        def end():
+            nonlocal said, item
+            names = [it for line in item for it in NAMES.findall(line)]
+            if names:
+                # (of several that name each other the comments stand inside)
+                inner = [it.strip()[2:].strip() for it in item if it.startswith("  --")]
+                found.append(Definition(self.place, names, plain(said or inner), "\n".join(item)))
+            said, item = [], []
+
+        for at, line in enumerate(self.lines):
+            if line.startswith("--"):
+                if item:
+                    end()
+                said.append(line[2:].strip())
+            elif line.startswith(("use ", "pub use ", "pub mod ")) or not line and not item:
+                head = plain(said) if head is None else head
+                said = []
+            elif line and not line[0].isspace() and item and NAMES.match(line):
+                end()
+                item = [line]
+            elif line or any(it.startswith(" ") for it in self.lines[at + 1 : at + 2]):
+                head = "" if head is None else head
+                item.append(line)
+            elif item:
+                end()
+        end()
+        return head or "", found
+
+
+def plain(said):
+    """A comment as one line, without a list of the characters whose numbers stand in it."""
+    return " ".join(it for it in said if it and not re.match(r"\d+ ", it)).strip()
+
+
+def imports(crates, text):
+    """For each name that a text imports of a file of definitions, that file and its name there."""
+    found = {}
+    for crate, path, names in IMPORT.findall(text):
+        place = place_of(crates, crate, path)
+        for it in names.split(",") if place else []:
+            name, _, other = it.strip().partition(" as ")
+            found[other or name] = place, name
+    return found
+
+
+def place_of(crates, crate, path):
+    """The file of definitions of a module, as crate and path, if the crate is of the repository."""
+    if crate not in crates or path.startswith("declared."):
+        return None
+    name = f"specs/{path.replace('.', '/')}.antt"
+    return (crate, name) if os.path.isfile(f"{crates[crate].folder}/{name}") else None
+
+
+class Library:
+    """All files of definitions, read as they are needed."""
+
+    def __init__(self, crates):
+        self.crates = crates
+        self.file = functools.cache(lambda place: File(crates, place))
+
+    def find(self, place, name):
+        """The definition of a name in a file, or where the file has it from."""
+        file = self.file(place)
+        if name in file.own:
+            return file.own[name]
+        if name in file.imports and file.imports[name][0] != place:
+            return self.find(*file.imports[name])
+        return None
+
+    def resting_on(self, text, words):
+        """The definitions that these words rest on, which a text imports."""
+        imported, found, begun = imports(self.crates, text), [], set()
+
+        def visit(one):
+            if one is None or id(one) in begun:
+                return
+            begun.add(id(one))
+            for word in one.words():
+                visit(self.find(one.place, word))
+            found.append(one)
+
+        for word in sorted(words):
+            if word in imported:
+                visit(self.find(*imported[word]))
+        return found
