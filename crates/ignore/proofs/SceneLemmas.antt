@@ -1,5 +1,5 @@
 -- Closures that answer by functions, and what a scene asks of them.
-use Rattle.std.proofs.Common.{◌≡◌, Bool, true, Option, None, Some, MatchOption}
+use Rattle.std.proofs.Common.{◌≡◌, Bool, true, Option, None, Some, MatchOption, subst}
 use Rattle.std.specs.declared.cmp.Ordering.{Ordering}
 use Rattle.std.specs.declared.cmp.Ordering.TheVariants.{Equal}
 use denote.Bor.{Bor}
@@ -22,3 +22,8 @@ pub compares_by : {X : Type 0} (sorter : Option X) (gives : X → Bor Path → B
     (λ x. (a b : Bor Path) (order : Ordering) → gives x a b order → order ≡ cmp a.now b.now) → Compares sorter gives cmp
 compares_by None gives cmp h = h
 compares_by (Some x) gives cmp h = h
+
+-- what holds of a value that is there
+pub when_some : {X : Type 0} (A : Type 0) (B : X → Type 0) (o : Option X) (x : X) → o ≡ Some x → MatchOption o A B → B x
+when_some A B None x is m = absurd (cc (is))
+when_some A B (Some y) x is m = let e : y ≡ x = cc (is) in subst B e m
