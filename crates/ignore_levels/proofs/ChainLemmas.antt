@@ -1,5 +1,5 @@
 -- The chain of a place: it is one, it stays, and it leads to the nearest level with rules and with a mark.
-use Rattle.std.proofs.Common.{◌≡◌, ℕ, ◌<◌, Bool, true, false, cond, ◌||◌, List, [], ◌∷◌, Option, None, Some, is_some, slice_get, refl, sym, ap, ◌∙◌, subst}
+use Rattle.std.proofs.Common.{◌≡◌, ℕ, Bool, true, false, cond, ◌||◌, List, [], ◌∷◌, Option, Some, is_some, refl, sym, ap, ◌∙◌, subst}
 use Rattle.ignore_base.specs.Text.{Path}
 use Rattle.ignore_dir.specs.Lists.{Placed, asked_in}
 use Rattle.ignore_dir.specs.Ranks.{has_mark}

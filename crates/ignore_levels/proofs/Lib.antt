@@ -5,4 +5,6 @@ pub mod FloorLemmas
 pub mod RankLemmas
 pub mod RestLemmas
 pub mod ReasonLemmas
+pub mod PassLemmas
+pub mod RisingLemmas
 pub mod WorkedLevels

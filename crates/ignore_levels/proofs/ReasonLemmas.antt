@@ -11,13 +11,12 @@ use Rattle.ignore_rules.specs.Overrides.{override_answer}
 use Rattle.ignore_rules.specs.Rules.{Rule}
 use Rattle.ignore_dir.specs.declared.outside.Outside.{Outside}
 use Rattle.ignore_dir.specs.declared.settings.Settings.{Settings}
-use Rattle.ignore_dir.specs.declared.verdict.Verdict.{Verdict}
-use Rattle.ignore_dir.specs.Lists.{Asked, Placed, asked_in}
+use Rattle.ignore_dir.specs.Lists.{Placed, asked_in}
 use Rattle.ignore_dir.specs.Ranks.{ranks_answer}
-use Rattle.ignore_dir.specs.Verdict.{is_dotted, or_else, placed_verdict, verdict, verdict_of, without_override}
+use Rattle.ignore_dir.specs.Verdict.{is_dotted, or_else, placed_verdict, verdict_of, without_override}
 use Rattle.ignore_levels.specs.declared.ranks.Ruling.{Ruling}
 use Rattle.ignore_levels.specs.declared.reason.Reason.{Reason}
-use Rattle.ignore_levels.specs.Reasons.{Why, file_why, placed_why, rule_of, why, why_of}
+use Rattle.ignore_levels.specs.Reasons.{Why, file_why, placed_why, rule_of, why_of}
 use Rattle.ignore_levels.specs.Reasons.Why.{by_override, by_rule, by_type, by_name}
 
 -- an override decides

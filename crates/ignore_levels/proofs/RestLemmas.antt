@@ -1,5 +1,5 @@
 -- What is left of a chain while its levels with rules are asked, the nearest first.
-use Rattle.std.proofs.Common.{◌≡◌, ℕ, suc, ◌+◌, ◌<◌, ◌≤◌, ◌-◌, Bool, true, false, cond, All, List, [], ◌∷◌, Option, None, Some, nat_lt, length, drop, get_or, refl, sym, ap, ◌∙◌, subst, arith}
+use Rattle.std.proofs.Common.{◌≡◌, ℕ, suc, ◌+◌, ◌<◌, ◌≤◌, ◌-◌, Bool, true, false, cond, All, List, [], ◌∷◌, Option, None, Some, length, drop, get_or, refl, sym, ap, ◌∙◌, subst, arith}
 use Rattle.std.proofs.lemmas.Bool.{lt-ltb, le-ltb}
 use Rattle.std.specs.Str.{IsCharBoundary, IsUtf8}
 use Rattle.std.proofs.lemmas.Str.{IsCharBoundary-after_ascii}
@@ -9,7 +9,7 @@ use Rattle.ignore_base.specs.declared.match_result.Match.{Match}
 use Rattle.ignore_base.specs.declared.match_result.Match.TheVariants as m
 use Rattle.ignore_rules.specs.Rules.{Rule}
 use Rattle.ignore_dir.specs.declared.dir.Rank.{Rank}
-use Rattle.ignore_dir.specs.Lists.{Asked, IsAfterSlash, Placed, asked_in}
+use Rattle.ignore_dir.specs.Lists.{IsAfterSlash, Placed, asked_in}
 use Rattle.ignore_dir.specs.Ranks.{dir_answer, nearest}
 use Rattle.ignore_levels.specs.declared.list.Level.{Level}
 use Rattle.ignore_levels.specs.declared.list.Place.{Place}

@@ -1,11 +1,16 @@
 -- A growing list of directories, and the chain that a place stands for.
-use Rattle.std.specs.Prelude.{◌≡◌, ℕ, ◌<◌, ◌≤◌, ◌==◌, Bool, not, ◌||◌, List, [], ◌∷◌, filter, Option, None, Some, length, slice_get, if◌then◌else◌}
+use Rattle.std.specs.Prelude.{◌≡◌, ℕ, ◌<◌, ◌≤◌, ◌==◌, Bool, not, ◌||◌, List, [], ◌∷◌, filter, Option, None, Some, length, slice_get, if◌then◌else◌, ◌⊎◌}
 use Rattle.ignore_dir.specs.declared.dir.Dir.{Dir}
 use Rattle.ignore_dir.specs.Lists.{Placed}
 use Rattle.ignore_levels.specs.declared.list.Level.{Level}
+use Rattle.ignore_levels.specs.declared.list.Levels.{Levels}
 use Rattle.ignore_levels.specs.declared.list.Place.{Place}
 use Rattle.ignore_levels.specs.declared.list.Slot.{Slot}
 use Rattle.ignore_levels.specs.declared.list.Slot.TheVariants.{Used, Free}
+
+-- the slots of a list
+abbrev pub slots_of : Levels → List Slot
+slots_of levels = levels.slots.items
 
 -- a directory has rules
 abbrev pub has_rules : Dir → Bool
@@ -95,6 +100,11 @@ abbrev pub from_first : (Dir → Bool) → List Placed → List Placed
 from_first test [] = []
 from_first test (p ∷ chain) = if test p.0 then p ∷ chain else from_first test chain
 
+-- each offset is greater than the one before it, and the first than this one
+abbrev pub IsRising : ℕ → List Placed → Type 0
+IsRising floor [] = Unit {0}
+IsRising floor (p ∷ chain) = (floor < p.1) × IsRising p.1 chain
+
 -- each level stays at its place
 abbrev pub Keeps : List Slot → List Slot → Type 0
 Keeps old new = (place : Place) (level : Level) → level_at old place ≡ Some level → level_at new place ≡ Some level
@@ -113,3 +123,8 @@ pub data Passes (slots : List Slot) : Option Place → Place → Type 0 where
   itself : {place : Place} → Passes slots (Some place) place
   above : {place passed : Place} {level : Level} → level_at slots place ≡ Some level → Passes slots level.parent passed
       → Passes slots (Some place) passed
+
+-- in the second list the chain of a place passes what that of its parent passes, and else levels
+-- that the first list doesn't have
+abbrev pub IsBranch : List Slot → List Slot → Option Place → Option Place → Type 0
+IsBranch old new parent place = (passed : Place) → Passes new place passed → (level_at old passed ≡ None) ⊎ Passes new parent passed

@@ -5,7 +5,8 @@ pub mod laws;
 mod list;
 mod ranks;
 mod reason;
+mod rising;
 
 pub use list::{Level, Levels, Place, Slot};
 pub use ranks::{Origin, Ruling};
-pub use reason::{Reason, judge};
+pub use reason::{Reason, judge, verdict};

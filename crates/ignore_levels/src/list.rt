@@ -6,7 +6,8 @@
 ghost use Rattle.std.specs.Prelude.{◌≡◌, ◌≤◌, ◌+◌, [], List, ℕ, length, take, slice_get, IfOk, IsOk, IsTrue, OnOk, Option};
 ghost use Rattle.std.specs.Option.{option_copied};
 ghost use Rattle.ignore_dir.specs.Lists.{Placed};
-ghost use Rattle.ignore_levels.specs.Levels.{IsBelow, IsChain, IsVacant, Keeps, Passes, counted, counts, floor_at, has_rules, level_at, mark_at, next_of, own_or, ruled_at};
+ghost use Rattle.ignore_levels.specs.Levels.{IsBelow, IsBranch, IsChain, IsVacant, Keeps, Passes, counted, counts, floor_at};
+ghost use Rattle.ignore_levels.specs.Levels.{has_rules, level_at, mark_at, next_of, own_or, ruled_at, slots_of};
 ghost use Rattle.ignore_levels.specs.declared.list.Level.{Level};
 ghost use Rattle.ignore_levels.specs.declared.list.Slot.TheVariants.{Free};
 
@@ -20,7 +21,7 @@ pub struct Place {
 }
 
 /// A directory that has rules or a repository's mark.
-#[derive(Drop)]
+#[derive(Debug, Drop)]
 pub struct Level {
     /// What it holds for the rules.
     pub dir: Dir,
@@ -36,7 +37,7 @@ pub struct Level {
 }
 
 /// What stands at a place.
-#[derive(Drop)]
+#[derive(Debug, Drop)]
 pub enum Slot {
     /// A level.
     Used(Level),
@@ -45,7 +46,7 @@ pub enum Slot {
 }
 
 /// A list of directories.
-#[derive(Drop)]
+#[derive(Debug, Drop)]
 pub struct Levels {
     slots: Vec<Slot>,
     free: Option<Place>,
@@ -135,7 +136,7 @@ impl Levels {
     }
 
     /// The offset of the level at a place, and 0 where there is none.
-    pub(crate) fn floor(&self, place: Option<Place>) -> usize
+    pub fn floor(&self, place: Option<Place>) -> usize
         ensures { result ≡ floor_at self.now.slots.items place }
     {
         match place {
@@ -197,6 +198,8 @@ impl Levels {
             → IfOk result (λ place. IsChain self.new.slots.items place (counted dir offset chain)) }
         ensures kept { (place : Option Place) (chain : List Placed) → IsChain self.old.slots.items place chain
             → IsChain self.new.slots.items place chain }
+        ensures levels { Keeps (slots_of self.old) (slots_of self.new) }
+        ensures below { IfOk result (λ place. IsBranch (slots_of self.old) (slots_of self.new) parent place) }
         ensures kept_within { (len : ℕ) (place : Option Place) (chain : List Placed) → IsChain (take len self.old.slots.items) place chain
             → IsChain (take len self.new.slots.items) place chain }
         ensures grown { length self.new.slots.items ≤ length self.old.slots.items + 1 }
@@ -233,6 +236,7 @@ impl Levels {
     /// stand for a chain through it: one that does stands for none from then on.
     pub fn free(&mut self, place: Place)
         ensures freed { level_at self.new.slots.items place ≡ None }
+        ensures levels { Keeps (slots_of self.new) (slots_of self.old) }
         ensures kept { (other : Option Place) (chain : List Placed) → IsChain self.old.slots.items other chain
             → (Passes self.old.slots.items other place → ⊥) → IsChain self.new.slots.items other chain }
         ensures len { length self.new.slots.items ≡ length self.old.slots.items }

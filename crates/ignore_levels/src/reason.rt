@@ -13,6 +13,7 @@ use crate::list::{Levels, Place};
 use crate::ranks::{Ruling, ranks_answer};
 use ignore_base::text::{is_hidden, trim_root};
 use ignore_base::{Error, Match};
+use ignore_dir::verdict::Verdict;
 use ignore_dir::{Asked, Outside, Settings};
 use ignore_rules::overrides;
 use ignore_types::types;
@@ -133,4 +134,33 @@ pub fn judge<'d>(
         return Ok(by_override(overridden));
     }
     by_file(settings, outside, levels, place, asked)
+}
+
+fn verdict_of(answer: Match<Reason<'_>>) -> Verdict
+    ensures { result ≡ verdict_of answer.entry }
+{
+    match answer {
+        Match::None => Verdict::None,
+        Match::Ignore(_) => Verdict::Ignore,
+        Match::Whitelist(_) => Verdict::Whitelist,
+    }
+}
+
+/// What becomes of a path, by the settings, the rules from outside and the directories at and above
+/// a place.
+///
+/// # Errors
+/// `Error::Memory` alone.
+pub fn verdict(
+    settings: &Settings,
+    outside: &Outside,
+    levels: &Levels,
+    place: Option<Place>,
+    asked: &Asked<'_>,
+) -> Result<Verdict, Error>
+    ensures value { OverChain levels.now.slots.items place asked.now.text.now (λ chain. IfOk result (λ v. v
+        ≡ placed_verdict settings.now outside.now chain asked.now.text.now asked.now.path.now asked.now.is_dir)) }
+    ensures out_of_memory { IfErr result (λ e. problem_of e ≡ memory) }
+{
+    Ok(verdict_of(judge(settings, outside, levels, place, asked)?))
 }

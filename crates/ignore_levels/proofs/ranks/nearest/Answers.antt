@@ -1,7 +1,7 @@
-use Rattle.std.proofs.Common.{◌≡◌, ◌<◌, ◌≤◌, ◌-◌, Option, Some, Bor, length, drop, sym, ap, ◌∙◌, subst, true, false, rules, arith}
+use Rattle.std.proofs.Common.{◌≡◌, ◌-◌, Option, Some, Bor, length, drop, sym, ap, ◌∙◌, subst, true, false, rules}
 use Rattle.std.specs.Option.{option_copied}
 use Rattle.std.specs.Str.{chars}
-use Rattle.ignore_base.specs.Match.{is_none, match_map}
+use Rattle.ignore_base.specs.Match.{is_none}
 use Rattle.ignore_rules.specs.Answer.{list_answer}
 use Rattle.ignore_rules.specs.Rules.{Rule, Ruleset}
 use Rattle.ignore_levels.specs.declared.list.Level.{Level}

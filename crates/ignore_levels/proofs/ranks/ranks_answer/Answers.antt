@@ -1,5 +1,5 @@
-use Rattle.std.proofs.Common.{◌≡◌, Bool, List, sym, ap, ◌∙◌, true, false, rules}
-use Rattle.ignore_base.specs.Match.{is_none, match_map}
+use Rattle.std.proofs.Common.{◌≡◌, List, sym, ap, ◌∙◌, true, false, rules}
+use Rattle.ignore_base.specs.Match.{is_none}
 use Rattle.ignore_base.specs.Paths.{trim_of}
 use Rattle.ignore_rules.specs.Rules.{Ruleset}
 use Rattle.ignore_dir.specs.declared.dir.Rank.TheVariants.{Custom, Ignore}

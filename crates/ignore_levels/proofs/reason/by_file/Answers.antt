@@ -1,4 +1,4 @@
-use Rattle.std.proofs.Common.{◌≡◌, ◌&&◌, Bool, sym, ap, ◌∙◌, true, false, rules}
+use Rattle.std.proofs.Common.{◌≡◌, ◌&&◌, ap, ◌∙◌, true, false, rules}
 use Rattle.ignore_base.specs.Match.{is_ignore, is_none}
 use Rattle.ignore_base.specs.Paths.{file_name_of}
 use Rattle.ignore_types.specs.TypeMatch.{type_answer}

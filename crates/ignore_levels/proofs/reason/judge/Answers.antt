@@ -1,4 +1,4 @@
-use Rattle.std.proofs.Common.{◌≡◌, sym, ap, ◌∙◌, subst, true, false, rules, IfOk}
+use Rattle.std.proofs.Common.{◌≡◌, ap, ◌∙◌, subst, true, false, rules, IfOk}
 use Rattle.ignore_base.specs.Match.{is_none, match_map}
 use Rattle.ignore_base.specs.declared.match_result.Match.{Match}
 use Rattle.ignore_rules.specs.Overrides.{override_answer}

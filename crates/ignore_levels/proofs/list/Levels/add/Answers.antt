@@ -1,10 +1,10 @@
-use Rattle.std.proofs.Common.{◌≡◌, ◌∷◌, Bool, true, false, cond, List, Some, sym, ap, ◌∙◌, subst}
+use Rattle.std.proofs.Common.{◌≡◌, inr, ◌∷◌, Bool, true, false, cond, List, Some, sym, ap, ◌∙◌, subst}
 use Rattle.ignore_dir.specs.Lists.{Placed}
-use Rattle.ignore_levels.specs.declared.list.Place.{Place}
-use Rattle.ignore_levels.specs.Levels.{IsChain, counts, has_rules, mark_at, own_or, ruled_at}
+use Rattle.ignore_levels.specs.Levels.{IsChain, counts, has_rules, own_or}
 use Rattle.ignore_levels.specs.Levels.IsChain.{a_level}
 use Rattle.ignore_levels.proofs.ChainLemmas.{chain-kept, mark-kept, ruled-kept}
 use Rattle.ignore_levels.proofs.SlotLemmas.{keeps-within}
+use Rattle.ignore_levels.proofs.PassLemmas.{branch-new, keeps-itself}
 use Rattle.ignore_levels.proofs.list.Levels.add.Goals as goal
 
 pub returns-then-not-counts-clause-chain : goal.returns-then-not-counts-clause-chain
@@ -43,3 +43,20 @@ returns-clause-chain c = λ chain is below.
     subst (λ (l : List Placed). IsChain new (Some place) l)
     (sym (ap (λ (b : Bool). cond b ((dir, c.args.offset) ∷ chain) chain) yes))
     (a_level (c.in_ok-put.ensures.put vacant) below ruled mark (chain-kept old new keeps is))
+
+pub returns-then-not-counts-clause-levels : goal.returns-then-not-counts-clause-levels
+returns-then-not-counts-clause-levels c = keeps-itself c.args.self.now.slots.items
+
+pub returns-then-not-counts-clause-below : goal.returns-then-not-counts-clause-below
+returns-then-not-counts-clause-below c = λ passed h. inr h
+
+pub returns-in_err-put-clause-levels : goal.returns-in_err-put-clause-levels
+returns-in_err-put-clause-levels c = c.in_err-put.ensures.kept c.vacant-place.ensures.vacant
+
+pub returns-clause-levels : goal.returns-clause-levels
+returns-clause-levels c = c.in_ok-put.ensures.kept c.vacant-place.ensures.vacant
+
+pub returns-clause-below : goal.returns-clause-below
+returns-clause-below c =
+    let vacant = c.vacant-place.ensures.vacant in
+    branch-new c.args.self.now.slots.items c.put.new.self.slots.items c.vacant-place.result _ vacant.0 (c.in_ok-put.ensures.put vacant)
