@@ -13,3 +13,4 @@ pub mod FreshLemmas
 pub mod TurnLemmas
 pub mod TurnsOnly
 pub mod CopiesOnly
+pub mod WorkedKept
