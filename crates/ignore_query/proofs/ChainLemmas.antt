@@ -1,23 +1,24 @@
--- The chain of a path from kept directories, and offsets in its text.
-use Rattle.std.proofs.Common.{◌≡◌, ℕ, suc, zero, ◌+◌, ◌<◌, ◌≤◌, List, [], ◌∷◌, ◌++◌, length, take, get_or, reverse, All, Some}
+-- Names, kept directories, and offsets in the text of a directory.
+use Rattle.std.proofs.Common.{◌≡◌, ℕ, suc, zero, ◌+◌, ◌<◌, ◌≤◌, List, [], ◌∷◌, ◌++◌, length, take, get_or, All}
 use Rattle.std.proofs.Common.{Bool, true, string_bytes, refl, sym, ap, ◌∙◌, subst, append_assoc, add-one, arith}
-use Rattle.std.proofs.lemmas.List.{append-nil, length-append, reverse-append}
-use Rattle.std.specs.Str.{IsCharBoundary, IsUtf8}
+use Rattle.std.proofs.lemmas.List.{append-nil, length-append}
+use Rattle.std.proofs.lemmas.List.Elements.{All-filter, All-weaker}
 use Rattle.ignore_base.specs.Paths.{IsName, JoinsName, directory_of, join_of, joined}
 use Rattle.ignore_dir.specs.declared.dir.Dir.{Dir}
 use Rattle.ignore_dir.specs.Above.{directories_along, dirs_above, names_above, path_along, paths_above}
 use Rattle.ignore_dir.specs.Chains.{placed_along, slashed}
 use Rattle.ignore_dir.specs.Lists.{IsAfterSlash, Placed}
 use Rattle.ignore_dir.specs.Scene.{Scene, dirs_at, names_to, path_verdict}
-use Rattle.ignore_dir.specs.Steps.{Reached, entered, entry, reached_in, verdict_at}
+use Rattle.ignore_dir.specs.Steps.{entry, reached_in, verdict_at}
 use Rattle.ignore_dir.specs.declared.outside.Outside.{Outside}
 use Rattle.ignore_dir.specs.declared.settings.Settings.{Settings}
 use Rattle.ignore_dir.specs.Verdict.{placed_verdict}
-use Rattle.ignore_query.proofs.BoundaryLemmas.{All-reverse, boundaries-after_slashes}
+use Rattle.ignore_levels.specs.Levels.{counting, counts}
+use Rattle.ignore_query.proofs.BoundaryLemmas.{All-reverse}
 use Rattle.ignore_dir.proofs.SlashLemmas.{after_slash-end, after_slash-longer, placed-longer}
 use Rattle.ignore_query.specs.declared.kept.Cache.{Cache}
 use Rattle.ignore_query.specs.declared.kept.Kept.TheVariants.{Loaded}
-use Rattle.ignore_query.specs.Agrees.{Agrees, IsLoaded, kept_at}
+use Rattle.ignore_query.specs.Agrees.{Agrees, IsLoaded}
 
 -- Names.
 
@@ -83,64 +84,6 @@ loaded_take g c names i a clean h =
     let r = take_drop names i in
     loaded_front g c (take i names) r.0 a (subst (All IsName) r.1 clean) (subst (IsLoaded c) r.1 h)
 
--- the directory with these names, in the chain of those below it
-abbrev pub here : Scene → List (List ℕ) → Placed
-here g front = ((g.loads (path_along g.root front)).0, length (reached_in g front).text)
-
-same_placed : (a b : Dir) (m n : ℕ) → a ≡ b → m ≡ n → let x : Placed = (a, m) in let y : Placed = (b, n) in x ≡ y
-same_placed a b m n e f = rw (e, f) refl
-
--- a kept directory at its offset
-pub kept_here : (g : Scene) (c : Cache) (front : List (List ℕ)) (dir : Dir) (base key : List ℕ) → Agrees g c → All IsName front
-    → kept_at c front ≡ Some (Loaded dir)
-    → base ≡ string_bytes c.base → key ≡ slashed front → let at : Placed = (dir, length base + length key) in at ≡ here g front
-kept_here g c front dir base key a names h b k =
-    let above = a.above (a.first front (Loaded dir) h) in
-    let text : base ++ key ≡ (reached_in g front).text =
-    ap (λ t. t ++ key) (b ∙ above.base) ∙ (ap (λ t. (47 ∷ slashed (names_above g.tree g.settings g.root)) ++ t) k
-    ∙ ap (λ t. 47 ∷ t) (sym (slashed-append (names_above g.tree g.settings g.root) front))) in
-    same_placed _ _ _ _ (a.right front (Loaded dir) names h).1 (sym (length-append base key) ∙ ap (λ (t : List ℕ). length t) text)
-
-turned : (chain : List Placed) (x : Placed) → reverse (chain ++ x ∷ []) ≡ x ∷ reverse chain
-turned chain x = reverse-append chain (x ∷ [])
-
--- what is reached at the root, where the directories above it were placed
-abbrev pub RootLaw : Scene → Type 0
-RootLaw g = (dirs : List Placed) (text path : List ℕ)
-    → dirs ≡ placed_along 1 (dirs_above g.loads g.settings (paths_above g.tree g.settings g.root))
-    (names_above g.tree g.settings g.root) ++ ((g.loads g.root).0, length text) ∷ []
-    → text ≡ 47 ∷ slashed (names_above g.tree g.settings g.root) → path ≡ g.root
-    → let at : Reached = record { chain = reverse dirs; text = text; path = path } in
-    at ≡ reached_in g []
-
--- the directories above the root, before the root
-pub chain_start : (g : Scene) (c : Cache) → RootLaw g → Agrees g c → c.has_above ≡ true
-    → here g [] ∷ reverse c.above.items ≡ (reached_in g []).chain
-chain_start g c law a h =
-    let above = a.above h in
-    let text : List ℕ = 47 ∷ slashed (names_above g.tree g.settings g.root) in
-    let root : Placed = ((g.loads g.root).0, length text) in
-    let is = law (c.above.items ++ root ∷ []) text g.root (ap (λ (l : List Placed). l ++ root ∷ []) above.dirs) refl refl in
-    ap (λ n. let x : Placed = ((g.loads g.root).0, n) in x ∷ reverse c.above.items) (ap (λ (r : Reached). length r.text) (sym is))
-    ∙ (sym (turned c.above.items root) ∙ ap (λ (r : Reached). r.chain) is)
-
--- one directory more
-pub chain_next : (g : Scene) (front : List (List ℕ)) (n : List ℕ) (chain after : List Placed)
-    → entered g.loads (entry (reached_in g front) n) ≡ reached_in g (front ++ n ∷ [])
-    → here g front ∷ reverse chain ≡ (reached_in g front).chain → after ≡ chain ++ here g front ∷ []
-    → here g (front ++ n ∷ []) ∷ reverse after ≡ (reached_in g (front ++ n ∷ [])).chain
-chain_next g front n chain after law old put =
-    let before : reverse after ≡ (reached_in g front).chain = ap reverse put ∙ (turned chain (here g front) ∙ old) in
-    ap (λ (l : List Placed). here g (front ++ n ∷ []) ∷ l) before
-    ∙ (ap (λ (r : Reached). let l : List Placed = ((g.loads r.path).0, length r.text) ∷ (reached_in g front).chain in l) (sym law)
-    ∙ ap (λ (r : Reached). r.chain) law)
-
--- the last directory
-pub chain_end : (g : Scene) (front : List (List ℕ)) (chain after : List Placed)
-    → here g front ∷ reverse chain ≡ (reached_in g front).chain → after ≡ chain ++ here g front ∷ []
-    → reverse after ≡ (reached_in g front).chain
-chain_end g front chain after old put = ap reverse put ∙ (turned chain (here g front) ∙ old)
-
 -- Offsets.
 
 All-cons : {A : Type 0} (P : A → Type 0) (x : A) (xs : List A) → P x → All P xs → All P (x ∷ xs)
@@ -179,21 +122,36 @@ reached-after g front =
     All-reverse (λ p. IsAfterSlash (reached_in g front).text p.1) (placed_along 1 dirs (names_to g front))
     (placed-after (47 ∷ []) 1 dirs (names_to g front) refl (after_slash-end []))
 
--- the offsets of a chain are boundaries of the text that it is asked about
-pub links_in : (g : Scene) (front : List (List ℕ)) (name text : List ℕ) (chain : List Placed) → IsUtf8 text
-    → text ≡ (reached_in g front).text ++ name
-    → chain ≡ (reached_in g front).chain → All (λ p. IsCharBoundary text p.1) chain
-links_in g front name text chain u is same =
-    subst (λ (l : List Placed). All (λ p. IsCharBoundary text p.1) l) (sym same)
-    (boundaries-after_slashes text (reached_in g front).chain u
+-- so are those that count, in the text of an entry
+pub counting-after : (g : Scene) (front : List (List ℕ)) (name text : List ℕ) → text ≡ (reached_in g front).text ++ name
+    → All (λ p. IsAfterSlash text p.1) (counting (reached_in g front).chain)
+counting-after g front name text is =
+    All-filter (λ (p : Placed). counts p.0) (λ p. IsAfterSlash text p.1) (reached_in g front).chain
     (subst (λ t. All (λ p. IsAfterSlash t p.1) (reached_in g front).chain) (sym is)
-    (placed-longer (reached_in g front).text name (reached_in g front).chain (reached-after g front))))
+    (placed-longer (reached_in g front).text name (reached_in g front).chain (reached-after g front)))
+
+-- and none is beyond the text
+pub counting-most : (g : Scene) (front : List (List ℕ)) (most : ℕ) → most ≡ length (reached_in g front).text
+    → All (λ p. p.1 ≤ most) (counting (reached_in g front).chain)
+counting-most g front most is =
+    All-filter (λ (p : Placed). counts p.0) (λ p. p.1 ≤ most) (reached_in g front).chain
+    (All-weaker (λ p. IsAfterSlash (reached_in g front).text p.1) (λ p. p.1 ≤ most) (λ p h. subst (λ n. p.1 ≤ n) (sym is) h.1)
+    (reached_in g front).chain (reached-after g front))
+
+-- the text of a directory
+pub text-length : (g : Scene) (c : Cache) (front : List (List ℕ)) → Agrees g c → c.has_above ≡ true
+    → length (string_bytes c.base) + length (slashed front) ≡ length (reached_in g front).text
+text-length g c front a h =
+    let above = a.above h in
+    sym (ap (λ t. length (47 ∷ t)) (slashed-append (names_above g.tree g.settings g.root) front)
+    ∙ (length-append (47 ∷ slashed (names_above g.tree g.settings g.root)) (slashed front)
+    ∙ ap (λ t. length t + length (slashed front)) (sym above.base)))
 
 -- the text of an entry of a directory
-pub text_in : (g : Scene) (c : Cache) (front : List (List ℕ)) (name base path : List ℕ) → Agrees g c → IsLoaded c front
+pub text_in : (g : Scene) (c : Cache) (front : List (List ℕ)) (name base path : List ℕ) → Agrees g c → c.has_above ≡ true
     → base ≡ string_bytes c.base → path ≡ joined (front ++ name ∷ []) → base ++ path ≡ (reached_in g front).text ++ name
 text_in g c front name base path a h b p =
-    let above = a.above (a.first front (Loaded h.0) h.1) in
+    let above = a.above h in
     let root : List ℕ = 47 ∷ slashed (names_above g.tree g.settings g.root) in
     ap (λ t. t ++ path) (b ∙ above.base)
     ∙ (ap (λ t. root ++ t) (p ∙ joined-slashed front name)

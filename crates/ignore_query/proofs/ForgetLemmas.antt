@@ -1,5 +1,5 @@
 -- What is kept after some directories were forgotten, also for another tree.
-use Rattle.std.proofs.Common.{◌≡◌, ◌≢◌, ℕ, ◌<◌, ◌≤◌, Bool, true, false, not, ◌&&◌, ◌||◌, All, List, [], ◌∷◌, ◌++◌, length}
+use Rattle.std.proofs.Common.{◌≡◌, ◌≢◌, ℕ, zero, suc, ◌-◌, ◌<◌, ◌≤◌, take, Bool, true, false, not, ◌&&◌, ◌||◌, All, List, [], ◌∷◌, ◌++◌, length}
 use Rattle.std.proofs.Common.{get_or, cond, filter, reverse, Option, Some, None, refl, sym, ◌∙◌, ap, subst, append_assoc}
 use Rattle.std.proofs.Common.{string_bytes, nat_eq, eqb, eqb-true, eq-eqb, String, Global, arith}
 use Rattle.std.proofs.lemmas.List.{append-nil}
@@ -26,12 +26,20 @@ use Rattle.ignore_query.specs.declared.asked.Asked.{Asked as Shared}
 use Rattle.ignore_query.specs.declared.kept.Cache.{Cache}
 use Rattle.ignore_query.specs.declared.kept.Kept.{Kept}
 use Rattle.ignore_query.specs.declared.kept.Kept.TheVariants.{Ignored, Loaded}
-use Rattle.ignore_query.specs.Agrees.{Agrees, IsLoaded, IsRight, kept_at}
+use Rattle.ignore_dir.specs.Lists.{Placed}
+use Rattle.ignore_dir.specs.Steps.{reached_in}
+use Rattle.ignore_levels.specs.Levels.{IsChain, Keeps, Passes, counting, floor_at, floor_of, slots_of}
+use Rattle.ignore_levels.specs.Levels.Passes.{itself}
+use Rattle.ignore_levels.specs.declared.list.Place.{Place}
+use Rattle.ignore_levels.proofs.PassLemmas.{passed-level, passes-kept}
+use Rattle.ignore_query.specs.Agrees.{Agrees, IsLoaded, IsRight, StandsFor, chain_above}
+use Rattle.ignore_query.specs.Listed.{PassesAt, kept_at, key_down_to}
 use Rattle.ignore_query.specs.Reached.{scene_of}
 use Rattle.ignore_files.specs.Tree.{Tree}
-use Rattle.ignore_query.specs.Forget.{IsSameKept, is_at_or_below, is_key_in, key_of}
-use Rattle.ignore_query.proofs.ChainLemmas.{front_names, loaded_front, path_along-more}
+use Rattle.ignore_query.specs.Forget.{IsOwn, IsSameKept, is_at_or_below, is_key_in, key_of}
+use Rattle.ignore_query.proofs.ChainLemmas.{counting-most, front_names, loaded_front, path_along-more}
 use Rattle.ignore_query.proofs.KeepLemmas.{Ends, SameAbove, Whole, ends, head_whole, last, none, tail_names}
+use Rattle.ignore_query.proofs.ListLemmas.{above-passed}
 
 -- Keys that begin with a key.
 
@@ -192,25 +200,107 @@ stays_false : (a b : Bool) → (a ≡ true → b ≡ true) → b ≡ false → a
 stays_false true b f h = let t : b ≡ true = f refl in absurd (cc)
 stays_false false b f h = refl
 
-pub left_agrees : (g : Scene) (c c' : Cache) (dir : List ℕ) → Agrees g c → SameAbove c c'
-    → ((cs : List ℕ) → get_by_text c'.dirs cs ≡ cond (is_key_in dir cs) None (get_by_text c.dirs cs)) → Agrees g c'
-left_agrees g c c' dir old same look =
-    let before : (q : List (List ℕ)) (k : Kept) → kept_at c' q ≡ Some k → (is_key_in dir (slashed q) ≡ false) × (kept_at c q ≡ Some k) =
-    λ q k h. was (is_key_in dir (slashed q)) (kept_at c q) k (sym (look (slashed q)) ∙ h) in
-    record {
-      above = λ h.
-          let a = old.above (sym same.0 ∙ h) in
-          record { root = a.root; dirs = ap (λ v. v.items) same.1.0 ∙ a.dirs; base = ap (λ t. string_bytes t) same.1.1 ∙ a.base };
-      first = λ q k h. same.0 ∙ old.first q k (before q k h).1;
-      right = λ q k clean h. old.right q k clean (before q k h).1;
-      inside = λ q k clean h front name is.
-          let b = before q k h in
-          let p = old.inside q k clean b.1 front name is in
-          let grown : slashed q ≡ slashed front ++ (name ++ 47 ∷ []) = ap slashed is ∙ slashed-more front name in
-          let kept : is_key_in dir (slashed front) ≡ false = stays_false (is_key_in dir (slashed front)) (is_key_in dir (slashed q))
-          (λ e. ap (is_key_in dir) grown ∙ starts_more (key_of dir) (slashed front) (name ++ 47 ∷ []) e) b.0 in
-          (p.0, look (slashed front) ∙ (ap (λ b. cond b None (kept_at c front)) kept ∙ p.1));
-    }
+starts-take : (m : ℕ) (xs p : List ℕ) → length p ≤ m → starts_with nat_eq (take m xs) p ≡ starts_with nat_eq xs p
+starts-take zero [] [] le = refl
+starts-take zero (x ∷ xs) [] le = refl
+starts-take zero xs (q ∷ ps) le = absurd (omega arith)
+starts-take (suc m) [] p le = refl
+starts-take (suc m) (x ∷ xs) [] le = refl
+starts-take (suc m) (x ∷ xs) (q ∷ ps) le = ap (λ b. nat_eq q x && b) (starts-take m xs ps (omega arith))
+
+-- what was forgotten: the keys below one, and the levels of their directories
+pub record Forgets (c c' : Cache) (dir : List ℕ) : Type 0 where
+  pub same : SameAbove c c'
+  pub look : (cs : List ℕ) → get_by_text c'.dirs cs ≡ cond (is_key_in dir cs) None (get_by_text c.dirs cs)
+  pub keeps : Keeps (slots_of c'.levels) (slots_of c.levels)
+  pub chains : (place : Option Place) (chain : List Placed) → IsChain (slots_of c.levels) place chain
+      → ((key : List ℕ) (at : Place) → is_key_in dir key ≡ true → IsOwn c dir key at → ¬ Passes (slots_of c.levels) place at)
+      → IsChain (slots_of c'.levels) place chain
+
+module _ (g : Scene) (c c' : Cache) (dir : List ℕ) (old : Agrees g c) (f : Forgets c c' dir) where
+  before : (q : List (List ℕ)) (k : Kept) → kept_at c' q ≡ Some k → (is_key_in dir (slashed q) ≡ false) × (kept_at c q ≡ Some k)
+  before q k h = was (is_key_in dir (slashed q)) (kept_at c q) k (sym (f.look (slashed q)) ∙ h)
+
+  -- the chain of a directory that is left passes no level of a forgotten one
+  apart : (q : List (List ℕ)) (place : Option Place) → All IsName q → is_key_in dir (slashed q) ≡ false → kept_at c q ≡ Some (Loaded place)
+      → (key : List ℕ) (at : Place) → is_key_in dir key ≡ true → IsOwn c dir key at → ¬ Passes (slots_of c.levels) place at
+  apart q place clean out kept key at in' own passes =
+      let named = old.listed.keys key own.0 own.1 in
+      let b = named.0 in
+      let there : PassesAt c b at = (
+        Some at,
+        ap (λ t. get_by_text c.dirs t) (sym named.2) ∙ (own.1 ∙ ap Some own.2.0),
+        itself,
+      ) in
+      let same = old.listed.shared q b at clean named.1 (place, kept, passes) there in
+      let m = floor_at (slots_of c.levels) (Some at) - length (string_bytes c.base) in
+      let le : length (key_of dir) ≤ m = omega (arith, own.2.1) in
+      let one : is_key_in dir (slashed q) ≡ true =
+      sym (starts-take m (slashed q) (key_of dir) le)
+      ∙ (ap (λ t. starts_with nat_eq t (key_of dir)) same
+      ∙ (starts-take m (slashed b) (key_of dir) le ∙ (ap (is_key_in dir) (sym named.2) ∙ in'))) in
+      cc
+
+  -- nor does the chain above the root
+  apart_above : c.has_above ≡ true → (key : List ℕ) (at : Place) → is_key_in dir key ≡ true → IsOwn c dir key at
+      → ¬ Passes (slots_of c.levels) c.above at
+  apart_above h key at in' own passes =
+      let l = above-passed g c at old h passes in
+      let base : length (string_bytes c.base) ≡ suc (length (slashed (names_above g.tree g.settings g.root))) =
+      ap (λ (t : List ℕ). length t) (old.above h).base in
+      omega (arith, l.within, base, own.2.1)
+
+  stands : (q : List (List ℕ)) (k : Kept) → All IsName q → is_key_in dir (slashed q) ≡ false → kept_at c q ≡ Some k → IsRight g c q k
+      → IsRight g c' q k
+  stands q Ignored clean out kept r = r
+  stands q (Loaded place) clean out kept r = (r.0, f.chains place _ r.1 (apart q place clean out kept))
+
+  -- a level that is passed was passed before, at its offset
+  passed_before : (q : List (List ℕ)) (at : Place) → All IsName q → PassesAt c' q at
+      → PassesAt c q at × (floor_at (slots_of c'.levels) (Some at) ≡ floor_at (slots_of c.levels) (Some at))
+  passed_before q at clean p =
+      let b = before q (Loaded p.0) p.1 in
+      let r = stands q (Loaded p.0) clean b.0 b.1 (old.right q (Loaded p.0) clean b.1) in
+      let has = old.first q (Loaded p.0) b.1 in
+      let l = passed-level (slots_of c'.levels) p.0 (counting (reached_in g q).chain) at (length (reached_in g q).text) r.1
+      (counting-most g q (length (reached_in g q).text) refl) p.2 in
+      ((p.0, b.1, passes-kept f.keeps p.2), ap floor_of (l.is ∙ sym (f.keeps at l.level l.is)))
+
+  shared_still : (a b : List (List ℕ)) (at : Place) → All IsName a → All IsName b → PassesAt c' a at → PassesAt c' b at
+      → key_down_to c' at (slashed a) ≡ key_down_to c' at (slashed b)
+  shared_still a b at ca cb p q =
+      let pa = passed_before a at ca p in
+      let pb = passed_before b at cb q in
+      let down : (key : List ℕ) → key_down_to c' at key ≡ key_down_to c at key =
+      λ key. ap (λ n. take (n - length (string_bytes c'.base)) key) pa.1
+      ∙ ap (λ t. take (floor_at (slots_of c.levels) (Some at) - length (string_bytes t)) key) f.same.1.1 in
+      down (slashed a) ∙ (old.listed.shared a b at ca cb pa.0 pb.0 ∙ sym (down (slashed b)))
+
+  pub left_agrees : Agrees g c'
+  left_agrees = record {
+    above = λ h.
+        let has = sym f.same.0 ∙ h in
+        let a = old.above has in
+        record {
+          root = a.root;
+          chain = subst (λ p. StandsFor c' p (chain_above g)) (sym f.same.1.0) (f.chains c.above _ a.chain (apart_above has));
+          base = ap (λ t. string_bytes t) f.same.1.1 ∙ a.base;
+        };
+    first = λ q k h. f.same.0 ∙ old.first q k (before q k h).1;
+    right = λ q k clean h.
+        let b = before q k h in stands q k clean b.0 b.1 (old.right q k clean b.1);
+    inside = λ q k clean h front name is.
+        let b = before q k h in
+        let p = old.inside q k clean b.1 front name is in
+        let grown : slashed q ≡ slashed front ++ (name ++ 47 ∷ []) = ap slashed is ∙ slashed-more front name in
+        let kept : is_key_in dir (slashed front) ≡ false = stays_false (is_key_in dir (slashed front)) (is_key_in dir (slashed q))
+        (λ e. ap (is_key_in dir) grown ∙ starts_more (key_of dir) (slashed front) (name ++ 47 ∷ []) e) b.0 in
+        (p.0, f.look (slashed front) ∙ (ap (λ b. cond b None (kept_at c front)) kept ∙ p.1));
+    listed = record {
+      keys = λ key k h. old.listed.keys key k (was (is_key_in dir key) (get_by_text c.dirs key) k (sym (f.look key) ∙ h)).1;
+      shared = shared_still;
+    };
+  }
 
 -- Another tree.
 
@@ -288,11 +378,29 @@ same_ignored a before after loads later c old same names k clean kept (last fron
     ∙ (ap is_ignore (same_verdict a before after loads later (front ++ n ∷ []) true dirs names')
     ∙ (sym (ignored_is g front n) ∙ ap (is_ignored g) (sym e))))
 
-right_later : (g h : Scene) (names : List (List ℕ)) (k : Kept) → is_ignored h names ≡ is_ignored g names
-    → ((dir : Dir) → k ≡ Loaded dir → (h.loads (path_along h.root names)).0 ≡ (g.loads (path_along g.root names)).0)
-    → IsRight g names k → IsRight h names k
-right_later g h names Ignored e f r = e ∙ r
-right_later g h names (Loaded dir) e f r = (e ∙ r.0, r.1 ∙ sym (f dir refl))
+right_later : (g h : Scene) (c : Cache) (names : List (List ℕ)) (k : Kept) → is_ignored h names ≡ is_ignored g names
+    → ((place : Option Place) → k ≡ Loaded place → (reached_in h names).chain ≡ (reached_in g names).chain)
+    → IsRight g c names k → IsRight h c names k
+right_later g h c names Ignored e f r = e ∙ r
+right_later g h c names (Loaded place) e f r = (e ∙ r.0, subst (StandsFor c place) (sym (f place refl)) r.1)
+
+-- the chain of a kept directory is the same
+same_chain : (a : Shared) (before after : Tree) (loads later : List ℕ → Load) (c : Cache) → Agrees (scene_of a before loads) c
+    → IsSameKept (scene_of a before loads) (scene_of a after later) c → (names : List (List ℕ)) (place : Option Place) → All IsName names
+    → kept_at c names ≡ Some (Loaded place)
+    → (reached_in (scene_of a after later) names).chain ≡ (reached_in (scene_of a before loads) names).chain
+same_chain a before after loads later c old same names place clean kept =
+    let g = scene_of a before loads in
+    let h = scene_of a after later in
+    let root = string_bytes a.root in
+    let has = old.first names (Loaded place) kept in
+    let below = same_dirs g h c refl old same [] names clean (place, kept) in
+    let dirs = ap (λ (l : List Dir). l ++ dirs_at later (directories_along root names ++ path_along root names ∷ [])) (same.above has)
+    ∙ ap (λ (l : List Dir). dirs_above loads a.settings (paths_above before a.settings root) ++ l) below in
+    let names' = ap (λ (l : List (List ℕ)). l ++ names) (same_names a before after (same.canonical has)) in
+    ap (λ (l : List Dir). reverse (placed_along 1 l (names_to h names))) dirs
+    ∙ ap (λ (l : List (List ℕ)). reverse (placed_along 1 (dirs_above loads a.settings (paths_above before a.settings root)
+    ++ dirs_at loads (directories_along root names ++ path_along root names ∷ [])) l)) names'
 
 pub later_agrees : (a : Shared) (before after : Tree) (loads later : List ℕ → Load) (c : Cache) → Agrees (scene_of a before loads) c
     → IsSameKept (scene_of a before loads) (scene_of a after later) c → Agrees (scene_of a after later) c
@@ -305,15 +413,16 @@ later_agrees a before after loads later c old same =
           let names = same_names a before after (same.canonical has) in
           record {
             root = same.root has ∙ o.root;
-            dirs = o.dirs
-                ∙ (ap (λ (l : List Dir). placed_along 1 l (names_above before a.settings (string_bytes a.root))) (sym (same.above has))
-                ∙ ap (λ (l : List (List ℕ)). placed_along 1 (dirs_above later a.settings (paths_above after a.settings
-                (string_bytes a.root))) l) (sym names));
+            chain = subst (StandsFor c c.above) (ap (λ (l : List Dir). reverse (placed_along 1 l (names_above before a.settings
+                (string_bytes a.root)))) (sym (same.above has))
+                ∙ ap (λ (l : List (List ℕ)). reverse (placed_along 1 (dirs_above later a.settings (paths_above after a.settings
+                (string_bytes a.root))) l)) (sym names)) o.chain;
             base = o.base ∙ ap (λ (l : List (List ℕ)). 47 ∷ slashed l) (sym names);
           };
       first = old.first;
       right = λ q k clean kept.
-          right_later g h q k (same_ignored a before after loads later c old same q k clean kept (ends q))
-          (λ dir e. same.dirs q dir clean (kept ∙ ap Some e)) (old.right q k clean kept);
+          right_later g h c q k (same_ignored a before after loads later c old same q k clean kept (ends q))
+          (λ place e. same_chain a before after loads later c old same q place clean (kept ∙ ap Some e)) (old.right q k clean kept);
       inside = old.inside;
+      listed = old.listed;
     }

@@ -1,14 +1,14 @@
 -- What is kept, and one directory more.
 use Rattle.std.proofs.Common.{◌≡◌, ◌≢◌, ℕ, suc, Bool, true, false, not, ◌||◌, cond, All, Contains, List, [], ◌∷◌, ◌++◌, length}
-use Rattle.std.proofs.Common.{map, Some, None, is_some, refl, sym, ◌∙◌, ap, subst, append_assoc, ◌⊎◌, inl, inr, arith}
-use Rattle.std.proofs.Common.{string_bytes, Bor}
+use Rattle.std.proofs.Common.{Option, Some, None, is_some, refl, sym, ◌∙◌, ap, subst, append_assoc, ◌⊎◌, inl, inr, arith}
+use Rattle.std.proofs.Common.{string_bytes, ◌==◌}
+use Rattle.std.proofs.Math.Dec.{eqb-suc-zero}
 use Rattle.std.specs.BTreeMap.{get_by_text}
 use Rattle.std.specs.Map.{update}
 use Rattle.std.specs.Option.{option_to_list}
 use Rattle.std.specs.Str.{bytes_eq}
 use Rattle.std.proofs.lemmas.Slice.Eq.{bytes_eq-Decides}
 use Rattle.ignore_base.specs.Paths.{IsName}
-use Rattle.ignore_dir.specs.declared.dir.Dir.{Dir}
 use Rattle.ignore_dir.specs.Chains.{slashed}
 use Rattle.ignore_dir.specs.Query.{is_ignored}
 use Rattle.ignore_dir.specs.Scene.{Scene, path_verdict}
@@ -17,7 +17,11 @@ use Rattle.ignore_dir.proofs.ChainLemmas.{slashed-more}
 use Rattle.ignore_query.specs.declared.kept.Cache.{Cache}
 use Rattle.ignore_query.specs.declared.kept.Kept.{Kept}
 use Rattle.ignore_query.specs.declared.kept.Kept.TheVariants.{Ignored, Loaded}
-use Rattle.ignore_query.specs.Agrees.{Agrees, IsAbove, IsLoaded, IsNext, IsRight, is_loaded, kept_at}
+use Rattle.ignore_levels.specs.Levels.{Keeps, slots_of}
+use Rattle.ignore_levels.specs.declared.list.Place.{Place}
+use Rattle.ignore_levels.proofs.ChainLemmas.{chain-kept}
+use Rattle.ignore_query.specs.Agrees.{Agrees, IsAbove, IsLoaded, IsNext, IsRight, StandsFor, chain_above, is_loaded}
+use Rattle.ignore_query.specs.Listed.{IsBelow, IsListed, kept_at}
 use Rattle.ignore_query.specs.Reports.{problem_in, problems_at}
 
 -- Names and keys.
@@ -45,10 +49,26 @@ unfolding is_ignored
 ignored_last g [] name = refl
 ignored_last g (x ∷ xs) name = refl
 
-pub root_kept : (g : Scene) (names : List (Bor (List ℕ))) → length names ≡ 0 → false ≡ is_ignored g (map (λ n. n.now) names)
+-- a list isn't empty and has a name
+pub some_named : (names : List (List ℕ)) (key : List ℕ) → key ≡ slashed names → (length key == 0) ≡ false → names ≡ [] → ⊥
+some_named [] [] k h e = cc (h)
+some_named [] (b ∷ bs) k h e = cc (k)
+some_named (n ∷ names) key k h e = cc (e)
+
+pub root_named : (g : Scene) (names : List (List ℕ)) → names ≡ [] → false ≡ is_ignored g names
 unfolding is_ignored
-root_kept g [] h = refl
-root_kept g (x ∷ xs) h = absurd (omega (arith, h))
+root_named g [] h = refl
+root_named g (x ∷ xs) h = absurd (cc (h))
+
+no_first : (n a : List ℕ) → n ++ 47 ∷ a ≡ [] → ⊥
+no_first [] a e = cc
+no_first (x ∷ xs) a e = cc
+
+-- the empty key is that of the root
+pub empty_key : (names : List (List ℕ)) (key : List ℕ) → key ≡ slashed names → (length key == 0) ≡ true → names ≡ []
+empty_key [] key k h = refl
+empty_key (n ∷ names) [] k h = absurd (no_first n (slashed names) (sym k))
+empty_key (n ∷ names) (b ∷ bs) k h = absurd (cc (h, eqb-suc-zero (length bs)))
 
 -- no byte is a slash
 abbrev pub Whole : List ℕ → Type 0
@@ -92,13 +112,15 @@ slashed_inj (n ∷ ns) (m ∷ ms) p q e =
 
 -- Kept directories.
 
-pub loaded_from : (k : Kept) → is_loaded k ≡ true → (dir : Dir) × (k ≡ Loaded dir)
-loaded_from Ignored h = cc
-loaded_from (Loaded dir) h = (dir, refl)
+pub right_loaded : (g : Scene) (c : Cache) (names : List (List ℕ)) (k : Kept) → IsRight g c names k → is_loaded k ≡ not (is_ignored g names)
+right_loaded g c names Ignored h = ap not (sym h)
+right_loaded g c names (Loaded place) h = ap not (sym h.0)
 
-pub right_loaded : (g : Scene) (names : List (List ℕ)) (k : Kept) → IsRight g names k → is_loaded k ≡ not (is_ignored g names)
-right_loaded g names Ignored h = ap not (sym h)
-right_loaded g names (Loaded dir) h = ap not (sym h.0)
+-- what is right stays so where each level stays at its place
+pub right_kept : (g : Scene) (c c' : Cache) (names : List (List ℕ)) (k : Kept) → Keeps (slots_of c.levels) (slots_of c'.levels)
+    → IsRight g c names k → IsRight g c' names k
+right_kept g c c' names Ignored keeps h = h
+right_kept g c c' names (Loaded place) keeps h = (h.0, chain-kept _ _ keeps h.1)
 
 pub problems_known : (g : Scene) (c : Cache) (names : List (List ℕ)) (k : Kept) → kept_at c names ≡ Some k → problems_at g c names ≡ []
 problems_known g c names k h = ap (λ o. cond (is_some o || is_ignored g names) [] (option_to_list (problem_in g names))) h
@@ -110,6 +132,9 @@ problems_new g c names h = ap (λ o. cond (is_some o || is_ignored g names) [] (
 -- the second has one key more
 abbrev pub Puts : Cache → Cache → List ℕ → Kept → Type 0
 Puts c c' key k = (cs : List ℕ) → get_by_text c'.dirs cs ≡ update bytes_eq (get_by_text c.dirs) key (Some k) cs
+
+pub puts_from : (b m a : Cache) (key : List ℕ) (k : Kept) → m.dirs ≡ b.dirs → Puts m a key k → Puts b a key k
+puts_from b m a key k e puts cs = puts cs ∙ ap (λ d. update bytes_eq (get_by_text d) key (Some k) cs) e
 
 pub puts_others : (c c' : Cache) (key : List ℕ) (k : Kept) → Puts c c' key k → (cs : List ℕ) → cs ≢ key
     → get_by_text c'.dirs cs ≡ get_by_text c.dirs cs
@@ -138,7 +163,7 @@ puts_stays c c' key k puts absent cs r h =
     ] in
     puts cs ∙ P (bytes_eq key cs) refl
 
-put_cases : (c c' : Cache) (names : List (List ℕ)) (k : Kept) → Puts c c' (slashed names) k → All IsName names
+pub put_cases : (c c' : Cache) (names : List (List ℕ)) (k : Kept) → Puts c c' (slashed names) k → All IsName names
     → (q : List (List ℕ)) (r : Kept) → All IsName q → kept_at c' q ≡ Some r → ((q ≡ names) × (r ≡ k)) ⊎ (kept_at c q ≡ Some r)
 put_cases c c' names k puts clean q r cleanq h =
     let P : (b : Bool) → bytes_eq (slashed names) (slashed q) ≡ b → cond b (Some k) (kept_at c q) ≡ Some r
@@ -154,25 +179,42 @@ put_cases c c' names k puts clean q r cleanq h =
 abbrev pub SameAbove : Cache → Cache → Type 0
 SameAbove c c' = (c'.has_above ≡ c.has_above) × ((c'.above ≡ c.above) × (c'.base ≡ c.base))
 
-above_same : (g : Scene) (c c' : Cache) → SameAbove c c' → (c.has_above ≡ true → IsAbove g c) → c'.has_above ≡ true → IsAbove g c'
-above_same g c c' same old h =
+pub above_kept : (g : Scene) (c c' : Cache) → SameAbove c c' → Keeps (slots_of c.levels) (slots_of c'.levels) → (c.has_above ≡ true → IsAbove g c)
+    → c'.has_above ≡ true → IsAbove g c'
+above_kept g c c' same keeps old h =
     let a = old (sym same.0 ∙ h) in
-    record { root = a.root; dirs = ap (λ v. v.items) same.1.0 ∙ a.dirs; base = ap (λ t. string_bytes t) same.1.1 ∙ a.base }
-
-pub put_agrees : (g : Scene) (c c' : Cache) (names : List (List ℕ)) (k : Kept) → Agrees g c → All IsName names → IsNext c names
-    → Puts c c' (slashed names) k → kept_at c names ≡ None → SameAbove c c' → IsRight g names k → Agrees g c'
-put_agrees g c c' names k old clean next puts absent same right =
-    let split = put_cases c c' names k puts clean in
-    let stays = puts_stays c c' (slashed names) k puts absent in
     record {
-      above = above_same g c c' same old.above;
-      first = λ q r h. same.0 ∙ next.0;
-      right = λ q r cleanq h. elim (split q r cleanq h) as (λ _. IsRight g q r) [
-        | inl e ↦ subst (λ p. IsRight g p r) (sym e.0) (subst (λ x. IsRight g names x) (sym e.1) right)
-        | inr x ↦ old.right q r cleanq x
+      root = a.root;
+      chain = subst (λ p. StandsFor c' p (chain_above g)) (sym same.1.0) (chain-kept _ _ keeps a.chain);
+      base = ap (λ t. string_bytes t) same.1.1 ∙ a.base;
+    }
+
+-- one directory more: the second has a key more, and its list has grown
+pub record AddsOne (g : Scene) (c c' : Cache) (names : List (List ℕ)) (place : Option Place) (k : Kept) : Type 0 where
+  pub clean : All IsName names
+  pub next : IsNext c names place
+  pub puts : Puts c c' (slashed names) k
+  pub absent : kept_at c names ≡ None
+  pub same : SameAbove c c'
+  pub keeps : Keeps (slots_of c.levels) (slots_of c'.levels)
+  pub right : IsRight g c' names k
+  pub below : IsBelow (slots_of c.levels) (slots_of c'.levels) place k
+
+pub put_agrees : (g : Scene) (c c' : Cache) (names : List (List ℕ)) (place : Option Place) (k : Kept) → Agrees g c
+    → AddsOne g c c' names place k → IsListed c' → Agrees g c'
+put_agrees g c c' names place k old p listed =
+    let split = put_cases c c' names k p.puts p.clean in
+    let stays = puts_stays c c' (slashed names) k p.puts p.absent in
+    record {
+      above = above_kept g c c' p.same p.keeps old.above;
+      first = λ q r h. p.same.0 ∙ p.next.rooted;
+      right = λ q r cleanq h. elim (split q r cleanq h) as (λ _. IsRight g c' q r) [
+        | inl e ↦ subst (λ x. IsRight g c' x r) (sym e.0) (subst (λ x. IsRight g c' names x) (sym e.1) p.right)
+        | inr x ↦ right_kept g c c' q r p.keeps (old.right q r cleanq x)
       ];
       inside = λ q r cleanq h front name is. elim (split q r cleanq h) as (λ _. IsLoaded c' front) [
-        | inl e ↦ let p = next.1 front name (sym e.0 ∙ is) in (p.0, stays (slashed front) (Loaded p.0) p.1)
-        | inr x ↦ let p = old.inside q r cleanq x front name is in (p.0, stays (slashed front) (Loaded p.0) p.1)
+        | inl e ↦ (place, stays (slashed front) (Loaded place) (p.next.inside front name (sym e.0 ∙ is)))
+        | inr x ↦ let in' = old.inside q r cleanq x front name is in (in'.0, stays (slashed front) (Loaded in'.0) in'.1)
       ];
+      listed = listed;
     }

@@ -1,285 +1,117 @@
--- What is found on the way to a path.
+-- What is kept of the directories that an answer needs.
 use lib.Pointwise.{pointwise}
-use Rattle.std.proofs.Common.{◌≡◌, ◌≢◌, ℕ, ◌+◌, ◌-◌, Bool, true, false, not, ◌&&◌, ◌||◌, cond, eqb, All, List, [], ◌∷◌, ◌++◌}
-use Rattle.std.proofs.Common.{length, map, take, get_or, reverse, Option, Some, None, Result, Ok, Err, is_some, refl, sym, ◌∙◌}
-use Rattle.std.proofs.Common.{ap, subst, append_assoc, string_bytes, IfOk, OnOk, Bor, arith, lit<}
-use Rattle.std.proofs.lemmas.Bool.Decides.{nat_tests}
-use Rattle.std.proofs.lemmas.List.{append-nil, get_or_default, length-append}
-use Rattle.std.proofs.lemmas.List.Folds.{list_any-append}
-use Rattle.std.proofs.lemmas.List.Splits.{length-slice_split, slice_split_at, slice_split_none}
+use Rattle.std.proofs.Common.{◌≡◌, ◌≢◌, ℕ, ◌-◌, ◌+◌, ◌<◌, take, drop, get_or, Bool, true, false, not, ◌&&◌, ◌||◌, cond, All, List, [], ◌∷◌, ◌++◌}
+use Rattle.std.proofs.Common.{length, map, Option, Some, None, is_some, refl, sym, ◌∙◌, ap, subst, append_assoc, arith}
+use Rattle.std.proofs.lemmas.List.{append-nil, length-append}
+use Rattle.std.proofs.lemmas.List.Splits.{join_with_byte-slice_split, length-slice_split}
 use Rattle.std.proofs.lemmas.List.Sums.{take_while-cons}
 use Rattle.std.proofs.lemmas.Slice.Eq.{bytes_eq-Decides, slice_eq-Decides}
-use Rattle.std.proofs.lemmas.Str.{IsCharBoundary-at_seam}
-use Rattle.std.proofs.lemmas.Str.Pattern.{IsSplitOnceResult, split_parts}
-use Rattle.std.specs.BTreeMap.{get_by_text}
 use Rattle.std.specs.List.{list_all, list_any, take_while}
-use Rattle.std.specs.Str.{IsCharBoundary, IsUtf8, bytes_eq}
-use Rattle.ignore_base.specs.Paths.{IsName, components}
-use Rattle.ignore_base.specs.Text.{is_slash}
-use Rattle.ignore_base.specs.declared.error.Error.{Error}
-use Rattle.ignore_dir.specs.declared.dir.Dir.{Dir}
+use Rattle.std.specs.Str.{bytes_eq}
+use Rattle.ignore_base.specs.Paths.{IsName, components, joined, last_component}
 use Rattle.ignore_dir.specs.Chains.{slashed}
-use Rattle.ignore_dir.specs.Lists.{Placed}
+use Rattle.ignore_base.specs.Text.{is_slash}
 use Rattle.ignore_dir.specs.declared.verdict.Verdict.TheVariants as v
 use Rattle.ignore_dir.specs.Query.{ancestors, is_ignored, problem_above, rules_verdict}
 use Rattle.ignore_dir.specs.Scene.{Scene, path_verdict}
-use Rattle.ignore_dir.specs.Steps.{entered, entry, reached_in}
 use Rattle.ignore_query.specs.declared.kept.Cache.{Cache}
 use Rattle.ignore_query.specs.declared.kept.Kept.{Kept}
 use Rattle.ignore_query.specs.declared.kept.Kept.TheVariants.{Ignored, Loaded}
-use Rattle.ignore_query.specs.declared.known.Way.{Way}
-use Rattle.ignore_query.specs.declared.known.Way.TheVariants.{Open, Shut, Unknown}
-use Rattle.ignore_query.specs.Agrees.{Agrees, IsLoaded, kept_at}
-use Rattle.ignore_query.specs.Known.{IsWay, is_found, is_open, way_by}
+use Rattle.ignore_query.specs.Agrees.{Agrees, IsLoaded}
+use Rattle.ignore_query.specs.Listed.{kept_at}
 use Rattle.ignore_query.specs.Needs.{KeepsNeeded, is_among, is_kept, is_known, needed}
 use Rattle.ignore_query.specs.Reports.{new_above, new_below, not_kept, problem_in}
 use Rattle.ignore_query.proofs.KeepLemmas.{Ends, ends, last, none}
-use Rattle.ignore_query.proofs.ChainLemmas.{RootLaw, chain_end, chain_next, chain_start, front_names, here, kept_here, slashed-append}
-use Rattle.ignore_query.proofs.NeedLemmas.{ancestors-append, any-more, needed_way, or_same, or_true, way}
+use Rattle.ignore_query.proofs.ChainLemmas.{front_names, joined-slashed, loaded_front}
+use Rattle.ignore_levels.specs.declared.list.Place.{Place}
+use Rattle.ignore_query.proofs.NeedLemmas.{any-more, needed_way, or_same, or_true, way, way_at}
 use Rattle.ignore_query.proofs.WayLemmas.{last_inj, left, left_all, left_next}
 
--- Components.
+-- The key of the directory in which a path is.
 
-no_slash : (b : ℕ) → b ≢ 47 → eqb b 47 ≡ false
-no_slash b h = grind (arith, nat_tests)
+pub last_named : (front : List (List ℕ)) (name : List ℕ) → last_component (front ++ name ∷ []) ≡ name
+last_named [] name = refl
+last_named (x ∷ []) name = refl
+last_named (x ∷ (y ∷ front)) name = last_named (y ∷ front) name
 
-pub split_names : (text : List ℕ) (x : Bor (List ℕ) × Bor (List ℕ)) → IsSplitOnceResult 47 text (Some x)
-    → (text ≡ x.0.now ++ 47 ∷ x.1.now) × (components text ≡ x.0.now ∷ components x.1.now)
-split_names text x h =
-    let cut = split_parts 47 text (Some x) h (lit< tt) in (
-      cut.0,
-      ap components cut.0 ∙ slice_split_at (λ b. eqb b 47) x.0.now 47 x.1.now
-          (λ k d l. no_slash (get_or x.0.now k d) (λ e. cut.1 k l (get_or_default x.0.now k 0 d l ∙ e))) refl,
-    )
+pub whole_path : (path : List ℕ) (front : List (List ℕ)) (name : List ℕ) → components path ≡ front ++ name ∷ [] → path ≡ slashed front ++ name
+whole_path path front name e = sym (join_with_byte-slice_split 47 path) ∙ (ap joined e ∙ joined-slashed front name)
 
-pub whole_name : (text : List ℕ) → IsSplitOnceResult 47 text None → components text ≡ text ∷ []
-whole_name text h =
-    let none = split_parts 47 text None h (lit< tt) in
-    slice_split_none (λ b. eqb b 47) text (λ k d l. no_slash (get_or text k d) (λ e. none k l (get_or_default text k 0 d l ∙ e)))
+fronts : (a b : List ℕ) → take (length a) (a ++ b) ≡ a
+fronts [] [] = refl
+fronts [] (y ∷ ys) = refl
+fronts (x ∷ xs) b = ap (λ l. x ∷ l) (fronts xs b)
 
-pub take_front : (front rest : List ℕ) → take (length (front ++ rest) - length rest) (front ++ rest) ≡ front
-take_front front rest =
-    let n : length (front ++ rest) - length rest ≡ length front = omega (arith, length-append front rest) in
-    ap (λ k. take k (front ++ rest)) n ∙ fronts front rest
-  where
-    fronts : (a b : List ℕ) → take (length a) (a ++ b) ≡ a
-    fronts [] [] = refl
-    fronts [] (y ∷ ys) = refl
-    fronts (x ∷ xs) b = ap (λ l. x ∷ l) (fronts xs b)
+-- a text without its end
+pub without_end : (path front name : List ℕ) (n : ℕ) → path ≡ front ++ name → n ≡ length name → take (length path - n) path ≡ front
+without_end path front name n e k =
+    let size : length path - n ≡ length front = omega (arith, ap (λ (t : List ℕ). length t) e, length-append front name, k) in
+    ap (λ m. take m path) size ∙ (ap (take (length front)) e ∙ fronts front name)
 
--- How far a path was followed.
+-- By what is kept of the directory in which a path is.
 
--- below a directory with some names, which isn't looked up yet
-pub record Passed (g : Scene) (c : Cache) (all done rest : List (List ℕ)) (links : List Placed) : Type 0 where
-  pub chain : here g done ∷ reverse links ≡ (reached_in g done).chain
-  pub opened : list_any (is_ignored g) (ancestors done) ≡ false
-  pub known : list_all (is_kept c) (way g [] all) ≡ list_all (is_kept c) (way g done rest)
+-- what is above a kept directory is kept and not ignored
+kept_front : (g : Scene) (c : Cache) (front : List (List ℕ)) (n : List ℕ) (rest : List (List ℕ)) (k : Kept) → Agrees g c
+    → All IsName (front ++ n ∷ rest) → kept_at c (front ++ n ∷ rest) ≡ Some k → IsLoaded c front
+kept_front g c front n [] k a clean h = a.inside (front ++ n ∷ []) k clean h front n refl
+kept_front g c front n (m ∷ rest) k a clean h =
+    let move : (front ++ n ∷ []) ++ m ∷ rest ≡ front ++ n ∷ (m ∷ rest) = append_assoc front (n ∷ []) (m ∷ rest) in
+    let clean' = subst (All IsName) (sym move) clean in
+    let next = kept_front g c (front ++ n ∷ []) m rest k a clean' (ap (kept_at c) move ∙ h) in
+    a.inside (front ++ n ∷ []) (Loaded next.0) (front_names (front ++ n ∷ []) (m ∷ rest) clean') next.1 front n refl
 
-pub record Followed (c : Cache) (path rest : List ℕ) (first links : List Placed) : Type 0 where
-  pub done : List (List ℕ)
-  pub text : path ≡ slashed done ++ rest
-  pub names : components path ≡ done ++ components rest
-  pub way : (g : Scene) → Agrees g c → All IsName (components path) → c.has_above ≡ true → first ≡ c.above.items
-      → Passed g c (components path) done (components rest) links
+no_more : (c : Cache) (b : Bool) → list_all (is_kept c) (cond b [] []) ≡ true
+no_more c true = refl
+no_more c false = refl
 
-pub follow_start : (c : Cache) (path : List ℕ) (first : List Placed) → ((g : Scene) → RootLaw g) → Followed c path path first first
-follow_start c path first law = record {
-  done = [];
-  text = refl;
-  names = refl;
-  way = λ g a clean h is.
-      record { chain = ap (λ (l : List Placed). here g [] ∷ reverse l) is ∙ chain_start g c (law g) a h; opened = refl; known = refl };
-}
+or_none : (c : Cache) (b : Bool) (w : List (List (List ℕ))) → list_all (is_kept c) w ≡ true → list_all (is_kept c) (cond b [] w) ≡ true
+or_none c true w h = refl
+or_none c false w h = h
 
-known-none : (g : Scene) (c : Cache) (done : List (List ℕ)) (n : List ℕ) (more : List (List ℕ)) → kept_at c done ≡ None
-    → list_all (is_kept c) (way g done (n ∷ more)) ≡ false
-known-none g c done n more h =
-    ap (λ o. is_some o && list_all (is_kept c) (cond (is_ignored g done) [] (way g (done ++ n ∷ []) more))) h
+way_known : (g : Scene) (c : Cache) (done rest : List (List ℕ)) (n : List ℕ) (k : Kept) → Agrees g c → All IsName (done ++ rest)
+    → kept_at c (done ++ rest) ≡ Some k → list_all (is_kept c) (way g done (rest ++ n ∷ [])) ≡ true
+way_known g c done [] n k a clean h =
+    let here : is_kept c done ≡ true = ap (λ o. is_some o) (ap (kept_at c) (sym (append-nil done)) ∙ h) in
+    ap (λ b. b && list_all (is_kept c) (cond (is_ignored g done) [] [])) here ∙ no_more c (is_ignored g done)
+way_known g c done (m ∷ rest) n k a clean h =
+    let loaded = kept_front g c done m rest k a clean h in
+    let here : is_kept c done ≡ true = ap (λ o. is_some o) loaded.1 in
+    let move : (done ++ m ∷ []) ++ rest ≡ done ++ m ∷ rest = append_assoc done (m ∷ []) rest in
+    let next = way_known g c (done ++ m ∷ []) rest n k a (subst (All IsName) (sym move) clean) (ap (kept_at c) move ∙ h) in
+    ap (λ b. b && list_all (is_kept c) (cond (is_ignored g done) [] (way g (done ++ m ∷ []) (rest ++ n ∷ [])))) here
+    ∙ or_none c (is_ignored g done) (way g (done ++ m ∷ []) (rest ++ n ∷ [])) next
 
-known-shut : (g : Scene) (c : Cache) (done : List (List ℕ)) (n : List ℕ) (more : List (List ℕ)) → kept_at c done ≡ Some Ignored
-    → is_ignored g done ≡ true → list_all (is_kept c) (way g done (n ∷ more)) ≡ true
-known-shut g c done n more h i =
-    ap (λ o. is_some o && list_all (is_kept c) (cond (is_ignored g done) [] (way g (done ++ n ∷ []) more))) h
-    ∙ ap (λ b. list_all (is_kept c) (cond b [] (way g (done ++ n ∷ []) more))) i
+-- where something is kept of it, all that the answer needs is
+pub parent_known : (g : Scene) (c : Cache) (front : List (List ℕ)) (n : List ℕ) (k : Kept) → Agrees g c → All IsName (front ++ n ∷ [])
+    → kept_at c front ≡ Some k → is_known g c (front ++ n ∷ []) ≡ true
+parent_known g c front n k a clean h =
+    ap (list_all (is_kept c)) (needed_way g (front ++ n ∷ [])) ∙ way_known g c [] front n k a (front_names front (n ∷ []) clean) h
 
-known-open : (g : Scene) (c : Cache) (done : List (List ℕ)) (n : List ℕ) (more : List (List ℕ)) (dir : Dir)
-    → kept_at c done ≡ Some (Loaded dir) → is_ignored g done ≡ false
-    → list_all (is_kept c) (way g done (n ∷ more)) ≡ list_all (is_kept c) (way g (done ++ n ∷ []) more)
-known-open g c done n more dir h i =
-    ap (λ o. is_some o && list_all (is_kept c) (cond (is_ignored g done) [] (way g (done ++ n ∷ []) more))) h
-    ∙ ap (λ b. list_all (is_kept c) (cond b [] (way g (done ++ n ∷ []) more))) i
+open_front : (g : Scene) (c : Cache) (done rest : List (List ℕ)) → Agrees g c → All IsName (done ++ rest) → IsLoaded c (done ++ rest)
+    → list_any (is_ignored g) (ancestors done) ≡ false → list_any (is_ignored g) (ancestors (done ++ rest)) ≡ false
+open_front g c done [] a clean h o = ap (λ l. list_any (is_ignored g) (ancestors l)) (append-nil done) ∙ o
+open_front g c done (n ∷ rest) a clean h o =
+    let move : (done ++ n ∷ []) ++ rest ≡ done ++ n ∷ rest = append_assoc done (n ∷ []) rest in
+    let here = loaded_front g c done (n ∷ rest) a clean h in
+    let shut = (a.right done (Loaded here.0) (front_names done (n ∷ rest) clean) here.1).0 in
+    let next = any-more g done n ∙ (ap (λ b. b || is_ignored g done) o ∙ shut) in
+    ap (λ l. list_any (is_ignored g) (ancestors l)) (sym move)
+    ∙ open_front g c (done ++ n ∷ []) rest a (subst (All IsName) (sym move) clean) (subst (IsLoaded c) (sym move) h) next
 
-ignored_below : (g : Scene) (done : List (List ℕ)) (n : List ℕ) (more : List (List ℕ)) → is_ignored g done ≡ true
-    → list_any (is_ignored g) (ancestors (done ++ n ∷ more)) ≡ true
-ignored_below g done n more h =
-    let rest = map (λ q. done ++ q) (map (λ q. n ∷ q) (ancestors more)) in
-    ap (list_any (is_ignored g)) (ancestors-append done (n ∷ more))
-    ∙ (list_any-append (is_ignored g) (ancestors done) (map (λ q. done ++ q) (ancestors (n ∷ more)))
-    ∙ (ap (λ f. list_any (is_ignored g) (ancestors done) || (is_ignored g f || list_any (is_ignored g) rest)) (append-nil done)
-    ∙ (ap (λ b. list_any (is_ignored g) (ancestors done) || (b || list_any (is_ignored g) rest)) h
-    ∙ or_true (list_any (is_ignored g) (ancestors done)))))
+-- where it is loaded, no directory on the way is ignored
+pub parent_open : (g : Scene) (c : Cache) (front : List (List ℕ)) (n : List ℕ) → Agrees g c → All IsName (front ++ n ∷ []) → IsLoaded c front
+    → list_any (is_ignored g) (ancestors (front ++ n ∷ [])) ≡ false
+parent_open g c front n a clean h =
+    let clean1 = front_names front (n ∷ []) clean in
+    any-more g front n ∙ (ap (λ b. b || is_ignored g front) (open_front g c [] front a clean1 h refl)
+    ∙ (a.right front (Loaded h.0) clean1 h.1).0)
 
--- the next directory is kept and not ignored
-pub follow_next : (c : Cache) (path rest after name : List ℕ) (first links more : List Placed) (dir : Dir) (base key : List ℕ)
-    → ((g : Scene) (front : List (List ℕ)) (n : List ℕ) → entered g.loads (entry (reached_in g front) n) ≡ reached_in g (front ++ n ∷ []))
-    → (f : Followed c path rest first links) → rest ≡ name ++ 47 ∷ after → components rest ≡ name ∷ components after
-    → base ≡ string_bytes c.base → key ≡ slashed f.done → get_by_text c.dirs key ≡ Some (Loaded dir)
-    → (let at : Placed = (dir, length base + length key) in more ≡ links ++ at ∷ []) → Followed c path after first more
-follow_next c path rest after name first links more dir base key law f cut split b k found put =
-    let kept : kept_at c f.done ≡ Some (Loaded dir) = ap (λ t. get_by_text c.dirs t) (sym k) ∙ found in
-    let all : components path ≡ f.done ++ name ∷ components after = f.names ∙ ap (λ l. f.done ++ l) split in
-    record {
-      done = f.done ++ name ∷ [];
-      text = f.text
-          ∙ (ap (λ t. slashed f.done ++ t) cut
-          ∙ (ap (λ t. slashed f.done ++ t) (sym (append_assoc name (47 ∷ []) after))
-          ∙ (sym (append_assoc (slashed f.done) (name ++ 47 ∷ []) after)
-          ∙ ap (λ t. t ++ after) (sym (slashed-append f.done (name ∷ []))))));
-      names = all ∙ sym (append_assoc f.done (name ∷ []) (components after));
-      way = λ g a clean h is.
-          let w = f.way g a clean h is in
-          let clean1 = front_names f.done (name ∷ components after) (subst (All IsName) all clean) in
-          let open' = (a.right f.done (Loaded dir) clean1 kept).0 in
-          let at = kept_here g c f.done dir base key a clean1 kept b k in
-          record {
-            chain = chain_next g f.done name links more (law g f.done name) w.chain (put
-                ∙ ap (λ (x : Placed). links ++ x ∷ []) at);
-            opened = any-more g f.done name ∙ (ap (λ b. b || is_ignored g f.done) w.opened ∙ open');
-            known = w.known
-                ∙ (ap (λ l. list_all (is_kept c) (way g f.done l)) split ∙ known-open g c f.done name (components after) dir kept open');
-          };
-    }
-
--- What was found is right: whether all that is needed is kept, and what becomes of the way.
-abbrev pub IsFound : Scene → Cache → List (List ℕ) → List Placed → Way → Type 0
-IsFound g c names chain w = (is_found w ≡ is_known g c names) × IsWay g c names chain w
-
-found_unknown : (g : Scene) (c : Cache) (path rest : List ℕ) (first links more : List Placed) (n : List ℕ) (ns : List (List ℕ))
-    → (f : Followed c path rest first links) → Passed g c (components path) f.done (components rest) links
-    → components rest ≡ n ∷ ns → kept_at c f.done ≡ None → IsFound g c (components path) more Unknown
-found_unknown g c path rest first links more n ns f w split kept = (
-  sym (ap (list_all (is_kept c)) (needed_way g (components path))
-      ∙ (w.known ∙ (ap (λ l. list_all (is_kept c) (way g f.done l)) split ∙ known-none g c f.done n ns kept))),
-  tt,
-)
-
-found_shut : (g : Scene) (c : Cache) (path rest : List ℕ) (first links more : List Placed) (n : List ℕ) (ns : List (List ℕ))
-    → (f : Followed c path rest first links) → Passed g c (components path) f.done (components rest) links
-    → components rest ≡ n ∷ ns → kept_at c f.done ≡ Some Ignored → is_ignored g f.done ≡ true
-    → IsFound g c (components path) more Shut
-found_shut g c path rest first links more n ns f w split kept i = (
-  sym (ap (list_all (is_kept c)) (needed_way g (components path))
-      ∙ (w.known ∙ (ap (λ l. list_all (is_kept c) (way g f.done l)) split ∙ known-shut g c f.done n ns kept i))),
-  ap (λ l. list_any (is_ignored g) (ancestors l)) (f.names ∙ ap (λ l. f.done ++ l) split) ∙ ignored_below g f.done n ns i,
-)
-
-found_open : (g : Scene) (c : Cache) (path rest : List ℕ) (first links more : List Placed) (n : List ℕ) (dir : Dir)
-    → (f : Followed c path rest first links) → Passed g c (components path) f.done (components rest) links
-    → components rest ≡ n ∷ [] → kept_at c f.done ≡ Some (Loaded dir) → is_ignored g f.done ≡ false
-    → more ≡ links ++ here g f.done ∷ [] → IsFound g c (components path) more Open
-found_open g c path rest first links more n dir f w split kept i put =
-    let all : components path ≡ f.done ++ n ∷ [] = f.names ∙ ap (λ l. f.done ++ l) split in (
-      sym (ap (list_all (is_kept c)) (needed_way g (components path))
-          ∙ (w.known ∙ (ap (λ l. list_all (is_kept c) (way g f.done l)) split ∙ known-open g c f.done n [] dir kept i))),
-      (
-        ap (λ l. list_any (is_ignored g) (ancestors l)) all ∙ (any-more g f.done n ∙ (ap (λ b. b || is_ignored g f.done) w.opened ∙ i)),
-        λ front name is.
-            let same : f.done ≡ front = last_inj f.done front n name (sym all ∙ is) in
-            subst (λ q. IsLoaded c q × (reverse more ≡ (reached_in g q).chain)) same
-            ((dir, kept), chain_end g f.done links more w.chain put),
-      ),
-    )
-
--- the way ended before the last directory
-pub stop_way : (c : Cache) (path rest after name : List ℕ) (first links more : List Placed) (key : List ℕ) (w : Way)
-    → (f : Followed c path rest first links) → components rest ≡ name ∷ components after → key ≡ slashed f.done
-    → w ≡ way_by (get_by_text c.dirs key) → is_open w ≡ false
-    → (g : Scene) → Agrees g c → All IsName (components path) → c.has_above ≡ true → first ≡ c.above.items
-    → IsFound g c (components path) more w
-stop_way c path rest after name first links more key w f split k is shut g a clean h start =
-    let at : get_by_text c.dirs key ≡ kept_at c f.done = ap (λ t. get_by_text c.dirs t) k in
-    let clean1 = front_names f.done (components rest) (subst (All IsName) f.names clean) in
-    let p = f.way g a clean h start in
-    let P : (o : Option Kept) → kept_at c f.done ≡ o → w ≡ way_by o → IsFound g c (components path) more w =
-    λ x. elim x as (λ o. kept_at c f.done ≡ o → w ≡ way_by o → IsFound g c (components path) more w) [
-      | None ↦ λ e v. subst (IsFound g c (components path) more) (sym v)
-          (found_unknown g c path rest first links more name (components after) f p split e)
-      | Some q ↦ λ e v. by_kept q e v
-    ] in
-    P (kept_at c f.done) refl (is ∙ ap way_by at)
-  where
-    by_kept : (q : Kept) → kept_at c f.done ≡ Some q → w ≡ way_by (Some q) → IsFound g c (components path) more w
-    by_kept Ignored e v =
-        let clean1 = front_names f.done (components rest) (subst (All IsName) f.names clean) in
-        subst (IsFound g c (components path) more) (sym v)
-        (found_shut g c path rest first links more name (components after) f (f.way g a clean h start) split e
-        (a.right f.done Ignored clean1 e))
-    by_kept (Loaded dir) e v = let yes : is_open w ≡ true = ap is_open v in absurd (cc)
-
-ok_way : (r : Result Way Error) (o : Way) (X : Type 0) (Q : Way → Type 0) → IfOk r (λ w. w ≡ o) → OnOk r X → (X → Q o) → IfOk r Q
-ok_way (Ok w) o X Q e x f = subst Q (sym e) (f x)
-ok_way (Err e) o X Q i x f = tt
-
-ok_way1 : (r : Result Way Error) (o : Way) (Q : Way → Type 0) → IfOk r (λ w. w ≡ o) → Q o → IfOk r Q
-ok_way1 (Ok w) o Q e q = subst Q (sym e) q
-ok_way1 (Err e) o Q i q = tt
-
--- the last directory was looked up
-pub last_way : (c : Cache) (path rest : List ℕ) (first links more : List Placed) (base key : List ℕ) (r : Result Way Error)
-    → (f : Followed c path rest first links) → components rest ≡ rest ∷ [] → base ≡ string_bytes c.base → key ≡ slashed f.done
-    → IfOk r (λ w. w ≡ way_by (get_by_text c.dirs key))
-    → ((dir : Dir) → get_by_text c.dirs key ≡ Some (Loaded dir) → OnOk r (let at : Placed = (
-      dir,
-      length base
-          + length key,
-    ) in more ≡ links ++ at ∷ []))
-    → (g : Scene) → Agrees g c → All IsName (components path) → c.has_above ≡ true → first ≡ c.above.items
-    → IfOk r (IsFound g c (components path) more)
-last_way c path rest first links more base key r f split b k is put g a clean h start =
-    let at : get_by_text c.dirs key ≡ kept_at c f.done = ap (λ t. get_by_text c.dirs t) k in
-    let p = f.way g a clean h start in
-    let P : (o : Option Kept) → kept_at c f.done ≡ o → IfOk r (IsFound g c (components path) more) =
-    λ x. elim x as (λ o. kept_at c f.done ≡ o → IfOk r (IsFound g c (components path) more)) [
-      | None ↦ λ e. ok_way1 r Unknown (IsFound g c (components path) more) (subst (λ o. IfOk r (λ w. w ≡ way_by o)) (at ∙ e) is)
-          (found_unknown g c path rest first links more rest [] f p split e)
-      | Some q ↦ λ e. by_kept q e
-    ] in
-    P (kept_at c f.done) refl
-  where
-    by_kept : (q : Kept) → kept_at c f.done ≡ Some q → IfOk r (IsFound g c (components path) more)
-    by_kept Ignored e =
-        let at : get_by_text c.dirs key ≡ kept_at c f.done = ap (λ t. get_by_text c.dirs t) k in
-        let clean1 = front_names f.done (components rest) (subst (All IsName) f.names clean) in
-        ok_way1 r Shut (IsFound g c (components path) more) (subst (λ o. IfOk r (λ w. w ≡ way_by o)) (at ∙ e) is)
-        (found_shut g c path rest first links more rest [] f (f.way g a clean h start) split e (a.right f.done Ignored clean1 e))
-    by_kept (Loaded dir) e =
-        let at : get_by_text c.dirs key ≡ kept_at c f.done = ap (λ t. get_by_text c.dirs t) k in
-        let clean1 = front_names f.done (components rest) (subst (All IsName) f.names clean) in
-        let here' = kept_here g c f.done dir base key a clean1 e b k in
-        ok_way r Open _ (IsFound g c (components path) more) (subst (λ o. IfOk r (λ w. w ≡ way_by o)) (at ∙ e) is)
-        (put dir (at ∙ e))
-        (λ x. found_open g c path rest first links more rest dir f (f.way g a clean h start) split e (a.right f.done
-        (Loaded dir) clean1 e).0 (x ∙ ap (λ (y : Placed). links ++ y ∷ []) here'))
-
--- the end of a path begins at a boundary of characters
-pub seam : (path front rest : List ℕ) → path ≡ front ++ rest → IsUtf8 rest → IsCharBoundary path (length path - length rest)
-seam path front rest is u =
-    let n : length path - length rest ≡ length front = omega (arith, ap length is, length-append front rest) in
-    subst (IsCharBoundary path) (sym n) (IsCharBoundary-at_seam path front rest is u)
-
--- what precedes the end of a path is the key of the directory that is looked up
-pub key_before : (path front rest key : List ℕ) → path ≡ front ++ rest → key ≡ take (length path - length rest) path → key ≡ front
-key_before path front rest key is k = k ∙ (ap (λ p. take (length p - length rest) p) is ∙ take_front front rest)
-
--- where the way leads on, a loaded directory was found
-pub looked_open : (c : Cache) (key : List ℕ) (w : Way) → w ≡ way_by (get_by_text c.dirs key) → is_open w ≡ true
-    → (dir : Dir) × (get_by_text c.dirs key ≡ Some (Loaded dir))
-looked_open c key w is on = by (get_by_text c.dirs key) (sym (ap is_open is) ∙ on)
-  where
-    by : (o : Option Kept) → is_open (way_by o) ≡ true → (dir : Dir) × (o ≡ Some (Loaded dir))
-    by None h = cc
-    by (Some Ignored) h = cc
-    by (Some (Loaded dir)) h = (dir, refl)
+-- where it is kept as ignored, one is
+pub parent_shut : (g : Scene) (c : Cache) (front : List (List ℕ)) (n : List ℕ) → Agrees g c → All IsName (front ++ n ∷ [])
+    → kept_at c front ≡ Some Ignored → list_any (is_ignored g) (ancestors (front ++ n ∷ [])) ≡ true
+parent_shut g c front n a clean h =
+    any-more g front n ∙ (ap (λ b. list_any (is_ignored g) (ancestors front) || b) (a.right front Ignored (front_names front (n ∷ []) clean) h)
+    ∙ or_true (list_any (is_ignored g) (ancestors front)))
 
 -- Where all that is needed is kept, something is kept of the root, and so is what is above it.
 
@@ -320,16 +152,6 @@ pub open_verdict : (g : Scene) (names : List (List ℕ)) (is_dir : Bool) → lis
     → path_verdict g names is_dir ≡ rules_verdict g names is_dir
 unfolding rules_verdict
 open_verdict g names is_dir h = sym (ap (λ b. cond b v.Ignore (path_verdict g names is_dir)) h)
-
-pub found_value : (g : Scene) (c : Cache) (names : List (List ℕ)) (chain : List Placed) (r : Result Way Error)
-    → IfOk r (IsFound g c names chain) → IfOk r (λ w. is_found w ≡ is_known g c names)
-found_value g c names chain (Ok w) h = h.0
-found_value g c names chain (Err e) h = tt
-
-pub found_way : (g : Scene) (c : Cache) (names : List (List ℕ)) (chain : List Placed) (r : Result Way Error)
-    → IfOk r (IsFound g c names chain) → IfOk r (IsWay g c names chain)
-found_way g c names chain (Ok w) h = h.1
-found_way g c names chain (Err e) h = tt
 
 pub last_of : (path : List ℕ) → (front : List (List ℕ)) × ((name : List ℕ) × (components path ≡ front ++ name ∷ []))
 last_of path = by (ends (components path))
@@ -386,3 +208,27 @@ none_below g c names all =
 
 pub none_above : (g : Scene) (c : Cache) → c.has_above ≡ true → new_above g c ≡ None
 none_above g c h = ap (λ b. cond b None (problem_above g)) h
+
+-- One directory after the other.
+
+-- where all that is left is kept, the next is, and so is what is left after it
+pub known_next : (g : Scene) (c : Cache) (names : List (List ℕ)) (i : ℕ) (n : List ℕ) → i < length names → n ≡ get_or names i n
+    → take (i + 1) names ≡ take i names ++ n ∷ [] → list_all (is_kept c) (way g (take i names) (drop i names)) ≡ true
+    → (is_kept c (take i names) ≡ true)
+    × (is_ignored g (take i names) ≡ false → list_all (is_kept c) (way g (take (i + 1) names) (drop (i + 1) names)) ≡ true)
+known_next g c names i n lt is more h =
+    let front = take i names in
+    let rest : List (List (List ℕ)) = way g (take (i + 1) names) (drop (i + 1) names) in
+    let all = sym (ap (list_all (is_kept c)) (way_at g names i n lt is more)) ∙ h in (
+      and_left (is_kept c front) (list_all (is_kept c) (cond (is_ignored g front) [] rest)) all,
+      λ e. ap (λ b. list_all (is_kept c) (cond b [] rest)) (sym e)
+          ∙ and_right (is_kept c front) (list_all (is_kept c) (cond (is_ignored g front) [] rest)) all,
+    )
+
+pub next_top : (front : List (List ℕ)) (n : List ℕ) → front ++ n ∷ [] ≡ [] → ⊥
+next_top [] n e = cc (e)
+next_top (x ∷ xs) n e = cc (e)
+
+pub next_inside : (c : Cache) (done front : List (List ℕ)) (m n : List ℕ) (place : Option Place) → done ++ m ∷ [] ≡ front ++ n ∷ []
+    → kept_at c done ≡ Some (Loaded place) → kept_at c front ≡ Some (Loaded place)
+next_inside c done front m n place e h = ap (kept_at c) (sym (last_inj done front m n e)) ∙ h

@@ -1,8 +1,11 @@
 pub mod BoundaryLemmas
 pub mod ChainLemmas
+pub mod EntryLemmas
 pub mod ForgetLemmas
 pub mod KeepLemmas
 pub mod KnownLemmas
+pub mod ListLemmas
+pub mod GrowLemmas
 pub mod NeedLemmas
 pub mod WayLemmas
 pub mod QueryLemmas
@@ -10,3 +13,4 @@ pub mod FreshLemmas
 pub mod TurnLemmas
 pub mod TurnsOnly
 pub mod CopiesOnly
+pub mod WorkedKept

@@ -12,6 +12,8 @@ use Rattle.ignore_base.specs.Paths.{IsName}
 use Rattle.ignore_dir.specs.Chains.{slashed}
 use Rattle.ignore_dir.specs.Query.{ancestors, is_ignored}
 use Rattle.ignore_dir.specs.Scene.{Scene}
+use Rattle.ignore_levels.specs.Levels.{Keeps, slots_of}
+use Rattle.ignore_levels.proofs.PassLemmas.{keeps-then}
 use Rattle.ignore_query.specs.declared.kept.Cache.{Cache}
 use Rattle.ignore_query.specs.declared.kept.Kept.{Kept}
 use Rattle.ignore_query.specs.Needs.{KeepsNeeded, Stays, is_among, is_kept, needed}
@@ -20,16 +22,22 @@ use Rattle.ignore_query.proofs.WayLemmas.{drop_all, drop_next, left, left_all, l
 
 -- What stays kept.
 
+pub stays_itself : (a : Cache) → Stays a a
+stays_itself a = record { above = λ h. (h, (refl, refl)); dirs = λ names k h. h; levels = λ place level e. e }
+
 pub stays_then : (a b c : Cache) → Stays a b → Stays b c → Stays a c
 stays_then a b c p q = record {
   above = λ h. let x = p.above h in let y = q.above x.0 in (y.0, (y.1.0 ∙ x.1.0, y.1.1 ∙ x.1.1));
   dirs = λ names k h. q.dirs names k (p.dirs names k h);
+  levels = keeps-then _ _ _ p.levels q.levels;
 }
 
-pub stays_put : (c c' : Cache) (key : List ℕ) (k : Kept) → Puts c c' key k → get_by_text c.dirs key ≡ None → SameAbove c c' → Stays c c'
-stays_put c c' key k puts absent same = record {
+pub stays_put : (c c' : Cache) (key : List ℕ) (k : Kept) → Puts c c' key k → get_by_text c.dirs key ≡ None → SameAbove c c'
+    → Keeps (slots_of c.levels) (slots_of c'.levels) → Stays c c'
+stays_put c c' key k puts absent same keeps = record {
   above = λ h. (same.0 ∙ h, same.1);
   dirs = λ names r h. puts_stays c c' key k puts absent (slashed names) r h;
+  levels = keeps;
 }
 
 -- One directory more.

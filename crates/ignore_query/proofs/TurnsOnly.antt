@@ -16,7 +16,8 @@ use Rattle.ignore_dir.specs.Scene.{Scene}
 use Rattle.ignore_query.specs.declared.kept.Cache.{Cache}
 use Rattle.ignore_query.specs.declared.kept.Kept.{Kept}
 use Rattle.ignore_query.specs.declared.kept.Kept.TheVariants.{Loaded}
-use Rattle.ignore_query.specs.Agrees.{IsLoaded, kept_at}
+use Rattle.ignore_query.specs.Agrees.{IsLoaded}
+use Rattle.ignore_query.specs.Listed.{kept_at}
 use Rattle.ignore_query.specs.InTurn.{Leaves, Question, ReportInTurn}
 use Rattle.ignore_query.specs.Needs.{KeepsNeeded, Stays, is_among, is_decided, is_kept, is_known, needed}
 use Rattle.ignore_query.specs.Reports.{new_below, not_kept, problem_in, reported, reported_by_rules}
@@ -39,7 +40,7 @@ Stays-kept old new names stays h = some_stays old new names (kept_at old names) 
 
 -- and with what it holds
 pub Stays-loaded : (old new : Cache) (names : List (List ℕ)) → Stays old new → IsLoaded old names → IsLoaded new names
-Stays-loaded old new names stays (dir, h) = (dir, stays.dirs names (Loaded dir) h)
+Stays-loaded old new names stays (place, h) = (place, stays.dirs names (Loaded place) h)
 
 both_true : (a b : Bool) → (a && b) ≡ true → (a ≡ true) × (b ≡ true)
 both_true true b h = (refl, h)

@@ -11,7 +11,7 @@ use Rattle.ignore_dir.specs.Chains.{slashed}
 use Rattle.ignore_dir.specs.Query.{ancestors, is_ignored}
 use Rattle.ignore_dir.specs.Scene.{Scene}
 use Rattle.ignore_query.specs.declared.kept.Cache.{Cache}
-use Rattle.ignore_query.specs.Agrees.{kept_at}
+use Rattle.ignore_query.specs.Listed.{kept_at}
 use Rattle.ignore_query.specs.Reports.{new_below, not_kept, problem_in, problems_at}
 
 -- the ancestors that are left in a directory with some names before a path
@@ -157,7 +157,7 @@ map-take (x ∷ xs) (suc i) = ap (λ l. x.now ∷ l) (map-take xs i)
 
 -- Lists that end.
 
-no_last : (ys : List (List ℕ)) (y : List ℕ) → [] ≢ ys ++ y ∷ []
+pub no_last : (ys : List (List ℕ)) (y : List ℕ) → [] ≢ ys ++ y ∷ []
 no_last [] y e = cc
 no_last (b ∷ bs) y e = cc
 

@@ -1,16 +1,20 @@
 -- What is forgotten, and for which other trees the rest is right.
-use Rattle.std.specs.Prelude.{◌≡◌, true, Bool, nat_eq, All, List, [], ◌∷◌, ◌++◌, Some}
+use Rattle.std.specs.Prelude.{◌≡◌, ℕ, ◌+◌, ◌≤◌, true, Bool, nat_eq, All, List, [], ◌∷◌, ◌++◌, Option, Some, length, string_bytes}
+use Rattle.std.specs.BTreeMap.{get_by_text}
 use Rattle.std.specs.List.{starts_with}
 use Rattle.std.specs.Str.{bytes_eq}
 use Rattle.ignore_base.specs.Text.{Bytes, Path}
 use Rattle.ignore_base.specs.Paths.{IsName}
-use Rattle.ignore_dir.specs.declared.dir.Dir.{Dir}
 use Rattle.ignore_dir.specs.Above.{dirs_above, path_along, paths_above}
 use Rattle.ignore_dir.specs.Query.{is_dir_there}
 use Rattle.ignore_dir.specs.Scene.{Scene}
+use Rattle.ignore_levels.specs.Levels.{floor_at, slots_of}
+use Rattle.ignore_levels.specs.declared.list.Place.{Place}
+use Rattle.ignore_levels.specs.declared.list.Slot.{Slot}
 use Rattle.ignore_query.specs.declared.kept.Cache.{Cache}
+use Rattle.ignore_query.specs.declared.kept.Kept.{Kept}
 use Rattle.ignore_query.specs.declared.kept.Kept.TheVariants.{Loaded}
-use Rattle.ignore_query.specs.Agrees.{kept_at}
+use Rattle.ignore_query.specs.Listed.{kept_at}
 
 -- the directory with some names is that with the names `front`, or is below it. `a`, `b` is at or
 -- below `a`, and `ab` isn't
@@ -33,5 +37,15 @@ pub record IsSameKept (g h : Scene) (c : Cache) : Type 0 where
   pub canonical : c.has_above ≡ true → h.tree.canonical h.root ≡ g.tree.canonical g.root
   pub above : c.has_above ≡ true → dirs_above h.loads h.settings (paths_above h.tree h.settings h.root)
       ≡ dirs_above g.loads g.settings (paths_above g.tree g.settings g.root)
-  pub dirs : (names : List Bytes) (dir : Dir) → All IsName names → kept_at c names ≡ Some (Loaded dir)
+  pub dirs : (names : List Bytes) (place : Option Place) → All IsName names → kept_at c names ≡ Some (Loaded place)
       → (h.loads (path_along h.root names)).0 ≡ (g.loads (path_along g.root names)).0
+
+-- the level at a place is that of what is kept, and its offset is at least a floor
+abbrev pub IsFreed : List Slot → Kept → ℕ → Place → Type 0
+IsFreed slots k floor at = (k ≡ Loaded (Some at)) × (floor ≤ floor_at slots (Some at))
+
+-- what is kept of the directory with a key stands at this place, and the level there is that of a
+-- directory at or below the one at a clean path
+abbrev pub IsOwn : Cache → Path → Path → Place → Type 0
+IsOwn c dir key at = (k : Kept) × (get_by_text c.dirs key ≡ Some k)
+    × IsFreed (slots_of c.levels) k (length (string_bytes c.base) + length (key_of dir)) at

@@ -10,7 +10,8 @@ use Rattle.ignore_dir.specs.Query.{ancestors, depth_of, has_rules, is_asked, is_
 use Rattle.ignore_dir.specs.Scene.{Scene}
 use Rattle.ignore_query.specs.declared.kept.Cache.{Cache}
 use Rattle.ignore_query.specs.declared.kept.Kept.{Kept}
-use Rattle.ignore_query.specs.Agrees.{kept_at}
+use Rattle.ignore_levels.specs.Levels.{Keeps, slots_of}
+use Rattle.ignore_query.specs.Listed.{kept_at}
 
 -- the rules decide on a path: it is asked about, within the limits on depth, and has a name, and
 -- the root is a directory
@@ -35,10 +36,12 @@ is_kept c names = is_some (kept_at c names)
 abbrev pub is_known : Scene → Cache → List Bytes → Bool
 is_known g c names = list_all (is_kept c) (needed g names)
 
--- what was kept stays kept: what is above the root, and what is kept of each directory
+-- what was kept stays kept: what is above the root, what is kept of each directory, and each level
+-- at its place
 pub record Stays (old new : Cache) : Type 0 where
   pub above : old.has_above ≡ true → (new.has_above ≡ true) × ((new.above ≡ old.above) × (new.base ≡ old.base))
   pub dirs : (names : List Bytes) (k : Kept) → kept_at old names ≡ Some k → kept_at new names ≡ Some k
+  pub levels : Keeps (slots_of old.levels) (slots_of new.levels)
 
 -- an answer that the rules decide leaves these kept, and no others: what was kept, what is above
 -- the root, and the directories that the answer needs

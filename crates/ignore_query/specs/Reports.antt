@@ -10,7 +10,7 @@ use Rattle.ignore_dir.specs.Load.{joined_some}
 use Rattle.ignore_dir.specs.Query.{depth_of, has_rules, is_asked, is_ignored, limit_of, loaded_for, names_of, problem_above, size_of}
 use Rattle.ignore_dir.specs.Scene.{Scene}
 use Rattle.ignore_query.specs.declared.kept.Cache.{Cache}
-use Rattle.ignore_query.specs.Agrees.{kept_at}
+use Rattle.ignore_query.specs.Listed.{kept_at}
 
 -- the problem of the load of the directory with these names, if any
 abbrev pub problem_in : Scene → List Bytes → Option Problem

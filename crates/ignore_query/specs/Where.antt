@@ -1,5 +1,5 @@
 -- Under which premises a matcher's answers hold.
-use Rattle.std.specs.Prelude.{◌≡◌, true, All, List}
+use Rattle.std.specs.Prelude.{◌≡◌, true, All, List, Option}
 use Rattle.std.specs.List.{list_all}
 use Rattle.ignore_base.specs.Text.{Bytes, Path}
 use Rattle.ignore_base.specs.Paths.{IsName, components, is_proper}
@@ -7,6 +7,7 @@ use Rattle.ignore_dir.specs.Chains.{slashed}
 use Rattle.ignore_dir.specs.Query.{has_rules, is_asked, is_dir_there}
 use Rattle.ignore_dir.specs.Scene.{Scene}
 use Rattle.ignore_files.specs.declared.files.Files.{Ghosts as Files}
+use Rattle.ignore_levels.specs.declared.list.Place.{Place}
 use Rattle.ignore_query.specs.declared.asked.Call.{Call}
 use Rattle.ignore_query.specs.declared.incremental.IncrementalIgnore.{IncrementalIgnore}
 use Rattle.ignore_query.specs.declared.kept.Cache.{Cache}
@@ -40,8 +41,8 @@ WhereKept files call c path P = InCall files call (λ g. Agrees g c → list_all
 abbrev pub WhereRooted : {F : Type 0} → Files F → Call F → Cache → List Bytes → (Scene → List Bytes → Type 0) → Type 0
 WhereRooted files call c names P = InCall files call (λ g. Agrees g c → All IsName names → c.has_above ≡ true → P g names)
 
--- P holds of each scene of a call for the directory with these names and this key, where the one in
--- which it is is kept
-abbrev pub WhereNext : {F : Type 0} → Files F → Call F → Cache → List Bytes → Path → (Scene → List Bytes → Type 0) → Type 0
-WhereNext files call c names key P =
-    InCall files call (λ g. Agrees g c → All IsName names → key ≡ slashed names → IsNext c names → P g names)
+-- P holds of each scene of a call and each list of names that has this key, where the directory in
+-- which that with these names is stands at this place
+abbrev pub WhereNext : {F : Type 0} → Files F → Call F → Cache → Option Place → Path → (Scene → List Bytes → Type 0) → Type 0
+WhereNext files call c place key P = InCall files call (λ g. (names : List Bytes)
+    → Agrees g c → All IsName names → key ≡ slashed names → IsNext c names place → P g names)

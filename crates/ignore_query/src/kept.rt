@@ -1,32 +1,21 @@
 //! What a matcher keeps.
 ghost use Rattle.std.specs.Prelude.{◌≡◌};
 ghost use Rattle.ignore_dir.specs.Scene.{Scene};
-ghost use Rattle.ignore_query.specs.Agrees.{Agrees, is_loaded};
+ghost use Rattle.ignore_query.specs.Agrees.{Agrees};
 ghost use Rattle.ignore_query.specs.Fresh.{KeepsNothing};
 
-use ignore_dir::{Dir, Placed};
+use ignore_levels::{Levels, Place};
 use std::alloc::Global;
 use std::collections::BTreeMap;
 
 /// What is kept of a directory.
-#[derive(Debug, Drop)]
+#[derive(Clone, Copy, Debug, PartialEq, Eq)]
 pub enum Kept {
     /// It is ignored, and its files weren't read.
     Ignored,
-    /// What it holds for the rules.
-    Loaded(Dir),
-}
-
-impl Kept {
-    /// Whether it is loaded.
-    pub(crate) fn is_loaded(&self) -> bool
-        ensures { result ≡ is_loaded self.now }
-    {
-        match self {
-            Kept::Ignored => false,
-            Kept::Loaded(_) => true,
-        }
-    }
+    /// It is loaded, and stands at this place: its own where it has rules or a mark, else that of
+    /// the nearest directory above it that has, if there is one.
+    Loaded(Option<Place>),
 }
 
 /// What is kept of a root, the directories above it, and those below it.
@@ -34,10 +23,12 @@ impl Kept {
 pub struct Cache {
     /// Whether what is above the root is kept. The root is a directory then.
     pub has_above: bool,
-    /// What counts of each directory above the root, from `/` down.
-    pub above: Vec<Placed>,
+    /// The place of the nearest directory above the root that counts.
+    pub above: Option<Place>,
     /// `/`, and then the names on the way from there to the root, each followed by `/`.
     pub base: String,
+    /// The directories that have rules or a mark.
+    pub levels: Levels,
     /// The directories from the root down. The key of one is its names below the root, each
     /// followed by `/`: so one is at or below another where its key begins with the other's.
     pub dirs: BTreeMap<String, Kept>,
@@ -51,8 +42,9 @@ impl Cache {
     {
         Cache {
             has_above: false,
-            above: Vec::new(alloc),
+            above: None,
             base: String::new(alloc),
+            levels: Levels::new(alloc),
             dirs: BTreeMap::new(alloc),
         }
     }

@@ -2,7 +2,6 @@
 #![tactic(auto)]
 
 mod asked;
-mod chain;
 mod clean;
 mod decide;
 mod forget;
@@ -12,6 +11,7 @@ mod known;
 pub mod laws;
 mod load;
 mod paths;
+mod places;
 mod root;
 mod size;
 
@@ -19,5 +19,4 @@ pub use asked::Asked;
 pub use ignore_dir::IncrementalMatch;
 pub use incremental::IncrementalIgnore;
 pub use kept::{Cache, Kept};
-pub use known::Way;
 pub use paths::check_paths;

@@ -1,6 +1,6 @@
 //! Directories that are looked up, or loaded and kept.
 ghost use Rattle.std.specs.Prelude.{◌≡◌, ◌≢◌, ◌++◌, ◌∷◌, [], ℕ, List, All, Some};
-ghost use Rattle.std.specs.Prelude.{IfOk, IfErr, OnOk, true, not, ◌||◌, map, option_map, is_some, string_bytes, if◌then◌else◌};
+ghost use Rattle.std.specs.Prelude.{IfOk, IfErr, IsOk, OnOk, Option, true, not, ◌||◌, map, option_map, is_some, string_bytes, if◌then◌else◌};
 ghost use Rattle.std.specs.BTreeMap.{get_by_text};
 ghost use Rattle.std.specs.List.{filter_map, list_all, list_any};
 ghost use Rattle.std.specs.Option.{option_to_list};
@@ -13,8 +13,11 @@ ghost use Rattle.ignore_dir.specs.Load.{Loaded};
 ghost use Rattle.ignore_dir.specs.Query.{ancestors, is_ignored, rules_verdict};
 ghost use Rattle.ignore_dir.specs.Soft.{AllSoft};
 ghost use Rattle.ignore_files.specs.Tree.{Tree};
-ghost use Rattle.ignore_query.specs.Agrees.{Agrees, IsInLoaded, IsLoaded, IsNext, IsRight};
-ghost use Rattle.ignore_query.specs.Needs.{KeepsNeeded, Stays, needed};
+ghost use Rattle.ignore_levels.specs.Levels.{Keeps, slots_of};
+ghost use Rattle.ignore_query.specs.declared.kept.Kept as kept;
+ghost use Rattle.ignore_query.specs.Agrees.{Agrees, IsNext, IsRight, is_loaded};
+ghost use Rattle.ignore_query.specs.Listed.{IsBelow};
+ghost use Rattle.ignore_query.specs.Needs.{KeepsNeeded, Stays, is_known, needed};
 ghost use Rattle.ignore_query.specs.Reached.{scene_of};
 ghost use Rattle.ignore_query.specs.Reports.{new_below, problem_in, problems_at};
 ghost use Rattle.ignore_query.specs.Where.{InCall, WhereKept, WhereNext, WhereRooted};
@@ -25,11 +28,12 @@ use ignore_base::Error;
 use ignore_base::text::{join, join_law};
 use ignore_dir::Dir;
 use ignore_dir::errors::push_some;
-use ignore_dir::laws::one_load;
+use ignore_dir::laws::{one_load, steps_are_whole};
 use ignore_dir::load::load_directory;
 use ignore_dir::names::components;
 use ignore_dir::verdict::Verdict;
 use ignore_files::Files;
+use ignore_levels::Place;
 use std::alloc::Global;
 
 /// The names of a directory below the root, joined, by its key.
@@ -73,112 +77,126 @@ fn load<F: Files>(call: &Call<'_, F>, key: &str, errors: &mut Vec<Error>) -> Res
 }
 
 impl Cache {
-    /// Whether the directory with these names and this key is ignored. The root never is.
-    fn is_ignored(&self, asked: &Asked, names: &[&str], key: &str) -> Result<bool, Error>
-        ensures value { (tree : Tree) (loads : List ℕ → Loaded) → let g = scene_of asked.now tree loads in
-            let front = map (λ n. n.now) names.now in Agrees g self.now → All IsName front → key.now ≡ slashed front
-            → IsNext self.now front → IfOk result (λ yes. yes ≡ is_ignored g front) }
+    /// Whether the directory with this key, in one that stands at a place, is ignored. The root
+    /// never is.
+    fn is_ignored(&self, asked: &Asked, place: Option<Place>, key: &str) -> Result<bool, Error>
+        ensures value { (tree : Tree) (loads : List ℕ → Loaded) (names : List (List ℕ)) → let g = scene_of asked.now tree loads in
+            Agrees g self.now → All IsName names → key.now ≡ slashed names → IsNext self.now names place
+            → IfOk result (λ yes. yes ≡ is_ignored g names) }
         ensures out_of_memory { IfErr result (λ e. problem_of e ≡ memory) }
     {
-        match names.split_last() {
-            Some((_, front)) => {
-                let verdict = self.verdict_in(asked, front, without_slash(key), true)?;
-                Ok(verdict.is_ignore())
-            }
-            None => Ok(false),
+        if key.is_empty() {
+            return Ok(false);
         }
+        let verdict = self.verdict_at(asked, place, without_slash(key), true)?;
+        Ok(verdict.is_ignore())
     }
 
-    /// What is to be kept of the directory with these names and this key.
+    /// What is to be kept of the directory with this key, in one that stands at a place. It is
+    /// loaded unless it is ignored, and has a level of its own then where it counts.
     fn find<F: Files>(
-        &self,
+        &mut self,
         call: &Call<'_, F>,
-        names: &[&str],
+        place: Option<Place>,
         key: &str,
         errors: &mut Vec<Error>,
     ) -> Result<Kept, Error>
-        ensures value { WhereNext F.Files call.now self.now (map (λ n. n.now) names.now) key.now (λ g front.
-            IfOk result (λ k. IsRight g front k)) }
-        ensures problems { WhereNext F.Files call.now self.now (map (λ n. n.now) names.now) key.now (λ g front.
+        ensures value { WhereNext F.Files call.now self.old place key.now (λ g names.
+            IfOk result (λ k. IsRight g self.new names k)) }
+        ensures problems { WhereNext F.Files call.now self.old place key.now (λ g names.
             OnOk result (map problem_of errors.new.items
-            ≡ map problem_of errors.old.items ++ (if is_ignored g front then [] else option_to_list (problem_in g front)))) }
+            ≡ map problem_of errors.old.items ++ (if is_ignored g names then [] else option_to_list (problem_in g names)))) }
+        ensures levels { Keeps (slots_of self.old.levels) (slots_of self.new.levels) }
+        ensures below { IfOk result (λ k. IsBelow (slots_of self.old.levels) (slots_of self.new.levels) place k) }
+        ensures above { (self.new.has_above ≡ self.old.has_above) × ((self.new.above ≡ self.old.above) × (self.new.base ≡ self.old.base)) }
+        ensures dirs { self.new.dirs ≡ self.old.dirs }
         ensures soft { AllSoft (map problem_of errors.old.items) → OnOk result (AllSoft (map problem_of errors.new.items)) }
         ensures out_of_memory { IfErr result (λ e. problem_of e ≡ memory) }
     {
-        if self.is_ignored(call.asked, names, key)? {
+        steps_are_whole();
+        if self.is_ignored(call.asked, place, key)? {
             return Ok(Kept::Ignored);
         }
-        Ok(Kept::Loaded(load(call, key, errors)?))
+        let dir = load(call, key, errors)?;
+        let offset = self.base.len() + key.len();
+        let place = self.levels.add(dir, place, offset)?;
+        Ok(Kept::Loaded(place))
     }
 
-    /// Looks the directory with these names and this key up. Where nothing is kept of it, judges
-    /// it, loads it unless it is ignored, and keeps it. Returns whether it is loaded.
+    /// Looks the directory with this key up, in one that stands at a place. Where nothing is kept
+    /// of it, judges it, loads it unless it is ignored, and keeps it. Returns what is kept of it.
     fn keep<F: Files>(
         &mut self,
         call: &Call<'_, F>,
-        names: &[&str],
+        place: Option<Place>,
         key: &str,
         errors: &mut Vec<Error>,
-    ) -> Result<bool, Error>
+    ) -> Result<Kept, Error>
         ensures stays { Stays self.old self.new }
         ensures kept { OnOk result ((text : List ℕ) → is_some (get_by_text self.new.dirs text)
             ≡ (is_some (get_by_text self.old.dirs text) || bytes_eq key.now text)) }
         ensures others { (text : List ℕ) → text ≢ key.now → get_by_text self.new.dirs text ≡ get_by_text self.old.dirs text }
         ensures above { (self.new.has_above ≡ self.old.has_above) × ((self.new.above ≡ self.old.above) × (self.new.base ≡ self.old.base)) }
-        ensures agrees { WhereNext F.Files call.now self.old (map (λ n. n.now) names.now) key.now (λ g front.
-            Agrees g self.new) }
-        ensures value { WhereNext F.Files call.now self.old (map (λ n. n.now) names.now) key.now (λ g front.
-            IfOk result (λ yes. yes ≡ not (is_ignored g front))) }
-        ensures found { (names : List (List ℕ)) → key.now ≡ slashed names → IfOk result (λ yes. yes ≡ true → IsLoaded self.new names) }
-        ensures problems { WhereNext F.Files call.now self.old (map (λ n. n.now) names.now) key.now (λ g front.
-            OnOk result (map problem_of errors.new.items ≡ map problem_of errors.old.items ++ problems_at g self.old front)) }
+        ensures agrees { WhereNext F.Files call.now self.old place key.now (λ g names. Agrees g self.new) }
+        ensures value { WhereNext F.Files call.now self.old place key.now (λ g names.
+            IfOk result (λ k. is_loaded k ≡ not (is_ignored g names))) }
+        ensures found { IfOk result (λ k. get_by_text self.new.dirs key.now ≡ Some k) }
+        ensures problems { WhereNext F.Files call.now self.old place key.now (λ g names.
+            OnOk result (map problem_of errors.new.items ≡ map problem_of errors.old.items ++ problems_at g self.old names)) }
+        ensures known { is_some (get_by_text self.old.dirs key.now) ≡ true → (self.new ≡ self.old) × ((errors.new ≡ errors.old) × IsOk result) }
         ensures soft { AllSoft (map problem_of errors.old.items) → OnOk result (AllSoft (map problem_of errors.new.items)) }
         ensures out_of_memory { IfErr result (λ e. problem_of e ≡ memory) }
     {
         if let Some(kept) = self.dirs.get(key) {
-            return Ok(kept.is_loaded());
+            return Ok(*kept);
         }
         let text = String::from_str(call.alloc(), key)?;
-        let kept = self.find(call, names, key, errors)?;
-        let is_loaded = kept.is_loaded();
+        let kept = self.find(call, place, key, errors)?;
         self.dirs.insert(text, kept)?;
-        Ok(is_loaded)
+        Ok(kept)
     }
 }
 
 impl Cache {
     /// Keeps the proper ancestors of a path of these names, from the root down to the first ignored
-    /// one. Returns whether none is ignored.
+    /// one. Returns what is kept of the last of them.
     fn keep_way<F: Files>(
         &mut self,
         call: &Call<'_, F>,
         names: &[&str],
         errors: &mut Vec<Error>,
-    ) -> Result<bool, Error>
+    ) -> Result<Kept, Error>
         ensures stays { Stays self.old self.new }
         ensures kept { WhereRooted F.Files call.now self.old (map (λ n. n.now) names.now) (λ g all.
             OnOk result (KeepsNeeded (needed g all) self.old self.new)) }
         ensures agrees { WhereRooted F.Files call.now self.old (map (λ n. n.now) names.now) (λ g all.
             Agrees g self.new) }
         ensures value { WhereRooted F.Files call.now self.old (map (λ n. n.now) names.now) (λ g all.
-            IfOk result (λ yes. yes ≡ not (list_any (is_ignored g) (ancestors all)))) }
+            IfOk result (λ k. is_loaded k ≡ not (list_any (is_ignored g) (ancestors all)))) }
         ensures found { WhereRooted F.Files call.now self.old (map (λ n. n.now) names.now) (λ g all.
-            IfOk result (λ yes. yes ≡ true → IsInLoaded self.new all)) }
+            IfOk result (λ k. (place : Option Place) → k ≡ kept.Kept.Loaded place → IsNext self.new all place)) }
         ensures problems { WhereRooted F.Files call.now self.old (map (λ n. n.now) names.now) (λ g all.
             OnOk result (map problem_of errors.new.items
             ≡ map problem_of errors.old.items ++ filter_map (λ p. p) (new_below g self.old all))) }
+        ensures known { (tree : Tree) (loads : List ℕ → Loaded) → let g = scene_of call.now.asked.now tree loads in
+            let all = map (λ n. n.now) names.now in Agrees g self.old → All IsName all → self.old.has_above ≡ true
+            → is_known g self.old all ≡ true → (self.new ≡ self.old) × ((errors.new ≡ errors.old)
+            × IfOk result (λ k. (is_loaded k ≡ not (list_any (is_ignored g) (ancestors all)))
+            × ((place : Option Place) → k ≡ kept.Kept.Loaded place → IsNext self.old all place))) }
         ensures soft { AllSoft (map problem_of errors.old.items) → OnOk result (AllSoft (map problem_of errors.new.items)) }
         ensures out_of_memory { IfErr result (λ e. problem_of e ≡ memory) }
     {
         let mut key = String::new(call.alloc());
-        for (i, name) in names.iter().enumerate() {
-            if !self.keep(call, &names[..i], key.as_str(), errors)? {
-                return Ok(false);
+        let mut place = self.above;
+        for name in names {
+            match self.keep(call, place, key.as_str(), errors)? {
+                Kept::Ignored => return Ok(Kept::Ignored),
+                Kept::Loaded(found) => place = found,
             }
             key.push_str(*name)?;
             key.push('/')?;
         }
-        Ok(true)
+        Ok(Kept::Loaded(place))
     }
 
     /// What the rules say of a path of names. Its proper ancestors are kept then, down to the first
@@ -200,17 +218,17 @@ impl Cache {
         ensures problems { WhereKept F.Files call.now self.old path.now (λ g.
             OnOk result (map problem_of errors.new.items ≡ map problem_of errors.old.items
             ++ filter_map (λ p. p) (new_below g self.old (components path.now)))) }
+        ensures from_kept { (tree : Tree) (loads : List ℕ → Loaded) → let g = scene_of call.now.asked.now tree loads in
+            Agrees g self.old → list_all is_proper (components path.now) ≡ true → self.old.has_above ≡ true
+            → is_known g self.old (components path.now) ≡ true → (self.new ≡ self.old) × ((errors.new ≡ errors.old)
+            × IfOk result (λ v. v ≡ rules_verdict g (components path.now) is_dir)) }
         ensures soft { AllSoft (map problem_of errors.old.items) → OnOk result (AllSoft (map problem_of errors.new.items)) }
         ensures out_of_memory { IfErr result (λ e. problem_of e ≡ memory) }
     {
         let names = components(call.alloc(), path)?;
-        let names = names.as_slice();
-        if !self.keep_way(call, names, errors)? {
-            return Ok(Verdict::Ignore);
-        }
-        match names.split_last() {
-            Some((_, front)) => self.verdict_in(call.asked, front, path, is_dir),
-            None => Ok(Verdict::None),
+        match self.keep_way(call, names.as_slice(), errors)? {
+            Kept::Ignored => Ok(Verdict::Ignore),
+            Kept::Loaded(place) => self.verdict_at(call.asked, place, path, is_dir),
         }
     }
 }

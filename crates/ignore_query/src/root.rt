@@ -64,6 +64,7 @@ impl Cache {
         ensures stays { Stays self.old self.new }
         ensures kept { OnOk result (self.new.has_above ≡ true) }
         ensures same { self.new.dirs ≡ self.old.dirs }
+        ensures known { self.old.has_above ≡ true → (self.new ≡ self.old) × (errors.new ≡ errors.old) }
         ensures problems { InCall F.Files call.now (λ g. OnOk result (map problem_of errors.new.items ≡ map problem_of errors.old.items
             ++ option_to_list (new_above g self.old))) }
         ensures soft { AllSoft (map problem_of errors.old.items) → OnOk result (AllSoft (map problem_of errors.new.items)) }
@@ -74,7 +75,7 @@ impl Cache {
         }
         let found = load_above(&call.ground(), call.asked.root.as_str())?;
         push_some(errors, joined_some(call.alloc(), found.errors)?)?;
-        self.above = found.dirs;
+        self.above = self.levels.add_all(found.dirs)?;
         self.base = found.base;
         self.has_above = true;
         Ok(())

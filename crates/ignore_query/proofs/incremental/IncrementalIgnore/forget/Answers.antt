@@ -2,9 +2,9 @@ use Rattle.std.proofs.Common.{◌≡◌, ◌∷◌, [], Bool, true, false, not, 
 use Rattle.std.specs.Str.{bytes_eq}
 use Rattle.ignore_dir.specs.Chains.{slashed}
 use Rattle.ignore_dir.specs.Query.{is_clean}
-use Rattle.ignore_query.specs.Agrees.{kept_at}
+use Rattle.ignore_query.specs.Listed.{kept_at}
 use Rattle.ignore_query.specs.Reached.{scene_of}
-use Rattle.ignore_query.proofs.ForgetLemmas.{key_by_names, later_agrees, left_agrees}
+use Rattle.ignore_query.proofs.ForgetLemmas.{Forgets, key_by_names, later_agrees, left_agrees}
 use Rattle.ignore_query.proofs.incremental.IncrementalIgnore.forget.Goals as goal
 
 and_right : (a b : Bool) → (a && b) ≡ true → b ≡ true
@@ -24,6 +24,11 @@ returns-clause-forgotten c = λ names clean asked.
 pub returns-clause-agrees : goal.returns-clause-agrees
 returns-clause-agrees c = λ before after loads later old same.
     let a = c.args.self.now.asked in
-    let kept = left_agrees (scene_of a before loads) c.args.self.now.cache c.forget.new.self
-    c.args.dir.now old c.forget.ensures.above c.forget.ensures.looked in
+    let forgets : Forgets c.args.self.now.cache c.forget.new.self c.args.dir.now = record {
+      same = c.forget.ensures.above;
+      look = c.forget.ensures.looked;
+      keeps = c.forget.ensures.levels;
+      chains = c.forget.ensures.chains;
+    } in
+    let kept = left_agrees (scene_of a before loads) c.args.self.now.cache c.forget.new.self c.args.dir.now old forgets in
     later_agrees a before after loads later c.forget.new.self kept same

@@ -1,106 +1,129 @@
-use Rattle.std.proofs.Common.{◌≡◌, ◌++◌, List, Some, None, map, refl, sym, ap, ◌∙◌, subst, string_bytes}
+use Rattle.std.proofs.Common.{rules, ◌≡◌, ◌++◌, List, Some, None, map, refl, sym, ap, ◌∙◌, subst, string_bytes}
 use Rattle.std.proofs.lemmas.List.{append-nil}
 use Rattle.std.proofs.lemmas.Map.Text.{btree_map_updates_text}
 use Rattle.std.specs.BTreeMap.{get_by_text}
 use Rattle.ignore_base.specs.Problem.{Problem, problem_of}
 use Rattle.ignore_query.specs.declared.kept.Cache.{Cache}
-use Rattle.ignore_query.specs.Agrees.{kept_at}
+use Rattle.ignore_query.specs.Listed.{kept_at}
 use Rattle.ignore_query.specs.Reached.{scene_of}
-use Rattle.ignore_query.proofs.KeepLemmas.{Puts, loaded_from, problems_known, problems_new, put_agrees, puts_key, puts_others, right_loaded}
+use Rattle.std.specs.Map.{lookup}
+use Rattle.ignore_query.proofs.EntryLemmas.{at_text}
+use Rattle.ignore_query.proofs.KeepLemmas.{AddsOne, Puts, problems_known, problems_new, put_agrees, puts_from, puts_key, puts_others, right_kept, right_loaded}
+use Rattle.ignore_query.proofs.ListLemmas.{grown_agrees, put_listed}
 use Rattle.ignore_query.proofs.NeedLemmas.{known_kept, put_kept, stays_put}
 use Rattle.ignore_query.proofs.kept.Cache.keep.Goals as goal
 
 pub returns-in-Some-clause-value : goal.returns-in-Some-clause-value
-returns-in-Some-clause-value g c = λ tree loads honest are agrees clean key next.
+returns-in-Some-clause-value g c = λ tree loads honest are names agrees clean key next.
     let scene = scene_of c.args.call.now.asked.now tree loads in
-    let front = map (λ n. n.now) c.args.names.now in
     let found = ap (λ t. get_by_text c.args.self.now.dirs t) (sym key) ∙ sym c.in-Some.ensures.value in
-    c.is_loaded.ensures ∙ right_loaded scene front c.in-Some.kept.now (agrees.right front c.in-Some.kept.now clean found)
-
-pub returns-in-Some-clause-found : goal.returns-in-Some-clause-found
-returns-in-Some-clause-found g c = λ names key yes.
-    let p = loaded_from c.in-Some.kept.now (sym c.is_loaded.ensures ∙ yes) in
-    (p.0, ap (λ t. get_by_text c.args.self.now.dirs t) (sym key) ∙ (sym c.in-Some.ensures.value ∙ ap Some p.1))
+    right_loaded scene c.args.self.now names c.in-Some.kept.now (agrees.right names c.in-Some.kept.now clean found)
 
 pub returns-in-Some-clause-problems : goal.returns-in-Some-clause-problems
-returns-in-Some-clause-problems g c = λ tree loads honest are agrees clean key next.
+returns-in-Some-clause-problems g c = λ tree loads honest are names agrees clean key next.
     let scene = scene_of c.args.call.now.asked.now tree loads in
-    let front = map (λ n. n.now) c.args.names.now in
     let old = map problem_of c.args.errors.now.items in
     let found = ap (λ t. get_by_text c.args.self.now.dirs t) (sym key) ∙ sym c.in-Some.ensures.value in
-    sym (ap (λ (l : List Problem). old ++ l) (problems_known scene c.args.self.now front c.in-Some.kept.now found) ∙ append-nil old)
+    sym (ap (λ (l : List Problem). old ++ l) (problems_known scene c.args.self.now names c.in-Some.kept.now found) ∙ append-nil old)
 
 pub returns-in-Some-clause-kept : goal.returns-in-Some-clause-kept
 returns-in-Some-clause-kept g c = known_kept c.args.self.now c.args.key.now c.in-Some.kept.now (sym c.in-Some.ensures.value)
 
+pub returns-in_err-kept-clause-agrees : goal.returns-in_err-kept-clause-agrees
+returns-in_err-kept-clause-agrees g c = λ tree loads honest are names agrees clean key next.
+    grown_agrees (scene_of c.args.call.now.asked.now tree loads) c.args.self.now c.find.new.self agrees c.find.ensures.above c.find.ensures.levels
+    (λ t. ap (λ d. get_by_text d t) c.find.ensures.dirs)
+
+pub returns-in_err-insert-clause-agrees : goal.returns-in_err-insert-clause-agrees
+returns-in_err-insert-clause-agrees g c = λ tree loads honest are names agrees clean key next.
+    let mid = c.find.new.self in
+    let after : Cache = record mid { dirs = c.insert.new.self } in
+    let same : after.dirs.entries ≡ mid.dirs.entries = search rules in
+    grown_agrees (scene_of c.args.call.now.asked.now tree loads) c.args.self.now after agrees c.find.ensures.above c.find.ensures.levels
+    (λ t. ap (λ es. lookup (at_text t) es) same ∙ ap (λ d. get_by_text d t) c.find.ensures.dirs)
+
 pub returns-clause-stays : goal.returns-clause-stays
 returns-clause-stays g c =
     let before = c.args.self.now in
-    let after : Cache = record before { dirs = c.insert.new.self } in
+    let mid = c.find.new.self in
+    let after : Cache = record mid { dirs = c.insert.new.self } in
     let puts : Puts before after c.args.key.now c.in_ok-kept.kept =
-    λ cs. btree_map_updates_text (string_bytes c.in_ok-text.text) before.dirs c.insert.new.self
+    puts_from before mid after c.args.key.now c.in_ok-kept.kept c.find.ensures.dirs
+    (λ cs. btree_map_updates_text (string_bytes c.in_ok-text.text) mid.dirs c.insert.new.self
     (Some c.in_ok-kept.kept) c.in_ok-insert.ensures.updates cs
-    ∙ rw c.in_ok-text.ensures.ok refl in
-    stays_put before after c.args.key.now c.in_ok-kept.kept puts (sym c.in_default.ensures.value) (refl, (refl, refl))
+    ∙ rw c.in_ok-text.ensures.ok refl) in
+    stays_put before after c.args.key.now c.in_ok-kept.kept puts (sym c.in_default.ensures.value) c.find.ensures.above c.find.ensures.levels
 
 pub returns-clause-kept : goal.returns-clause-kept
 returns-clause-kept g c =
     let before = c.args.self.now in
-    let after : Cache = record before { dirs = c.insert.new.self } in
+    let mid = c.find.new.self in
+    let after : Cache = record mid { dirs = c.insert.new.self } in
     let puts : Puts before after c.args.key.now c.in_ok-kept.kept =
-    λ cs. btree_map_updates_text (string_bytes c.in_ok-text.text) before.dirs c.insert.new.self
+    puts_from before mid after c.args.key.now c.in_ok-kept.kept c.find.ensures.dirs
+    (λ cs. btree_map_updates_text (string_bytes c.in_ok-text.text) mid.dirs c.insert.new.self
     (Some c.in_ok-kept.kept) c.in_ok-insert.ensures.updates cs
-    ∙ rw c.in_ok-text.ensures.ok refl in
+    ∙ rw c.in_ok-text.ensures.ok refl) in
     put_kept before after c.args.key.now c.in_ok-kept.kept puts
 
 pub returns-clause-others : goal.returns-clause-others
 returns-clause-others g c = λ text ne.
     let before = c.args.self.now in
-    let after : Cache = record before { dirs = c.insert.new.self } in
+    let mid = c.find.new.self in
+    let after : Cache = record mid { dirs = c.insert.new.self } in
     let puts : Puts before after c.args.key.now c.in_ok-kept.kept =
-    λ cs. btree_map_updates_text (string_bytes c.in_ok-text.text) before.dirs c.insert.new.self
+    puts_from before mid after c.args.key.now c.in_ok-kept.kept c.find.ensures.dirs
+    (λ cs. btree_map_updates_text (string_bytes c.in_ok-text.text) mid.dirs c.insert.new.self
     (Some c.in_ok-kept.kept) c.in_ok-insert.ensures.updates cs
-    ∙ rw c.in_ok-text.ensures.ok refl in
+    ∙ rw c.in_ok-text.ensures.ok refl) in
     puts_others before after c.args.key.now c.in_ok-kept.kept puts text ne
 
 pub returns-clause-agrees : goal.returns-clause-agrees
-returns-clause-agrees g c = λ tree loads honest are agrees clean key next.
+returns-clause-agrees g c = λ tree loads honest are names agrees clean key next.
     let scene = scene_of c.args.call.now.asked.now tree loads in
-    let front = map (λ n. n.now) c.args.names.now in
     let before = c.args.self.now in
-    let after : Cache = record before { dirs = c.insert.new.self } in
+    let mid = c.find.new.self in
+    let after : Cache = record mid { dirs = c.insert.new.self } in
     let puts : Puts before after c.args.key.now c.in_ok-kept.kept =
-    λ cs. btree_map_updates_text (string_bytes c.in_ok-text.text) before.dirs c.insert.new.self
+    puts_from before mid after c.args.key.now c.in_ok-kept.kept c.find.ensures.dirs
+    (λ cs. btree_map_updates_text (string_bytes c.in_ok-text.text) mid.dirs c.insert.new.self
     (Some c.in_ok-kept.kept) c.in_ok-insert.ensures.updates cs
-    ∙ rw c.in_ok-text.ensures.ok refl in
-    let absent : kept_at before front ≡ None = ap (λ t. get_by_text before.dirs t) (sym key) ∙ sym c.in_default.ensures.value in
-    put_agrees scene before after front c.in_ok-kept.kept agrees clean next (subst
-    (λ t. Puts before after t c.in_ok-kept.kept) key puts) absent (refl, (refl, refl))
-    (c.in_ok-kept.ensures.value tree loads honest are agrees clean key next)
+    ∙ rw c.in_ok-text.ensures.ok refl) in
+    let k = c.in_ok-kept.kept in
+    let right = c.in_ok-kept.ensures.value tree loads honest are names agrees clean key next in
+    let adds : AddsOne scene before after names c.args.place k = record {
+      clean = clean;
+      next = next;
+      puts = subst (λ t. Puts before after t k) key puts;
+      absent = ap (λ t. get_by_text before.dirs t) (sym key) ∙ sym c.in_default.ensures.value;
+      same = c.find.ensures.above;
+      keeps = c.find.ensures.levels;
+      right = right_kept scene mid after names k (λ at level e. e) right;
+      below = c.in_ok-kept.ensures.below;
+    } in
+    put_agrees scene before after names c.args.place k agrees adds (put_listed scene before after names c.args.place k agrees adds)
 
 pub returns-clause-value : goal.returns-clause-value
-returns-clause-value g c = λ tree loads honest are agrees clean key next.
+returns-clause-value g c = λ tree loads honest are names agrees clean key next.
     let scene = scene_of c.args.call.now.asked.now tree loads in
-    let front = map (λ n. n.now) c.args.names.now in
-    c.is_loaded-is_loaded.ensures ∙ right_loaded scene front c.in_ok-kept.kept
-    (c.in_ok-kept.ensures.value tree loads honest are agrees clean key next)
+    right_loaded scene c.find.new.self names c.in_ok-kept.kept (c.in_ok-kept.ensures.value tree loads honest are names agrees clean key next)
 
 pub returns-clause-found : goal.returns-clause-found
-returns-clause-found g c = λ names key yes.
+returns-clause-found g c =
     let before = c.args.self.now in
-    let after : Cache = record before { dirs = c.insert.new.self } in
+    let mid = c.find.new.self in
+    let after : Cache = record mid { dirs = c.insert.new.self } in
     let puts : Puts before after c.args.key.now c.in_ok-kept.kept =
-    λ cs. btree_map_updates_text (string_bytes c.in_ok-text.text) before.dirs c.insert.new.self
+    puts_from before mid after c.args.key.now c.in_ok-kept.kept c.find.ensures.dirs
+    (λ cs. btree_map_updates_text (string_bytes c.in_ok-text.text) mid.dirs c.insert.new.self
     (Some c.in_ok-kept.kept) c.in_ok-insert.ensures.updates cs
-    ∙ rw c.in_ok-text.ensures.ok refl in
-    let p = loaded_from c.in_ok-kept.kept (sym c.is_loaded-is_loaded.ensures ∙ yes) in
-    (p.0, ap (λ t. get_by_text c.insert.new.self t) (sym key) ∙ (puts_key before after c.args.key.now c.in_ok-kept.kept puts ∙ ap Some p.1))
+    ∙ rw c.in_ok-text.ensures.ok refl) in
+    puts_key before after c.args.key.now c.in_ok-kept.kept puts
 
 pub returns-clause-problems : goal.returns-clause-problems
-returns-clause-problems g c = λ tree loads honest are agrees clean key next.
+returns-clause-problems g c = λ tree loads honest are names agrees clean key next.
     let scene = scene_of c.args.call.now.asked.now tree loads in
-    let front = map (λ n. n.now) c.args.names.now in
     let before = c.args.self.now in
-    let absent : kept_at before front ≡ None = ap (λ t. get_by_text before.dirs t) (sym key) ∙ sym c.in_default.ensures.value in
-    c.in_ok-kept.ensures.problems tree loads honest are agrees clean key next
-    ∙ ap (λ (l : List Problem). map problem_of c.args.errors.now.items ++ l) (sym (problems_new scene before front absent))
+    let absent : kept_at before names ≡ None = ap (λ t. get_by_text before.dirs t) (sym key) ∙ sym c.in_default.ensures.value in
+    c.in_ok-kept.ensures.problems tree loads honest are names agrees clean key next
+    ∙ ap (λ (l : List Problem). map problem_of c.args.errors.now.items ++ l) (sym (problems_new scene before names absent))

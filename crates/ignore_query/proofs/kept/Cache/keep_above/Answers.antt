@@ -1,9 +1,48 @@
-use Rattle.std.proofs.Common.{Option, None, Some, map, option_map, sym, subst}
+use Rattle.std.proofs.Common.{◌≡◌, ◌∷◌, true, List, reverse, Option, None, Some, map, option_map, refl, sym, subst, ap, ◌∙◌}
+use Rattle.ignore_dir.specs.Above.{dirs_above, names_above, paths_above}
+use Rattle.ignore_dir.specs.Chains.{placed_along, slashed}
+use Rattle.ignore_dir.specs.Load.{AreLoads}
+use Rattle.ignore_files.specs.Gives.{IsHonest}
+use Rattle.ignore_query.specs.declared.kept.Cache.{Cache}
+use Rattle.ignore_dir.specs.Lists.{Placed}
+use Rattle.ignore_levels.specs.Levels.{IsChain, IsRising, counting}
+use Rattle.ignore_query.specs.Reached.{scene_of}
+use Rattle.ignore_query.proofs.ListLemmas.{above-rising, first_agrees, grown_agrees, placed_above}
 use Rattle.std.specs.Option.{option_to_list}
 use Rattle.ignore_base.specs.Problem.{Problem, problem_of}
 use Rattle.ignore_dir.specs.Soft.{AllSoft, IsSoft}
 use Rattle.ignore_dir.proofs.SoftLemmas.{joined_all-soft, more_soft}
 use Rattle.ignore_query.proofs.kept.Cache.keep_above.Goals as goal
+
+pub returns-in_err-self-clause-agrees : goal.returns-in_err-self-clause-agrees
+returns-in_err-self-clause-agrees g c = λ tree loads honest are there agrees.
+    grown_agrees (scene_of c.args.call.now.asked.now tree loads) c.args.self.now (record c.args.self.now { levels = c.add_all.new.self }) agrees
+    (refl, (refl, refl)) c.in_err-self.ensures.levels (λ key. refl)
+
+pub returns-clause-agrees : goal.returns-clause-agrees
+returns-clause-agrees g c = λ tree loads honest are there agrees.
+    let scene = scene_of c.args.call.now.asked.now tree loads in
+    let found = c.in_ok-found.found in
+    let set = c.ground.ensures.settings in
+    let honest' = subst (λ f. IsHonest g.F.Files f tree) (sym c.ground.ensures.files) honest in
+    let are' = subst (λ s. AreLoads tree s loads) (sym set) are in
+    let root = c.as_str.ensures.value in
+    let dirs : found.dirs.items ≡ placed_above scene = c.in_ok-found.ensures.dirs tree loads honest' are'
+    ∙ (ap (λ s. placed_along 1 (dirs_above loads s (paths_above tree s c.as_str.result.now)) (names_above tree s c.as_str.result.now)) set
+    ∙ ap (λ r. placed_along 1 (dirs_above loads scene.settings (paths_above tree scene.settings r)) (names_above tree scene.settings r)) root) in
+    let base = c.in_ok-found.ensures.base tree honest'
+    ∙ (ap (λ s. 47 ∷ slashed (names_above tree s c.as_str.result.now)) set ∙ ap (λ r. 47 ∷ slashed (names_above tree scene.settings r)) root) in
+    let after : Cache = record {
+      has_above = true;
+      above = c.in_ok-self.field-0;
+      base = found.base;
+      levels = c.add_all.new.self;
+      dirs = c.args.self.now.dirs;
+    } in
+    first_agrees scene c.args.self.now after agrees c.if-self.false refl there
+    (subst (λ (l : List Placed). IsChain c.add_all.new.self.slots.items c.in_ok-self.field-0 (counting (reverse l))) dirs
+    (c.in_ok-self.ensures.chain (subst (IsRising 0) (sym dirs) (above-rising scene))))
+    base refl
 
 soft_from : (p : Option Problem) → AllSoft (option_to_list p) → IsSoft p
 soft_from None h = tt
