@@ -2,6 +2,7 @@
 //! tables of what it prints.
 #![tactic(auto)]
 
+mod build;
 mod check;
 mod globs;
 mod input;
@@ -17,7 +18,7 @@ use input::words;
 use std::process::ExitCode;
 
 const USAGE: &str =
-    "usage: bench check | globs GLOBS TEXTS ROUNDS | rules RULES TEXTS COUNT ROUNDS | list RULES PATHS | queries ROOT PATHS ROUNDS";
+    "usage: bench check | globs GLOBS TEXTS ROUNDS | rules RULES TEXTS COUNT ROUNDS | list RULES PATHS | queries ROOT PATHS ROUNDS | build RULES ROUNDS";
 
 /// Runs the command in the words; returns whether there is such a command.
 fn run(rt: &HostRuntime, words: &[String]) -> Result<bool, Error> {
@@ -34,6 +35,9 @@ fn run(rt: &HostRuntime, words: &[String]) -> Result<bool, Error> {
         [command, root, paths, rounds] if command.as_str() == "queries" => {
             let rounds = number(rounds.as_str());
             queries::time_queries(rt, root.as_str(), paths.as_str(), rounds)?;
+        }
+        [command, rules, rounds] if command.as_str() == "build" => {
+            build::time_builds(rt, rules.as_str(), number(rounds.as_str()))?;
         }
         [command, rules, paths] if command.as_str() == "list" => {
             list::list(rt, rules.as_str(), paths.as_str())?;

@@ -80,7 +80,7 @@ pub(crate) fn time<M: Matcher>(
     Ok(())
 }
 
-fn nanos_of(time: Duration) -> u64 {
+pub(crate) fn nanos_of(time: Duration) -> u64 {
     time.as_secs()
         .saturating_mul(1_000_000_000)
         .saturating_add(u64::from(time.subsec_nanos()))

@@ -1,20 +1,17 @@
 -- Patterns of literals by the text of the literals: their form, their positions and their nodes.
 use Rattle.std.proofs.Common.{◌≡◌, ◌≢◌, ◌+◌, ◌<◌, ℕ, Bool, false, List, [], ◌∷◌, ◌++◌, length, Some, refl, sym, ap, subst, ◌∙◌, arith}
-use Rattle.std.proofs.Common.{encode_utf8, map, append_assoc, inl, inr, length-append}
+use Rattle.std.proofs.Common.{encode_utf8, append_assoc, inl, inr}
 use Rattle.std.specs.Str.{chars, IsUtf8}
 use Rattle.std.specs.Str.Iter.{HasSubslice}
-use Rattle.std.proofs.lemmas.List.{append-nil, length-map, map-append}
+use Rattle.std.proofs.lemmas.List.{append-nil}
 use Rattle.std.proofs.lemmas.Str.{chars_from_encodes, encodes-chars}
-use Rattle.ignore_glob.specs.Exact.{literals_of, kind_tokens, exact_reading, front_tokens, front_nodes}
+use Rattle.ignore_glob.specs.Exact.{literals_of, kind_tokens, exact_reading, front_nodes}
 use Rattle.ignore_glob.specs.Forms.{Form, whole, name, ending, literals, before, keyed, below_form, tokens_form, form_of}
 use Rattle.ignore_glob.specs.Glob.{literal, any, star, start, middle, end, class, alternates, Tokens, done, then}
-use Rattle.ignore_glob.specs.NodeLists.{tokens_nodes, glob_nodes, node_view, nodes_view}
+use Rattle.ignore_glob.specs.NodeLists.{tokens_nodes, glob_nodes}
 use Rattle.ignore_glob.specs.Nodes.{Node, literal_at, start_at, star_at, until_slash, entry, width}
 use Rattle.ignore_glob.specs.Reading.{Reading, Matches}
-use Rattle.ignore_glob.specs.View.{tokens_of, view}
-use Rattle.ignore_glob.specs.declared.glob.node.Node.{Node as CodeNode}
-use Rattle.ignore_glob.specs.declared.glob.node.Node.TheVariants as Code
-use Rattle.ignore_glob.specs.Words.{has_braces}
+use Rattle.ignore_glob.specs.View.{view}
 use Rattle.ignore_glob.specs.declared.glob.kind.Kind.{Kind}
 use Rattle.ignore_glob.specs.declared.glob.kind.Kind.TheVariants.{Whole, Name, End}
 use Rattle.ignore_glob.proofs.FormLemmas.{Says, says_tokens, from_some, matches_whole, matches_name, matches_end}
@@ -149,16 +146,6 @@ abbrev pub numbered : ℕ → List ℕ → List Node
 numbered b [] = []
 numbered b (c ∷ cs) = literal_at c (b + 1) ∷ numbered (b + 1) cs
 
-pub numbered-push : (b : ℕ) (cs : List ℕ) (c : ℕ) → numbered b (cs ++ c ∷ []) ≡ numbered b cs ++ literal_at c (b + length cs + 1) ∷ []
-numbered-push b [] c = ap (λ n. literal_at c n ∷ []) (omega arith)
-numbered-push b (d ∷ cs) c =
-    ap (λ l. literal_at d (b + 1) ∷ l) (numbered-push (b + 1) cs c
-    ∙ ap (λ n. numbered (b + 1) cs ++ literal_at c n ∷ []) (omega arith))
-
-pub numbered-length : (b : ℕ) (cs : List ℕ) → length (numbered b cs) ≡ length cs
-numbered-length b [] = refl
-numbered-length b (c ∷ cs) = let more = numbered-length (b + 1) cs in omega (arith, more)
-
 entry_literals : (cs : List ℕ) (b e : ℕ) → e ≡ b + length cs → entry (literals_of cs) b e ≡ b
 entry_literals [] b e h = omega (arith, h)
 entry_literals (c ∷ cs) b e h = refl
@@ -182,17 +169,6 @@ exact_nodes End (c ∷ cs) some =
     let w = width (kind_tokens End (c ∷ cs)) in
     ap (λ l. start_at 2 ∷ until_slash 2 ∷ star_at 3 ∷ l) (literals_nodes (c ∷ cs) 3 w (tokens_width End (c ∷ cs)))
 
--- Tokens as a list.
-
-literals_list : (cs : List ℕ) → tokens_of (map literal cs) ≡ literals_of cs
-literals_list [] = refl
-literals_list (c ∷ cs) = ap (λ l. then (literal c) l) (literals_list cs)
-
-pub listed_tokens : (kind : Kind) (cs : List ℕ) → tokens_of (front_tokens kind ++ map literal cs) ≡ kind_tokens kind cs
-listed_tokens Whole cs = literals_list cs
-listed_tokens Name cs = ap (λ l. then start l) (literals_list cs)
-listed_tokens End cs = ap (λ l. then start (then star l)) (literals_list cs)
-
 -- A text isn't empty where its bytes aren't.
 pub some_chars : (bytes : List ℕ) → IsUtf8 bytes → 0 < length bytes → 0 < length (chars bytes)
 some_chars bytes utf8 some = by (chars bytes) (encodes-chars bytes utf8)
@@ -201,43 +177,7 @@ some_chars bytes utf8 some = by (chars bytes) (encodes-chars bytes utf8)
     by [] e = absurd (omega (arith, some, ap length e))
     by (c ∷ cs) e = omega arith
 
--- The nodes so far.
-
-front-length : (kind : Kind) → length (front_nodes kind) ≡ kind_width kind
+pub front-length : (kind : Kind) → length (front_nodes kind) ≡ kind_width kind
 front-length Whole = refl
 front-length Name = refl
 front-length End = refl
-
-pub so_many : (kind : Kind) (xs : List ℕ) (nodes : List CodeNode) → nodes_view nodes ≡ front_nodes kind ++ numbered (kind_width kind) xs
-    → length nodes ≡ kind_width kind + length xs
-so_many kind xs nodes e =
-    let all = length-append (front_nodes kind) (numbered (kind_width kind) xs) in
-    omega (arith, length-map nodes node_view, ap length e, all, front-length kind, numbered-length (kind_width kind) xs)
-
-pub one_more : (kind : Kind) (xs : List ℕ) (c next : ℕ) (old new : List CodeNode) → nodes_view old ≡ front_nodes kind ++ numbered (kind_width kind) xs
-    → next ≡ length old + 1 → new ≡ old ++ Code.Literal c next ∷ []
-    → nodes_view new ≡ front_nodes kind ++ numbered (kind_width kind) (xs ++ c ∷ [])
-one_more kind xs c next old new e at grown =
-    let w = kind_width kind in
-    let known : next ≡ w + length xs + 1 = omega (arith, at, so_many kind xs old e) in
-    ap nodes_view grown
-    ∙ (map-append node_view old (Code.Literal c next ∷ [])
-    ∙ (ap (λ l. l ++ literal_at c next ∷ []) e
-    ∙ (append_assoc (front_nodes kind) (numbered w xs) (literal_at c next ∷ [])
-    ∙ ap (λ l. front_nodes kind ++ l) (ap (λ n. numbered w xs ++ literal_at c n ∷ []) known ∙ sym (numbered-push w xs c)))))
-
--- the characters that a loop has had are listed as they are
-pub as_they_are : (xs : List ℕ) → map (λ c. c) xs ≡ xs
-as_they_are [] = refl
-as_they_are (c ∷ xs) = ap (λ l. c ∷ l) (as_they_are xs)
-
--- No braces.
-
-literals_plain : (cs : List ℕ) → has_braces (literals_of cs) ≡ false
-literals_plain [] = refl
-literals_plain (c ∷ cs) = literals_plain cs
-
-pub exact_plain : (kind : Kind) (cs : List ℕ) → has_braces (kind_tokens kind cs) ≡ false
-exact_plain Whole cs = literals_plain cs
-exact_plain Name cs = literals_plain cs
-exact_plain End cs = literals_plain cs

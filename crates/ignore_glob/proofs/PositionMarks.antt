@@ -198,7 +198,7 @@ module _ (whole : Tokens) (nodes : List Node) (at : AreGlobNodes nodes whole) wh
         let step = forward_empty found.0 e.0 p k e.1 node e.2 e.3 there s in
         (step.0, step.1, by_nothing found.0 step.0 o found.2 step.2)
 
-    marks_forward : (o k : ℕ) → Marked fold nodes text o k → HasMark o k
+    pub marks_forward : (o k : ℕ) → Marked fold nodes text o k → HasMark o k
     marks_forward zero k m =
         reached_forward 0 (λ q. q ≡ 0) (λ q e. (
           entrance whole first the_end,

@@ -5,6 +5,7 @@ mod class;
 mod copies;
 mod ending;
 mod exact;
+mod exact_marks;
 mod fault;
 mod flags;
 mod key;
@@ -22,7 +23,6 @@ mod options;
 mod pass;
 mod pattern;
 mod read;
-mod spelled;
 mod token;
 mod word;
 

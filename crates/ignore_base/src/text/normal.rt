@@ -109,7 +109,7 @@ fn rest_below(alloc: Global, root: &[&str], names: &[&str]) -> Result<Option<Str
 fn joined(alloc: Global, names: &[&str]) -> Result<String, AllocError>
     ensures { IfOk result (λ text. string_bytes text ≡ joined (map (λ n. n.now) names.now)) }
 {
-    let mut text = String::new(alloc);
+    let mut text = String::with_capacity(alloc, joined_len(names))?;
     let Some((first, rest)) = names.split_first() else {
         return Ok(text);
     };
@@ -119,4 +119,13 @@ fn joined(alloc: Global, names: &[&str]) -> Result<String, AllocError>
         text.push_str(*name)?;
     }
     Ok(text)
+}
+
+/// How many bytes the names have, with a slash for each.
+fn joined_len(names: &[&str]) -> usize {
+    let mut len = 0usize;
+    for name in names {
+        len = len.saturating_add(name.len()).saturating_add(1);
+    }
+    len
 }

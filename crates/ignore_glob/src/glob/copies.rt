@@ -27,9 +27,9 @@ impl Clone for Token {
                 }))
             }
             Token::Alternates(branches) => {
-                let mut copies = Vec::new(*branches.allocator());
+                let mut copies = Vec::with_capacity(*branches.allocator(), branches.len())?;
                 for branch in branches {
-                    let mut copy = Vec::new(*branch.allocator());
+                    let mut copy = Vec::with_capacity(*branch.allocator(), branch.len())?;
                     for token in branch {
                         copy.push(token.clone()?)?;
                     }
@@ -45,7 +45,7 @@ impl Clone for Token {
 pub fn copied(tokens: &Vec<Token>) -> Result<Vec<Token>, AllocError>
     ensures { IfOk result (λ copies. tokens_view copies.items ≡ tokens_view tokens.now.items) }
 {
-    let mut copies = Vec::new(*tokens.allocator());
+    let mut copies = Vec::with_capacity(*tokens.allocator(), tokens.len())?;
     for token in tokens {
         copies.push(token.clone()?)?;
     }

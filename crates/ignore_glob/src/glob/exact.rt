@@ -9,15 +9,12 @@ ghost use Rattle.ignore_glob.specs.Positions.{CountsMarks, positions};
 ghost use Rattle.ignore_glob.specs.Reading.{Matches};
 ghost use Rattle.ignore_glob.specs.View.{tokens_view};
 
-use crate::glob::automaton::Automaton;
 use crate::glob::ending::{has_end, has_name};
+use crate::glob::exact_marks::exact_marks;
 use crate::glob::key::{Key, key_of};
 use crate::glob::kind::Kind;
 use crate::glob::needle::alone;
-use crate::glob::pass;
-use crate::glob::spelled::{spelled_nodes, spelled_tokens};
 use crate::glob::token::Token;
-use crate::glob::word::word_of;
 use std::alloc::{AllocError, Global};
 use std::marker::Model;
 
@@ -83,33 +80,13 @@ impl Exact {
         }
     }
 
-    /// As `matches`, with the number of marks, which stops at `u64::MAX`. The nodes of a glob of at
-    /// most 62 positions stand on the stack for the time of the call.
-    pub(crate) fn matches_counted(&self, text: &str) -> Result<(bool, u64), AllocError>
-        ensures value { IfOk result (λ found. IsTrue found.0 ↔ Matches self.now (chars text.now)) }
-        ensures counted { IfOk result (λ found. (n : ℕ) × CountsMarks self.now.case_insensitive self.now.tokens (chars text.now) n
-            × (found.1 ≡ min n (2 ^ 64 - 1))) }
-        ensures succeeds { positions self.now.tokens ≤ 62 → IsOk result }
+    /// As `matches`, with the number of marks, which stops at `u64::MAX`.
+    pub(crate) fn matches_counted(&self, text: &str) -> (bool, u64)
+        ensures value { IsTrue result.0 ↔ Matches self.now (chars text.now) }
+        ensures counted { (n : ℕ) × CountsMarks self.now.case_insensitive self.now.tokens (chars text.now) n × (result.1 ≡ min n (2 ^ 64 - 1)) }
     {
-        if self.positions() <= 62 {
-            return self.counted_by_word(text);
-        }
-        let tokens = spelled_tokens(*self.text.allocator(), self.kind, self.text.as_str())?;
-        let automaton = Automaton::from_tokens(tokens, false)?;
-        automaton.matches_counted(text)
-    }
-
-    fn counted_by_word(&self, text: &str) -> Result<(bool, u64), AllocError>
-        requires { positions self.now.tokens ≤ 62 }
-        ensures value { IfOk result (λ found. IsTrue found.0 ↔ Matches self.now (chars text.now)) }
-        ensures counted { IfOk result (λ found. (n : ℕ) × CountsMarks self.now.case_insensitive self.now.tokens (chars text.now) n
-            × (found.1 ≡ min n (2 ^ 64 - 1))) }
-        ensures succeeds { IsOk result }
-    {
-        let alloc = *self.text.allocator();
-        let nodes = spelled_nodes(self.kind, self.text.as_str());
-        let masks = word_of(nodes.as_slice());
-        pass::matches_counted(alloc, false, nodes.as_slice(), masks, text)
+        let marks = exact_marks(self.kind, self.text.as_str(), text);
+        (self.matches(text), marks)
     }
 
     /// How many positions the glob has: one for each character, two for `**/` and one for `*`.

@@ -60,7 +60,7 @@ impl Matcher {
         ensures succeeds { has_braces (reading_of self.now).tokens ≡ false → positions (reading_of self.now).tokens ≤ 62 → IsOk result }
     {
         match self {
-            Matcher::Exact(exact) => exact.matches_counted(text),
+            Matcher::Exact(exact) => Ok(exact.matches_counted(text)),
             Matcher::Automaton(automaton) => automaton.matches_counted(text),
         }
     }

@@ -123,7 +123,7 @@ pub(crate) fn alone(alloc: Global, text: &str) -> Result<Vec<String>, AllocError
     ensures { IfOk result (λ texts. map string_bytes texts.items ≡ text.now ∷ []) }
 {
     let text = String::from_str(alloc, text)?;
-    let mut texts = Vec::new(alloc);
+    let mut texts = Vec::with_capacity(alloc, 1)?;
     texts.push(text)?;
     Ok(texts)
 }
@@ -152,7 +152,7 @@ fn by_class(alloc: Global, run: &str, listed: &Class) -> Result<Vec<String>, All
     if listed.negated || listed.ranges.len() > MOST_CHOICES {
         return alone(alloc, run);
     }
-    let mut texts = Vec::new(alloc);
+    let mut texts = Vec::with_capacity(alloc, listed.ranges.len())?;
     for range in listed.ranges.as_slice() {
         if range.0 != range.1 {
             return alone(alloc, run);
@@ -165,7 +165,8 @@ fn by_class(alloc: Global, run: &str, listed: &Class) -> Result<Vec<String>, All
 fn with_char(alloc: Global, run: &str, c: char) -> Result<String, AllocError>
     ensures { IfOk result (λ text. string_bytes text ≡ run.now ++ encode_utf8 c) }
 {
-    let mut text = String::from_str(alloc, run)?;
+    let mut text = String::with_capacity(alloc, run.len().saturating_add(c.len_utf8()))?;
+    text.push_str(run)?;
     text.push(c)?;
     Ok(text)
 }
@@ -179,7 +180,7 @@ fn by_branches(alloc: Global, run: &str, branches: &[Vec<Token>]) -> Result<Vec<
     if branches.is_empty() || branches.len() > MOST_CHOICES {
         return alone(alloc, run);
     }
-    let mut texts = Vec::new(alloc);
+    let mut texts = Vec::with_capacity(alloc, branches.len())?;
     for branch in branches {
         texts.push(spelled(alloc, run, branch)?)?;
     }
@@ -191,7 +192,8 @@ fn spelled(alloc: Global, run: &str, tokens: &[Token]) -> Result<String, AllocEr
     ensures { IfOk result (λ text. (w : List ℕ) → tokens_match false (tokens_view tokens.now) w
         → BeginsWith (string_bytes text) (run.now ++ utf8 w)) }
 {
-    let mut text = String::from_str(alloc, run)?;
+    let mut text = String::with_capacity(alloc, run.len().saturating_add(tokens.len()))?;
+    text.push_str(run)?;
     for token in tokens {
         match literal_of(token) {
             Some(c) => text.push(c)?,

@@ -27,10 +27,3 @@ pub enum Node {
     /// `{..,..}`: the first position of each branch; without a branch the one that comes next.
     Fork(Vec<usize>),
 }
-
-impl Default for Node {
-    /// A node for a place that isn't used.
-    fn default() -> Node {
-        Node::Any(0)
-    }
-}

@@ -151,8 +151,19 @@ pub(crate) fn read(alloc: Global, text: &str, options: Options) -> Result<Vec<To
     ensures value { IfOk result (λ tokens. Reads options (chars text.now) (tokens_view tokens.items)) }
     ensures fault { IfErr result (λ e. IfFault e (λ f. IsFaulty options (chars text.now) f)) }
 {
-    let characters: Vec<char> = text.chars().collect(alloc)?;
+    let characters = characters_of(alloc, text)?;
     let row = lexemes(alloc, options, characters.as_slice())?;
     let (tokens, _) = read_level(alloc, Left::GlobStart, row.as_slice())?;
     Ok(tokens)
+}
+
+/// The characters of a text.
+fn characters_of(alloc: Global, text: &str) -> Result<Vec<char>, AllocError>
+    ensures { IfOk result (λ all. all.items ≡ chars text.now) }
+{
+    let mut all = Vec::with_capacity(alloc, text.len())?;
+    for c in text.chars() {
+        all.push(c)?;
+    }
+    Ok(all)
 }
