@@ -62,6 +62,7 @@ typedef struct ignore_reason {
     uint64_t line;     /* the number of its line; 0 where that isn't known, as yet always */
     size_t source;     /* bytes of its source: the file of the rule, as it was given */
     size_t pattern;    /* bytes of its line, without white space at the end */
+    size_t glob;       /* bytes of the glob that the line stands for */
     bool has_source;   /* whether a source was given */
     bool is_only_dir;  /* whether it applies to directories only */
 } ignore_reason;
@@ -75,6 +76,9 @@ typedef struct ignore_counts {
    IGNORE_NO_MEMORY. */
 uint32_t ignore_rules_new(const uint8_t *root, size_t root_length, const ignore_rule_options *options,
                           ignore_rules *rules);
+
+/* Sets how later lines are read: IGNORE_OK, or IGNORE_MISUSED after `ignore_rules_build`. */
+uint32_t ignore_rules_set_options(ignore_rules *rules, const ignore_rule_options *options);
 
 /* Adds a line, as in gitignore(5); a comment or a blank line adds nothing. `from`, where it isn't
    empty, is the source of its rule. IGNORE_REFUSED where its glob is invalid: nothing is added, and
@@ -110,7 +114,7 @@ uint32_t ignore_rules_matched_path_or_any_parents(ignore_rules *rules, const uin
                                                   size_t path_length, bool is_dir);
 
 /* The same two, with the rule that decided: `reason`, and in `room` the first bytes, as many as there
-   is room for, of its source followed by its line. Where no rule decides the reason is all zeros, and
+   is room for, of its source, its line and its glob, one after the other. Where no rule decides the reason is all zeros, and
    the room is as before. */
 uint32_t ignore_rules_decided(ignore_rules *rules, const uint8_t *path, size_t path_length, bool is_dir,
                               ignore_reason *reason, uint8_t *room, size_t room_length);

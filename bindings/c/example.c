@@ -28,7 +28,7 @@ static int ask(ignore_rules *rules, const char *path) {
     bool is_dir = length > 1 && path[length - 1] == '/';
     uint32_t code = ignore_rules_decided(rules, (const uint8_t *)path, length - is_dir, is_dir, &reason,
                                          (uint8_t *)room, sizeof room);
-    if (code > IGNORE_WHITELIST || reason.source + reason.pattern > sizeof room) {
+    if (code > IGNORE_WHITELIST || reason.source + reason.pattern + reason.glob > sizeof room) {
         fprintf(stderr, "%s: code %u\n", path, code);
         return 1;
     }

@@ -3,7 +3,7 @@ from __future__ import annotations
 
 import ctypes
 import os
-from ctypes import POINTER, Structure, c_bool, c_char_p, c_size_t, c_uint8, c_uint32, c_uint64
+from ctypes import POINTER, Structure, c_bool, c_char_p, c_size_t, c_uint32, c_uint64
 
 OK, NONE, IGNORE, WHITELIST, NOT_UTF8, NO_MEMORY = range(6)
 FAULT, REFUSED, IN_USE, MISUSED, OUTSIDE = range(6, 11)
@@ -36,6 +36,7 @@ class ReasonParts(Structure):
         ("line", c_uint64),
         ("source", c_size_t),
         ("pattern", c_size_t),
+        ("glob", c_size_t),
         ("has_source", c_bool),
         ("is_only_dir", c_bool),
     ]
@@ -48,10 +49,10 @@ class Counts(Structure):
 
 
 TEXT = [c_char_p, c_size_t]
-ROOM = [POINTER(c_uint8), c_size_t]
 ONE = [POINTER(Handle)]
 CALLS = {
     "rules_new": [*TEXT, POINTER(RuleOptions), POINTER(Handle)],
+    "rules_set_options": [*ONE, POINTER(RuleOptions)],
     "rules_add_line": [*ONE, *TEXT, *TEXT],
     "rules_add_file": [*ONE, *TEXT, *TEXT],
     "rules_problem": [*ONE, c_char_p, c_size_t, POINTER(c_size_t)],

@@ -22,12 +22,13 @@ class Decision(Enum):
 
 
 class Reason(NamedTuple):
-    """The rule that decided.
+    """The rule that decided: its line, and the glob that the line stands for.
 
     `line` is None where the number of the line isn't known, and `source` where none was given.
     """
 
     pattern: str
+    glob: str
     source: Optional[str]
     line: Optional[int]
     is_only_dir: bool
@@ -108,6 +109,18 @@ class Rules:
             rules.close()
             raise
         return rules
+
+    def set_options(
+        self,
+        *,
+        case_insensitive: bool = False,
+        allow_unclosed_class: bool = True,
+        git_trailing_spaces: bool = False,
+    ) -> "Rules":
+        """Sets how later lines are read; what isn't given is as at first."""
+        options = lib.RuleOptions(case_insensitive, allow_unclosed_class, git_trailing_spaces)
+        checked(lib.library.ignore_rules_set_options(self._open(), byref(options)))
+        return self
 
     def add_line(self, line: str, source: str = "") -> "Rules":
         """Adds a line, as in gitignore(5); its source is told with its rule.
@@ -225,7 +238,7 @@ class Rules:
                 return NO_MATCH
             if code not in (lib.IGNORE, lib.WHITELIST):
                 raise error_of(code)
-            whole = parts.source + parts.pattern
+            whole = parts.source + parts.pattern + parts.glob
             if whole <= len(room):
                 return Answer(Decision(code), reason_of(parts, room.raw[:whole]))
             self._room = ctypes.create_string_buffer(whole)
@@ -237,7 +250,12 @@ class Rules:
 
 
 def reason_of(parts: lib.ReasonParts, texts: bytes) -> Reason:
-    """The reason of its parts, and of its source and its line, one after the other."""
-    text = texts.decode("utf-8")
-    source = texts[: parts.source].decode("utf-8")
-    return Reason(text[len(source):], source if parts.has_source else None, parts.line or None, parts.is_only_dir)
+    """The reason of its parts, and of its source, its line and its glob, one after the other."""
+    end = parts.source + parts.pattern
+    return Reason(
+        pattern=texts[parts.source:end].decode("utf-8"),
+        glob=texts[end:].decode("utf-8"),
+        source=texts[: parts.source].decode("utf-8") if parts.has_source else None,
+        line=parts.line or None,
+        is_only_dir=parts.is_only_dir,
+    )

@@ -45,21 +45,22 @@ abbrev pub source_text : Option Path → Bytes
 source_text None = []
 source_text (Some path) = path
 
--- how a rule is told: the lengths of its source and of its line, and two flags; the line's number
--- isn't known
+-- how a rule is told: the lengths of its source, of its line and of its glob, and two flags; the
+-- line's number isn't known
 abbrev pub reason_of : Rule → Reason
 reason_of rule =
     record {
       line = 0;
       source = length (source_text rule.from);
       pattern = length rule.original;
+      glob = length rule.actual;
       has_source = is_some rule.from;
       is_only_dir = rule.is_only_dir;
     }
 
 -- where no rule decides
 abbrev pub no_reason : Reason
-no_reason = record { line = 0; source = 0; pattern = 0; has_source = false; is_only_dir = false }
+no_reason = record { line = 0; source = 0; pattern = 0; glob = 0; has_source = false; is_only_dir = false }
 
 abbrev pub match_reason : Match Rule → Reason
 match_reason NoMatch = no_reason
@@ -70,9 +71,9 @@ abbrev pub reason_given : Result (Match Rule) Refused → Reason
 reason_given (Ok found) = match_reason found
 reason_given (Err refused) = no_reason
 
--- the texts of a rule: its source, and then its line
+-- the texts of a rule: its source, its line, its glob
 abbrev pub rule_text : Rule → Bytes
-rule_text rule = source_text rule.from ++ rule.original
+rule_text rule = source_text rule.from ++ rule.original ++ rule.actual
 
 abbrev pub match_text : Match Rule → Bytes
 match_text NoMatch = []

@@ -32,13 +32,17 @@ abbrev pub problem_in : Kept → Option Problem
 problem_in (keeps.Lines lines) = option_map problem_of lines.problem
 problem_in (keeps.Rules rules) = None
 
--- the builder of a root and options, to which no line was added
-abbrev pub begun_with : Path → RuleOptions → Building
-begun_with root options =
-    with_options (begun root) (record {
+-- the builder of which later lines are read by these options
+abbrev pub read_with : Building → RuleOptions → Building
+read_with builder options =
+    with_options builder (record {
       glob = record { case_insensitive = options.case_insensitive; allow_unclosed_class = options.allow_unclosed_class };
       git_trailing_spaces = options.git_trailing_spaces;
     })
+
+-- the builder of a root and options, to which no line was added
+abbrev pub begun_with : Path → RuleOptions → Building
+begun_with root options = read_with (begun root) options
 
 -- beginning rules gives what a handle keeps, or says why it doesn't
 abbrev pub Begins : Bytes → RuleOptions → Result Kept Refused → Type 0
@@ -48,6 +52,16 @@ Begins root options (Err Memory) = Unit {0}
 Begins root options (Err Line) = ⊥
 Begins root options (Err Misused) = ⊥
 Begins root options (Err Outside) = ⊥
+
+-- setting options leads from what a handle kept to what it keeps
+abbrev pub SetsOptions : Kept → RuleOptions → Result (Unit {0}) Refused → Kept → Type 0
+SetsOptions old options (Ok done) new =
+    (before : Building) × (building_of old ≡ Some before) × (building_of new ≡ Some (read_with before options)) × (problem_in new ≡ problem_in old)
+SetsOptions old options (Err Misused) new = (new ≡ old) × (building_of old ≡ None)
+SetsOptions old options (Err NotUtf8) new = ⊥
+SetsOptions old options (Err Memory) new = ⊥
+SetsOptions old options (Err Line) new = ⊥
+SetsOptions old options (Err Outside) new = ⊥
 
 -- the source of a line, as C gives it: none where it is empty
 abbrev pub source_of : Bytes → Option Path

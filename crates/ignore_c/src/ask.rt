@@ -1,5 +1,5 @@
 //! What the rules of a handle say of a path.
-ghost use Rattle.std.specs.Prelude.{◌≡◌, ◌++◌, [], IfOk, IfErr, Ok, Err, string_bytes};
+ghost use Rattle.std.specs.Prelude.{◌≡◌, ◌++◌, [], false, true, IfOk, IfErr, Ok, Err, string_bytes};
 ghost use Rattle.ignore_base.specs.Match.{match_map};
 ghost use Rattle.ignore_c.specs.Asks.{Asks, AsksCode, Explains, Counted, match_reason, no_reason, match_text, reason_of, rule_text, source_text};
 ghost use Rattle.ignore_c.specs.Codes.{match_code, refusal_code};
@@ -8,8 +8,8 @@ use crate::handle::Kept;
 use crate::refused::Refused;
 use crate::room::text_of;
 use crate::rules::{Counts, Reason};
-use ignore_base::Match;
-use ignore_rules::gitignore::Glob;
+use ignore::Match;
+use ignore::gitignore::Glob;
 use std::alloc::{AllocError, Global};
 
 /// A path that is asked about: alone, or with its parents.
@@ -18,6 +18,32 @@ pub(crate) struct Question<'q> {
     pub(crate) path: &'q [u8],
     pub(crate) is_dir: bool,
     pub(crate) parents: bool,
+}
+
+/// A path alone.
+pub(crate) fn alone(path: &[u8], is_dir: bool) -> Question<'_>
+    ensures path { result.path.now ≡ path.now }
+    ensures is_dir { result.is_dir ≡ is_dir }
+    ensures parents { result.parents ≡ false }
+{
+    Question {
+        path,
+        is_dir,
+        parents: false,
+    }
+}
+
+/// A path with its parents.
+pub(crate) fn with_parents(path: &[u8], is_dir: bool) -> Question<'_>
+    ensures path { result.path.now ≡ path.now }
+    ensures is_dir { result.is_dir ≡ is_dir }
+    ensures parents { result.parents ≡ true }
+{
+    Question {
+        path,
+        is_dir,
+        parents: true,
+    }
 }
 
 /// What C is told: a number, and the rule that decided.
@@ -100,6 +126,7 @@ const NO_REASON: Reason = Reason {
     line: 0,
     source: 0,
     pattern: 0,
+    glob: 0,
     has_source: false,
     is_only_dir: false,
 };
@@ -121,6 +148,7 @@ fn reason_of(rule: &Glob) -> Reason
         line: 0,
         source: source_text(rule).len(),
         pattern: rule.original().len(),
+        glob: rule.actual().len(),
         has_source: rule.from().is_some(),
         is_only_dir: rule.is_only_dir(),
     }
@@ -150,6 +178,7 @@ fn rule_text(alloc: Global, rule: &Glob) -> Result<Vec<u8>, AllocError>
 {
     let mut text = Vec::from_slice(alloc, source_text(rule).as_bytes())?;
     text.extend_from_slice(rule.original().as_bytes())?;
+    text.extend_from_slice(rule.actual().as_bytes())?;
     Ok(text)
 }
 

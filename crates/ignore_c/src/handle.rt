@@ -5,8 +5,8 @@ ghost use Rattle.ignore_c.specs.declared.handle.Kept.{Kept};
 ghost use Rattle.ignore_c.specs.Owned.{kept_code};
 
 use crate::loose::Loose;
-use ignore_base::Error;
-use ignore_rules::gitignore::{Gitignore, GitignoreBuilder};
+use ignore::Error;
+use ignore::gitignore::{Gitignore, GitignoreBuilder};
 use std::alloc::Global;
 use std::marker::Model;
 

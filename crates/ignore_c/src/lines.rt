@@ -1,17 +1,17 @@
 //! Rules to which lines are added, as a handle keeps them.
-ghost use Rattle.std.specs.Prelude.{◌≡◌, IfOk, IfErr, Ok, Err, Some, option_map, string_bytes};
+ghost use Rattle.std.specs.Prelude.{◌≡◌, IfOk, IfErr, IsOk, Ok, Err, Some, option_map, string_bytes};
 ghost use Rattle.ignore_base.specs.Errors.{problem_text};
 ghost use Rattle.ignore_base.specs.Problem.{problem_of};
 ghost use Rattle.ignore_rules.specs.RuleFile.{is_memory};
-ghost use Rattle.ignore_c.specs.Lines.{Begins, LineAdds, Pushes, FileAdds, Builds, TellsProblem, TellsText, source_of};
+ghost use Rattle.ignore_c.specs.Lines.{Begins, LineAdds, Pushes, FileAdds, Builds, TellsProblem, TellsText, SetsOptions, read_with, source_of};
 
 use crate::handle::{Kept, Lines};
 use crate::refused::Refused;
 use crate::room::text_of;
 use crate::rules::RuleOptions;
 use crate::text::Text;
-use ignore_base::Error;
-use ignore_rules::gitignore::GitignoreBuilder;
+use ignore::Error;
+use ignore::gitignore::GitignoreBuilder;
 use std::alloc::{AllocError, Global};
 use std::mem;
 
@@ -21,14 +21,43 @@ pub(crate) fn begin(alloc: Global, root: &[u8], options: &RuleOptions) -> Result
 {
     let root = text_of(root)?;
     let mut builder = GitignoreBuilder::new(alloc, root)?;
-    builder
-        .case_insensitive(options.case_insensitive)?
-        .allow_unclosed_class(options.allow_unclosed_class)
-        .git_trailing_spaces(options.git_trailing_spaces);
+    read_by(&mut builder, options)?;
     Ok(Kept::Lines(Lines {
         builder,
         problem: None,
     }))
+}
+
+/// Sets how later lines are read.
+fn read_by(builder: &mut GitignoreBuilder, options: &RuleOptions) -> Result<(), Error>
+    ensures succeeds { IsOk result }
+    ensures value { builder.new ≡ read_with builder.old options.now }
+{
+    builder
+        .case_insensitive(options.case_insensitive)?
+        .allow_unclosed_class(options.allow_unclosed_class)
+        .git_trailing_spaces(options.git_trailing_spaces);
+    Ok(())
+}
+
+fn set(lines: &mut Lines, options: &RuleOptions)
+    ensures { lines.new ≡ record lines.old { builder = read_with lines.old.builder options.now } }
+{
+    match read_by(&mut lines.builder, options) {
+        Ok(()) => {}
+        Err(_) => unreachable!(),
+    }
+}
+
+/// Sets how later lines are read.
+pub(crate) fn set_options(kept: &mut Kept, options: &RuleOptions) -> Result<(), Refused>
+    ensures { SetsOptions kept.old options.now result kept.new }
+{
+    let Kept::Lines(lines) = kept else {
+        return Err(Refused::Misused);
+    };
+    set(lines, options);
+    Ok(())
 }
 
 /// Adds a line. Its source is none where it is empty.

@@ -2,7 +2,7 @@
 ghost use Rattle.std.specs.Prelude.{◌≡◌};
 ghost use Rattle.ignore_c.specs.Codes.{refusal_code};
 
-use ignore_base::Error;
+use ignore::Error;
 use std::alloc::{AllocError, AllocFailed};
 
 /// Why a call did nothing.

@@ -2,12 +2,12 @@
 ghost use Rattle.std.specs.Prelude.{◌≡◌, false, true, IfOk, IfErr, List, ℕ, Result, Ok, Err, length, string_bytes};
 ghost use Rattle.ignore_c.specs.Asks.{AsksCode, Counted, Explains};
 ghost use Rattle.ignore_c.specs.Codes.{done_code};
-ghost use Rattle.ignore_c.specs.Lines.{Begins, Builds, FileAdds, LineAdds, TellsProblem};
+ghost use Rattle.ignore_c.specs.Lines.{Begins, Builds, FileAdds, LineAdds, SetsOptions, TellsProblem};
 ghost use Rattle.ignore_c.specs.Rooms.{put_in};
 ghost use Rattle.ignore_c.specs.declared.handle.Kept.{Kept};
 ghost use Rattle.ignore_c.specs.declared.refused.Refused.{Refused};
 
-use crate::ask::{self, Question, Told};
+use crate::ask::{self, Question, Told, alone, with_parents};
 use crate::handle::{Handle, Kept, close, open};
 use crate::lines::{self, Problem};
 use crate::refused::Refused;
@@ -24,14 +24,15 @@ pub struct RuleOptions {
     pub git_trailing_spaces: bool,
 }
 
-/// The rule that decided: its line's number, 0 where that isn't known; how many bytes its source and
-/// its line have; whether it has a source, and whether it applies to directories only.
+/// The rule that decided: its line's number, 0 where that isn't known; how many bytes its source, its
+/// line and its glob have; whether it has a source, and whether it applies to directories only.
 #[repr(C)]
 #[derive(Clone, Copy, Drop)]
 pub struct Reason {
     pub line: u64,
     pub source: usize,
     pub pattern: usize,
+    pub glob: usize,
     pub has_source: bool,
     pub is_only_dir: bool,
 }
@@ -70,6 +71,22 @@ fn begun(alloc: Global, root: &[u8], options: &RuleOptions) -> Result<Box<Kept>,
 {
     let kept = lines::begin(alloc, root, options)?;
     Ok(Box::new(alloc, kept)?)
+}
+
+/// Sets how later lines are read.
+#[unsafe(no_mangle)]
+pub extern "C" fn ignore_rules_set_options(rules: &mut Handle, options: &RuleOptions) -> u32
+    ensures { (given : Result (Unit {0}) Refused) × SetsOptions rules.old.value options.now given rules.new.value × (result ≡ done_code given) }
+{
+    mem::replace_with(rules, options, |rules, options| options_set(rules, options))
+}
+
+fn options_set(rules: Handle, options: &RuleOptions) -> (Handle, u32)
+    ensures { (given : Result (Unit {0}) Refused) × SetsOptions rules.value options.now given result.0.value × (result.1 ≡ done_code given) }
+{
+    let mut kept = open(rules);
+    let code = done(lines::set_options(&mut kept, options));
+    (close(kept), code)
 }
 
 /// Adds a line, as in gitignore(5).
@@ -155,12 +172,7 @@ pub extern "C" fn ignore_rules_matched(rules: &mut Handle, path: &[u8], is_dir: 
     ensures kept { rules.new.value ≡ rules.old.value }
     ensures told { AsksCode rules.old.value false path.now is_dir result }
 {
-    let asked = Question {
-        path,
-        is_dir,
-        parents: false,
-    };
-    mem::replace_with(rules, asked, |rules, asked| matched(rules, asked))
+    mem::replace_with(rules, alone(path, is_dir), matched)
 }
 
 /// What the rules say of a path together with its parents.
@@ -173,12 +185,7 @@ pub extern "C" fn ignore_rules_matched_path_or_any_parents(
     ensures kept { rules.new.value ≡ rules.old.value }
     ensures told { AsksCode rules.old.value true path.now is_dir result }
 {
-    let asked = Question {
-        path,
-        is_dir,
-        parents: true,
-    };
-    mem::replace_with(rules, asked, |rules, asked| matched(rules, asked))
+    mem::replace_with(rules, with_parents(path, is_dir), matched)
 }
 
 fn matched(rules: Handle, asked: Question<'_>) -> (Handle, u32)
@@ -191,7 +198,7 @@ fn matched(rules: Handle, asked: Question<'_>) -> (Handle, u32)
 }
 
 /// As `ignore_rules_matched`, with the rule that decided: its reason, and the first bytes of its
-/// source and its line.
+/// source, its line and its glob.
 #[unsafe(no_mangle)]
 pub extern "C" fn ignore_rules_decided(
     rules: &mut Handle,
@@ -203,15 +210,11 @@ pub extern "C" fn ignore_rules_decided(
     ensures kept { rules.new.value ≡ rules.old.value }
     ensures told { (text : List ℕ) × Explains rules.old.value false path.now is_dir result reason.new text × (room.new ≡ put_in text room.old) }
 {
-    let asked = Question {
-        path,
-        is_dir,
-        parents: false,
-    };
-    let told = mem::replace_with(rules, asked, |rules, asked| explained(rules, asked));
-    *reason = told.reason;
-    put(&told.text, room);
-    told.code
+    hand_over(
+        mem::replace_with(rules, alone(path, is_dir), explained),
+        reason,
+        room,
+    )
 }
 
 /// As `ignore_rules_matched_path_or_any_parents`, with the rule that decided.
@@ -226,12 +229,19 @@ pub extern "C" fn ignore_rules_decided_path_or_any_parents(
     ensures kept { rules.new.value ≡ rules.old.value }
     ensures told { (text : List ℕ) × Explains rules.old.value true path.now is_dir result reason.new text × (room.new ≡ put_in text room.old) }
 {
-    let asked = Question {
-        path,
-        is_dir,
-        parents: true,
-    };
-    let told = mem::replace_with(rules, asked, |rules, asked| explained(rules, asked));
+    hand_over(
+        mem::replace_with(rules, with_parents(path, is_dir), explained),
+        reason,
+        room,
+    )
+}
+
+/// Hands out what is told: the reason and the first bytes of the texts, and the number as result.
+fn hand_over(told: Told, reason: &mut Reason, room: &mut [u8]) -> u32
+    ensures code { result ≡ told.code }
+    ensures reason { reason.new ≡ told.reason }
+    ensures room { room.new ≡ put_in told.text.items room.old }
+{
     *reason = told.reason;
     put(&told.text, room);
     told.code

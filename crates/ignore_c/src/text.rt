@@ -1,8 +1,8 @@
 //! A text of rules, which stands for a file.
 ghost use Rattle.std.specs.Prelude.{◌≡◌};
 
-use ignore_base::Fault;
-use ignore_files::{Bytes, Contents, Files, Identity, Listing, Metadata, Name, Refusal};
+use ignore::Fault;
+use ignore::files::{Bytes, Contents, Files, Identity, Listing, Metadata, Name, Refusal};
 use std::alloc::Global;
 
 /// Files of which each that is read has these bytes, and that answer nothing else.
