@@ -30,16 +30,16 @@ extern "C" {
 /* What a call answers. */
 enum {
     IGNORE_OK = 0,        /* it did what it is for */
-    IGNORE_NONE = 1,      /* no rule decides; there is nothing to tell; the end of a walk */
+    IGNORE_NONE = 1,      /* no rule decides; there is nothing to tell */
     IGNORE_IGNORE = 2,    /* the path is ignored */
     IGNORE_WHITELIST = 3, /* the path is whitelisted */
     IGNORE_NOT_UTF8 = 4,  /* a text isn't UTF-8 */
     IGNORE_NO_MEMORY = 5, /* out of memory */
-    IGNORE_FAULT = 6,     /* a fault of the file system */
-    IGNORE_REFUSED = 7,   /* a line, or a setting, is invalid: its problem says why */
-    IGNORE_IN_USE = 8,    /* another handle uses this one */
+    IGNORE_REFUSED = 7,   /* a line is invalid, or some lines of a file: the problem says why */
     IGNORE_MISUSED = 9,   /* a handle that keeps something else, or isn't so far */
     IGNORE_OUTSIDE = 10   /* the path isn't below the root */
+    /* 6 and 8 are for a fault of the file system, and for a handle that another one uses: no call
+       answers them yet. */
 };
 
 /* Rules of gitignore files. Lines and files are added, `ignore_rules_build` makes the matcher of

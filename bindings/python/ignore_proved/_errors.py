@@ -26,7 +26,6 @@ class OutsideError(IgnoreError, ValueError):
 
 KINDS = {
     lib.NOT_UTF8: NotUtf8Error("a text isn't UTF-8"),
-    lib.IN_USE: MisusedError("another object uses this one"),
     lib.MISUSED: MisusedError("the object isn't so far, or is of another kind"),
     lib.OUTSIDE: OutsideError("the path isn't below the root"),
 }

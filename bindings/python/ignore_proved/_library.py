@@ -6,7 +6,7 @@ import os
 from ctypes import POINTER, Structure, c_bool, c_char_p, c_size_t, c_uint32, c_uint64
 
 OK, NONE, IGNORE, WHITELIST, NOT_UTF8, NO_MEMORY = range(6)
-FAULT, REFUSED, IN_USE, MISUSED, OUTSIDE = range(6, 11)
+REFUSED, MISUSED, OUTSIDE = 7, 9, 10
 
 #: The name of the shared object, and the variable of the environment that may give its path.
 NAME = "libignore_proved.so"
