@@ -10,8 +10,7 @@
      and freed once, by `.._free`, to which it is passed by value. After that it isn't used, nor is
      a copy of it. A handle that wasn't made isn't passed: after another answer than IGNORE_OK
      `.._new` has made none, and nothing is to be freed.
-   - At most one call at a time has a handle. It stays on the thread that made it, or goes to
-     another one by a lock, or as a thread is started or joined.
+   - At most one call at a time has a handle, and the handle stays on the thread that made it.
    - `malloc`, `realloc` and `free` are of one allocator, which aligns as C asks.
    - No call is made from a signal handler, nor in the forked child of a process with threads.
    - Where a call answers IGNORE_NO_MEMORY, or IGNORE_NOT_UTF8, or IGNORE_MISUSED, it has changed
@@ -103,9 +102,8 @@ uint32_t ignore_rules_problem(ignore_rules *rules, uint8_t *room, size_t room_le
 uint32_t ignore_rules_build(ignore_rules *rules);
 
 /* What the rules say of a path: IGNORE_NONE, IGNORE_IGNORE or IGNORE_WHITELIST. The path is written
-   as from where the root is: `root/src/a.o`, or `src/a.o`. Also IGNORE_NOT_UTF8, IGNORE_NO_MEMORY
-   (never where all globs are short and without braces) and IGNORE_MISUSED (before
-   `ignore_rules_build`). */
+   as from where the root is: `root/src/a.o`, or `src/a.o`. Also IGNORE_NOT_UTF8, IGNORE_NO_MEMORY and
+   IGNORE_MISUSED (before `ignore_rules_build`). */
 uint32_t ignore_rules_matched(ignore_rules *rules, const uint8_t *path, size_t path_length, bool is_dir);
 
 /* The same of the path, or else of the nearest of its parents that has a match. IGNORE_OUTSIDE where

@@ -86,7 +86,8 @@ def load() -> ctypes.CDLL:
     faults = []
     for place in places():
         try:
-            library = ctypes.CDLL(place)
+            # (by a PyDLL the interpreter's lock is held: one call at a time has a handle)
+            library = ctypes.PyDLL(place)
         except OSError as error:
             faults.append(str(error))
             continue

@@ -72,7 +72,8 @@ class Rules:
     """Rules relative to a root, as lines of gitignore files give them, in order.
 
     Lines and files are added first. The first question builds the matcher, and after that no line
-    is added. It is a context manager; without `with` it is freed when it is collected.
+    is added. It is a context manager; without `with` it is freed when it is collected. An object is
+    for the thread that made it.
     """
 
     def __init__(

@@ -131,7 +131,7 @@ impl GitignoreBuilder {
     }
 }
 
-/// A matcher of paths. It may be sent to another thread, and isn't shared between threads.
+/// A matcher of paths. It stays on its thread.
 pub struct Gitignore {
     asked: RefCell<Asked>,
     counts: Counts,

@@ -62,11 +62,9 @@ extern "C" {
     fn ignore_rules_free(rules: Handle);
 }
 
-/// A handle of rules, which it owns.
+/// A handle of rules, which it owns. It is neither `Send` nor `Sync`: that a handle may go to another
+/// thread isn't proved of the library.
 pub struct Rules(Handle);
-
-/// What a handle points to is plain memory, which any thread may free; a call takes `&mut`.
-unsafe impl Send for Rules {}
 
 impl Rules {
     /// Rules of a root, or the code of why there are none.

@@ -2,7 +2,6 @@
 use ignore_proved::gitignore::{Gitignore, GitignoreBuilder};
 use ignore_proved::{Error, Match};
 use std::path::{Path, PathBuf};
-use std::thread;
 
 fn rules_of(lines: &[&str]) -> Gitignore {
     let mut builder = GitignoreBuilder::new("").expect("memory");
@@ -67,11 +66,4 @@ fn options_are_of_later_lines() {
     let rules = builder.build().expect("memory");
     assert!(rules.kind("A", false).expect("memory").is_none());
     assert!(rules.kind("B", false).expect("memory").is_ignore());
-}
-
-#[test]
-fn a_matcher_goes_to_another_thread() {
-    let rules = rules_of(&["*.o"]);
-    let asked = thread::spawn(move || rules.kind("a.o", false).expect("memory").is_ignore());
-    assert!(asked.join().expect("the thread ends"));
 }
