@@ -73,8 +73,8 @@ typedef struct ignore_counts {
 
 /* Rules relative to a directory, to which no line was added: IGNORE_OK, IGNORE_NOT_UTF8 or
    IGNORE_NO_MEMORY. */
-uint32_t ignore_rules_new(const uint8_t *root, size_t root_length, const ignore_rule_options *options,
-                          ignore_rules *rules);
+uint32_t ignore_rules_new(const uint8_t *root, size_t root_length,
+                          const ignore_rule_options *options, ignore_rules *rules);
 
 /* Sets how later lines are read: IGNORE_OK, or IGNORE_MISUSED after `ignore_rules_build`. */
 uint32_t ignore_rules_set_options(ignore_rules *rules, const ignore_rule_options *options);
@@ -87,38 +87,42 @@ uint32_t ignore_rules_add_line(ignore_rules *rules, const uint8_t *from, size_t 
                                const uint8_t *line, size_t line_length);
 
 /* Adds the lines of a text that stands for the file at a path, which is their source. Reading ends
-   at the first line that isn't UTF-8. IGNORE_REFUSED where some line is invalid, or isn't UTF-8: the
-   others are added, and the problem is kept. Else as ignore_rules_add_line. */
+   at the first line that isn't UTF-8. IGNORE_REFUSED where some line is invalid, or isn't UTF-8:
+   the others are added, and the problem is kept. Else as ignore_rules_add_line. */
 uint32_t ignore_rules_add_file(ignore_rules *rules, const uint8_t *path, size_t path_length,
                                const uint8_t *text, size_t text_length);
 
 /* What is wrong with the line or file that was added last: IGNORE_OK, its text's length in `whole`,
    and its first bytes, as many as there is room for; or IGNORE_NONE where nothing is. Also
    IGNORE_NO_MEMORY and IGNORE_MISUSED. With another answer than IGNORE_OK `whole` is 0. */
-uint32_t ignore_rules_problem(ignore_rules *rules, uint8_t *room, size_t room_length, size_t *whole);
+uint32_t ignore_rules_problem(ignore_rules *rules, uint8_t *room, size_t room_length,
+                              size_t *whole);
 
 /* Makes the matcher of the lines, without copying them. From now on paths are asked, and no line is
    added. IGNORE_OK, or IGNORE_MISUSED where it was made already. */
 uint32_t ignore_rules_build(ignore_rules *rules);
 
 /* What the rules say of a path: IGNORE_NONE, IGNORE_IGNORE or IGNORE_WHITELIST. The path is written
-   as from where the root is: `root/src/a.o`, or `src/a.o`. Also IGNORE_NOT_UTF8, IGNORE_NO_MEMORY and
-   IGNORE_MISUSED (before `ignore_rules_build`). */
-uint32_t ignore_rules_matched(ignore_rules *rules, const uint8_t *path, size_t path_length, bool is_dir);
+   as from where the root is: `root/src/a.o`, or `src/a.o`. Also IGNORE_NOT_UTF8, IGNORE_NO_MEMORY
+   and IGNORE_MISUSED (before `ignore_rules_build`). */
+uint32_t ignore_rules_matched(ignore_rules *rules, const uint8_t *path, size_t path_length,
+                              bool is_dir);
 
-/* The same of the path, or else of the nearest of its parents that has a match. IGNORE_OUTSIDE where
-   the path, without the root, begins with a slash. */
+/* The same of the path, or else of the nearest of its parents that has a match. IGNORE_OUTSIDE
+   where the path, without the root, begins with a slash. */
 uint32_t ignore_rules_matched_path_or_any_parents(ignore_rules *rules, const uint8_t *path,
                                                   size_t path_length, bool is_dir);
 
-/* The same two, with the rule that decided: `reason`, and in `room` the first bytes, as many as there
-   is room for, of its source, its line and its glob, one after the other. Where no rule decides the reason is all zeros, and
-   the room is as before. */
-uint32_t ignore_rules_decided(ignore_rules *rules, const uint8_t *path, size_t path_length, bool is_dir,
-                              ignore_reason *reason, uint8_t *room, size_t room_length);
+/* The same two, with the rule that decided: `reason`, and in `room` the first bytes, as many as
+   there is room for, of its source, its line and its glob, one after the other. Where no rule
+   decides the reason is all zeros, and the room is as before. */
+uint32_t ignore_rules_decided(ignore_rules *rules, const uint8_t *path, size_t path_length,
+                              bool is_dir, ignore_reason *reason, uint8_t *room,
+                              size_t room_length);
 uint32_t ignore_rules_decided_path_or_any_parents(ignore_rules *rules, const uint8_t *path,
-                                                  size_t path_length, bool is_dir, ignore_reason *reason,
-                                                  uint8_t *room, size_t room_length);
+                                                  size_t path_length, bool is_dir,
+                                                  ignore_reason *reason, uint8_t *room,
+                                                  size_t room_length);
 
 /* How many rules ignore, and how many whitelist: IGNORE_OK, or IGNORE_MISUSED before
    `ignore_rules_build`, and then both are 0. */

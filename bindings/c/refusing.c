@@ -48,13 +48,35 @@ static void same(const char *wanted, const uint8_t *room, size_t length) {
     }
 }
 
+static void ask_all(ignore_rules *rules) {
+    uint8_t room[256];
+    ignore_reason reason;
+    ignore_counts counts = {0, 0};
+    CALL(IGNORE_IGNORE, ignore_rules_matched(rules, TEXT("root/x/a.o"), false));
+    CALL(IGNORE_IGNORE, ignore_rules_matched(rules, TEXT("root/bx.d"), false));
+    CALL(IGNORE_NONE, ignore_rules_matched(rules, TEXT("root/build"), false));
+    CALL(IGNORE_IGNORE,
+         ignore_rules_matched_path_or_any_parents(rules, TEXT("root/build/x"), false));
+    CALL(IGNORE_WHITELIST,
+         ignore_rules_decided(rules, TEXT("keep.o"), false, &reason, room, sizeof room));
+    same("f!keep.o**/keep.o", room, reason.source + reason.pattern + reason.glob);
+    CALL(IGNORE_IGNORE,
+         ignore_rules_decided(rules, TEXT("b.tmp"), false, &reason, room, sizeof room));
+    same("a/source*.tmp**/*.tmp", room, reason.source + reason.pattern + reason.glob);
+    CALL(IGNORE_OK, ignore_rules_counts(rules, &counts));
+    if (counts.ignores != 5 || counts.whitelists != 1) {
+        wrong++;
+        printf("allocation %lu fails: %d and %d rules\n", failing, (int)counts.ignores,
+               (int)counts.whitelists);
+    }
+}
+
 static void round_of_calls(void) {
-    static const char file[] = "*.o\n!keep.o\nbuild/\n[z-a]\n{a,b}*.{c,d}\nsrc/**/x[0-9]?.log\n";
+    static const char file[] =
+        "*.o\n!keep.o\nbuild/\n[z-a]\n{a,b}*.{c,d}\nsrc/**/x[0-9]?.log\n";
     ignore_rule_options options = {false, true, false};
     uint8_t room[256];
     size_t whole = 0;
-    ignore_reason reason;
-    ignore_counts counts = {0, 0};
     ignore_rules rules;
     CALL(IGNORE_OK, ignore_rules_new(TEXT("root"), &options, &rules));
     CALL(IGNORE_OK, ignore_rules_add_line(&rules, TEXT("a/source"), TEXT("*.tmp")));
@@ -65,19 +87,7 @@ static void round_of_calls(void) {
     CALL(IGNORE_OK, ignore_rules_problem(&rules, room, sizeof room, &whole));
     same("f: line 4: error parsing glob '[z-a]': invalid range", room, whole);
     CALL(IGNORE_OK, ignore_rules_build(&rules));
-    CALL(IGNORE_IGNORE, ignore_rules_matched(&rules, TEXT("root/x/a.o"), false));
-    CALL(IGNORE_IGNORE, ignore_rules_matched(&rules, TEXT("root/bx.d"), false));
-    CALL(IGNORE_NONE, ignore_rules_matched(&rules, TEXT("root/build"), false));
-    CALL(IGNORE_IGNORE, ignore_rules_matched_path_or_any_parents(&rules, TEXT("root/build/x"), false));
-    CALL(IGNORE_WHITELIST, ignore_rules_decided(&rules, TEXT("keep.o"), false, &reason, room, sizeof room));
-    same("f!keep.o**/keep.o", room, reason.source + reason.pattern + reason.glob);
-    CALL(IGNORE_IGNORE, ignore_rules_decided(&rules, TEXT("b.tmp"), false, &reason, room, sizeof room));
-    same("a/source*.tmp**/*.tmp", room, reason.source + reason.pattern + reason.glob);
-    CALL(IGNORE_OK, ignore_rules_counts(&rules, &counts));
-    if (counts.ignores != 5 || counts.whitelists != 1) {
-        wrong++;
-        printf("allocation %lu fails: %d and %d rules\n", failing, (int)counts.ignores, (int)counts.whitelists);
-    }
+    ask_all(&rules);
     ignore_rules_free(rules);
 }
 
@@ -96,10 +106,12 @@ static void many_questions(void) {
     CALL(IGNORE_OK, ignore_rules_new(TEXT(""), &options, &rules));
     CALL(IGNORE_OK, ignore_rules_add_file(&rules, TEXT(".gitignore"), TEXT("*.o\n{a,b}*.c\n")));
     CALL(IGNORE_OK, ignore_rules_build(&rules));
-    CALL(IGNORE_IGNORE, ignore_rules_decided(&rules, TEXT("x/b.c"), false, &reason, room, sizeof room));
+    CALL(IGNORE_IGNORE,
+         ignore_rules_decided(&rules, TEXT("x/b.c"), false, &reason, room, sizeof room));
     long before = largest();
     for (int i = 0; i < 1000000; i++)
-        CALL(IGNORE_IGNORE, ignore_rules_decided(&rules, TEXT("x/b.c"), false, &reason, room, sizeof room));
+        CALL(IGNORE_IGNORE,
+             ignore_rules_decided(&rules, TEXT("x/b.c"), false, &reason, room, sizeof room));
     if (largest() > before + 64) {
         wrong++;
         printf("a million questions: %ld KiB more\n", largest() - before);

@@ -1,6 +1,6 @@
 #!/usr/bin/env python3
-"""Asks the stored vectors on rules through the package: `vectors.py FILE..`, by default the files of
-`crates/replay/data`. Of an answer it compares what the package gives: the kind, the line and the
+"""Asks the stored vectors on rules through the package: `vectors.py FILE..`, by default the files
+of `crates/replay/data`. Of an answer it compares what the package gives: the kind, the line and the
 glob of the rule that decided, the counts, and the texts of errors. A line that it can't ask, as one
 of another kind, is left out, and counted. The last line is `N agree, M differ, K left out`.
 """
@@ -62,7 +62,8 @@ def ask_parents(given, wanted):
     with Rules(given["root"]) as rules:
         built(rules, given["ops"])
         try:
-            found, under = told(rules.match_path_or_any_parents(given["path"], given["is_dir"])), True
+            found = told(rules.match_path_or_any_parents(given["path"], given["is_dir"]))
+            under = True
         except OutsideError:
             found, under = None, False
         yield wanted["under_root"], under

@@ -58,7 +58,11 @@ pub struct GitignoreBuilder {
 impl GitignoreBuilder {
     /// A builder of rules relative to a directory.
     pub fn new<P: AsRef<Path>>(root: P) -> Result<GitignoreBuilder, Error> {
-        let options = RuleOptions { case_insensitive: false, allow_unclosed_class: true, git_trailing_spaces: false };
+        let options = RuleOptions {
+            case_insensitive: false,
+            allow_unclosed_class: true,
+            git_trailing_spaces: false,
+        };
         let rules = Rules::new(bytes_of(root.as_ref()), &options).map_err(error_of)?;
         Ok(GitignoreBuilder { rules, options })
     }
@@ -71,7 +75,8 @@ impl GitignoreBuilder {
         Ok(self)
     }
 
-    /// Adds the lines of a file on disk. `Error::Invalid`: some lines are invalid, the others added.
+    /// Adds the lines of a file on disk. `Error::Invalid`: some lines are invalid, and the others
+    /// are added.
     pub fn add<P: AsRef<Path>>(&mut self, path: P) -> Result<&mut Self, Error> {
         let text = fs::read(path.as_ref())?;
         self.add_str(path, &text)
@@ -107,8 +112,14 @@ impl GitignoreBuilder {
         let mut counts = Counts::default();
         done(self.rules.build())?;
         done(self.rules.counts(&mut counts))?;
-        let asked = Asked { rules: self.rules, room: vec![0; 512] };
-        Ok(Gitignore { asked: RefCell::new(asked), counts })
+        let asked = Asked {
+            rules: self.rules,
+            room: vec![0; 512],
+        };
+        Ok(Gitignore {
+            asked: RefCell::new(asked),
+            counts,
+        })
     }
 
     fn set(&mut self) -> Result<&mut Self, Error> {
@@ -157,13 +168,22 @@ impl Gitignore {
     }
 
     /// The same of the path, or else of the nearest of its parents that has a match.
-    pub fn matched_path_or_any_parents<P: AsRef<Path>>(&self, path: P, is_dir: bool) -> Result<Match<Glob>, Error> {
+    pub fn matched_path_or_any_parents<P: AsRef<Path>>(
+        &self,
+        path: P,
+        is_dir: bool,
+    ) -> Result<Match<Glob>, Error> {
         self.decided(path.as_ref(), is_dir, true)
     }
 
     /// What the rules say of a path, without the rule that decided, which costs less.
     pub fn kind<P: AsRef<Path>>(&self, path: P, is_dir: bool) -> Result<Match<()>, Error> {
-        match self.asked.borrow_mut().rules.matched(bytes_of(path.as_ref()), is_dir) {
+        match self
+            .asked
+            .borrow_mut()
+            .rules
+            .matched(bytes_of(path.as_ref()), is_dir)
+        {
             library::NONE => Ok(Match::None),
             library::IGNORE => Ok(Match::Ignore(())),
             library::WHITELIST => Ok(Match::Whitelist(())),
@@ -212,10 +232,18 @@ fn glob_of(reason: &Reason, room: &[u8]) -> Result<Glob, Error> {
     let (source, rest) = room.split_at(reason.source);
     let (original, rest) = rest.split_at(reason.pattern);
     Ok(Glob {
-        from: if reason.has_source { Some(PathBuf::from(text_of(source)?)) } else { None },
+        from: if reason.has_source {
+            Some(PathBuf::from(text_of(source)?))
+        } else {
+            None
+        },
         original: text_of(original)?,
         actual: text_of(&rest[..reason.glob])?,
-        line: if reason.line == 0 { None } else { Some(reason.line) },
+        line: if reason.line == 0 {
+            None
+        } else {
+            Some(reason.line)
+        },
         is_only_dir: reason.is_only_dir,
     })
 }

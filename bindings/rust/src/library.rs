@@ -1,5 +1,5 @@
-//! The library's calls, each as a safe function: a slice is lent for the call, and a handle is owned
-//! by one value, which frees it.
+//! The library's calls, each as a safe function: a slice is lent for the call, and a handle is
+//! owned by one value, which frees it.
 #![allow(unsafe_code)]
 
 use std::ptr::null_mut;
@@ -49,21 +49,64 @@ pub struct Counts {
 }
 
 extern "C" {
-    fn ignore_rules_new(root: *const u8, length: usize, options: *const RuleOptions, rules: *mut Handle) -> u32;
+    fn ignore_rules_new(
+        root: *const u8,
+        length: usize,
+        options: *const RuleOptions,
+        rules: *mut Handle,
+    ) -> u32;
     fn ignore_rules_set_options(rules: *mut Handle, options: *const RuleOptions) -> u32;
-    fn ignore_rules_add_line(rules: *mut Handle, from: *const u8, from_length: usize, line: *const u8, length: usize) -> u32;
-    fn ignore_rules_add_file(rules: *mut Handle, path: *const u8, path_length: usize, text: *const u8, length: usize) -> u32;
-    fn ignore_rules_problem(rules: *mut Handle, room: *mut u8, length: usize, whole: *mut usize) -> u32;
+    fn ignore_rules_add_line(
+        rules: *mut Handle,
+        from: *const u8,
+        from_length: usize,
+        line: *const u8,
+        length: usize,
+    ) -> u32;
+    fn ignore_rules_add_file(
+        rules: *mut Handle,
+        path: *const u8,
+        path_length: usize,
+        text: *const u8,
+        length: usize,
+    ) -> u32;
+    fn ignore_rules_problem(
+        rules: *mut Handle,
+        room: *mut u8,
+        length: usize,
+        whole: *mut usize,
+    ) -> u32;
     fn ignore_rules_build(rules: *mut Handle) -> u32;
-    fn ignore_rules_decided(rules: *mut Handle, path: *const u8, length: usize, is_dir: bool, reason: *mut Reason, room: *mut u8, room_length: usize) -> u32;
-    fn ignore_rules_decided_path_or_any_parents(rules: *mut Handle, path: *const u8, length: usize, is_dir: bool, reason: *mut Reason, room: *mut u8, room_length: usize) -> u32;
-    fn ignore_rules_matched(rules: *mut Handle, path: *const u8, length: usize, is_dir: bool) -> u32;
+    fn ignore_rules_decided(
+        rules: *mut Handle,
+        path: *const u8,
+        length: usize,
+        is_dir: bool,
+        reason: *mut Reason,
+        room: *mut u8,
+        room_length: usize,
+    ) -> u32;
+    fn ignore_rules_decided_path_or_any_parents(
+        rules: *mut Handle,
+        path: *const u8,
+        length: usize,
+        is_dir: bool,
+        reason: *mut Reason,
+        room: *mut u8,
+        room_length: usize,
+    ) -> u32;
+    fn ignore_rules_matched(
+        rules: *mut Handle,
+        path: *const u8,
+        length: usize,
+        is_dir: bool,
+    ) -> u32;
     fn ignore_rules_counts(rules: *mut Handle, counts: *mut Counts) -> u32;
     fn ignore_rules_free(rules: Handle);
 }
 
-/// A handle of rules, which it owns. It is neither `Send` nor `Sync`: that a handle may go to another
-/// thread isn't proved of the library.
+/// A handle of rules, which it owns. It is neither `Send` nor `Sync`: that a handle may go to
+/// another thread isn't proved of the library.
 pub struct Rules(Handle);
 
 impl Rules {
@@ -81,11 +124,27 @@ impl Rules {
     }
 
     pub fn add_line(&mut self, from: &[u8], line: &[u8]) -> u32 {
-        unsafe { ignore_rules_add_line(&mut self.0, from.as_ptr(), from.len(), line.as_ptr(), line.len()) }
+        unsafe {
+            ignore_rules_add_line(
+                &mut self.0,
+                from.as_ptr(),
+                from.len(),
+                line.as_ptr(),
+                line.len(),
+            )
+        }
     }
 
     pub fn add_file(&mut self, path: &[u8], text: &[u8]) -> u32 {
-        unsafe { ignore_rules_add_file(&mut self.0, path.as_ptr(), path.len(), text.as_ptr(), text.len()) }
+        unsafe {
+            ignore_rules_add_file(
+                &mut self.0,
+                path.as_ptr(),
+                path.len(),
+                text.as_ptr(),
+                text.len(),
+            )
+        }
     }
 
     pub fn problem(&mut self, room: &mut [u8], whole: &mut usize) -> u32 {
@@ -100,10 +159,32 @@ impl Rules {
         unsafe { ignore_rules_matched(&mut self.0, path.as_ptr(), path.len(), is_dir) }
     }
 
-    /// The answer for the path, alone or with its parents; the rule that decided in `reason` and `room`.
-    pub fn decided(&mut self, path: &[u8], is_dir: bool, with_parents: bool, reason: &mut Reason, room: &mut [u8]) -> u32 {
-        let ask = if with_parents { ignore_rules_decided_path_or_any_parents } else { ignore_rules_decided };
-        unsafe { ask(&mut self.0, path.as_ptr(), path.len(), is_dir, reason, room.as_mut_ptr(), room.len()) }
+    /// The answer for the path, alone or with its parents; the rule that decided in `reason` and
+    /// `room`.
+    pub fn decided(
+        &mut self,
+        path: &[u8],
+        is_dir: bool,
+        with_parents: bool,
+        reason: &mut Reason,
+        room: &mut [u8],
+    ) -> u32 {
+        let ask = if with_parents {
+            ignore_rules_decided_path_or_any_parents
+        } else {
+            ignore_rules_decided
+        };
+        unsafe {
+            ask(
+                &mut self.0,
+                path.as_ptr(),
+                path.len(),
+                is_dir,
+                reason,
+                room.as_mut_ptr(),
+                room.len(),
+            )
+        }
     }
 
     pub fn counts(&mut self, counts: &mut Counts) -> u32 {

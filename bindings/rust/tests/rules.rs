@@ -25,15 +25,23 @@ fn the_last_rule_decides() {
     assert!(rules.matched("src/a.o", false).expect("memory").is_ignore());
     assert!(rules.kind("build", false).expect("memory").is_none());
     assert!(rules.kind("build", true).expect("memory").is_ignore());
-    assert!(rules.matched_path_or_any_parents("build/x", false).expect("memory").is_ignore());
-    assert_eq!((rules.len(), rules.num_ignores(), rules.num_whitelists()), (3, 2, 1));
+    assert!(rules
+        .matched_path_or_any_parents("build/x", false)
+        .expect("memory")
+        .is_ignore());
+    assert_eq!(
+        (rules.len(), rules.num_ignores(), rules.num_whitelists()),
+        (3, 2, 1)
+    );
 }
 
 #[test]
 fn errors_say_why() {
     let mut builder = GitignoreBuilder::new("").expect("memory");
     match builder.add_line(None, "{") {
-        Err(Error::Invalid(text)) => assert_eq!(text, "error parsing glob '{': unclosed alternates"),
+        Err(Error::Invalid(text)) => {
+            assert_eq!(text, "error parsing glob '{': unclosed alternates")
+        }
         _ => panic!("an invalid line is added"),
     }
     let text = "{\n".repeat(100) + "a\n";
@@ -42,7 +50,10 @@ fn errors_say_why() {
         _ => panic!("invalid lines are added"),
     }
     assert_eq!(builder.build().expect("memory").len(), 1);
-    assert!(matches!(Gitignore::new("/none/such/file"), Err(Error::Io(_))));
+    assert!(matches!(
+        Gitignore::new("/none/such/file"),
+        Err(Error::Io(_))
+    ));
 }
 
 #[test]
@@ -54,15 +65,24 @@ fn a_file_on_disk_and_long_texts() {
     let rules = Gitignore::new(&file).expect("valid rules");
     let found = rules.matched(folder.join(&long), false).expect("memory");
     let glob = found.inner().expect("a rule");
-    assert_eq!((glob.from(), glob.original()), (Some(file.as_path()), long.as_str()));
+    assert_eq!(
+        (glob.from(), glob.original()),
+        (Some(file.as_path()), long.as_str())
+    );
     std::fs::remove_dir_all(&folder).expect("the folder goes");
 }
 
 #[test]
 fn options_are_of_later_lines() {
     let mut builder = GitignoreBuilder::new(Path::new("")).expect("memory");
-    builder.add_line(Some(PathBuf::from("f")), "a").expect("a valid line");
-    builder.case_insensitive(true).expect("a builder").add_line(None, "b").expect("a valid line");
+    builder
+        .add_line(Some(PathBuf::from("f")), "a")
+        .expect("a valid line");
+    builder
+        .case_insensitive(true)
+        .expect("a builder")
+        .add_line(None, "b")
+        .expect("a valid line");
     let rules = builder.build().expect("memory");
     assert!(rules.kind("A", false).expect("memory").is_none());
     assert!(rules.kind("B", false).expect("memory").is_ignore());
