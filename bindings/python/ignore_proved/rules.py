@@ -1,0 +1,262 @@
+"""Rules of gitignore files, asked about paths."""
+from __future__ import annotations
+
+import ctypes
+import os
+from ctypes import byref, c_size_t
+from enum import Enum
+from typing import Iterable, NamedTuple, Optional, Union
+
+from . import _library as lib
+from ._errors import InvalidRuleError, MisusedError, checked, error_of
+
+Path = Union[str, bytes, "os.PathLike[str]", "os.PathLike[bytes]"]
+
+
+class Decision(Enum):
+    """What rules say of a path."""
+
+    NONE = lib.NONE
+    IGNORE = lib.IGNORE
+    WHITELIST = lib.WHITELIST
+
+
+class Reason(NamedTuple):
+    """The rule that decided: its line, and the glob that the line stands for.
+
+    `line` is None where the number of the line isn't known, and `source` where none was given.
+    """
+
+    pattern: str
+    glob: str
+    source: Optional[str]
+    line: Optional[int]
+    is_only_dir: bool
+
+
+class Answer(NamedTuple):
+    """What rules say of a path, and the rule that decided, if one did."""
+
+    decision: Decision
+    reason: Optional[Reason]
+
+    @property
+    def is_ignore(self) -> bool:
+        """Whether the path is ignored."""
+        return self.decision is Decision.IGNORE
+
+    @property
+    def is_whitelist(self) -> bool:
+        """Whether the path is whitelisted."""
+        return self.decision is Decision.WHITELIST
+
+    @property
+    def is_none(self) -> bool:
+        """Whether no rule decides."""
+        return self.decision is Decision.NONE
+
+    def __bool__(self) -> bool:
+        return self.is_ignore
+
+
+NO_MATCH = Answer(Decision.NONE, None)
+
+
+def encoded(path: Path) -> bytes:
+    """The bytes of a path."""
+    path = os.fspath(path)
+    return path if isinstance(path, bytes) else path.encode("utf-8", "surrogateescape")
+
+
+class Rules:
+    """Rules relative to a root, as lines of gitignore files give them, in order.
+
+    Lines and files are added first. The first question builds the matcher, and after that no line
+    is added. It is a context manager; without `with` it is freed when it is collected. An object is
+    for the thread that made it.
+    """
+
+    def __init__(
+        self,
+        root: Path = "",
+        lines: Iterable[str] = (),
+        *,
+        case_insensitive: bool = False,
+        allow_unclosed_class: bool = True,
+        git_trailing_spaces: bool = False,
+    ) -> None:
+        self._handle: Optional[lib.Handle] = None
+        self._is_built = False
+        self._room = ctypes.create_string_buffer(1024)
+        name, handle = encoded(root), lib.Handle()
+        options = lib.RuleOptions(case_insensitive, allow_unclosed_class, git_trailing_spaces)
+        checked(lib.library.ignore_rules_new(name, len(name), byref(options), byref(handle)))
+        self._handle = handle
+        for line in lines:
+            self.add_line(line)
+
+    @classmethod
+    def from_file(cls, path: Path, **options: bool) -> "Rules":
+        """The rules of a file on disk, relative to its directory.
+
+        Raises OSError where it can't be read, and InvalidRuleError where some line is invalid.
+        """
+        name = os.fsdecode(encoded(path))
+        rules = cls(os.path.dirname(name), **options)
+        try:
+            with open(name, "rb") as file:
+                rules.add_file(name, file.read())
+        except BaseException:
+            rules.close()
+            raise
+        return rules
+
+    def set_options(
+        self,
+        *,
+        case_insensitive: bool = False,
+        allow_unclosed_class: bool = True,
+        git_trailing_spaces: bool = False,
+    ) -> "Rules":
+        """Sets how later lines are read; what isn't given is as at first."""
+        options = lib.RuleOptions(case_insensitive, allow_unclosed_class, git_trailing_spaces)
+        checked(lib.library.ignore_rules_set_options(self._open(), byref(options)))
+        return self
+
+    def add_line(self, line: str, source: str = "") -> "Rules":
+        """Adds a line, as in gitignore(5); its source is told with its rule.
+
+        Raises InvalidRuleError where its glob is invalid; then nothing is added.
+        """
+        text, origin = encoded(line), encoded(source)
+        self._added(
+            lib.library.ignore_rules_add_line(
+                self._open(), origin, len(origin), text, len(text)
+            )
+        )
+        return self
+
+    def add_file(self, path: Path, text: Union[str, bytes]) -> "Rules":
+        """Adds the lines of a text that stands for the file at a path.
+
+        Raises InvalidRuleError where some line is invalid; then the others are added.
+        """
+        name, content = encoded(path), encoded(text)
+        self._added(
+            lib.library.ignore_rules_add_file(
+                self._open(), name, len(name), content, len(content)
+            )
+        )
+        return self
+
+    def match(self, path: Path, is_dir: bool = False) -> Answer:
+        """What the rules say of a path, with the rule that decided.
+
+        It is the answer for this path alone: below an ignored directory there may be none.
+        """
+        return self._answer(lib.library.ignore_rules_decided, path, is_dir)
+
+    def match_path_or_any_parents(self, path: Path, is_dir: bool = False) -> Answer:
+        """The same of the path, or else of the nearest of its parents that has a match.
+
+        Raises OutsideError where the path, without the root, begins with a slash.
+        """
+        ask = lib.library.ignore_rules_decided_path_or_any_parents
+        return self._answer(ask, path, is_dir)
+
+    def is_ignored(self, path: Path, is_dir: bool = False) -> bool:
+        """Whether the rules ignore this path, without the rule that decided."""
+        text = encoded(path)
+        code = lib.library.ignore_rules_matched(self._built(), text, len(text), is_dir)
+        if code not in (lib.NONE, lib.IGNORE, lib.WHITELIST):
+            raise error_of(code)
+        return code == lib.IGNORE
+
+    @property
+    def num_ignores(self) -> int:
+        """How many rules ignore what they match."""
+        return self._counts().ignores
+
+    @property
+    def num_whitelists(self) -> int:
+        """How many rules whitelist what they match."""
+        return self._counts().whitelists
+
+    def __len__(self) -> int:
+        counts = self._counts()
+        return counts.ignores + counts.whitelists
+
+    def close(self) -> None:
+        """Frees the rules. After that they aren't used."""
+        if self._handle is not None:
+            lib.library.ignore_rules_free(self._handle)
+            self._handle = None
+
+    def __enter__(self) -> "Rules":
+        return self
+
+    def __exit__(self, *raised: object) -> None:
+        self.close()
+
+    def __del__(self) -> None:
+        if getattr(self, "_handle", None) is not None:
+            self.close()
+
+    def _open(self) -> "ctypes._CArgObject":
+        if self._handle is None:
+            raise MisusedError("the rules are closed")
+        return byref(self._handle)
+
+    def _built(self) -> "ctypes._CArgObject":
+        handle = self._open()
+        if not self._is_built:
+            checked(lib.library.ignore_rules_build(handle))
+            self._is_built = True
+        return handle
+
+    def _added(self, code: int) -> None:
+        if code == lib.REFUSED:
+            raise InvalidRuleError(self._problem())
+        checked(code)
+
+    def _problem(self) -> str:
+        whole = c_size_t()
+        while True:
+            code = lib.library.ignore_rules_problem(
+                self._open(), self._room, len(self._room), byref(whole)
+            )
+            checked(code)
+            if whole.value <= len(self._room):
+                return self._room.raw[: whole.value].decode("utf-8")
+            self._room = ctypes.create_string_buffer(whole.value)
+
+    def _answer(self, ask: "ctypes._NamedFuncPointer", path: Path, is_dir: bool) -> Answer:
+        handle, text, parts = self._built(), encoded(path), lib.ReasonParts()
+        while True:
+            room = self._room
+            code = ask(handle, text, len(text), is_dir, byref(parts), room, len(room))
+            if code == lib.NONE:
+                return NO_MATCH
+            if code not in (lib.IGNORE, lib.WHITELIST):
+                raise error_of(code)
+            whole = parts.source + parts.pattern + parts.glob
+            if whole <= len(room):
+                return Answer(Decision(code), reason_of(parts, room.raw[:whole]))
+            self._room = ctypes.create_string_buffer(whole)
+
+    def _counts(self) -> lib.Counts:
+        counts = lib.Counts()
+        checked(lib.library.ignore_rules_counts(self._built(), byref(counts)))
+        return counts
+
+
+def reason_of(parts: lib.ReasonParts, texts: bytes) -> Reason:
+    """The reason of its parts, and of its source, its line and its glob, one after the other."""
+    end = parts.source + parts.pattern
+    return Reason(
+        pattern=texts[parts.source:end].decode("utf-8"),
+        glob=texts[end:].decode("utf-8"),
+        source=texts[: parts.source].decode("utf-8") if parts.has_source else None,
+        line=parts.line or None,
+        is_only_dir=parts.is_only_dir,
+    )

@@ -1,0 +1,105 @@
+"""What the package adds to the library: objects, errors, texts of any length, files on disk."""
+import gc
+import os
+import pathlib
+import tempfile
+import unittest
+
+from ignore_proved import (
+    Decision,
+    InvalidRuleError,
+    MisusedError,
+    NotUtf8Error,
+    OutsideError,
+    Rules,
+)
+
+
+class RulesTest(unittest.TestCase):
+    def test_the_last_rule_decides(self):
+        rules = Rules("", ["*.o", "!keep.o"])
+        self.assertIs(rules.match("src/a.o").decision, Decision.IGNORE)
+        self.assertIs(rules.match("src/keep.o").decision, Decision.WHITELIST)
+        self.assertIs(rules.match("src/a.c").decision, Decision.NONE)
+        self.assertIsNone(rules.match("src/a.c").reason)
+        self.assertTrue(rules.match("src/a.o"))
+        self.assertFalse(rules.match("src/keep.o"))
+
+    def test_a_reason_has_the_line_its_glob_and_its_source(self):
+        rules = Rules("project").add_line("build/  ", source="project/.gitignore")
+        reason = rules.match("project/build", is_dir=True).reason
+        self.assertEqual(reason.pattern, "build/")
+        self.assertEqual(reason.glob, "**/build")
+        self.assertEqual(reason.source, "project/.gitignore")
+        self.assertTrue(reason.is_only_dir)
+        self.assertIsNone(Rules("", ["a"]).match("a").reason.source)
+
+    def test_parents_count_where_they_are_asked_for(self):
+        rules = Rules("", ["build/"])
+        self.assertFalse(rules.is_ignored("build/a"))
+        self.assertTrue(rules.match_path_or_any_parents("build/a").is_ignore)
+        with self.assertRaises(OutsideError):
+            Rules("/r", ["a"]).match_path_or_any_parents("/other/a")
+
+    def test_a_file_on_disk(self):
+        with tempfile.TemporaryDirectory() as folder:
+            path = pathlib.Path(folder, ".gitignore")
+            path.write_text("*.log\n")
+            with Rules.from_file(path) as rules:
+                self.assertTrue(rules.is_ignored(os.path.join(folder, "a.log")))
+                self.assertEqual(rules.match("a.log").reason.source, str(path))
+            with self.assertRaises(FileNotFoundError):
+                Rules.from_file(os.path.join(folder, "none"))
+
+    def test_an_invalid_line_adds_nothing_and_says_why(self):
+        rules = Rules("", ["*.o"])
+        with self.assertRaisesRegex(InvalidRuleError, "unclosed alternates"):
+            rules.add_line("{")
+        with self.assertRaisesRegex(InvalidRuleError, "f: line 2: .*invalid range"):
+            rules.add_file("f", "a\n[z-a]\nb\n")
+        self.assertEqual((len(rules), rules.num_ignores, rules.num_whitelists), (3, 3, 0))
+
+    def test_texts_of_any_length(self):
+        rules = Rules("")
+        with self.assertRaises(InvalidRuleError) as raised:
+            rules.add_file("f" * 5000, "{\n" * 100)
+        self.assertEqual(str(raised.exception).count("\n"), 99)
+        rules.add_line("a" * 3000, source="s" * 3000)
+        reason = rules.match("a" * 3000).reason
+        self.assertEqual((reason.source, reason.pattern), ("s" * 3000, "a" * 3000))
+
+    def test_options_are_of_later_lines(self):
+        rules = Rules("", ["a"]).set_options(case_insensitive=True).add_line("b")
+        self.assertFalse(rules.is_ignored("A"))
+        self.assertTrue(rules.is_ignored("B"))
+
+    def test_misuse(self):
+        rules = Rules("", ["a"])
+        rules.is_ignored("a")
+        with self.assertRaises(MisusedError):
+            rules.add_line("b")
+        rules.close()
+        rules.close()
+        with self.assertRaises(MisusedError):
+            rules.is_ignored("a")
+        with self.assertRaises(NotUtf8Error):
+            Rules("", ["a"]).is_ignored(b"\xff")
+        with self.assertRaises(NotUtf8Error):
+            Rules(b"\xff")
+
+    def test_rules_are_freed_when_they_are_collected(self):
+        def size():
+            return int(pathlib.Path("/proc/self/statm").read_text().split()[1])
+
+        line = "x" * 100_000
+        for _ in range(20):
+            Rules("", [line])
+        gc.collect()
+        before = size()
+        for _ in range(200):
+            Rules("", [line])
+        self.assertLess(size() - before, 2000)
+
+
+if __name__ == "__main__":
+    unittest.main()

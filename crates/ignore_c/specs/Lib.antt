@@ -1,0 +1,5 @@
+pub mod Owned
+pub mod Rooms
+pub mod Codes
+pub mod Lines
+pub mod Asks
