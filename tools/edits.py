@@ -1,10 +1,7 @@
-"""The crates of the repository, the mutants in their edit files, rounds of them, and the checksums
-of what their verdicts rest on.
+"""The crates of the repository, the mutants in their edit files, and rounds of them.
 
 `tools/mutants` says what a mutant is, and tries them.
 """
-import functools
-import hashlib
 import os
 import re
 
@@ -117,35 +114,6 @@ def face(text):
     for body in bodies(text):
         lines[body.first : body.end] = [None] * (body.end - body.first)
     return [it for it in lines if it is not None and not it.strip().startswith("//")]
-
-
-def public_face(text):
-    """What crates above see of a file: its face without its private functions. (A function of an
-    `impl` of a trait, or of a trait, is as public as that.)"""
-    lines = text.split("\n")
-    for body in bodies(text):
-        head = head_of(lines, body)
-        if not is_seen(lines, head):
-            lines[head : body.end + 1] = [""] * (body.end + 1 - head)
-    return face("\n".join(lines))
-
-
-def head_of(lines, body):
-    """The first line of the head of the function that has this body."""
-    head = body.first - 1
-    while not (FUNCTION.match(lines[head]) and FUNCTION.match(lines[head])[2] == body.name):
-        head -= 1
-    return head
-
-
-def is_seen(lines, head):
-    """Whether the function whose head begins on this line can be seen outside of its module."""
-    if lines[head].lstrip().startswith("pub"):
-        return True
-    if not lines[head].startswith(" "):
-        return False
-    item = next((it for it in reversed(lines[:head]) if it[:1].strip() and ITEM.match(it)), "")
-    return not item.startswith("impl") or " for " in re.sub(r"for<[^>]*>", "", item)
 
 
 class Mutant:
@@ -268,7 +236,7 @@ def edited(mutants):
     return texts
 
 
-# Checksums
+# Files
 
 # What a line of a source or of a definition means, without its comments and its layout.
 LEXEME = re.compile(
@@ -295,29 +263,3 @@ def files_of(crate, part):
     for at, _, names in os.walk(f"{crate.folder}/{part}"):
         found += [os.path.relpath(f"{at}/{it}", crate.folder) for it in names]
     return sorted(it for it in found if it.endswith((".rt", ".antt", ".edit")))
-
-
-def checksum(crates, crate, logic):
-    """One sum over all that the verdicts on the crate's mutants rest on: the kit's logic, the
-    crate's line of `crates.txt`, its sources, definitions, proofs and mutants, and of the crates
-    below it the definitions and contracts."""
-    summed = hashlib.sha256(repr((logic, crate.name, crate.uses)).encode())
-    for part in ("src", "specs", "proofs", *EDITS):
-        for path in files_of(crate, part):
-            text = without_layout(path, read(f"{crate.folder}/{path}"))
-            summed.update(repr((path, text)).encode())
-    for name in crates.below(crate):
-        summed.update(seen_of(crates[name]).encode())
-    return summed.hexdigest()
-
-
-@functools.cache
-def seen_of(crate):
-    """A sum of what crates above see of a crate: its definitions and contracts."""
-    summed = hashlib.sha256(repr((crate.name, crate.uses)).encode())
-    for path in files_of(crate, "specs"):
-        summed.update(repr((path, without_layout(path, read(f"{crate.folder}/{path}")))).encode())
-    for path in files_of(crate, "src"):
-        seen = "\n".join(public_face(read(f"{crate.folder}/{path}")))
-        summed.update(repr((path, without_layout(path, seen))).encode())
-    return summed.hexdigest()
