@@ -3,6 +3,8 @@ pub mod ChainLemmas
 pub mod EntryLemmas
 pub mod ForgetLemmas
 pub mod KeepLemmas
+pub mod PlainLemmas
+pub mod WorkedPlain
 pub mod KnownLemmas
 pub mod ListLemmas
 pub mod GrowLemmas

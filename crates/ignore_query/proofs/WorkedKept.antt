@@ -1,6 +1,6 @@
 -- Worked: below `/`, what is kept of `a` and of `a/b`, whose levels have the offsets 3 and 5. What is
 -- above the root has the text `/`, and the root the offset 1.
-use Rattle.std.proofs.Common.{◌≡◌, ℕ, ◌+◌, ◌-◌, List, Some, codes, length, take, string_bytes, refl, sym, ap, ◌∙◌, subst, arith}
+use Rattle.std.proofs.Common.{◌≡◌, ℕ, ◌+◌, ◌-◌, List, Some, codes, length, take, string_bytes, refl, ap, ◌∙◌, arith}
 use Rattle.ignore_levels.specs.Levels.{floor_at, slots_of}
 use Rattle.ignore_levels.specs.declared.list.Place.{Place}
 use Rattle.ignore_levels.specs.declared.list.Slot.{Slot}

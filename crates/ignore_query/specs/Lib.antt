@@ -4,6 +4,7 @@ pub mod Fresh
 pub mod InTurn
 pub mod Listed
 pub mod Needs
+pub mod Plain
 pub mod Reached
 pub mod Reports
 pub mod Where

@@ -17,7 +17,7 @@ ghost use Rattle.ignore_query.specs.Reports.{reported, reported_by_rules};
 ghost use Rattle.ignore_query.specs.Where.{WhereAgrees, WhereDecided};
 
 use crate::asked::{Asked, Call};
-use crate::clean::{depth_of, is_asked};
+use crate::clean::{depth_for, is_asked};
 use crate::kept::Cache;
 use crate::size::by_size;
 use ignore_base::{Error, text};
@@ -164,7 +164,7 @@ impl IncrementalIgnore {
         if !is_asked(self.root(), path) {
             return Ok((IncrementalMatch::no_match(is_dir), None));
         }
-        let depth = depth_of(path);
+        let depth = depth_for(&self.asked.settings, path);
         if is_beyond(&self.asked.settings, depth, is_dir) {
             return Ok((IncrementalMatch::beyond(), None));
         }
@@ -210,7 +210,12 @@ impl IncrementalIgnore {
         let verdict = cache.decide(&call, path, is_dir, &mut errors)?;
         let verdict = by_size(&call, path, is_dir, verdict, &mut errors)?;
         let settings = &asked.settings;
-        let answer = IncrementalMatch::limited(settings, depth_of(path), is_dir, verdict);
+        let answer = IncrementalMatch::limited(
+            settings,
+            depth_for(settings, path),
+            is_dir,
+            verdict,
+        );
         Ok((answer, Error::joined(errors)))
     }
 }

@@ -54,7 +54,7 @@ returns-clause-value g c = λ tree loads honest are agrees asked rules.
     ∙ ap (λ l. rules_verdict scene l is_dir) (names_are tree root path rules) in
     let judged = c.in_ok-verdict-2.ensures.value tree honest ∙ ap (λ v. sized (size_limit s is_dir v) stat v) said in
     c.limited-answer.ensures
-    ∙ (ap (λ n. limited s n is_dir c.in_ok-verdict-2.verdict) c.depth_of.ensures ∙ ap (limited s (depth_of path) is_dir) judged)
+    ∙ (c.depth_for.ensures.limited is_dir c.in_ok-verdict-2.verdict ∙ ap (limited s (depth_of path) is_dir) judged)
 
 pub returns-clause-reports : goal.returns-clause-reports
 unfolding reported_by_rules
@@ -133,7 +133,7 @@ returns-clause-from_kept g c = λ tree loads agrees asked ruled known unasked.
       from.0,
       (
         c.limited-answer.ensures
-            ∙ (ap (λ n. limited s n is_dir c.in_ok-verdict-2.verdict) c.depth_of.ensures ∙ ap (limited s (depth_of path) is_dir) judged),
+            ∙ (c.depth_for.ensures.limited is_dir c.in_ok-verdict-2.verdict ∙ ap (limited s (depth_of path) is_dir) judged),
         no_error _ (c.joined.ensures ∙ ap joined errors),
       ),
     )
