@@ -8,7 +8,7 @@ ghost use Rattle.ignore_types.specs.Building.{IsBuilt, IsChosen, IsChoiceProblem
 ghost use Rattle.ignore_types.specs.Refusals.{IsRefusal};
 ghost use Rattle.ignore_types.specs.Defaults.{with_defaults};
 
-use crate::default_types::DEFAULT_TYPES;
+use crate::default_types::{ALL_DEFAULT_TYPES, DEFAULT_TYPES};
 use crate::types::chosen::{ChosenType, read_globs};
 use crate::types::definition::FileTypeDef;
 use crate::types::definitions::Definitions;
@@ -254,6 +254,33 @@ impl TypesBuilder {
         ensures unchanged { OnErr result (self.new ≡ self.old) }
     {
         self.types = self.types.with_rows(&DEFAULT_TYPES)?;
+        Ok(())
+    }
+
+    /// Adds all default types of the original: the rows of its whole table, in its order.
+    ///
+    /// # Errors
+    /// `Memory` alone. What holds of the builder after it is proved of `push_all_defaults`, which
+    /// does the work, and not of this call.
+    pub fn add_all_defaults(&mut self) -> Result<&mut Self, Error>
+        ensures same_reference { IfOk result (λ b. b.ghost_name ≡ self.entry.ghost_name) }
+        ensures added { IfOk result (λ b. b.now
+            ≡ with_defaults (map (λ r. (map (λ n. n.now) r.0.now, map (λ g. g.now) r.1.now)) ALL_DEFAULT_TYPES) self.old) }
+        ensures out_of_memory { IfErr result (λ e. problem_of e ≡ memory) }
+    {
+        self.push_all_defaults()?;
+        Ok(self)
+    }
+
+    /// As `add_all_defaults`, without the builder in what is returned, and unchanged after an
+    /// error.
+    pub fn push_all_defaults(&mut self) -> Result<(), Error>
+        ensures added { OnOk result (self.new
+            ≡ with_defaults (map (λ r. (map (λ n. n.now) r.0.now, map (λ g. g.now) r.1.now)) ALL_DEFAULT_TYPES) self.old) }
+        ensures out_of_memory { IfErr result (λ e. problem_of e ≡ memory) }
+        ensures unchanged { OnErr result (self.new ≡ self.old) }
+    {
+        self.types = self.types.with_rows(&ALL_DEFAULT_TYPES)?;
         Ok(())
     }
 }
