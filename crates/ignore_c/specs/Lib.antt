@@ -3,3 +3,4 @@ pub mod Rooms
 pub mod Codes
 pub mod Lines
 pub mod Asks
+pub mod Hosted

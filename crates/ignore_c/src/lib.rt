@@ -4,6 +4,7 @@
 
 mod ask;
 mod handle;
+mod hosted;
 mod lines;
 mod loose;
 mod refused;
@@ -13,5 +14,6 @@ mod text;
 
 pub use handle::{Handle, Kept, Lines};
 pub(crate) use loose::Loose;
+pub use hosted::{Found, Hosted, WalkSettings};
 pub use refused::Refused;
 pub use rules::{Counts, Reason, RuleOptions};
