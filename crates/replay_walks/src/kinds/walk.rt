@@ -1,5 +1,4 @@
 //! The items of a walk, and its steps.
-ghost use Rattle.std.specs.Iterator.{IsFinite};
 
 use crate::settings::{Machine, limit_of};
 use answers::{Answer, Items, but_for_memory};
@@ -179,22 +178,14 @@ fn given(alloc: Global, machine: &Machine, builder: &WalkBuilder) -> Result<List
 }
 
 fn walked(alloc: Global, machine: &Machine, builder: &WalkBuilder) -> Result<Listed, Trouble> {
-    let walk = but_for_memory(builder.build(&machine.tree, &machine.env))?;
-    drained(alloc, &machine.tree, walk)
-}
-
-fn drained<I: Iterator<Item = Item> + Drop>(
-    alloc: Global,
-    tree: &MemoryTree,
-    walk: I,
-) -> Result<Listed, Trouble>
-    requires ends { I.can_next walk × IsFinite (I.remaining walk) }
-{
     let mut items = Vec::new(alloc);
     let mut end = End::Whole;
+    let Ok(walk) = builder.build(&machine.tree, &machine.env) else {
+        return Err(Trouble::Memory);
+    };
     for item in walk {
         end = end_of(&item);
-        items.push(shown(alloc, tree, item)?)?;
+        items.push(shown(alloc, &machine.tree, item)?)?;
     }
     Ok(Listed { items, end })
 }
