@@ -5,6 +5,7 @@ use ignore_walk::{Callbacks, DirEntry};
 use std::cmp::Ordering;
 
 /// No filter, and names in the order of texts.
+#[derive(Clone, Copy, Drop)]
 pub struct ByName;
 
 impl Callbacks for ByName {

@@ -21,7 +21,7 @@ use ignore::WalkBuilder;
 use ignore_base::Error;
 use ignore_dir::{Outside, Settings};
 use ignore_files::{Env, Files, Name};
-use ignore_walk::{DirEntry, Item, Options, Order, Walk, runs};
+use ignore_walk::{DirEntry, Ground, Item, Options, Order, Walk, runs};
 use std::alloc::{AllocError, Global};
 use std::io::Write;
 
@@ -84,8 +84,15 @@ fn walk_and_write<F: Files, W: Write, E: Write>(
     let Ok(outside) = outside_of(alloc, files, env) else {
         return Err(Stop::Memory);
     };
-    let settings = Settings::standard(alloc);
-    let walk = Walk::new(alloc, files, &ByName, settings, outside, OPTIONS, names);
+    let ground = Ground {
+        alloc,
+        files,
+        owner: ByName,
+        settings: Settings::standard(alloc),
+        outside,
+        options: OPTIONS,
+    };
+    let walk = Walk::new(ground, names);
     runs::a_run_yields_the_list::<F, ByName>();
     runs::a_run_begins_the_list::<F, ByName>();
     write_items(walk, out, err)

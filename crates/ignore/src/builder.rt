@@ -37,7 +37,21 @@ impl WalkBuilder {
         ensures plain { (result.sorter ≡ None) × (result.filter ≡ None) }
     {
         WalkBuilder {
-            options: WalkOptions::unset(alloc),
+            options: WalkOptions::empty(alloc),
+            sorter: None,
+            filter: None,
+        }
+    }
+
+    /// A builder with these options, without an order and without a filter. Functions that return
+    /// or change options are covered, those that hand out or change a builder aren't: so an order
+    /// and a filter are set at last.
+    pub fn from_options(options: WalkOptions) -> WalkBuilder
+        ensures options { result.options ≡ options }
+        ensures plain { (result.sorter ≡ None) × (result.filter ≡ None) }
+    {
+        WalkBuilder {
+            options,
             sorter: None,
             filter: None,
         }
@@ -99,7 +113,7 @@ impl WalkBuilder {
         ensures out_of_memory { IfErr result (λ e. problem_of e ≡ memory) }
         ensures unchanged { OnErr result (self.new ≡ self.old) }
     {
-        Ok(self.options.roots.push(path)?)
+        self.options.push_root(path)
     }
 
     /// The roots, in the order in which they were added.

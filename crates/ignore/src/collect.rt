@@ -1,5 +1,5 @@
 //! The whole list of a walk, in one call.
-ghost use Rattle.std.specs.Prelude.{◌≡◌, ◌⊎◌, false, IfOk, IfErr, map};
+ghost use Rattle.std.specs.Prelude.{◌≡◌, ◌⊎◌, Some, false, IfOk, IfErr, map};
 ghost use Rattle.ignore_files.specs.declared.env.Env.{Env};
 ghost use Rattle.ignore_walk.specs.declared.callbacks.Order.{Order};
 ghost use Rattle.ignore.specs.declared.options.WalkOptions.{WalkOptions};
@@ -11,7 +11,7 @@ ghost use Rattle.ignore.specs.Closures.{order_of};
 ghost use Rattle.ignore.specs.Headline.{Headline, IsAboveLimit};
 
 use crate::builder::WalkBuilder;
-use crate::walk::Walk;
+use crate::walk::{Owner, Walk};
 use ignore_base::Error;
 use ignore_files::{Env, Files};
 use ignore_walk::{Callbacks, Item};
@@ -27,10 +27,10 @@ pub fn collect_walk<F: Files>(
     files: &F,
     env: &Env,
 ) -> Result<Vec<Item>, Error>
-    ensures headline { IfOk result (λ all. Headline F.Files ⟦<WalkBuilder as Callbacks>⟧ files.now builder.now env.now
+    ensures headline { IfOk result (λ all. Headline F.Files ⟦<Owner<'static> as Callbacks>⟧ files.now (record { builder = Some builder.entry }) env.now
         builder.now.options (order_of (λ s. s.order) builder.now.sorter) (map item_of all.items)) }
     ensures ended { IfErr result (λ e. (problem_of e ≡ memory) ⊎ ((problem_of e ≡ io StepLimit)
-        × IsAboveLimit F.Files ⟦<WalkBuilder as Callbacks>⟧ files.now builder.now env.now builder.now.options
+        × IsAboveLimit F.Files ⟦<Owner<'static> as Callbacks>⟧ files.now (record { builder = Some builder.entry }) env.now builder.now.options
         (order_of (λ s. s.order) builder.now.sorter))) }
 {
     builder.build(files, env)?.all_items()

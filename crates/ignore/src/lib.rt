@@ -21,4 +21,4 @@ pub use ignore_rules::{gitignore, overrides};
 pub use ignore_types::{default_types, types};
 pub use ignore_walk::{Callbacks, DirEntry, Item, Order, branch_bound};
 pub use options::WalkOptions;
-pub use walk::{Standard, Walk};
+pub use walk::{Owner, Walk};

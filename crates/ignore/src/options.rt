@@ -1,9 +1,12 @@
-//! The settings of a builder, as plain data.
+//! The settings of a builder, as plain data that functions may return and change.
 ghost use Rattle.std.specs.Prelude.{◌≡◌, IfOk};
 ghost use Rattle.ignore.specs.Builder.{unset};
 
+mod filters;
+mod limits;
 mod matchers;
 mod outside;
+mod rules;
 
 use crate::limited::Limited;
 use ignore_dir::{Matchers, Names, Settings};
@@ -12,7 +15,8 @@ use ignore_rules::overrides::Override;
 use ignore_types::types::Types;
 use std::alloc::{AllocError, Global};
 
-/// All settings of a builder but its closures, which contracts see as plain data.
+/// All settings of a builder but its order and its filter, which are closures. Each setter is that
+/// of `WalkBuilder` of the same name, and `WalkBuilder::from_options` makes a builder of them.
 #[derive(Drop)]
 pub struct WalkOptions {
     pub(crate) roots: Names,
@@ -27,7 +31,7 @@ pub struct WalkOptions {
 
 impl WalkOptions {
     /// The settings at first, without roots. It allocates nothing.
-    pub(crate) fn unset(alloc: Global) -> WalkOptions
+    pub fn empty(alloc: Global) -> WalkOptions
         ensures { result ≡ unset }
     {
         WalkOptions {

@@ -1,5 +1,6 @@
 //! Walks under the names of the original: an iterator, and a walk of one folder in one call.
 use crate::builder::WalkBuilder;
+use crate::closures::{Compare, Keep};
 use ignore_files::Files;
 use ignore_walk::{Callbacks, DirEntry, Item};
 use std::cmp::Ordering;
@@ -13,7 +14,7 @@ use std::iter::FusedIterator;
 ///
 /// A walk of a builder (`WalkBuilder::build`) borrows it, since the builder keeps the closures.
 #[derive(Drop)]
-pub struct Walk<'a, F: Files, S = WalkBuilder> {
+pub struct Walk<'a, F: Files, S = Owner<'a>> {
     pub(crate) inner: ignore_walk::Walk<'a, F, S>,
 }
 
@@ -36,26 +37,37 @@ impl<'a, F: Files, S: Callbacks> Iterator for Walk<'a, F, S> {
 
 impl<'a, F: Files, S: Callbacks> FusedIterator for Walk<'a, F, S> {}
 
-/// What a walk by the settings at first asks: each entry passes, and names come as they are listed.
-#[derive(Clone, Copy, Debug, PartialEq, Eq)]
-pub struct Standard;
+/// What keeps the filter and the comparison of a walk: a builder, which is lent to it, or nothing.
+#[derive(Clone, Copy, Drop)]
+pub struct Owner<'a> {
+    /// The builder. Where there is none, each entry passes, and names come as they are listed.
+    pub builder: Option<&'a WalkBuilder>,
+}
 
-impl Callbacks for Standard {
-    ghost use Rattle.std.specs.Prelude.{◌≡◌, true, None};
+impl<'a> Callbacks for Owner<'a> {
+    ghost use Rattle.std.specs.Prelude.{◌≡◌, true, MatchOption};
     ghost use Rattle.ignore.specs.Closures.{Filters, Compares};
     ghost use Rattle.ignore_walk.specs.Entry.{Entry};
     ghost use Rattle.std.specs.declared.cmp.Ordering.TheVariants.{Equal};
     ghost use Rattle.ignore_base.specs.Text.{Path};
 
-    ghost filters = { λ _ keep. (e : Entry) → keep e ≡ true };
+    ghost filters = { λ o keep. MatchOption o.builder ((e : Entry) → keep e ≡ true)
+        (λ b. Filters b.now.filter (λ f e yes. Keep.post f.keep e yes) keep) };
 
-    ghost compares = { λ _ cmp. (a b : Path) → cmp a b ≡ Equal };
+    ghost compares = { λ o cmp. MatchOption o.builder ((a b : Path) → cmp a b ≡ Equal)
+        (λ b. Compares b.now.sorter (λ s x y order. Compare.post s.compare x y order) cmp) };
 
-    fn filter(&self, _entry: &DirEntry) -> bool {
-        true
+    fn filter(&self, entry: &DirEntry) -> bool {
+        match self.builder {
+            None => true,
+            Some(builder) => builder.passes(entry),
+        }
     }
 
-    fn compare(&self, _a: &str, _b: &str) -> Ordering {
-        Ordering::Equal
+    fn compare(&self, a: &str, b: &str) -> Ordering {
+        match self.builder {
+            None => Ordering::Equal,
+            Some(builder) => builder.compared(a, b),
+        }
     }
 }

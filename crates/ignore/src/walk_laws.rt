@@ -1,5 +1,5 @@
 //! Laws of walks, as calls that do nothing: each contract is the law.
-ghost use Rattle.std.specs.Prelude.{◌≡◌, ℕ, Bool, List, MatchOption, None, Result, map, option_map, true};
+ghost use Rattle.std.specs.Prelude.{◌≡◌, ℕ, Bool, List, MatchOption, None, Result, Some, map, option_map, true};
 ghost use Rattle.std.specs.Cmp.{IsStrictWeakOrder};
 ghost use Rattle.std.specs.Iterator.{Drains};
 ghost use Rattle.std.specs.Ordering.{is_lt};
@@ -28,6 +28,7 @@ ghost use Rattle.ignore.specs.declared.walk.Walk.{Walk};
 
 use crate::builder::WalkBuilder;
 use crate::closures::{Compare, Keep};
+use crate::walk::Owner;
 use ignore_dir::laws::one_load;
 use ignore_files::Files;
 use ignore_walk::{Callbacks, runs};
@@ -57,7 +58,7 @@ pub fn a_finished_walk_is_the_headline<F: Files, S: Callbacks>()
 /// any rules from outside.
 pub fn a_scene_without_closures(builder: &WalkBuilder)
     ensures { (tree : Tree) (outside : Outside) → builder.now.sorter ≡ None → builder.now.filter ≡ None
-        → (g : Scene) × IsSceneOf ⟦<WalkBuilder as Callbacks>⟧ builder.now builder.now.options
+        → (g : Scene) × IsSceneOf ⟦<Owner<'static> as Callbacks>⟧ (record { builder = Some builder.entry }) builder.now.options
         (order_of (λ s. s.order) builder.now.sorter) tree outside g }
 {
     one_load();
@@ -74,7 +75,7 @@ pub fn a_scene_with_closures(builder: &WalkBuilder)
         (λ s. (a b : Bor Path) (order : Ordering) → Compare.post s.compare a b order → order ≡ cmp a.now b.now)
         → MatchOption builder.now.filter ((e : Entry) → keep e ≡ true)
         (λ f. (e : Bor DirEntry) (yes : Bool) → problem_in e.now ≡ None → Keep.post f.keep e yes → yes ≡ keep (entry_of e.now))
-        → (g : Scene) × IsSceneOf ⟦<WalkBuilder as Callbacks>⟧ builder.now builder.now.options
+        → (g : Scene) × IsSceneOf ⟦<Owner<'static> as Callbacks>⟧ (record { builder = Some builder.entry }) builder.now.options
         (order_of (λ s. s.order) builder.now.sorter) tree outside g
         × (g.keep ≡ keep) × (g.order ≡ order_by (order_of (λ s. s.order) builder.now.sorter) cmp) }
 {

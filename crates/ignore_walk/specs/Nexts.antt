@@ -7,14 +7,14 @@ use Rattle.ignore_files.specs.declared.files.Files.{Ghosts as Files}
 use Rattle.ignore_walk.specs.Entry.{Item}
 use Rattle.ignore_walk.specs.Scene.{Scene}
 use Rattle.ignore_walk.specs.Stands.{Stands}
-use Rattle.ignore_walk.specs.Suits.{Suits}
+use Rattle.ignore_walk.specs.Suits.{IsGroundOf}
 use Rattle.ignore_walk.specs.declared.callbacks.Callbacks.{Ghosts as Callbacks}
 use Rattle.ignore_walk.specs.declared.walk.Walk.{Walk}
 
 -- a walk that wasn't ended suits a scene, and still gives these items, in so many steps
 pub record Remaining {F S : Type 0} (files : Files F) (calls : Callbacks S) (g : Scene) (w : Walk F S) (items : List Item) (n : ℕ)
     : Type 0 where
-  pub suits : Suits files calls w.ground.files.now w.ground.owner.now w.ground.settings w.ground.outside w.ground.options g
+  pub suits : IsGroundOf files calls w.ground g
   pub goes_on : w.ended ≡ false
   pub stands : Stands g w.stack items n
 

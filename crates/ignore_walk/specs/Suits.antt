@@ -15,6 +15,7 @@ use Rattle.ignore_walk.specs.declared.callbacks.Callbacks.{Ghosts as Callbacks}
 use Rattle.ignore_walk.specs.declared.callbacks.Options.{Options}
 use Rattle.ignore_walk.specs.declared.callbacks.Order.{Order}
 use Rattle.ignore_walk.specs.declared.callbacks.Order.TheVariants.{Listed, ByName, ByPath}
+use Rattle.ignore_walk.specs.declared.ground.Ground.{Ground}
 
 -- one name of a directory comes before another, by a comparison of names or of paths
 abbrev pub order_by : Order → (Path → Path → Ordering) → Option (Path → Bytes → Bytes → Bool)
@@ -38,3 +39,7 @@ pub record Suits {F S : Type 0} (files : Files F) (calls : Callbacks S) (f : F) 
   pub device : g.same_file_system ≡ options.same_file_system
   pub filter : calls.filters owner g.keep
   pub order : IsOrderBy options.order (calls.compares owner) g.order
+
+-- what stays the same in a walk of the code suits a scene
+abbrev pub IsGroundOf : {F S : Type 0} → Files F → Callbacks S → Ground F S → Scene → Type 0
+IsGroundOf files calls ground g = Suits files calls ground.files.now ground.owner ground.settings ground.outside ground.options g

@@ -1,10 +1,10 @@
 //! The directories above roots, and what is wrong with those that are above no earlier root.
-ghost use Rattle.std.specs.Prelude.{◌≡◌, ◌<◌, ◌+◌, ◌++◌, ◌∷◌, [], ℕ, List, Option, IfOk, IfErr, OnOk, codes, length, map, not};
+ghost use Rattle.std.specs.Prelude.{◌≡◌, ◌<◌, ◌+◌, ◌++◌, ◌∷◌, [], ℕ, List, Option, IfOk, OnOk, codes, length, map};
 ghost use Rattle.std.specs.Prelude.{option_map, slice_index_or, take, if◌then◌else◌};
 ghost use Rattle.std.specs.List.{list_any};
 ghost use Rattle.std.specs.Option.{option_to_list};
 ghost use Rattle.std.specs.Str.{bytes_eq};
-ghost use Rattle.ignore_base.specs.Problem.{Problem, problem_of, memory};
+ghost use Rattle.ignore_base.specs.Problem.{Problem, problem_of};
 ghost use Rattle.ignore_dir.specs.declared.dir.Dir.{Dir as Held};
 ghost use Rattle.ignore_dir.specs.Above.{directories_along, problems_of_loads};
 ghost use Rattle.ignore_dir.specs.Chains.{placed_along, slashed};
@@ -12,8 +12,8 @@ ghost use Rattle.ignore_dir.specs.Lists.{IsAfterSlash};
 ghost use Rattle.ignore_dir.specs.Load.{Loaded, joined_some};
 ghost use Rattle.ignore_walk.specs.Whole.{unseen};
 
+use crate::memory::join;
 use ignore_base::Error;
-use ignore_base::text::join;
 use ignore_dir::Placed;
 use ignore_files::Name;
 use std::alloc::{AllocError, Global};
@@ -60,10 +60,9 @@ fn name_below<'b>(base: &'b str, dirs: &[Placed], i: usize) -> &'b str
 }
 
 /// The paths of the directories above a root, from `/` down. `base` is the root as they see it.
-pub(crate) fn paths_of(alloc: Global, base: &str, dirs: &[Placed]) -> Result<Vec<Name>, Error>
+pub(crate) fn paths_of(alloc: Global, base: &str, dirs: &[Placed]) -> Result<Vec<Name>, AllocError>
     ensures value { (names : List (List ℕ)) (held : List Held) → base.now ≡ 47 ∷ slashed names → dirs.now ≡ placed_along 1 held names
         → length held ≡ length names → IfOk result (λ paths. paths.items ≡ directories_along (codes "/") names) }
-    ensures out_of_memory { IfErr result (λ e. problem_of e ≡ memory) }
 {
     let mut paths = Vec::new(alloc);
     let mut path = String::from_str(alloc, "/")?;
@@ -99,10 +98,9 @@ fn take_error(errors: &mut VecDeque<Option<Error>>) -> Option<Error>
 }
 
 /// Appends an error, if there is one and it is wanted.
-fn push_if(errors: &mut Vec<Error>, wanted: bool, error: Option<Error>) -> Result<(), Error>
+fn push_if(errors: &mut Vec<Error>, wanted: bool, error: Option<Error>) -> Result<(), AllocError>
     ensures added { OnOk result (map problem_of errors.new.items
         ≡ map problem_of errors.old.items ++ (if wanted then option_to_list (option_map problem_of error) else [])) }
-    ensures out_of_memory { IfErr result (λ e. problem_of e ≡ memory) }
 {
     match error {
         None => Ok(()),
@@ -122,10 +120,9 @@ pub(crate) fn unseen_error(
     seen: &[Name],
     paths: &[Name],
     mut errors: VecDeque<Option<Error>>,
-) -> Result<Option<Error>, Error>
+) -> Result<Option<Error>, AllocError>
     ensures value { (loads : List ℕ → Loaded) → map (option_map problem_of) errors.items ≡ problems_of_loads loads paths.now
         → IfOk result (λ e. option_map problem_of e ≡ joined_some (problems_of_loads loads (unseen seen.now paths.now))) }
-    ensures out_of_memory { IfErr result (λ e. problem_of e ≡ memory) }
 {
     let mut new = Vec::new(alloc);
     for i in 0..paths.len() {

@@ -1,19 +1,17 @@
 //! The order of what a directory lists.
-ghost use Rattle.std.specs.Prelude.{◌≡◌, ◌≢◌, IfOk, IfErr, OnOk, List, Option, ℕ, Bool, map, IsPermutation, IsSortedBy};
+ghost use Rattle.std.specs.Prelude.{◌≡◌, IfOk, OnOk, List, Option, ℕ, Bool, map, IsPermutation, IsSortedBy};
 ghost use Rattle.std.specs.Cmp.{IsStrictWeakOrder};
 ghost use Rattle.std.specs.List.Sorted.{IsStableBy};
 ghost use Rattle.std.specs.Ordering.{is_lt};
 ghost use Rattle.std.specs.declared.cmp.Ordering.{Ordering};
 ghost use Rattle.ignore_base.specs.Text.{Path};
-ghost use Rattle.ignore_base.specs.Problem.{problem_of, memory};
 ghost use Rattle.ignore_walk.specs.Keyed.{key_of, path_in, comes_first};
 ghost use Rattle.ignore_walk.specs.Suits.{order_by, IsOrderBy};
 ghost use Rattle.ignore_walk.specs.Walked.{comes_before, IsArranged};
 ghost use Rattle.ignore_walk.specs.declared.callbacks.Order.TheVariants.{ByName, ByPath};
 
 use crate::callbacks::{Callbacks, Order};
-use ignore_base::Error;
-use ignore_base::text::join;
+use crate::memory::join;
 use ignore_files::{Listed, Name};
 use std::alloc::{AllocError, Global};
 use std::cmp::Ordering;
@@ -56,9 +54,8 @@ struct PathListed {
 }
 
 /// The path of a listed thing; a fault has none.
-fn path_of(alloc: Global, dir: &str, listed: &Listed) -> Result<Name, Error>
+fn path_of(alloc: Global, dir: &str, listed: &Listed) -> Result<Name, AllocError>
     ensures value { IfOk result (λ path. path ≡ path_in dir.now listed.now) }
-    ensures out_of_memory { IfErr result (λ e. problem_of e ≡ memory) }
 {
     match listed {
         Listed::Fault(_) => Ok(Name::new(String::new(alloc))),
@@ -67,9 +64,8 @@ fn path_of(alloc: Global, dir: &str, listed: &Listed) -> Result<Name, Error>
 }
 
 /// The things of a listing, each with its path.
-fn keyed(alloc: Global, dir: &str, listing: Vec<Listed>) -> Result<Vec<PathListed>, Error>
+fn keyed(alloc: Global, dir: &str, listing: Vec<Listed>) -> Result<Vec<PathListed>, AllocError>
     ensures value { IfOk result (λ all. all.items ≡ map (key_of dir.now) listing.items) }
-    ensures out_of_memory { IfErr result (λ e. problem_of e ≡ memory) }
 {
     let mut all = Vec::with_capacity(alloc, listing.len())?;
     for listed in listing {
@@ -125,10 +121,9 @@ fn sorted_by_path<S: Callbacks>(
     owner: &S,
     dir: &str,
     listing: Vec<Listed>,
-) -> Result<Vec<Listed>, Error>
+) -> Result<Vec<Listed>, AllocError>
     ensures arranged { (cmp : Path → Path → Ordering) → S.compares owner.now cmp → IsStrictWeakOrder (λ a b. is_lt (cmp a b))
         → IfOk result (λ sorted. IsArranged (order_by ByPath cmp) dir.now listing.items sorted.items) }
-    ensures out_of_memory { IfErr result (λ e. problem_of e ≡ memory) }
 {
     let mut all = keyed(alloc, dir, listing)?;
     sort_by_path(owner, &mut all)?;
@@ -142,10 +137,9 @@ pub(crate) fn arranged<S: Callbacks>(
     order: Order,
     dir: &str,
     mut listing: Vec<Listed>,
-) -> Result<Vec<Listed>, Error>
+) -> Result<Vec<Listed>, AllocError>
     ensures arranged { (chosen : Option (List ℕ → List ℕ → List ℕ → Bool)) → IsOrderBy order (S.compares owner.now) chosen
         → IfOk result (λ sorted. IsArranged chosen dir.now listing.items sorted.items) }
-    ensures out_of_memory { IfErr result (λ e. problem_of e ≡ memory) }
 {
     match order {
         Order::Listed => Ok(listing),

@@ -7,7 +7,7 @@ use std::cmp::Ordering;
 ///
 /// A contract sees, for each call, the functions by which the value may answer: each answer is
 /// that of any such function.
-pub trait Callbacks {
+pub trait Callbacks: Drop {
     ghost use Rattle.std.specs.Prelude.{◌≡◌, Bool, None};
     ghost use Rattle.std.specs.declared.cmp.Ordering.{Ordering};
     ghost use Rattle.ignore_base.specs.Text.{Path};

@@ -1,9 +1,9 @@
 //! What one listed thing is.
-ghost use Rattle.std.specs.Prelude.{◌≡◌, ◌+◌, ◌&&◌, not, ℕ, Bool, List, Result, length, map, reverse, take, option_map, IfOk, IfErr};
+ghost use Rattle.std.specs.Prelude.{◌≡◌, ◌+◌, ◌&&◌, ℕ, List, Result, length, map, reverse, option_map, IfOk, IfErr};
 ghost use Rattle.std.specs.Prelude.{None, Ok, Err, string_bytes, true};
 ghost use Rattle.std.specs.Option.{option_copied};
-ghost use Rattle.ignore_base.specs.Paths.{is_proper, has_slash, join_of};
-ghost use Rattle.ignore_base.specs.Problem.{Problem, problem_of, at_depth, io, memory};
+ghost use Rattle.ignore_base.specs.Paths.{is_proper, has_slash};
+ghost use Rattle.ignore_base.specs.Problem.{Problem, problem_of, at_depth, io};
 ghost use Rattle.ignore_files.specs.Gives.{IsHonest};
 ghost use Rattle.ignore_files.specs.Memory.{and_then};
 ghost use Rattle.ignore_files.specs.Tree.{Tree, Answers};
@@ -15,8 +15,10 @@ ghost use Rattle.ignore_walk.specs.Scene.{Scene};
 
 use crate::entry::{DirEntry, Item, failed_at};
 use crate::frame::Frame;
-use ignore_base::text::{has_slash, is_proper, join};
+use crate::memory::answered;
+use ignore_base::text::{has_slash, is_proper};
 use ignore_base::{Error, Fault};
+use ignore_dir::Ground;
 use ignore_files::{FileType, Files, Identity, Listed, Refusal};
 use std::alloc::{AllocError, Global};
 
@@ -82,7 +84,7 @@ pub(crate) fn all_named(alloc: Global, listing: Vec<Listed>) -> Result<Vec<Liste
 }
 
 /// A fault of a listing, in the place of an entry at this depth.
-fn fault_at(alloc: Global, depth: usize, fault: Fault) -> Result<Error, AllocError>
+pub(crate) fn fault_at(alloc: Global, depth: usize, fault: Fault) -> Result<Error, AllocError>
     ensures { IfOk result (λ e. problem_of e ≡ at_depth depth (io fault)) }
 {
     let err = Box::new(alloc, Error::Io(fault))?;
@@ -134,35 +136,36 @@ fn same_among<'f, F: Files>(
 }
 
 /// What is at a path where an entry of this kind was listed: a link is followed where that is set.
-fn found<F: Files>(
-    alloc: Global,
-    files: &F,
-    follow_links: bool,
+pub(crate) fn found<F: Files>(
+    ground: &Ground<'_, F>,
     path: String,
     depth: usize,
     kind: FileType,
-) -> Result<Item, Error>
-    ensures value { (g : Scene) → IsHonest F.Files files.now g.tree → g.settings.follow_links ≡ follow_links
+) -> Result<Item, AllocError>
+    ensures value { (g : Scene) → IsHonest F.Files ground.now.files.now g.tree
+        → g.settings.follow_links ≡ ground.now.settings.now.follow_links
         → IfOk result (λ item. item_of item ≡ fresh (found g (string_bytes path) depth kind)) }
-    ensures out_of_memory { IfErr result (λ e. problem_of e ≡ memory) }
 {
-    if !follow_links || !kind.is_symlink() {
+    if !ground.settings.follow_links || !kind.is_symlink() {
         return Ok(Ok(DirEntry::new(path, depth, kind, false)));
     }
-    followed(alloc, files, path, depth)
+    followed(ground.alloc, ground.files, path, depth)
 }
 
 /// A link that is followed.
-fn followed<F: Files>(alloc: Global, files: &F, path: String, depth: usize) -> Result<Item, Error>
+fn followed<F: Files>(
+    alloc: Global,
+    files: &F,
+    path: String,
+    depth: usize,
+) -> Result<Item, AllocError>
     ensures value { (tree : Tree) → IsHonest F.Files files.now tree
         → IfOk result (λ item. item_of item
         ≡ fresh (or_failed (string_bytes path) depth (followed_link (string_bytes path) depth) (tree.stat (string_bytes path) true))) }
-    ensures out_of_memory { IfErr result (λ e. problem_of e ≡ memory) }
 {
-    match files.stat(alloc, path.as_str(), true) {
+    match answered(files.stat(alloc, path.as_str(), true))? {
         Ok(metadata) => Ok(Ok(DirEntry::new(path, depth, metadata.file_type, true))),
-        Err(Refusal::Fault(fault)) => Ok(Err(failed_at(alloc, path.as_str(), depth, fault)?)),
-        Err(Refusal::Memory) => Err(Error::Memory),
+        Err(fault) => Ok(Err(failed_at(alloc, path.as_str(), depth, fault)?)),
     }
 }
 
@@ -184,24 +187,20 @@ fn loop_of<F: Files>(
     files: &F,
     frames: &[Frame],
     entry: &DirEntry,
-) -> Result<Option<Error>, Error>
+) -> Result<Option<Error>, AllocError>
     ensures value { (tree : Tree) → IsHonest F.Files files.now tree
         → IfOk result (λ error. unless (entry_of entry.now) (option_map problem_of error)
         ≡ or_failed (entry_of entry.now).path (entry_of entry.now).depth (Rattle.ignore_walk.specs.Child.unlooped (entry_of entry.now))
         (and_then (λ id. same_among tree id (map (λ f. f.path) (reverse frames.now))) (identity_at tree (entry_of entry.now).path))) }
-    ensures out_of_memory { IfErr result (λ e. problem_of e ≡ memory) }
 {
     let ancestor = match identity_at(alloc, files, entry.path()) {
         Ok(identity) => same_among(alloc, files, identity, frames),
         Err(refusal) => Err(refusal),
     };
-    match ancestor {
+    match answered(ancestor)? {
         Ok(None) => Ok(None),
         Ok(Some(ancestor)) => Ok(Some(loop_at(alloc, entry.depth(), ancestor, entry.path())?)),
-        Err(Refusal::Fault(fault)) => {
-            Ok(Some(failed_at(alloc, entry.path(), entry.depth(), fault)?))
-        }
-        Err(Refusal::Memory) => Err(Error::Memory),
+        Err(fault) => Ok(Some(failed_at(alloc, entry.path(), entry.depth(), fault)?)),
     }
 }
 
@@ -211,11 +210,10 @@ fn unlooped<F: Files>(
     files: &F,
     frames: &[Frame],
     entry: DirEntry,
-) -> Result<Item, Error>
+) -> Result<Item, AllocError>
     ensures value { (tree : Tree) → IsHonest F.Files files.now tree → problem_in entry ≡ None → IfOk result (λ item. item_of item
         ≡ fresh (or_failed (entry_of entry).path (entry_of entry).depth (Rattle.ignore_walk.specs.Child.unlooped (entry_of entry))
         (and_then (λ id. same_among tree id (map (λ f. f.path) (reverse frames.now))) (identity_at tree (entry_of entry).path)))) }
-    ensures out_of_memory { IfErr result (λ e. problem_of e ≡ memory) }
 {
     match loop_of(alloc, files, frames, &entry)? {
         None => Ok(Ok(entry)),
@@ -229,10 +227,9 @@ fn without_loop<F: Files>(
     files: &F,
     frames: &[Frame],
     entry: DirEntry,
-) -> Result<Item, Error>
+) -> Result<Item, AllocError>
     ensures value { (tree : Tree) → IsHonest F.Files files.now tree → problem_in entry ≡ None
         → IfOk result (λ item. item_of item ≡ fresh (without_loop tree (map (λ f. f.path) (reverse frames.now)) (entry_of entry))) }
-    ensures out_of_memory { IfErr result (λ e. problem_of e ≡ memory) }
 {
     if entry.is_followed() && is_dir_kind(entry.file_type()) {
         return unlooped(alloc, files, frames, entry);
@@ -245,19 +242,15 @@ fn unknown_device<F: Files>(
     alloc: Global,
     files: &F,
     entry: &DirEntry,
-) -> Result<Option<Error>, Error>
+) -> Result<Option<Error>, AllocError>
     ensures value { (tree : Tree) → IsHonest F.Files files.now tree
         → IfOk result (λ error. unless (entry_of entry.now) (option_map problem_of error)
         ≡ or_failed (entry_of entry.now).path (entry_of entry.now).depth (λ id. Ok (entry_of entry.now))
         (identity_at tree (entry_of entry.now).path)) }
-    ensures out_of_memory { IfErr result (λ e. problem_of e ≡ memory) }
 {
-    match identity_at(alloc, files, entry.path()) {
+    match answered(identity_at(alloc, files, entry.path()))? {
         Ok(_) => Ok(None),
-        Err(Refusal::Fault(fault)) => {
-            Ok(Some(failed_at(alloc, entry.path(), entry.depth(), fault)?))
-        }
-        Err(Refusal::Memory) => Err(Error::Memory),
+        Err(fault) => Ok(Some(failed_at(alloc, entry.path(), entry.depth(), fault)?)),
     }
 }
 
@@ -268,10 +261,9 @@ pub(crate) fn with_device<F: Files>(
     same_file_system: bool,
     is_dir: bool,
     entry: DirEntry,
-) -> Result<Item, Error>
+) -> Result<Item, AllocError>
     ensures value { (g : Scene) → IsHonest F.Files files.now g.tree → g.same_file_system ≡ same_file_system → problem_in entry ≡ None
         → IfOk result (λ item. item_of item ≡ fresh (with_device g is_dir (entry_of entry))) }
-    ensures out_of_memory { IfErr result (λ e. problem_of e ≡ memory) }
 {
     if !same_file_system || !is_dir {
         return Ok(Ok(entry));
@@ -282,42 +274,16 @@ pub(crate) fn with_device<F: Files>(
     }
 }
 
-/// What a listed thing is in the directory that was entered last: an entry, or the error in its
-/// place.
-pub(crate) fn child<F: Files>(
-    alloc: Global,
-    files: &F,
-    follow_links: bool,
-    same_file_system: bool,
-    frames: &[Frame],
-    listed: Listed,
-) -> Result<Item, Error>
-    ensures value { (g : Scene) (root : List ℕ) (b : Branch) → IsHonest F.Files files.now g.tree → g.settings.follow_links ≡ follow_links
-        → g.same_file_system ≡ same_file_system → map (λ f. f.path) (reverse frames.now) ≡ entered root b
-        → IfOk result (λ item. item_of item ≡ fresh (child g root b listed)) }
-    ensures out_of_memory { IfErr result (λ e. problem_of e ≡ memory) }
-{
-    let depth = depth_below(frames);
-    match listed {
-        Listed::Entry { name, file_type } => {
-            let path = join(alloc, last_path(frames), name.as_str())?;
-            let item = found(alloc, files, follow_links, path, depth, file_type)?;
-            checked(alloc, files, same_file_system, frames, item)
-        }
-        Listed::Fault(fault) => Ok(Err(fault_at(alloc, depth, fault)?)),
-    }
-}
-
 /// The depth of what is in the directory that was entered last.
 #[tactic(auto, using(crate::proofs::ChildLemmas::frames_length))]
-fn depth_below(frames: &[Frame]) -> usize
+pub(crate) fn depth_below(frames: &[Frame]) -> usize
     ensures { (root : List ℕ) (b : Branch) → map (λ f. f.path) (reverse frames.now) ≡ entered root b → result ≡ length b + 1 }
 {
     frames.len()
 }
 
 /// The path of the directory that was entered last.
-fn last_path(frames: &[Frame]) -> &str
+pub(crate) fn last_path(frames: &[Frame]) -> &str
     ensures { (root : List ℕ) (b : Branch) → map (λ f. f.path) (reverse frames.now) ≡ entered root b → result.now ≡ path_of root b }
 {
     match frames.last() {
@@ -327,18 +293,17 @@ fn last_path(frames: &[Frame]) -> &str
 }
 
 /// The tests of what was found: of a loop, and of its device.
-fn checked<F: Files>(
+pub(crate) fn checked<F: Files>(
     alloc: Global,
     files: &F,
     same_file_system: bool,
     frames: &[Frame],
     item: Item,
-) -> Result<Item, Error>
+) -> Result<Item, AllocError>
     ensures value { (g : Scene) (r : Result Entry Problem) → IsHonest F.Files files.now g.tree → g.same_file_system ≡ same_file_system
         → item_of item ≡ fresh r
         → IfOk result (λ i. item_of i ≡ fresh (and_then (λ (e : Entry). with_device g (is_dir_kind e.kind) e)
         (and_then (without_loop g.tree (map (λ f. f.path) (reverse frames.now))) r))) }
-    ensures out_of_memory { IfErr result (λ e. problem_of e ≡ memory) }
 {
     match item {
         Ok(entry) => {
@@ -355,11 +320,10 @@ fn on_device<F: Files>(
     files: &F,
     same_file_system: bool,
     item: Item,
-) -> Result<Item, Error>
+) -> Result<Item, AllocError>
     ensures value { (g : Scene) (r : Result Entry Problem) → IsHonest F.Files files.now g.tree → g.same_file_system ≡ same_file_system
         → item_of item ≡ fresh r
         → IfOk result (λ i. item_of i ≡ fresh (and_then (λ (e : Entry). with_device g (is_dir_kind e.kind) e) r)) }
-    ensures out_of_memory { IfErr result (λ e. problem_of e ≡ memory) }
 {
     match item {
         Ok(entry) => {

@@ -1,8 +1,8 @@
 //! What stays the same in a walk, and what it makes of one entry.
-ghost use Rattle.std.specs.Prelude.{◌≡◌, ◌++◌, ◌∷◌, ◌||◌, ℕ, List, None, true, false, not, option_map, reverse, IfOk, IfErr, [], Err};
+ghost use Rattle.std.specs.Prelude.{◌≡◌, ◌++◌, ◌∷◌, ◌||◌, ℕ, List, None, true, false, not, option_map, reverse, IfOk, [], Err};
 ghost use Rattle.std.specs.Prelude.{OnOk, map, string_bytes};
 ghost use Rattle.std.specs.Option.{option_to_list};
-ghost use Rattle.ignore_base.specs.Problem.{problem_of, memory};
+ghost use Rattle.ignore_base.specs.Problem.{problem_of};
 ghost use Rattle.ignore_files.specs.Gives.{IsHonest};
 ghost use Rattle.ignore_dir.specs.Limits as limits;
 ghost use Rattle.ignore_dir.specs.Query as queries;
@@ -13,32 +13,36 @@ ghost use Rattle.ignore_walk.specs.Fates.{fate_of, differ};
 ghost use Rattle.ignore_walk.specs.Frames.{AreFrames, AreSeen, device_of};
 ghost use Rattle.ignore_walk.specs.Opens.{Opens};
 ghost use Rattle.ignore_walk.specs.Scene.{Scene};
-ghost use Rattle.ignore_walk.specs.Suits.{Suits};
+ghost use Rattle.ignore_walk.specs.Suits.{IsGroundOf, Suits};
 ghost use Rattle.ignore_walk.specs.Walked as walked;
 ghost use Rattle.ignore_walk.specs.Whole as wholes;
 
 use crate::above::{paths_of, see, unseen_error};
 use crate::callbacks::{Callbacks, Options};
-use crate::child::{child, identity_at};
+use crate::child::{checked, depth_below, fault_at, found, identity_at, last_path};
 use crate::entry::{DirEntry, Item};
 use crate::frame::Frame;
+use crate::memory::{answered, join};
 use crate::open::{Opened, loaded, open};
-use crate::root::root_entry;
+use crate::root::{on_device, root_found};
 use crate::skip::{is_ignored, is_too_large};
 use ignore_base::Error;
 use ignore_dir::above::load_above;
+use ignore_dir::limits::is_deepest;
 use ignore_dir::{Outside, Placed, Settings};
-use ignore_files::{Files, Listed, Name, Refusal};
+use ignore_files::{Files, Listed, Name};
 use std::alloc::{AllocError, Global};
 use std::collections::VecDeque;
 
 /// What stays the same in a walk.
 #[derive(Drop)]
 pub struct Ground<'a, F: Files, S> {
+    /// The allocator.
+    pub alloc: Global,
     /// The files.
     pub files: &'a F,
     /// What keeps the filter and the comparator.
-    pub owner: &'a S,
+    pub owner: S,
     /// The settings by which directories are loaded and paths are matched.
     pub settings: Settings,
     /// The rules from outside of the directories.
@@ -65,16 +69,6 @@ pub(crate) struct AboveRoot {
     pub(crate) dirs: Vec<Placed>,
     pub(crate) base: String,
     pub(crate) error: Option<Error>,
-}
-
-/// Whether a depth is the greatest depth, if there is one, or below it.
-fn is_deepest(max_depth: Option<usize>, depth: usize) -> bool
-    ensures { result ≡ limits.is_deepest max_depth depth }
-{
-    match max_depth {
-        None => false,
-        Some(most) => most <= depth,
-    }
 }
 
 /// Whether nothing below an entry is yielded: whether it leads into no directory, or is at the
@@ -104,18 +98,16 @@ fn device_if<F: Files>(
     files: &F,
     matters: bool,
     path: &str,
-) -> Result<Option<u64>, Error>
+) -> Result<Option<u64>, AllocError>
     ensures value { (g : Scene) → IsHonest F.Files files.now g.tree → g.same_file_system ≡ matters
         → IfOk result (λ d. d ≡ device_of g path.now) }
-    ensures out_of_memory { IfErr result (λ e. problem_of e ≡ memory) }
 {
     if !matters {
         return Ok(None);
     }
-    match identity_at(alloc, files, path) {
+    match answered(identity_at(alloc, files, path))? {
         Ok(identity) => Ok(Some(identity.device)),
-        Err(Refusal::Fault(_)) => Ok(None),
-        Err(Refusal::Memory) => Err(Error::Memory),
+        Err(_) => Ok(None),
     }
 }
 
@@ -128,13 +120,13 @@ fn named(alloc: Global, path: &str) -> Result<Name, AllocError>
 
 impl<'a, F: Files, S: Callbacks> Ground<'a, F, S> {
     /// What directories are loaded and paths are judged by.
-    fn lent(&self, alloc: Global) -> ignore_dir::Ground<'_, F>
+    fn lent(&self) -> ignore_dir::Ground<'_, F>
         ensures { (g : Scene)
-            → Suits F.Files S.Callbacks self.now.files.now self.now.owner.now self.now.settings self.now.outside self.now.options g
-            → Suits F.Files S.Callbacks result.files.now self.now.owner.now result.settings.now result.outside.now self.now.options g }
+            → IsGroundOf F.Files S.Callbacks self.now g
+            → Suits F.Files S.Callbacks result.files.now self.now.owner result.settings.now result.outside.now self.now.options g }
     {
         ignore_dir::Ground {
-            alloc,
+            alloc: self.alloc,
             files: self.files,
             settings: &self.settings,
             outside: &self.outside,
@@ -144,23 +136,21 @@ impl<'a, F: Files, S: Callbacks> Ground<'a, F, S> {
     /// What becomes of an entry that isn't skipped. `device` is that of its root.
     pub(crate) fn fate(
         &self,
-        alloc: Global,
         device: Option<u64>,
         entry: &DirEntry,
         leads_in: bool,
-    ) -> Result<Fate, Error>
+    ) -> Result<Fate, AllocError>
         ensures value { (g : Scene) (root : List ℕ) (b : Branch)
-            → Suits F.Files S.Callbacks self.now.files.now self.now.owner.now self.now.settings self.now.outside self.now.options g
+            → IsGroundOf F.Files S.Callbacks self.now g
             → (leads_in ≡ true → device ≡ device_of g root) → leads_in ≡ walked.leads_in g b (entry_of entry.now)
             → walked.is_skipped g root b (entry_of entry.now) ≡ false
             → IfOk result (λ f. walked.fate g root b (entry_of entry.now) ≡ fate_of f) }
-        ensures out_of_memory { IfErr result (λ e. problem_of e ≡ memory) }
     {
         if is_leaf(self.settings.max_depth, entry.depth(), leads_in) {
             return Ok(Fate::Yield);
         }
         let own = device_if(
-            alloc,
+            self.alloc,
             self.files,
             self.options.same_file_system,
             entry.path(),
@@ -172,42 +162,34 @@ impl<'a, F: Files, S: Callbacks> Ground<'a, F, S> {
     }
 
     /// The device of a root, where it matters and is known.
-    pub(crate) fn device(
-        &self,
-        alloc: Global,
-        is_dir: bool,
-        root: &str,
-    ) -> Result<Option<u64>, Error>
+    pub(crate) fn device(&self, is_dir: bool, root: &str) -> Result<Option<u64>, AllocError>
         ensures value { (g : Scene)
-            → Suits F.Files S.Callbacks self.now.files.now self.now.owner.now self.now.settings self.now.outside self.now.options g
+            → IsGroundOf F.Files S.Callbacks self.now g
             → is_dir ≡ true → IfOk result (λ d. d ≡ device_of g root.now) }
-        ensures out_of_memory { IfErr result (λ e. problem_of e ≡ memory) }
     {
         let matters = self.options.same_file_system && is_dir;
-        device_if(alloc, self.files, matters, root)
+        device_if(self.alloc, self.files, matters, root)
     }
 
     /// What is wrong with the files of rules of a directory.
-    pub(crate) fn load_error(&self, alloc: Global, path: &str) -> Result<Option<Error>, Error>
+    pub(crate) fn load_error(&self, path: &str) -> Result<Option<Error>, AllocError>
         ensures value { (g : Scene)
-            → Suits F.Files S.Callbacks self.now.files.now self.now.owner.now self.now.settings self.now.outside self.now.options g
+            → IsGroundOf F.Files S.Callbacks self.now g
             → IfOk result (λ e. option_map problem_of e ≡ (g.loads path.now).1) }
-        ensures out_of_memory { IfErr result (λ e. problem_of e ≡ memory) }
     {
-        let (_, error) = loaded(&self.lent(alloc), path)?;
+        let (_, error) = loaded(&self.lent(), path)?;
         Ok(error)
     }
 
     /// Loads and lists a directory. `text` is its path as the directories around it see it.
-    pub(crate) fn opened(&self, alloc: Global, path: &str, text: Name) -> Result<Opened, Error>
+    pub(crate) fn opened(&self, path: &str, text: Name) -> Result<Opened, AllocError>
         ensures value { (g : Scene)
-            → Suits F.Files S.Callbacks self.now.files.now self.now.owner.now self.now.settings self.now.outside self.now.options g
+            → IsGroundOf F.Files S.Callbacks self.now g
             → IfOk result (λ o. Opens g path.now text o) }
-        ensures out_of_memory { IfErr result (λ e. problem_of e ≡ memory) }
     {
-        let path = named(alloc, path)?;
+        let path = named(self.alloc, path)?;
         let order = self.options.order;
-        let opened = open(&self.lent(alloc), self.owner, order, path, text)?;
+        let opened = open(&self.lent(), &self.owner, order, path, text)?;
         Ok(opened)
     }
 
@@ -215,83 +197,83 @@ impl<'a, F: Files, S: Callbacks> Ground<'a, F, S> {
     /// see it.
     pub(crate) fn is_skipped(
         &self,
-        alloc: Global,
         above: &[Placed],
         frames: &[Frame],
         text: &str,
         entry: &DirEntry,
-    ) -> Result<bool, Error>
+    ) -> Result<bool, AllocError>
         ensures value { (g : Scene) (root : List ℕ) (b : Branch) (name : List ℕ)
-            → Suits F.Files S.Callbacks self.now.files.now self.now.owner.now self.now.settings self.now.outside self.now.options g
+            → IsGroundOf F.Files S.Callbacks self.now g
             → AreFrames g root b (reverse frames.now) → reverse above.now ≡ placed_above g root → text.now ≡ text_at g root b ++ name
             → (entry_of entry.now).path ≡ path_of root (name ∷ b) → problem_in entry.now ≡ None
             → IfOk result (λ yes. yes ≡ walked.is_skipped g root (name ∷ b) (entry_of entry.now)) }
-        ensures out_of_memory { IfErr result (λ e. problem_of e ≡ memory) }
     {
-        if is_ignored(&self.lent(alloc), above, frames, text, entry)? {
+        if is_ignored(&self.lent(), above, frames, text, entry)? {
             return Ok(true);
         }
-        if is_too_large(alloc, self.files, &self.settings, entry)? {
+        if is_too_large(self.alloc, self.files, &self.settings, entry)? {
             return Ok(true);
         }
         Ok(!self.owner.filter(entry))
     }
 
     /// What a listed thing is, in the directory that was entered last.
-    pub(crate) fn child(
-        &self,
-        alloc: Global,
-        frames: &[Frame],
-        listed: Listed,
-    ) -> Result<Item, Error>
+    pub(crate) fn child(&self, frames: &[Frame], listed: Listed) -> Result<Item, AllocError>
         ensures value { (g : Scene) (root : List ℕ) (b : Branch)
-            → Suits F.Files S.Callbacks self.now.files.now self.now.owner.now self.now.settings self.now.outside self.now.options g
+            → IsGroundOf F.Files S.Callbacks self.now g
             → AreFrames g root b (reverse frames.now) → IfOk result (λ item. item_of item ≡ fresh (children.child g root b listed)) }
-        ensures out_of_memory { IfErr result (λ e. problem_of e ≡ memory) }
     {
-        let (follow, same) = (self.settings.follow_links, self.options.same_file_system);
-        child(alloc, self.files, follow, same, frames, listed)
+        let depth = depth_below(frames);
+        match listed {
+            Listed::Entry { name, file_type } => {
+                let path = join(self.alloc, last_path(frames), name.as_str())?;
+                let item = found(&self.lent(), path, depth, file_type)?;
+                let same = self.options.same_file_system;
+                checked(self.alloc, self.files, same, frames, item)
+            }
+            Listed::Fault(fault) => Ok(Err(fault_at(self.alloc, depth, fault)?)),
+        }
     }
 
     /// The entry of a root, or the error in its place.
-    pub(crate) fn root_entry(&self, alloc: Global, is_dir: bool, root: &str) -> Result<Item, Error>
+    pub(crate) fn root_entry(&self, is_dir: bool, root: &str) -> Result<Item, AllocError>
         ensures value { (g : Scene)
-            → Suits F.Files S.Callbacks self.now.files.now self.now.owner.now self.now.settings self.now.outside self.now.options g
+            → IsGroundOf F.Files S.Callbacks self.now g
             → is_dir ≡ queries.is_dir_there (g.tree.stat root.now true)
             → IfOk result (λ item. item_of item ≡ fresh (wholes.root_entry g root.now)) }
-        ensures out_of_memory { IfErr result (λ e. problem_of e ≡ memory) }
     {
-        let (follow, same) = (self.settings.follow_links, self.options.same_file_system);
-        root_entry(alloc, self.files, follow, same, is_dir, root)
+        let item = root_found(self.alloc, self.files, self.settings.follow_links, root)?;
+        let same = self.options.same_file_system;
+        on_device(self.alloc, self.files, same, is_dir, item)
     }
 
     /// Loads the directories above a root that is a directory. From now on they were seen.
     pub(crate) fn look_above(
         &self,
-        alloc: Global,
         seen: &mut Vec<Name>,
         root: &str,
-    ) -> Result<AboveRoot, Error>
+    ) -> Result<AboveRoot, AllocError>
         ensures dirs { (g : Scene)
-            → Suits F.Files S.Callbacks self.now.files.now self.now.owner.now self.now.settings self.now.outside self.now.options g
+            → IsGroundOf F.Files S.Callbacks self.now g
             → IfOk result (λ a. reverse a.dirs.items ≡ placed_above g root.now) }
         ensures base { (g : Scene)
-            → Suits F.Files S.Callbacks self.now.files.now self.now.owner.now self.now.settings self.now.outside self.now.options g
+            → IsGroundOf F.Files S.Callbacks self.now g
             → IfOk result (λ a. string_bytes a.base ≡ text_at g root.now []) }
         ensures error { (g : Scene) (paths : List (List ℕ))
-            → Suits F.Files S.Callbacks self.now.files.now self.now.owner.now self.now.settings self.now.outside self.now.options g
+            → IsGroundOf F.Files S.Callbacks self.now g
             → AreSeen seen.old.items paths → queries.is_dir_there (g.tree.stat root.now true) ≡ true
             → IfOk result (λ a. map Err (option_to_list (option_map problem_of a.error)) ≡ wholes.reported_before g paths root.now) }
         ensures seen { (g : Scene) (paths : List (List ℕ))
-            → Suits F.Files S.Callbacks self.now.files.now self.now.owner.now self.now.settings self.now.outside self.now.options g
+            → IsGroundOf F.Files S.Callbacks self.now g
             → AreSeen seen.old.items paths → queries.is_dir_there (g.tree.stat root.now true) ≡ true
             → OnOk result (AreSeen seen.new.items (paths ++ wholes.above_root g root.now)) }
-        ensures out_of_memory { IfErr result (λ e. problem_of e ≡ memory) }
     {
-        let above = load_above(&self.lent(alloc), root)?;
-        let paths = paths_of(alloc, above.base.as_str(), above.dirs.as_slice())?;
+        let Ok(above) = load_above(&self.lent(), root) else {
+            return Err(AllocError);
+        };
+        let paths = paths_of(self.alloc, above.base.as_str(), above.dirs.as_slice())?;
         let errors = VecDeque::from_vec(above.errors);
-        let error = unseen_error(alloc, seen.as_slice(), paths.as_slice(), errors)?;
+        let error = unseen_error(self.alloc, seen.as_slice(), paths.as_slice(), errors)?;
         see(seen, paths)?;
         Ok(AboveRoot {
             dirs: above.dirs,

@@ -1,7 +1,7 @@
 //! The items that a walk makes and doesn't hand out at once.
-ghost use Rattle.std.specs.Prelude.{◌≡◌, ◌+◌, ◌≤◌, ◌++◌, ◌∷◌, [], List, Result, Err, IfErr, OnOk, length, map, option_map};
+ghost use Rattle.std.specs.Prelude.{◌≡◌, ◌+◌, ◌≤◌, ◌++◌, ◌∷◌, [], List, Result, Err, OnOk, length, map, option_map};
 ghost use Rattle.std.specs.Result.{result_err};
-ghost use Rattle.ignore_base.specs.Problem.{problem_of, memory};
+ghost use Rattle.ignore_base.specs.Problem.{problem_of};
 ghost use Rattle.ignore_files.specs.declared.types.Listed.{Listed as Thing};
 ghost use Rattle.ignore_walk.specs.Entry.{Entry, entry_of, item_of};
 ghost use Rattle.ignore_walk.specs.Walked.{is_at_least, yielded, unlisted};
@@ -9,7 +9,7 @@ ghost use Rattle.ignore_walk.specs.Walked.{is_at_least, yielded, unlisted};
 use crate::entry::{DirEntry, Item, failed_at};
 use ignore_base::{Error, Fault};
 use ignore_dir::Settings;
-use std::alloc::Global;
+use std::alloc::{AllocError, Global};
 use std::collections::VecDeque;
 
 /// Appends the item of an entry, unless it is above the least depth.
@@ -18,11 +18,10 @@ pub(crate) fn make(
     settings: &Settings,
     entry: DirEntry,
     error: Option<Error>,
-) -> Result<(), Error>
+) -> Result<(), AllocError>
     ensures made { length made.new.items ≤ length made.old.items + 1 }
     ensures value { OnOk result (map item_of made.new.items
         ≡ map item_of made.old.items ++ yielded settings.now (entry_of entry) (option_map problem_of error)) }
-    ensures out_of_memory { IfErr result (λ e. problem_of e ≡ memory) }
 {
     if !is_at_least(settings.min_depth, entry.depth()) {
         return Ok(());
@@ -42,10 +41,9 @@ fn is_at_least(min_depth: Option<usize>, depth: usize) -> bool
 }
 
 /// Appends an error as an item.
-pub(crate) fn make_error(made: &mut VecDeque<Item>, error: Error) -> Result<(), Error>
+pub(crate) fn make_error(made: &mut VecDeque<Item>, error: Error) -> Result<(), AllocError>
     ensures made { length made.new.items ≤ length made.old.items + 1 }
     ensures value { OnOk result (map item_of made.new.items ≡ map item_of made.old.items ++ Err (problem_of error) ∷ []) }
-    ensures out_of_memory { IfErr result (λ e. problem_of e ≡ memory) }
 {
     made.push_back(Err(error))?;
     Ok(())
@@ -58,11 +56,10 @@ pub(crate) fn make_fault(
     path: &str,
     depth: usize,
     fault: Option<Fault>,
-) -> Result<(), Error>
+) -> Result<(), AllocError>
     ensures made { length made.new.items ≤ length made.old.items + 1 }
     ensures value { (e : Entry) (lists : Result (List Thing) Fault) → e.path ≡ path.now → e.depth ≡ depth → fault ≡ result_err lists
         → OnOk result (map item_of made.new.items ≡ map item_of made.old.items ++ unlisted e lists) }
-    ensures out_of_memory { IfErr result (λ e. problem_of e ≡ memory) }
 {
     match fault {
         None => Ok(()),

@@ -1,7 +1,7 @@
 //! A directory that is entered: its load and its listing.
-ghost use Rattle.std.specs.Prelude.{◌≡◌, ℕ, Bool, List, Option, IfOk, IfErr, option_map};
+ghost use Rattle.std.specs.Prelude.{◌≡◌, ℕ, Bool, List, Option, IfOk, option_map};
 ghost use Rattle.std.specs.Result.{result_err};
-ghost use Rattle.ignore_base.specs.Problem.{problem_of, memory};
+ghost use Rattle.ignore_base.specs.Problem.{problem_of};
 ghost use Rattle.ignore_files.specs.Gives.{IsHonest};
 ghost use Rattle.ignore_files.specs.Tree.{Tree};
 ghost use Rattle.ignore_dir.specs.Ground.{InLoads};
@@ -12,12 +12,13 @@ use crate::arrange::arranged;
 use crate::callbacks::{Callbacks, Order};
 use crate::child::all_named;
 use crate::frame::Frame;
+use crate::memory::answered;
 use ignore_base::{Error, Fault};
 use ignore_dir::laws::one_load;
 use ignore_dir::load::load_directory;
 use ignore_dir::{Dir, Ground};
-use ignore_files::{Files, Listed, Name, Refusal};
-use std::alloc::Global;
+use ignore_files::{Files, Listed, Name};
+use std::alloc::{AllocError, Global};
 use std::collections::VecDeque;
 
 /// A directory that was entered, the error of its load, and the fault of its listing.
@@ -32,13 +33,15 @@ pub(crate) struct Opened {
 pub(crate) fn loaded<F: Files>(
     ground: &Ground<'_, F>,
     path: &str,
-) -> Result<(Dir, Option<Error>), Error>
+) -> Result<(Dir, Option<Error>), AllocError>
     ensures dir { InLoads F.Files ground.now (λ tree loads. IfOk result (λ r. r.0 ≡ (loads path.now).0)) }
     ensures problem { InLoads F.Files ground.now (λ tree loads. IfOk result (λ r. option_map problem_of r.1 ≡ (loads path.now).1)) }
-    ensures out_of_memory { IfErr result (λ e. problem_of e ≡ memory) }
 {
     one_load();
-    load_directory(ground, path)
+    match load_directory(ground, path) {
+        Ok(found) => Ok(found),
+        Err(_) => Err(AllocError),
+    }
 }
 
 /// What a directory lists, each name that is none as a fault; or the fault of the listing.
@@ -46,15 +49,13 @@ fn listing_of<F: Files>(
     alloc: Global,
     files: &F,
     path: &str,
-) -> Result<(Vec<Listed>, Option<Fault>), Error>
+) -> Result<(Vec<Listed>, Option<Fault>), AllocError>
     ensures listing { (tree : Tree) → IsHonest F.Files files.now tree → IfOk result (λ r. r.0.items ≡ listing_of (tree.list path.now)) }
     ensures fault { (tree : Tree) → IsHonest F.Files files.now tree → IfOk result (λ r. r.1 ≡ result_err (tree.list path.now)) }
-    ensures out_of_memory { IfErr result (λ e. problem_of e ≡ memory) }
 {
-    match files.list(alloc, path) {
+    match answered(files.list(alloc, path))? {
         Ok(listing) => Ok((all_named(alloc, listing.into_vec())?, None)),
-        Err(Refusal::Fault(fault)) => Ok((Vec::new(alloc), Some(fault))),
-        Err(Refusal::Memory) => Err(Error::Memory),
+        Err(fault) => Ok((Vec::new(alloc), Some(fault))),
     }
 }
 
@@ -65,12 +66,11 @@ fn listed<F: Files, S: Callbacks>(
     owner: &S,
     order: Order,
     path: &str,
-) -> Result<(VecDeque<Listed>, Option<Fault>), Error>
+) -> Result<(VecDeque<Listed>, Option<Fault>), AllocError>
     ensures rest { (tree : Tree) (chosen : Option (List ℕ → List ℕ → List ℕ → Bool)) → IsHonest F.Files files.now tree
         → IsOrderBy order (S.compares owner.now) chosen
         → IfOk result (λ r. IsArranged chosen path.now (listing_of (tree.list path.now)) r.0.items) }
     ensures fault { (tree : Tree) → IsHonest F.Files files.now tree → IfOk result (λ r. r.1 ≡ result_err (tree.list path.now)) }
-    ensures out_of_memory { IfErr result (λ e. problem_of e ≡ memory) }
 {
     let (listing, fault) = listing_of(alloc, files, path)?;
     let listing = arranged(alloc, owner, order, path, listing)?;
@@ -84,7 +84,7 @@ pub(crate) fn open<F: Files, S: Callbacks>(
     order: Order,
     path: Name,
     text: Name,
-) -> Result<Opened, Error>
+) -> Result<Opened, AllocError>
     ensures path { IfOk result (λ o. o.frame.path ≡ path) }
     ensures text { IfOk result (λ o. o.frame.text ≡ text) }
     ensures dir { InLoads F.Files ground.now (λ tree loads. IfOk result (λ o. o.frame.dir.value ≡ (loads path).0)) }
@@ -93,7 +93,6 @@ pub(crate) fn open<F: Files, S: Callbacks>(
         → IsOrderBy order (S.compares owner.now) chosen
         → IfOk result (λ o. IsArranged chosen path (listing_of (tree.list path)) o.frame.rest.items) }
     ensures fault { (tree : Tree) → IsHonest F.Files ground.now.files.now tree → IfOk result (λ o. o.fault ≡ result_err (tree.list path)) }
-    ensures out_of_memory { IfErr result (λ e. problem_of e ≡ memory) }
 {
     let (rest, fault) = listed(ground.alloc, ground.files, owner, order, path.as_str())?;
     let (dir, error) = loaded(ground, path.as_str())?;

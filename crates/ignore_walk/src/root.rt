@@ -1,6 +1,6 @@
 //! How a walk begins a root.
-ghost use Rattle.std.specs.Prelude.{◌≡◌, true, false, Result, IfOk, IfErr, None, string_bytes};
-ghost use Rattle.ignore_base.specs.Problem.{Problem, problem_of, memory};
+ghost use Rattle.std.specs.Prelude.{◌≡◌, true, false, Result, IfOk, None, string_bytes};
+ghost use Rattle.ignore_base.specs.Problem.{Problem};
 ghost use Rattle.ignore_files.specs.Gives.{IsHonest};
 ghost use Rattle.ignore_files.specs.Memory.{and_then};
 ghost use Rattle.ignore_files.specs.Tree.{Tree};
@@ -8,23 +8,25 @@ ghost use Rattle.ignore_dir.specs.Query.{is_dir_there};
 ghost use Rattle.ignore_walk.specs.Child.{or_failed, with_device};
 ghost use Rattle.ignore_walk.specs.Entry.{Entry, entry_of, item_of, fresh, problem_in};
 ghost use Rattle.ignore_walk.specs.Scene.{Scene};
-ghost use Rattle.ignore_walk.specs.Whole.{root_by, root_of, root_entry};
+ghost use Rattle.ignore_walk.specs.Whole.{root_by, root_of};
 
 use crate::child::with_device;
 use crate::entry::{DirEntry, Item, failed_at};
-use ignore_base::Error;
-use ignore_files::{FileType, Files, Metadata, Refusal};
-use std::alloc::Global;
+use crate::memory::answered;
+use ignore_files::{FileType, Files, Metadata};
+use std::alloc::{AllocError, Global};
 
 /// Whether a path leads to a directory.
-pub(crate) fn is_dir_found<F: Files>(alloc: Global, files: &F, path: &str) -> Result<bool, Error>
+pub(crate) fn is_dir_found<F: Files>(
+    alloc: Global,
+    files: &F,
+    path: &str,
+) -> Result<bool, AllocError>
     ensures value { (tree : Tree) → IsHonest F.Files files.now tree → IfOk result (λ yes. yes ≡ is_dir_there (tree.stat path.now true)) }
-    ensures out_of_memory { IfErr result (λ e. problem_of e ≡ memory) }
 {
-    match files.stat(alloc, path, true) {
+    match answered(files.stat(alloc, path, true))? {
         Ok(metadata) => Ok(metadata.is_dir()),
-        Err(Refusal::Fault(_)) => Ok(false),
-        Err(Refusal::Memory) => Err(Error::Memory),
+        Err(_) => Ok(false),
     }
 }
 
@@ -46,71 +48,48 @@ fn root_of<F: Files>(
     follow_links: bool,
     root: &str,
     own: Metadata,
-) -> Result<Item, Error>
+) -> Result<Item, AllocError>
     ensures value { (g : Scene) → IsHonest F.Files files.now g.tree → g.settings.follow_links ≡ follow_links
         → IfOk result (λ item. item_of item ≡ fresh (root_of g root.now own)) }
-    ensures out_of_memory { IfErr result (λ e. problem_of e ≡ memory) }
 {
-    match files.stat(alloc, root, true) {
+    match answered(files.stat(alloc, root, true))? {
         Ok(metadata) => {
             let path = String::from_str(alloc, root)?;
             Ok(Ok(root_by(path, follow_links, own.file_type, metadata.file_type)))
         }
-        Err(Refusal::Fault(fault)) => Ok(Err(failed_at(alloc, root, 0, fault)?)),
-        Err(Refusal::Memory) => Err(Error::Memory),
+        Err(fault) => Ok(Err(failed_at(alloc, root, 0, fault)?)),
     }
 }
 
 /// The entry of a root, or the error in its place, whatever its device is.
-fn root_found<F: Files>(
+pub(crate) fn root_found<F: Files>(
     alloc: Global,
     files: &F,
     follow_links: bool,
     root: &str,
-) -> Result<Item, Error>
+) -> Result<Item, AllocError>
     ensures value { (g : Scene) → IsHonest F.Files files.now g.tree → g.settings.follow_links ≡ follow_links
         → IfOk result (λ item. item_of item ≡ fresh (or_failed root.now 0 (root_of g root.now) (g.tree.stat root.now false))) }
-    ensures out_of_memory { IfErr result (λ e. problem_of e ≡ memory) }
 {
-    match files.stat(alloc, root, false) {
+    match answered(files.stat(alloc, root, false))? {
         Ok(own) => root_of(alloc, files, follow_links, root, own),
-        Err(Refusal::Fault(fault)) => Ok(Err(failed_at(alloc, root, 0, fault)?)),
-        Err(Refusal::Memory) => Err(Error::Memory),
+        Err(fault) => Ok(Err(failed_at(alloc, root, 0, fault)?)),
     }
 }
 
 /// The test of the device of a root.
-fn on_device<F: Files>(
+pub(crate) fn on_device<F: Files>(
     alloc: Global,
     files: &F,
     same_file_system: bool,
     is_dir: bool,
     item: Item,
-) -> Result<Item, Error>
+) -> Result<Item, AllocError>
     ensures value { (g : Scene) (r : Result Entry Problem) → IsHonest F.Files files.now g.tree → g.same_file_system ≡ same_file_system
         → item_of item ≡ fresh r → IfOk result (λ i. item_of i ≡ fresh (and_then (with_device g is_dir) r)) }
-    ensures out_of_memory { IfErr result (λ e. problem_of e ≡ memory) }
 {
     match item {
         Ok(entry) => with_device(alloc, files, same_file_system, is_dir, entry),
         Err(error) => Ok(Err(error)),
     }
-}
-
-/// The entry of a root, or the error in its place.
-pub(crate) fn root_entry<F: Files>(
-    alloc: Global,
-    files: &F,
-    follow_links: bool,
-    same_file_system: bool,
-    is_dir: bool,
-    root: &str,
-) -> Result<Item, Error>
-    ensures value { (g : Scene) → IsHonest F.Files files.now g.tree → g.settings.follow_links ≡ follow_links
-        → g.same_file_system ≡ same_file_system → is_dir ≡ is_dir_there (g.tree.stat root.now true)
-        → IfOk result (λ item. item_of item ≡ fresh (root_entry g root.now)) }
-    ensures out_of_memory { IfErr result (λ e. problem_of e ≡ memory) }
-{
-    let item = root_found(alloc, files, follow_links, root)?;
-    on_device(alloc, files, same_file_system, is_dir, item)
 }

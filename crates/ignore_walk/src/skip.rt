@@ -1,8 +1,7 @@
 //! Which entries a walk skips.
-ghost use Rattle.std.specs.Prelude.{◌≡◌, ◌++◌, [], ◌∷◌, All, ℕ, List, Some, filter, length, map, reverse, IfOk, IfErr, OnOk};
+ghost use Rattle.std.specs.Prelude.{◌≡◌, ◌++◌, [], ◌∷◌, All, ℕ, List, Some, filter, length, map, reverse, IfOk, OnOk};
 ghost use Rattle.std.specs.Str.{IsCharBoundary};
-ghost use Rattle.ignore_base.specs.Problem.{problem_of, memory};
-ghost use Rattle.ignore_dir.specs.Verdict.{placed_verdict, is_ignore};
+ghost use Rattle.ignore_dir.specs.Verdict.{is_ignore};
 ghost use Rattle.ignore_files.specs.Gives.{IsHonest};
 ghost use Rattle.ignore_files.specs.Tree.{Tree};
 ghost use Rattle.ignore_dir.specs.Limits.{is_larger};
@@ -16,12 +15,12 @@ ghost use Rattle.ignore_walk.specs.Walked.{ignores, is_too_large};
 use crate::child::is_dir_kind;
 use crate::entry::DirEntry;
 use crate::frame::Frame;
-use ignore_base::Error;
+use crate::memory::answered;
 use ignore_dir::laws::steps_are_whole;
 use ignore_dir::verdict::judge;
 use ignore_dir::{Asked, Dir, Ground, Link, Placed, Settings};
-use ignore_files::{Files, Refusal};
-use std::alloc::Global;
+use ignore_files::Files;
+use std::alloc::{AllocError, Global};
 
 /// Whether a directory counts in a chain: whether it has rules or a mark.
 fn counts(dir: &Dir) -> bool
@@ -40,12 +39,11 @@ fn push_link<'d>(
     dir: &'d Dir,
     offset: usize,
     text: &str,
-) -> Result<(), Error>
+) -> Result<(), AllocError>
     requires { All (λ link. IsCharBoundary text.now link.1) links.now.items }
     ensures boundaries { All (λ link. IsCharBoundary text.now link.1) links.new.items }
     ensures pushed { IsCharBoundary text.now offset
         → OnOk result (links.new.items ≡ links.old.items ++ filter counting ((dir.now, offset) ∷ [])) }
-    ensures out_of_memory { IfErr result (λ e. problem_of e ≡ memory) }
 {
     if counts(dir) && text.is_char_boundary(offset) {
         links.push(Link { dir, offset })?;
@@ -54,12 +52,15 @@ fn push_link<'d>(
 }
 
 /// Appends the directories that were entered, the nearest first.
-fn push_frames<'d>(links: &mut Vec<Link<'d>>, frames: &'d [Frame], text: &str) -> Result<(), Error>
+fn push_frames<'d>(
+    links: &mut Vec<Link<'d>>,
+    frames: &'d [Frame],
+    text: &str,
+) -> Result<(), AllocError>
     requires { All (λ link. IsCharBoundary text.now link.1) links.now.items }
     ensures boundaries { All (λ link. IsCharBoundary text.now link.1) links.new.items }
     ensures pushed { All (λ f. IsCharBoundary text.now (length f.text)) frames.now
         → OnOk result (links.new.items ≡ links.old.items ++ filter counting (map placed_of (reverse frames.now))) }
-    ensures out_of_memory { IfErr result (λ e. problem_of e ≡ memory) }
 {
     for i in (0..frames.len()).rev() {
         let frame = &frames[i];
@@ -69,12 +70,15 @@ fn push_frames<'d>(links: &mut Vec<Link<'d>>, frames: &'d [Frame], text: &str) -
 }
 
 /// Appends the directories above a root, the nearest first.
-fn push_above<'d>(links: &mut Vec<Link<'d>>, above: &'d [Placed], text: &str) -> Result<(), Error>
+fn push_above<'d>(
+    links: &mut Vec<Link<'d>>,
+    above: &'d [Placed],
+    text: &str,
+) -> Result<(), AllocError>
     requires { All (λ link. IsCharBoundary text.now link.1) links.now.items }
     ensures boundaries { All (λ link. IsCharBoundary text.now link.1) links.new.items }
     ensures pushed { All (λ p. IsCharBoundary text.now p.1) above.now
         → OnOk result (links.new.items ≡ links.old.items ++ filter counting (reverse above.now)) }
-    ensures out_of_memory { IfErr result (λ e. problem_of e ≡ memory) }
 {
     for i in (0..above.len()).rev() {
         let placed = &above[i];
@@ -90,41 +94,16 @@ fn links_of<'d>(
     above: &'d [Placed],
     frames: &'d [Frame],
     text: &str,
-) -> Result<Vec<Link<'d>>, Error>
+) -> Result<Vec<Link<'d>>, AllocError>
     ensures boundaries { IfOk result (λ links. All (λ link. IsCharBoundary text.now link.1) links.items) }
     ensures chain { All (λ f. IsCharBoundary text.now (length f.text)) frames.now → All (λ p. IsCharBoundary text.now p.1) above.now
         → IfOk result (λ links. links.items
         ≡ filter counting (map placed_of (reverse frames.now) ++ reverse above.now)) }
-    ensures out_of_memory { IfErr result (λ e. problem_of e ≡ memory) }
 {
     let mut links = Vec::new(alloc);
     push_frames(&mut links, frames, text)?;
     push_above(&mut links, above, text)?;
     Ok(links)
-}
-
-/// Whether the rules of these directories ignore an entry. `text` is its path as they see it.
-fn is_ignored_in<F: Files>(
-    ground: &Ground<'_, F>,
-    above: &[Placed],
-    frames: &[Frame],
-    text: &str,
-    entry: &DirEntry,
-) -> Result<bool, Error>
-    ensures value { All (λ f. IsCharBoundary text.now (length f.text)) frames.now → All (λ p. IsCharBoundary text.now p.1) above.now
-        → IfOk result (λ yes. yes ≡ is_ignore (placed_verdict ground.now.settings.now ground.now.outside.now
-        (map placed_of (reverse frames.now) ++ reverse above.now) text.now
-        (entry_of entry.now).path (is_dir_kind (entry_of entry.now).kind))) }
-    ensures out_of_memory { IfErr result (λ e. problem_of e ≡ memory) }
-{
-    let links = links_of(ground.alloc, above, frames, text)?;
-    let asked = Asked {
-        text,
-        path: entry.path(),
-        is_dir: is_dir_kind(entry.file_type()),
-    };
-    let verdict = judge(ground.settings, ground.outside, links.as_slice(), &asked)?;
-    Ok(verdict.is_ignore())
 }
 
 /// Whether the rules ignore an entry below the root. `text` is its path as the directories see it.
@@ -134,16 +113,24 @@ pub(crate) fn is_ignored<F: Files>(
     frames: &[Frame],
     text: &str,
     entry: &DirEntry,
-) -> Result<bool, Error>
+) -> Result<bool, AllocError>
     ensures value { (g : Scene) (root : List ℕ) (b : Branch) (name : List ℕ) → g.settings ≡ ground.now.settings.now
         → g.outside ≡ ground.now.outside.now
         → map placed_of (reverse frames.now) ≡ placed_at g root b → reverse above.now ≡ placed_above g root
         → text.now ≡ text_at g root b ++ name → (entry_of entry.now).path ≡ path_of root (name ∷ b)
         → IfOk result (λ yes. yes ≡ ignores g root (name ∷ b) (is_dir_kind (entry_of entry.now).kind)) }
-    ensures out_of_memory { IfErr result (λ e. problem_of e ≡ memory) }
 {
     steps_are_whole();
-    is_ignored_in(ground, above, frames, text, entry)
+    let links = links_of(ground.alloc, above, frames, text)?;
+    let asked = Asked {
+        text,
+        path: entry.path(),
+        is_dir: is_dir_kind(entry.file_type()),
+    };
+    match judge(ground.settings, ground.outside, links.as_slice(), &asked) {
+        Ok(verdict) => Ok(verdict.is_ignore()),
+        Err(_) => Err(AllocError),
+    }
 }
 
 /// Whether an entry that is no directory is larger than the settings allow.
@@ -152,10 +139,9 @@ pub(crate) fn is_too_large<F: Files>(
     files: &F,
     settings: &Settings,
     entry: &DirEntry,
-) -> Result<bool, Error>
+) -> Result<bool, AllocError>
     ensures value { (g : Scene) → IsHonest F.Files files.now g.tree → g.settings ≡ settings.now
         → IfOk result (λ yes. yes ≡ is_too_large g (entry_of entry.now)) }
-    ensures out_of_memory { IfErr result (λ e. problem_of e ≡ memory) }
 {
     if is_dir_kind(entry.file_type()) {
         return Ok(false);
@@ -173,14 +159,12 @@ fn is_larger<F: Files>(
     follow_links: bool,
     most: u64,
     path: &str,
-) -> Result<bool, Error>
+) -> Result<bool, AllocError>
     ensures value { (tree : Tree) → IsHonest F.Files files.now tree
         → IfOk result (λ yes. yes ≡ is_larger (Some most) (tree.stat path.now follow_links)) }
-    ensures out_of_memory { IfErr result (λ e. problem_of e ≡ memory) }
 {
-    match files.stat(alloc, path, follow_links) {
+    match answered(files.stat(alloc, path, follow_links))? {
         Ok(metadata) => Ok(most < metadata.len),
-        Err(Refusal::Fault(_)) => Ok(false),
-        Err(Refusal::Memory) => Err(Error::Memory),
+        Err(_) => Ok(false),
     }
 }

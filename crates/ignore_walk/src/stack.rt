@@ -1,8 +1,8 @@
 //! What a walk has in hand: directories whose listings are half read, roots, and items.
-ghost use Rattle.std.specs.Prelude.{◌≡◌, ◌+◌, ◌≤◌, ◌<◌, ◌++◌, ◌∷◌, [], ℕ, suc, List, true, false, None, Ok, Err, IfOk, IfErr, OnOk};
+ghost use Rattle.std.specs.Prelude.{◌≡◌, ◌+◌, ◌≤◌, ◌<◌, ◌++◌, ◌∷◌, [], ℕ, suc, List, true, false, None, Ok, Err, IfOk, OnOk};
 ghost use Rattle.std.specs.Prelude.{MatchOption, length, map, reverse, option_map, string_bytes};
 ghost use Rattle.std.specs.Option.{option_to_list};
-ghost use Rattle.ignore_base.specs.Problem.{problem_of, memory};
+ghost use Rattle.ignore_base.specs.Problem.{problem_of};
 ghost use Rattle.ignore_dir.specs.Query.{is_dir_there};
 ghost use Rattle.ignore_walk.specs.Branch.{Branch, path_of, text_at, placed_above};
 ghost use Rattle.ignore_walk.specs.Entry.{Item as Yielded, entry_of, item_of, problem_in};
@@ -11,7 +11,7 @@ ghost use Rattle.ignore_walk.specs.Left.{Remains, InHand, IsNext};
 ghost use Rattle.ignore_walk.specs.Opens.{Opens};
 ghost use Rattle.ignore_walk.specs.Scene.{Scene};
 ghost use Rattle.ignore_walk.specs.Stands.{state_of, before_root, name_in, text_below, IsAt, IsIn, Stands, Steps, Takes, Visits, Hands};
-ghost use Rattle.ignore_walk.specs.Suits.{Suits};
+ghost use Rattle.ignore_walk.specs.Suits.{IsGroundOf};
 ghost use Rattle.ignore_walk.specs.Walked.{IsOrdered, enter, fate};
 ghost use Rattle.ignore_walk.specs.Whole.{root_entry, above_root, reported_before};
 
@@ -51,31 +51,28 @@ impl Stack {
     /// is in it. `text` is its path as the directories around it see it, with a final slash.
     fn visit<F: Files, S: Callbacks>(
         &mut self,
-        alloc: Global,
         ground: &Ground<'_, F, S>,
         entry: DirEntry,
         leads_in: bool,
         text: Name,
-    ) -> Result<(), Error>
+    ) -> Result<(), AllocError>
         ensures visited { (g : Scene) (root : List ℕ) (place b : Branch) (seen : List (List ℕ)) (items : List Yielded) (n : ℕ)
-            → Suits F.Files S.Callbacks ground.now.files.now ground.now.owner.now ground.now.settings ground.now.outside
-            ground.now.options g
+            → IsGroundOf F.Files S.Callbacks ground.now g
             → IsIn g root place seen self.old → Visits g root b self.old (entry_of entry) leads_in text
             → IsNext b place (state_of self.old root place seen).rests
             → InHand g (state_of self.old root place seen) b (Ok (entry_of entry)) items n → OnOk result (Stands g self.new items n) }
         ensures made { length self.new.made.items ≤ length self.old.made.items + 2 }
-        ensures out_of_memory { IfErr result (λ e. problem_of e ≡ memory) }
     {
         let settings = &ground.settings;
-        match ground.fate(alloc, self.device, &entry, leads_in)? {
+        match ground.fate(self.device, &entry, leads_in)? {
             Fate::Yield => make(&mut self.made, settings, entry, None),
             Fate::Load => {
-                let error = ground.load_error(alloc, entry.path())?;
+                let error = ground.load_error(entry.path())?;
                 make(&mut self.made, settings, entry, error)
             }
             Fate::Enter => {
-                let opened = ground.opened(alloc, entry.path(), text)?;
-                self.settle(alloc, settings, entry, opened)
+                let opened = ground.opened(entry.path(), text)?;
+                self.settle(ground.alloc, settings, entry, opened)
             }
         }
     }
@@ -87,14 +84,13 @@ impl Stack {
         settings: &Settings,
         entry: DirEntry,
         opened: Opened,
-    ) -> Result<(), Error>
+    ) -> Result<(), AllocError>
         ensures entered { (g : Scene) (root : List ℕ) (place b : Branch) (seen : List (List ℕ)) (items : List Yielded) (n : ℕ)
             → IsOrdered g.order → g.settings ≡ settings.now → IsIn g root place seen self.old → IsAt g root self.old
             → (entry_of entry).path ≡ path_of root b → Opens g (path_of root b) (text_at g root b) opened
             → fate g root b (entry_of entry) ≡ enter → IsNext b place (state_of self.old root place seen).rests
             → InHand g (state_of self.old root place seen) b (Ok (entry_of entry)) items n → OnOk result (Stands g self.new items n) }
         ensures made { length self.new.made.items ≤ length self.old.made.items + 2 }
-        ensures out_of_memory { IfErr result (λ e. problem_of e ≡ memory) }
     {
         let depth = entry.depth();
         make(&mut self.made, settings, entry, opened.error)?;
@@ -111,25 +107,19 @@ impl Stack {
     }
 
     /// A step below a root: takes one listed thing, or leaves one directory.
-    fn step<F: Files, S: Callbacks>(
-        &mut self,
-        alloc: Global,
-        ground: &Ground<'_, F, S>,
-    ) -> Result<(), Error>
+    fn step<F: Files, S: Callbacks>(&mut self, ground: &Ground<'_, F, S>) -> Result<(), AllocError>
         ensures stepped { (g : Scene) (items : List Yielded) (n : ℕ)
-            → Suits F.Files S.Callbacks ground.now.files.now ground.now.owner.now ground.now.settings ground.now.outside
-            ground.now.options g
+            → IsGroundOf F.Files S.Callbacks ground.now g
             → 0 < length self.old.frames.items → Stands g self.old items n → OnOk result (Steps g self.new items n) }
         ensures made { length self.new.made.items ≤ length self.old.made.items + 2 }
-        ensures out_of_memory { IfErr result (λ e. problem_of e ≡ memory) }
     {
         match self.take_listed()? {
             None => Ok(()),
             Some(listed) => {
-                let text = text_of(alloc, self.frames.as_slice(), &listed)?;
-                match ground.child(alloc, self.frames.as_slice(), listed)? {
+                let text = text_of(ground.alloc, self.frames.as_slice(), &listed)?;
+                match ground.child(self.frames.as_slice(), listed)? {
                     Err(error) => make_error(&mut self.made, error),
-                    Ok(entry) => self.take(alloc, ground, entry, text),
+                    Ok(entry) => self.take(ground, entry, text),
                 }
             }
         }
@@ -156,84 +146,75 @@ impl Stack {
     /// What an entry below a root gives. `text` is its path as the directories around it see it.
     fn take<F: Files, S: Callbacks>(
         &mut self,
-        alloc: Global,
         ground: &Ground<'_, F, S>,
         entry: DirEntry,
         mut text: String,
-    ) -> Result<(), Error>
+    ) -> Result<(), AllocError>
         ensures taken { (g : Scene) (root : List ℕ) (place : Branch) (name : List ℕ) (seen : List (List ℕ)) (items : List Yielded) (n : ℕ)
-            → Suits F.Files S.Callbacks ground.now.files.now ground.now.owner.now ground.now.settings ground.now.outside
-            ground.now.options g
+            → IsGroundOf F.Files S.Callbacks ground.now g
             → IsIn g root place seen self.old → AreFrames g root place (reverse self.old.frames.items) → IsAt g root self.old
             → string_bytes text ≡ text_at g root place ++ name → (entry_of entry).path ≡ path_of root (name ∷ place)
             → problem_in entry ≡ None
             → InHand g (state_of self.old root place seen) (name ∷ place) (Ok (entry_of entry)) items n
             → OnOk result (Stands g self.new items n) }
         ensures made { length self.new.made.items ≤ length self.old.made.items + 2 }
-        ensures out_of_memory { IfErr result (λ e. problem_of e ≡ memory) }
     {
         let (above, frames) = (self.above.as_slice(), self.frames.as_slice());
-        if ground.is_skipped(alloc, above, frames, text.as_str(), &entry)? {
+        if ground.is_skipped(above, frames, text.as_str(), &entry)? {
             return Ok(());
         }
         let leads_in = is_dir_kind(entry.file_type());
         text.push('/')?;
-        self.visit(alloc, ground, entry, leads_in, Name::new(text))
+        self.visit(ground, entry, leads_in, Name::new(text))
     }
 
     /// Begins a root.
     fn begin<F: Files, S: Callbacks>(
         &mut self,
-        alloc: Global,
         ground: &Ground<'_, F, S>,
         root: &str,
-    ) -> Result<(), Error>
+    ) -> Result<(), AllocError>
         ensures begun { (g : Scene) (last : List ℕ) (place : Branch) (seen : List (List ℕ)) (items : List Yielded) (n : ℕ)
-            → Suits F.Files S.Callbacks ground.now.files.now ground.now.owner.now ground.now.settings ground.now.outside
-            ground.now.options g
+            → IsGroundOf F.Files S.Callbacks ground.now g
             → self.old.frames.items ≡ [] → AreSeen self.old.seen.items seen
             → Remains g (before_root self.old last place seen root.now) items n
             → OnOk result (Steps g self.new items n) }
         ensures made { length self.new.made.items ≤ length self.old.made.items + 3 }
-        ensures out_of_memory { IfErr result (λ e. problem_of e ≡ memory) }
     {
         if root == "-" {
-            self.made.push_back(Ok(DirEntry::stdin(alloc)?))?;
+            self.made.push_back(Ok(DirEntry::stdin(ground.alloc)?))?;
             return Ok(());
         }
-        if is_dir_found(alloc, ground.files, root)? {
-            let base = self.look_above(alloc, ground, root)?;
-            return self.begin_at(alloc, ground, root, true, base);
+        if is_dir_found(ground.alloc, ground.files, root)? {
+            let base = self.look_above(ground, root)?;
+            return self.begin_at(ground, root, true, base);
         }
-        self.begin_at(alloc, ground, root, false, String::new(alloc))
+        self.begin_at(ground, root, false, String::new(ground.alloc))
     }
 
     /// Begins a root that isn't standard input. `base` is its path as the directories above it see
     /// it.
     fn begin_at<F: Files, S: Callbacks>(
         &mut self,
-        alloc: Global,
         ground: &Ground<'_, F, S>,
         root: &str,
         is_dir: bool,
         base: String,
-    ) -> Result<(), Error>
+    ) -> Result<(), AllocError>
         ensures begun { (g : Scene) (seen : List (List ℕ)) (items : List Yielded) (n : ℕ)
-            → Suits F.Files S.Callbacks ground.now.files.now ground.now.owner.now ground.now.settings ground.now.outside
-            ground.now.options g
+            → IsGroundOf F.Files S.Callbacks ground.now g
             → self.old.frames.items ≡ [] → AreSeen self.old.seen.items seen → is_dir ≡ is_dir_there (g.tree.stat root.now true)
             → (is_dir ≡ true → reverse self.old.above.items ≡ placed_above g root.now)
             → (is_dir ≡ true → string_bytes base ≡ text_at g root.now [])
             → InHand g (state_of self.old root.now [] seen) [] (root_entry g root.now) items n
             → OnOk result (Stands g self.new items n) }
         ensures made { length self.new.made.items ≤ length self.old.made.items + 2 }
-        ensures out_of_memory { IfErr result (λ e. problem_of e ≡ memory) }
     {
-        match ground.root_entry(alloc, is_dir, root)? {
+        match ground.root_entry(is_dir, root)? {
             Err(error) => make_error(&mut self.made, error),
             Ok(entry) => {
-                self.device = ground.device(alloc, is_dir, root)?;
-                self.visit(alloc, ground, entry, is_dir, Name::new(base))
+                self.device = ground.device(is_dir, root)?;
+                self.visit(ground, entry, is_dir, Name::new(base))
             }
         }
     }
@@ -242,41 +223,35 @@ impl Stack {
     /// with those that are above no earlier root. The result is the root as they see it.
     fn look_above<F: Files, S: Callbacks>(
         &mut self,
-        alloc: Global,
         ground: &Ground<'_, F, S>,
         root: &str,
-    ) -> Result<String, Error>
+    ) -> Result<String, AllocError>
         ensures frames { self.new.frames ≡ self.old.frames }
         ensures roots { self.new.roots ≡ self.old.roots }
         ensures reported { (g : Scene) (seen : List (List ℕ))
-            → Suits F.Files S.Callbacks ground.now.files.now ground.now.owner.now ground.now.settings ground.now.outside
-            ground.now.options g
+            → IsGroundOf F.Files S.Callbacks ground.now g
             → AreSeen self.old.seen.items seen → is_dir_there (g.tree.stat root.now true) ≡ true
             → OnOk result (map item_of self.new.made.items ≡ map item_of self.old.made.items ++ reported_before g seen root.now) }
         ensures seen { (g : Scene) (seen : List (List ℕ))
-            → Suits F.Files S.Callbacks ground.now.files.now ground.now.owner.now ground.now.settings ground.now.outside
-            ground.now.options g
+            → IsGroundOf F.Files S.Callbacks ground.now g
             → AreSeen self.old.seen.items seen → is_dir_there (g.tree.stat root.now true) ≡ true
             → OnOk result (AreSeen self.new.seen.items (seen ++ above_root g root.now)) }
         ensures above { (g : Scene)
-            → Suits F.Files S.Callbacks ground.now.files.now ground.now.owner.now ground.now.settings ground.now.outside
-            ground.now.options g
+            → IsGroundOf F.Files S.Callbacks ground.now g
             → OnOk result (reverse self.new.above.items ≡ placed_above g root.now) }
         ensures base { (g : Scene)
-            → Suits F.Files S.Callbacks ground.now.files.now ground.now.owner.now ground.now.settings ground.now.outside
-            ground.now.options g
+            → IsGroundOf F.Files S.Callbacks ground.now g
             → IfOk result (λ base. string_bytes base ≡ text_at g root.now []) }
         ensures made { length self.new.made.items ≤ length self.old.made.items + 1 }
-        ensures out_of_memory { IfErr result (λ e. problem_of e ≡ memory) }
     {
-        let above = ground.look_above(alloc, &mut self.seen, root)?;
+        let above = ground.look_above(&mut self.seen, root)?;
         self.above = above.dirs;
         self.report(above.error)?;
         Ok(above.base)
     }
 
     /// Makes the item of an error, if there is one.
-    fn report(&mut self, error: Option<Error>) -> Result<(), Error>
+    fn report(&mut self, error: Option<Error>) -> Result<(), AllocError>
         ensures value { OnOk result (map item_of self.new.made.items
             ≡ map item_of self.old.made.items ++ map Err (option_to_list (option_map problem_of error))) }
         ensures frames { self.new.frames ≡ self.old.frames }
@@ -284,7 +259,6 @@ impl Stack {
         ensures seen { self.new.seen ≡ self.old.seen }
         ensures above { self.new.above ≡ self.old.above }
         ensures made { length self.new.made.items ≤ length self.old.made.items + 1 }
-        ensures out_of_memory { IfErr result (λ e. problem_of e ≡ memory) }
     {
         match error {
             None => Ok(()),
@@ -296,21 +270,18 @@ impl Stack {
     pub(crate) fn advance<F: Files, S: Callbacks>(
         &mut self,
         ground: &Ground<'_, F, S>,
-    ) -> Result<(), Error>
+    ) -> Result<(), AllocError>
         ensures advanced { (g : Scene) (items : List Yielded) (n : ℕ)
-            → Suits F.Files S.Callbacks ground.now.files.now ground.now.owner.now ground.now.settings ground.now.outside
-            ground.now.options g
+            → IsGroundOf F.Files S.Callbacks ground.now g
             → Stands g self.old items n → 0 < n → OnOk result (Steps g self.new items n) }
         ensures made { length self.new.made.items ≤ length self.old.made.items + 3 }
-        ensures out_of_memory { IfErr result (λ e. problem_of e ≡ memory) }
     {
-        let alloc = *self.frames.allocator();
         if !is_outside(self.frames.as_slice()) {
-            return self.step(alloc, ground);
+            return self.step(ground);
         }
         match self.roots.pop_front() {
             None => Ok(()),
-            Some(root) => self.begin(alloc, ground, root.as_str()),
+            Some(root) => self.begin(ground, root.as_str()),
         }
     }
 

@@ -5,17 +5,15 @@ ghost use Rattle.ignore_base.specs.Problem.{Problem, problem_of, io, memory};
 ghost use Rattle.ignore_walk.specs.Entry.{Item as Yielded, item_of};
 ghost use Rattle.ignore_walk.specs.Scene.{Scene};
 ghost use Rattle.ignore_walk.specs.Stands.{Stands};
-ghost use Rattle.ignore_walk.specs.Suits.{Suits};
+ghost use Rattle.ignore_walk.specs.Suits.{IsGroundOf};
 ghost use Rattle.ignore_walk.specs.Whole.{Whole};
 
-use crate::callbacks::{Callbacks, Options};
+use crate::callbacks::Callbacks;
 use crate::entry::Item;
 use crate::ground::Ground;
 use crate::stack::Stack;
 use ignore_base::{Error, Fault};
-use ignore_dir::{Outside, Settings};
 use ignore_files::{Files, Name};
-use std::alloc::Global;
 use std::collections::VecDeque;
 use std::iter::FusedIterator;
 
@@ -42,30 +40,16 @@ fn step_limit() -> Error
 impl<'a, F: Files, S: Callbacks> Walk<'a, F, S> {
     ghost use Rattle.ignore_walk.specs.Nexts.{Remaining, Nexts, IsOver, IsLast, items_at_most};
 
-    /// A walk of these roots, with this filter and comparator. It allocates nothing.
+    /// A walk of these roots, by what stays the same in it. It allocates nothing.
     /// For dependents.
-    pub fn new(
-        alloc: Global,
-        files: &'a F,
-        owner: &'a S,
-        settings: Settings,
-        outside: Outside,
-        options: Options,
-        roots: Vec<Name>,
-    ) -> Walk<'a, F, S>
+    pub fn new(ground: Ground<'a, F, S>, roots: Vec<Name>) -> Walk<'a, F, S>
         ensures whole { (g : Scene) (items : List Yielded) (n : ℕ)
-            → Suits F.Files S.Callbacks files.now owner.now settings outside options g → Whole g roots.items items n
+            → IsGroundOf F.Files S.Callbacks ground g → Whole g roots.items items n
             → Remaining F.Files S.Callbacks g result items n }
-        ensures limit { result.left ≡ options.limit }
+        ensures limit { result.left ≡ ground.options.limit }
         ensures goes_on { result.ended ≡ false }
     {
-        let ground = Ground {
-            files,
-            owner,
-            settings,
-            outside,
-            options,
-        };
+        let (alloc, left) = (ground.alloc, ground.options.limit);
         let stack = Stack {
             roots: VecDeque::from_vec(roots),
             seen: Vec::new(alloc),
@@ -77,7 +61,7 @@ impl<'a, F: Files, S: Callbacks> Walk<'a, F, S> {
         Walk {
             ground,
             stack,
-            left: options.limit,
+            left,
             ended: false,
         }
     }
@@ -185,7 +169,7 @@ impl<'a, F: Files, S: Callbacks> Walk<'a, F, S> {
         ensures errors { self.entry.ended ≡ false → IfErr result (λ e. (problem_of e ≡ memory) ⊎ (problem_of e ≡ io StepLimit)) }
         ensures over { IsOver self.entry → IsOkAnd result (λ all. all.items ≡ []) }
     {
-        let mut all = Vec::new(*self.stack.frames.allocator());
+        let mut all = Vec::new(self.ground.alloc);
         while let Some(item) = self.advance() {
             if self.ended {
                 return Err(error_of(item));

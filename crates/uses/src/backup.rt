@@ -1,12 +1,12 @@
 //! A backup: it ends well only with the complete list of what it is to store.
-ghost use Rattle.std.specs.Prelude.{◌≡◌, Ok, IfOk, map};
+ghost use Rattle.std.specs.Prelude.{◌≡◌, Ok, Some, IfOk, map};
 ghost use Rattle.ignore.specs.Closures.{order_of};
 ghost use Rattle.ignore.specs.FileWords.{Disk, IsTruthful, tree_on};
 ghost use Rattle.ignore.specs.Headline.{Headline, IsListIn};
 ghost use Rattle.ignore.specs.WalkWords.{item_of};
 
 use ignore::files::{DiskFiles, Env, Files, Machine};
-use ignore::{Callbacks, DirEntry, Error, Item, WalkBuilder, collect_walk};
+use ignore::{Callbacks, DirEntry, Error, Item, Owner, WalkBuilder, collect_walk};
 use std::alloc::Global;
 
 /// Everything that a walk of the builder reaches and its rules keep, parents first. After `Ok`
@@ -22,7 +22,7 @@ pub fn complete_entries<F: Files>(
     files: &F,
     env: &Env,
 ) -> Result<Vec<DirEntry>, Error>
-    ensures complete { IfOk result (λ entries. Headline F.Files ⟦<WalkBuilder as Callbacks>⟧ files.now builder.now env.now
+    ensures complete { IfOk result (λ entries. Headline F.Files ⟦<Owner<'static> as Callbacks>⟧ files.now (record { builder = Some builder.entry }) env.now
         builder.now.options (order_of (λ s. s.order) builder.now.sorter) (map (λ e. item_of (Ok e)) entries.items)) }
 {
     entries_of(alloc, collect_walk(builder, files, env)?)
@@ -51,7 +51,7 @@ pub fn complete_entries_on_disk<R: Machine>(
     env: &Env,
 ) -> Result<Vec<DirEntry>, Error>
     ensures complete { (disk : Disk) → IsTruthful R.Machine R.Dir.next_gives machine.now disk
-        → IfOk result (λ entries. IsListIn ⟦<WalkBuilder as Callbacks>⟧ builder.now env.now builder.now.options
+        → IfOk result (λ entries. IsListIn ⟦<Owner<'static> as Callbacks>⟧ (record { builder = Some builder.entry }) env.now builder.now.options
         (order_of (λ s. s.order) builder.now.sorter) (tree_on disk) (map (λ e. item_of (Ok e)) entries.items)) }
 {
     let files = DiskFiles::new(machine);

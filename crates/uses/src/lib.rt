@@ -13,4 +13,5 @@ pub mod packer;
 pub mod reason;
 pub mod search;
 pub mod single;
+pub mod sources;
 pub mod watcher;

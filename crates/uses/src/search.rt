@@ -1,6 +1,6 @@
 //! A search tool: the lines with a word, in the files of a walk.
 ghost use Rattle.std.specs.Prelude.{◌≡◌, ◌↔◌, ◌++◌, true, false, IsTrue, List, Result, Ok, Err, IfOk, IfErr, OnOk, MatchResult, map};
-ghost use Rattle.std.specs.Prelude.{string_bytes};
+ghost use Rattle.std.specs.Prelude.{Some, string_bytes};
 ghost use Rattle.std.specs.Io.KnownBytes.{Appends};
 ghost use Rattle.std.specs.Iterator.{Drains, IsFinite};
 ghost use Rattle.std.specs.List.{flat_map};
@@ -22,7 +22,7 @@ ghost use Rattle.uses.specs.Searched.{problems_at, problems_of, text_of};
 
 use ignore::files::{Contents, Env, Files, Name, Refusal};
 use ignore::walk_laws::a_finished_walk_is_the_headline;
-use ignore::{Callbacks, DirEntry, Error, Fault, Item, Walk, WalkBuilder};
+use ignore::{Callbacks, DirEntry, Error, Fault, Item, Owner, Walk, WalkBuilder};
 use std::alloc::{AllocError, Global};
 use std::io;
 use std::io::Write;
@@ -60,7 +60,7 @@ pub fn search_below<F: Files>(
     env: &Env,
     word: &str,
 ) -> Result<Found, Error>
-    ensures whole { IfOk result (λ found. (items : List Item) × Headline F.Files ⟦<WalkBuilder as Callbacks>⟧ files.now builder.now
+    ensures whole { IfOk result (λ found. (items : List Item) × Headline F.Files ⟦<Owner<'static> as Callbacks>⟧ files.now (record { builder = Some builder.entry })
         env.now builder.now.options (order_of (λ s. s.order) builder.now.sorter) items
         × ((tree : Tree) → IsHonest F.Files files.now tree → Finds tree word.now items found)) }
     ensures ended { IfErr result (λ e. IsEnd (Err (problem_of e))) }

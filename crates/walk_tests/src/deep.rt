@@ -2,9 +2,8 @@
 ghost use Rattle.std.specs.Iterator.{IsFinite};
 
 use crate::hostile::with_names;
-use crate::walks::{Plain, options};
+use crate::walks::{ground_of, options};
 use ignore_base::{Error, Fault};
-use ignore_dir::{Outside, Settings};
 use ignore_files::{Files, MemoryTree, Name};
 use ignore_walk::{Item, Walk};
 use std::alloc::Global;
@@ -39,8 +38,7 @@ fn counted<F: Files>(alloc: Global, files: &F) -> anyhow::Result<Counts> {
     let names = roots(alloc)?;
     let mut options = options();
     options.limit = u64::MAX;
-    let (settings, outside) = (Settings::standard(alloc), Outside::empty(alloc));
-    let walk = Walk::new(alloc, files, &Plain, settings, outside, options, names);
+    let walk = Walk::new(ground_of(alloc, files, options), names);
     Ok(counts_of(walk))
 }
 

@@ -1,9 +1,9 @@
 //! Walks over files that answer as no tree does, and over a tree of which one call is refused.
 use crate::refusing::Refusing;
 use crate::trees::tree_of;
-use crate::walks::{Plain, items_of, options};
+use crate::walks::{ground_of, items_of, options};
 use ignore_base::Fault;
-use ignore_dir::{Outside, Settings};
+use ignore_dir::Settings;
 use ignore_files::{
     Contents, FileType, Files, Identity, Listed, Listing, MemoryTree, Metadata, Name, Refusal,
 };
@@ -127,11 +127,9 @@ fn walked<F: Files>(
 ) -> anyhow::Result<String> {
     let mut names = Vec::new(alloc);
     names.push(Name::new(String::from_str(alloc, "/r")?))?;
-    let outside = Outside::empty(alloc);
-    items_of(
-        alloc,
-        Walk::new(alloc, files, &Plain, settings, outside, options, names),
-    )
+    let mut ground = ground_of(alloc, files, options);
+    ground.settings = settings;
+    items_of(alloc, Walk::new(ground, names))
 }
 
 #[test]

@@ -2,8 +2,7 @@
 ghost use Rattle.std.specs.Iterator.{IsFinite};
 
 use crate::trees::tree_of;
-use crate::walks::{Plain, options};
-use ignore_dir::{Outside, Settings};
+use crate::walks::{ground_of, options};
 use ignore_files::{Contents, Files, Identity, Listing, MemoryTree, Metadata, Name, Refusal};
 use ignore_walk::{Item, Walk};
 use std::alloc::Global;
@@ -51,8 +50,7 @@ impl Files for Watched<'_> {
 fn take(alloc: Global, files: &Watched<'_>, items: u8) -> anyhow::Result<()> {
     let mut names = Vec::new(alloc);
     names.push(Name::new(String::from_str(alloc, "/t")?))?;
-    let (settings, outside) = (Settings::standard(alloc), Outside::empty(alloc));
-    let walk = Walk::new(alloc, files, &Plain, settings, outside, options(), names);
+    let walk = Walk::new(ground_of(alloc, files, options()), names);
     take_first(walk, items);
     Ok(())
 }

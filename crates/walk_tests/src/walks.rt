@@ -3,12 +3,13 @@ ghost use Rattle.std.specs.Iterator.{IsFinite};
 
 use crate::trees::tree_of;
 use ignore_dir::{Outside, Settings};
-use ignore_files::Name;
-use ignore_walk::{Callbacks, DirEntry, Item, Options, Order, Walk};
+use ignore_files::{Files, Name};
+use ignore_walk::{Callbacks, DirEntry, Ground, Item, Options, Order, Walk};
 use std::alloc::{AllocError, Global};
 use std::cmp::Ordering;
 
 /// No filter, and names in the order of their bytes.
+#[derive(Clone, Copy, Drop)]
 pub struct Plain;
 
 impl Callbacks for Plain {
@@ -71,6 +72,22 @@ fn ended(text: Result<String, AllocError>) -> anyhow::Result<String> {
     Ok(text)
 }
 
+/// What stays the same in a walk by the settings at first, without rules from outside.
+pub fn ground_of<'a, F: Files>(
+    alloc: Global,
+    files: &'a F,
+    options: Options,
+) -> Ground<'a, F, Plain> {
+    Ground {
+        alloc,
+        files,
+        owner: Plain,
+        settings: Settings::standard(alloc),
+        outside: Outside::empty(alloc),
+        options,
+    }
+}
+
 /// The items of a walk, and after its end a full stop.
 pub fn items_of<I: Iterator<Item = Item> + Drop>(alloc: Global, walk: I) -> anyhow::Result<String>
     requires ends { I.can_next walk × IsFinite (I.remaining walk) }
@@ -89,11 +106,8 @@ fn limited(alloc: Global, limit: u64) -> anyhow::Result<String> {
     options.limit = limit;
     let mut names = Vec::new(alloc);
     names.push(Name::new(String::from_str(alloc, "/t")?))?;
-    let (settings, outside) = (Settings::standard(alloc), Outside::empty(alloc));
-    items_of(
-        alloc,
-        Walk::new(alloc, &tree, &Plain, settings, outside, options, names),
-    )
+    let walk = Walk::new(ground_of(alloc, &tree, options), names);
+    items_of(alloc, walk)
 }
 
 #[test]

@@ -1,10 +1,14 @@
 //! An order, a filter, and what a walk asks of them.
-ghost use Rattle.std.specs.Prelude.{◌≡◌, MatchOption};
+ghost use Rattle.std.specs.Prelude.{◌≡◌, Bool, MatchOption, None};
+ghost use Rattle.std.specs.declared.cmp.Ordering.{Ordering};
+ghost use Rattle.ignore_base.specs.Text.{Path};
+ghost use Rattle.ignore_walk.specs.Entry.{Entry, entry_of, problem_in};
 ghost use Rattle.ignore_walk.specs.declared.callbacks.Order.TheVariants.{ByName, ByPath};
+ghost use Rattle.ignore.specs.Closures.{Compares, Filters};
 
 use crate::builder::WalkBuilder;
 use crate::closures::{Compare, Filter, Keep, Sorter};
-use ignore_walk::{Callbacks, DirEntry, Order};
+use ignore_walk::{DirEntry, Order};
 use std::cmp::Ordering;
 
 impl WalkBuilder {
@@ -51,21 +55,23 @@ impl WalkBuilder {
     }
 }
 
-impl Callbacks for WalkBuilder {
-    ghost use Rattle.ignore.specs.Closures.{Filters, Compares};
-
-    ghost filters = { λ b keep. Filters b.filter (λ f e yes. Keep.post f.keep e yes) keep };
-
-    ghost compares = { λ b cmp. Compares b.sorter (λ s x y order. Compare.post s.compare x y order) cmp };
-
-    fn filter(&self, entry: &DirEntry) -> bool {
+impl WalkBuilder {
+    /// Whether an entry passes the filter, where one is set.
+    pub(crate) fn passes(&self, entry: &DirEntry) -> bool
+        ensures { (keep : Entry → Bool) → Filters self.now.filter (λ f e yes. Keep.post f.keep e yes) keep
+            → problem_in entry.now ≡ None → result ≡ keep (entry_of entry.now) }
+    {
         match &self.filter {
             None => true,
             Some(filter) => (filter.keep)(entry),
         }
     }
 
-    fn compare(&self, a: &str, b: &str) -> Ordering {
+    /// How two paths, or two names, compare. Where no comparison is set, all tie.
+    pub(crate) fn compared(&self, a: &str, b: &str) -> Ordering
+        ensures { (cmp : Path → Path → Ordering) → Compares self.now.sorter (λ s x y order. Compare.post s.compare x y order) cmp
+            → result ≡ cmp a.now b.now }
+    {
         match &self.sorter {
             None => Ordering::Equal,
             Some(sorter) => (sorter.compare)(a, b),

@@ -12,12 +12,8 @@ impl WalkBuilder {
         ensures same_reference { result.ghost_name ≡ self.entry.ghost_name }
         ensures value { result.now ≡ record self.old { options = with_standard_filters self.old.options yes } }
     {
-        self.hidden(yes)
-            .parents(yes)
-            .ignore(yes)
-            .git_ignore(yes)
-            .git_global(yes)
-            .git_exclude(yes)
+        self.options.standard_filters(yes);
+        self
     }
 
     /// Whether hidden entries are ignored: those whose name begins with a dot. It is on at first.
@@ -25,8 +21,7 @@ impl WalkBuilder {
         ensures same_reference { result.ghost_name ≡ self.entry.ghost_name }
         ensures value { result.now ≡ record self.old { options = with_hidden self.old.options yes } }
     {
-        let settings = &mut self.options.settings;
-        settings.inner.hidden = yes;
+        self.options.hidden(yes);
         self
     }
 
@@ -35,8 +30,7 @@ impl WalkBuilder {
         ensures same_reference { result.ghost_name ≡ self.entry.ghost_name }
         ensures value { result.now ≡ record self.old { options = with_parents self.old.options yes } }
     {
-        let settings = &mut self.options.settings;
-        settings.inner.parents = yes;
+        self.options.parents(yes);
         self
     }
 
@@ -46,8 +40,7 @@ impl WalkBuilder {
         ensures same_reference { result.ghost_name ≡ self.entry.ghost_name }
         ensures value { result.now ≡ record self.old { options = with_ignore self.old.options yes } }
     {
-        let settings = &mut self.options.settings;
-        settings.inner.ignore = yes;
+        self.options.ignore(yes);
         self
     }
 
@@ -57,8 +50,7 @@ impl WalkBuilder {
         ensures same_reference { result.ghost_name ≡ self.entry.ghost_name }
         ensures value { result.now ≡ record self.old { options = with_git_global self.old.options yes } }
     {
-        let settings = &mut self.options.settings;
-        settings.inner.git_global = yes;
+        self.options.git_global(yes);
         self
     }
 
@@ -67,8 +59,7 @@ impl WalkBuilder {
         ensures same_reference { result.ghost_name ≡ self.entry.ghost_name }
         ensures value { result.now ≡ record self.old { options = with_git_ignore self.old.options yes } }
     {
-        let settings = &mut self.options.settings;
-        settings.inner.git_ignore = yes;
+        self.options.git_ignore(yes);
         self
     }
 
@@ -77,8 +68,7 @@ impl WalkBuilder {
         ensures same_reference { result.ghost_name ≡ self.entry.ghost_name }
         ensures value { result.now ≡ record self.old { options = with_git_exclude self.old.options yes } }
     {
-        let settings = &mut self.options.settings;
-        settings.inner.git_exclude = yes;
+        self.options.git_exclude(yes);
         self
     }
 
@@ -88,8 +78,7 @@ impl WalkBuilder {
         ensures same_reference { result.ghost_name ≡ self.entry.ghost_name }
         ensures value { result.now ≡ record self.old { options = with_require_git self.old.options yes } }
     {
-        let settings = &mut self.options.settings;
-        settings.inner.require_git = yes;
+        self.options.require_git(yes);
         self
     }
 
@@ -99,8 +88,7 @@ impl WalkBuilder {
         ensures same_reference { result.ghost_name ≡ self.entry.ghost_name }
         ensures value { result.now ≡ record self.old { options = with_case_insensitive self.old.options yes } }
     {
-        let settings = &mut self.options.settings;
-        settings.inner.case_insensitive = yes;
+        self.options.ignore_case_insensitive(yes);
         self
     }
 
@@ -112,8 +100,7 @@ impl WalkBuilder {
         ensures same_reference { result.ghost_name ≡ self.entry.ghost_name }
         ensures value { result.now ≡ record self.old { options = with_git_trailing_spaces self.old.options yes } }
     {
-        let settings = &mut self.options.settings;
-        settings.inner.git_trailing_spaces = yes;
+        self.options.git_trailing_spaces(yes);
         self
     }
 }

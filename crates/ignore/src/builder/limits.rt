@@ -12,7 +12,7 @@ impl WalkBuilder {
         ensures same_reference { result.ghost_name ≡ self.entry.ghost_name }
         ensures value { result.now ≡ record self.old { options = with_max_depth self.old.options depth } }
     {
-        self.options.settings.set_max_depth(depth);
+        self.options.max_depth(depth);
         self
     }
 
@@ -22,7 +22,7 @@ impl WalkBuilder {
         ensures same_reference { result.ghost_name ≡ self.entry.ghost_name }
         ensures value { result.now ≡ record self.old { options = with_min_depth self.old.options depth } }
     {
-        self.options.settings.set_min_depth(depth);
+        self.options.min_depth(depth);
         self
     }
 
@@ -31,8 +31,7 @@ impl WalkBuilder {
         ensures same_reference { result.ghost_name ≡ self.entry.ghost_name }
         ensures value { result.now ≡ record self.old { options = with_max_filesize self.old.options size } }
     {
-        let settings = &mut self.options.settings;
-        settings.inner.max_filesize = size;
+        self.options.max_filesize(size);
         self
     }
 
@@ -42,7 +41,7 @@ impl WalkBuilder {
         ensures same_reference { result.ghost_name ≡ self.entry.ghost_name }
         ensures value { result.now ≡ record self.old { options = with_limit self.old.options steps } }
     {
-        self.options.limit = steps;
+        self.options.limit(steps);
         self
     }
 
@@ -51,8 +50,7 @@ impl WalkBuilder {
         ensures same_reference { result.ghost_name ≡ self.entry.ghost_name }
         ensures value { result.now ≡ record self.old { options = with_follow_links self.old.options yes } }
     {
-        let settings = &mut self.options.settings;
-        settings.inner.follow_links = yes;
+        self.options.follow_links(yes);
         self
     }
 
@@ -62,7 +60,7 @@ impl WalkBuilder {
         ensures same_reference { result.ghost_name ≡ self.entry.ghost_name }
         ensures value { result.now ≡ record self.old { options = with_same_file_system self.old.options yes } }
     {
-        self.options.same_file_system = yes;
+        self.options.same_file_system(yes);
         self
     }
 }

@@ -35,6 +35,6 @@ impl WalkBuilder {
     {
         nothing_kept();
         let outside = self.options.outside(files, env)?;
-        self.options.matchers_by(&outside, env)
+        Ok(self.options.matchers_by(&outside, env)?)
     }
 }

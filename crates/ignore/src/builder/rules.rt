@@ -3,19 +3,16 @@
 ghost use Rattle.std.specs.Prelude.{◌≡◌, List, ℕ, Option, None, Some, IfOk, IfErr, IsOkAnd, OnOk, OnErr, option_map, string_bytes};
 ghost use Rattle.ignore_base.specs.declared.fault.Fault.TheVariants.{NoCurrentDir};
 ghost use Rattle.ignore_base.specs.Problem.{problem_of, memory, io};
-ghost use Rattle.ignore_dir.specs.Load.{started};
 ghost use Rattle.ignore_files.specs.Gives.{IsHonest};
 ghost use Rattle.ignore_files.specs.Tree.{Tree};
-ghost use Rattle.std.specs.Option.{option_copied};
-ghost use Rattle.ignore.specs.Asked.{AddsIgnore, AddsIgnoreBy, base_dir, explicit_start};
-ghost use Rattle.ignore.specs.Asked.{IsAnswerOf, IsFileOf, IsGlobal, IsOutside, IsOutsideBy};
+ghost use Rattle.ignore.specs.Asked.{AddsIgnore, AddsIgnoreBy, base_dir};
+ghost use Rattle.ignore.specs.Asked.{IsOutside, IsOutsideBy};
 ghost use Rattle.ignore.specs.Builder.{with_overrides, with_types, with_custom, with_current_dir};
 
 use crate::builder::WalkBuilder;
 use ignore_base::Error;
 use ignore_dir::Outside;
-use ignore_files::{Env, Fault, Files, Name};
-use ignore_rules::gitignore::{Gitignore, GitignoreBuilder};
+use ignore_files::{Env, Files};
 use ignore_rules::overrides::Override;
 use ignore_types::types::Types;
 
@@ -25,7 +22,7 @@ impl WalkBuilder {
         ensures same_reference { result.ghost_name ≡ self.entry.ghost_name }
         ensures value { result.now ≡ record self.old { options = with_overrides self.old.options overrides } }
     {
-        self.options.overrides = overrides;
+        self.options.overrides(overrides);
         self
     }
 
@@ -34,7 +31,7 @@ impl WalkBuilder {
         ensures same_reference { result.ghost_name ≡ self.entry.ghost_name }
         ensures value { result.now ≡ record self.old { options = with_types self.old.options types } }
     {
-        self.options.types = types;
+        self.options.types(types);
         self
     }
 
@@ -44,7 +41,7 @@ impl WalkBuilder {
         ensures same_reference { result.ghost_name ≡ self.entry.ghost_name }
         ensures value { result.now ≡ record self.old { options = with_current_dir self.old.options (string_bytes dir) } }
     {
-        self.options.current_dir = Some(Name::new(dir));
+        self.options.current_dir(dir);
         self
     }
 
@@ -70,9 +67,7 @@ impl WalkBuilder {
         ensures out_of_memory { IfErr result (λ e. problem_of e ≡ memory) }
         ensures unchanged { OnErr result (self.new ≡ self.old) }
     {
-        let settings = &mut self.options.settings;
-        settings.inner.custom.push(name)?;
-        Ok(())
+        self.options.push_custom_ignore_filename(name)
     }
 
     /// Reads a file of rules now, and adds it after the others that were added so: the last one
@@ -103,12 +98,7 @@ impl WalkBuilder {
         ensures out_of_memory { IfErr result (λ e. problem_of e ≡ memory) }
         ensures unchanged { OnErr result (self.new ≡ self.old) }
     {
-        let Some(dir) = self.options.base_dir(env) else {
-            return Ok(Some(Error::from(Fault::NoCurrentDir)));
-        };
-        let (rules, error) = self.options.explicit_rules(files, dir, path)?;
-        self.options.explicit.push(rules)?;
-        Ok(error)
+        self.options.add_ignore(files, env, path)
     }
 
     /// The rules from outside of the directories, for a walk or for matchers. The global file is

@@ -1,24 +1,20 @@
 //! Walks by the settings of a builder.
-ghost use Rattle.std.specs.Prelude.{◌≡◌, false, List, map, IfOk, IfErr};
+ghost use Rattle.std.specs.Prelude.{◌≡◌, false, List, None, Some, map, IfOk, IfErr};
 ghost use Rattle.std.specs.Iterator.{Drains, IsFinite};
 ghost use Rattle.ignore_base.specs.Problem.{problem_of, memory};
 ghost use Rattle.ignore_walk.specs.declared.callbacks.Order.TheVariants.{Listed};
 ghost use Rattle.ignore.specs.Builder.{unset, with_root, with_roots};
 ghost use Rattle.ignore.specs.Closures.{options_of, order_of};
 ghost use Rattle.ignore.specs.Walks.{IsWalkBy};
-ghost use Rattle.ignore.specs.declared.walk.Standard.{Standard};
 
 use crate::builder::WalkBuilder;
 use crate::options::WalkOptions;
-use crate::walk::{Standard, Walk};
+use crate::walk::{Owner, Walk};
 use ignore_base::Error;
 use ignore_files::{Env, Files};
-use ignore_walk::{Callbacks, Options, Order};
+use ignore_walk::{Callbacks, Ground, Options, Order};
 use std::alloc::Global;
 use std::convert::AsStr;
-
-/// What keeps no closures.
-const STANDARD: &Standard = &Standard;
 
 impl WalkBuilder {
     /// A walk of the roots, by the settings as they are. The files and the builder are lent to it.
@@ -32,13 +28,20 @@ impl WalkBuilder {
     /// # Errors
     /// `Error::Memory` alone.
     pub fn build<'a, F: Files>(&'a self, files: &'a F, env: &Env) -> Result<Walk<'a, F>, Error>
-        ensures whole { IfOk result (λ w. IsWalkBy F.Files ⟦<WalkBuilder as Callbacks>⟧ files.now self.now env.now self.now.options
+        ensures whole { IfOk result (λ w. IsWalkBy F.Files ⟦<Owner<'a> as Callbacks>⟧ files.now (record { builder = Some self.entry }) env.now self.now.options
             (order_of (λ s. s.order) self.now.sorter) w.inner) }
         ensures limit { IfOk result (λ w. w.inner.left ≡ self.now.options.limit) }
         ensures goes_on { IfOk result (λ w. w.inner.ended ≡ false) }
         ensures out_of_memory { IfErr result (λ e. problem_of e ≡ memory) }
     {
-        self.options.walk(files, self, env, self.order())
+        self.options.walk(
+            files,
+            Owner {
+                builder: Some(self),
+            },
+            env,
+            self.order(),
+        )
     }
 
     /// The order of the entries of a directory.
@@ -55,14 +58,14 @@ impl WalkBuilder {
 impl WalkOptions {
     /// A walk of the roots by these settings, with this order, and with the filter and the
     /// comparator that `owner` keeps.
-    fn walk<'a, F: Files, S: Callbacks>(
+    fn walk<'a, F: Files>(
         &self,
         files: &'a F,
-        owner: &'a S,
+        owner: Owner<'a>,
         env: &Env,
         order: Order,
-    ) -> Result<Walk<'a, F, S>, Error>
-        ensures whole { IfOk result (λ w. IsWalkBy F.Files S.Callbacks files.now owner.now env.now self.now order w.inner) }
+    ) -> Result<Walk<'a, F>, Error>
+        ensures whole { IfOk result (λ w. IsWalkBy F.Files ⟦<Owner<'a> as Callbacks>⟧ files.now owner.entry env.now self.now order w.inner) }
         ensures limit { IfOk result (λ w. w.inner.left ≡ self.now.limit) }
         ensures goes_on { IfOk result (λ w. w.inner.ended ≡ false) }
         ensures out_of_memory { IfErr result (λ e. problem_of e ≡ memory) }
@@ -70,9 +73,15 @@ impl WalkOptions {
         let roots = self.root_names()?;
         let settings = self.settings.get().clone()?;
         let outside = self.outside(files, env)?;
-        let alloc = self.settings.allocator();
-        let options = self.walk_options(order);
-        let inner = ignore_walk::Walk::new(alloc, files, owner, settings, outside, options, roots);
+        let ground = Ground {
+            alloc: self.settings.allocator(),
+            files,
+            owner,
+            settings,
+            outside,
+            options: self.walk_options(order),
+        };
+        let inner = ignore_walk::Walk::new(ground, roots);
         Ok(Walk { inner })
     }
 
@@ -88,26 +97,23 @@ impl WalkOptions {
     }
 }
 
-impl<'a, F: Files> Walk<'a, F, Standard> {
+impl<'a, F: Files> Walk<'a, F> {
     /// A walk of one root by the settings at first: the six standard filters and `require_git` are
     /// on, and all else is off or unset. The root may be `-` for standard input.
     ///
     /// # Errors
     /// `Error::Memory` alone.
-    pub fn new(
-        alloc: Global,
-        files: &'a F,
-        env: &Env,
-        path: &str,
-    ) -> Result<Walk<'a, F, Standard>, Error>
-        ensures whole { IfOk result (λ w. (owner : Standard) → IsWalkBy F.Files ⟦<Standard as Callbacks>⟧ files.now owner env.now
+    pub fn new(alloc: Global, files: &'a F, env: &Env, path: &str) -> Result<Walk<'a, F>, Error>
+        ensures whole { IfOk result (λ w. IsWalkBy F.Files ⟦<Owner<'a> as Callbacks>⟧ files.now (record { builder = None }) env.now
             (with_root unset path.now) Listed w.inner) }
         ensures limit { IfOk result (λ w. w.inner.left ≡ unset.limit) }
         ensures goes_on { IfOk result (λ w. w.inner.ended ≡ false) }
         ensures out_of_memory { IfErr result (λ e. problem_of e ≡ memory) }
     {
         let builder = WalkBuilder::new(alloc, path)?;
-        builder.options.walk(files, STANDARD, env, Order::Listed)
+        builder
+            .options
+            .walk(files, Owner { builder: None }, env, Order::Listed)
     }
 
     /// The same of the roots that an iterator yields, in order. The iterator must end.
@@ -119,16 +125,18 @@ impl<'a, F: Files> Walk<'a, F, Standard> {
         files: &'a F,
         env: &Env,
         paths: I,
-    ) -> Result<Walk<'a, F, Standard>, Error>
+    ) -> Result<Walk<'a, F>, Error>
         requires ends { (it : I.IntoIter) → I.into_iter_gives paths it → I.IntoIter.can_next it × IsFinite (I.IntoIter.remaining it) }
         ensures whole { IfOk result (λ w. (it : I.IntoIter) × (all : List P) × I.into_iter_gives paths it
-            × Drains I.IntoIter.next_gives it all × ((owner : Standard) → IsWalkBy F.Files ⟦<Standard as Callbacks>⟧ files.now owner
-            env.now (with_roots unset (map P.text all)) Listed w.inner)) }
+            × Drains I.IntoIter.next_gives it all × IsWalkBy F.Files ⟦<Owner<'a> as Callbacks>⟧ files.now (record { builder = None })
+            env.now (with_roots unset (map P.text all)) Listed w.inner) }
         ensures limit { IfOk result (λ w. w.inner.left ≡ unset.limit) }
         ensures goes_on { IfOk result (λ w. w.inner.ended ≡ false) }
         ensures out_of_memory { IfErr result (λ e. problem_of e ≡ memory) }
     {
         let builder = WalkBuilder::from_iter(alloc, paths)?;
-        builder.options.walk(files, STANDARD, env, Order::Listed)
+        builder
+            .options
+            .walk(files, Owner { builder: None }, env, Order::Listed)
     }
 }

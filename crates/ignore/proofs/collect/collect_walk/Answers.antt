@@ -1,11 +1,12 @@
+use Rattle.std.proofs.Common.{Some}
 use Rattle.ignore.proofs.collect.collect_walk.Goals as goal
 
 pub returns-clause-headline : goal.returns-clause-headline
 returns-clause-headline g c =
-    c.all_items.ensures.headline c.args.files.now c.args.builder.now c.args.env.now c.args.builder.now.options _ c.in_ok-build.ensures.whole
+    c.all_items.ensures.headline c.args.files.now (record { builder = Some c.args.builder }) c.args.env.now c.args.builder.now.options _ c.in_ok-build.ensures.whole
     c.in_ok-build.ensures.limit
 
 pub returns-clause-ended : goal.returns-clause-ended
 returns-clause-ended g c =
-    c.all_items.ensures.ended c.args.files.now c.args.builder.now c.args.env.now c.args.builder.now.options _ c.in_ok-build.ensures.whole
+    c.all_items.ensures.ended c.args.files.now (record { builder = Some c.args.builder }) c.args.env.now c.args.builder.now.options _ c.in_ok-build.ensures.whole
     c.in_ok-build.ensures.limit c.in_ok-build.ensures.goes_on

@@ -22,9 +22,11 @@ loop-i-preserved c = λ names held is at size.
           ∙ (ap (λ (n : List ℕ). join_of here n) (c.name_below.ensures names held is at size) ∙ sym (path-next (47 ∷ []) names i lt))),
     )
 
-pub returns-clause-value : goal.returns-clause-value
-returns-clause-value c = λ names held is at size.
-    let i = c.loop-i.i in
-    let all : length c.args.dirs.now ≡ length names = ap (λ (l : List Placed). length l) at ∙ length-placed 1 held names size in
-    let le : length names ≤ i = omega (arith, c.loop-i-test.false, all) in
-    (c.loop-i.invariant names held is at size).0 ∙ ap (directories_along (47 ∷ [])) (take_all i names le)
+pub returns : goal.returns
+returns c = record {
+  value = λ names held is at size.
+      let i = c.loop-i.i in
+      let all : length c.args.dirs.now ≡ length names = ap (λ (l : List Placed). length l) at ∙ length-placed 1 held names size in
+      let le : length names ≤ i = omega (arith, c.loop-i-test.false, all) in
+      (c.loop-i.invariant names held is at size).0 ∙ ap (directories_along (47 ∷ [])) (take_all i names le);
+}

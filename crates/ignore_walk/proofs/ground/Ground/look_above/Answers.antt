@@ -16,22 +16,22 @@ returns-clause-error g c = λ s seen given kept found.
     let lent = c.lent.result in
     let self = c.args.self.now in
     let root = c.args.root.now in
-    let are = suited-loads g.F.Files g.S.Callbacks lent.files.now self.owner.now lent.settings.now lent.outside.now self.options s suits in
+    let are = suited-loads g.F.Files g.S.Callbacks lent.files.now self.owner lent.settings.now lent.outside.now self.options s suits in
     let names = names_above s.tree s.settings root in
     let held = dirs_above s.loads s.settings (paths_above s.tree s.settings root) in
-    let dirs : c.in_ok-above.above.dirs.items ≡ placed_along 1 held names =
-    subst (λ (x : Settings). c.in_ok-above.above.dirs.items
+    let dirs : c.in-Ok.above.dirs.items ≡ placed_along 1 held names =
+    subst (λ (x : Settings). c.in-Ok.above.dirs.items
     ≡ placed_along 1 (dirs_above s.loads x (paths_above s.tree x root)) (names_above s.tree x root)) (sym suits.settings)
-    (c.in_ok-above.ensures.dirs s.tree s.loads suits.honest are) in
-    let base : string_bytes c.in_ok-above.above.base ≡ 47 ∷ slashed names =
-    subst (λ (x : Settings). string_bytes c.in_ok-above.above.base ≡ 47 ∷ slashed (names_above s.tree x root)) (sym suits.settings)
-    (c.in_ok-above.ensures.base s.tree suits.honest) in
+    (c.in-Ok.ensures.dirs s.tree s.loads suits.honest are) in
+    let base : string_bytes c.in-Ok.above.base ≡ 47 ∷ slashed names =
+    subst (λ (x : Settings). string_bytes c.in-Ok.above.base ≡ 47 ∷ slashed (names_above s.tree x root)) (sym suits.settings)
+    (c.in-Ok.ensures.base s.tree suits.honest) in
     let paths : c.in_ok-paths.paths.items ≡ paths_above s.tree s.settings root =
     c.in_ok-paths.ensures.value names held (c.as_str.ensures.value ∙ base) (c.as_slice.ensures.value ∙ dirs) (length-above s root) in
     let here : c.as_slice-3.result.now ≡ paths_above s.tree s.settings root = c.as_slice-3.ensures.value ∙ paths in
-    let problems : map (option_map problem_of) c.in_ok-above.above.errors.items ≡ problems_of_loads s.loads (paths_above s.tree s.settings root) =
-    subst (λ (x : Settings). map (option_map problem_of) c.in_ok-above.above.errors.items ≡ problems_of_loads s.loads (paths_above s.tree x root))
-    (sym suits.settings) (c.in_ok-above.ensures.errors s.tree s.loads suits.honest are) in
+    let problems : map (option_map problem_of) c.in-Ok.above.errors.items ≡ problems_of_loads s.loads (paths_above s.tree s.settings root) =
+    subst (λ (x : Settings). map (option_map problem_of) c.in-Ok.above.errors.items ≡ problems_of_loads s.loads (paths_above s.tree x root))
+    (sym suits.settings) (c.in-Ok.ensures.errors s.tree s.loads suits.honest are) in
     let value = c.in_ok-error.ensures.value s.loads
     (ap (map (option_map problem_of)) c.from_vec-errors.ensures.items ∙ (problems ∙ ap (problems_of_loads s.loads) (sym here))) in
     reported-is s root seen c.as_slice-3.result.now (option_map problem_of c.in_ok-error.error) found here
@@ -43,16 +43,16 @@ returns-clause-seen g c = λ s seen given kept found.
     let lent = c.lent.result in
     let self = c.args.self.now in
     let root = c.args.root.now in
-    let are = suited-loads g.F.Files g.S.Callbacks lent.files.now self.owner.now lent.settings.now lent.outside.now self.options s suits in
+    let are = suited-loads g.F.Files g.S.Callbacks lent.files.now self.owner lent.settings.now lent.outside.now self.options s suits in
     let names = names_above s.tree s.settings root in
     let held = dirs_above s.loads s.settings (paths_above s.tree s.settings root) in
-    let dirs : c.in_ok-above.above.dirs.items ≡ placed_along 1 held names =
-    subst (λ (x : Settings). c.in_ok-above.above.dirs.items
+    let dirs : c.in-Ok.above.dirs.items ≡ placed_along 1 held names =
+    subst (λ (x : Settings). c.in-Ok.above.dirs.items
     ≡ placed_along 1 (dirs_above s.loads x (paths_above s.tree x root)) (names_above s.tree x root)) (sym suits.settings)
-    (c.in_ok-above.ensures.dirs s.tree s.loads suits.honest are) in
-    let base : string_bytes c.in_ok-above.above.base ≡ 47 ∷ slashed names =
-    subst (λ (x : Settings). string_bytes c.in_ok-above.above.base ≡ 47 ∷ slashed (names_above s.tree x root)) (sym suits.settings)
-    (c.in_ok-above.ensures.base s.tree suits.honest) in
+    (c.in-Ok.ensures.dirs s.tree s.loads suits.honest are) in
+    let base : string_bytes c.in-Ok.above.base ≡ 47 ∷ slashed names =
+    subst (λ (x : Settings). string_bytes c.in-Ok.above.base ≡ 47 ∷ slashed (names_above s.tree x root)) (sym suits.settings)
+    (c.in-Ok.ensures.base s.tree suits.honest) in
     let paths : c.in_ok-paths.paths.items ≡ paths_above s.tree s.settings root =
     c.in_ok-paths.ensures.value names held (c.as_str.ensures.value ∙ base) (c.as_slice.ensures.value ∙ dirs) (length-above s root) in
     c.in_ok-see.ensures

@@ -1,10 +1,10 @@
-use Rattle.std.proofs.Common.{subst}
+use Rattle.std.proofs.Common.{None, subst}
 use Rattle.ignore_walk.specs.declared.callbacks.Order.TheVariants.{Listed}
 use Rattle.ignore.specs.Walks.{IsWalkBy}
 use Rattle.ignore.specs.declared.options.WalkOptions.{WalkOptions}
-use Rattle.ignore.specs.contracts.walk.StandardCallbacks.TheImpl as calls
+use Rattle.ignore.specs.contracts.walk.OwnerCallbacks.TheImpl as calls
 use Rattle.ignore.proofs.HeadlineLemmas.{on_ok}
-use Rattle.ignore.proofs.builder.walks.Walk+F+Standard.from_iter.Goals as goal
+use Rattle.ignore.proofs.builder.walks.Walk+F.from_iter.Goals as goal
 
 pub returns-clause-whole : goal.returns-clause-whole
 returns-clause-whole g c =
@@ -14,5 +14,5 @@ returns-clause-whole g c =
       o.1,
       o.2,
       o.3,
-      λ owner. subst (λ (b : WalkOptions). IsWalkBy g.F.Files calls.ghosts c.args.files.now owner c.args.env.now b Listed w.inner) o.4 by,
+      subst (λ (b : WalkOptions). IsWalkBy g.F.Files calls.ghosts c.args.files.now (record { builder = None }) c.args.env.now b Listed w.inner) o.4 by,
     )) c.walk.ensures.whole
