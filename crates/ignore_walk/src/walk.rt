@@ -44,9 +44,9 @@ impl<'a, F: Files, S: Callbacks> Walk<'a, F, S> {
     /// For dependents.
     pub fn new(ground: Ground<'a, F, S>, roots: Vec<Name>) -> Walk<'a, F, S>
         ensures whole { (g : Scene) (items : List Yielded) (n : ℕ)
-            → IsGroundOf F.Files S.Callbacks ground g → Whole g roots.items items n
+            → IsGroundOf F.Files S.Callbacks ground.entry g → Whole g roots.items items n
             → Remaining F.Files S.Callbacks g result items n }
-        ensures limit { result.left ≡ ground.options.limit }
+        ensures limit { result.left ≡ ground.entry.options.limit }
         ensures goes_on { result.ended ≡ false }
     {
         let (alloc, left) = (ground.alloc, ground.options.limit);
