@@ -1,0 +1,234 @@
+//! What the ranks answer over the chain of a place, and with which rule.
+ghost use Rattle.std.specs.Prelude.{◌≡◌, ◌||◌, ◌<◌, ◌≤◌, ◌↔◌, not, is_some, IsTrue, IfOk, IfErr, drop};
+ghost use Rattle.std.specs.Str.{IsCharBoundary, chars};
+ghost use Rattle.ignore_base.specs.Match.{match_map};
+ghost use Rattle.ignore_base.specs.Paths.{trim_of};
+ghost use Rattle.ignore_base.specs.Problem.{problem_of, memory};
+ghost use Rattle.ignore_rules.specs.Answer.{list_answer};
+ghost use Rattle.ignore_dir.specs.Lists.{IsAfterSlash, asked_in, list_of};
+ghost use Rattle.ignore_dir.specs.Ranks.{nearest, explicit_answer, git_answer, git_ranks, ranks_answer};
+ghost use Rattle.ignore_levels.specs.Reasons.{OverChain, down_to, rule_of};
+
+use crate::list::{Levels, Place};
+use ignore_base::text::trim_root;
+use ignore_base::{Error, Match};
+use ignore_dir::{Asked, Dir, Outside, Rank, Settings};
+use ignore_rules::gitignore::{Gitignore, Glob};
+
+/// Where a rule stands.
+#[derive(Clone, Copy, Debug, PartialEq, Eq)]
+pub enum Origin {
+    /// In a list of a directory.
+    Directory(Rank, Place),
+    /// In the global file of git's configuration.
+    Global,
+    /// In a file that was added by name.
+    Explicit,
+}
+
+/// A rule that decides, and where it stands.
+#[derive(Drop)]
+pub struct Ruling<'d> {
+    /// Where it stands.
+    pub origin: Origin,
+    /// The rule.
+    pub glob: &'d Glob,
+}
+
+/// The list of a directory for a rank.
+fn list_of(dir: &Dir, rank: Rank) -> &Gitignore
+    ensures { result.now ≡ list_of rank dir.now }
+{
+    match rank {
+        Rank::Custom => &dir.custom,
+        Rank::Ignore => &dir.ignore,
+        Rank::Gitignore => &dir.gitignore,
+        Rank::Exclude => &dir.exclude,
+    }
+}
+
+/// A match, with where its rule stands.
+fn ruled_by<'d>(origin: Origin, answer: Match<&'d Glob>) -> Match<Ruling<'d>>
+    ensures { match_map rule_of result ≡ match_map (λ g. g.now) answer.entry }
+{
+    match answer {
+        Match::None => Match::None,
+        Match::Ignore(glob) => Match::Ignore(Ruling { origin, glob }),
+        Match::Whitelist(glob) => Match::Whitelist(Ruling { origin, glob }),
+    }
+}
+
+/// The answer of a list for what follows an offset in a text.
+fn list_answer<'d>(
+    list: &'d Gitignore,
+    text: &str,
+    offset: usize,
+    is_dir: bool,
+) -> Result<Match<&'d Glob>, Error>
+    ensures answered { IsCharBoundary text.now offset → IfOk result (λ m. match_map (λ g. g.now) m
+        ≡ list_answer list.now.rules (chars (drop offset text.now)) is_dir) }
+    ensures out_of_memory { IfErr result (λ e. problem_of e ≡ memory) }
+{
+    if list.is_empty() {
+        return Ok(Match::None);
+    }
+    if !text.is_char_boundary(offset) {
+        return Ok(Match::None);
+    }
+    list.answer(&text[offset..], is_dir)
+}
+
+/// The answer of a list for what follows a slash in a text.
+fn answer_past<'d>(
+    list: &'d Gitignore,
+    text: &str,
+    offset: usize,
+    is_dir: bool,
+) -> Result<Match<&'d Glob>, Error>
+    ensures answered { IsAfterSlash text.now offset → IfOk result (λ m. match_map (λ g. g.now) m
+        ≡ list_answer list.now.rules (chars (drop offset text.now)) is_dir) }
+    ensures out_of_memory { IfErr result (λ e. problem_of e ≡ memory) }
+{
+    list_answer(list, text, offset, is_dir)
+}
+
+/// Whether an offset isn't 0, and stands from a floor to a ceiling.
+fn is_between(floor: usize, offset: usize, ceiling: usize) -> bool
+    ensures { IsTrue result ↔ (0 < offset) × (floor ≤ offset) × (offset ≤ ceiling) }
+{
+    0 < offset && floor <= offset && offset <= ceiling
+}
+
+/// The answer of the nearest level at or above a place whose list for the rank has a match. No
+/// level is asked whose offset is less than `floor`.
+fn nearest<'d>(
+    levels: &'d Levels,
+    rank: Rank,
+    floor: usize,
+    place: Option<Place>,
+    asked: &Asked<'_>,
+) -> Result<Match<Ruling<'d>>, Error>
+    ensures answered { OverChain levels.now.slots.items place asked.now.text.now (λ chain. IfOk result (λ m. match_map rule_of m
+        ≡ nearest rank (asked_in asked.now.text.now (down_to floor chain)) asked.now.is_dir)) }
+    ensures out_of_memory { IfErr result (λ e. problem_of e ≡ memory) }
+{
+    let mut at = levels.ruled(place);
+    let mut ceiling = asked.text.len();
+    while let Some(here) = at {
+        let Some(level) = levels.level(here) else {
+            return Ok(Match::None);
+        };
+        if !is_between(floor, level.offset, ceiling) {
+            return Ok(Match::None);
+        }
+        let list = list_of(&level.dir, rank);
+        let answer = answer_past(list, asked.text, level.offset, asked.is_dir)?;
+        if !answer.is_none() {
+            return Ok(ruled_by(Origin::Directory(rank, here), answer));
+        }
+        ceiling = level.offset - 1;
+        at = levels.ruled(level.parent);
+    }
+    Ok(Match::None)
+}
+
+/// The answer of the last of these matchers that has a match.
+fn explicit_answer<'d>(
+    explicit: &'d [Gitignore],
+    path: &str,
+    is_dir: bool,
+) -> Result<Match<&'d Glob>, Error>
+    ensures answered { IfOk result (λ m. match_map (λ g. g.now) m ≡ explicit_answer explicit.now path.now is_dir) }
+    ensures out_of_memory { IfErr result (λ e. problem_of e ≡ memory) }
+{
+    for i in (0..explicit.len()).rev() {
+        let answer = explicit[i].matched(path, is_dir)?;
+        if !answer.is_none() {
+            return Ok(answer);
+        }
+    }
+    Ok(Match::None)
+}
+
+/// The answer of the first of git's ranks that has a match, over the levels that they reach.
+fn git_answer<'d>(
+    global: &'d Gitignore,
+    levels: &'d Levels,
+    floor: usize,
+    place: Option<Place>,
+    asked: &Asked<'_>,
+) -> Result<Match<Ruling<'d>>, Error>
+    ensures answered { OverChain levels.now.slots.items place asked.now.text.now (λ chain. IfOk result (λ m. match_map rule_of m
+        ≡ git_answer global.now (asked_in asked.now.text.now (down_to floor chain)) (trim_of asked.now.path.now) asked.now.is_dir)) }
+    ensures out_of_memory { IfErr result (λ e. problem_of e ≡ memory) }
+{
+    let answer = nearest(levels, Rank::Gitignore, floor, place, asked)?;
+    if !answer.is_none() {
+        return Ok(answer);
+    }
+    let answer = nearest(levels, Rank::Exclude, floor, place, asked)?;
+    if !answer.is_none() {
+        return Ok(answer);
+    }
+    let answer = global.matched(trim_root(asked.path), asked.is_dir)?;
+    Ok(ruled_by(Origin::Global, answer))
+}
+
+/// Whether git's rules apply, by the nearest mark.
+fn has_git(settings: &Settings, mark: Option<Place>) -> bool
+    ensures { result ≡ (not settings.now.require_git || is_some mark) }
+{
+    !settings.require_git || mark.is_some()
+}
+
+/// The answer of git's ranks where they apply, else none. They reach up to the nearest repository's
+/// mark.
+fn git_ranks<'d>(
+    settings: &Settings,
+    global: &'d Gitignore,
+    levels: &'d Levels,
+    place: Option<Place>,
+    asked: &Asked<'_>,
+) -> Result<Match<Ruling<'d>>, Error>
+    ensures answered { OverChain levels.now.slots.items place asked.now.text.now (λ chain. IfOk result (λ m. match_map rule_of m
+        ≡ git_ranks settings.now global.now (asked_in asked.now.text.now chain) (trim_of asked.now.path.now) asked.now.is_dir)) }
+    ensures out_of_memory { IfErr result (λ e. problem_of e ≡ memory) }
+{
+    let mark = levels.mark(place);
+    if !has_git(settings, mark) {
+        return Ok(Match::None);
+    }
+    let floor = levels.floor(mark);
+    git_answer(global, levels, floor, place, asked)
+}
+
+/// The answer of the first rank that has a match, for a path: custom files, `.ignore`,
+/// `.gitignore`, exclude files, the global file, and files added by name, the last one first. They
+/// are asked in this order, and none after the first match.
+pub(crate) fn ranks_answer<'d>(
+    settings: &Settings,
+    outside: &'d Outside,
+    levels: &'d Levels,
+    place: Option<Place>,
+    asked: &Asked<'_>,
+) -> Result<Match<Ruling<'d>>, Error>
+    ensures answered { OverChain levels.now.slots.items place asked.now.text.now (λ chain. IfOk result (λ m. match_map rule_of m
+        ≡ ranks_answer settings.now outside.now (asked_in asked.now.text.now chain) asked.now.path.now asked.now.is_dir)) }
+    ensures out_of_memory { IfErr result (λ e. problem_of e ≡ memory) }
+{
+    let answer = nearest(levels, Rank::Custom, 0, place, asked)?;
+    if !answer.is_none() {
+        return Ok(answer);
+    }
+    let answer = nearest(levels, Rank::Ignore, 0, place, asked)?;
+    if !answer.is_none() {
+        return Ok(answer);
+    }
+    let answer = git_ranks(settings, &outside.global, levels, place, asked)?;
+    if !answer.is_none() {
+        return Ok(answer);
+    }
+    let explicit = outside.explicit.as_slice();
+    let answer = explicit_answer(explicit, trim_root(asked.path), asked.is_dir)?;
+    Ok(ruled_by(Origin::Explicit, answer))
+}
