@@ -42,4 +42,4 @@ pub record Suits {F S : Type 0} (files : Files F) (calls : Callbacks S) (f : F) 
 
 -- what stays the same in a walk of the code suits a scene
 abbrev pub IsGroundOf : {F S : Type 0} → Files F → Callbacks S → Ground F S → Scene → Type 0
-IsGroundOf files calls ground g = Suits files calls ground.files.now ground.owner ground.settings ground.outside ground.options g
+IsGroundOf files calls by g = Suits files calls by.files.now by.owner by.settings by.outside by.options g
