@@ -13,11 +13,11 @@ use Rattle.ignore_walk.specs.declared.callbacks.Callbacks.{Ghosts as Callbacks}
 use Rattle.ignore_walk.specs.declared.callbacks.Options.{Options}
 use Rattle.ignore_walk.specs.declared.frame.Frame.{Frame}
 use Rattle.ignore_walk.specs.declared.open.Opened.{Opened}
-use Rattle.ignore_walk.specs.Branch.{Branch, entered, placed_at}
+use Rattle.ignore_walk.specs.Branch.{Branch, entered}
 use Rattle.ignore_walk.specs.Child.{identity_at, is_dir_kind}
 use Rattle.ignore_walk.specs.Entry.{Entry}
 use Rattle.ignore_walk.specs.Fates.{differ}
-use Rattle.ignore_walk.specs.Frames.{AreFrames, device_of, inside, known_device, outermost, placed_of}
+use Rattle.ignore_walk.specs.Frames.{AreFrames, device_of, inside, known_device, outermost}
 use Rattle.ignore_walk.specs.Opens.{Opens}
 use Rattle.ignore_walk.specs.Scene.{Scene}
 use Rattle.ignore_walk.specs.Suits.{Suits}
@@ -30,20 +30,15 @@ pub frames-paths : (g : Scene) (root : List ℕ) (b : Branch) (fs : List Frame) 
 frames-paths g root b fs (outermost h) = rw h.path refl
 frames-paths g root b fs (inside {b = c} {fs = others} h k) = rw (h.path, frames-paths g root c others k) refl
 
-pub frames-placed : (g : Scene) (root : List ℕ) (b : Branch) (fs : List Frame) → AreFrames g root b fs
-    → map placed_of fs ≡ placed_at g root b
-frames-placed g root b fs (outermost h) = rw (h.dir, h.text) refl
-frames-placed g root b fs (inside {b = c} {fs = others} h k) = rw (h.dir, h.text, frames-placed g root c others k) refl
-
 -- Scenes.
 
 pub suited-loads : {F S : Type 0} (files : Files F) (calls : Callbacks S) (f : F) (owner : S) (s : Settings) (o : Outside) (options : Options)
     (g : Scene) → Suits files calls f owner s o options g → AreLoads g.tree s g.loads
 suited-loads files calls f owner s o options g h = subst (λ (x : Settings). AreLoads g.tree x g.loads) h.settings h.loads
 
-pub opens : (g : Scene) (p path text : List ℕ) (o : Opened) → p ≡ path → o.frame.path ≡ p → o.frame.text ≡ text
-    → o.frame.dir.value ≡ (g.loads p).0 → option_map problem_of o.error ≡ (g.loads p).1
-    → IsArranged g.order p (listing_of (g.tree.list p)) o.frame.rest.items → o.fault ≡ result_err (g.tree.list p) → Opens g path text o
+pub opens : (g : Scene) (p path text : List ℕ) (o : Opened) → p ≡ path → o.directory.path ≡ p → o.directory.text ≡ text
+    → o.directory.dir ≡ (g.loads p).0 → option_map problem_of o.error ≡ (g.loads p).1
+    → IsArranged g.order p (listing_of (g.tree.list p)) o.directory.rest.items → o.fault ≡ result_err (g.tree.list p) → Opens g path text o
 opens g p path text o same at seen_as dir problem rest fault =
     subst (λ (q : List ℕ). Opens g q text o) same
     (record { at = at; seen_as = seen_as; dir = dir; problem = problem; rest = rest; fault = fault })

@@ -3,23 +3,18 @@ use Rattle.std.proofs.Common.{◌≡◌, ℕ, suc, ◌+◌, ◌<◌, true, false
 use Rattle.std.proofs.lemmas.List.{append-nil}
 use Rattle.ignore_base.specs.Problem.{Problem}
 use Rattle.ignore_files.specs.declared.types.Listed.{Listed}
-use Rattle.ignore_walk.specs.Branch.{Branch}
+use Rattle.ignore_walk.specs.Branch.{Branch, around}
 use Rattle.ignore_walk.specs.Child.{child, below}
 use Rattle.ignore_walk.specs.Entry.{Entry, Item, stdin_entry}
 use Rattle.ignore_walk.specs.Left.{State, Left, outermost, inside, LeftInRoot, RemainsAfter, Remains, InHand, IsNext}
 use Rattle.ignore_walk.specs.Scene.{Scene}
 use Rattle.ignore_walk.specs.Walked.{IsArranged, IsOrdered, WalkedEach, skip, yield, load, enter, fate, yielded, loaded, listing_of, unlisted}
-use Rattle.ignore_walk.specs.Whole.{WalkedRoots, root_entry, above_root, reported_before, stdin, other}
+use Rattle.ignore_walk.specs.Whole.{WalkedRoots, root_entry, above_root, reported_before}
 use Rattle.ignore_walk.proofs.Arranged.{one_arrangement}
 use Rattle.ignore_walk.proofs.Given.{each_none, each_more, one_failed, one_skipped, one_leaf, one_closed, one_dir}
-use Rattle.ignore_walk.proofs.OneList.{roots_stdin, roots_root, roots_none}
+use Rattle.ignore_walk.proofs.OneList.{roots_stdin, roots_root}
 
 -- the innermost directory, and what is around it
-
--- the place around a place; that of a root is its own
-abbrev pub around : Branch → Branch
-around [] = []
-around (name ∷ b) = b
 
 -- what the directories around a place still give
 abbrev LeftIn : Scene → List ℕ → Branch → List (List Listed) → List Item → ℕ → Type 0

@@ -15,9 +15,10 @@ pub mod GroundLemmas
 pub mod RootLemmas
 pub mod AboveLemmas
 pub mod LeftLemmas
+pub mod ListLemmas
+pub mod RiseLemmas
 pub mod StandLemmas
 pub mod VisitLemmas
-pub mod EmptyLemmas
 pub mod PlaceNames
 pub mod ReachLemmas
 pub mod ShownLemmas

@@ -11,7 +11,7 @@ use Rattle.ignore_dir.specs.Lists.{Placed}
 use Rattle.ignore_dir.specs.Scene.{path_verdict}
 use Rattle.ignore_dir.specs.Steps.{Reached, entered, entry, reached_in, verdict_at}
 use Rattle.ignore_dir.specs.Verdict.{is_ignore, placed_verdict}
-use Rattle.ignore_walk.specs.Branch.{Branch, path_of, placed_above, placed_at, text_at}
+use Rattle.ignore_walk.specs.Branch.{Branch, path_of, placed_above, placed_at, placed_to, text_at}
 use Rattle.ignore_walk.specs.Scene.{Scene, queries}
 use Rattle.ignore_walk.specs.Walked.{ignores}
 
@@ -100,14 +100,13 @@ module _ (g : Scene) (root : List ℕ) where
       ∙ (ap is_ignore (judges (reverse b) name is_dir)
       ∙ ap (λ (l : List (List ℕ)). is_ignore (path_verdict (queries g root) l is_dir)) (sym (turned b name))))
 
-  -- the same of a chain that is the directories around the place
+  -- the same by the settings and rules of a scene
   pub ignores-is : ((front : List (List ℕ)) (n : List ℕ)
       → entered g.loads (entry (reached_in (queries g root) front) n) ≡ reached_in (queries g root) (front ++ n ∷ []))
       → ((front : List (List ℕ)) (n : List ℕ) (is_dir : Bool)
       → verdict_at g.settings g.outside (entry (reached_in (queries g root) front) n) is_dir ≡ path_verdict (queries g root) (front ++ n ∷ []) is_dir)
-      → (b : Branch) (name path text : List ℕ) (is_dir : Bool) (s : Settings) (o : Outside) (frames above : List Placed)
-      → g.settings ≡ s → g.outside ≡ o → frames ≡ placed_at g root b → above ≡ placed_above g root → text ≡ text_at g root b ++ name
-      → path ≡ path_of root (name ∷ b)
-      → is_ignore (placed_verdict s o (frames ++ above) text path is_dir) ≡ ignores g root (name ∷ b) is_dir
-  ignores-is enters judges b name path text is_dir s o frames above es eo ef ea et at =
-      rw (sym es, sym eo, ef, ea, et) (ignores-placed enters judges b name path is_dir at)
+      → (b : Branch) (name path text : List ℕ) (is_dir : Bool) (s : Settings) (o : Outside) → g.settings ≡ s → g.outside ≡ o
+      → text ≡ text_at g root b ++ name → path ≡ path_of root (name ∷ b)
+      → is_ignore (placed_verdict s o (placed_to g root b) text path is_dir) ≡ ignores g root (name ∷ b) is_dir
+  ignores-is enters judges b name path text is_dir s o es eo et at =
+      rw (sym es, sym eo, et) (ignores-placed enters judges b name path is_dir at)

@@ -1,6 +1,6 @@
 -- Names that listings lead along, and the paths of places.
-use Rattle.std.proofs.Common.{◌≡◌, ◌≢◌, ℕ, zero, suc, ◌+◌, ◌≤◌, ◌<◌, Bool, true, false, not, ◌&&◌, ◌||◌, ◌==◌, List, [], ◌∷◌, ◌++◌, length, get_or, drop, reverse, codes, All, refl, sym, ap, subst, ◌∙◌, arith, eq-eqb, ne_eqb, bytes_eq, cond, drop_of_length-le}
-use Rattle.std.proofs.lemmas.Bool.{and_parts, or_parts, both_ways, not-true, and_from, or_left}
+use Rattle.std.proofs.Common.{◌≡◌, ◌≢◌, ℕ, zero, suc, ◌+◌, ◌≤◌, Bool, true, false, not, ◌&&◌, ◌||◌, ◌==◌, List, [], ◌∷◌, ◌++◌, length, drop, reverse, codes, All, refl, sym, ap, subst, ◌∙◌, arith, eq-eqb, ne_eqb, bytes_eq, cond, drop_of_length-le}
+use Rattle.std.proofs.lemmas.Bool.{and_parts, or_parts, both_ways, not-true, and_from}
 use Rattle.std.proofs.lemmas.List.{nil_from_length, reverse-append, reverse-reverse}
 use Rattle.std.proofs.lemmas.List.Splits.{slice_split_at, slice_split_none}
 use Rattle.std.proofs.lemmas.Slice.Eq.{bytes_eq-Decides}

@@ -1,23 +1,25 @@
 -- What a stack stands for: by each change of its items and frames.
-use Rattle.std.proofs.Common.{◌≡◌, ℕ, suc, List, [], ◌∷◌, ◌++◌, length, map, reverse, Ok, refl, sym, ◌∙◌, ap, subst, arith}
+use Rattle.std.proofs.Common.{◌≡◌, ℕ, suc, List, [], ◌∷◌, ◌++◌, length, map, reverse, take, Ok, refl, sym, ◌∙◌, ap, subst, arith}
 use Rattle.std.proofs.lemmas.List.{reverse-append}
 use Rattle.ignore_files.specs.declared.types.Listed.{Listed}
-use Rattle.ignore_walk.specs.Branch.{Branch, path_of, text_at}
+use Rattle.ignore_levels.specs.declared.list.Slot.{Slot}
+use Rattle.ignore_levels.specs.Levels.{slots_of}
+use Rattle.ignore_walk.specs.Branch.{Branch, around}
 use Rattle.ignore_walk.specs.Child.{below}
 use Rattle.ignore_walk.specs.Entry.{Entry, Item, item_of}
 use Rattle.ignore_walk.specs.Frames.{IsFrame, AreFrames, outermost, inside, AreSeen}
 use Rattle.ignore_walk.specs.Left.{Remains, InHand, IsNext}
-use Rattle.ignore_walk.specs.Opens.{Opens}
+use Rattle.ignore_walk.specs.OnList.{AreOn}
 use Rattle.ignore_walk.specs.Scene.{Scene}
 use Rattle.ignore_walk.specs.Stands.{state_of, IsAt, IsBelow, IsIn, Stands, Steps, Takes}
 use Rattle.ignore_walk.specs.Walked.{IsArranged, IsOrdered, enter, fate, listing_of, loaded, unlisted}
 use Rattle.ignore_walk.specs.Whole.{WalkedRoots}
 use Rattle.ignore_walk.specs.declared.frame.Frame.{Frame}
-use Rattle.ignore_walk.specs.declared.open.Opened.{Opened}
 use Rattle.ignore_walk.specs.declared.stack.Stack.{Stack}
-use Rattle.ignore_walk.proofs.LeftLemmas.{around, state, with_made, leave, take, make_entered, whole_remains}
+use Rattle.ignore_walk.proofs.ListLemmas.{on-taken}
+use Rattle.ignore_walk.proofs.LeftLemmas.{state, with_made, leave, take as take_next, make_entered, whole_remains}
 
--- all but the frames and the items is the same
+-- all but the frames, the list of directories and the items is the same
 pub record Same (s s' : Stack) : Type 0 where
   pub seen : s'.seen ≡ s.seen
   pub roots : s'.roots ≡ s.roots
@@ -25,7 +27,7 @@ pub record Same (s s' : Stack) : Type 0 where
   pub device : s'.device ≡ s.device
 
 at_same : (g : Scene) (root : List ℕ) (s s' : Stack) → Same s s' → IsAt g root s → IsAt g root s'
-at_same g root s s' same at = record { above = rw same.above at.above; device = rw same.device at.device }
+at_same g root s s' same at = rw same.device at
 
 below_same : (g : Scene) (root : List ℕ) (place : Branch) (s s' : Stack) (fs : List Frame) → Same s s' → IsBelow g root place s fs
     → IsBelow g root place s' fs
@@ -35,14 +37,18 @@ below_same g root place s s' (f ∷ fs) same b = (b.0, at_same g root s s' same 
 kept_same : (s s' : Stack) (seen : List (List ℕ)) → Same s s' → AreSeen s.seen.items seen → AreSeen s'.seen.items seen
 kept_same s s' seen same kept = rw same.seen kept
 
+levels_same : (g : Scene) (root : List ℕ) (place : Branch) (s s' : Stack) → s'.frames ≡ s.frames → s'.levels ≡ s.levels
+    → AreOn g root place (slots_of s.levels) (reverse s.frames.items) → AreOn g root place (slots_of s'.levels) (reverse s'.frames.items)
+levels_same g root place s s' frames levels on = rw (frames, levels) on
+
 items_same : (s s' : Stack) → s'.frames ≡ s.frames → s'.frames.items ≡ s.frames.items
 items_same s s' same = rw same refl
 
 -- items were made
 pub stand_made : (g : Scene) (root : List ℕ) (place : Branch) (seen : List (List ℕ)) (s s' : Stack) (now : List Item) (items : List Item)
-    (n : ℕ) → Same s s' → s'.frames ≡ s.frames → map item_of s'.made.items ≡ map item_of s.made.items ++ now → IsIn g root place seen s
-    → Remains g (with_made (state_of s root place seen) now) items n → Stands g s' items n
-stand_made g root place seen s s' now items n same frames makes is r =
+    (n : ℕ) → Same s s' → s'.frames ≡ s.frames → s'.levels ≡ s.levels → map item_of s'.made.items ≡ map item_of s.made.items ++ now
+    → IsIn g root place seen s → Remains g (with_made (state_of s root place seen) now) items n → Stands g s' items n
+stand_made g root place seen s s' now items n same frames levels makes is r =
     record {
       root = root;
       place = place;
@@ -52,6 +58,7 @@ stand_made g root place seen s s' now items n same frames makes is r =
         frames =
             subst (λ (fs : List Frame). IsBelow g root place s' (reverse fs)) (sym (items_same s s' frames))
             (below_same g root place s s' (reverse s.frames.items) same is.frames);
+        levels = levels_same g root place s s' frames levels is.levels;
       };
       remains = rw (makes, frames, same.roots) r;
     }
@@ -64,27 +71,30 @@ frames_entered g root b place s f (f' ∷ fs) is next below =
     rw next.1 (inside (subst (λ (b : Branch). IsFrame g root b f) next.1 is) below.0)
 
 -- a directory was entered
-pub stand_entered : (g : Scene) (root : List ℕ) (place b : Branch) (seen : List (List ℕ)) (s s' : Stack) (e : Entry) (o : Opened)
-    (items : List Item) (n : ℕ) → Same s s' → s'.frames.items ≡ s.frames.items ++ o.frame ∷ []
+pub stand_entered : (g : Scene) (root : List ℕ) (place b : Branch) (seen : List (List ℕ)) (s s' : Stack) (e : Entry) (f : Frame)
+    (items : List Item) (n : ℕ) → Same s s' → s'.frames.items ≡ s.frames.items ++ f ∷ []
     → map item_of s'.made.items ≡ map item_of s.made.items ++ (loaded g e ++ unlisted e (g.tree.list e.path))
-    → IsIn g root place seen s → IsAt g root s → IsOrdered g.order → e.path ≡ path_of root b
-    → Opens g (path_of root b) (text_at g root b) o → fate g root b e ≡ enter
+    → IsIn g root place seen s → IsAt g root s → IsOrdered g.order → IsFrame g root b f
+    → AreOn g root b (slots_of s'.levels) (f ∷ reverse s.frames.items)
+    → IsArranged g.order e.path (listing_of (g.tree.list e.path)) f.rest.items → fate g root b e ≡ enter
     → IsNext b place (map (λ (f : Frame). f.rest.items) (reverse s.frames.items))
     → InHand g (state_of s root place seen) b (Ok e) items n → Stands g s' items n
-stand_entered g root place b seen s s' e o items n same frames makes is at ordered path opens enters next hand =
+stand_entered g root place b seen s s' e f items n same frames makes is at ordered frame on arranged enters next hand =
     let fs = reverse s.frames.items in
-    let pushed : reverse s'.frames.items ≡ o.frame ∷ fs = ap reverse frames ∙ reverse-append s.frames.items (o.frame ∷ []) in
-    let frame : IsFrame g root b o.frame = record { path = opens.at; text = opens.seen_as; dir = opens.dir } in
-    let all : AreFrames g root b (o.frame ∷ fs) = frames_entered g root b place s o.frame fs frame next is.frames in
-    let arranged : IsArranged g.order e.path (listing_of (g.tree.list e.path)) o.frame.rest.items = rw path opens.rest in
+    let pushed : reverse s'.frames.items ≡ f ∷ fs = ap reverse frames ∙ reverse-append s.frames.items (f ∷ []) in
+    let all : AreFrames g root b (f ∷ fs) = frames_entered g root b place s f fs frame next is.frames in
     record {
       root = root;
       place = b;
       seen = seen;
-      is = record { kept = kept_same s s' seen same is.kept; frames = rw pushed (all, at_same g root s s' same at) };
+      is = record {
+        kept = kept_same s s' seen same is.kept;
+        frames = rw pushed (all, at_same g root s s' same at);
+        levels = subst (λ (l : List Frame). AreOn g root b (slots_of s'.levels) l) (sym pushed) on;
+      };
       remains =
           rw (makes, pushed, same.roots)
-          (make_entered g (state_of s root place seen) b e o.frame.rest.items items n ordered next enters arranged hand);
+          (make_entered g (state_of s root place seen) b e f.rest.items items n ordered next enters arranged hand);
     }
 
 -- the frame of a root is the only one
@@ -100,13 +110,16 @@ below_left g root (name ∷ b) s f (f' ∷ fs) (inside is all) at = (all, at)
 
 -- a directory was left
 pub stand_left : (g : Scene) (s s' : Stack) (f : Frame) (items : List Item) (n : ℕ) → Same s s' → s'.made ≡ s.made
-    → s.frames.items ≡ s'.frames.items ++ f ∷ [] → f.rest.items ≡ [] → Stands g s items n → Steps g s' items n
-stand_left g s s' f items n same made frames done r =
+    → s.frames.items ≡ s'.frames.items ++ f ∷ [] → slots_of s'.levels ≡ take f.len (slots_of s.levels) → f.rest.items ≡ []
+    → Stands g s items n → Steps g s' items n
+stand_left g s s' f items n same made frames cut done r =
     let fs = reverse s'.frames.items in
     let popped : reverse s.frames.items ≡ f ∷ fs = ap reverse frames ∙ reverse-append s'.frames.items (f ∷ []) in
     let below : IsBelow g r.root r.place s (f ∷ fs) = subst (λ (fs : List Frame). IsBelow g r.root r.place s fs) popped r.is.frames in
     let rests : map (λ (f : Frame). f.rest.items) (reverse s.frames.items) ≡ [] ∷ map (λ (f : Frame). f.rest.items) fs =
     ap (map (λ (f : Frame). f.rest.items)) popped ∙ ap (λ (xs : List Listed). xs ∷ map (λ (f : Frame). f.rest.items) fs) done in
+    let on : AreOn g r.root r.place (slots_of s.levels) (f ∷ fs) =
+    subst (λ (l : List Frame). AreOn g r.root r.place (slots_of s.levels) l) popped r.is.levels in
     let made' = map item_of s.made.items in
     let l = leave g made' r.root r.place (map (λ (f : Frame). f.rest.items) fs) r.seen s.roots.items items n
     (subst (λ (rests : List (List Listed)). Remains g (state made' r.root r.place rests r.seen s.roots.items) items n) rests r.remains) in (
@@ -119,40 +132,43 @@ stand_left g s s' f items n same made frames done r =
         is = record {
           kept = kept_same s s' r.seen same r.is.kept;
           frames = below_same g r.root (around r.place) s s' fs same (below_left g r.root r.place s f fs below.0 below.1);
+          levels = subst (λ (l : List Slot). AreOn g r.root (around r.place) l fs) (sym cut) on.1;
         };
         remains = rw (made, same.roots) l.2;
       },
     )
 
 frames_taken : (g : Scene) (root : List ℕ) (place : Branch) (f f' : Frame) (fs : List Frame) → f'.path ≡ f.path → f'.text ≡ f.text
-    → f'.dir ≡ f.dir → AreFrames g root place (f ∷ fs) → AreFrames g root place (f' ∷ fs)
-frames_taken g root place f f' fs path text dir (outermost is) =
-    outermost (record { path = path ∙ is.path; text = text ∙ is.text; dir = rw dir is.dir })
-frames_taken g root place f f' fs path text dir (inside is all) =
-    inside (record { path = path ∙ is.path; text = text ∙ is.text; dir = rw dir is.dir }) all
+    → AreFrames g root place (f ∷ fs) → AreFrames g root place (f' ∷ fs)
+frames_taken g root place f f' fs path text (outermost is) = outermost (record { path = path ∙ is.path; text = text ∙ is.text })
+frames_taken g root place f f' fs path text (inside is all) = inside (record { path = path ∙ is.path; text = text ∙ is.text }) all
 
 -- a listed thing was taken
 pub stand_taken : (g : Scene) (s s' : Stack) (f f' : Frame) (fs : List Frame) (x : Listed) (items : List Item) (n : ℕ) → Same s s'
-    → s'.made ≡ s.made → s.frames.items ≡ fs ++ f ∷ [] → s'.frames.items ≡ fs ++ f' ∷ [] → f'.path ≡ f.path → f'.text ≡ f.text
-    → f'.dir ≡ f.dir → f.rest.items ≡ x ∷ f'.rest.items → Stands g s items n → Takes g s' x items n
-stand_taken g s s' f f' front x items n same made frames frames' path text dir takes r =
+    → s'.made ≡ s.made → s'.levels ≡ s.levels → s.frames.items ≡ fs ++ f ∷ [] → s'.frames.items ≡ fs ++ f' ∷ [] → f'.path ≡ f.path
+    → f'.text ≡ f.text → f'.place ≡ f.place → f'.len ≡ f.len → f.rest.items ≡ x ∷ f'.rest.items → Stands g s items n
+    → Takes g s' x items n
+stand_taken g s s' f f' front x items n same made levels frames frames' path text at_place len takes r =
     let fs = reverse front in
     let rests = map (λ (f : Frame). f.rest.items) fs in
     let popped : reverse s.frames.items ≡ f ∷ fs = ap reverse frames ∙ reverse-append front (f ∷ []) in
     let pushed : reverse s'.frames.items ≡ f' ∷ fs = ap reverse frames' ∙ reverse-append front (f' ∷ []) in
     let below : IsBelow g r.root r.place s (f ∷ fs) = subst (λ (fs : List Frame). IsBelow g r.root r.place s fs) popped r.is.frames in
-    let all : AreFrames g r.root r.place (f' ∷ fs) = frames_taken g r.root r.place f f' fs path text dir below.0 in
+    let all : AreFrames g r.root r.place (f' ∷ fs) = frames_taken g r.root r.place f f' fs path text below.0 in
     let at : IsAt g r.root s' = at_same g r.root s s' same below.1 in
+    let on : AreOn g r.root r.place (slots_of s.levels) (f' ∷ fs) =
+    on-taken g r.root r.place f f' fs (slots_of s.levels) at_place len
+    (subst (λ (l : List Frame). AreOn g r.root r.place (slots_of s.levels) l) popped r.is.levels) in
     let is : map (λ (f : Frame). f.rest.items) (reverse s.frames.items) ≡ (x ∷ f'.rest.items) ∷ rests =
     ap (map (λ (f : Frame). f.rest.items)) popped ∙ ap (λ (xs : List Listed). xs ∷ rests) takes in
     let made' = map item_of s.made.items in
-    let t = take g made' r.root r.place x f'.rest.items rests r.seen s.roots.items items n
+    let t = take_next g made' r.root r.place x f'.rest.items rests r.seen s.roots.items items n
     (subst (λ (rests : List (List Listed)). Remains g (state made' r.root r.place rests r.seen s.roots.items) items n) is r.remains) in
     record {
       root = r.root;
       place = r.place;
       seen = r.seen;
-      is = record { kept = kept_same s s' r.seen same r.is.kept; frames = rw pushed (all, at) };
+      is = record { kept = kept_same s s' r.seen same r.is.kept; frames = rw pushed (all, at); levels = rw (levels, pushed) on };
       frames = rw pushed all;
       at = at;
       k = t.0;
@@ -172,7 +188,11 @@ next_root s place empty = subst (λ (rests : List (List Listed)). IsNext [] plac
 pub outside : (g : Scene) (root : List ℕ) (place : Branch) (seen : List (List ℕ)) (s : Stack) → s.frames.items ≡ []
     → AreSeen s.seen.items seen → IsIn g root place seen s
 outside g root place seen s empty kept =
-    record { kept = kept; frames = subst (λ (fs : List Frame). IsBelow g root place s (reverse fs)) (sym empty) tt }
+    record {
+      kept = kept;
+      frames = subst (λ (fs : List Frame). IsBelow g root place s (reverse fs)) (sym empty) tt;
+      levels = subst (λ (fs : List Frame). AreOn g root place (slots_of s.levels) (reverse fs)) (sym empty) tt;
+    }
 
 -- a walk that begins
 pub stand_whole : (g : Scene) (s : Stack) (items : List Item) (n : ℕ) → s.made.items ≡ [] → s.frames.items ≡ [] → s.seen.items ≡ []

@@ -1,19 +1,18 @@
 -- The text of a place ends with a slash, and so do those of the directories around it: their ends
 -- are boundaries of characters.
-use Rattle.std.proofs.Common.{◌≡◌, ℕ, ◌+◌, ◌≤◌, ◌-◌, ◌<◌, List, [], ◌∷◌, ◌++◌, length, map, reverse, get_or, All, sym, ap, ◌∙◌, append_assoc, subst, arith}
+use Rattle.std.proofs.Common.{◌≡◌, ℕ, ◌+◌, ◌≤◌, ◌-◌, ◌<◌, List, [], ◌∷◌, ◌++◌, length, reverse, get_or, All, sym, ap, ◌∙◌, append_assoc, subst, arith}
 use Rattle.std.proofs.Math.Seq.{get_or-append_seam}
-use Rattle.std.proofs.lemmas.List.{append-nil, get_or-map, get_or_append_left, length-append, length-map}
-use Rattle.std.proofs.lemmas.List.Elements.{All-cons, All-nil, All-weaker}
-use Rattle.std.proofs.lemmas.List.Sorted.{All-permutation, IsPermutation-reverse, IsPermutation-sym}
+use Rattle.std.proofs.lemmas.List.{append-nil, get_or_append_left, length-append}
+use Rattle.std.proofs.lemmas.List.Elements.{All-append, All-cons, All-filter, All-nil, All-weaker}
+use Rattle.std.proofs.lemmas.List.Sorted.{All-permutation, IsPermutation-reverse}
 use Rattle.std.proofs.lemmas.Str.{IsCharBoundary-after_ascii}
 use Rattle.std.specs.Str.{IsCharBoundary, IsUtf8}
 use Rattle.ignore_dir.specs.declared.dir.Dir.{Dir}
 use Rattle.ignore_dir.specs.Above.{dirs_above, names_above, paths_above}
 use Rattle.ignore_dir.specs.Chains.{placed_along, slashed}
 use Rattle.ignore_dir.specs.Lists.{IsAfterSlash, Placed}
-use Rattle.ignore_walk.specs.declared.frame.Frame.{Frame}
-use Rattle.ignore_walk.specs.Branch.{Branch, placed_above, placed_at, text_at}
-use Rattle.ignore_walk.specs.Frames.{placed_of}
+use Rattle.ignore_levels.specs.Levels.{counting, counts}
+use Rattle.ignore_walk.specs.Branch.{Branch, placed_above, placed_at, placed_to, text_at}
 use Rattle.ignore_walk.specs.Scene.{Scene}
 
 -- a longer text
@@ -95,28 +94,12 @@ module _ (g : Scene) (root : List ℕ) where
       All-cons (λ (p : Placed). IsAfterSlash (text_at g root (name ∷ b)) p.1) _ (placed_at g root b) (ends (name ∷ b))
       (placed-longer (text_at g root b) (name ++ 47 ∷ []) (placed_at g root b) (at-placed b))
 
-  boundaries : (b : Branch) (name text : List ℕ) (chain : List Placed) → text ≡ text_at g root b ++ name → IsUtf8 text
-      → All (λ p. IsAfterSlash (text_at g root b) p.1) chain → All (λ p. IsCharBoundary text p.1) chain
-  boundaries b name text chain is u h =
-      All-weaker (λ (p : Placed). IsAfterSlash text p.1) (λ (p : Placed). IsCharBoundary text p.1) (λ p. boundary-after text p.1 u) chain
-      (subst (λ (t : List ℕ). All (λ (p : Placed). IsAfterSlash t p.1) chain) (sym is) (placed-longer (text_at g root b) name chain h))
-
-  pub above-boundaries : (b : Branch) (name text : List ℕ) (above : List Placed) → text ≡ text_at g root b ++ name → IsUtf8 text
-      → reverse above ≡ placed_above g root → All (λ p. IsCharBoundary text p.1) above
-  above-boundaries b name text above is u h =
-      All-permutation (λ (p : Placed). IsCharBoundary text p.1) (reverse above) above (IsPermutation-sym above (reverse above) (IsPermutation-reverse above))
-      (subst (All (λ (p : Placed). IsCharBoundary text p.1)) (sym h) (boundaries b name text (placed_above g root) is u (above-placed b)))
-
-  of_frames : (text : List ℕ) (fs : List Frame) → All (λ (p : Placed). IsCharBoundary text p.1) (map placed_of fs)
-      → All (λ (f : Frame). IsCharBoundary text (length f.text)) fs
-  of_frames text fs h k d lt =
-      let size : length (map placed_of fs) ≡ length fs = length-map fs placed_of in
-      subst (λ (p : Placed). IsCharBoundary text p.1) (get_or-map placed_of fs k d (placed_of d) lt) (h k (placed_of d) (omega arith))
-
-  pub frame-boundaries : (b : Branch) (name text : List ℕ) (frames : List Frame) → text ≡ text_at g root b ++ name → IsUtf8 text
-      → map placed_of (reverse frames) ≡ placed_at g root b → All (λ f. IsCharBoundary text (length f.text)) frames
-  frame-boundaries b name text frames is u h =
-      All-permutation (λ (f : Frame). IsCharBoundary text (length f.text)) (reverse frames) frames
-      (IsPermutation-sym frames (reverse frames) (IsPermutation-reverse frames))
-      (of_frames text (reverse frames)
-      (subst (All (λ (p : Placed). IsCharBoundary text p.1)) (sym h) (boundaries b name text (placed_at g root b) is u (at-placed b))))
+  -- the directories from a place up to `/` are asked about what follows slashes of a text below it
+  pub after-to : (b : Branch) (name text : List ℕ) → text ≡ text_at g root b ++ name
+      → All (λ p. IsAfterSlash text p.1) (counting (placed_to g root b))
+  after-to b name text is =
+      let own = placed-longer (text_at g root b) name (placed_at g root b) (at-placed b) in
+      let far = placed-longer (text_at g root b) name (placed_above g root) (above-placed b) in
+      subst (λ (t : List ℕ). All (λ (p : Placed). IsAfterSlash t p.1) (counting (placed_to g root b))) (sym is)
+      (All-filter (λ (p : Placed). counts p.0) (λ (p : Placed). IsAfterSlash (text_at g root b ++ name) p.1) (placed_to g root b)
+      (All-append (λ (p : Placed). IsAfterSlash (text_at g root b ++ name) p.1) (placed_at g root b) (placed_above g root) own far))

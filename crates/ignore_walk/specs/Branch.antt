@@ -37,3 +37,18 @@ placed_at g root (name ∷ b) = ((g.loads (path_of root (name ∷ b))).0, length
 abbrev pub placed_above : Scene → Path → List Placed
 placed_above g root =
     reverse (placed_along 1 (dirs_above g.loads g.settings (paths_above g.tree g.settings root)) (names_above g.tree g.settings root))
+
+-- the directories from a place up to `/`, the nearest first
+abbrev pub placed_to : Scene → Path → Branch → List Placed
+placed_to g root b = placed_at g root b ++ placed_above g root
+
+-- the directories around a place up to `/`, the nearest first: those above the root, where the place
+-- is that of the root
+abbrev pub placed_around : Scene → Path → Branch → List Placed
+placed_around g root [] = placed_above g root
+placed_around g root (name ∷ b) = placed_to g root b
+
+-- the place around a place; that of a root is its own
+abbrev pub around : Branch → Branch
+around [] = []
+around (name ∷ b) = b

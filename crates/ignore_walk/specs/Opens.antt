@@ -9,9 +9,9 @@ use Rattle.ignore_walk.specs.Walked.{IsArranged, listing_of}
 
 -- a directory was loaded and listed, and its listing arranged
 pub record Opens (g : Scene) (path : Path) (text : Bytes) (o : Opened) : Type 0 where
-  pub at : o.frame.path ≡ path
-  pub seen_as : o.frame.text ≡ text
-  pub dir : o.frame.dir.value ≡ (g.loads path).0
+  pub at : o.directory.path ≡ path
+  pub seen_as : o.directory.text ≡ text
+  pub dir : o.directory.dir ≡ (g.loads path).0
   pub problem : option_map problem_of o.error ≡ (g.loads path).1
-  pub rest : IsArranged g.order path (listing_of (g.tree.list path)) o.frame.rest.items
+  pub rest : IsArranged g.order path (listing_of (g.tree.list path)) o.directory.rest.items
   pub fault : o.fault ≡ result_err (g.tree.list path)

@@ -3,11 +3,13 @@ use Rattle.std.specs.Prelude.{◌≡◌, ℕ, suc, Bool, true, false, List, [], 
 use Rattle.ignore_base.specs.Text.{Bytes, Path}
 use Rattle.ignore_files.specs.declared.types.Listed.{Listed}
 use Rattle.ignore_files.specs.declared.types.Listed.TheVariants as thing
-use Rattle.ignore_walk.specs.Branch.{Branch, path_of, text_at, placed_above}
+use Rattle.ignore_levels.specs.Levels.{IsChain, counting, slots_of}
+use Rattle.ignore_walk.specs.Branch.{Branch, path_of, placed_around, text_at}
 use Rattle.ignore_walk.specs.Child.{child, below}
 use Rattle.ignore_walk.specs.Entry.{Entry, Item, item_of}
 use Rattle.ignore_walk.specs.Frames.{AreFrames, AreSeen, device_of}
 use Rattle.ignore_walk.specs.Left.{State, Remains, InHand}
+use Rattle.ignore_walk.specs.OnList.{AreOn, place_around}
 use Rattle.ignore_walk.specs.Scene.{Scene}
 use Rattle.ignore_walk.specs.Walked.{is_skipped, leads_in}
 use Rattle.ignore_walk.specs.declared.frame.Frame.{Frame}
@@ -26,10 +28,13 @@ state_of s root place seen =
       roots = s.roots.items;
     }
 
--- a stack has what is above a root, and its device
-pub record IsAt (g : Scene) (root : Path) (s : Stack) : Type 0 where
-  pub above : reverse s.above.items ≡ placed_above g root
-  pub device : s.device ≡ device_of g root
+-- a stack has the device of a root
+abbrev pub IsAt : Scene → Path → Stack → Type 0
+IsAt g root s = s.device ≡ device_of g root
+
+-- in the list of a stack, the directories that it has in hand stand for those around a place
+abbrev pub IsAround : Scene → Path → Branch → Stack → Type 0
+IsAround g root b s = IsChain (slots_of s.levels) (place_around s.above (reverse s.frames.items)) (counting (placed_around g root b))
 
 -- where directories are entered, they are that at a place and those around it, below this root
 abbrev pub IsBelow : Scene → Path → Branch → Stack → List Frame → Type 0
@@ -40,6 +45,7 @@ IsBelow g root place s (f ∷ fs) = AreFrames g root place (f ∷ fs) × IsAt g 
 pub record IsIn (g : Scene) (root : Path) (place : Branch) (seen : List Path) (s : Stack) : Type 0 where
   pub kept : AreSeen s.seen.items seen
   pub frames : IsBelow g root place s (reverse s.frames.items)
+  pub levels : AreOn g root place (slots_of s.levels) (reverse s.frames.items)
 
 -- a stack still gives these items, in so many steps
 pub record Stands (g : Scene) (s : Stack) (items : List Item) (n : ℕ) : Type 0 where
@@ -75,13 +81,15 @@ abbrev pub text_below : Scene → Path → Branch → Listed → Bytes
 text_below g root b x = text_at g root b ++ name_in x
 
 -- an entry at a place is one to be visited: it isn't skipped; and where it leads into a directory,
--- its path as the directories around it see it, and what is above the root, are known
+-- its path as the directories around it see it, these directories, and the device of the root, are
+-- known
 pub record Visits (g : Scene) (root : Path) (b : Branch) (s : Stack) (e : Entry) (leads : Bool) (text : Bytes) : Type 0 where
   pub path : e.path ≡ path_of root b
   pub leads_there : leads ≡ leads_in g b e
   pub kept : is_skipped g root b e ≡ false
   pub at : leads ≡ true → IsAt g root s
   pub seen_as : leads ≡ true → text ≡ text_at g root b
+  pub around : leads ≡ true → IsAround g root b s
 
 -- what was in hand before a root was taken from those that weren't begun, where no directory was
 -- entered

@@ -6,7 +6,8 @@ ghost use Rattle.ignore_base.specs.Problem.{problem_of};
 ghost use Rattle.ignore_files.specs.Gives.{IsHonest};
 ghost use Rattle.ignore_dir.specs.Limits as limits;
 ghost use Rattle.ignore_dir.specs.Query as queries;
-ghost use Rattle.ignore_walk.specs.Branch.{Branch, path_of, placed_above, text_at};
+ghost use Rattle.ignore_levels.specs.Levels.{IsChain, counting, slots_of};
+ghost use Rattle.ignore_walk.specs.Branch.{Branch, path_of, placed_above, placed_to, text_at};
 ghost use Rattle.ignore_walk.specs.Child as children;
 ghost use Rattle.ignore_walk.specs.Entry.{entry_of, item_of, fresh, problem_in};
 ghost use Rattle.ignore_walk.specs.Fates.{fate_of, differ};
@@ -31,6 +32,7 @@ use ignore_dir::above::load_above;
 use ignore_dir::limits::is_deepest;
 use ignore_dir::{Outside, Placed, Settings};
 use ignore_files::{Files, Listed, Name};
+use ignore_levels::{Levels, Place};
 use std::alloc::{AllocError, Global};
 use std::collections::VecDeque;
 
@@ -193,22 +195,22 @@ impl<'a, F: Files, S: Callbacks> Ground<'a, F, S> {
         Ok(opened)
     }
 
-    /// Whether an entry below a root is skipped. `text` is its path as the directories around it
-    /// see it.
+    /// Whether an entry below a root is skipped, by the place of the directories around it. `text`
+    /// is its path as they see it.
     pub(crate) fn is_skipped(
         &self,
-        above: &[Placed],
-        frames: &[Frame],
+        levels: &Levels,
+        place: Option<Place>,
         text: &str,
         entry: &DirEntry,
     ) -> Result<bool, AllocError>
         ensures value { (g : Scene) (root : List ℕ) (b : Branch) (name : List ℕ)
             → IsGroundOf F.Files S.Callbacks self.now g
-            → AreFrames g root b (reverse frames.now) → reverse above.now ≡ placed_above g root → text.now ≡ text_at g root b ++ name
+            → IsChain (slots_of levels.now) place (counting (placed_to g root b)) → text.now ≡ text_at g root b ++ name
             → (entry_of entry.now).path ≡ path_of root (name ∷ b) → problem_in entry.now ≡ None
             → IfOk result (λ yes. yes ≡ walked.is_skipped g root (name ∷ b) (entry_of entry.now)) }
     {
-        if is_ignored(&self.lent(), above, frames, text, entry)? {
+        if is_ignored(&self.lent(), levels, place, text, entry)? {
             return Ok(true);
         }
         if is_too_large(self.alloc, self.files, &self.settings, entry)? {

@@ -11,7 +11,6 @@ ghost use Rattle.ignore_walk.specs.Walked.{IsArranged, listing_of};
 use crate::arrange::arranged;
 use crate::callbacks::{Callbacks, Order};
 use crate::child::all_named;
-use crate::frame::Frame;
 use crate::memory::answered;
 use ignore_base::{Error, Fault};
 use ignore_dir::laws::one_load;
@@ -21,10 +20,23 @@ use ignore_files::{Files, Listed, Name};
 use std::alloc::{AllocError, Global};
 use std::collections::VecDeque;
 
-/// A directory that was entered, the error of its load, and the fault of its listing.
+/// A directory that was loaded and listed.
+#[derive(Drop)]
+pub(crate) struct Directory {
+    /// Its path.
+    pub(crate) path: Name,
+    /// Its path as the directories around it see it, with a final slash.
+    pub(crate) text: Name,
+    /// What it holds for the rules.
+    pub(crate) dir: Dir,
+    /// What it lists, in the order of the walk.
+    pub(crate) rest: VecDeque<Listed>,
+}
+
+/// A directory that was loaded and listed, the error of its load, and the fault of its listing.
 #[derive(Drop)]
 pub(crate) struct Opened {
-    pub(crate) frame: Frame,
+    pub(crate) directory: Directory,
     pub(crate) error: Option<Error>,
     pub(crate) fault: Option<Fault>,
 }
@@ -85,26 +97,25 @@ pub(crate) fn open<F: Files, S: Callbacks>(
     path: Name,
     text: Name,
 ) -> Result<Opened, AllocError>
-    ensures path { IfOk result (λ o. o.frame.path ≡ path) }
-    ensures text { IfOk result (λ o. o.frame.text ≡ text) }
-    ensures dir { InLoads F.Files ground.now (λ tree loads. IfOk result (λ o. o.frame.dir.value ≡ (loads path).0)) }
+    ensures path { IfOk result (λ o. o.directory.path ≡ path) }
+    ensures text { IfOk result (λ o. o.directory.text ≡ text) }
+    ensures dir { InLoads F.Files ground.now (λ tree loads. IfOk result (λ o. o.directory.dir ≡ (loads path).0)) }
     ensures problem { InLoads F.Files ground.now (λ tree loads. IfOk result (λ o. option_map problem_of o.error ≡ (loads path).1)) }
     ensures rest { (tree : Tree) (chosen : Option (List ℕ → List ℕ → List ℕ → Bool)) → IsHonest F.Files ground.now.files.now tree
         → IsOrderBy order (S.compares owner.now) chosen
-        → IfOk result (λ o. IsArranged chosen path (listing_of (tree.list path)) o.frame.rest.items) }
+        → IfOk result (λ o. IsArranged chosen path (listing_of (tree.list path)) o.directory.rest.items) }
     ensures fault { (tree : Tree) → IsHonest F.Files ground.now.files.now tree → IfOk result (λ o. o.fault ≡ result_err (tree.list path)) }
 {
     let (rest, fault) = listed(ground.alloc, ground.files, owner, order, path.as_str())?;
     let (dir, error) = loaded(ground, path.as_str())?;
-    let dir = Box::new(ground.alloc, dir)?;
-    let frame = Frame {
+    let directory = Directory {
         path,
         text,
         dir,
         rest,
     };
     Ok(Opened {
-        frame,
+        directory,
         error,
         fault,
     })

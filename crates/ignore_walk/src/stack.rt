@@ -4,13 +4,15 @@ ghost use Rattle.std.specs.Prelude.{MatchOption, length, map, reverse, option_ma
 ghost use Rattle.std.specs.Option.{option_to_list};
 ghost use Rattle.ignore_base.specs.Problem.{problem_of};
 ghost use Rattle.ignore_dir.specs.Query.{is_dir_there};
+ghost use Rattle.ignore_levels.specs.Levels.{IsChain, counting, slots_of};
 ghost use Rattle.ignore_walk.specs.Branch.{Branch, path_of, text_at, placed_above};
 ghost use Rattle.ignore_walk.specs.Entry.{Item as Yielded, entry_of, item_of, problem_in};
 ghost use Rattle.ignore_walk.specs.Frames.{AreFrames, AreSeen};
 ghost use Rattle.ignore_walk.specs.Left.{Remains, InHand, IsNext};
+ghost use Rattle.ignore_walk.specs.OnList.{place_around};
 ghost use Rattle.ignore_walk.specs.Opens.{Opens};
 ghost use Rattle.ignore_walk.specs.Scene.{Scene};
-ghost use Rattle.ignore_walk.specs.Stands.{state_of, before_root, name_in, text_below, IsAt, IsIn, Stands, Steps, Takes, Visits, Hands};
+ghost use Rattle.ignore_walk.specs.Stands.{state_of, before_root, name_in, text_below, IsAround, IsAt, IsIn, Stands, Steps, Takes, Visits, Hands};
 ghost use Rattle.ignore_walk.specs.Suits.{IsGroundOf};
 ghost use Rattle.ignore_walk.specs.Walked.{IsOrdered, enter, fate};
 ghost use Rattle.ignore_walk.specs.Whole.{root_entry, above_root, reported_before};
@@ -18,14 +20,15 @@ ghost use Rattle.ignore_walk.specs.Whole.{root_entry, above_root, reported_befor
 use crate::callbacks::Callbacks;
 use crate::child::is_dir_kind;
 use crate::entry::{DirEntry, Item};
-use crate::frame::{Frame, take_next};
+use crate::frame::{Frame, frame_of, take_next};
 use crate::ground::{Fate, Ground};
 use crate::made::{make, make_error, make_fault};
 use crate::open::Opened;
 use crate::root::is_dir_found;
 use ignore_base::Error;
-use ignore_dir::{Placed, Settings};
+use ignore_dir::Settings;
 use ignore_files::{Files, Listed, Name};
+use ignore_levels::{Levels, Place};
 use std::alloc::{AllocError, Global};
 use std::collections::VecDeque;
 
@@ -36,8 +39,11 @@ pub struct Stack {
     pub roots: VecDeque<Name>,
     /// The directories that are above roots that were begun.
     pub seen: Vec<Name>,
-    /// What counts of the directories above the root that was begun last.
-    pub above: Vec<Placed>,
+    /// The directories that count of those above the root that was begun last, and of those that were
+    /// entered.
+    pub levels: Levels,
+    /// What stands there for those above the root.
+    pub above: Option<Place>,
     /// The device of that root, where it matters and is known.
     pub device: Option<u64>,
     /// The directories that were entered.
@@ -87,6 +93,7 @@ impl Stack {
     ) -> Result<(), AllocError>
         ensures entered { (g : Scene) (root : List ℕ) (place b : Branch) (seen : List (List ℕ)) (items : List Yielded) (n : ℕ)
             → IsOrdered g.order → g.settings ≡ settings.now → IsIn g root place seen self.old → IsAt g root self.old
+            → IsAround g root b self.old
             → (entry_of entry).path ≡ path_of root b → Opens g (path_of root b) (text_at g root b) opened
             → fate g root b (entry_of entry) ≡ enter → IsNext b place (state_of self.old root place seen).rests
             → InHand g (state_of self.old root place seen) b (Ok (entry_of entry)) items n → OnOk result (Stands g self.new items n) }
@@ -94,14 +101,11 @@ impl Stack {
     {
         let depth = entry.depth();
         make(&mut self.made, settings, entry, opened.error)?;
-        let entered = opened.frame;
-        make_fault(
-            alloc,
-            &mut self.made,
-            entered.path.as_str(),
-            depth,
-            opened.fault,
-        )?;
+        let directory = opened.directory;
+        let path = directory.path.as_str();
+        make_fault(alloc, &mut self.made, path, depth, opened.fault)?;
+        let around = place_around(self.above, self.frames.as_slice());
+        let entered = frame_of(&mut self.levels, around, directory)?;
         self.frames.push(entered)?;
         Ok(())
     }
@@ -135,7 +139,10 @@ impl Stack {
             return Ok(None);
         };
         match take_next(&mut frame.rest) {
-            None => Ok(None),
+            None => {
+                self.levels.cut(frame.len);
+                Ok(None)
+            }
             Some(listed) => {
                 self.frames.push(frame)?;
                 Ok(Some(listed))
@@ -159,8 +166,8 @@ impl Stack {
             → OnOk result (Stands g self.new items n) }
         ensures made { length self.new.made.items ≤ length self.old.made.items + 2 }
     {
-        let (above, frames) = (self.above.as_slice(), self.frames.as_slice());
-        if ground.is_skipped(above, frames, text.as_str(), &entry)? {
+        let around = place_around(self.above, self.frames.as_slice());
+        if ground.is_skipped(&self.levels, around, text.as_str(), &entry)? {
             return Ok(());
         }
         let leads_in = is_dir_kind(entry.file_type());
@@ -204,7 +211,7 @@ impl Stack {
         ensures begun { (g : Scene) (seen : List (List ℕ)) (items : List Yielded) (n : ℕ)
             → IsGroundOf F.Files S.Callbacks ground.now g
             → self.old.frames.items ≡ [] → AreSeen self.old.seen.items seen → is_dir ≡ is_dir_there (g.tree.stat root.now true)
-            → (is_dir ≡ true → reverse self.old.above.items ≡ placed_above g root.now)
+            → (is_dir ≡ true → IsAround g root.now [] self.old)
             → (is_dir ≡ true → string_bytes base ≡ text_at g root.now [])
             → InHand g (state_of self.old root.now [] seen) [] (root_entry g root.now) items n
             → OnOk result (Stands g self.new items n) }
@@ -238,14 +245,15 @@ impl Stack {
             → OnOk result (AreSeen self.new.seen.items (seen ++ above_root g root.now)) }
         ensures above { (g : Scene)
             → IsGroundOf F.Files S.Callbacks ground.now g
-            → OnOk result (reverse self.new.above.items ≡ placed_above g root.now) }
+            → OnOk result (IsChain (slots_of self.new.levels) self.new.above (counting (placed_above g root.now))) }
         ensures base { (g : Scene)
             → IsGroundOf F.Files S.Callbacks ground.now g
             → IfOk result (λ base. string_bytes base ≡ text_at g root.now []) }
         ensures made { length self.new.made.items ≤ length self.old.made.items + 1 }
     {
         let above = ground.look_above(&mut self.seen, root)?;
-        self.above = above.dirs;
+        self.levels.cut(0);
+        self.above = self.levels.add_all(above.dirs)?;
         self.report(above.error)?;
         Ok(above.base)
     }
@@ -258,6 +266,7 @@ impl Stack {
         ensures roots { self.new.roots ≡ self.old.roots }
         ensures seen { self.new.seen ≡ self.old.seen }
         ensures above { self.new.above ≡ self.old.above }
+        ensures levels { self.new.levels ≡ self.old.levels }
         ensures made { length self.new.made.items ≤ length self.old.made.items + 1 }
     {
         match error {
@@ -311,6 +320,17 @@ impl Stack {
         self.made.clear();
         self.frames.clear();
         self.roots.clear();
+    }
+}
+
+/// What stands for the directories around the next one to be entered: the place of the last frame;
+/// where there is none, of the directories above the root.
+fn place_around(above: Option<Place>, frames: &[Frame]) -> Option<Place>
+    ensures { result ≡ place_around above (reverse frames.now) }
+{
+    match frames.last() {
+        None => above,
+        Some(frame) => frame.place,
     }
 }
 

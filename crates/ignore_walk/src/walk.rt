@@ -14,6 +14,7 @@ use crate::ground::Ground;
 use crate::stack::Stack;
 use ignore_base::{Error, Fault};
 use ignore_files::{Files, Name};
+use ignore_levels::Levels;
 use std::collections::VecDeque;
 use std::iter::FusedIterator;
 
@@ -53,7 +54,8 @@ impl<'a, F: Files, S: Callbacks> Walk<'a, F, S> {
         let stack = Stack {
             roots: VecDeque::from_vec(roots),
             seen: Vec::new(alloc),
-            above: Vec::new(alloc),
+            levels: Levels::new(alloc),
+            above: None,
             device: None,
             frames: Vec::new(alloc),
             made: VecDeque::from_vec(Vec::new(alloc)),

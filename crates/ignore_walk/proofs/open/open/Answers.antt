@@ -3,7 +3,7 @@ use Rattle.ignore_walk.proofs.open.open.Goals as goal
 
 pub returns-clause-dir : goal.returns-clause-dir
 returns-clause-dir g c = λ tree loads honest are.
-    c.in_ok-dir-2.ensures.ok ∙ (c.in_ok-dir.ensures.dir tree loads honest are ∙ ap (λ p. (loads p).0) c.as_str-2.ensures)
+    c.in_ok-dir.ensures.dir tree loads honest are ∙ ap (λ p. (loads p).0) c.as_str-2.ensures
 
 pub returns-clause-problem : goal.returns-clause-problem
 returns-clause-problem g c = λ tree loads honest are.

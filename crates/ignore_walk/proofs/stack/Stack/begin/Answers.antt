@@ -1,10 +1,14 @@
-use Rattle.std.proofs.Common.{◌≡◌, ◌++◌, ◌∷◌, [], ℕ, List, Option, None, Ok, map, refl, sym, ◌∙◌, ap, subst}
+use Rattle.std.proofs.Common.{◌≡◌, ◌++◌, ◌∷◌, [], ℕ, List, Option, None, Ok, map, refl, reverse, sym, ◌∙◌, ap, subst}
 use Rattle.std.proofs.lemmas.List.{append-nil, map-append}
 use Rattle.ignore_base.specs.Problem.{Problem}
 use Rattle.ignore_files.specs.declared.types.Listed.{Listed}
+use Rattle.ignore_levels.specs.Levels.{IsChain, counting, slots_of}
+use Rattle.ignore_walk.specs.Branch.{placed_above}
 use Rattle.ignore_walk.specs.Entry.{Entry, Item, item_of, problem_in, stdin_entry}
 use Rattle.ignore_walk.specs.Left.{Remains, InHand}
-use Rattle.ignore_walk.specs.Stands.{state_of}
+use Rattle.ignore_walk.specs.OnList.{place_around}
+use Rattle.ignore_walk.specs.Stands.{IsAround, state_of}
+use Rattle.ignore_walk.specs.declared.frame.Frame.{Frame}
 use Rattle.ignore_walk.specs.Whole.{root_entry, above_root, reported_before}
 use Rattle.ignore_walk.proofs.LeftLemmas.{begin_stdin, begin_root, state}
 use Rattle.ignore_walk.proofs.VisitLemmas.{on_ok_map, plain_root, plain_report}
@@ -29,7 +33,7 @@ returns-then-eq-clause-begun g c = λ s last place seen items n suits empty kept
       t.0,
       t.1,
       stand_made s last place seen c.args.self.now _ now items t.0
-          (record { seen = refl; roots = refl; above = refl; device = refl }) refl makes (outside s last place seen c.args.self.now empty kept)
+          (record { seen = refl; roots = refl; above = refl; device = refl }) refl refl makes (outside s last place seen c.args.self.now empty kept)
           (subst (λ (rests : List (List Listed)). Remains s (state (made ++ now) last place rests seen c.args.self.now.roots.items) items t.0)
           (sym (rests_none c.args.self.now empty)) t.2),
     )
@@ -46,9 +50,12 @@ returns-then-branch-clause-begun g c = λ s last place seen items n suits empty 
     let empty' : stack.frames.items ≡ [] = rw c.in_ok-base.ensures.frames empty in
     let hand : InHand s (state_of stack root [] seen') [] (root_entry s root) items t.0 =
     rw (c.in_ok-base.ensures.reported s seen suits kept found, rests_none stack empty', c.in_ok-base.ensures.roots) t.2 in
+    let around : IsAround s root [] stack =
+    subst (λ (fs : List Frame). IsChain (slots_of stack.levels) (place_around stack.above (reverse fs)) (counting (placed_above s root))) (sym empty')
+    (c.in_ok-base.ensures.above s suits) in
     on_ok_map c.begin_at.result (λ stands. (t.0, t.1, stands))
     (c.begin_at.ensures.begun s seen' items t.0 suits empty' (c.in_ok-base.ensures.seen s seen suits kept found) is_dir
-    (λ _. c.in_ok-base.ensures.above s suits) (λ _. c.in_ok-base.ensures.base s suits) hand)
+    (λ _. around) (λ _. c.in_ok-base.ensures.base s suits) hand)
 
 pub returns-clause-begun : goal.returns-clause-begun
 returns-clause-begun g c = λ s last place seen items n suits empty kept r.

@@ -21,7 +21,7 @@ returns-in-Err-clause-begun g c = λ s seen items n suits empty kept is_dir abov
     subst (λ (r : Result Entry Problem). InHand s state [] r items n) (fresh_err p (root_entry s root) same) hand in
     on_ok_map c.make_error.result
     (λ makes. stand_made s root [] seen c.args.self.now _ (Err p ∷ []) items n
-    (record { seen = refl; roots = refl; above = refl; device = refl }) refl makes (outside s root [] seen c.args.self.now empty kept)
+    (record { seen = refl; roots = refl; above = refl; device = refl }) refl refl makes (outside s root [] seen c.args.self.now empty kept)
     (make_failed s state [] p items n hand'))
     c.make_error.ensures.value
 
@@ -40,6 +40,7 @@ returns-in_ok-self-in-Ok-clause-begun g c = λ s seen items n suits empty kept i
       path = path;
       leads_there = is_dir ∙ ap (λ (p : List ℕ). is_dir_there (s.tree.stat p true)) (sym path);
       kept = root_kept s root e;
-      at = λ t. record { above = above t; device = c.in_ok-self-in-Ok.ensures.value s suits t };
+      at = λ t. c.in_ok-self-in-Ok.ensures.value s suits t;
       seen_as = λ t. c.new.ensures ∙ base t;
+      around = λ t. above t;
     }) (next_root c.args.self.now [] empty) hand'

@@ -36,7 +36,7 @@ returns-in-Err-clause-stepped g c = λ s items n suits some r.
       t.k,
       t.fewer,
       stand_made s t.root t.place t.seen stack _ (Err p ∷ []) items t.k
-          (record { seen = refl; roots = refl; above = refl; device = refl }) refl makes t.is (make_failed s state
+          (record { seen = refl; roots = refl; above = refl; device = refl }) refl refl makes t.is (make_failed s state
           (below t.place x) p items t.k hand),
     ))
     c.make_error.ensures.value

@@ -5,10 +5,10 @@ use Rattle.ignore_walk.proofs.stack.Stack.take_listed.Goals as goal
 pub returns-in-None-clause-taken : goal.returns-in-None-clause-taken
 returns-in-None-clause-taken c = λ s items n some r.
     stand_left s c.args.self.now _ c.in-Some.frame items n (record { seen = refl; roots = refl; above = refl; device = refl }) refl
-    c.in-Some.ensures.items c.in-None.ensures r
+    c.in-Some.ensures.items c.cut.ensures.cut c.in-None.ensures r
 
 pub returns-in_ok-push-in-Some-take_next-clause-taken : goal.returns-in_ok-push-in-Some-take_next-clause-taken
 returns-in_ok-push-in-Some-take_next-clause-taken c = λ s items n some r.
     stand_taken s c.args.self.now _ c.in-Some.frame _ c.pop.new.self.items c.in-Some-take_next.listed items n
-    (record { seen = refl; roots = refl; above = refl; device = refl }) refl c.in-Some.ensures.items
-    c.in_ok-push-in-Some-take_next.ensures.items refl refl refl c.in-Some-take_next.ensures r
+    (record { seen = refl; roots = refl; above = refl; device = refl }) refl refl c.in-Some.ensures.items
+    c.in_ok-push-in-Some-take_next.ensures.items refl refl refl refl c.in-Some-take_next.ensures r

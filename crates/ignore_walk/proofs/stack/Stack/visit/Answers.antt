@@ -17,10 +17,10 @@ returns-in-Yield-clause-visited g c = λ s root place b seen items n suits is vi
     let e = entry_of c.args.entry in
     let made = map item_of c.args.self.now.made.items in
     let yields : fate s root b e ≡ yield =
-    c.in_ok-fate.ensures.value s root b suits (λ t. (visits.at t).device) visits.leads_there visits.kept ∙ ap fate_of c.in-Yield.is in
+    c.in_ok-fate.ensures.value s root b suits (λ t. visits.at t) visits.leads_there visits.kept ∙ ap fate_of c.in-Yield.is in
     on_ok_map c.make.result
     (λ makes. stand_made s root place seen c.args.self.now _ (yielded s.settings e None) items n
-    (record { seen = refl; roots = refl; above = refl; device = refl }) refl
+    (record { seen = refl; roots = refl; above = refl; device = refl }) refl refl
     (makes ∙ ap (λ (t : Settings). made ++ yielded t e None) (sym suits.settings)) is
     (make_leaf s (state_of c.args.self.now root place seen) b e items n yields hand)) c.make.ensures.value
 
@@ -30,12 +30,12 @@ returns-in_ok-error-in-Load-clause-visited g c = λ s root place b seen items n 
     let made = map item_of c.args.self.now.made.items in
     let problem = option_map problem_of c.in_ok-error-in-Load.error in
     let loads : fate s root b e ≡ load =
-    c.in_ok-fate.ensures.value s root b suits (λ t. (visits.at t).device) visits.leads_there visits.kept ∙ ap fate_of c.in-Load.is in
+    c.in_ok-fate.ensures.value s root b suits (λ t. visits.at t) visits.leads_there visits.kept ∙ ap fate_of c.in-Load.is in
     let found : problem ≡ (s.loads e.path).1 =
     c.in_ok-error-in-Load.ensures.value s suits ∙ ap (λ (p : List ℕ). (s.loads p).1) c.path.ensures in
     on_ok_map c.make-in-Load.result
     (λ makes. stand_made s root place seen c.args.self.now _ (loaded s e) items n
-    (record { seen = refl; roots = refl; above = refl; device = refl }) refl
+    (record { seen = refl; roots = refl; above = refl; device = refl }) refl refl
     (makes ∙ (ap (λ (t : Settings). made ++ yielded t e problem) (sym suits.settings)
     ∙ ap (λ (p : Option Problem). made ++ yielded s.settings e p) found)) is
     (make_closed s (state_of c.args.self.now root place seen) b e items n loads hand)) c.make-in-Load.ensures.value
@@ -44,11 +44,11 @@ pub returns-in_ok-opened-in-Enter-clause-visited : goal.returns-in_ok-opened-in-
 returns-in_ok-opened-in-Enter-clause-visited g c = λ s root place b seen items n suits is visits next hand.
     let e = entry_of c.args.entry in
     let enters : fate s root b e ≡ enter =
-    c.in_ok-fate.ensures.value s root b suits (λ t. (visits.at t).device) visits.leads_there visits.kept ∙ ap fate_of c.in-Enter.is in
+    c.in_ok-fate.ensures.value s root b suits (λ t. visits.at t) visits.leads_there visits.kept ∙ ap fate_of c.in-Enter.is in
     let leads : c.args.leads_in ≡ true = visits.leads_there ∙ enter_leads s root b e enters in
     let path : c.path-in-Enter.result.now ≡ path_of root b = c.path-in-Enter.ensures ∙ visits.path in
     let opens : Opens s (path_of root b) (text_at s root b) c.in_ok-opened-in-Enter.opened =
     subst (λ (t : List ℕ). Opens s (path_of root b) t c.in_ok-opened-in-Enter.opened) (visits.seen_as leads)
     (subst (λ (p : List ℕ). Opens s p c.args.text c.in_ok-opened-in-Enter.opened) path (c.in_ok-opened-in-Enter.ensures.value s suits)) in
     c.settle.ensures.entered s root place b seen items n (chosen_ordered _ _ s.order suits.order) suits.settings is (visits.at leads)
-    visits.path opens enters next hand
+    (visits.around leads) visits.path opens enters next hand
