@@ -36,7 +36,8 @@ pub struct Above {
 }
 
 /// Whether the settings ask for what is above a root.
-fn needs_above(settings: &Settings) -> bool
+/// For dependents.
+pub fn needs_above(settings: &Settings) -> bool
     ensures { result ≡ needs_above settings.now }
 {
     settings.parents || settings.git_global || settings.git_ignore || settings.git_exclude
@@ -50,7 +51,8 @@ fn rules_if(alloc: Global, on: bool, rules: Gitignore) -> Gitignore
 }
 
 /// What counts of a directory above a root.
-fn kept_above(alloc: Global, settings: &Settings, dir: Dir) -> Dir
+/// For dependents.
+pub fn kept_above(alloc: Global, settings: &Settings, dir: Dir) -> Dir
     ensures { result ≡ kept_above settings.now dir }
 {
     let on = settings.parents;
@@ -71,7 +73,8 @@ fn without_slash(path: &str) -> &str
 }
 
 /// The names of a canonical path; none where it is not `/` and a clean path.
-fn canonical_names(alloc: Global, path: &str) -> Result<Vec<&str>, AllocError>
+/// For dependents.
+pub fn canonical_names(alloc: Global, path: &str) -> Result<Vec<&str>, AllocError>
     ensures { IfOk result (λ names. map (λ n. n.now) names.items ≡ canonical_names (Ok path.now)) }
 {
     let rest = without_slash(path);

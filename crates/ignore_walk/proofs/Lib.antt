@@ -1,5 +1,6 @@
 pub mod Worked
 pub mod WorkedAgreement
+pub mod WorkedAbove
 pub mod Arranged
 pub mod Sorting
 pub mod Given
@@ -15,11 +16,13 @@ pub mod GroundLemmas
 pub mod RootLemmas
 pub mod AboveLemmas
 pub mod LeftLemmas
+pub mod PlaceNames
+pub mod CanonicalLemmas
+pub mod SharedLemmas
 pub mod ListLemmas
 pub mod RiseLemmas
 pub mod StandLemmas
 pub mod VisitLemmas
-pub mod PlaceNames
 pub mod ReachLemmas
 pub mod ShownLemmas
 pub mod ParentLemmas

@@ -10,7 +10,10 @@ use Rattle.ignore_walk.specs.Frames.{AreFrames, outermost, inside}
 use Rattle.ignore_walk.specs.Left.{IsNext}
 use Rattle.ignore_walk.specs.OnList.{AreOn, place_around}
 use Rattle.ignore_walk.specs.Scene.{Scene}
+use Rattle.ignore_walk.specs.Shared.{AreShared}
+use Rattle.ignore_walk.specs.declared.above.Seen.{Seen}
 use Rattle.ignore_walk.specs.declared.frame.Frame.{Frame}
+use Rattle.ignore_walk.proofs.SharedLemmas.{shared-kept}
 
 -- what stands for a chain within a length of one list does so in another
 abbrev pub KeepsWithin : List Slot → List Slot → Type 0
@@ -47,38 +50,42 @@ kept-cut a b h len place chain c =
     subst (λ (s : List Slot). IsChain s place chain) (sym (t.1 b))
     (h t.0 place chain (subst (λ (s : List Slot). IsChain s place chain) same c))
 
-on-kept : (g : Scene) (root : List ℕ) (c : Branch) (fs : List Frame) (a b : List Slot) → KeepsWithin a b → AreOn g root c a fs → AreOn g root c b fs
-on-kept g root c [] a b h on = tt
-on-kept g root c (f ∷ fs) a b h on = (
+shared-whole : (g : Scene) (kept : List Seen) (a b : List Slot) → KeepsWithin a b → AreShared g a kept → AreShared g b kept
+shared-whole g kept a b h are = shared-kept g kept a b (kept-whole a b h) are
+
+on-kept : (g : Scene) (root : List ℕ) (kept : List Seen) (c : Branch) (fs : List Frame) (a b : List Slot) → KeepsWithin a b → AreOn g root kept c a fs → AreOn g root kept c b fs
+on-kept g root kept c [] a b h on = shared-whole g kept a b h on
+on-kept g root kept c (f ∷ fs) a b h on = (
   kept-whole a b h f.place (counting (placed_to g root c)) on.0,
-  on-kept g root (around c) fs (take f.len a) (take f.len b) (kept-part f.len a b h) on.1,
+  on-kept g root kept (around c) fs (take f.len a) (take f.len b) (kept-part f.len a b h) on.1,
 )
 
-on-inner : (g : Scene) (root : List ℕ) (place b : Branch) (fs : List Frame) (slots : List Slot)
-    → IsNext b place (map (λ (f : Frame). f.rest.items) fs) → AreOn g root place slots fs → AreOn g root (around b) slots fs
-on-inner g root place b [] slots next on = tt
-on-inner g root place b (f ∷ fs) slots next on = subst (λ (c : Branch). AreOn g root c slots (f ∷ fs)) (sym (ap around next.1)) on
+on-inner : (g : Scene) (root : List ℕ) (kept : List Seen) (place b : Branch) (fs : List Frame) (slots : List Slot)
+    → IsNext b place (map (λ (f : Frame). f.rest.items) fs) → AreOn g root kept place slots fs → AreOn g root kept (around b) slots fs
+on-inner g root kept place b [] slots next on = on
+on-inner g root kept place b (f ∷ fs) slots next on = subst (λ (c : Branch). AreOn g root kept c slots (f ∷ fs)) (sym (ap around next.1)) on
 
 -- a directory was entered
-pub on-entered : (g : Scene) (root : List ℕ) (place b : Branch) (f : Frame) (fs : List Frame) (old new : List Slot) → f.len ≡ length old
-    → IsNext b place (map (λ (f : Frame). f.rest.items) fs) → IsChain new f.place (counting (placed_to g root b)) → KeepsWithin old new
-    → AreOn g root place old fs → AreOn g root b new (f ∷ fs)
-on-entered g root place b f fs old new len next chain kept on = (
+pub on-entered : (g : Scene) (root : List ℕ) (kept : List Seen) (place b : Branch) (f : Frame) (fs : List Frame) (old new : List Slot)
+    → f.len ≡ length old → IsNext b place (map (λ (f : Frame). f.rest.items) fs) → IsChain new f.place (counting (placed_to g root b))
+    → KeepsWithin old new → AreOn g root kept place old fs → AreOn g root kept b new (f ∷ fs)
+on-entered g root kept place b f fs old new len next chain keeps on = (
   chain,
-  subst (λ (n : ℕ). AreOn g root (around b) (take n new) fs) (sym len)
-      (on-inner g root place b fs (take (length old) new) next (on-kept g root place fs old (take (length old) new) (kept-cut old new kept) on)),
+  subst (λ (n : ℕ). AreOn g root kept (around b) (take n new) fs) (sym len)
+      (on-inner g root kept place b fs (take (length old) new) next
+      (on-kept g root kept place fs old (take (length old) new) (kept-cut old new keeps) on)),
 )
 
 -- a listed thing was taken from the directory that was entered last
-pub on-taken : (g : Scene) (root : List ℕ) (place : Branch) (f f' : Frame) (fs : List Frame) (slots : List Slot) → f'.place ≡ f.place
-    → f'.len ≡ f.len → AreOn g root place slots (f ∷ fs) → AreOn g root place slots (f' ∷ fs)
-on-taken g root place f f' fs slots at len on = (
+pub on-taken : (g : Scene) (root : List ℕ) (kept : List Seen) (place : Branch) (f f' : Frame) (fs : List Frame) (slots : List Slot)
+    → f'.place ≡ f.place → f'.len ≡ f.len → AreOn g root kept place slots (f ∷ fs) → AreOn g root kept place slots (f' ∷ fs)
+on-taken g root kept place f f' fs slots at len on = (
   subst (λ (p : Option Place). IsChain slots p (counting (placed_to g root place))) (sym at) on.0,
-  subst (λ (n : ℕ). AreOn g root (around place) (take n slots) fs) (sym len) on.1,
+  subst (λ (n : ℕ). AreOn g root kept (around place) (take n slots) fs) (sym len) on.1,
 )
 
 -- what stands for the directories around an entry of the directory that was entered last
-pub on-around : (g : Scene) (root : List ℕ) (place : Branch) (above : Option Place) (fs : List Frame) (slots : List Slot)
-    → AreFrames g root place fs → AreOn g root place slots fs → IsChain slots (place_around above fs) (counting (placed_to g root place))
-on-around g root place above fs slots (outermost is) on = on.0
-on-around g root place above fs slots (inside is all) on = on.0
+pub on-around : (g : Scene) (root : List ℕ) (kept : List Seen) (place : Branch) (above : Option Place) (fs : List Frame) (slots : List Slot)
+    → AreFrames g root place fs → AreOn g root kept place slots fs → IsChain slots (place_around above fs) (counting (placed_to g root place))
+on-around g root kept place above fs slots (outermost is) on = on.0
+on-around g root kept place above fs slots (inside is all) on = on.0

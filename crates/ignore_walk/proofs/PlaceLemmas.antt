@@ -16,7 +16,7 @@ use Rattle.ignore_walk.specs.Scene.{Scene, queries}
 use Rattle.ignore_walk.specs.Walked.{ignores}
 
 -- a directory after all names
-placed_along-end : (offset : ℕ) (dirs : List Dir) (names : List (List ℕ)) (dir : Dir) → length dirs ≡ length names
+pub placed_along-end : (offset : ℕ) (dirs : List Dir) (names : List (List ℕ)) (dir : Dir) → length dirs ≡ length names
     → placed_along offset (dirs ++ dir ∷ []) names ≡ placed_along offset dirs names ++ (dir, offset + length (slashed names)) ∷ []
 placed_along-end offset [] [] dir e = ap (λ n. let l : List Placed = (dir, n) ∷ [] in l) (omega arith)
 placed_along-end offset [] (n ∷ names) dir e = absurd (omega arith)
@@ -30,6 +30,11 @@ placed_along-end offset (d ∷ dirs) (n ∷ names) dir e =
 length-directories : (dir : List ℕ) (names : List (List ℕ)) → length (directories_along dir names) ≡ length names
 length-directories dir [] = refl
 length-directories dir (n ∷ names) = ap suc (length-directories (join_of dir n) names)
+
+-- of each directory along names something is held
+pub length-held : (g : Scene) (names : List (List ℕ)) → length (dirs_above g.loads g.settings (directories_along (47 ∷ []) names)) ≡ length names
+length-held g names =
+    length-map (directories_along (47 ∷ []) names) (λ path. kept_above g.settings (g.loads path).0) ∙ length-directories (47 ∷ []) names
 
 same_reached : (a b : List Placed) (t u p q : List ℕ) → a ≡ b → t ≡ u → p ≡ q
     → let x : Reached = record { chain = a; text = t; path = p } in
@@ -48,9 +53,8 @@ module _ (g : Scene) (root : List ℕ) where
   abbrev above : List Dir
   above = dirs_above g.loads g.settings (paths_above g.tree g.settings root)
 
-  pub length-above : length above ≡ length names
-  length-above =
-      length-map (paths_above g.tree g.settings root) (λ path. kept_above g.settings (g.loads path).0) ∙ length-directories (47 ∷ []) names
+  length-above : length above ≡ length names
+  length-above = length-held g names
 
   reached-root : reached_at g root [] ≡ reached_in (queries g root) []
   reached-root =

@@ -1,16 +1,16 @@
--- The offsets of the directories around a place are less than that of the place.
-use Rattle.std.proofs.Common.{◌≡◌, ℕ, ◌+◌, ◌<◌, ◌≤◌, Bool, Option, true, false, cond, List, [], ◌∷◌, ◌++◌, length, reverse, refl, sym, ap, ◌∙◌, subst, arith}
-use Rattle.std.proofs.lemmas.List.{length-append, reverse-append, reverse-reverse}
+-- The offsets of the directories around a place, and of those on the way along names, are less than
+-- that of what they lead to.
+use Rattle.std.proofs.Common.{◌≡◌, ℕ, ◌+◌, ◌<◌, ◌≤◌, Bool, true, false, cond, List, [], ◌∷◌, ◌++◌, length, reverse, refl, sym, ap, ◌∙◌, subst, arith}
+use Rattle.std.proofs.lemmas.List.{length-append, reverse-append}
 use Rattle.ignore_dir.specs.declared.dir.Dir.{Dir}
-use Rattle.ignore_dir.specs.Above.{dirs_above, names_above, paths_above}
+use Rattle.ignore_dir.specs.Above.{directories_along, dirs_above, names_above}
 use Rattle.ignore_dir.specs.Chains.{placed_along, slashed}
 use Rattle.ignore_dir.specs.Lists.{Placed}
-use Rattle.ignore_levels.specs.declared.list.Place.{Place}
-use Rattle.ignore_levels.specs.declared.list.Slot.{Slot}
-use Rattle.ignore_levels.specs.Levels.{IsBelow, IsChain, IsRising, counted, counting, counts}
+use Rattle.ignore_levels.specs.Levels.{IsBelow, counted, counting, counts}
 use Rattle.ignore_walk.specs.Branch.{Branch, path_of, placed_above, placed_around, placed_to, text_at}
 use Rattle.ignore_walk.specs.Scene.{Scene}
-use Rattle.ignore_walk.proofs.PlaceLemmas.{length-above}
+use Rattle.ignore_walk.specs.Shared.{placed_down}
+use Rattle.ignore_walk.proofs.PlaceLemmas.{length-held}
 
 -- each offset is less than this one
 abbrev Under : ℕ → List Placed → Type 0
@@ -56,10 +56,16 @@ under-placed offset (d ∷ dirs) (n ∷ names) e =
       subst (λ (k : ℕ). Under k (placed_along (offset + length n + 1) dirs names)) end (under-placed (offset + length n + 1) dirs names (omega arith)),
     )
 
-pub rising-placed : (floor offset : ℕ) (dirs : List Dir) (names : List (List ℕ)) → floor < offset → IsRising floor (placed_along offset dirs names)
-rising-placed floor offset [] names lt = tt
-rising-placed floor offset (d ∷ dirs) [] lt = (lt, tt)
-rising-placed floor offset (d ∷ dirs) (n ∷ names) lt = (lt, rising-placed offset (offset + length n + 1) dirs names (omega arith))
+under-down : (g : Scene) (names : List (List ℕ)) → Under (1 + length (slashed names)) (placed_down g names)
+under-down g names =
+    let held = dirs_above g.loads g.settings (directories_along (47 ∷ []) names) in
+    under-reverse (1 + length (slashed names)) (placed_along 1 held names) (under-placed 1 held names (length-held g names))
+
+-- the offset of a directory is greater than those of the ones on the way to it
+pub below-down : (g : Scene) (names : List (List ℕ)) (n : ℕ) → n ≡ 1 + length (slashed names) → IsBelow n (counting (placed_down g names))
+below-down g names n e =
+    subst (λ (k : ℕ). IsBelow k (counting (placed_down g names))) (sym e)
+    (under-below _ (counting (placed_down g names)) (under-counting _ (placed_down g names) (under-down g names)))
 
 module _ (g : Scene) (root : List ℕ) where
   to-is : (b : Branch) → placed_to g root b ≡ ((g.loads (path_of root b)).0, length (text_at g root b)) ∷ placed_around g root b
@@ -69,11 +75,8 @@ module _ (g : Scene) (root : List ℕ) where
   under-around : (b : Branch) → Under (length (text_at g root b)) (placed_around g root b)
   under-around [] =
       let names = names_above g.tree g.settings root in
-      let far = placed_along 1 (dirs_above g.loads g.settings (paths_above g.tree g.settings root)) names in
       let size : 1 + length (slashed names) ≡ length (text_at g root []) = omega arith in
-      subst (λ (n : ℕ). Under n (reverse far)) size
-      (under-reverse (1 + length (slashed names)) far
-      (under-placed 1 (dirs_above g.loads g.settings (paths_above g.tree g.settings root)) names (length-above g root)))
+      subst (λ (n : ℕ). Under n (placed_above g root)) size (under-down g names)
   under-around (name ∷ b) =
       let here = length (text_at g root b) in
       let next = length (text_at g root (name ∷ b)) in
@@ -90,16 +93,3 @@ module _ (g : Scene) (root : List ℕ) where
   pub counted-is : (b : Branch) (dir : Dir) (n : ℕ) → dir ≡ (g.loads (path_of root b)).0 → n ≡ length (text_at g root b)
       → counted dir n (counting (placed_around g root b)) ≡ counting (placed_to g root b)
   counted-is b dir n d e = rw (d, e) (sym (ap counting (to-is b)))
-
-  -- the directories above the root, as they are added
-  pub above-rises : (dirs : List Placed) → reverse dirs ≡ placed_above g root → IsRising 0 dirs
-  above-rises dirs e =
-      let names = names_above g.tree g.settings root in
-      let held = dirs_above g.loads g.settings (paths_above g.tree g.settings root) in
-      let far = placed_along 1 held names in
-      let same : far ≡ dirs = sym (reverse-reverse far) ∙ (ap reverse (sym e) ∙ reverse-reverse dirs) in
-      subst (IsRising 0) same (rising-placed 0 1 held names (omega arith))
-
-  pub above-chain : (slots : List Slot) (place : Option Place) (dirs : List Placed) → reverse dirs ≡ placed_above g root
-      → IsChain slots place (counting (reverse dirs)) → IsChain slots place (counting (placed_above g root))
-  above-chain slots place dirs e chain = subst (λ (l : List Placed). IsChain slots place (counting l)) e chain

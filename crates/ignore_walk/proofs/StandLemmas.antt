@@ -1,21 +1,28 @@
 -- What a stack stands for: by each change of its items and frames.
-use Rattle.std.proofs.Common.{◌≡◌, ℕ, suc, List, [], ◌∷◌, ◌++◌, length, map, reverse, take, Ok, refl, sym, ◌∙◌, ap, subst, arith}
+use Rattle.std.proofs.Common.{◌≡◌, ℕ, suc, List, [], ◌∷◌, ◌++◌, length, map, reverse, take, true, Ok, refl, sym, ◌∙◌, ap, subst, arith}
 use Rattle.std.proofs.lemmas.List.{reverse-append}
 use Rattle.ignore_files.specs.declared.types.Listed.{Listed}
+use Rattle.ignore_dir.specs.Above.{names_above}
+use Rattle.ignore_dir.specs.Query.{is_dir_there}
 use Rattle.ignore_levels.specs.declared.list.Slot.{Slot}
 use Rattle.ignore_levels.specs.Levels.{slots_of}
 use Rattle.ignore_walk.specs.Branch.{Branch, around}
 use Rattle.ignore_walk.specs.Child.{below}
 use Rattle.ignore_walk.specs.Entry.{Entry, Item, item_of}
-use Rattle.ignore_walk.specs.Frames.{IsFrame, AreFrames, outermost, inside, AreSeen}
+use Rattle.ignore_walk.specs.Frames.{IsFrame, AreFrames, outermost, inside}
 use Rattle.ignore_walk.specs.Left.{Remains, InHand, IsNext}
 use Rattle.ignore_walk.specs.OnList.{AreOn}
 use Rattle.ignore_walk.specs.Scene.{Scene}
-use Rattle.ignore_walk.specs.Stands.{state_of, IsAt, IsBelow, IsIn, Stands, Steps, Takes}
+use Rattle.ignore_walk.specs.Shared.{AreSeen, AreShared, HasCome, is_among, paths_of}
+use Rattle.ignore_walk.specs.Stands.{state_of, IsAt, IsBelow, IsIn, IsKept, Stands, Steps, Takes}
 use Rattle.ignore_walk.specs.Walked.{IsArranged, IsOrdered, enter, fate, listing_of, loaded, unlisted}
-use Rattle.ignore_walk.specs.Whole.{WalkedRoots}
+use Rattle.ignore_walk.specs.Whole.{WalkedRoots, above_root}
+use Rattle.ignore_walk.specs.declared.above.Seen.{Seen}
+use Rattle.ignore_walk.specs.declared.above.Way.{Way}
 use Rattle.ignore_walk.specs.declared.frame.Frame.{Frame}
 use Rattle.ignore_walk.specs.declared.stack.Stack.{Stack}
+use Rattle.ignore_walk.proofs.AboveLemmas.{above_root-is}
+use Rattle.ignore_walk.proofs.SharedLemmas.{KeepsChains, shared-append, shared-kept}
 use Rattle.ignore_walk.proofs.ListLemmas.{on-taken}
 use Rattle.ignore_walk.proofs.LeftLemmas.{state, with_made, leave, take as take_next, make_entered, whole_remains}
 
@@ -37,9 +44,10 @@ below_same g root place s s' (f ∷ fs) same b = (b.0, at_same g root s s' same 
 kept_same : (s s' : Stack) (seen : List (List ℕ)) → Same s s' → AreSeen s.seen.items seen → AreSeen s'.seen.items seen
 kept_same s s' seen same kept = rw same.seen kept
 
-levels_same : (g : Scene) (root : List ℕ) (place : Branch) (s s' : Stack) → s'.frames ≡ s.frames → s'.levels ≡ s.levels
-    → AreOn g root place (slots_of s.levels) (reverse s.frames.items) → AreOn g root place (slots_of s'.levels) (reverse s'.frames.items)
-levels_same g root place s s' frames levels on = rw (frames, levels) on
+levels_same : (g : Scene) (root : List ℕ) (place : Branch) (s s' : Stack) → s'.seen ≡ s.seen → s'.frames ≡ s.frames → s'.levels ≡ s.levels
+    → AreOn g root s.seen.items place (slots_of s.levels) (reverse s.frames.items)
+    → AreOn g root s'.seen.items place (slots_of s'.levels) (reverse s'.frames.items)
+levels_same g root place s s' seen frames levels on = rw (seen, frames, levels) on
 
 items_same : (s s' : Stack) → s'.frames ≡ s.frames → s'.frames.items ≡ s.frames.items
 items_same s s' same = rw same refl
@@ -58,7 +66,7 @@ stand_made g root place seen s s' now items n same frames levels makes is r =
         frames =
             subst (λ (fs : List Frame). IsBelow g root place s' (reverse fs)) (sym (items_same s s' frames))
             (below_same g root place s s' (reverse s.frames.items) same is.frames);
-        levels = levels_same g root place s s' frames levels is.levels;
+        levels = levels_same g root place s s' same.seen frames levels is.levels;
       };
       remains = rw (makes, frames, same.roots) r;
     }
@@ -75,7 +83,7 @@ pub stand_entered : (g : Scene) (root : List ℕ) (place b : Branch) (seen : Lis
     (items : List Item) (n : ℕ) → Same s s' → s'.frames.items ≡ s.frames.items ++ f ∷ []
     → map item_of s'.made.items ≡ map item_of s.made.items ++ (loaded g e ++ unlisted e (g.tree.list e.path))
     → IsIn g root place seen s → IsAt g root s → IsOrdered g.order → IsFrame g root b f
-    → AreOn g root b (slots_of s'.levels) (f ∷ reverse s.frames.items)
+    → AreOn g root s'.seen.items b (slots_of s'.levels) (f ∷ reverse s.frames.items)
     → IsArranged g.order e.path (listing_of (g.tree.list e.path)) f.rest.items → fate g root b e ≡ enter
     → IsNext b place (map (λ (f : Frame). f.rest.items) (reverse s.frames.items))
     → InHand g (state_of s root place seen) b (Ok e) items n → Stands g s' items n
@@ -90,7 +98,7 @@ stand_entered g root place b seen s s' e f items n same frames makes is at order
       is = record {
         kept = kept_same s s' seen same is.kept;
         frames = rw pushed (all, at_same g root s s' same at);
-        levels = subst (λ (l : List Frame). AreOn g root b (slots_of s'.levels) l) (sym pushed) on;
+        levels = subst (λ (l : List Frame). AreOn g root s'.seen.items b (slots_of s'.levels) l) (sym pushed) on;
       };
       remains =
           rw (makes, pushed, same.roots)
@@ -118,8 +126,8 @@ stand_left g s s' f items n same made frames cut done r =
     let below : IsBelow g r.root r.place s (f ∷ fs) = subst (λ (fs : List Frame). IsBelow g r.root r.place s fs) popped r.is.frames in
     let rests : map (λ (f : Frame). f.rest.items) (reverse s.frames.items) ≡ [] ∷ map (λ (f : Frame). f.rest.items) fs =
     ap (map (λ (f : Frame). f.rest.items)) popped ∙ ap (λ (xs : List Listed). xs ∷ map (λ (f : Frame). f.rest.items) fs) done in
-    let on : AreOn g r.root r.place (slots_of s.levels) (f ∷ fs) =
-    subst (λ (l : List Frame). AreOn g r.root r.place (slots_of s.levels) l) popped r.is.levels in
+    let on : AreOn g r.root s.seen.items r.place (slots_of s.levels) (f ∷ fs) =
+    subst (λ (l : List Frame). AreOn g r.root s.seen.items r.place (slots_of s.levels) l) popped r.is.levels in
     let made' = map item_of s.made.items in
     let l = leave g made' r.root r.place (map (λ (f : Frame). f.rest.items) fs) r.seen s.roots.items items n
     (subst (λ (rests : List (List Listed)). Remains g (state made' r.root r.place rests r.seen s.roots.items) items n) rests r.remains) in (
@@ -132,7 +140,7 @@ stand_left g s s' f items n same made frames cut done r =
         is = record {
           kept = kept_same s s' r.seen same r.is.kept;
           frames = below_same g r.root (around r.place) s s' fs same (below_left g r.root r.place s f fs below.0 below.1);
-          levels = subst (λ (l : List Slot). AreOn g r.root (around r.place) l fs) (sym cut) on.1;
+          levels = rw same.seen (subst (λ (l : List Slot). AreOn g r.root s.seen.items (around r.place) l fs) (sym cut) on.1);
         };
         remains = rw (made, same.roots) l.2;
       },
@@ -156,9 +164,9 @@ stand_taken g s s' f f' front x items n same made levels frames frames' path tex
     let below : IsBelow g r.root r.place s (f ∷ fs) = subst (λ (fs : List Frame). IsBelow g r.root r.place s fs) popped r.is.frames in
     let all : AreFrames g r.root r.place (f' ∷ fs) = frames_taken g r.root r.place f f' fs path text below.0 in
     let at : IsAt g r.root s' = at_same g r.root s s' same below.1 in
-    let on : AreOn g r.root r.place (slots_of s.levels) (f' ∷ fs) =
-    on-taken g r.root r.place f f' fs (slots_of s.levels) at_place len
-    (subst (λ (l : List Frame). AreOn g r.root r.place (slots_of s.levels) l) popped r.is.levels) in
+    let on : AreOn g r.root s.seen.items r.place (slots_of s.levels) (f' ∷ fs) =
+    on-taken g r.root s.seen.items r.place f f' fs (slots_of s.levels) at_place len
+    (subst (λ (l : List Frame). AreOn g r.root s.seen.items r.place (slots_of s.levels) l) popped r.is.levels) in
     let is : map (λ (f : Frame). f.rest.items) (reverse s.frames.items) ≡ (x ∷ f'.rest.items) ∷ rests =
     ap (map (λ (f : Frame). f.rest.items)) popped ∙ ap (λ (xs : List Listed). xs ∷ rests) takes in
     let made' = map item_of s.made.items in
@@ -168,7 +176,7 @@ stand_taken g s s' f f' front x items n same made levels frames frames' path tex
       root = r.root;
       place = r.place;
       seen = r.seen;
-      is = record { kept = kept_same s s' r.seen same r.is.kept; frames = rw pushed (all, at); levels = rw (levels, pushed) on };
+      is = record { kept = kept_same s s' r.seen same r.is.kept; frames = rw pushed (all, at); levels = rw (same.seen, levels, pushed) on };
       frames = rw pushed all;
       at = at;
       k = t.0;
@@ -186,12 +194,12 @@ pub next_root : (s : Stack) (place : Branch) → s.frames.items ≡ [] → IsNex
 next_root s place empty = subst (λ (rests : List (List Listed)). IsNext [] place rests) (sym (rests_none s empty)) refl
 
 pub outside : (g : Scene) (root : List ℕ) (place : Branch) (seen : List (List ℕ)) (s : Stack) → s.frames.items ≡ []
-    → AreSeen s.seen.items seen → IsIn g root place seen s
+    → IsKept g seen s → IsIn g root place seen s
 outside g root place seen s empty kept =
     record {
-      kept = kept;
+      kept = kept.kept;
       frames = subst (λ (fs : List Frame). IsBelow g root place s (reverse fs)) (sym empty) tt;
-      levels = subst (λ (fs : List Frame). AreOn g root place (slots_of s.levels) (reverse fs)) (sym empty) tt;
+      levels = subst (λ (fs : List Frame). AreOn g root s.seen.items place (slots_of s.levels) (reverse fs)) (sym empty) kept.places;
     }
 
 -- a walk that begins
@@ -202,6 +210,20 @@ stand_whole g s items n made frames seen w =
       root = [];
       place = [];
       seen = [];
-      is = outside g [] [] [] s frames seen;
+      is = outside g [] [] [] s frames (record { kept = rw seen (λ path. refl); places = rw seen tt });
       remains = rw (made, frames) (whole_remains g [] [] s.roots.items items n w);
+    }
+
+-- the directories above a root were seen
+pub kept-more : (g : Scene) (seen : List (List ℕ)) (root : List ℕ) (s s' : Stack) (w : Way) → is_dir_there (g.tree.stat root true) ≡ true
+    → KeepsChains (slots_of s.levels) (slots_of s'.levels) → s'.seen.items ≡ s.seen.items ++ w.added.items → IsKept g seen s
+    → HasCome g (slots_of s'.levels) s.seen.items seen (names_above g.tree g.settings root) w → IsKept g (seen ++ above_root g root) s'
+kept-more g seen root s s' w found keeps same kept come =
+    record {
+      kept = λ p.
+          ap (λ (l : List Seen). is_among p (paths_of l)) same
+          ∙ (come.passed.all p ∙ ap (λ (l : List (List ℕ)). is_among p (seen ++ l)) (sym (above_root-is g root found)));
+      places = subst (AreShared g (slots_of s'.levels)) (sym same)
+          (shared-append g (slots_of s'.levels) s.seen.items w.added.items
+          (shared-kept g s.seen.items (slots_of s.levels) (slots_of s'.levels) keeps kept.places) come.passed.new);
     }

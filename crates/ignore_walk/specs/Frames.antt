@@ -27,7 +27,3 @@ known_device (Err fault) = None
 -- the device of a root, where it matters and is known
 abbrev pub device_of : Scene → Path → Option ℕ
 device_of g root = if g.same_file_system then known_device (identity_at g.tree root) else None
-
--- the directories above earlier roots, as the walk keeps them
-abbrev pub AreSeen : List Bytes → List Path → Type 0
-AreSeen kept paths = kept ≡ paths

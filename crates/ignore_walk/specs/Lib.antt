@@ -9,6 +9,7 @@ pub mod Agreement
 pub mod Suits
 pub mod Frames
 pub mod Keyed
+pub mod Shared
 pub mod OnList
 pub mod Opens
 pub mod Fates

@@ -7,10 +7,11 @@ use Rattle.ignore_levels.specs.Levels.{IsChain, counting, slots_of}
 use Rattle.ignore_walk.specs.Branch.{Branch, path_of, placed_around, text_at}
 use Rattle.ignore_walk.specs.Child.{child, below}
 use Rattle.ignore_walk.specs.Entry.{Entry, Item, item_of}
-use Rattle.ignore_walk.specs.Frames.{AreFrames, AreSeen, device_of}
+use Rattle.ignore_walk.specs.Frames.{AreFrames, device_of}
 use Rattle.ignore_walk.specs.Left.{State, Remains, InHand}
 use Rattle.ignore_walk.specs.OnList.{AreOn, place_around}
 use Rattle.ignore_walk.specs.Scene.{Scene}
+use Rattle.ignore_walk.specs.Shared.{AreSeen, AreShared}
 use Rattle.ignore_walk.specs.Walked.{is_skipped, leads_in}
 use Rattle.ignore_walk.specs.declared.frame.Frame.{Frame}
 use Rattle.ignore_walk.specs.declared.stack.Stack.{Stack}
@@ -36,6 +37,11 @@ IsAt g root s = s.device ≡ device_of g root
 abbrev pub IsAround : Scene → Path → Branch → Stack → Type 0
 IsAround g root b s = IsChain (slots_of s.levels) (place_around s.above (reverse s.frames.items)) (counting (placed_around g root b))
 
+-- a stack keeps the directories above roots that were begun, and has them in its list
+pub record IsKept (g : Scene) (seen : List Path) (s : Stack) : Type 0 where
+  pub kept : AreSeen s.seen.items seen
+  pub places : AreShared g (slots_of s.levels) s.seen.items
+
 -- where directories are entered, they are that at a place and those around it, below this root
 abbrev pub IsBelow : Scene → Path → Branch → Stack → List Frame → Type 0
 IsBelow g root place s [] = Unit {0}
@@ -45,7 +51,7 @@ IsBelow g root place s (f ∷ fs) = AreFrames g root place (f ∷ fs) × IsAt g 
 pub record IsIn (g : Scene) (root : Path) (place : Branch) (seen : List Path) (s : Stack) : Type 0 where
   pub kept : AreSeen s.seen.items seen
   pub frames : IsBelow g root place s (reverse s.frames.items)
-  pub levels : AreOn g root place (slots_of s.levels) (reverse s.frames.items)
+  pub levels : AreOn g root s.seen.items place (slots_of s.levels) (reverse s.frames.items)
 
 -- a stack still gives these items, in so many steps
 pub record Stands (g : Scene) (s : Stack) (items : List Item) (n : ℕ) : Type 0 where

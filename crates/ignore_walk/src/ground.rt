@@ -1,24 +1,22 @@
 //! What stays the same in a walk, and what it makes of one entry.
-ghost use Rattle.std.specs.Prelude.{◌≡◌, ◌++◌, ◌∷◌, ◌||◌, ℕ, List, None, true, false, not, option_map, reverse, IfOk, [], Err};
-ghost use Rattle.std.specs.Prelude.{OnOk, map, string_bytes};
-ghost use Rattle.std.specs.Option.{option_to_list};
+ghost use Rattle.std.specs.Prelude.{◌≡◌, ◌++◌, ◌∷◌, ◌||◌, ℕ, List, None, Ok, true, false, not, option_map, reverse, IfOk};
 ghost use Rattle.ignore_base.specs.Problem.{problem_of};
 ghost use Rattle.ignore_files.specs.Gives.{IsHonest};
+ghost use Rattle.ignore_dir.specs.Above.{canonical_names, kept_above, names_above};
 ghost use Rattle.ignore_dir.specs.Limits as limits;
 ghost use Rattle.ignore_dir.specs.Query as queries;
 ghost use Rattle.ignore_levels.specs.Levels.{IsChain, counting, slots_of};
-ghost use Rattle.ignore_walk.specs.Branch.{Branch, path_of, placed_above, placed_to, text_at};
+ghost use Rattle.ignore_walk.specs.Branch.{Branch, path_of, placed_to, text_at};
 ghost use Rattle.ignore_walk.specs.Child as children;
 ghost use Rattle.ignore_walk.specs.Entry.{entry_of, item_of, fresh, problem_in};
 ghost use Rattle.ignore_walk.specs.Fates.{fate_of, differ};
-ghost use Rattle.ignore_walk.specs.Frames.{AreFrames, AreSeen, device_of};
+ghost use Rattle.ignore_walk.specs.Frames.{AreFrames, device_of};
 ghost use Rattle.ignore_walk.specs.Opens.{Opens};
 ghost use Rattle.ignore_walk.specs.Scene.{Scene};
 ghost use Rattle.ignore_walk.specs.Suits.{IsGroundOf, Suits};
 ghost use Rattle.ignore_walk.specs.Walked as walked;
 ghost use Rattle.ignore_walk.specs.Whole as wholes;
 
-use crate::above::{paths_of, see, unseen_error};
 use crate::callbacks::{Callbacks, Options};
 use crate::child::{checked, depth_below, fault_at, found, identity_at, last_path};
 use crate::entry::{DirEntry, Item};
@@ -28,13 +26,12 @@ use crate::open::{Opened, loaded, open};
 use crate::root::{on_device, root_found};
 use crate::skip::{is_ignored, is_too_large};
 use ignore_base::Error;
-use ignore_dir::above::load_above;
+use ignore_dir::above::{kept_above, needs_above};
 use ignore_dir::limits::is_deepest;
-use ignore_dir::{Outside, Placed, Settings};
+use ignore_dir::{Dir, Outside, Settings};
 use ignore_files::{Files, Listed, Name};
 use ignore_levels::{Levels, Place};
 use std::alloc::{AllocError, Global};
-use std::collections::VecDeque;
 
 /// What stays the same in a walk.
 #[derive(Drop)]
@@ -62,15 +59,6 @@ pub(crate) enum Fate {
     Load,
     /// It is loaded and yielded, and then what it lists.
     Enter,
-}
-
-/// What is above a root: what counts of the directories there, the root as they see it, and what is
-/// wrong with those that are above no earlier root.
-#[derive(Drop)]
-pub(crate) struct AboveRoot {
-    pub(crate) dirs: Vec<Placed>,
-    pub(crate) base: String,
-    pub(crate) error: Option<Error>,
 }
 
 /// Whether nothing below an entry is yielded: whether it leads into no directory, or is at the
@@ -249,38 +237,32 @@ impl<'a, F: Files, S: Callbacks> Ground<'a, F, S> {
         on_device(self.alloc, self.files, same, is_dir, item)
     }
 
-    /// Loads the directories above a root that is a directory. From now on they were seen.
-    pub(crate) fn look_above(
-        &self,
-        seen: &mut Vec<Name>,
-        root: &str,
-    ) -> Result<AboveRoot, AllocError>
-        ensures dirs { (g : Scene)
+    /// The canonical path of a root; `/` where what is above it isn't asked for, and where the path
+    /// isn't known.
+    pub(crate) fn canonical(&self, root: &str) -> Result<Name, AllocError>
+        ensures value { (g : Scene)
             → IsGroundOf F.Files S.Callbacks self.now g
-            → IfOk result (λ a. reverse a.dirs.items ≡ placed_above g root.now) }
-        ensures base { (g : Scene)
-            → IsGroundOf F.Files S.Callbacks self.now g
-            → IfOk result (λ a. string_bytes a.base ≡ text_at g root.now []) }
-        ensures error { (g : Scene) (paths : List (List ℕ))
-            → IsGroundOf F.Files S.Callbacks self.now g
-            → AreSeen seen.old.items paths → queries.is_dir_there (g.tree.stat root.now true) ≡ true
-            → IfOk result (λ a. map Err (option_to_list (option_map problem_of a.error)) ≡ wholes.reported_before g paths root.now) }
-        ensures seen { (g : Scene) (paths : List (List ℕ))
-            → IsGroundOf F.Files S.Callbacks self.now g
-            → AreSeen seen.old.items paths → queries.is_dir_there (g.tree.stat root.now true) ≡ true
-            → OnOk result (AreSeen seen.new.items (paths ++ wholes.above_root g root.now)) }
+            → IfOk result (λ path. canonical_names (Ok path) ≡ names_above g.tree g.settings root.now) }
     {
-        let Ok(above) = load_above(&self.lent(), root) else {
-            return Err(AllocError);
-        };
-        let paths = paths_of(self.alloc, above.base.as_str(), above.dirs.as_slice())?;
-        let errors = VecDeque::from_vec(above.errors);
-        let error = unseen_error(self.alloc, seen.as_slice(), paths.as_slice(), errors)?;
-        see(seen, paths)?;
-        Ok(AboveRoot {
-            dirs: above.dirs,
-            base: above.base,
-            error,
-        })
+        if !needs_above(&self.settings) {
+            return named(self.alloc, "/");
+        }
+        match answered(self.files.canonical(self.alloc, root))? {
+            Ok(path) => Ok(path),
+            Err(_) => named(self.alloc, "/"),
+        }
+    }
+
+    /// What counts of a directory above a root, and what is wrong with its files.
+    pub(crate) fn above(&self, path: &str) -> Result<(Dir, Option<Error>), AllocError>
+        ensures dir { (g : Scene)
+            → IsGroundOf F.Files S.Callbacks self.now g
+            → IfOk result (λ r. r.0 ≡ kept_above g.settings (g.loads path.now).0) }
+        ensures problem { (g : Scene)
+            → IsGroundOf F.Files S.Callbacks self.now g
+            → IfOk result (λ r. option_map problem_of r.1 ≡ (g.loads path.now).1) }
+    {
+        let (dir, error) = loaded(&self.lent(), path)?;
+        Ok((kept_above(self.alloc, &self.settings, dir), error))
     }
 }

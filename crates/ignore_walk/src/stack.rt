@@ -7,16 +7,17 @@ ghost use Rattle.ignore_dir.specs.Query.{is_dir_there};
 ghost use Rattle.ignore_levels.specs.Levels.{IsChain, counting, slots_of};
 ghost use Rattle.ignore_walk.specs.Branch.{Branch, path_of, text_at, placed_above};
 ghost use Rattle.ignore_walk.specs.Entry.{Item as Yielded, entry_of, item_of, problem_in};
-ghost use Rattle.ignore_walk.specs.Frames.{AreFrames, AreSeen};
+ghost use Rattle.ignore_walk.specs.Frames.{AreFrames};
 ghost use Rattle.ignore_walk.specs.Left.{Remains, InHand, IsNext};
 ghost use Rattle.ignore_walk.specs.OnList.{place_around};
 ghost use Rattle.ignore_walk.specs.Opens.{Opens};
 ghost use Rattle.ignore_walk.specs.Scene.{Scene};
-ghost use Rattle.ignore_walk.specs.Stands.{state_of, before_root, name_in, text_below, IsAround, IsAt, IsIn, Stands, Steps, Takes, Visits, Hands};
+ghost use Rattle.ignore_walk.specs.Stands.{state_of, before_root, name_in, text_below, IsAround, IsAt, IsIn, IsKept, Stands, Steps, Takes, Visits, Hands};
 ghost use Rattle.ignore_walk.specs.Suits.{IsGroundOf};
 ghost use Rattle.ignore_walk.specs.Walked.{IsOrdered, enter, fate};
 ghost use Rattle.ignore_walk.specs.Whole.{root_entry, above_root, reported_before};
 
+use crate::above::{Seen, see, way_along};
 use crate::callbacks::Callbacks;
 use crate::child::is_dir_kind;
 use crate::entry::{DirEntry, Item};
@@ -27,6 +28,7 @@ use crate::open::Opened;
 use crate::root::is_dir_found;
 use ignore_base::Error;
 use ignore_dir::Settings;
+use ignore_dir::above::canonical_names;
 use ignore_files::{Files, Listed, Name};
 use ignore_levels::{Levels, Place};
 use std::alloc::{AllocError, Global};
@@ -38,11 +40,10 @@ pub struct Stack {
     /// The roots that weren't begun.
     pub roots: VecDeque<Name>,
     /// The directories that are above roots that were begun.
-    pub seen: Vec<Name>,
-    /// The directories that count of those above the root that was begun last, and of those that were
-    /// entered.
+    pub seen: Vec<Seen>,
+    /// The directories that count of those, and of the ones that were entered.
     pub levels: Levels,
-    /// What stands there for those above the root.
+    /// What stands there for those above the root that was begun last.
     pub above: Option<Place>,
     /// The device of that root, where it matters and is known.
     pub device: Option<u64>,
@@ -183,7 +184,7 @@ impl Stack {
     ) -> Result<(), AllocError>
         ensures begun { (g : Scene) (last : List ℕ) (place : Branch) (seen : List (List ℕ)) (items : List Yielded) (n : ℕ)
             → IsGroundOf F.Files S.Callbacks ground.now g
-            → self.old.frames.items ≡ [] → AreSeen self.old.seen.items seen
+            → self.old.frames.items ≡ [] → IsKept g seen self.old
             → Remains g (before_root self.old last place seen root.now) items n
             → OnOk result (Steps g self.new items n) }
         ensures made { length self.new.made.items ≤ length self.old.made.items + 3 }
@@ -210,7 +211,7 @@ impl Stack {
     ) -> Result<(), AllocError>
         ensures begun { (g : Scene) (seen : List (List ℕ)) (items : List Yielded) (n : ℕ)
             → IsGroundOf F.Files S.Callbacks ground.now g
-            → self.old.frames.items ≡ [] → AreSeen self.old.seen.items seen → is_dir ≡ is_dir_there (g.tree.stat root.now true)
+            → self.old.frames.items ≡ [] → IsKept g seen self.old → is_dir ≡ is_dir_there (g.tree.stat root.now true)
             → (is_dir ≡ true → IsAround g root.now [] self.old)
             → (is_dir ≡ true → string_bytes base ≡ text_at g root.now [])
             → InHand g (state_of self.old root.now [] seen) [] (root_entry g root.now) items n
@@ -237,25 +238,28 @@ impl Stack {
         ensures roots { self.new.roots ≡ self.old.roots }
         ensures reported { (g : Scene) (seen : List (List ℕ))
             → IsGroundOf F.Files S.Callbacks ground.now g
-            → AreSeen self.old.seen.items seen → is_dir_there (g.tree.stat root.now true) ≡ true
+            → IsKept g seen self.old → is_dir_there (g.tree.stat root.now true) ≡ true
             → OnOk result (map item_of self.new.made.items ≡ map item_of self.old.made.items ++ reported_before g seen root.now) }
         ensures seen { (g : Scene) (seen : List (List ℕ))
             → IsGroundOf F.Files S.Callbacks ground.now g
-            → AreSeen self.old.seen.items seen → is_dir_there (g.tree.stat root.now true) ≡ true
-            → OnOk result (AreSeen self.new.seen.items (seen ++ above_root g root.now)) }
-        ensures above { (g : Scene)
-            → IsGroundOf F.Files S.Callbacks ground.now g
+            → IsKept g seen self.old → is_dir_there (g.tree.stat root.now true) ≡ true
+            → OnOk result (IsKept g (seen ++ above_root g root.now) self.new) }
+        ensures above { (g : Scene) (seen : List (List ℕ))
+            → IsGroundOf F.Files S.Callbacks ground.now g → IsKept g seen self.old
             → OnOk result (IsChain (slots_of self.new.levels) self.new.above (counting (placed_above g root.now))) }
-        ensures base { (g : Scene)
-            → IsGroundOf F.Files S.Callbacks ground.now g
+        ensures base { (g : Scene) (seen : List (List ℕ))
+            → IsGroundOf F.Files S.Callbacks ground.now g → IsKept g seen self.old
             → IfOk result (λ base. string_bytes base ≡ text_at g root.now []) }
         ensures made { length self.new.made.items ≤ length self.old.made.items + 1 }
     {
-        let above = ground.look_above(&mut self.seen, root)?;
-        self.levels.cut(0);
-        self.above = self.levels.add_all(above.dirs)?;
-        self.report(above.error)?;
-        Ok(above.base)
+        let path = ground.canonical(root)?;
+        let names = canonical_names(ground.alloc, path.as_str())?;
+        let seen = self.seen.as_slice();
+        let way = way_along(ground, &mut self.levels, seen, names.as_slice())?;
+        self.above = way.place;
+        see(&mut self.seen, way.added)?;
+        self.report(Error::joined(way.errors))?;
+        Ok(way.text)
     }
 
     /// Makes the item of an error, if there is one.

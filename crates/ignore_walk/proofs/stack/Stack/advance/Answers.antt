@@ -1,7 +1,10 @@
-use Rattle.std.proofs.Common.{◌≡◌, ◌∷◌, [], ℕ, List, map, sym, ◌∙◌, subst}
+use Rattle.std.proofs.Common.{◌≡◌, ◌∷◌, [], ℕ, List, map, reverse, sym, ◌∙◌, subst}
 use Rattle.ignore_files.specs.declared.types.Listed.{Listed}
+use Rattle.ignore_levels.specs.Levels.{slots_of}
 use Rattle.ignore_walk.specs.Entry.{item_of}
 use Rattle.ignore_walk.specs.Left.{Remains}
+use Rattle.ignore_walk.specs.OnList.{AreOn}
+use Rattle.ignore_walk.specs.declared.frame.Frame.{Frame}
 use Rattle.ignore_walk.proofs.LeftLemmas.{state}
 use Rattle.ignore_walk.proofs.StandLemmas.{rests_none}
 use Rattle.ignore_walk.proofs.stack.Stack.advance.Goals as goal
@@ -18,4 +21,5 @@ returns-in-Some-clause-advanced g c = λ s items n suits r more.
     (rests_none stack empty) r.remains) in
     let remains' = subst (λ (root : List ℕ). Remains s (state made r.root r.place [] r.seen (root ∷ c.pop_front.new.self.items)) items n)
     (sym c.as_str.ensures) remains in
-    c.begin.ensures.begun s r.root r.place r.seen items n suits empty r.is.kept remains'
+    let places = subst (λ (fs : List Frame). AreOn s r.root stack.seen.items r.place (slots_of stack.levels) (reverse fs)) empty r.is.levels in
+    c.begin.ensures.begun s r.root r.place r.seen items n suits empty (record { kept = r.is.kept; places = places }) remains'

@@ -52,10 +52,10 @@ returns-then-branch-clause-begun g c = λ s last place seen items n suits empty 
     rw (c.in_ok-base.ensures.reported s seen suits kept found, rests_none stack empty', c.in_ok-base.ensures.roots) t.2 in
     let around : IsAround s root [] stack =
     subst (λ (fs : List Frame). IsChain (slots_of stack.levels) (place_around stack.above (reverse fs)) (counting (placed_above s root))) (sym empty')
-    (c.in_ok-base.ensures.above s suits) in
+    (c.in_ok-base.ensures.above s seen suits kept) in
     on_ok_map c.begin_at.result (λ stands. (t.0, t.1, stands))
     (c.begin_at.ensures.begun s seen' items t.0 suits empty' (c.in_ok-base.ensures.seen s seen suits kept found) is_dir
-    (λ _. around) (λ _. c.in_ok-base.ensures.base s suits) hand)
+    (λ _. around) (λ _. c.in_ok-base.ensures.base s seen suits kept) hand)
 
 pub returns-clause-begun : goal.returns-clause-begun
 returns-clause-begun g c = λ s last place seen items n suits empty kept r.

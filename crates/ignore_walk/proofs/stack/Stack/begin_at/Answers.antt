@@ -5,6 +5,7 @@ use Rattle.ignore_walk.specs.Entry.{Entry, entry_of, item_of, fresh, problem_in}
 use Rattle.ignore_walk.specs.Left.{InHand}
 use Rattle.ignore_walk.specs.Stands.{state_of}
 use Rattle.ignore_walk.specs.Whole.{root_entry}
+use Rattle.ignore_walk.specs.declared.stack.Stack.{Stack}
 use Rattle.ignore_walk.proofs.ChildLemmas.{fresh_ok, fresh_err}
 use Rattle.ignore_walk.proofs.LeftLemmas.{make_failed}
 use Rattle.ignore_walk.proofs.VisitLemmas.{on_ok_map, root_path, root_kept}
@@ -28,6 +29,7 @@ returns-in-Err-clause-begun g c = λ s seen items n suits empty kept is_dir abov
 pub returns-in_ok-self-in-Ok-clause-begun : goal.returns-in_ok-self-in-Ok-clause-begun
 returns-in_ok-self-in-Ok-clause-begun g c = λ s seen items n suits empty kept is_dir above base hand.
     let root = c.args.root.now in
+    let self = c.args.self.now in
     let e = entry_of c.in-Ok.entry in
     let o = problem_in c.in-Ok.entry in
     let state = state_of c.args.self.now root [] seen in
@@ -35,7 +37,17 @@ returns-in_ok-self-in-Ok-clause-begun g c = λ s seen items n suits empty kept i
     let is : root_entry s root ≡ Ok e = fresh_ok e o (root_entry s root) same in
     let path : e.path ≡ root = root_path s root e is in
     let hand' : InHand s state [] (Ok e) items n = subst (λ (r : Result Entry Problem). InHand s state [] r items n) is hand in
-    c.visit.ensures.visited s root [] [] seen items n suits (outside s root [] seen _ empty kept)
+    let next : Stack = record {
+      roots = self.roots;
+      seen = self.seen;
+      levels = self.levels;
+      above = self.above;
+      device = c.in_ok-self-in-Ok.field-0;
+      frames = self.frames;
+      made = self.made;
+    } in
+    c.visit.ensures.visited s root [] [] seen items n suits
+    (outside s root [] seen next empty (record { kept = kept.kept; places = kept.places }))
     (record {
       path = path;
       leads_there = is_dir ∙ ap (λ (p : List ℕ). is_dir_there (s.tree.stat p true)) (sym path);

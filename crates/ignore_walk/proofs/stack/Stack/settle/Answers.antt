@@ -42,7 +42,7 @@ returns-clause-entered c = λ s root place b seen items n ordered settings is at
     (below-around s root b (length found.text) size) in
     let chain' = subst (λ (l : List Placed). IsChain (slots_of c.frame_of.new.levels) frame.place l)
     (counted-is s root b found.dir (length found.text) opens.dir size) chain in
-    let on = on-entered s root place b frame (reverse self.frames.items) (slots_of self.levels) (slots_of c.frame_of.new.levels)
+    let on = on-entered s root self.seen.items place b frame (reverse self.frames.items) (slots_of self.levels) (slots_of c.frame_of.new.levels)
     entered.len next chain' entered.kept is.levels in
     let arranged = subst (λ (xs : List Listed). IsArranged s.order e.path (listing_of lists) xs) (sym entered.rest)
     (subst (λ (p : List ℕ). IsArranged s.order p (listing_of (s.tree.list p)) found.rest.items) (sym path) opens.rest) in

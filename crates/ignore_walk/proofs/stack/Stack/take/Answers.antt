@@ -17,7 +17,7 @@ pub returns-then-branch-clause-taken : goal.returns-then-branch-clause-taken
 returns-then-branch-clause-taken g c = λ s root place name seen items n suits is frames at text path fine hand.
     let e = entry_of c.args.entry in
     let self = c.args.self.now in
-    let around = on-around s root place self.above (reverse self.frames.items) (slots_of self.levels) frames is.levels in
+    let around = on-around s root self.seen.items place self.above (reverse self.frames.items) (slots_of self.levels) frames is.levels in
     let nearest : c.place_around-around.result ≡ place_around self.above (reverse self.frames.items) =
     c.place_around-around.ensures ∙ ap (λ (fs : List Frame). place_around self.above (reverse fs)) c.as_slice.ensures.value in
     let chain = subst (λ (p : Option Place). IsChain (slots_of self.levels) p (counting (placed_to s root place))) (sym nearest) around in
@@ -37,7 +37,7 @@ unfolding lib.Utf8.encode
 returns-clause-taken g c = λ s root place name seen items n suits is frames at text path fine hand.
     let e = entry_of c.args.entry in
     let self = c.args.self.now in
-    let around = on-around s root place self.above (reverse self.frames.items) (slots_of self.levels) frames is.levels in
+    let around = on-around s root self.seen.items place self.above (reverse self.frames.items) (slots_of self.levels) frames is.levels in
     let nearest : c.place_around-around.result ≡ place_around self.above (reverse self.frames.items) =
     c.place_around-around.ensures ∙ ap (λ (fs : List Frame). place_around self.above (reverse fs)) c.as_slice.ensures.value in
     let chain = subst (λ (p : Option Place). IsChain (slots_of self.levels) p (counting (placed_to s root place))) (sym nearest) around in
