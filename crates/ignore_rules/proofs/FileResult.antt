@@ -9,18 +9,18 @@ use Rattle.ignore_base.specs.Problem.{Problem, at_path, glob, io, joined}
 use Rattle.ignore_glob.proofs.RowExists.{find_reading}
 use Rattle.ignore_files.specs.declared.types.Contents.{Contents}
 use Rattle.ignore_rules.specs.Line.{ParsedLine, parsed_line}
-use Rattle.ignore_rules.specs.Rules.{Building, LineOptions, Rule, GivesProblem, GivesRule, read_rule, with_rule}
+use Rattle.ignore_rules.specs.Rules.{Building, LineOptions, Origin, Rule, GivesProblem, GivesRule, line_of_file, read_rule, with_rule}
 use Rattle.ignore_rules.specs.RuleFile.{AddsContents, AddsLines, Gives, GivesOneResult, added, at_line_of, done, lines_read, refused}
 use Rattle.ignore_rules.specs.RuleFile.{line_content, stopped, with_rules}
 use Rattle.ignore_rules.proofs.FilesOnly.{AddsContents-one}
 
 -- a line gives a rule, or none, or is rejected
-line_outcome : (options : LineOptions) (from : Option (List ℕ)) (parsed : Option ParsedLine)
-    → ((given : Option Rule) × GivesRule options from parsed given) ⊎ ((problem : Problem) × GivesProblem options parsed problem)
-line_outcome options from None = inl (None, refl)
-line_outcome options from (Some w) = elim (find_reading options.glob (chars w.actual)) [
+line_outcome : (options : LineOptions) (origin : Origin) (parsed : Option ParsedLine)
+    → ((given : Option Rule) × GivesRule options origin parsed given) ⊎ ((problem : Problem) × GivesProblem options parsed problem)
+line_outcome options origin None = inl (None, refl)
+line_outcome options origin (Some w) = elim (find_reading options.glob (chars w.actual)) [
   | inl (tokens, h) ↦ inl
-      (Some (read_rule from w (record { tokens = tokens; case_insensitive = options.glob.case_insensitive })), (tokens, h, refl))
+      (Some (read_rule origin w (record { tokens = tokens; case_insensitive = options.glob.case_insensitive })), (tokens, h, refl))
   | inr (fault, h) ↦ inr (glob (Some w.original) (glob_fault_text fault), (fault, h, refl))
 ]
 
@@ -47,12 +47,12 @@ LinesGive path options number decoded rules problems =
 
 after_rule : (path : List ℕ) (options : LineOptions) (number : ℕ) (line : List ℕ) (more : List (Result (List ℕ) Fault))
     (given : Option Rule) (rules : List Rule) (problems : List Problem)
-    → GivesRule options (Some path) (parsed_line options.git_trailing_spaces (line_content number line)) given
+    → GivesRule options (line_of_file path number) (parsed_line options.git_trailing_spaces (line_content number line)) given
     → LinesGive path options (number + 1) more rules problems
     → LinesGive path options number (Ok line ∷ more) (rules_of given ++ rules) problems
 after_rule path options number line more given rules problems h rest = λ old same.
-    let parsed : GivesRule old.options (Some path) (parsed_line old.options.git_trailing_spaces (line_content number line)) given =
-    subst (λ (o : LineOptions). GivesRule o (Some path) (parsed_line o.git_trailing_spaces (line_content number line)) given)
+    let parsed : GivesRule old.options (line_of_file path number) (parsed_line old.options.git_trailing_spaces (line_content number line)) given =
+    subst (λ (o : LineOptions). GivesRule o (line_of_file path number) (parsed_line o.git_trailing_spaces (line_content number line)) given)
     (sym same) h in
     let further : AddsLines path (number + 1) more (with_rules old (rules_of given))
     (with_rules (with_rules old (rules_of given)) rules) problems = rest (with_rules old (rules_of given)) same in
@@ -84,7 +84,7 @@ lines_give path options number (Err fault ∷ more) = (
 )
 lines_give path options number (Ok line ∷ more) =
     let rest = lines_give path options (number + 1) more in
-    elim (line_outcome options (Some path) (parsed_line options.git_trailing_spaces (line_content number line))) [
+    elim (line_outcome options (line_of_file path number) (parsed_line options.git_trailing_spaces (line_content number line))) [
       | inl (given, h) ↦ (rules_of given ++ rest.0, rest.1, after_rule path options number line more given rest.0 rest.1 h rest.2)
       | inr (problem, h) ↦
           (rest.0, at_line_of path number problem ∷ rest.1, after_refusal path options number line more problem rest.0 rest.1 h rest.2)

@@ -13,13 +13,13 @@ use Rattle.ignore_files.specs.declared.types.Refusal.TheVariants.{Fault as Refus
 use Rattle.ignore_files.specs.declared.files.Files.{Ghosts}
 use Rattle.ignore_files.specs.Gives.{IsHonest}
 use Rattle.ignore_files.specs.Tree.{Tree, Answers}
-use Rattle.ignore_rules.specs.Rules.{Building, Ruleset, begun, built, empty}
+use Rattle.ignore_rules.specs.Rules.{Building, Ruleset, begun, built, empty, line_of_file}
 use Rattle.ignore_rules.specs.RuleFile.{AddsLines, done, stopped, added, refused, AddsContents, AddsFile, AddsAnswer, at_line_of}
 use Rattle.ignore_rules.specs.RuleFile.{line_content, lines_read}
 use Rattle.ignore_base.specs.Paths.{folder_of}
 use Rattle.ignore_rules.specs.Matchers.{BuildsFile, BuildsWith, BuildsGlobal, IsMatcherOf, IsGlobalIn, IsGlobalMatcher}
 use Rattle.ignore_rules.specs.Matchers.{BuildsAnswer, BuildsAnyAnswer, global_file}
-use Rattle.ignore_rules.proofs.LinesOnly.{AddsLine-one, Refuses-one, AddsLine-never}
+use Rattle.ignore_rules.proofs.LinesOnly.{AddsLineOf-one, Refuses-one, AddsLineOf-never}
 use Rattle.ignore_excludes.proofs.ExcludesPlaces.{IsExcludesPath-one}
 
 AddsLines-one : (path : List ℕ) (number : ℕ) (decoded : List (Result (List ℕ) Fault)) (old a b : Building) (ps qs : List Problem)
@@ -27,13 +27,13 @@ AddsLines-one : (path : List ℕ) (number : ℕ) (decoded : List (Result (List �
 AddsLines-one path number decoded old a b ps qs (done n o) (done m u) = (refl, refl)
 AddsLines-one path number decoded old a b ps qs (stopped n f more o) (stopped m g rest u) = (refl, refl)
 AddsLines-one path number decoded old a b ps qs (added n line more o between new reported h v) (added m text rest u after end others k w) =
-    let same = AddsLine-one o (Some path) (line_content n line) between after h k in
+    let same = AddsLineOf-one o (line_of_file path n) (line_content n line) between after h k in
     AddsLines-one path (n + 1) more between new end reported others v
     (subst (λ (x : Building). AddsLines path (n + 1) more x end others) (sym same) w)
 AddsLines-one path number decoded old a b ps qs (added n line more o between new reported h v) (refused m text rest u end p others k w) =
-    absurd (AddsLine-never o (Some path) (line_content n line) between p h k)
+    absurd (AddsLineOf-never o (line_of_file path n) (line_content n line) between p h k)
 AddsLines-one path number decoded old a b ps qs (refused n line more o new p reported h v) (added m text rest u after end others k w) =
-    absurd (AddsLine-never o (Some path) (line_content n line) after p k h)
+    absurd (AddsLineOf-never o (line_of_file path n) (line_content n line) after p k h)
 AddsLines-one path number decoded old a b ps qs (refused n line more o new p reported h v) (refused m text rest u end q others k w) =
     let one = Refuses-one o.options (line_content n line) p q h k in
     let same = AddsLines-one path (n + 1) more o new end reported others v w in

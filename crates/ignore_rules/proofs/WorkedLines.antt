@@ -1,8 +1,10 @@
 -- Worked lines: what each parses to, computed from the definition.
-use Rattle.std.proofs.Common.{◌≡◌, Bool, true, false, List, [], ◌∷◌, ◌++◌, ℕ, Option, Some, None, refl, codes}
+use Rattle.std.proofs.Common.{◌≡◌, Bool, true, false, List, [], ◌∷◌, ◌++◌, ℕ, Option, Some, None, Ok, refl, codes}
 use Rattle.std.specs.Char.{encode_utf8}
 use Rattle.std.specs.Str.{trim_end, chars}
 use Rattle.ignore_rules.specs.Line.{parsed_line, ParsedLine}
+use Rattle.ignore_rules.specs.RuleFile.{AddsLines, added, done, mark}
+use Rattle.ignore_rules.specs.Rules.{AddsLineOf, Building, begun, line_of_file}
 
 parsed : List ℕ → List ℕ → Bool → Bool → Option ParsedLine
 parsed original actual whitelist only_dir =
@@ -112,3 +114,14 @@ git_blank = refl
 
 git_comment : parsed_line true (codes "# ") ≡ None
 git_comment = refl
+
+-- The number of a line.
+
+-- of a comment after a mark, a blank line and `b` the rule has the number 3
+third_line : (path : List ℕ) (new : Building) → AddsLineOf (begun []) (line_of_file path 3) (codes "b") new
+    → AddsLines path 1 (Ok (mark ++ codes "#a") ∷ (Ok [] ∷ (Ok (codes "b") ∷ []))) (begun []) new []
+unfolding trim_end chars encode_utf8
+third_line path new h =
+    added 1 (mark ++ codes "#a") (Ok [] ∷ (Ok (codes "b") ∷ [])) (begun []) (begun []) new [] (None, refl, refl)
+    (added 2 [] (Ok (codes "b") ∷ []) (begun []) (begun []) new [] (None, refl, refl)
+    (added 3 (codes "b") [] (begun []) new new [] h (done 4 new)))

@@ -8,17 +8,18 @@ use Rattle.ignore_rules.specs.Rules.{Rule, Ruleset, Building}
 -- the code of a rule
 abbrev pub rule_code : Coded Rule
 rule_code =
-    code_by (Option (List ℕ) × (List ℕ × (List ℕ × (Bool × (Bool × Reading)))))
-    (coded× (coded_option (coded_list coded_ℕ)) (coded× (coded_list coded_ℕ)
-    (coded× (coded_list coded_ℕ) (coded× coded_bool (coded× coded_bool reading_code)))))
-    (λ r. (r.from, (r.original, (r.actual, (r.is_whitelist, (r.is_only_dir, r.reading))))))
+    code_by (Option (List ℕ) × (Option ℕ × (List ℕ × (List ℕ × (Bool × (Bool × Reading))))))
+    (coded× (coded_option (coded_list coded_ℕ)) (coded× (coded_option coded_ℕ) (coded× (coded_list coded_ℕ)
+    (coded× (coded_list coded_ℕ) (coded× coded_bool (coded× coded_bool reading_code))))))
+    (λ r. (r.from, (r.line, (r.original, (r.actual, (r.is_whitelist, (r.is_only_dir, r.reading)))))))
     (λ p. record {
       from = p.0;
-      original = p.1.0;
-      actual = p.1.1.0;
-      is_whitelist = p.1.1.1.0;
-      is_only_dir = p.1.1.1.1.0;
-      reading = p.1.1.1.1.1;
+      line = p.1.0;
+      original = p.1.1.0;
+      actual = p.1.1.1.0;
+      is_whitelist = p.1.1.1.1.0;
+      is_only_dir = p.1.1.1.1.1.0;
+      reading = p.1.1.1.1.1.1;
     })
     (λ _. refl)
 

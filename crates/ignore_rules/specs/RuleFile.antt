@@ -15,7 +15,7 @@ use Rattle.ignore_files.specs.declared.types.Refusal.{Refusal}
 use Rattle.ignore_files.specs.declared.types.Refusal.TheVariants.{Memory}
 use Rattle.ignore_files.specs.declared.types.Refusal.TheVariants.{Fault as Refused}
 use Rattle.ignore_files.specs.Tree.{Tree}
-use Rattle.ignore_rules.specs.Rules.{Building, LineOptions, Rule, AddsLine, Refuses}
+use Rattle.ignore_rules.specs.Rules.{Building, LineOptions, Rule, AddsLineOf, Refuses, line_of_file}
 
 -- U+FEFF in UTF-8
 abbrev pub mark : Bytes
@@ -79,7 +79,7 @@ pub data AddsLines (path : Path) : ℕ → List (Result Bytes Fault) → Buildin
   stopped : (number : ℕ) (fault : Fault) (more : List (Result Bytes Fault)) (old : Building)
       → AddsLines path number (Err fault ∷ more) old old (at_line_of path number (io fault) ∷ [])
   added : (number : ℕ) (line : Bytes) (more : List (Result Bytes Fault)) (old between new : Building) (problems : List Problem)
-      → AddsLine old (Some path) (line_content number line) between → AddsLines path (number + 1) more between new problems
+      → AddsLineOf old (line_of_file path number) (line_content number line) between → AddsLines path (number + 1) more between new problems
       → AddsLines path number (Ok line ∷ more) old new problems
   refused : (number : ℕ) (line : Bytes) (more : List (Result Bytes Fault)) (old new : Building) (problem : Problem)
       (problems : List Problem)

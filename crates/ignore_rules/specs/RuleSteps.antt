@@ -6,7 +6,7 @@ use Rattle.ignore_base.specs.declared.fault.Fault.{Fault as FileFault}
 use Rattle.ignore_base.specs.Problem.{Problem}
 use Rattle.ignore_rules.specs.declared.gitignore.file.Line.{Line}
 use Rattle.ignore_rules.specs.declared.gitignore.file.Line.TheVariants.{Text, Fault, End}
-use Rattle.ignore_rules.specs.Rules.{Building, Rule, AddsLine, Refuses}
+use Rattle.ignore_rules.specs.Rules.{Building, Rule, AddsLineOf, Refuses, line_of_file}
 use Rattle.ignore_rules.specs.RuleFile.{decoded, lines_read, line_content, at_line_of}
 
 -- the bytes have no newline
@@ -39,7 +39,7 @@ IsLineAt bytes fault at End = lines_read (drop at bytes) fault ≡ []
 -- ones
 abbrev pub AddsOrReports : Path → ℕ → Bytes → Building → Building → List Problem → List Problem → Type 0
 AddsOrReports path number line old new before after =
-    (AddsLine old (Some path) (line_content number line) new × (after ≡ before))
+    (AddsLineOf old (line_of_file path number) (line_content number line) new × (after ≡ before))
     ⊎ ((problem : Problem) × Refuses old.options (line_content number line) problem × (new ≡ old)
     × (after ≡ before ++ at_line_of path number problem ∷ []))
 

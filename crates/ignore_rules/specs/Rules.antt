@@ -13,9 +13,29 @@ use Rattle.ignore_glob.specs.Reading.{Reading}
 use Rattle.ignore_glob.specs.Row.{Reads, IsFaulty}
 use Rattle.ignore_rules.specs.Line.{ParsedLine, parsed_line}
 
--- a rule: where it came from, its line, its glob, its two flags, and what the glob parses to
+-- where a rule comes from: the origin that was given with its line, and the number of that line,
+-- from 1, where it was read from a file
+pub record Origin : Type 0 where
+  pub from : Option Path
+  pub line : Option ℕ
+
+-- the number of a line, of which 0 stands for none
+abbrev pub number_of : ℕ → Option ℕ
+number_of number = if number == 0 then None else Some number
+
+-- the origin of a line that is added by itself: it has no number
+abbrev pub unnumbered : Option Path → Origin
+unnumbered from = record { from = from; line = None }
+
+-- the origin of a line of the file at a path
+abbrev pub line_of_file : Path → ℕ → Origin
+line_of_file path number = record { from = Some path; line = Some number }
+
+-- a rule: where it came from, the number of its line there, the line, its glob, its two flags, and
+-- what the glob parses to
 pub record Rule : Type 0 where
   pub from : Option Path
+  pub line : Option ℕ
   pub original : Bytes
   pub actual : Bytes
   pub is_whitelist : Bool
@@ -39,10 +59,11 @@ pub record Building : Type 0 where
   pub options : LineOptions
 
 -- the rule of a parsed line whose glob parses to this reading
-abbrev pub read_rule : Option Path → ParsedLine → Reading → Rule
-read_rule from w reading =
+abbrev pub read_rule : Origin → ParsedLine → Reading → Rule
+read_rule origin w reading =
     record {
-      from = from;
+      from = origin.from;
+      line = origin.line;
       original = w.original;
       actual = w.actual;
       is_whitelist = w.is_whitelist;
@@ -51,11 +72,11 @@ read_rule from w reading =
     }
 
 -- a parsed line gives this rule; no parsed line gives none
-abbrev pub GivesRule : LineOptions → Option Path → Option ParsedLine → Option Rule → Type 0
-GivesRule options from None given = given ≡ None
-GivesRule options from (Some w) given =
+abbrev pub GivesRule : LineOptions → Origin → Option ParsedLine → Option Rule → Type 0
+GivesRule options origin None given = given ≡ None
+GivesRule options origin (Some w) given =
     (tokens : Tokens) × Reads options.glob (chars w.actual) tokens
-    × (given ≡ Some (read_rule from w (record { tokens = tokens; case_insensitive = options.glob.case_insensitive })))
+    × (given ≡ Some (read_rule origin w (record { tokens = tokens; case_insensitive = options.glob.case_insensitive })))
 
 -- a parsed line is rejected with this problem: its glob is invalid
 abbrev pub GivesProblem : LineOptions → Option ParsedLine → Problem → Type 0
@@ -72,13 +93,17 @@ abbrev pub with_rule : Building → Option Rule → Building
 with_rule b None = b
 with_rule b (Some rule) = record { root = b.root; rules = b.rules ++ rule ∷ []; options = b.options }
 
--- adding a parsed line, if any, leads from the old builder to the new one
-abbrev pub AddsParsed : Building → Option Path → Option ParsedLine → Building → Type 0
-AddsParsed old from parsed new = (given : Option Rule) × GivesRule old.options from parsed given × (new ≡ with_rule old given)
+-- adding a parsed line of an origin, if any, leads from the old builder to the new one
+abbrev pub AddsParsed : Building → Origin → Option ParsedLine → Building → Type 0
+AddsParsed old origin parsed new = (given : Option Rule) × GivesRule old.options origin parsed given × (new ≡ with_rule old given)
 
--- adding a line leads from the old builder to the new one
+-- adding a line of an origin leads from the old builder to the new one
+abbrev pub AddsLineOf : Building → Origin → Bytes → Building → Type 0
+AddsLineOf old origin line new = AddsParsed old origin (parsed_line old.options.git_trailing_spaces line) new
+
+-- adding a line by itself leads from the old builder to the new one
 abbrev pub AddsLine : Building → Option Path → Bytes → Building → Type 0
-AddsLine old from line new = AddsParsed old from (parsed_line old.options.git_trailing_spaces line) new
+AddsLine old from line new = AddsLineOf old (unnumbered from) line new
 
 -- the builder with other options of later lines
 abbrev pub with_options : Building → LineOptions → Building

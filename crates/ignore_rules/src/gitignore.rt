@@ -9,6 +9,7 @@ pub mod laws;
 mod line;
 mod matcher;
 mod open;
+mod origin;
 mod parents;
 
 pub use builder::GitignoreBuilder;

@@ -3,6 +3,7 @@
 //! They are gitignore globs with the meaning inverted: a glob whitelists what it matches, and one
 //! with a leading `!` ignores it.
 ghost use Rattle.std.specs.Prelude.{◌≡◌, ◌⊎◌, ◌==◌, None, false, IfOk, IfErr, IsOk, OnOk, OnErr, length};
+ghost use Rattle.std.specs.Option.{option_copied};
 ghost use Rattle.ignore_base.specs.Problem.{problem_of, memory};
 ghost use Rattle.ignore_rules.specs.Overrides.{override_answer};
 ghost use Rattle.ignore_rules.specs.RuleIndex.{AreShortRules};
@@ -33,6 +34,15 @@ impl<'a> Model for Glob<'a> {
     ghost coded = { coded_option rule_code };
 
     ghost view = { λ g. option_copied g.rule };
+}
+
+impl<'a> Glob<'a> {
+    /// The glob that decided, which has no number of a line; none where no glob matched the path.
+    pub fn rule(&self) -> Option<&gitignore::Glob>
+        ensures { option_copied result ≡ self.now }
+    {
+        self.rule
+    }
 }
 
 impl<'a> Clone for Glob<'a> {

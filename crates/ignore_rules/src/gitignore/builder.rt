@@ -10,6 +10,7 @@ ghost use Rattle.ignore_rules.specs.Rules.{with_git_trailing_spaces, with_unclos
 use crate::gitignore::glob::Glob;
 use crate::gitignore::line::ParsedLine;
 use crate::gitignore::matcher::Gitignore;
+use crate::gitignore::origin::Origin;
 use ignore_base::Error;
 use ignore_base::text::trim_root;
 use ignore_glob::glob::{Options, Pattern, PatternError};
@@ -90,7 +91,7 @@ impl GitignoreBuilder {
         match self.parsed_line(line)? {
             Some(parsed_line) => {
                 let from = shared(from)?;
-                self.push_parsed(from, parsed_line)
+                self.push_parsed(Origin { from, line: 0 }, parsed_line)
             }
             None => Ok(()),
         }
@@ -98,16 +99,16 @@ impl GitignoreBuilder {
 
     pub(crate) fn push_parsed(
         &mut self,
-        from: Option<ArcStr>,
+        origin: Origin,
         parsed_line: ParsedLine,
     ) -> Result<(), Error>
-        ensures added { OnOk result (AddsParsed self.old (option_map arc_str_bytes from) (Some parsed_line) self.new) }
+        ensures added { OnOk result (AddsParsed self.old origin (Some parsed_line) self.new) }
         ensures refused { IfErr result (λ e. (problem_of e ≡ memory) ⊎ GivesProblem self.old.options (Some parsed_line) (problem_of e)) }
         ensures unchanged { OnErr result (self.new ≡ self.old) }
     {
         let alloc = *self.root.allocator();
         match Pattern::parse(alloc, parsed_line.actual(), self.options) {
-            Ok(pattern) => Ok(self.push_glob(Glob::new(from, parsed_line, pattern))?),
+            Ok(pattern) => Ok(self.push_glob(Glob::new(origin, parsed_line, pattern))?),
             Err(PatternError::Fault(fault)) => Err(parsed_line.refused(alloc, fault)),
             Err(PatternError::Memory) => Err(Error::Memory),
         }

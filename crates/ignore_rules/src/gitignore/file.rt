@@ -9,12 +9,13 @@ ghost use Rattle.ignore_files.specs.declared.types.Refusal.{Refusal};
 ghost use Rattle.ignore_files.specs.Gives.{IsHonest};
 ghost use Rattle.ignore_files.specs.Tree.{Tree};
 ghost use Rattle.ignore_base.specs.Problem.{problem_of, memory, io, Problem};
-ghost use Rattle.ignore_rules.specs.Rules.{AddsLine, Refuses};
+ghost use Rattle.ignore_rules.specs.Rules.{AddsLineOf, Refuses, line_of_file};
 ghost use Rattle.ignore_rules.specs.RuleFile.{AddsFile, AddsAnswer, AddsContents, AddsLines, first_line, lines_read, at_line_of, in_file};
 ghost use Rattle.ignore_rules.specs.RuleFile.{is_memory, line_content, unmarked};
 ghost use Rattle.ignore_rules.specs.RuleSteps.{IsOneSegment, IsLineRead, IsLastLineRead, IsLineAt, AddsOrReports, Keeps};
 
 use crate::gitignore::builder::GitignoreBuilder;
+use crate::gitignore::origin::Origin;
 use ignore_base::Error;
 use ignore_files::internal::answered;
 use ignore_files::{Contents, Fault, Files};
@@ -37,7 +38,7 @@ enum Line<'b> {
 impl GitignoreBuilder {
     /// Adds the rules of a file, line by line, as `add_line` does with the path as `from`.
     ///
-    /// A line ends before `\n` or `\r\n`. Each U+FEFF at the start of the file is skipped. Reading
+    /// Each rule has the number of its line. A line ends before `\n` or `\r\n`. Each U+FEFF at the start of the file is skipped. Reading
     /// stops at the first line that isn't UTF-8 (`Fault::InvalidData`) or in which a fault of the
     /// file system occurs; the lines before it count.
     ///
@@ -118,11 +119,12 @@ impl GitignoreBuilder {
         line: &str,
         problems: &mut Vec<Error>,
     ) -> Result<(), AllocError>
+        requires { 1 ≤ number }
         ensures added_or_reported { OnOk result (AddsOrReports (arc_str_bytes from.now) number line.now self.old self.new
             (map problem_of problems.old.items) (map problem_of problems.new.items)) }
         ensures kept { Keeps self.old self.new }
     {
-        match self.push_line_of(from, line_content(number, line)) {
+        match self.push_line_of(from, number, line_content(number, line)) {
             Ok(()) => Ok(()),
             Err(error) => {
                 if is_memory(&error) {
@@ -135,16 +137,22 @@ impl GitignoreBuilder {
         }
     }
 
-    /// As `push_line`, with a path as `from`, which the rules of its file share.
-    fn push_line_of(&mut self, from: &ArcStr, line: &str) -> Result<(), Error>
-        ensures added { OnOk result (AddsLine self.old (Some (arc_str_bytes from.now)) line.now self.new) }
+    /// As `push_line`, with a path as `from`, which the rules of its file share, and the number of
+    /// the line.
+    fn push_line_of(&mut self, from: &ArcStr, number: u64, line: &str) -> Result<(), Error>
+        requires { 1 ≤ number }
+        ensures added { OnOk result (AddsLineOf self.old (line_of_file (arc_str_bytes from.now) number) line.now self.new) }
         ensures refused { IfErr result (λ e. (problem_of e ≡ memory) ⊎ Refuses self.old.options line.now (problem_of e)) }
         ensures unchanged { OnErr result (self.new ≡ self.old) }
     {
         let Some(parsed_line) = self.parsed_line(line)? else {
             return Ok(());
         };
-        self.push_parsed(Some(from.clone()?), parsed_line)
+        let origin = Origin {
+            from: Some(from.clone()?),
+            line: number,
+        };
+        self.push_parsed(origin, parsed_line)
     }
 }
 

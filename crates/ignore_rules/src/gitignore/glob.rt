@@ -11,6 +11,7 @@ ghost use Rattle.ignore_glob.specs.DoesMatch.{does_match};
 ghost use Rattle.ignore_set.specs.Sets.{IsShort};
 
 use crate::gitignore::line::ParsedLine;
+use crate::gitignore::origin::Origin;
 use ignore_base::{Error, Match};
 use ignore_glob::glob::Pattern;
 use ignore_set::HasPattern;
@@ -26,6 +27,8 @@ use std::sync::ArcStr;
 pub struct Glob {
     /// Shared by the rules of a file.
     from: Option<ArcStr>,
+    /// The number of its line in a file, from 1, and 0 for none.
+    line: u64,
     original: String,
     actual: String,
     is_whitelist: bool,
@@ -36,7 +39,7 @@ pub struct Glob {
 impl Model for Glob {
     ghost use Rattle.std.specs.Prelude.{option_map, string_bytes};
     ghost use Rattle.std.specs.Arc.{arc_str_bytes};
-    ghost use Rattle.ignore_rules.specs.Rules.{Rule};
+    ghost use Rattle.ignore_rules.specs.Rules.{Rule, number_of};
     ghost use Rattle.ignore_rules.specs.RuleCodes.{rule_code};
 
     ghost Value = { Rule };
@@ -45,6 +48,7 @@ impl Model for Glob {
 
     ghost view = { λ g. record {
       from = option_map arc_str_bytes g.from;
+      line = number_of g.line;
       original = string_bytes g.original;
       actual = string_bytes g.actual;
       is_whitelist = g.is_whitelist;
@@ -55,9 +59,10 @@ impl Model for Glob {
 
 impl Glob {
     /// The rule of a line, with its parsed glob.
-    pub(crate) fn new(from: Option<ArcStr>, parsed_line: ParsedLine, pattern: Pattern) -> Glob
-        ensures { result ≡ read_rule (option_map arc_str_bytes from) parsed_line pattern }
+    pub(crate) fn new(origin: Origin, parsed_line: ParsedLine, pattern: Pattern) -> Glob
+        ensures { result ≡ read_rule origin parsed_line pattern }
     {
+        let Origin { from, line } = origin;
         let ParsedLine {
             original,
             actual,
@@ -66,6 +71,7 @@ impl Glob {
         } = parsed_line;
         Glob {
             from,
+            line,
             original,
             actual,
             is_whitelist,
@@ -79,6 +85,19 @@ impl Glob {
         ensures { option_copied result ≡ self.now.from }
     {
         self.from.as_deref()
+    }
+
+    /// The number of the line that the rule was read from, in the file of `from`: the first line
+    /// is 1, and comments and blank lines count. None where the line was added by itself, as
+    /// `GitignoreBuilder::add_line` does and the globs of overrides are.
+    pub fn line(&self) -> Option<u64>
+        ensures { result ≡ self.now.line }
+    {
+        if self.line == 0 {
+            None
+        } else {
+            Some(self.line)
+        }
     }
 
     /// The line of the rule, without trailing white space.
@@ -161,6 +180,7 @@ impl Clone for Glob {
     fn clone(&self) -> Result<Glob, AllocError> {
         Ok(Glob {
             from: self.from.clone()?,
+            line: self.line,
             original: self.original.clone()?,
             actual: self.actual.clone()?,
             is_whitelist: self.is_whitelist,

@@ -3,15 +3,15 @@ use Rattle.std.specs.Arc.{arc_str_bytes}
 use Rattle.std.proofs.lemmas.List.{map-append}
 use Rattle.ignore_base.specs.Problem.{problem_of}
 use Rattle.ignore_rules.specs.RuleFile.{at_line_of}
-use Rattle.ignore_rules.specs.Rules.{AddsLine, Refuses}
+use Rattle.ignore_rules.specs.Rules.{AddsLineOf, Refuses, line_of_file}
 use Rattle.ignore_rules.proofs.FileLemmas.{not_memory}
 use Rattle.ignore_rules.proofs.gitignore.builder.GitignoreBuilder.add_or_report.Goals as goal
 
 pub returns-in-Ok-clause-added_or_reported : goal.returns-in-Ok-clause-added_or_reported
 returns-in-Ok-clause-added_or_reported c =
     inl (
-      subst (λ (l : List ℕ). AddsLine c.args.self.now
-          (Some (arc_str_bytes c.args.from.now)) l c.push_line_of.new.self) c.line_content.ensures c.in-Ok.ensures.added,
+      subst (λ (l : List ℕ). AddsLineOf c.args.self.now
+          (line_of_file (arc_str_bytes c.args.from.now) c.args.number) l c.push_line_of.new.self) c.line_content.ensures c.in-Ok.ensures.added,
       refl,
     )
 
