@@ -215,17 +215,21 @@ entered-in g front n =
     ∙ ap (λ (l : List (List ℕ)). reverse (placed_along 1 (dirs_in g (front ++ n ∷ [])) l)) (sym more)))) in
     same_reached _ _ _ _ _ _ chain (grown ∙ ap (λ (l : List (List ℕ)). 47 ∷ slashed l) (sym more)) at
 
+-- the chain of an entry, asked about its text, is its whole chain
+pub chain-in : (g : Scene) (front : List (List ℕ)) (n : List ℕ)
+    → asked_in ((reached_in g front).text ++ n) (reached_in g front).chain ≡ chain g (front ++ n ∷ [])
+chain-in g front n =
+    let names = base_of g ++ front in
+    chain-asked (dirs_in g front) names n (length-in g front)
+    ∙ (ap (λ (l : List Dir). reverse (asked_along l (names ++ n ∷ []))) (dirs_in-to g front n)
+    ∙ ap (λ (l : List (List ℕ)). reverse (asked_along (dirs_to g (front ++ n ∷ [])) l)) (append_assoc (base_of g) front (n ∷ [])))
+
 -- the verdict on an entry is that over its whole chain
 pub verdict-in : (g : Scene) (front : List (List ℕ)) (n : List ℕ) (is_dir : Bool)
     → verdict_at g.settings g.outside (entry (reached_in g front) n) is_dir ≡ path_verdict g (front ++ n ∷ []) is_dir
 unfolding placed_verdict path_verdict
 verdict-in g front n is_dir =
-    let names = base_of g ++ front in
-    let links : asked_in ((47 ∷ slashed names) ++ n) (reverse (placed_along 1 (dirs_in g front) names)) ≡ chain g (front ++ n ∷ []) =
-    chain-asked (dirs_in g front) names n (length-in g front)
-    ∙ (ap (λ (l : List Dir). reverse (asked_along l (names ++ n ∷ []))) (dirs_in-to g front n)
-    ∙ ap (λ (l : List (List ℕ)). reverse (asked_along (dirs_to g (front ++ n ∷ [])) l)) (append_assoc (base_of g) front (n ∷ []))) in
-    ap (λ (l : List Asked). verdict g.settings g.outside l (join_of (path_along g.root front) n) is_dir) links
+    ap (λ (l : List Asked). verdict g.settings g.outside l (join_of (path_along g.root front) n) is_dir) (chain-in g front n)
     ∙ ap (λ p. verdict g.settings g.outside (chain g (front ++ n ∷ [])) p is_dir) (sym (path_along-more g.root front n))
 
 ignored-in : (g : Scene) (front : List (List ℕ)) (n : List ℕ)
