@@ -2,6 +2,7 @@ pub mod Line
 pub mod Rules
 pub mod RuleCodes
 pub mod RuleIndex
+pub mod Kept
 pub mod Answer
 pub mod Overrides
 pub mod RuleFile

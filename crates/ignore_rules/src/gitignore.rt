@@ -5,6 +5,7 @@ mod builder;
 mod file;
 mod glob;
 mod global;
+mod kept;
 pub mod laws;
 mod line;
 mod matcher;

@@ -23,6 +23,10 @@ pub record Matcher : Type 0 where
   pub definitions : List Definition
   pub choices : List Chosen
 
+-- the matcher without types
+abbrev pub no_types : Matcher
+no_types = record { definitions = []; choices = [] }
+
 -- some glob of the choice matches the name
 abbrev pub does_choice_match : Chars → Chosen → Bool
 does_choice_match name c = list_any (λ r. does_match r name) c.readings

@@ -146,7 +146,7 @@ impl TypesBuilder {
     {
         let choices = self.chosen_types()?;
         let definitions = self.types.sorted_copies()?;
-        Ok(Types::new(definitions, choices))
+        Ok(Types::new(definitions, choices)?)
     }
 
     fn chosen_types(&self) -> Result<Vec<ChosenType>, Error>

@@ -13,7 +13,7 @@ use ignore_base::Error;
 use ignore_glob::glob::laws::matching_is_decided;
 use ignore_glob::glob::{GlobFault, Options, Pattern, PatternError};
 use ignore_set::{HasPattern, Index};
-use std::alloc::{AllocError, Global};
+use std::alloc::Global;
 use std::marker::Model;
 
 /// A parsed glob of a type, which is matched against the names of files.
@@ -44,17 +44,6 @@ impl HasPattern for NameGlob {
 
     fn is_only_dir(&self) -> bool {
         false
-    }
-}
-
-impl Clone for NameGlob {
-    ghost use Rattle.std.specs.Prelude.{◌≡◌};
-
-    ghost is_clone = { λ g copy. copy ≡ g };
-
-    fn clone(&self) -> Result<NameGlob, AllocError> {
-        let pattern = self.pattern.clone()?;
-        Ok(NameGlob { pattern })
     }
 }
 
@@ -121,21 +110,6 @@ impl ChosenType {
     {
         matching_is_decided();
         Ok(self.index.last_match(&self.globs, name, false)?.is_some())
-    }
-}
-
-impl Clone for ChosenType {
-    ghost use Rattle.std.specs.Prelude.{◌≡◌};
-
-    ghost is_clone = { λ c copy. copy ≡ c };
-
-    fn clone(&self) -> Result<ChosenType, AllocError> {
-        let definition = self.definition.clone()?;
-        let globs = self.globs.clone()?;
-        match ChosenType::new(definition, globs, self.negated) {
-            Ok(copy) => Ok(copy),
-            Err(_) => Err(AllocError),
-        }
     }
 }
 

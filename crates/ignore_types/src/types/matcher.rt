@@ -13,6 +13,7 @@ use ignore_base::text::file_name;
 use ignore_base::{Error, Match};
 use std::alloc::{AllocError, Global};
 use std::marker::Model;
+use std::sync::Arc;
 
 /// What decided a match of file types.
 #[derive(Debug, Drop)]
@@ -52,14 +53,14 @@ impl<'a> Clone for Glob<'a> {
     }
 }
 
-/// A matcher of file types: all types, and those that were chosen.
+/// All types, and those that were chosen.
 #[derive(Debug, Drop)]
-pub struct Types {
+struct Lists {
     definitions: Vec<FileTypeDef>,
     choices: Vec<ChosenType>,
 }
 
-impl Model for Types {
+impl Model for Lists {
     ghost use Rattle.ignore_types.specs.TypeMatch.{Matcher};
     ghost use Rattle.ignore_types.specs.TypeCodes.{matcher_code};
 
@@ -67,26 +68,74 @@ impl Model for Types {
 
     ghost coded = { matcher_code };
 
-    ghost view = { λ t. record { definitions = t.definitions.items; choices = t.choices.items } };
+    ghost view = { λ l. record { definitions = l.definitions.items; choices = l.choices.items } };
+}
+
+impl Lists {
+    fn definitions(&self) -> &[FileTypeDef]
+        ensures { result.now ≡ self.now.definitions }
+    {
+        self.definitions.as_slice()
+    }
+
+    fn choices(&self) -> &[ChosenType]
+        ensures { result.now ≡ self.now.choices }
+    {
+        self.choices.as_slice()
+    }
+}
+
+/// A matcher of file types: all types, and those that were chosen. A clone shares them, and what
+/// was built to match them: it copies nothing.
+#[derive(Debug, Drop)]
+pub struct Types {
+    /// None where there are none.
+    lists: Option<Arc<Lists>>,
+}
+
+impl Model for Types {
+    ghost use Rattle.std.specs.Option.{option_map_or};
+    ghost use Rattle.ignore_types.specs.TypeMatch.{Matcher, no_types};
+    ghost use Rattle.ignore_types.specs.TypeCodes.{matcher_code};
+
+    ghost Value = { Matcher };
+
+    ghost coded = { matcher_code };
+
+    ghost view = { λ t. option_map_or (λ l. l.value) t.lists no_types };
 }
 
 impl Types {
-    /// A matcher without types, which never matches.
-    pub fn empty(alloc: Global) -> Types
+    /// A matcher without types, which never matches. It allocates nothing.
+    pub fn empty(_alloc: Global) -> Types
         ensures { result ≡ record { definitions = []; choices = [] } }
     {
-        Types {
-            definitions: Vec::new(alloc),
-            choices: Vec::new(alloc),
-        }
+        Types { lists: None }
     }
 
-    pub(super) fn new(definitions: Vec<FileTypeDef>, choices: Vec<ChosenType>) -> Types
-        ensures { result ≡ record { definitions = definitions.items; choices = choices.items } }
+    pub(super) fn new(
+        definitions: Vec<FileTypeDef>,
+        choices: Vec<ChosenType>,
+    ) -> Result<Types, AllocError>
+        ensures { IfOk result (λ types. types ≡ record { definitions = definitions.items; choices = choices.items }) }
     {
-        Types {
+        let alloc = *definitions.allocator();
+        let lists = Lists {
             definitions,
             choices,
+        };
+        Ok(Types {
+            lists: Some(Arc::new(alloc, lists)?),
+        })
+    }
+
+    /// The chosen types, in the order of choosing.
+    fn choices(&self) -> &[ChosenType]
+        ensures { result.now ≡ self.now.choices }
+    {
+        match &self.lists {
+            Some(lists) => lists.choices(),
+            None => &[],
         }
     }
 
@@ -94,7 +143,7 @@ impl Types {
     pub fn is_empty(&self) -> bool
         ensures { result ≡ (length self.now.choices == 0) }
     {
-        self.choices.is_empty()
+        self.choices().is_empty()
     }
 
     /// How many types were chosen, selected or negated. `all` counts once for each type that it
@@ -102,14 +151,17 @@ impl Types {
     pub fn len(&self) -> usize
         ensures { result ≡ length self.now.choices }
     {
-        self.choices.len()
+        self.choices().len()
     }
 
     /// All types, sorted by name, each with its globs sorted.
     pub fn definitions(&self) -> &[FileTypeDef]
         ensures { result.now ≡ self.now.definitions }
     {
-        self.definitions.as_slice()
+        match &self.lists {
+            Some(lists) => lists.definitions(),
+            None => &[],
+        }
     }
 
     /// The answer for a path, by its file name alone.
@@ -129,8 +181,8 @@ impl Types {
             return Ok(Match::None);
         }
         match file_name(path) {
-            None => Ok(unmatched(&self.choices)),
-            Some(name) => matched_name(&self.choices, name),
+            None => Ok(unmatched(self.choices())),
+            Some(name) => matched_name(self.choices(), name),
         }
     }
 }
@@ -141,12 +193,12 @@ impl Clone for Types {
     ghost is_clone = { λ t copy. copy ≡ t };
 
     fn clone(&self) -> Result<Types, AllocError> {
-        let definitions = self.definitions.clone()?;
-        let choices = self.choices.clone()?;
-        Ok(Types {
-            definitions,
-            choices,
-        })
+        match &self.lists {
+            Some(lists) => Ok(Types {
+                lists: Some(lists.clone()?),
+            }),
+            None => Ok(Types { lists: None }),
+        }
     }
 }
 

@@ -1,8 +1,6 @@
-use Rattle.std.proofs.Common.{◌≡◌, length, ◌∙◌, rules}
+use Rattle.std.proofs.Common.{length, ap, ◌∙◌}
 use Rattle.ignore_rules.proofs.AnswerLemmas.{length-counts}
 use Rattle.ignore_rules.proofs.gitignore.matcher.Gitignore.len.Goals as goal
 
 pub returns-clause-kinds : goal.returns-clause-kinds
-returns-clause-kinds c =
-    let all : c.len.result ≡ length c.args.self.now.rules = search rules in
-    all ∙ length-counts c.args.self.now.rules
+returns-clause-kinds c = ap length c.rules.ensures ∙ length-counts c.args.self.now.rules

@@ -3,7 +3,7 @@ use Rattle.std.specs.Str.{chars}
 use Rattle.ignore_set.specs.Sets.{IsLastMatch}
 use Rattle.ignore_rules.specs.RuleIndex.{rule_member}
 use Rattle.ignore_rules.proofs.IndexLemmas.{none_decides, last_decides}
-use Rattle.ignore_rules.proofs.gitignore.matcher.indexed_answer.Goals as goal
+use Rattle.ignore_rules.proofs.gitignore.kept.indexed_answer.Goals as goal
 
 pub returns-in-Some-clause-answered : goal.returns-in-Some-clause-answered
 returns-in-Some-clause-answered c =

@@ -5,7 +5,7 @@ use Rattle.std.proofs.lemmas.Bool.{false≢true}
 use Rattle.ignore_rules.specs.Answer.{list_answer}
 use Rattle.ignore_rules.proofs.AnswerLemmas.{decided}
 use Rattle.ignore_rules.proofs.IndexLemmas.{short_at}
-use Rattle.ignore_rules.proofs.gitignore.matcher.last_answer.Goals as goal
+use Rattle.ignore_rules.proofs.gitignore.kept.last_answer.Goals as goal
 
 pub returns-then-branch-clause-answered : goal.returns-then-branch-clause-answered
 returns-then-branch-clause-answered c =

@@ -3,7 +3,7 @@ use Rattle.std.proofs.lemmas.Iterator.{YieldsList-from_slice}
 use Rattle.std.proofs.lemmas.Iterator.Consumers.{count_from_yields_List, YieldsList-from_filter, YieldsList-at}
 use Rattle.std.proofs.lemmas.List.Sums.{length-filter}
 use Rattle.ignore_rules.specs.Rules.{Rule}
-use Rattle.ignore_rules.proofs.gitignore.matcher.whitelist_count.Goals as goal
+use Rattle.ignore_rules.proofs.gitignore.kept.whitelist_count.Goals as goal
 
 pub returns : goal.returns
 returns c =
