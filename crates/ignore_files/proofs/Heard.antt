@@ -6,7 +6,8 @@ use Rattle.std.specs.declared.io.Error.{Error}
 use Rattle.std.specs.declared.io.ErrorKind.TheVariants.{Interrupted}
 use Rattle.ignore_base.specs.Text.{Path}
 use Rattle.ignore_base.specs.declared.fault.Fault.TheVariants as fault
-use Rattle.ignore_files.specs.Machine.{IsHeard, IsListingOf, Lists, MayList, has_nul}
+use Rattle.ignore_files.specs.Heard.{IsHeard, has_nul}
+use Rattle.ignore_files.specs.Machine.{IsListingOf, Lists, MayList}
 use Rattle.ignore_files.specs.Reported.{refusal_of, reported, reported_error}
 use Rattle.ignore_files.specs.declared.machine.Machine.{Ghosts}
 use Rattle.ignore_files.specs.declared.types.Listed.{Listed}

@@ -1,12 +1,15 @@
 -- The machine's files are consistent with the tree on the disk from which the machine answers
 -- truly.
-use Rattle.std.proofs.Common.{ℕ, Bool, true, List, Option, Result, Ok, Err, refl, sym, ap, subst, Some}
+use Rattle.std.proofs.Common.{ℕ, Bool, true, is_ok, List, Option, Result, Ok, Err, refl, sym, ap, subst, Some}
 use Rattle.std.specs.declared.io.Error.{Error}
 use Rattle.ignore_base.specs.declared.fault.Fault.{Fault}
 use Rattle.ignore_base.specs.declared.fault.Fault.TheVariants as fault
 use Rattle.ignore_files.specs.Tree.{Answers}
 use Rattle.ignore_files.specs.Memory.{and_then}
-use Rattle.ignore_files.specs.Machine.{Disk, IsTruthful, MayRead}
+use Rattle.ignore_files.specs.Heard.{IsHeard, HasWhole}
+use Rattle.ignore_files.specs.Machine.{Disk, IsTruthful, MayList, MayRead, AreReported}
+use Rattle.ignore_files.specs.Whole.{AreWhole, is_found}
+use Rattle.ignore_files.specs.declared.types.Listed.{Listed}
 use Rattle.ignore_files.specs.Disk.{GivesStat, GivesIdentity, GivesOf, GivesAt, GivesContents, metadata_of, identity_of, contents_at}
 use Rattle.ignore_files.specs.Disk.{tree_on}
 use Rattle.ignore_files.specs.declared.machine.Machine.{Ghosts}
@@ -76,3 +79,11 @@ pub consistent_contents : {R M E D F : Type 0} (machine : Ghosts R M E D F)
 consistent_contents machine next r disk truth path answer given =
     Answers-contents (disk.stat path true) (disk.read path) given.0 (MayRead machine r path) answer
     (λ a m. truth.read path a m) (truth.stat path true given.0 given.1) given.2
+
+-- where nothing may be heard but faults, nothing is found
+pub whole_disk : {R M E D F : Type 0} (machine : Ghosts R M E D F) (next : D → Option (Result E Error) → D → Type 0) (r : R)
+    → HasWhole (machine.metadata_gives r) (machine.read_dir_gives r) next (AreReported machine)
+    → AreWhole (GivesStat machine r) (MayList machine next r)
+whole_disk {M = M} machine next r whole tree stat list =
+    whole.whole (is_found tree) tree.list
+    (λ path fault heard. ap is_ok (stat path true (Err (Refused fault)) (Err (Refused fault), (Err (Refused fault), heard, refl), refl))) list

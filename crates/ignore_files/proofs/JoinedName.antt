@@ -1,9 +1,9 @@
 -- The components of a path with one name more.
-use Rattle.std.proofs.Common.{◌≡◌, ℕ, Bool, true, false, cond, eqb, ◌||◌, List, [], ◌∷◌, ◌++◌, refl, ap, ◌∙◌}
+use Rattle.std.proofs.Common.{◌≡◌, ℕ, Bool, true, false, cond, eqb, ◌||◌, List, [], ◌∷◌, ◌++◌, refl, ap, sym, subst, ◌∙◌}
 use Rattle.std.specs.List.{onto_first, list_any}
 use Rattle.ignore_base.specs.Text.{is_slash}
 use Rattle.ignore_base.specs.Paths.{components, joined, whole_components, filled, has_slash, is_absolute, join_of}
-use Rattle.ignore_files.proofs.Components.{components_cut}
+use Rattle.ignore_files.proofs.Components.{components_cut, components_some}
 
 -- a text has no slash
 abbrev pub Plain : List ℕ → Type 0
@@ -49,13 +49,14 @@ components_joined p (q ∷ ps) h =
     components_cut p (joined (q ∷ ps)) ∙ ap (λ qs. qs ++ components (joined (q ∷ ps))) (one_plain p h.0)
     ∙ ap (λ qs. p ∷ qs) (components_joined q ps h.1)
 
-plain_more : (ps : List (List ℕ)) (q : List ℕ) → AllPlain ps → Plain q → AllPlain (ps ++ q ∷ [])
-plain_more [] q h k = (k, tt)
-plain_more (p ∷ ps) q h k = (h.0, plain_more ps q h.1 k)
+plain_append : (ps qs : List (List ℕ)) → AllPlain ps → AllPlain qs → AllPlain (ps ++ qs)
+plain_append [] qs h k = k
+plain_append (p ∷ ps) qs h k = (h.0, plain_append ps qs h.1 k)
 
-components_more : (ps : List (List ℕ)) (q : List ℕ) → AllPlain ps → Plain q → components (joined (ps ++ q ∷ [])) ≡ ps ++ q ∷ []
-components_more [] q h k = one_plain q k
-components_more (p ∷ ps) q h k = components_joined p (ps ++ q ∷ []) (h.0, plain_more ps q h.1 k)
+components_front : (ps : List (List ℕ)) (q : List ℕ) (qs : List (List ℕ)) → AllPlain ps → AllPlain (q ∷ qs)
+    → components (joined (ps ++ q ∷ qs)) ≡ ps ++ q ∷ qs
+components_front [] q qs h k = components_joined q qs k
+components_front (p ∷ ps) q qs h k = components_joined p (ps ++ q ∷ qs) (h.0, plain_append ps (q ∷ qs) h.1 k)
 
 pub no_slash : (name : List ℕ) → has_slash name ≡ false → Plain name
 no_slash [] h = tt
@@ -74,10 +75,20 @@ join_plain : (base name : List ℕ) → is_absolute name ≡ false → join_of b
 unfolding join_of
 join_plain base name h = ap (λ b. cond b name (joined (whole_components (components base) ++ components name))) h
 
--- the components of a path and then the name
+-- the components of a path and then those of a relative one
+pub components_path : (base rest : List ℕ) → is_absolute rest ≡ false
+    → components (join_of base rest) ≡ whole_components (components base) ++ components rest
+components_path base rest h =
+    let some = components_some rest in
+    ap components (join_plain base rest h)
+    ∙ ap (λ qs. components (joined (whole_components (components base) ++ qs))) some.2
+    ∙ components_front (whole_components (components base)) some.0 some.1 (plain_whole (components base) (all_plain base))
+    (subst AllPlain some.2 (all_plain rest))
+    ∙ ap (λ qs. whole_components (components base) ++ qs) (sym some.2)
+
+-- and those of a name
 pub components_join : (base name : List ℕ) → has_slash name ≡ false
     → components (join_of base name) ≡ whole_components (components base) ++ name ∷ []
 components_join base name h =
     let plain = no_slash name h in
-    ap components (join_plain base name (not_absolute name plain) ∙ ap (λ qs. joined (whole_components (components base) ++ qs)) (one_plain name plain))
-    ∙ components_more (whole_components (components base)) name (plain_whole (components base) (all_plain base)) plain
+    components_path base name (not_absolute name plain) ∙ ap (λ qs. whole_components (components base) ++ qs) (one_plain name plain)

@@ -19,20 +19,20 @@ use Rattle.ignore_files.proofs.Walks.{after_link, onward, walk_components, walk_
 use Rattle.ignore_files.proofs.JoinedName.{components_join}
 
 -- they are the components of a path that isn't empty
-abbrev Solid : List (List ℕ) → Type 0
+abbrev pub Solid : List (List ℕ) → Type 0
 Solid [] = ⊥
 Solid ([] ∷ []) = ⊥
 Solid ([] ∷ (q ∷ ps)) = Unit {0}
 Solid ((b ∷ bs) ∷ ps) = Unit {0}
 
 -- they are the components of an absolute path
-abbrev rooted : List (List ℕ) → Bool
+abbrev pub rooted : List (List ℕ) → Bool
 rooted [] = false
 rooted ([] ∷ []) = false
 rooted ([] ∷ (q ∷ ps)) = true
 rooted ((b ∷ bs) ∷ ps) = false
 
-solid : (b : ℕ) (bs : List ℕ) → Solid (components (b ∷ bs))
+pub solid : (b : ℕ) (bs : List ℕ) → Solid (components (b ∷ bs))
 solid b bs = put (eqb b 47) (components_some bs)
   where
     put : (slash : Bool) → (first : List ℕ) × (rest : List (List ℕ)) × (components bs ≡ first ∷ rest)
@@ -40,7 +40,7 @@ solid b bs = put (eqb b 47) (components_some bs)
     put true s = rw s.2 tt
     put false s = rw s.2 tt
 
-absolute_rooted : (path : List ℕ) → is_absolute path ≡ rooted (components path)
+pub absolute_rooted : (path : List ℕ) → is_absolute path ≡ rooted (components path)
 absolute_rooted [] = refl
 absolute_rooted (b ∷ bs) = put (eqb b 47) (components_some bs)
   where
@@ -49,19 +49,19 @@ absolute_rooted (b ∷ bs) = put (eqb b 47) (components_some bs)
     put true s = rw s.2 refl
     put false s = rw s.2 refl
 
-rooted_more : (ps : List (List ℕ)) (q : List ℕ) → Solid ps → rooted (whole_components ps ++ q ∷ []) ≡ rooted ps
-rooted_more [] q h = absurd h
-rooted_more ([] ∷ []) q h = absurd h
-rooted_more ((b ∷ bs) ∷ []) q h = refl
-rooted_more ([] ∷ (p ∷ ps)) q h = first (whole_components (p ∷ ps))
+pub rooted_more : (ps : List (List ℕ)) (q : List ℕ) (more : List (List ℕ)) → Solid ps → rooted (whole_components ps ++ q ∷ more) ≡ rooted ps
+rooted_more [] q more h = absurd h
+rooted_more ([] ∷ []) q more h = absurd h
+rooted_more ((b ∷ bs) ∷ []) q more h = refl
+rooted_more ([] ∷ (p ∷ ps)) q more h = first (whole_components (p ∷ ps))
   where
-    first : (qs : List (List ℕ)) → rooted ([] ∷ (qs ++ q ∷ [])) ≡ true
+    first : (qs : List (List ℕ)) → rooted ([] ∷ (qs ++ q ∷ more)) ≡ true
     first [] = refl
     first (r ∷ rs) = refl
-rooted_more ((b ∷ bs) ∷ (p ∷ ps)) q h = refl
+rooted_more ((b ∷ bs) ∷ (p ∷ ps)) q more h = refl
 
 -- there is a first one
-whole_some : (ps : List (List ℕ)) → Solid ps → (p : List ℕ) × (qs : List (List ℕ)) × (whole_components ps ≡ p ∷ qs)
+pub whole_some : (ps : List (List ℕ)) → Solid ps → (p : List ℕ) × (qs : List (List ℕ)) × (whole_components ps ≡ p ∷ qs)
 whole_some [] h = absurd h
 whole_some ([] ∷ []) h = absurd h
 whole_some ((b ∷ bs) ∷ []) h = (b ∷ bs, [], refl)
@@ -99,7 +99,7 @@ module _ (nodes : List Node) where
       ∙ ap (resolve_last true links (after_link nodes true links) to) (no_link (slice_get nodes to) dir)
 
   -- it leads to the same place
-  abbrev LeadsTo : Reached → Result Reached Fault → Type 0
+  abbrev pub LeadsTo : Reached → Result Reached Fault → Type 0
   LeadsTo r w = (s : Reached) × (w ≡ Ok s) × (s.node ≡ r.node)
 
   closed_at : (r s : Reached) (dir : Bool) → is_dir_at nodes s.node ≡ dir
@@ -115,7 +115,7 @@ module _ (nodes : List Node) where
   closed r (Err f) h = absurd (cc (h))
   closed r (Ok s) h = closed_at r s (is_dir_at nodes s.node) refl h
 
-  whole_walk : (links here : ℕ) (ps : List (List ℕ)) (r : Reached) → Solid ps → walk nodes true links ps here ≡ Ok r
+  pub whole_walk : (links here : ℕ) (ps : List (List ℕ)) (r : Reached) → Solid ps → walk nodes true links ps here ≡ Ok r
       → LeadsTo r (walk nodes true links (whole_components ps) here)
   whole_walk links here ps r h w = cases (whole_cases ps) (whole_some ps h)
     where
@@ -148,7 +148,7 @@ module _ (nodes : List Node) where
       ∙ ap (λ b. cond b (walk nodes true t.0.links (name ∷ []) t.0.node) (Err NotADirectory)) open_
       ∙ one_step t.0.links t.0.node to name step there)
 
-proper : (a b c : Bool) → not a && not b && not c ≡ true → (a ≡ false) × (b ≡ false) × (c ≡ false)
+pub proper : (a b c : Bool) → not a && not b && not c ≡ true → (a ≡ false) × (b ≡ false) × (c ≡ false)
 proper true b c h = absurd (cc (h))
 proper false true c h = absurd (cc (h))
 proper false false true h = absurd (cc (h))
@@ -166,14 +166,14 @@ enter_name nodes here to n entries (b ∷ bs) at kind found h =
     ∙ ap (λ s. cond s (Ok n.parent) (ok_or (named (b ∷ bs) entries) NotFound)) is.2
     ∙ ap (λ o. ok_or o NotFound) found
 
-start_same : (cwd : List ℕ) (nodes : List Node) (a b : List ℕ) → is_absolute a ≡ is_absolute b → start_of cwd nodes a ≡ start_of cwd nodes b
+pub start_same : (cwd : List ℕ) (nodes : List Node) (a b : List ℕ) → is_absolute a ≡ is_absolute b → start_of cwd nodes a ≡ start_of cwd nodes b
 start_same cwd nodes a b e = ap (λ s. cond s (Ok (record { node = 0; links = link_limit })) (walk nodes true link_limit (components cwd) 0)) e
 
 -- where components lead from a start
-abbrev led : List Node → List (List ℕ) → Result Reached Fault → Result ℕ Fault
+abbrev pub led : List Node → List (List ℕ) → Result Reached Fault → Result ℕ Fault
 led nodes ps start = and_then (λ s. and_then (λ r. Ok r.node) (walk nodes true s.links ps s.node)) start
 
-reached : (here : ℕ) (w : Result Reached Fault) → and_then (λ (r : Reached). Ok r.node) w ≡ Ok here
+pub reached : (here : ℕ) (w : Result Reached Fault) → and_then (λ (r : Reached). Ok r.node) w ≡ Ok here
     → (r : Reached) × (w ≡ Ok r) × (r.node ≡ here)
 reached here (Err f) h = absurd (cc (h))
 reached here (Ok r) h = (r, refl, cc (h))
@@ -187,13 +187,14 @@ led_name nodes ps name here to (Ok start) s h dir e there =
     name_walk nodes start.links start.node to ps name r.0 s r.1 (ap (is_dir_at nodes) r.2 ∙ dir)
     (ap (λ i. enter nodes i name) r.2 ∙ e) there
 
-no_end : (ps : List (List ℕ)) (q : List ℕ) → [] ≡ ps ++ q ∷ [] → ⊥
-no_end [] q h = cc (h)
-no_end (p ∷ ps) q h = cc (h)
+no_end : (ps : List (List ℕ)) (q : List ℕ) (more : List (List ℕ)) → [] ≡ ps ++ q ∷ more → ⊥
+no_end [] q more h = cc (h)
+no_end (p ∷ ps) q more h = cc (h)
 
-filled : (path p : List ℕ) (ps : List (List ℕ)) (q : List ℕ) → components path ≡ p ∷ (ps ++ q ∷ []) → is_empty path ≡ false
-filled [] p ps q h = absurd (no_end ps q (cc (h)))
-filled (b ∷ bs) p ps q h = refl
+pub filled : (path p : List ℕ) (ps : List (List ℕ)) (q : List ℕ) (more : List (List ℕ)) → components path ≡ p ∷ (ps ++ q ∷ more)
+    → is_empty path ≡ false
+filled [] p ps q more h = absurd (no_end ps q more (cc (h)))
+filled (b ∷ bs) p ps q more h = refl
 
 -- a path leads to a directory, and a name of it to a directory: so does the path with the name
 pub resolved_name : (cwd : List ℕ) (nodes : List Node) (base name : List ℕ) (here to : ℕ) → resolved cwd nodes base true ≡ Ok here
@@ -206,9 +207,9 @@ resolved_name cwd nodes (b ∷ bs) name here to r dir e there h =
     let all = solid b bs in
     let parts : components path ≡ whole_components ps ++ name ∷ [] = components_join (b ∷ bs) name h in
     let some = whole_some ps all in
-    let full = filled path some.0 some.1 name (parts ∙ ap (λ qs. qs ++ name ∷ []) some.2) in
+    let full = filled path some.0 some.1 name [] (parts ∙ ap (λ qs. qs ++ name ∷ []) some.2) in
     let absolute : is_absolute path ≡ is_absolute (b ∷ bs) =
-    absolute_rooted path ∙ ap rooted parts ∙ rooted_more ps name all ∙ sym (absolute_rooted (b ∷ bs)) in
+    absolute_rooted path ∙ ap rooted parts ∙ rooted_more ps name [] all ∙ sym (absolute_rooted (b ∷ bs)) in
     ap (λ s. cond s (Err NotFound) (led nodes (components path) (start_of cwd nodes path))) full
     ∙ ap (λ qs. led nodes qs (start_of cwd nodes path)) parts
     ∙ ap (led nodes (whole_components ps ++ name ∷ [])) (start_same cwd nodes path (b ∷ bs) absolute)

@@ -9,6 +9,9 @@ mod Ranks
 mod JoinedName
 mod Leads
 mod Numbered
+mod Absent
+mod ShownLemmas
+mod Unstated
 mod GrownLemmas
 mod Honest
 mod Truthful

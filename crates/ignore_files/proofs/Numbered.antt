@@ -55,29 +55,29 @@ dir_there None h = absurd (cc (h))
 dir_there (Some n) h = dir_type n.kind (cc (h))
 
 -- an answer without a fault
-unless_ok : {A : Type 0} (fault : Option Fault) (r : Result A Fault) (a : A) → unless fault r ≡ Ok a → r ≡ Ok a
+pub unless_ok : {A : Type 0} (fault : Option Fault) (r : Result A Fault) (a : A) → unless fault r ≡ Ok a → r ≡ Ok a
 unless_ok None r a h = h
 unless_ok (Some f) r a h = absurd (cc (h))
 
-listing_ok : (kind : Kind) (xs : List Listed) → listing_of kind ≡ Ok xs → (entries : List Entry) × (kind ≡ Dir entries) × (xs ≡ map listed_of entries)
+pub listing_ok : (kind : Kind) (xs : List Listed) → listing_of kind ≡ Ok xs → (entries : List Entry) × (kind ≡ Dir entries) × (xs ≡ map listed_of entries)
 listing_ok (Dir entries) xs h = (entries, refl, cc (h))
 listing_ok (File bytes) xs h = absurd (cc (h))
 listing_ok (Link target) xs h = absurd (cc (h))
 
 -- the node to which a path leads
-abbrev node_of : List Node → Result ℕ Fault → Result Node Fault
+abbrev pub node_of : List Node → Result ℕ Fault → Result Node Fault
 node_of nodes at = and_then (λ i. ok_or (slice_get nodes i) NotFound) at
 
 some_ok : (o : Option Node) (n : Node) → ok_or o NotFound ≡ Ok n → o ≡ Some n
 some_ok None n h = absurd (cc (h))
 some_ok (Some m) n h = cc (h)
 
-node_ok : (nodes : List Node) (at : Result ℕ Fault) (n : Node) → node_of nodes at ≡ Ok n → (i : ℕ) × (at ≡ Ok i) × (slice_get nodes i ≡ Some n)
+pub node_ok : (nodes : List Node) (at : Result ℕ Fault) (n : Node) → node_of nodes at ≡ Ok n → (i : ℕ) × (at ≡ Ok i) × (slice_get nodes i ≡ Some n)
 node_ok nodes (Err f) n h = absurd (cc (h))
 node_ok nodes (Ok i) n h = (i, refl, some_ok (slice_get nodes i) n h)
 
 -- an answer of a node
-answer_ok : {A : Type 0} (nodes : List Node) (f : Node → Result A Fault) (at : Result ℕ Fault) (a : A) → and_then f (node_of nodes at) ≡ Ok a
+pub answer_ok : {A : Type 0} (nodes : List Node) (f : Node → Result A Fault) (at : Result ℕ Fault) (a : A) → and_then f (node_of nodes at) ≡ Ok a
     → (n : Node) × (node_of nodes at ≡ Ok n) × (f n ≡ Ok a)
 answer_ok nodes f at a h = from (node_of nodes at) h
   where
@@ -107,7 +107,7 @@ number_ok : (nodes : List Node) (at : Result ℕ Fault) → number_of nodes at <
 number_ok nodes (Err f) h = absurd (omega (arith, h))
 number_ok nodes (Ok i) h = place_ok nodes i (is_dir_at nodes i) refl h
 
-dir_at : (nodes : List Node) (i : ℕ) (n : Node) → slice_get nodes i ≡ Some n → is_directory n.kind ≡ true → is_dir_at nodes i ≡ true
+pub dir_at : (nodes : List Node) (i : ℕ) (n : Node) → slice_get nodes i ≡ Some n → is_directory n.kind ≡ true → is_dir_at nodes i ≡ true
 dir_at nodes i n at dir = ap (λ o. option_map_or (λ m. is_directory m.kind) o false) at ∙ dir
 
 module _ (cwd : List ℕ) (nodes : List Node) where

@@ -8,7 +8,8 @@ use Rattle.std.specs.declared.fs.FileType.{FileType as MachineType}
 use Rattle.ignore_base.specs.declared.fault.Fault.TheVariants as fault
 use Rattle.ignore_files.specs.Tree.{Answers}
 use Rattle.ignore_files.specs.Reported.{refusal_of, reported, IsReportedAs, cut_by, read_until}
-use Rattle.ignore_files.specs.Machine.{metadata_gives, has_nul, IsHeard, IsStatOf, Reads, Lists, Holds, IsReadOf, IsTruthful}
+use Rattle.ignore_files.specs.Heard.{has_nul, IsHeard}
+use Rattle.ignore_files.specs.Machine.{metadata_gives, IsStatOf, Reads, Lists, Holds, IsReadOf, IsTruthful}
 use Rattle.ignore_files.specs.Table.{row_at, stat_of, Finds, Refuses, ReadsWhole, visible, listing_at, contents_of, disk_of}
 use Rattle.ignore_files.specs.declared.machine.Machine.{Ghosts}
 use Rattle.ignore_files.specs.declared.stat.Stat.{Stat}

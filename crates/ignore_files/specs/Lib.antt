@@ -1,6 +1,8 @@
 pub mod Kinds
 pub mod Tree
 pub mod Gives
+pub mod Whole
+pub mod Shown
 pub mod Entries
 pub mod Memory
 pub mod Refusals
@@ -10,6 +12,7 @@ pub mod Dirs
 pub mod Grown
 pub mod Changes
 pub mod Reported
+pub mod Heard
 pub mod Machine
 pub mod Disk
 pub mod Table

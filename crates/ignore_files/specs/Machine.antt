@@ -7,8 +7,10 @@ use Rattle.std.specs.declared.fs.FileType.{FileType as MachineType}
 use Rattle.ignore_base.specs.Text.{Bytes, Path}
 use Rattle.ignore_base.specs.declared.fault.Fault.{Fault}
 use Rattle.ignore_base.specs.declared.fault.Fault.TheVariants as fault
+use Rattle.ignore_files.specs.Heard as heard
+use Rattle.ignore_files.specs.Heard.{IsHeard}
 use Rattle.ignore_files.specs.Tree.{Answers}
-use Rattle.ignore_files.specs.Reported.{reported, IsReportedAs, IsFaultOf, IsEntryOf, read_until}
+use Rattle.ignore_files.specs.Reported.{IsReportedAs, read_until}
 use Rattle.ignore_files.specs.declared.machine.Machine.{Ghosts}
 use Rattle.ignore_files.specs.declared.stat.Stat.{Stat}
 use Rattle.ignore_files.specs.declared.types.Refusal.{Refusal}
@@ -16,16 +18,6 @@ use Rattle.ignore_files.specs.declared.types.Refusal.TheVariants.{Memory}
 use Rattle.ignore_files.specs.declared.types.Refusal.TheVariants.{Fault as Refused}
 use Rattle.ignore_files.specs.declared.types.Listed.{Listed}
 use Rattle.ignore_files.specs.declared.types.Contents.{Contents}
-
--- a NUL stands in the path
-abbrev pub has_nul : Path → Bool
-has_nul path = list_any (λ b. b == 0) path
-
--- what is heard at a path: where it has a NUL nothing is there, and else the system is asked, its
--- error reported as a refusal
-pub record IsHeard {T : Type 0} (path : Path) (gives : Result T Error → Type 0) (heard : Result T Refusal) : Type 0 where
-  pub nul : has_nul path ≡ true → heard ≡ Err (Refused fault.NotFound)
-  pub asked : has_nul path ≡ false → (answer : Result T Error) × gives answer × (heard ≡ reported answer)
 
 -- the answers about a path, a link in last place followed or not
 abbrev pub metadata_gives : {R M E D F : Type 0} → Ghosts R M E D F → R → Bool → Path → Result M Error → Type 0
@@ -55,16 +47,11 @@ MayStat {R} {M} {E} {D} {F} machine r path follow stat =
 -- a thing that a directory gives is reported: an entry by its name and kind, or by the fault in
 -- place of its kind; an error by its fault
 abbrev pub IsReported : {R M E D F : Type 0} → Ghosts R M E D F → Result E Error → Listed → Type 0
-IsReported machine (Ok entry) item =
-    (kind : Result MachineType Error) × machine.entry_type_gives entry kind × IsEntryOf (machine.file_name_gives entry) kind item
-IsReported machine (Err error) item = IsFaultOf error item
+IsReported machine = heard.IsReported machine.file_name_gives machine.entry_type_gives
 
 -- all things that a directory gives are reported, in their order
 abbrev pub AreReported : {R M E D F : Type 0} → Ghosts R M E D F → List (Result E Error) → List Listed → Type 0
-AreReported machine [] [] = Unit {0}
-AreReported machine [] (item ∷ items) = ⊥
-AreReported machine (one ∷ more) [] = ⊥
-AreReported machine (one ∷ more) (item ∷ items) = IsReported machine one item × AreReported machine more items
+AreReported machine = heard.AreReported machine.file_name_gives machine.entry_type_gives
 
 -- the listing has all that an opened directory gives, from its first entry to its end
 abbrev pub IsListingOf : {R M E D F : Type 0} → Ghosts R M E D F → (D → Option (Result E Error) → D → Type 0) → D → List Listed → Type 0
@@ -74,16 +61,12 @@ IsListingOf {R} {M} {E} {D} {F} machine next dir listing =
 -- an opened directory is listed whole, unless memory runs out; one that can't be opened is refused
 abbrev pub Lists : {R M E D F : Type 0} → Ghosts R M E D F → (D → Option (Result E Error) → D → Type 0)
     → Result D Refusal → Result (List Listed) Refusal → Type 0
-Lists machine next (Ok dir) (Ok listing) = IsListingOf machine next dir listing
-Lists machine next (Ok dir) (Err refusal) = refusal ≡ Memory
-Lists machine next (Err heard) (Ok listing) = ⊥
-Lists machine next (Err heard) (Err refusal) = refusal ≡ heard
+Lists machine next = heard.Lists next (AreReported machine)
 
 -- what may be heard of a directory
 abbrev pub MayList : {R M E D F : Type 0} → Ghosts R M E D F → (D → Option (Result E Error) → D → Type 0)
     → R → Path → Result (List Listed) Refusal → Type 0
-MayList {R} {M} {E} {D} {F} machine next r path listing =
-    (heard : Result D Refusal) × IsHeard path (machine.read_dir_gives r path) heard × Lists machine next heard listing
+MayList machine next r = heard.MayList (machine.read_dir_gives r) next (AreReported machine)
 
 -- all that an opened file gives, or what came before the fault that ended the reading; or out of
 -- memory

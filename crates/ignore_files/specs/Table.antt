@@ -7,7 +7,8 @@ use Rattle.std.specs.declared.io.ErrorKind.TheVariants.{NotFound, NotADirectory,
 use Rattle.ignore_base.specs.Text.{Bytes, Path}
 use Rattle.ignore_base.specs.declared.fault.Fault.{Fault}
 use Rattle.ignore_base.specs.declared.fault.Fault.TheVariants as fault
-use Rattle.ignore_files.specs.Machine.{Disk, has_nul}
+use Rattle.ignore_files.specs.Heard.{has_nul}
+use Rattle.ignore_files.specs.Machine.{Disk}
 use Rattle.ignore_files.specs.declared.stat.Stat.{Stat}
 use Rattle.ignore_files.specs.declared.table.Row.{Row}
 use Rattle.ignore_files.specs.declared.table.TableMachine.{TableMachine}

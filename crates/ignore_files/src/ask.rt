@@ -3,7 +3,7 @@ ghost use Rattle.std.specs.Prelude.{◌≡◌, ◌↔◌, true, IsTrue, IsErrAnd
 ghost use Rattle.std.specs.IoError.{error_kind, raw_os_error};
 ghost use Rattle.std.specs.declared.io.ErrorKind.TheVariants.{Interrupted};
 ghost use Rattle.ignore_files.specs.Reported.{refusal_of, reported_error, reported_fault, IsReportedAs};
-ghost use Rattle.ignore_files.specs.Machine.{has_nul, IsHeard};
+ghost use Rattle.ignore_files.specs.Heard.{has_nul, IsHeard};
 
 use crate::types::{FileType, Refusal};
 use ignore_base::Fault;

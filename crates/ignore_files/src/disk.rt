@@ -233,6 +233,10 @@ impl<'r, R: Machine> Files for DiskFiles<'r, R> {
     ) -> Result<Option<Identity>, Refusal> {
         Ok(Some(stat(self.rt, path, follow)?.identity))
     }
+
+    fn listings_are_whole(&self) -> bool {
+        self.rt.listings_are_whole()
+    }
 }
 
 impl<'r, R: Machine> DiskFiles<'r, R> {

@@ -15,8 +15,9 @@ use std::alloc::Global;
 /// type that asks another `Files`, and is only out of memory more often, takes that one's
 /// relations, or `Refusal::Memory`.
 pub trait Files {
-    ghost use Rattle.std.specs.Prelude.{Bool, List, Result, Option, ⊤};
+    ghost use Rattle.std.specs.Prelude.{Bool, List, Result, Option, IsTrue, ⊤};
     ghost use Rattle.ignore_base.specs.Text.{Path};
+    ghost use Rattle.ignore_files.specs.Whole.{AreWhole};
     ghost use Rattle.ignore_files.specs.declared.types.Refusal.{Refusal};
     ghost use Rattle.ignore_files.specs.declared.types.Metadata.{Metadata};
     ghost use Rattle.ignore_files.specs.declared.types.Listed.{Listed};
@@ -56,4 +57,14 @@ pub trait Files {
     /// followed as by `stat`.
     fn identity(&self, alloc: Global, path: &str, follow: bool) -> Result<Option<Identity>, Refusal>
         ensures { identity_gives self.now path.now follow result };
+
+    /// Whether its listings are known to be whole: where one has no fault, what it lacks isn't
+    /// there. A walk then asks for no file of rules that a directory doesn't list.
+    ///
+    /// A type that answers `true` proves it, of each tree with which the value is consistent.
+    fn listings_are_whole(&self) -> bool
+        ensures { IsTrue result → AreWhole (stat_gives self.now) (list_gives self.now) }
+    {
+        false
+    }
 }

@@ -3,6 +3,7 @@ ghost use Rattle.std.specs.Prelude.{◌≡◌, Ok, Err, IfOk, OnErr, MatchResult
 ghost use Rattle.ignore_files.specs.declared.types.Refusal.TheVariants.{Memory};
 ghost use Rattle.ignore_files.specs.declared.types.Refusal.TheVariants.{Fault as Refused};
 
+pub use crate::shown::Shown;
 use crate::types::Refusal;
 use ignore_base::Fault;
 use std::alloc::AllocError;

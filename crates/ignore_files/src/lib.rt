@@ -9,6 +9,7 @@ mod files;
 pub mod internal;
 mod machine;
 mod memory;
+mod shown;
 mod stat;
 mod table;
 mod tree_error;

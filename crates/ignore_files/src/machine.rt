@@ -12,7 +12,8 @@ use std::{fs, io, rt};
 
 /// What a system is asked about its files, in the terms of std, and what it may answer.
 pub trait Machine {
-    ghost use Rattle.std.specs.Prelude.{ℕ, Result, ⊤};
+    ghost use Rattle.std.specs.Prelude.{ℕ, Result, IsTrue, ⊤};
+    ghost use Rattle.ignore_files.specs.Heard.{AreReported, HasWhole};
     ghost use Rattle.std.specs.declared.io.Error.{Error};
     ghost use Rattle.std.specs.declared.fs.FileType.{FileType};
     ghost use Rattle.ignore_base.specs.Text.{Bytes, Path};
@@ -105,6 +106,14 @@ pub trait Machine {
         ensures { MatchResult result
             (λ found. canonicalize_gives self.now path.now (Ok (path_buf_bytes found)))
             (λ error. canonicalize_gives self.now path.now (Err error)) };
+
+    /// Whether its listings are known to be whole, as `Files` has it.
+    fn listings_are_whole(&self) -> bool
+        ensures { IsTrue result → HasWhole (metadata_gives self.now) (read_dir_gives self.now)
+            Self.Dir.next_gives (AreReported file_name_gives entry_type_gives) }
+    {
+        false
+    }
 }
 
 impl<R> Machine for R
@@ -165,5 +174,11 @@ where
 
     fn canonicalize(&self, path: &str) -> io::Result<PathBuf> {
         fs::canonicalize(self, path)
+    }
+
+    /// That they are is assumed, as that such a runtime answers truly: std states nothing of its
+    /// answers, so what is proved here is of no disk.
+    fn listings_are_whole(&self) -> bool {
+        true
     }
 }

@@ -157,6 +157,11 @@ impl Machine for TableMachine {
             None => Err(io::Error::from(io::ErrorKind::NotFound)),
         }
     }
+
+    /// They are: no directory is listed.
+    fn listings_are_whole(&self) -> bool {
+        true
+    }
 }
 
 /// What is said of a row.

@@ -157,4 +157,8 @@ impl Files for MemoryTree {
     ) -> Result<Option<Identity>, Refusal> {
         Ok(self.found(path, follow)?.identity)
     }
+
+    fn listings_are_whole(&self) -> bool {
+        true
+    }
 }

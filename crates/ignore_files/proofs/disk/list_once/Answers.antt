@@ -3,7 +3,8 @@ use Rattle.ignore_files.proofs.Heard.{listed-nul, listed-found, listed-refused, 
 use Rattle.ignore_files.proofs.disk.list_once.Goals as goal
 
 pub returns-then-contains : goal.returns-then-contains
-returns-then-contains g c = search (rules, listed-nul)
+returns-then-contains g c =
+    listed-nul g.R.Machine g.R.Dir.Iterator.next_gives c.args.machine.now c.args.path.now (search rules)
 
 pub returns-then-is_interrupted : goal.returns-then-is_interrupted
 returns-then-is_interrupted g c =
