@@ -1,7 +1,10 @@
-use Rattle.std.proofs.Common.{◌≡◌, inr, ◌∷◌, Bool, true, false, cond, List, Some, sym, ap, ◌∙◌, subst}
+use Rattle.std.proofs.Common.{◌≡◌, inr, ◌∷◌, Bool, true, false, cond, List, Option, Some, Result, Ok, slice_get, sym, ap, ◌∙◌, subst}
+use Rattle.std.proofs.lemmas.Bool.{false≢true}
+use Rattle.std.specs.declared.alloc.AllocError.{AllocError}
 use Rattle.ignore_dir.specs.Lists.{Placed}
 use Rattle.ignore_levels.specs.Levels.{IsChain, counts, has_rules, own_or}
 use Rattle.ignore_levels.specs.Levels.IsChain.{a_level}
+use Rattle.ignore_levels.specs.declared.list.Place.{Place}
 use Rattle.ignore_levels.proofs.ChainLemmas.{chain-kept, mark-kept, ruled-kept}
 use Rattle.ignore_levels.proofs.SlotLemmas.{keeps-within}
 use Rattle.ignore_levels.proofs.PassLemmas.{branch-new, keeps-itself}
@@ -60,3 +63,16 @@ pub returns-clause-below : goal.returns-clause-below
 returns-clause-below c =
     let vacant = c.vacant-place.ensures.vacant in
     branch-new c.args.self.now.slots.items c.put.new.self.slots.items c.vacant-place.result _ vacant.0 (c.in_ok-put.ensures.put vacant)
+
+pub returns-in_err-put-clause-filled : goal.returns-in_err-put-clause-filled
+returns-in_err-put-clause-filled c = λ place next free slot counts.
+    let same = c.vacant-place.ensures.filled place next free slot in
+    let at = ap (λ (p : Place). slice_get c.args.self.now.slots.items p.index) same ∙ slot in
+    absurd (false≢true (c.in_err-put.ensures.filled next at).0)
+
+pub returns-clause-filled : goal.returns-clause-filled
+returns-clause-filled c = λ place next free slot counts.
+    let same = c.vacant-place.ensures.filled place next free slot in
+    let at = ap (λ (p : Place). slice_get c.args.self.now.slots.items p.index) same ∙ slot in
+    let put = c.in_ok-put.ensures.filled next at in
+    (ap {B = Result (Option Place) AllocError} (λ (p : Place). Ok (Some p)) same, put.1, put.2)
