@@ -1,5 +1,5 @@
 //! What all queries of a matcher share, and what one call goes by.
-ghost use Rattle.std.specs.Prelude.{◌≡◌};
+ghost use Rattle.std.specs.Prelude.{◌≡◌, IfOk, option_map, string_bytes};
 
 use ignore_dir::{Ground, Outside, Settings};
 use ignore_files::Files;
@@ -29,8 +29,18 @@ impl Clone for Asked {
             settings: self.settings.clone()?,
             outside: self.outside.clone()?,
             root: self.root.clone()?,
-            current_dir: self.current_dir.clone()?,
+            current_dir: copy_of(&self.current_dir)?,
         })
+    }
+}
+
+/// A copy of a directory, if it is known.
+fn copy_of(dir: &Option<String>) -> Result<Option<String>, AllocError>
+    ensures { IfOk result (λ copy. option_map string_bytes copy ≡ option_map string_bytes dir.now) }
+{
+    match dir {
+        None => Ok(None),
+        Some(dir) => Ok(Some(dir.clone()?)),
     }
 }
 

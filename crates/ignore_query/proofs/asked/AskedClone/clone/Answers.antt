@@ -1,0 +1,7 @@
+-- A copy asks about the same.
+use Rattle.ignore_query.proofs.asked.AskedClone.clone.Goals as goal
+
+pub returns : goal.returns
+returns c = record {
+  cases = (c.in_ok-clone.ensures.cases, (c.in_ok-clone-2.ensures.cases, (c.in_ok-clone-3.ensures.cases, c.in_ok-copy_of.ensures)));
+}
