@@ -3,7 +3,6 @@ pub mod ChainLemmas
 pub mod LoadLemmas
 pub mod LoadsOnly
 pub mod PathLemmas
-pub mod RankLemmas
 pub mod SlashLemmas
 pub mod SoftLemmas
 pub mod WholeLemmas

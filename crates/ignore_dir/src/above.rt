@@ -9,10 +9,9 @@ ghost use Rattle.ignore_dir.specs.Ground.{InLoads, InTree};
 ghost use Rattle.ignore_dir.specs.Lists.{IsAfterSlash};
 ghost use Rattle.ignore_dir.specs.Soft.{IsSoft};
 
-use crate::dir::Dir;
+use crate::dir::{Dir, Placed};
 use crate::ground::Ground;
 use crate::laws::one_load;
-use crate::link::Placed;
 use crate::load::load_directory;
 use crate::names::{are_names, components};
 use crate::settings::Settings;

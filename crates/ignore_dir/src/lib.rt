@@ -1,5 +1,5 @@
 //! The rules that the directories of a tree hold: what is read of each directory, what is wrong
-//! with its files, which directories above a root count, and which of the rules decides.
+//! with its files, and which directories above a root count.
 #![tactic(auto)]
 
 pub mod above;
@@ -10,18 +10,15 @@ mod ground;
 pub mod incremental;
 pub mod laws;
 pub mod limits;
-mod link;
 pub mod load;
 pub mod names;
 mod outside;
-pub mod ranks;
 mod rule_files;
 mod settings;
 pub mod verdict;
 
-pub use dir::{Dir, Rank};
+pub use dir::{Dir, Placed, Rank};
 pub use ground::{Asked, Ground};
 pub use incremental::IncrementalMatch;
-pub use link::{Link, Placed};
 pub use outside::{Matchers, Outside};
 pub use settings::{Names, Settings};
