@@ -45,6 +45,7 @@ returns-in_ok-self-in-Ok-clause-begun g c = λ s seen items n suits empty kept i
       device = c.in_ok-self-in-Ok.field-0;
       frames = self.frames;
       made = self.made;
+      text = self.text;
     } in
     c.visit.ensures.visited s root [] [] seen items n suits
     (outside s root [] seen next empty (record { kept = kept.kept; places = kept.places }))
