@@ -22,6 +22,8 @@ mod refused_matchers;
 #[cfg(test)]
 mod refusing;
 #[cfg(test)]
+mod shared;
+#[cfg(test)]
 mod trees;
 #[cfg(test)]
 mod walks;
