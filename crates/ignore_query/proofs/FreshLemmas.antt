@@ -1,6 +1,8 @@
 -- What holds where nothing is kept.
 use Rattle.std.proofs.Common.{◌≡◌, ℕ, Bool, true, false, not, cond, List, [], ◌∷◌, ◌++◌, map, Option, None, Some, is_some, refl, sym, ap, ◌∙◌}
+use Rattle.std.proofs.Math.Logic.{∥∥₁_elim}
 use Rattle.std.specs.BTreeMap.{get_by_text}
+use mathlib.Core.HLevel.{⊥_prop}
 use Rattle.ignore_base.specs.Paths.{join_of}
 use Rattle.ignore_dir.specs.Chains.{slashed}
 use Rattle.ignore_dir.specs.Limits.{beyond, is_beyond, limited, no_match, size_problem}
@@ -33,16 +35,18 @@ nothing_agrees g c h = record {
     never : true ≡ false → ⊥
     never e = cc
 
-    no_key : (key : List ℕ) (k : Kept) → get_by_text c.dirs key ≡ Some k → ⊥
-    no_key key k e = let z = h.dirs key in cc
-
     none : (names : List (List ℕ)) (k : Kept) → kept_at c names ≡ Some k → ⊥
-    none names k e = no_key (slashed names) k e
+    none names k e = let z = h.dirs names in cc
+
+    no_key : (key : List ℕ) (k : Kept) → get_by_text c.dirs key ≡ Some k → ⊥
+    no_key key k e =
+        ∥∥₁_elim c.keys ⊥_prop
+        (λ are. let named = are key k e in none named.0 k (ap (λ t. get_by_text c.dirs t) (sym named.2) ∙ e))
 
 all_new : (c : Cache) → KeepsNothing c → (fronts : List (List (List ℕ))) → not_kept c fronts ≡ fronts
 all_new c h [] = refl
 all_new c h (names ∷ fronts) =
-    ap (λ o. cond (not (is_some o)) (names ∷ not_kept c fronts) (not_kept c fronts)) (h.dirs (slashed names))
+    ap (λ o. cond (not (is_some o)) (names ∷ not_kept c fronts) (not_kept c fronts)) (h.dirs names)
     ∙ ap (λ l. names ∷ l) (all_new c h fronts)
 
 below : (g : Scene) (c : Cache) → KeepsNothing c → (names : List (List ℕ)) → new_below g c names ≡ problems_below g names

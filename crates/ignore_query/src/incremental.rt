@@ -186,6 +186,7 @@ impl IncrementalIgnore {
         path: &str,
         is_dir: bool,
     ) -> Result<(IncrementalMatch, Option<Error>), Error>
+        requires named { list_all is_proper (components path.now) ≡ true }
         ensures value { WhereDecided F.Files files.now self.old path.now (λ g.
             IfOk result (λ r. r.0 ≡ (queries.answer_of_rules g path.now is_dir).0)) }
         ensures reports { WhereDecided F.Files files.now self.old path.now (λ g.

@@ -1,8 +1,6 @@
 //! What a matcher keeps.
 ghost use Rattle.std.specs.Prelude.{◌≡◌};
-ghost use Rattle.ignore_dir.specs.Scene.{Scene};
-ghost use Rattle.ignore_query.specs.Agrees.{Agrees};
-ghost use Rattle.ignore_query.specs.Fresh.{KeepsNothing};
+ghost use Rattle.ignore_query.specs.Keys.{AreKeys};
 
 use ignore_levels::{Levels, Place};
 use std::alloc::Global;
@@ -32,9 +30,14 @@ pub struct Cache {
     /// The directories from the root down. The key of one is its names below the root, each
     /// followed by `/`: so one is at or below another where its key begins with the other's.
     pub dirs: BTreeMap<String, Kept>,
+    pub ghost keys: { ∥ AreKeys dirs ∥₁ },
 }
 
 impl Cache {
+    ghost use Rattle.ignore_dir.specs.Scene.{Scene};
+    ghost use Rattle.ignore_query.specs.Agrees.{Agrees};
+    ghost use Rattle.ignore_query.specs.Fresh.{KeepsNothing};
+
     /// Nothing is kept. It allocates nothing.
     pub(crate) fn new(alloc: Global) -> Cache
         ensures fresh { (g : Scene) → Agrees g result }

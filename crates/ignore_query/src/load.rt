@@ -16,6 +16,7 @@ ghost use Rattle.ignore_files.specs.Tree.{Tree};
 ghost use Rattle.ignore_levels.specs.Levels.{Keeps, slots_of};
 ghost use Rattle.ignore_query.specs.declared.kept.Kept as kept;
 ghost use Rattle.ignore_query.specs.Agrees.{Agrees, IsNext, IsRight, is_loaded};
+ghost use Rattle.ignore_query.specs.Keys.{IsKey};
 ghost use Rattle.ignore_query.specs.Listed.{IsBelow};
 ghost use Rattle.ignore_query.specs.Needs.{KeepsNeeded, Stays, is_known, needed};
 ghost use Rattle.ignore_query.specs.Reached.{scene_of};
@@ -132,6 +133,7 @@ impl Cache {
         key: &str,
         errors: &mut Vec<Error>,
     ) -> Result<Kept, Error>
+        requires named { IsKey key.now }
         ensures stays { Stays self.old self.new }
         ensures kept { OnOk result ((text : List ℕ) → is_some (get_by_text self.new.dirs text)
             ≡ (is_some (get_by_text self.old.dirs text) || bytes_eq key.now text)) }
@@ -166,6 +168,7 @@ impl Cache {
         names: &[&str],
         errors: &mut Vec<Error>,
     ) -> Result<Kept, Error>
+        requires named { All IsName (map (λ n. n.now) names.now) }
         ensures stays { Stays self.old self.new }
         ensures kept { WhereRooted F.Files call.now self.old (map (λ n. n.now) names.now) (λ g all.
             OnOk result (KeepsNeeded (needed g all) self.old self.new)) }
@@ -208,6 +211,7 @@ impl Cache {
         is_dir: bool,
         errors: &mut Vec<Error>,
     ) -> Result<Verdict, Error>
+        requires named { list_all is_proper (components path.now) ≡ true }
         ensures stays { Stays self.old self.new }
         ensures kept { WhereKept F.Files call.now self.old path.now (λ g.
             OnOk result (KeepsNeeded (needed g (components path.now)) self.old self.new)) }

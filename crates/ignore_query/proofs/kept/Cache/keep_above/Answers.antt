@@ -38,6 +38,7 @@ returns-clause-agrees g c = λ tree loads honest are there agrees.
       base = found.base;
       levels = c.add_all.new.self;
       dirs = c.args.self.now.dirs;
+      keys = c.args.self.now.keys;
     } in
     first_agrees scene c.args.self.now after agrees c.if-self.false refl there
     (subst (λ (l : List Placed). IsChain c.add_all.new.self.slots.items c.in_ok-self.field-0 (counting (reverse l))) dirs
