@@ -121,7 +121,7 @@ impl Stack {
             → 0 < length self.old.frames.items → Stands g self.old items n → OnOk result (Steps g self.new items n) }
         ensures made { length self.new.made.items ≤ length self.old.made.items + 2 }
     {
-        match self.take_listed()? {
+        match self.take_listed() {
             None => Ok(()),
             Some(listed) => {
                 set_text(&mut self.text, self.frames.as_slice(), &listed)?;
@@ -134,24 +134,20 @@ impl Stack {
     }
 
     /// What is listed next in the directory that was entered last; where nothing is, it is left.
-    fn take_listed(&mut self) -> Result<Option<Listed>, AllocError>
+    fn take_listed(&mut self) -> Option<Listed>
         ensures made { self.new.made ≡ self.old.made }
         ensures taken { (g : Scene) (items : List Yielded) (n : ℕ) → 0 < length self.old.frames.items → Stands g self.old items n
-            → IfOk result (λ next. MatchOption next (Steps g self.new items n) (λ x. Takes g self.new x items n)) }
+            → MatchOption result (Steps g self.new items n) (λ x. Takes g self.new x items n) }
     {
-        let Some(mut frame) = self.frames.pop() else {
-            return Ok(None);
+        let Some(frame) = self.frames.last_mut() else {
+            return None;
         };
-        match take_next(&mut frame.rest) {
-            None => {
-                self.levels.cut(frame.len);
-                Ok(None)
-            }
-            Some(listed) => {
-                self.frames.push(frame)?;
-                Ok(Some(listed))
-            }
+        if let Some(listed) = take_next(&mut frame.rest) {
+            return Some(listed);
         }
+        self.levels.cut(frame.len);
+        self.frames.pop();
+        None
     }
 
     /// What an entry below a root gives, which was taken last.

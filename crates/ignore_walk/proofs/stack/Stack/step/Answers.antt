@@ -16,7 +16,7 @@ use Rattle.ignore_walk.proofs.stack.Stack.step.Goals as goal
 
 pub returns-in-None-clause-stepped : goal.returns-in-None-clause-stepped
 returns-in-None-clause-stepped g c = λ s items n suits some r.
-    when_none _ _ c.in_ok-take_listed.field-0 c.in-None.is (c.in_ok-take_listed.ensures.taken s items n some r)
+    when_none _ _ c.take_listed.result c.in-None.is (c.take_listed.ensures.taken s items n some r)
 
 pub returns-in-Err-clause-stepped : goal.returns-in-Err-clause-stepped
 returns-in-Err-clause-stepped g c = λ s items n suits some r.
@@ -24,7 +24,7 @@ returns-in-Err-clause-stepped g c = λ s items n suits some r.
     let stack : Stack = record was { text = c.set_text.new.text } in
     let x = c.in-Some.listed in
     let t = takes_same s was stack x items n (record { seen = refl; roots = refl; above = refl; device = refl }) refl refl refl
-    (when_some _ _ c.in_ok-take_listed.field-0 x c.in-Some.is (c.in_ok-take_listed.ensures.taken s items n some r)) in
+    (when_some _ _ c.take_listed.result x c.in-Some.is (c.take_listed.ensures.taken s items n some r)) in
     let p = problem_of c.in-Err.error in
     let state = state_of stack t.root t.place t.seen in
     let frames : AreFrames s t.root t.place (reverse c.as_slice-in-Some.result.now) =
@@ -50,7 +50,7 @@ returns-in-Ok-clause-stepped g c = λ s items n suits some r.
     let stack : Stack = record was { text = c.set_text.new.text } in
     let x = c.in-Some.listed in
     let t = takes_same s was stack x items n (record { seen = refl; roots = refl; above = refl; device = refl }) refl refl refl
-    (when_some _ _ c.in_ok-take_listed.field-0 x c.in-Some.is (c.in_ok-take_listed.ensures.taken s items n some r)) in
+    (when_some _ _ c.take_listed.result x c.in-Some.is (c.take_listed.ensures.taken s items n some r)) in
     let e = entry_of c.in-Ok.entry in
     let o = problem_in c.in-Ok.entry in
     let state = state_of stack t.root t.place t.seen in
