@@ -4,6 +4,7 @@
 mod asked;
 mod clean;
 mod decide;
+mod explain;
 mod forget;
 mod incremental;
 mod kept;
@@ -14,9 +15,11 @@ mod paths;
 mod places;
 mod root;
 mod size;
+mod told;
 
 pub use asked::Asked;
 pub use ignore_dir::IncrementalMatch;
+pub use ignore_why::{Cause, Explanation, NamedRule, Reason, RuleRank};
 pub use incremental::IncrementalIgnore;
 pub use kept::{Cache, Kept};
 pub use paths::check_paths;

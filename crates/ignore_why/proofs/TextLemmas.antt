@@ -1,0 +1,8 @@
+-- The part of a text before an offset.
+use Rattle.std.proofs.Common.{◌≡◌, ℕ, ◌-◌, ◌≤◌, List, length, take, drop, sym, ap, arith}
+use Rattle.std.proofs.lemmas.List.{length-drop}
+
+pub take_before : (text : List ℕ) (n : ℕ) → n ≤ length text → take n text ≡ take (length text - length (drop n text)) text
+take_before text n le =
+    let same : n ≡ length text - length (drop n text) = omega (arith, length-drop n text, le) in
+    ap (λ k. take k text) same
