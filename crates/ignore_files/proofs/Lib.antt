@@ -10,6 +10,7 @@ mod JoinedName
 mod Leads
 mod Numbered
 mod GrownLemmas
+mod RemovedLemmas
 mod Honest
 mod Truthful
 mod ChangesOnly

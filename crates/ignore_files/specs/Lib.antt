@@ -9,6 +9,7 @@ pub mod Answers
 pub mod Dirs
 pub mod Grown
 pub mod Changes
+pub mod Removed
 pub mod Reported
 pub mod Machine
 pub mod Disk

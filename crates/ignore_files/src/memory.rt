@@ -12,6 +12,7 @@ mod canonical_path;
 mod directory;
 mod entry;
 mod node;
+mod remove;
 mod resolve;
 
 use crate::memory::add::add_node;
