@@ -13,8 +13,9 @@
    - At most one call at a time has a handle, and the handle stays on the thread that made it.
    - `malloc`, `realloc` and `free` are of one allocator, which aligns as C asks.
    - No call is made from a signal handler, nor in the forked child of a process with threads.
+   - Two handles that one call is given are two: a matcher and a tree, say, and not one twice.
    - Where a call answers IGNORE_NO_MEMORY, or IGNORE_NOT_UTF8, or IGNORE_MISUSED, it has changed
-     nothing of its handle. */
+     nothing of its handles; a matcher may have read more directories, by which no answer changes. */
 #ifndef IGNORE_PROVED_H
 #define IGNORE_PROVED_H
 
@@ -259,6 +260,45 @@ uint32_t ignore_builder_max_depth(ignore_builder *builder, bool is_set, size_t m
 uint32_t ignore_builder_min_depth(ignore_builder *builder, bool is_set, size_t most);
 uint32_t ignore_builder_max_filesize(ignore_builder *builder, bool is_set, uint64_t most);
 uint32_t ignore_builder_limit(ignore_builder *builder, uint64_t steps);
+
+/* The globs of a command line, which decide before all other rules: a glob whitelists what it
+   matches, one with a leading `!` ignores it. They begin anew, relative to a directory; each is
+   added; then they count. IGNORE_REFUSED where a glob is invalid: nothing is added, and the problem
+   is kept. IGNORE_MISUSED, too, where they weren't begun. */
+uint32_t ignore_builder_overrides(ignore_builder *builder, const uint8_t *root, size_t root_length,
+                                  bool case_insensitive);
+uint32_t ignore_builder_add_override(ignore_builder *builder, const uint8_t *glob,
+                                     size_t glob_length);
+uint32_t ignore_builder_set_overrides(ignore_builder *builder);
+
+/* File types: a glob more of one, a definition (`html:*.html`, `web:include:html,css`), the types
+   that are there by default, none of a name; which are chosen, and which are to be ignored (`all`
+   stands for those that are there). The choice counts from ignore_builder_set_types on, which
+   answers IGNORE_REFUSED where no type has a chosen name, or a glob of one is invalid. */
+uint32_t ignore_builder_type_add(ignore_builder *builder, const uint8_t *name, size_t name_length,
+                                 const uint8_t *glob, size_t glob_length);
+uint32_t ignore_builder_type_add_def(ignore_builder *builder, const uint8_t *definition,
+                                     size_t definition_length);
+uint32_t ignore_builder_type_add_defaults(ignore_builder *builder);
+uint32_t ignore_builder_type_clear(ignore_builder *builder, const uint8_t *name,
+                                   size_t name_length);
+uint32_t ignore_builder_type_select(ignore_builder *builder, const uint8_t *name,
+                                    size_t name_length);
+uint32_t ignore_builder_type_negate(ignore_builder *builder, const uint8_t *name,
+                                    size_t name_length);
+uint32_t ignore_builder_set_types(ignore_builder *builder);
+
+/* Reads a file of rules of a tree now, and adds it after the others that were added so. It is
+   relative to the directory of ignore_builder_current_dir, or else to the working directory.
+   IGNORE_REFUSED where something is wrong with the file: its other lines are added, and the problem
+   is kept. */
+uint32_t ignore_builder_add_ignore(ignore_builder *builder, ignore_tree *tree, const uint8_t *path,
+                                   size_t path_length);
+
+/* What is wrong with what the builder was told last of globs, types and files: as
+   ignore_rules_problem. */
+uint32_t ignore_builder_problem(ignore_builder *builder, uint8_t *room, size_t room_length,
+                                size_t *whole);
 
 /* Frees a builder. */
 void ignore_builder_free(ignore_builder builder);

@@ -1,11 +1,12 @@
 """Trees of files in memory, and what matchers and walks go by."""
 from __future__ import annotations
 
-from ctypes import byref
-from typing import Optional
+import ctypes
+from ctypes import byref, c_size_t
+from typing import Iterable, Optional
 
 from . import _library as lib
-from ._errors import MisusedError, checked
+from ._errors import InvalidRuleError, MisusedError, checked
 from .rules import Path, encoded
 
 #: The faults of a file system, by their names.
@@ -166,4 +167,97 @@ class Builder(Owner):
         for name, value in known.items():
             if value is not None:
                 self._call(f"env_{name}", *text(value))
+        return self
+
+    def _tried(self, name: str, *words: object) -> None:
+        call = getattr(lib.library, f"ignore_builder_{name}")
+        code = call(self.handle, *words)
+        if code == lib.REFUSED:
+            raise InvalidRuleError(self._problem())
+        checked(code)
+
+    def _problem(self) -> str:
+        room, whole = ctypes.create_string_buffer(1024), c_size_t()
+        while True:
+            self._call("problem", room, len(room), byref(whole))
+            if whole.value <= len(room):
+                return room.raw[: whole.value].decode("utf-8")
+            room = ctypes.create_string_buffer(whole.value)
+
+    def overrides(
+        self, root: Path, globs: Iterable[str], *, case_insensitive: bool = False
+    ) -> "Builder":
+        """Sets the globs of a command line, relative to a directory. Raises InvalidRuleError where
+        one is invalid; then nothing is set.
+        """
+        self.begin_overrides(root, case_insensitive=case_insensitive)
+        for glob in globs:
+            self.add_override(glob)
+        return self.set_overrides()
+
+    def begin_overrides(self, root: Path, *, case_insensitive: bool = False) -> "Builder":
+        """Begins the globs of a command line anew, relative to a directory."""
+        self._call("overrides", *text(root), case_insensitive)
+        return self
+
+    def add_override(self, glob: str) -> "Builder":
+        """Adds a glob of the command line."""
+        self._tried("add_override", *text(glob))
+        return self
+
+    def set_overrides(self) -> "Builder":
+        """Has the globs of the command line count from now on."""
+        self._call("set_overrides")
+        return self
+
+    def add_type(self, name: str, glob: str) -> "Builder":
+        """Adds a glob to a file type, which counts once it is chosen."""
+        self._tried("type_add", *text(name), *text(glob))
+        return self
+
+    def add_type_def(self, definition: str) -> "Builder":
+        """Adds a definition of a file type, as `html:*.html` or `web:include:html,css`."""
+        self._tried("type_add_def", *text(definition))
+        return self
+
+    def add_default_types(self) -> "Builder":
+        """Adds the file types that are there by default."""
+        self._tried("type_add_defaults")
+        return self
+
+    def clear_type(self, name: str) -> "Builder":
+        """Removes a file type."""
+        self._call("type_clear", *text(name))
+        return self
+
+    def choose_types(self, select: Iterable[str] = (), negate: Iterable[str] = ()) -> "Builder":
+        """Chooses file types, and some to be ignored. Raises InvalidRuleError where there is no such
+        type, or one has an invalid glob; then the types that counted before count on.
+        """
+        for name in select:
+            self.select_type(name)
+        for name in negate:
+            self.negate_type(name)
+        return self.set_types()
+
+    def select_type(self, name: str) -> "Builder":
+        """Chooses a file type; `all` stands for those that are there."""
+        self._tried("type_select", *text(name))
+        return self
+
+    def negate_type(self, name: str) -> "Builder":
+        """Chooses a file type to be ignored."""
+        self._tried("type_negate", *text(name))
+        return self
+
+    def set_types(self) -> "Builder":
+        """Has the chosen file types count from now on."""
+        self._tried("set_types")
+        return self
+
+    def add_ignore(self, tree: Tree, path: Path) -> "Builder":
+        """Reads a file of rules of a tree, and adds it after the others that were added so. Raises
+        InvalidRuleError where something is wrong with it; its other lines are added then.
+        """
+        self._tried("add_ignore", tree.handle, *text(path))
         return self

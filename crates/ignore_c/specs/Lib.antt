@@ -9,3 +9,4 @@ pub mod Trees
 pub mod Setups
 pub mod Matching
 pub mod Walking
+pub mod Wishes

@@ -113,7 +113,7 @@ fn verdict_code(found: IncrementalMatch) -> u32
 }
 
 /// The rest of a match.
-pub(crate) fn found(given: &Result<IncrementalMatch, Stopped>) -> Found
+pub(crate) fn rest_of(given: &Result<IncrementalMatch, Stopped>) -> Found
     ensures { result ≡ found_in given.now }
 {
     match given {

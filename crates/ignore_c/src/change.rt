@@ -49,7 +49,7 @@ pub(crate) fn begin(alloc: Global, cwd: &[u8]) -> Result<Kept, Stopped>
 }
 
 /// Changes the tree that is kept.
-pub(crate) fn change(kept: &mut Kept, path: &[u8], change: Change<'_>) -> Result<(), Stopped>
+pub(crate) fn tell(kept: &mut Kept, path: &[u8], change: Change<'_>) -> Result<(), Stopped>
     ensures { Changes kept.old change.entry path.now result kept.new }
 {
     let Kept::Files(Held::Tree(tree)) = kept else {

@@ -6,6 +6,7 @@ mod ask;
 mod asker;
 mod builder;
 mod change;
+mod choice;
 mod handle;
 mod lines;
 mod loose;
@@ -20,6 +21,7 @@ mod text;
 mod tree;
 mod walk;
 mod walked;
+mod wish;
 
 pub use asker::Found;
 pub use handle::{Handle, Held, Kept, Lines};

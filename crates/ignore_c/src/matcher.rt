@@ -77,7 +77,7 @@ fn answered(matcher: Handle, asked: Asked<'_>) -> (Handle, (u32, Found))
 {
     let mut kept = open(matcher);
     let given = asker::ask(&mut kept, asked);
-    (close(kept), (asker::code(&given), asker::found(&given)))
+    (close(kept), (asker::code(&given), asker::rest_of(&given)))
 }
 
 /// Forgets what is kept of the directory at a path and of those below it, and counts them.

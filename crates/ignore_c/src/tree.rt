@@ -65,7 +65,7 @@ fn told(tree: Handle, news: News<'_>) -> (Handle, u32)
     ensures { Told tree.value news.entry.change news.entry.path.now result.1 result.0.value }
 {
     let mut kept = open(tree);
-    let code = done(change::change(&mut kept, news.path, news.change));
+    let code = done(change::tell(&mut kept, news.path, news.change));
     (close(kept), code)
 }
 

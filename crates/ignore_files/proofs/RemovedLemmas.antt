@@ -27,11 +27,11 @@ use Rattle.ignore_files.proofs.Places.{folder_ok}
 
 -- without the entries of a name, it leads nowhere, and every other one as before
 pub named_without : (q name : List ℕ) (es : List Entry) → named q (without name es) ≡ cond (bytes_eq name q) None (named q es)
-named_without q name [] = either (bytes_eq name q)
+named_without q name [] = either (bytes_eq name q) None
   where
-    either : (b : Bool) → None ≡ cond b (None {A = ℕ}) None
-    either true = refl
-    either false = refl
+    either : (b : Bool) (o : Option ℕ) → o ≡ cond b o o
+    either true o = refl
+    either false o = refl
 named_without q name (Nameless ∷ es) = named_without q name es
 named_without q name (Named n t i ∷ es) = either (bytes_eq n name) (bytes_eq n q) (bytes_eq name q) refl refl refl (named_without q name es)
   where
