@@ -20,9 +20,9 @@ class Host:
         self.root = root
         self.names = (*DECIDING, *settings.get("custom_ignore_filenames", ()))
         self._asks_sizes = settings.get("max_filesize") is not None
-        self._follows = bool(settings.get("follow_links"))
         self._folders: Set[str] = {"/"}
-        self._files: Dict[str, Optional[bytes]] = {}
+        self._files: Dict[str, bytes] = {}
+        self._links: Dict[str, str] = {}
         self._told: Set[str] = set()
         known = os.environ.get
         cwd = os.path.realpath(os.getcwd())
@@ -34,10 +34,7 @@ class Host:
             "git_config_system": known("GIT_CONFIG_SYSTEM"),
         }
         self.tree = Tree(cwd)
-        if os.path.isdir(root):
-            self._folder(root)
-        else:
-            self._file(root)
+        self._path(root)
         self._tell_global()
         above = root
         while above != "/":
@@ -48,28 +45,32 @@ class Host:
         """Tells the directories from the root down to one, whole."""
         if below in self._told:
             return
-        if below:
-            self.tell_way(os.path.dirname(below))
-        self._told.add(below)
-        self._tell(os.path.join(self.root, below) if below else self.root, None)
+        folder = ""
+        self.tell_listed(folder, None)
+        for name in below.split("/") if below else ():
+            folder = f"{folder}/{name}" if folder else name
+            self.tell_listed(folder, None)
 
-    def tell_listed(self, below: str, names: Set[str]) -> None:
-        """Tells a directory of which all names are known."""
+    def tell_listed(self, below: str, names: Optional[Set[str]]) -> None:
+        """Tells a directory below the root, of which all names may be known."""
         if below not in self._told:
             self._told.add(below)
             self._tell(os.path.join(self.root, below) if below else self.root, names)
 
     def tell_size(self, below: str, is_dir: bool) -> None:
         """Tells the size of a file, where it decides."""
-        if self._asks_sizes and not is_dir and below:
-            path = os.path.join(self.root, below)
-            try:
-                size = (os.stat if self._follows else os.lstat)(path).st_size
-            except OSError:
-                return
-            if path not in self._files:
-                self._content(path, b"")
-            self.tree.set_size(path, size)
+        if not self._asks_sizes or is_dir or not below:
+            return
+        path = os.path.join(self.root, below)
+        try:
+            found = os.lstat(path)
+        except OSError:
+            return
+        if not self._has(path) and stat.S_ISREG(found.st_mode):
+            path = os.path.join(self._folder(os.path.dirname(path)), os.path.basename(path))
+            self._content(path, b"")
+        if path in self._files:
+            self.tree.set_size(path, found.st_size)
 
     def forget(self, below: str) -> None:
         """Has a directory and those below it told anew when they are needed."""
@@ -79,58 +80,62 @@ class Host:
     def _tell(self, folder: str, names: Optional[Set[str]]) -> None:
         for name in self.names:
             path = os.path.join(folder, name)
-            if names is not None and name not in names and path not in self._files:
+            if names is not None and name not in names and not self._has(path):
                 continue
             if name == ".git":
                 self._git(path)
             else:
-                self._file(path)
+                self._path(path)
 
     def _git(self, git: str) -> None:
         """The folder of a repository, or the file that names one."""
-        self._file(git)
+        git = self._path(git)
         if git in self._folders:
-            self._file(os.path.join(git, "info", "exclude"))
+            self._path(os.path.join(git, "info", "exclude"))
         line = first_line(self._files.get(git))
         if line is not None and line.startswith("gitdir: "):
-            folder = os.path.join(self.env["current_dir"], line[len("gitdir: "):])
-            common = os.path.join(folder, "commondir")
-            self._file(os.path.normpath(common))
-            named = first_line(self._files.get(os.path.normpath(common)))
+            folder = self._full(line[len("gitdir: "):])
+            named = first_line(self._files.get(self._path(os.path.join(folder, "commondir"))))
             if named is not None:
                 base = folder if named.startswith(".") else self.env["current_dir"]
-                self._file(os.path.normpath(os.path.join(base, named, "info", "exclude")))
+                self._path(os.path.normpath(os.path.join(base, named, "info", "exclude")))
 
     def _tell_global(self) -> None:
         """git's configuration, and each file that it may name."""
         home, xdg = self.env["home"], self.env["xdg_config_home"]
-        system = self.env["git_config_system"] or "/etc/gitconfig"
-        own = [self.env["git_config_global"]] if self.env["git_config_global"] else []
+        configs = [self.env["git_config_system"] or "/etc/gitconfig"]
+        if self.env["git_config_global"]:
+            configs.append(self.env["git_config_global"])
         if home:
-            own.append(os.path.join(home, ".gitconfig"))
+            configs.append(os.path.join(home, ".gitconfig"))
         folder = xdg or (home and os.path.join(home, ".config"))
         if folder:
-            own.append(os.path.join(folder, "git", "config"))
-            self._file(self._full(os.path.join(folder, "git", "ignore")))
-        for config in [*own, system]:
-            path = self._full(config)
-            self._file(path)
-            for value in EXCLUDES.findall(self._files.get(path) or b""):
+            configs.append(os.path.join(folder, "git", "config"))
+            self._path(self._full(os.path.join(folder, "git", "ignore")))
+        for config in configs:
+            text = self._files.get(self._path(self._full(config))) or b""
+            for value in EXCLUDES.findall(text):
                 named = os.fsdecode(value)
                 if home and named.startswith("~"):
                     named = home + named[1:]
-                self._file(self._full(named))
+                self._path(self._full(named))
 
     def _full(self, path: str) -> str:
         return os.path.normpath(os.path.join(self.env["current_dir"], path))
 
-    def _file(self, path: str) -> None:
-        """What is at a path: a file with its bytes, a folder, a link and what it leads to."""
+    def _has(self, path: str) -> bool:
+        return path in self._files or path in self._folders or path in self._links
+
+    def _path(self, path: str) -> str:
+        """Tells what is at a path, and the links on its way: a file with its bytes, a folder, a link
+        and what it leads to. It returns the path without links on the way to it.
+        """
         try:
             kind = os.lstat(path).st_mode
         except (OSError, ValueError):
             self._gone(path)
-            return
+            return path
+        path = os.path.join(self._folder(os.path.dirname(path)), os.path.basename(path))
         if stat.S_ISLNK(kind):
             self._link(path)
         elif stat.S_ISDIR(kind):
@@ -142,47 +147,54 @@ class Host:
             except OSError:
                 self._content(path, b"")
                 self.tree.cut_contents(path, 0, "PermissionDenied")
+        return path
 
     def _content(self, path: str, content: bytes) -> None:
-        if path in self._folders or self._files.get(path, content) is None:
+        had = self._files.get(path)
+        if had == content:
+            return
+        if had is None:
             self._gone(path)
-        if path not in self._files:
-            self._folder(os.path.dirname(path))
             self.tree.add_file(path, content)
-        elif self._files[path] != content:
+        else:
             self.tree.rewrite_file(path, content)
         self._files[path] = content
 
     def _link(self, path: str) -> None:
-        if path in self._files or path in self._folders:
+        target = os.readlink(path)
+        if self._links.get(path) != target:
             self._gone(path)
-        self._folder(os.path.dirname(path))
-        self.tree.add_link(path, os.readlink(path))
-        self._files[path] = None
+            self.tree.add_link(path, target)
+            self._links[path] = target
         led = os.path.realpath(path)
         if led != path and not os.path.islink(led):
-            self._file(led)
+            self._path(led)
 
-    def _folder(self, path: str) -> None:
-        if path in self._folders:
-            return
-        if path in self._files:
-            self._gone(path)
-        self._folder(os.path.dirname(path))
-        if os.path.islink(path):
-            self._link(path)
-            return
-        self.tree.add_dir(path)
-        self._folders.add(path)
+    def _folder(self, path: str) -> str:
+        """Tells a folder, and those above it; it returns its path without links."""
+        real = "/"
+        for name in path.split("/")[1:]:
+            here = os.path.join(real, name)
+            if here in self._folders:
+                real = here
+            elif os.path.islink(here):
+                self._link(here)
+                real = os.path.realpath(here)
+            else:
+                self._gone(here)
+                self.tree.add_dir(here)
+                self._folders.add(here)
+                real = here
+        return real
 
     def _gone(self, path: str) -> None:
-        if path not in self._files and path not in self._folders:
+        if not self._has(path):
             return
         self.tree.remove(path)
         inside = path + "/"
-        self._files = {
-            it: had for it, had in self._files.items() if it != path and not it.startswith(inside)
-        }
+        for told in (self._files, self._links):
+            for it in [it for it in told if it == path or it.startswith(inside)]:
+                del told[it]
         self._folders = {it for it in self._folders if it != path and not it.startswith(inside)}
 
 

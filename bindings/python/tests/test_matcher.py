@@ -148,6 +148,23 @@ class Disk(unittest.TestCase):
         with Matcher(self.top / "r", parents=False) as matcher:
             self.assertFalse(matcher.is_ignored("x"))
 
+    def test_git_by_a_link_and_the_global_file(self):
+        """The configuration of a home folder that is a link, and links on the way to paths."""
+        self.put("real/.gitconfig", "[core]\n\texcludesFile = ~/named\n")
+        self.put("real/named", "global\n")
+        os.symlink("real", self.top / "home")
+        self.put("r/.git/HEAD")
+        self.put("r/d/.gitignore", "x\n")
+        os.symlink("d", self.top / "r" / "l")
+        saved = dict(os.environ)
+        self.addCleanup(os.environ.update, saved)
+        os.environ["HOME"] = str(self.top / "home")
+        os.environ.pop("XDG_CONFIG_HOME", None)
+        with Matcher(self.top / "r") as matcher:
+            self.assertTrue(matcher.is_ignored("global"))
+            self.assertTrue(matcher.is_ignored("l/x"))
+            self.assertFalse(matcher.is_ignored("l/y"))
+
 
 if __name__ == "__main__":
     unittest.main()

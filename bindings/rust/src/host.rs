@@ -40,7 +40,7 @@ impl Known {
 enum Told {
     Dir,
     File(Vec<u8>),
-    Link,
+    Link(PathBuf),
 }
 
 /// Tells a tree what the disk has, once for each directory, and again after `forget`.
@@ -103,7 +103,9 @@ impl Host {
         let Ok(found) = fs::symlink_metadata(&path) else {
             return Ok(());
         };
-        if !self.paths.contains_key(&path) {
+        if !self.paths.contains_key(&path) && found.is_file() {
+            let folder = path.parent().map(Path::to_path_buf);
+            folder.map_or(Ok(PathBuf::new()), |folder| self.folder(&folder))?;
             self.file(&path, Vec::new())?;
         }
         match self.paths.get(&path) {
@@ -123,7 +125,7 @@ impl Host {
             if names.is_some_and(|all| !all.contains(&name)) && !self.paths.contains_key(&path) {
                 continue;
             }
-            self.path(&path)?;
+            let path = self.path(&path)?;
             if name == ".git" {
                 self.repository(&path)?;
             }
@@ -134,7 +136,8 @@ impl Host {
     /// The exclude file of a repository's folder, or of the one that a file names.
     fn repository(&mut self, git: &Path) -> Result<(), Error> {
         if let Some(Told::Dir) = self.paths.get(git) {
-            return self.path(&git.join("info/exclude"));
+            self.path(&git.join("info/exclude"))?;
+            return Ok(());
         }
         let Some(line) = self.first_line(git) else {
             return Ok(());
@@ -142,14 +145,12 @@ impl Host {
         let Some(named) = line.strip_prefix("gitdir: ") else {
             return Ok(());
         };
-        let folder = self.known.current_dir.join(named);
-        let common = clean(&folder.join("commondir"));
-        self.path(&common)?;
+        let folder = clean(&self.known.current_dir.join(named));
+        let common = self.path(&folder.join("commondir"))?;
         if let Some(named) = self.first_line(&common) {
-            let base = if named.starts_with('.') {
-                &folder
-            } else {
-                &self.known.current_dir
+            let base = match named.starts_with('.') {
+                true => &folder,
+                false => &self.known.current_dir,
             };
             let exclude = clean(&base.join(named).join("info/exclude"));
             self.path(&exclude)?;
@@ -181,8 +182,7 @@ impl Host {
             self.path(&path)?;
         }
         for config in configs {
-            let path = clean(&self.known.current_dir.join(config));
-            self.path(&path)?;
+            let path = self.path(&clean(&self.known.current_dir.join(config)))?;
             for named in excludes_in(self.paths.get(&path)) {
                 let whole = match (named.strip_prefix("~"), &home) {
                     (Some(rest), Some(home)) => format!("{}{rest}", home.display()),
@@ -194,27 +194,31 @@ impl Host {
         Ok(())
     }
 
-    /// What is at a path: a file with its bytes, a folder, a link and what it leads to.
-    fn path(&mut self, path: &Path) -> Result<(), Error> {
+    /// Tells what is at a path, and the links on its way: a file with its bytes, a folder, a link and
+    /// what it leads to. It returns the path without links on the way to it.
+    fn path(&mut self, path: &Path) -> Result<PathBuf, Error> {
         let Ok(found) = fs::symlink_metadata(path) else {
-            return self.gone(path);
+            self.gone(path)?;
+            return Ok(path.to_path_buf());
+        };
+        let path = match (path.parent(), path.file_name()) {
+            (Some(folder), Some(name)) => self.folder(folder)?.join(name),
+            _ => return Ok(path.to_path_buf()),
         };
         if found.is_symlink() {
-            return self.link(path);
-        }
-        if found.is_dir() {
-            return self.folder(path);
-        }
-        if !found.is_file() {
-            return Ok(());
-        }
-        match fs::read(path) {
-            Ok(bytes) => self.file(path, bytes),
-            Err(_) => {
-                self.file(path, Vec::new())?;
-                done(self.tree.deny(bytes_of(path)))
+            self.link(&path)?;
+        } else if found.is_dir() {
+            self.folder(&path)?;
+        } else if found.is_file() {
+            match fs::read(&path) {
+                Ok(bytes) => self.file(&path, bytes)?,
+                Err(_) => {
+                    self.file(&path, Vec::new())?;
+                    done(self.tree.deny(bytes_of(&path)))?;
+                }
             }
         }
+        Ok(path)
     }
 
     fn file(&mut self, path: &Path, bytes: Vec<u8>) -> Result<(), Error> {
@@ -223,7 +227,6 @@ impl Host {
             Some(Told::File(_)) => done(self.tree.rewrite_file(bytes_of(path), &bytes))?,
             _ => {
                 self.gone(path)?;
-                self.parent(path)?;
                 done(self.tree.add_file(bytes_of(path), &bytes))?;
             }
         }
@@ -232,41 +235,39 @@ impl Host {
     }
 
     fn link(&mut self, path: &Path) -> Result<(), Error> {
-        self.gone(path)?;
-        self.parent(path)?;
-        done(
-            self.tree
-                .add_link(bytes_of(path), bytes_of(&fs::read_link(path)?)),
-        )?;
-        self.paths.insert(path.to_path_buf(), Told::Link);
-        match fs::canonicalize(path) {
-            Ok(led) => self.path(&led),
-            Err(_) => Ok(()),
-        }
-    }
-
-    /// A folder, and those above it.
-    fn folder(&mut self, path: &Path) -> Result<(), Error> {
-        let mut missing: Vec<PathBuf> = Vec::new();
-        for above in path.ancestors() {
-            match self.paths.get(above) {
-                Some(Told::Dir) => break,
-                _ => missing.push(above.to_path_buf()),
+        let target = fs::read_link(path)?;
+        match self.paths.get(path) {
+            Some(Told::Link(had)) if *had == target => {}
+            _ => {
+                self.gone(path)?;
+                done(self.tree.add_link(bytes_of(path), bytes_of(&target)))?;
+                self.paths.insert(path.to_path_buf(), Told::Link(target));
             }
         }
-        for above in missing.into_iter().rev() {
-            self.gone(&above)?;
-            done(self.tree.add_dir(bytes_of(&above)))?;
-            self.paths.insert(above, Told::Dir);
+        if let Ok(led) = fs::canonicalize(path) {
+            self.path(&led)?;
         }
         Ok(())
     }
 
-    fn parent(&mut self, path: &Path) -> Result<(), Error> {
-        match path.parent() {
-            Some(folder) => self.folder(folder),
-            None => Ok(()),
+    /// Tells a folder, and those above it; it returns its path without links.
+    fn folder(&mut self, path: &Path) -> Result<PathBuf, Error> {
+        let mut real = PathBuf::from("/");
+        for name in path.components().skip(1) {
+            let here = real.join(name);
+            if let Some(Told::Dir) = self.paths.get(&here) {
+                real = here;
+            } else if fs::symlink_metadata(&here).is_ok_and(|found| found.is_symlink()) {
+                self.link(&here)?;
+                real = fs::canonicalize(&here)?;
+            } else {
+                self.gone(&here)?;
+                done(self.tree.add_dir(bytes_of(&here)))?;
+                self.paths.insert(here.clone(), Told::Dir);
+                real = here;
+            }
         }
+        Ok(real)
     }
 
     fn gone(&mut self, path: &Path) -> Result<(), Error> {

@@ -59,7 +59,7 @@ fn a_matcher_reads_what_decides() {
     assert!(ask("/elsewhere", false).is_none());
     folder.put("a/.gitignore", "");
     assert!(!ask("a/keep.o", false).is_ignore());
-    assert_eq!(matcher.forget("a").expect("memory"), 1);
+    assert_eq!(matcher.forget("a").expect("memory"), 2);
     assert!(matcher
         .matched("a/keep.o", false)
         .expect("memory")
