@@ -2,7 +2,6 @@
 -- another.
 use Rattle.std.proofs.Common.{◌≡◌, ℕ, ◌<◌, Bool, true, false, cond, List, [], ◌∷◌, Option, Some, None, Result, Ok, Err, refl, sym, ap, subst, ◌∙◌}
 use Rattle.std.proofs.Common.{slice_get, bytes_eq, Contains, inl, inr, get_or, set}
-use Rattle.std.proofs.Common.{◌⊎◌}
 use Rattle.std.proofs.Common.{not, All, zero, suc, arith}
 use Rattle.std.specs.List.{filter}
 use Rattle.std.proofs.lemmas.List.Elements.{All-nil, All-cons, All-contains, filter_passes}

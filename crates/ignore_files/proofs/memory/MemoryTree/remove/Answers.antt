@@ -1,6 +1,5 @@
 use Rattle.std.proofs.Common.{ap, ◌∙◌, arith}
 use Rattle.std.proofs.lemmas.Option.{slice_get_within}
-use Rattle.ignore_base.specs.Paths.{components, last_component}
 use Rattle.ignore_files.specs.Removed.{lister_of, unlisting}
 use Rattle.ignore_files.proofs.RemovedLemmas.{grown_set, grown_unlisting, leaves_removed, lister_ok}
 use Rattle.ignore_files.proofs.memory.MemoryTree.remove.Goals as goal
