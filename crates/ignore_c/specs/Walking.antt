@@ -1,5 +1,5 @@
 -- Walks over a tree that C tells.
-use Rattle.std.specs.Prelude.{◌≡◌, ◌≢◌, ◌⊎◌, ◌≤◌, ◌<◌, ◌+◌, ℕ, Bool, true, false, List, [], ◌++◌, Option, Some, None, Result, Ok, Err, length, map, slice_get}
+use Rattle.std.specs.Prelude.{◌≡◌, ◌≢◌, ◌⊎◌, ◌≤◌, ◌<◌, ◌+◌, ℕ, Bool, true, false, List, [], ◌++◌, Option, Some, None, Result, Ok, Err, length, map, slice_get, if◌then◌else◌}
 use Rattle.ignore.specs.WalkWords.{AreLoads, Entry, Item, IsOutside, Outside, Scene, Whole, item_of}
 use Rattle.ignore.specs.FileWords.{Tree as Files}
 use Rattle.ignore.specs.declared.options.WalkOptions.{WalkOptions}
@@ -7,6 +7,7 @@ use Rattle.ignore_base.specs.Errors.{problem_text}
 use Rattle.ignore_base.specs.Problem.{Problem}
 use Rattle.ignore_base.specs.Text.{Bytes, Path}
 use Rattle.ignore_files.specs.Answers.{tree_of}
+use Rattle.ignore_rules.specs.RuleFile.{is_memory}
 use Rattle.ignore_files.specs.Memory.{Memory}
 use Rattle.ignore_files.specs.declared.env.Env.{Env}
 use Rattle.ignore_files.specs.declared.types.FileType.{FileType}
@@ -103,6 +104,14 @@ entry_told (Err problem) = record no_entry { error = length (problem_text proble
 abbrev pub text_told : Item → Bytes
 text_told (Ok (e, problem)) = e.path ++ error_text problem
 text_told (Err problem) = problem_text problem
+
+-- an item is told so
+abbrev pub TellsItem : Item → WalkEntry → Bytes → Type 0
+TellsItem item entry text = (entry ≡ entry_told item) × (text ≡ text_told item)
+
+-- why a walk has no list, by the problem that ended it
+abbrev pub end_of : Problem → Stopped
+end_of problem = if is_memory problem then Full else Limit
 
 -- the next item of a walk, if there is one
 abbrev pub next_of : Walked → Option Item

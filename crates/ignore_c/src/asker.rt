@@ -23,7 +23,8 @@ pub struct Found {
     pub is_within_depth: bool,
 }
 
-/// The matcher of the first root of a builder, over a tree.
+/// The matcher of a builder with one root, over a tree.
+#[tactic(auto, using(crate::proofs::Asking::builds, crate::proofs::Asking::builds_none))]
 pub(crate) fn build(setup: &Kept, tree: &Kept) -> Result<Kept, Stopped>
     ensures { Builds setup.now tree.now result }
 {
@@ -62,6 +63,7 @@ pub(crate) struct Asked<'q> {
 }
 
 /// What becomes of a path.
+#[tactic(auto, using(crate::proofs::Asking::matched, crate::proofs::Asking::no_path))]
 pub(crate) fn ask(kept: &mut Kept, asked: Asked<'_>) -> Result<IncrementalMatch, Stopped>
     ensures { Matches kept.old asked.entry.tree.now asked.entry.path.now asked.entry.is_dir result kept.new }
 {
@@ -129,6 +131,7 @@ pub(crate) fn rest_of(given: &Result<IncrementalMatch, Stopped>) -> Found
 }
 
 /// Forgets a directory and what is below it, and counts what was kept.
+#[tactic(auto, using(crate::proofs::Asking::forgets, crate::proofs::Asking::no_dir))]
 pub(crate) fn forget(kept: &mut Kept, dir: &[u8]) -> Result<usize, Stopped>
     ensures { Forgets kept.old dir.now result kept.new }
 {

@@ -49,6 +49,7 @@ pub(crate) fn begin(alloc: Global, cwd: &[u8]) -> Result<Kept, Stopped>
 }
 
 /// Changes the tree that is kept.
+#[tactic(auto, using(crate::proofs::Telling::changes))]
 pub(crate) fn tell(kept: &mut Kept, path: &[u8], change: Change<'_>) -> Result<(), Stopped>
     ensures { Changes kept.old change.entry path.now result kept.new }
 {
@@ -59,6 +60,7 @@ pub(crate) fn tell(kept: &mut Kept, path: &[u8], change: Change<'_>) -> Result<(
     apply(tree, path, change)
 }
 
+#[tactic(auto, using(crate::proofs::Telling::applied, crate::proofs::Telling::applied_surely))]
 fn apply(tree: &mut MemoryTree, path: &str, change: Change<'_>) -> Result<(), Stopped>
     ensures { Applies change.entry path.now tree.old result tree.new }
 {
@@ -77,6 +79,7 @@ fn apply(tree: &mut MemoryTree, path: &str, change: Change<'_>) -> Result<(), St
     }
 }
 
+#[tactic(auto, using(crate::proofs::Telling::linked))]
 fn link(tree: &mut MemoryTree, path: &str, target: &[u8]) -> Result<(), Stopped>
     ensures { AppliesAs (link_added target.now tree.old path.now) target.now tree.old result tree.new }
 {

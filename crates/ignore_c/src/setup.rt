@@ -61,6 +61,7 @@ pub(crate) fn begin(alloc: Global, root: &[u8]) -> Result<Kept, Stopped>
 }
 
 /// Sets what is kept.
+#[tactic(auto, using(crate::proofs::Telling::sets))]
 pub(crate) fn settle(kept: &mut Kept, setting: Setting) -> Result<(), Stopped>
     ensures { Sets (on_options (with_setting setting)) kept.old result kept.new }
 {
@@ -72,6 +73,7 @@ pub(crate) fn settle(kept: &mut Kept, setting: Setting) -> Result<(), Stopped>
 }
 
 /// Tells a text.
+#[tactic(auto, using(crate::proofs::Telling::named, crate::proofs::Telling::unnamed, crate::proofs::Telling::no_text))]
 pub(crate) fn name(alloc: Global, kept: &mut Kept, what: Text, text: &[u8]) -> Result<(), Stopped>
     ensures { SetsText what text.now kept.old result kept.new }
 {
@@ -79,7 +81,10 @@ pub(crate) fn name(alloc: Global, kept: &mut Kept, what: Text, text: &[u8]) -> R
         return Err(Stopped::Misused);
     };
     let text = text_of(text)?;
-    Ok(put(alloc, setup, what, text)?)
+    match put(alloc, setup, what, text) {
+        Ok(()) => Ok(()),
+        Err(_) => Err(Stopped::Memory),
+    }
 }
 
 fn put(alloc: Global, setup: &mut Setup, what: Text, text: &str) -> Result<(), Error>

@@ -1,7 +1,9 @@
 //! The items of a walk, made at once and handed out one by one.
-ghost use Rattle.std.specs.Prelude.{◌≡◌, ◌+◌, ◌⊎◌, IfOk, IfErr, Ok, Err, Some, None, Result, map, string_bytes};
-ghost use Rattle.ignore_base.specs.Problem.{memory, problem_of, io};
-ghost use Rattle.ignore_c.specs.Walking.{};
+ghost use Rattle.std.specs.Prelude.{◌≡◌, [], IfOk, IfErr, Ok, Err, None, Option, Result, map, string_bytes};
+ghost use Rattle.ignore.specs.WalkWords.{entry_of, item_of, problem_in};
+ghost use Rattle.ignore_base.specs.Problem.{problem_of};
+ghost use Rattle.ignore_base.specs.declared.error.Error.{Error};
+ghost use Rattle.ignore_c.specs.Walking.{Builds, IsListOf, Nexts, TellsItem, end_of, kind_code, no_entry};
 
 use crate::handle::{Held, Kept};
 use crate::lines::text_of_error;
@@ -46,7 +48,8 @@ pub(crate) fn build(setup: &Kept, tree: &Kept) -> Result<Kept, Stopped>
 }
 
 fn items_of(setup: &Setup, tree: &MemoryTree) -> Result<Vec<Item>, Stopped>
-    ensures { IsWalk setup.now tree.now (items_told result) }
+    ensures listed { IfOk result (λ all. IsListOf tree.now setup.now.env setup.now.options (Ok (map item_of all.items))) }
+    ensures stopped { IfErr result (λ e. IsListOf tree.now setup.now.env setup.now.options (Err e)) }
 {
     let builder = WalkBuilder::from_options(setup.options.clone()?);
     tree.is_honest();
@@ -55,7 +58,8 @@ fn items_of(setup: &Setup, tree: &MemoryTree) -> Result<Vec<Item>, Stopped>
 
 fn all_items(builder: &WalkBuilder, tree: &MemoryTree, env: &Env) -> Result<Vec<Item>, Stopped>
     requires { (builder.now.sorter ≡ None) × (builder.now.filter ≡ None) }
-    ensures { IsListOf tree.now env.now builder.now.options (items_told result) }
+    ensures listed { IfOk result (λ all. IsListOf tree.now env.now builder.now.options (Ok (map item_of all.items))) }
+    ensures stopped { IfErr result (λ e. IsListOf tree.now env.now builder.now.options (Err e)) }
 {
     ended(collect_walk(builder, tree, env))
 }
@@ -63,8 +67,7 @@ fn all_items(builder: &WalkBuilder, tree: &MemoryTree, env: &Env) -> Result<Vec<
 /// Why there are no items, if there are none.
 fn ended(items: Result<Vec<Item>, Error>) -> Result<Vec<Item>, Stopped>
     ensures same { IfOk result (λ all. items ≡ Ok all) }
-    ensures stopped { IfErr result (λ e. IfErr items (λ why. e ≡ end_of (problem_of why))) }
-    ensures refused { IfErr result (λ e. IsErr items) }
+    ensures stopped { IfErr result (λ e. (why : Error) × (items ≡ Err why) × (e ≡ end_of (problem_of why))) }
 {
     match items {
         Ok(items) => Ok(items),
@@ -142,7 +145,9 @@ fn told_item(alloc: Global, item: &Item) -> Result<Told, AllocError>
     }
 }
 
-fn told_entry(alloc: Global, entry: &DirEntry) -> Result<Told, AllocError> {
+fn told_entry(alloc: Global, entry: &DirEntry) -> Result<Told, AllocError>
+    ensures { IfOk result (λ told. (told.code ≡ 0) × TellsItem (Ok (entry_of entry.now, problem_in entry.now)) told.entry told.text.items) }
+{
     let mut text = Vec::from_slice(alloc, entry.path().as_bytes())?;
     let error = match entry.error() {
         None => String::new(alloc),
