@@ -117,6 +117,12 @@ end_of problem = if is_memory problem then Full else Limit
 abbrev pub next_of : Walked → Option Item
 next_of walk = slice_get (map item_of walk.items.items) walk.given
 
+-- the next item is told, or there is none, or memory ran out
+abbrev pub IsNext : Option Item → ℕ → WalkEntry → Bytes → Type 0
+IsNext None code entry text = (code ≡ 1) × (entry ≡ no_entry) × (text ≡ [])
+IsNext (Some item) code entry text =
+    ((code ≡ 0) × TellsItem item entry text) ⊎ ((code ≡ stop_code Full) × (entry ≡ no_entry) × (text ≡ []))
+
 -- asking a walk for its next item: it is told and handed out where its texts fit into a room, and
 -- else stays the next; or there is none; or memory ran out
 abbrev pub TellsNext : ℕ → Walked → Option Item → ℕ → WalkEntry → Bytes → Walked → Type 0

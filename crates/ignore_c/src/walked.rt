@@ -3,7 +3,7 @@ ghost use Rattle.std.specs.Prelude.{◌≡◌, [], IfOk, IfErr, Ok, Err, None, O
 ghost use Rattle.ignore.specs.WalkWords.{entry_of, item_of, problem_in};
 ghost use Rattle.ignore_base.specs.Problem.{problem_of};
 ghost use Rattle.ignore_base.specs.declared.error.Error.{Error};
-ghost use Rattle.ignore_c.specs.Walking.{Builds, IsListOf, Nexts, TellsItem, end_of, kind_code, no_entry};
+ghost use Rattle.ignore_c.specs.Walking.{Builds, IsListOf, IsNext, Nexts, TellsItem, TellsNext, end_of, kind_code, next_of, no_entry};
 
 use crate::handle::{Held, Kept};
 use crate::lines::text_of_error;
@@ -91,15 +91,32 @@ pub(crate) fn next(alloc: Global, kept: &mut Kept, room: usize) -> Told
     let Kept::Files(Held::Walk(walk)) = kept else {
         return untold(alloc, Stopped::Misused.code());
     };
+    hand_out(alloc, walk, room)
+}
+
+fn hand_out(alloc: Global, walk: &mut Walked, room: usize) -> Told
+    ensures { TellsNext room walk.old (next_of walk.old) result.code result.entry result.text.items walk.new }
+{
+    let told = told_next(alloc, walk);
+    if told.code != 0 {
+        return told;
+    }
+    if told.text.len() > room {
+        return Told { code: 15, ..told };
+    }
+    walk.given += 1;
+    told
+}
+
+/// What is told of the next item.
+fn told_next(alloc: Global, walk: &Walked) -> Told
+    ensures { IsNext (next_of walk.now) result.code result.entry result.text.items }
+{
     match walk.items.get(walk.given) {
         None => untold(alloc, 1),
         Some(item) => match told_item(alloc, item) {
             Err(_) => untold(alloc, Stopped::Memory.code()),
-            Ok(told) if told.text.len() <= room => {
-                walk.given += 1;
-                told
-            }
-            Ok(told) => Told { code: 15, ..told },
+            Ok(told) => told,
         },
     }
 }
