@@ -1,5 +1,5 @@
 -- What the program answers about paths below a root.
-use Rattle.std.specs.Prelude.{◌≡◌, ◌⊎◌, ℕ, All, List, [], ◌∷◌, ◌++◌, Bool, codes, false, map, Option, if◌then◌else◌}
+use Rattle.std.specs.Prelude.{◌≡◌, ◌⊎◌, ℕ, All, List, [], ◌∷◌, ◌++◌, Bool, codes, false, map, Option, option_to_list, if◌then◌else◌}
 use Rattle.std.specs.List.{flat_map, list_any}
 use Rattle.ignore_base.specs.Text.{Bytes, Path}
 use Rattle.ignore_base.specs.Paths.{join_of}
@@ -91,6 +91,10 @@ AreAnswers tree env root all =
     (o : Outside) × IsOutside tree env (with_root unset root) o
     × ((loads : Path → Loaded) → AreLoads tree standard loads → let g = scene tree loads standard o root in
     All (IsAnswer g) all × (old new : Cache) × KeepsNothing old × ReportsInTurn g all old new)
+
+-- the answers, and the next one, if there is one
+abbrev pub with_next : List Checked → Option Checked → List Checked
+with_next all next = all ++ option_to_list next
 
 -- these are the answers about the first of the paths
 abbrev pub AreFirst : List Path → List Checked → Type 0
