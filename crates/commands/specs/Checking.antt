@@ -32,6 +32,10 @@ pub record Checked : Type 0 where
   pub found : IncrementalMatch
   pub problem : Option Problem
 
+-- a path, what becomes of it, and what was reported
+abbrev pub checked : Path → IncrementalMatch → Option Problem → Checked
+checked path found problem = record { path = path; found = found; problem = problem }
+
 -- the word of an answer
 abbrev pub word_of : Verdict → Bytes
 word_of v.None = codes "none"

@@ -1,5 +1,5 @@
 //! The command `check`: what becomes of paths below a root, each on a line.
-ghost use Rattle.std.specs.Prelude.{◌≡◌, ◌≢◌, ◌≤◌, ◌⊎◌, ℕ, All, List, [], Option, ⊤, false, OnErr, OnOk, IfOk, IfErr, IfSome, map, option_map, string_bytes, if◌then◌else◌};
+ghost use Rattle.std.specs.Prelude.{◌≡◌, ◌≢◌, ◌≤◌, ◌⊎◌, ℕ, All, List, [], Option, Some, ⊤, false, OnErr, OnOk, IfOk, IfErr, IfSome, map, option_map, string_bytes, if◌then◌else◌};
 ghost use Rattle.std.specs.Io.KnownBytes.{Appends};
 ghost use Rattle.ignore_base.specs.Paths.{join_of};
 ghost use Rattle.ignore_base.specs.Problem.{problem_of};
@@ -12,7 +12,7 @@ ghost use Rattle.ignore_query.specs.Fresh.{KeepsNothing};
 ghost use Rattle.ignore_query.specs.Reached.{InEachScene, scene_of};
 ghost use Rattle.ignore_query.specs.declared.kept.Cache.{Cache};
 ghost use Rattle.commands.specs.Checking.{AreAnswers, AreAnswersSoFar, AreFirst, Checked, Checks, IsAnswer, IsMatcher, IsReport, ReportsInTurn};
-ghost use Rattle.commands.specs.Checking.{answer_at, check_line, is_wrong, line_for, report_for, with_next};
+ghost use Rattle.commands.specs.Checking.{answer_at, check_line, checked, is_wrong, line_for, report_for, with_next};
 ghost use Rattle.commands.specs.Listing.{is_known, report_of};
 ghost use Rattle.commands.specs.Stops.{EndsAfter, EndsReportedAfter, IsCut};
 
@@ -154,6 +154,25 @@ fn check_path<F: Files, W: Write, E: Write>(
     ensures same { matcher.new.asked ≡ matcher.old.asked }
 {
     let (found, error) = ask(alloc, files, matcher, path)?;
+    write_checked(path, found, error, out, err)
+}
+
+/// Writes what becomes of a path, and reports an error, if there is one. It returns whether there
+/// is.
+fn write_checked<W: Write, E: Write>(
+    path: &str,
+    found: IncrementalMatch,
+    error: Option<Error>,
+    out: &mut W,
+    err: &mut E,
+) -> Result<bool, Stop>
+    ensures writes { IfOk result (λ any.
+        Appends (W.contents out.old) (W.contents out.new) (line_for (checked path.now found (option_map problem_of error)))
+        × Appends (E.contents err.old) (E.contents err.new) (report_for (checked path.now found (option_map problem_of error)))
+        × (any ≡ is_wrong (checked path.now found (option_map problem_of error)))) }
+    ensures ended { IfErr result (EndsAfter line_for report_for [] (Some (checked path.now found (option_map problem_of error)))
+        (Appends (W.contents out.old) (W.contents out.new)) (Appends (E.contents err.old) (E.contents err.new))) }
+{
     write_found(found, path, out)?;
     report_some(error, err)
 }

@@ -155,6 +155,7 @@ fn write_items<I: Iterator<Item = Item>, W: Write, E: Write>(
 }
 
 /// Writes an item. It returns whether something was reported.
+#[tactic(auto, using(crate::proofs::ItemLemmas::ends_at, crate::proofs::ItemLemmas::ends_before))]
 fn write_item<W: Write, E: Write>(item: Item, out: &mut W, err: &mut E) -> Result<bool, Stop>
     ensures lists { IfOk result (λ any. Appends (W.contents out.old) (W.contents out.new) (lines_of (item_of item))
         × Appends (E.contents err.old) (E.contents err.new) (reports_of (item_of item)) × (any ≡ is_reported (item_of item))) }
