@@ -6,6 +6,7 @@ use ignore_files::{DiskFiles, Env};
 use std::io::{BufWriter, Write};
 use std::process::ExitCode;
 use std::rt::Env as _;
+use std::time::Instant;
 use std::{env, io, rt};
 
 /// How many bytes of the output are kept before they are written.
@@ -40,7 +41,27 @@ fn run_buffered(rt: &HostRuntime, words: &[String], env: &Env) -> Result<u8, Sto
         files: &files,
         env,
     };
-    run(&world, words, &mut out, &mut err)
+    let begun = Instant::now(rt);
+    let ran = run(&world, words, &mut out, &mut err)?;
+    if ran.is_timed {
+        report_time(rt, begun)?;
+    }
+    Ok(ran.status)
+}
+
+/// Reports how long a run took, where the clock can be read.
+fn report_time(rt: &HostRuntime, begun: io::Result<Instant>) -> Result<(), Stop> {
+    let Ok(begun) = begun else {
+        return Ok(());
+    };
+    let Ok(time) = begun.elapsed(rt) else {
+        return Ok(());
+    };
+    let mut err = rt.stderr();
+    match writeln!(err, "ig: {} ms", time.as_millis()) {
+        Ok(()) => Ok(()),
+        Err(_) => Err(Stop::Silence),
+    }
 }
 
 /// Reports the place of the first word that isn't UTF-8, and returns the status.

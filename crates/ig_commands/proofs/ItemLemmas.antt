@@ -1,14 +1,13 @@
 -- What is written and reported for the items of a walk, one more at a time.
-use Rattle.std.proofs.Common.{◌≡◌, ◌∙◌, ℕ, Bool, ◌||◌, List, [], ◌∷◌, ◌++◌, Option, None, Some, Result, map, refl, sym, ap, subst, append_assoc}
+use Rattle.std.proofs.Common.{◌≡◌, ◌∙◌, ℕ, Bool, List, [], ◌∷◌, ◌++◌, Option, None, Some, Result, map, refl, sym, ap, subst, append_assoc}
 use Rattle.std.proofs.lemmas.List.{append-nil, map-append}
-use Rattle.std.proofs.lemmas.List.Folds.{list_any-append}
 use Rattle.std.specs.Io.KnownBytes.{Appends}
-use Rattle.std.specs.List.{list_any}
 use Rattle.std.specs.Option.{option_or}
 use Rattle.ignore_base.specs.declared.error.Error.{Error}
 use Rattle.ignore_walk.specs.Entry.{Item, item_of}
 use Rattle.ignore_walk.specs.declared.entry.DirEntry.{DirEntry}
-use Rattle.commands.proofs.LineLemmas.{appends_on, or-false}
+use Rattle.commands.proofs.LineLemmas.{appends_on}
+use Rattle.ig_commands.specs.Counts.{counted, one_more}
 use Rattle.ig_commands.specs.Reports.{Notes, last_at, path_at, reports_after, reports_of}
 
 or_none : {A : Type 0} (x : Option A) → option_or x None ≡ x
@@ -62,13 +61,17 @@ told_more items item table a b c h before here =
     (sym (ap (reports_after []) (map-append item_of items (item ∷ [])) ∙ reports_more [] (map item_of items) (item_of item)))
     (appends_on a b c _ _ before told)
 
--- whether something holds of one item more
-pub any_more : (f : Item → Bool) (items : List (Result DirEntry Error)) (item : Result DirEntry Error) (any more : Bool)
-    → any ≡ list_any f (map item_of items) → more ≡ f (item_of item)
-    → (any || more) ≡ list_any f (map item_of (items ++ item ∷ []))
-any_more f items item any more h k =
-    ap (λ b. b || more) h
-    ∙ (ap (λ b. list_any f (map item_of items) || b) k
-    ∙ sym (ap (list_any f) (map-append item_of items (item ∷ []))
-    ∙ (list_any-append f (map item_of items) (item_of item ∷ [])
-    ∙ ap (λ b. list_any f (map item_of items) || b) (or-false (f (item_of item))))))
+counted_more : (n : ℕ) (bs : List Bool) (b : Bool) → counted n (bs ++ b ∷ []) ≡ one_more (counted n bs) b
+counted_more n [] b = refl
+counted_more n (x ∷ bs) b = counted_more (one_more n x) bs b
+
+-- a count of one item more
+pub count_more : (f : Item → Bool) (items : List (Result DirEntry Error)) (item : Result DirEntry Error) (old new : ℕ) (holds : Bool)
+    → old ≡ counted 0 (map f (map item_of items)) → new ≡ one_more old holds → holds ≡ f (item_of item)
+    → new ≡ counted 0 (map f (map item_of (items ++ item ∷ [])))
+count_more f items item old new holds h k same =
+    k
+    ∙ (ap (λ n. one_more n holds) h
+    ∙ (ap (λ b. one_more (counted 0 (map f (map item_of items))) b) same
+    ∙ (sym (counted_more 0 (map f (map item_of items)) (f (item_of item)))
+    ∙ ap (counted 0) (sym (ap (map f) (map-append item_of items (item ∷ [])) ∙ map-append f (map item_of items) (item_of item ∷ []))))))

@@ -1,4 +1,5 @@
 pub mod Stops
+pub mod Counts
 pub mod Writing
 pub mod Reports
 pub mod Types

@@ -1,8 +1,9 @@
 -- What a list writes: the items of the walk that its options ask for.
-use Rattle.std.specs.Prelude.{◌≡◌, ◌≢◌, ◌⊎◌, ℕ, Bool, true, ◌||◌, ◌++◌, [], List, All, Option, Some, Err, map, string_bytes}
+use Rattle.std.specs.Prelude.{◌≡◌, ◌≢◌, ◌⊎◌, ℕ, ◌+◌, ◌==◌, Bool, true, ◌∷◌, ◌++◌, [], List, All, Option, Err, codes, map, string_bytes}
 use Rattle.std.specs.Prelude.{if◌then◌else◌, unwrap_or}
 use Rattle.std.specs.Cmp.Lexicographic.{slice_cmp}
-use Rattle.std.specs.List.{AllZip, flat_map, list_any}
+use Rattle.std.specs.Fmt.{decimal}
+use Rattle.std.specs.List.{AllZip, flat_map}
 use Rattle.std.specs.Ordering.{nat_cmp}
 use Rattle.ignore_base.specs.Text.{Bytes, Path}
 use Rattle.ignore_base.specs.Problem.{Problem, memory}
@@ -29,6 +30,7 @@ use Rattle.ig_options.specs.Files.{AddsFiles}
 use Rattle.ig_options.specs.Globs.{AreGlobs, RefusesOneOf}
 use Rattle.ig_options.specs.Settings.{walk_options}
 use Rattle.ig_options.specs.declared.options.Options.{Options}
+use Rattle.ig_commands.specs.Counts.{capped, counted}
 use Rattle.ig_commands.specs.Reports.{is_known, is_reported, report_line, report_of, reports_after}
 use Rattle.ig_commands.specs.Stops.{EndsAfter}
 use Rattle.ig_commands.specs.declared.stop.Stop.{Stop}
@@ -90,31 +92,52 @@ AreBegun tree env o b all =
     × ((loads : Path → Loaded) (items : List Item) (n : ℕ) → AreLoads tree b.settings loads
     → Whole (listing o b tree loads outside) roots items n → (rest : List Item) × (items ≡ all ++ rest)))
 
--- the entries that are listed are written to the output in turn, and each problem is reported; this
--- is whether something was reported, and whether something was found. None of the items is out of
--- memory, which ends a list
-pub record Writes (o : Options) (items : List Item) (reported found : Bool) (out err : Bytes → Type 0) : Type 0 where
+-- these are the first of those items, or all of them
+abbrev pub AreFirst : Tree → Env → Options → WalkOptions → List Item → Type 0
+AreFirst tree env o b all = AreBegun tree env o b all ⊎ AreListed tree env o b all
+
+-- how many of some items are reported, and how many are entries that are listed
+abbrev pub reported_in : List Item → ℕ
+reported_in items = counted 0 (map is_reported items)
+
+abbrev pub found_in : Options → List Item → ℕ
+found_in o items = counted 0 (map (is_found o) items)
+
+-- the entries that are listed are written to the output in turn, and each problem is reported; these
+-- are the numbers of problems and of entries. None of the items is out of memory, which ends a list
+pub record Writes (o : Options) (items : List Item) (reported found : ℕ) (out err : Bytes → Type 0) : Type 0 where
   pub lists : out (flat_map (lines_of o) items)
   pub reports : err (reports_after [] items)
-  pub reported : reported ≡ list_any is_reported items
-  pub found : found ≡ list_any (is_found o) items
+  pub reported : reported ≡ reported_in items
+  pub found : found ≡ found_in o items
   pub enough : All (λ item. item ≢ Err memory) items
 
 -- what is reported: these problems of the files that are named, and then those of items
 abbrev pub all_reports : List (Option Problem) → List Item → Bytes
 all_reports problems items = flat_map report_of problems ++ reports_after [] items
 
+-- the number of all that is reported
+abbrev pub all_reported : List (Option Problem) → List Item → ℕ
+all_reported problems items = capped (reported_in items + counted 0 (map is_known problems))
+
+-- the line of the counts, where it is asked for
+abbrev pub stats_line : Bool → ℕ → ℕ → Bytes
+stats_line asked reported found =
+    if asked then codes "ig: " ++ (decimal found ++ (codes " found, " ++ (decimal reported ++ (codes " reported" ++ 10 ∷ []))))
+    else []
+
 -- the status: 2 where something was reported, else 0 where something was found, and 1 where nothing
 -- was
-abbrev pub status_of : Bool → Bool → ℕ
-status_of reported found = if reported then 2 else (if found then 0 else 1)
+abbrev pub status_of : ℕ → ℕ → ℕ
+status_of reported found = if reported == 0 then (if found == 0 then 1 else 0) else 2
 
--- the same with the problems of the files that are named before the others, and the status
+-- the same with the problems of the files that are named before the others, the counts after them,
+-- where they are asked for, and the status
 pub record Lists (o : Options) (problems : List (Option Problem)) (items : List Item) (status : ℕ) (out err : Bytes → Type 0)
     : Type 0 where
   pub lists : out (flat_map (lines_of o) items)
-  pub reports : err (all_reports problems items)
-  pub ends : status ≡ status_of (list_any is_known problems || list_any is_reported items) (list_any (is_found o) items)
+  pub reports : err (all_reports problems items ++ stats_line o.stats (all_reported problems items) (found_in o items))
+  pub ends : status ≡ status_of (all_reported problems items) (found_in o items)
   pub enough : All (λ item. item ≢ Err memory) items
 
 -- a list has written its whole list, by the settings that the options ask for in each tree that the
@@ -131,5 +154,5 @@ abbrev pub EndsAsked : {F : Type 0} → Files F → F → Env → Options → Dr
 EndsAsked files f env o first out err stop =
     ((b : WalkOptions) × (problems : List (Option Problem)) × (items : List Item)
     × EndsAfter (flat_map (lines_of o) items) (all_reports problems items) out err stop
-    × ((tree : Tree) → IsHonest files f tree → IsAsked tree env o first b problems × AreBegun tree env o b items))
+    × ((tree : Tree) → IsHonest files f tree → IsAsked tree env o first b problems × AreFirst tree env o b items))
     ⊎ EndsAfter [] [] out err stop

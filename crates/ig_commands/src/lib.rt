@@ -11,7 +11,7 @@ mod world;
 mod writing;
 
 pub use listing::list;
-pub use run::{finish, run};
+pub use run::{Ran, finish, run};
 pub use stop::{Stop, report_stop};
 pub use types::list_types;
 pub use world::World;

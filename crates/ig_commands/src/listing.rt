@@ -15,8 +15,9 @@ ghost use Rattle.ignore_walk.specs.Nexts.{Remaining};
 ghost use Rattle.ignore_walk.specs.Whole.{Whole};
 ghost use Rattle.ignore_walk.specs.declared.entry.DirEntry.{DirEntry};
 ghost use Rattle.ig_options.specs.Settings.{most_steps};
-ghost use Rattle.ig_commands.specs.Listing.{AreBegun, AreListed, EndsAsked, GoesBy, Lists, ListsAsked, Writes, all_reports, listing, status_of};
+ghost use Rattle.ig_commands.specs.Listing.{AreBegun, AreFirst, AreListed, EndsAsked, GoesBy, Lists, ListsAsked, Writes, all_reports, listing, stats_line, status_of};
 ghost use Rattle.ig_commands.specs.Reports.{Notes, is_known, is_reported, last_in, report_of, reports_after, reports_of};
+ghost use Rattle.ig_commands.specs.Counts.{counted, one_more};
 ghost use Rattle.ig_commands.specs.Stops.{EndsAfter};
 ghost use Rattle.ig_commands.specs.Writing.{is_chosen, is_found, is_listed, lines_of};
 
@@ -39,12 +40,33 @@ use std::io::Write;
 /// How many steps a walk may take.
 const MOST_STEPS: u64 = 1_000_000_000;
 
-/// What became of the items of a walk: whether something was reported, and whether an entry was
-/// found that is listed.
+/// What became of an item: whether something was reported, and whether it is an entry that is
+/// listed.
 #[derive(Clone, Copy)]
 struct Seen {
     reported: bool,
     found: bool,
+}
+
+/// How many times something was reported, and how many entries were found that are listed. Each
+/// number stops at the greatest one.
+#[derive(Clone, Copy)]
+struct Counts {
+    reported: u64,
+    found: u64,
+}
+
+impl Counts {
+    /// The counts with an item more.
+    fn with(self, seen: Seen) -> Counts
+        ensures reported { result.reported ≡ one_more self.entry.reported seen.reported }
+        ensures found { result.found ≡ one_more self.entry.found seen.found }
+    {
+        Counts {
+            reported: self.reported.saturating_add(u64::from(seen.reported)),
+            found: self.found.saturating_add(u64::from(seen.found)),
+        }
+    }
 }
 
 /// Writes the paths of the entries of the walk that the options ask for. `first` has the file types
@@ -68,59 +90,77 @@ pub fn list<F: Files, W: Write, E: Write>(
         (Appends (W.contents out.old) (W.contents out.new)) (Appends (E.contents err.old) (E.contents err.new))) }
 {
     match asked(world, options, first) {
-        Ok(asked) => Ok(status_of(report_and_walk(world, options, asked, out, err)?)),
+        Ok(asked) => report_and_walk(world, options, asked, out, err),
         Err(Error::Memory) => Err(Stop::Memory),
         Err(error) => refuse(&error, err),
     }
 }
 
 /// The status.
-fn status_of(seen: Seen) -> u8
-    ensures { result ≡ status_of seen.reported seen.found }
+fn status_of(counts: Counts) -> u8
+    ensures { result ≡ status_of counts.reported counts.found }
 {
-    if seen.reported {
+    if counts.reported > 0 {
         2
-    } else if seen.found {
+    } else if counts.found > 0 {
         0
     } else {
         1
     }
 }
 
-/// Reports what is wrong with the files that are named, and lists.
+/// Reports what is wrong with the files that are named, lists, and reports the counts.
 fn report_and_walk<F: Files, W: Write, E: Write>(
     world: &World<'_, F>,
     options: &Options,
     asked: Asked,
     out: &mut W,
     err: &mut E,
-) -> Result<Seen, Stop>
-    ensures lists { IfOk result (λ seen. (items : List Item) × Lists options.now (map (option_map problem_of) asked.errors.items) items
-        (status_of seen.reported seen.found) (Appends (W.contents out.old) (W.contents out.new)) (Appends (E.contents err.old) (E.contents err.new))
+) -> Result<u8, Stop>
+    ensures lists { IfOk result (λ status. (items : List Item) × Lists options.now (map (option_map problem_of) asked.errors.items) items
+        status (Appends (W.contents out.old) (W.contents out.new)) (Appends (E.contents err.old) (E.contents err.new))
         × ((tree : Tree) → IsHonest F.Files world.now.files.now tree → AreListed tree world.now.env.now options.now asked.walk items)) }
     ensures ended { IfErr result (λ stop. (items : List Item) × EndsAfter (flat_map (lines_of options.now) items)
         (all_reports (map (option_map problem_of) asked.errors.items) items) (Appends (W.contents out.old) (W.contents out.new)) (Appends (E.contents err.old) (E.contents err.new)) stop
-        × ((tree : Tree) → IsHonest F.Files world.now.files.now tree → AreBegun tree world.now.env.now options.now asked.walk items)) }
+        × ((tree : Tree) → IsHonest F.Files world.now.files.now tree → AreFirst tree world.now.env.now options.now asked.walk items)) }
 {
     let reported = report_all(&asked.errors, err)?;
-    let seen = walk_and_write(world, options, asked.walk, out, err)?;
-    Ok(Seen {
-        reported: reported || seen.reported,
-        found: seen.found,
-    })
+    let counts = walk_and_write(world, options, asked.walk, out, err)?;
+    let counts = Counts {
+        reported: counts.reported.saturating_add(reported),
+        found: counts.found,
+    };
+    report_counts(options, counts, err)?;
+    Ok(status_of(counts))
 }
 
-/// Reports each error, and returns whether there is one.
-fn report_all<E: Write>(errors: &[Option<Error>], err: &mut E) -> Result<bool, Stop>
-    ensures reports { IfOk result (λ any. (any ≡ list_any is_known (map (option_map problem_of) errors.now))
+/// Reports the counts, where that is asked for.
+fn report_counts<E: Write>(options: &Options, counts: Counts, err: &mut E) -> Result<(), Stop>
+    ensures reports { OnOk result (Appends (E.contents err.old) (E.contents err.new)
+        (stats_line options.now.stats counts.reported counts.found)) }
+    ensures ended { IfErr result (λ stop. stop ≡ Stop.Silence) }
+{
+    if !options.stats {
+        return Ok(());
+    }
+    let (found, reported) = (counts.found, counts.reported);
+    match writeln!(err, "ig: {found} found, {reported} reported") {
+        Ok(()) => Ok(()),
+        Err(_) => Err(Stop::Silence),
+    }
+}
+
+/// Reports each error, and returns how many there are.
+fn report_all<E: Write>(errors: &[Option<Error>], err: &mut E) -> Result<u64, Stop>
+    ensures reports { IfOk result (λ count. (count ≡ counted 0 (map is_known (map (option_map problem_of) errors.now)))
         × Appends (E.contents err.old) (E.contents err.new) (flat_map report_of (map (option_map problem_of) errors.now))) }
     ensures ended { IfErr result (λ stop. stop ≡ Stop.Silence) }
 {
-    let mut any = false;
+    let mut count = 0u64;
     for error in errors {
-        any |= report_some(error.as_ref(), err)?;
+        count = count.saturating_add(u64::from(report_some(error.as_ref(), err)?));
     }
-    Ok(any)
+    Ok(count)
 }
 
 /// Reports an error, if there is one. It returns whether there is.
@@ -145,8 +185,8 @@ fn walk_and_write<F: Files, W: Write, E: Write>(
     walk: WalkOptions,
     out: &mut W,
     err: &mut E,
-) -> Result<Seen, Stop>
-    ensures lists { IfOk result (λ seen. (items : List Item) × Writes options.now items seen.reported seen.found (Appends (W.contents out.old) (W.contents out.new)) (Appends (E.contents err.old) (E.contents err.new))
+) -> Result<Counts, Stop>
+    ensures lists { IfOk result (λ counts. (items : List Item) × Writes options.now items counts.reported counts.found (Appends (W.contents out.old) (W.contents out.new)) (Appends (E.contents err.old) (E.contents err.new))
         × ((tree : Tree) → IsHonest F.Files world.now.files.now tree → AreListed tree world.now.env.now options.now walk items)) }
     ensures ended { IfErr result (λ stop. (items : List Item) × EndsAfter (flat_map (lines_of options.now) items)
         (reports_after [] items) (Appends (W.contents out.old) (W.contents out.new)) (Appends (E.contents err.old) (E.contents err.new)) stop
@@ -200,27 +240,24 @@ fn write_items<I: Iterator<Item = Item>, W: Write, E: Write>(
     alloc: Global,
     out: &mut W,
     err: &mut E,
-) -> Result<Seen, Stop>
+) -> Result<Counts, Stop>
     requires ends { I.can_next items × IsFinite (I.remaining items) }
-    ensures lists { IfOk result (λ seen. (all : List (Result DirEntry Error)) × Drains I.next_gives items all
-        × Writes options.now (map item_of all) seen.reported seen.found (Appends (W.contents out.old) (W.contents out.new)) (Appends (E.contents err.old) (E.contents err.new))) }
+    ensures lists { IfOk result (λ counts. (all : List (Result DirEntry Error)) × Drains I.next_gives items all
+        × Writes options.now (map item_of all) counts.reported counts.found (Appends (W.contents out.old) (W.contents out.new)) (Appends (E.contents err.old) (E.contents err.new))) }
     ensures ended { IfErr result (λ stop. (all : List (Result DirEntry Error)) × (x : Result DirEntry Error) × (v : I)
         × YieldsThen I.next_gives items all (Some x) v
         × EndsAfter (flat_map (lines_of options.now) (map item_of all)) (reports_after [] (map item_of all)) (Appends (W.contents out.old) (W.contents out.new)) (Appends (E.contents err.old) (E.contents err.new)) stop) }
 {
     let mut folders = BTreeMap::new(alloc);
-    let mut seen = Seen {
-        reported: false,
-        found: false,
+    let mut counts = Counts {
+        reported: 0,
+        found: 0,
     };
     for item in items {
         let one = write_item(item, options, &mut folders, out, err)?;
-        seen = Seen {
-            reported: seen.reported || one.reported,
-            found: seen.found || one.found,
-        };
+        counts = counts.with(one);
     }
-    Ok(seen)
+    Ok(counts)
 }
 
 /// Writes an item, and notes it as the last one at its depth.

@@ -17,6 +17,15 @@ use ignore_types::types::TypesBuilder;
 use std::alloc::Global;
 use std::io::Write;
 
+/// How a run ended: its status, and whether its time is asked for.
+#[derive(Clone, Copy)]
+pub struct Ran {
+    /// The status.
+    pub status: u8,
+    /// Whether the time that it took is to be reported.
+    pub is_timed: bool,
+}
+
 /// Runs the command in the words after the program's name: lists what the rules keep, or the file
 /// types. It returns the status.
 ///
@@ -27,9 +36,23 @@ pub fn run<F: Files, W: Write, E: Write>(
     words: &[String],
     out: &mut W,
     err: &mut E,
-) -> Result<u8, Stop> {
-    let ended = run_words(world, words, out, err);
-    finish(ended, out, err)
+) -> Result<Ran, Stop> {
+    match read_words(world.alloc, words) {
+        Ok((task, options)) => {
+            let ended = run_task(world, task, &options, out, err);
+            Ok(Ran {
+                status: finish(ended, out, err)?,
+                is_timed: options.stats,
+            })
+        }
+        Err(error) => {
+            let ended = show(&error, out, err);
+            Ok(Ran {
+                status: finish(ended, out, err)?,
+                is_timed: false,
+            })
+        }
+    }
 }
 
 /// Ends a command that has returned its status, or why it ended early: writes what its output still
@@ -64,19 +87,6 @@ fn flushed<W: Write>(ended: Result<u8, Stop>, out: &mut W) -> Result<u8, Stop>
     match out.flush() {
         Ok(()) => Ok(status),
         Err(error) => Err(write_stop(&error)),
-    }
-}
-
-/// Runs the command in the words.
-fn run_words<F: Files, W: Write, E: Write>(
-    world: &World<'_, F>,
-    words: &[String],
-    out: &mut W,
-    err: &mut E,
-) -> Result<u8, Stop> {
-    match read_words(world.alloc, words) {
-        Ok((task, options)) => run_task(world, task, &options, out, err),
-        Err(error) => show(&error, out, err),
     }
 }
 

@@ -42,7 +42,7 @@ fn left(alloc: Global, machine: &Machine, words: &[String]) -> Outcome {
     };
     let ran = run(&world, words, &mut out, &mut err);
     Outcome {
-        status: ran.unwrap_or(ENDED),
+        status: ran.map_or(ENDED, |ran| ran.status),
         out,
         err,
     }

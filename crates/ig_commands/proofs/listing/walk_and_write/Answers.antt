@@ -32,15 +32,15 @@ returns-clause-ended g c =
       map item_of h.0,
       h.4,
       λ tree honest. inr (
-        let w = c.in-Ok.ensures.whole tree honest in (
-          w.0,
-          w.1,
-          w.2,
-          λ loads items n are whole.
-              let scene = listing c.args.options.now c.args.walk tree loads w.1 in
-              let begun = c.a_run_begins_the_list.ensures scene c.in-Ok.steps h.2 h.0 h.1 items n h.3 (w.3 loads items n are whole) in
-              (begun.rest, begun.begins),
-        )
-      ),
+          let w = c.in-Ok.ensures.whole tree honest in (
+            w.0,
+            w.1,
+            w.2,
+            λ loads items n are whole.
+                let scene = listing c.args.options.now c.args.walk tree loads w.1 in
+                let begun = c.a_run_begins_the_list.ensures scene c.in-Ok.steps h.2 h.0 h.1 items n h.3 (w.3 loads items n are whole) in
+                (begun.rest, begun.begins),
+          )
+          ),
     ))
     c.write_items.ensures.ended

@@ -9,7 +9,7 @@ use Rattle.commands.proofs.ItemLemmas.{enough_more, grown}
 use Rattle.commands.proofs.LineLemmas.{appends_nothing}
 use Rattle.ig_commands.specs.Reports.{is_reported, last_in, reports_after}
 use Rattle.ig_commands.specs.Writing.{is_found, lines_of}
-use Rattle.ig_commands.proofs.ItemLemmas.{any_more, notes_more, told_more}
+use Rattle.ig_commands.proofs.ItemLemmas.{count_more, notes_more, told_more}
 use Rattle.ig_commands.proofs.StopLemmas.{ends_after}
 use Rattle.ig_commands.proofs.listing.write_items.Goals as goal
 
@@ -32,8 +32,8 @@ loop-item-preserved g c =
       reports = told_more l.yielded c.in-Some.item (last_in l.folders) _ _ _ l.invariant.notes l.invariant.reports h.1;
       notes = notes_more l.yielded c.in-Some.item (last_in l.folders) (last_in c.write_item.new.folders) l.invariant.notes
           c.in_ok-one.ensures.notes;
-      reported = any_more is_reported l.yielded c.in-Some.item _ _ l.invariant.reported h.2;
-      found = any_more (is_found c.args.options.now) l.yielded c.in-Some.item _ _ l.invariant.found h.3;
+      reported = count_more is_reported l.yielded c.in-Some.item _ _ _ l.invariant.reported c.with.ensures.reported h.2;
+      found = count_more (is_found c.args.options.now) l.yielded c.in-Some.item _ _ _ l.invariant.found c.with.ensures.found h.3;
       enough = enough_more l.yielded c.in-Some.item l.invariant.enough c.in_ok-one.ensures.enough;
     }
 
