@@ -5,6 +5,8 @@
 #[cfg(test)]
 mod builders;
 #[cfg(test)]
+mod default_types;
+#[cfg(test)]
 mod failing_writers;
 #[cfg(test)]
 mod refused_builders;
