@@ -58,6 +58,19 @@ def lay_out_roots(folder, lines, most):
             pass
 
 
+def of_a_listed_file(folder):
+    """How many allocations a file more costs in a folder that is listed."""
+    counts = []
+    for number in (1_000, 2_000):
+        place = f"{folder}/files{number}"
+        os.mkdir(place)
+        for name in range(number):
+            with open(f"{place}/{name:04}", "w", encoding="utf-8"):
+                pass
+        counts.append(allocations([IGWALK, "list", place], folder, folder))
+    return (counts[1] - counts[0]) / 1_000
+
+
 def roots():
     compiler = os.environ.get("CC") or "cc"
     wanted(IGWALK, compiler)
@@ -79,6 +92,8 @@ def roots():
                 more = (made - first) / (count - 1) if count > 1 else 0
                 further[lines] = more
                 print(f"{lines:6} {count:6} {made:12} {more:15.0f} {seconds * 1000:8.2f} {seconds / time_of_one:7.2f}")
+        listed = of_a_listed_file(folder)
+    print(f"a listed file costs {listed:.1f} allocations")
     print(f"a further root costs {further[1_000] - further[0]:.0f} allocations more below 1,000 lines than below none")
 
 
