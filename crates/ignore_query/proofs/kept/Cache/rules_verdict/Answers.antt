@@ -159,3 +159,9 @@ returns-clause-from_kept g c = λ tree loads agrees proper rooted all.
             (c.verdict_at.ensures.value tree loads front name after (subst (All IsName) (is ∙ whole) clean) (next.inside front name (is ∙ whole)) path),
       ),
     )
+
+pub keep_way-requires : goal.keep_way-requires
+keep_way-requires g c =
+    let is = ap (map (λ n. n.now)) c.as_slice.ensures.value ∙ c.in_ok-names.ensures in record {
+      named = subst (All IsName) (sym is) (names-components c.args.path.now c.requires.named);
+    }
