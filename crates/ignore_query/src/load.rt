@@ -38,7 +38,7 @@ use ignore_levels::Place;
 use std::alloc::Global;
 
 /// The names of a directory below the root, joined, by its key.
-fn without_slash(key: &str) -> &str
+pub(crate) fn without_slash(key: &str) -> &str
     ensures root { key.now ≡ [] → result.now ≡ [] }
     ensures below { (path : List ℕ) → key.now ≡ path ++ 47 ∷ [] → result.now ≡ path }
 {
