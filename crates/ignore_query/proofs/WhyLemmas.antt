@@ -1,20 +1,25 @@
 -- The reason of an answer, by what is kept.
 use lib.Pointwise.{pointwise}
 use Rattle.std.proofs.Common.{◌≡◌, ◌==◌, ℕ, ◌+◌, ◌<◌, take, drop, get_or, Bool, true, false, not, ◌&&◌, ◌||◌, cond, All, List, [], ◌∷◌, ◌++◌}
-use Rattle.std.proofs.Common.{length, Option, Some, None, is_some, option_map, refl, sym, ◌∙◌, ap, subst, append_assoc, arith}
+use Rattle.std.proofs.Common.{length, map, Option, Some, None, Result, Ok, Err, OnOk, is_some, option_map, refl, sym, ◌∙◌, ap, subst, append_assoc, arith}
 use Rattle.std.proofs.lemmas.List.{append-nil}
 use Rattle.std.proofs.lemmas.Slice.Eq.{bytes_eq-Decides, slice_eq-Decides}
 use Rattle.std.specs.List.{list_all, list_any}
+use Rattle.std.specs.Option.{option_to_list}
 use Rattle.std.specs.Str.{bytes_eq}
 use Rattle.ignore_base.specs.Match.{match_map}
-use Rattle.ignore_base.specs.Paths.{IsName, components, joined}
+use Rattle.ignore_base.specs.Paths.{IsName, components, is_proper, joined}
 use Rattle.ignore_base.proofs.CleanLemmas.{components-joined}
 use Rattle.ignore_base.specs.declared.match_result.Match.{Match}
 use Rattle.ignore_dir.specs.Above.{names_above, path_along}
 use Rattle.ignore_dir.specs.Chains.{slashed}
 use Rattle.ignore_dir.specs.Lists.{Asked, asked_in}
-use Rattle.ignore_dir.specs.Limits.{is_beyond, size_limit}
-use Rattle.ignore_dir.specs.Query.{ancestors, depth_of, has_rules, is_asked, is_dir_there, is_ignored, names_of, rules_verdict, size_of}
+use Rattle.ignore_dir.specs.declared.settings.Settings.{Settings}
+use Rattle.ignore_dir.specs.declared.verdict.Verdict.{Verdict}
+use Rattle.ignore_dir.specs.declared.verdict.Verdict.TheVariants as v
+use Rattle.ignore_dir.specs.Limits.{is_beyond, limited, size_limit, size_problem}
+use Rattle.ignore_dir.specs.Query.{ancestors, depth_of, has_rules, is_asked, is_dir_there, is_ignored, limit_of, names_of, rules_verdict}
+use Rattle.ignore_dir.specs.Query.{size_of}
 use Rattle.ignore_files.specs.Tree.{Tree}
 use Rattle.ignore_dir.specs.Scene.{Scene, chain}
 use Rattle.ignore_dir.specs.Steps.{reached_in}
@@ -26,17 +31,18 @@ use Rattle.ignore_levels.proofs.ReasonLemmas.{verdict-map}
 use Rattle.ignore_query.specs.declared.kept.Cache.{Cache}
 use Rattle.ignore_query.specs.declared.kept.Kept.{Kept}
 use Rattle.ignore_query.specs.declared.kept.Kept.TheVariants.{Ignored, Loaded}
-use Rattle.ignore_query.specs.Agrees.{Agrees, IsLoaded}
+use Rattle.ignore_query.specs.Agrees.{Agrees, IsLoaded, IsNext, is_loaded}
 use Rattle.ignore_query.specs.Listed.{kept_at}
 use Rattle.ignore_query.specs.Needs.{KeepsNeeded, is_among, is_decided, is_kept, is_known, needed}
 use Rattle.ignore_query.specs.Shut.{is_shut, open_in}
 use Rattle.ignore_why.specs.Cited.{Cited, cited}
-use Rattle.ignore_why.specs.QueryWhy.{first_ignored, path_cited, path_why, text_to, query_why, why_beyond, why_by_rules, why_by_size, why_on_way}
-use Rattle.ignore_why.specs.QueryWhy.QueryWhy.{unasked, unruled, too_shallow, too_deep, inside}
+use Rattle.ignore_why.specs.QueryWhy.{QueryWhy, answer_of, first_ignored, path_cited, path_why, text_to, query_why, why_beyond, why_by_rules, why_by_size}
+use Rattle.ignore_why.specs.QueryWhy.{why_on_way}
+use Rattle.ignore_why.specs.QueryWhy.QueryWhy.{unasked, unruled, too_shallow, too_deep, decided, larger, inside}
 use Rattle.ignore_why.proofs.QueryWhyLemmas.{none_first, rules_said}
 use Rattle.ignore_query.proofs.ChainLemmas.{front_names, joined-slashed, take_names}
 use Rattle.ignore_query.proofs.KeepLemmas.{Ends, ends, last, none}
-use Rattle.ignore_query.proofs.KnownLemmas.{known_next}
+use Rattle.ignore_query.proofs.KnownLemmas.{known_next, next_inside, next_top, parent_open, parent_shut, shut_verdict}
 use Rattle.ignore_query.proofs.NeedLemmas.{any-more, needed_way, or_true, way}
 use Rattle.ignore_query.proofs.WayLemmas.{left, left_all, left_at, left_end, left_next}
 
@@ -146,38 +152,6 @@ shut_here g c names i n lt is more a clean all shut =
     ap (first_ignored g) (left_at names i n lt is more)
     ∙ ap (λ b. cond b (Some front) (first_ignored g (left (take (i + 1) names) (drop (i + 1) names)))) on
 
-last_known : (g : Scene) (c : Cache) (done rest : List (List ℕ)) (n : List ℕ)
-    → list_all (is_kept c) (way g done (rest ++ n ∷ [])) ≡ true → list_any (is_ignored g) (left done (rest ++ n ∷ [])) ≡ false
-    → is_kept c (done ++ rest) ≡ true
-last_known g c done [] n all open' =
-    ap (is_kept c) (append-nil done) ∙ and_left (is_kept c done) (list_all (is_kept c) (cond (is_ignored g done) [] [])) all
-last_known g c done (m ∷ rest) n all open' =
-    let more = left (done ++ m ∷ []) (rest ++ n ∷ []) in
-    let any = sym (ap (list_any (is_ignored g)) (left_next done m (rest ++ n ∷ []))) ∙ open' in
-    let here = or_left (is_ignored g done) (list_any (is_ignored g) more) any in
-    let later = or_right (is_ignored g done) (list_any (is_ignored g) more) any in
-    let tail = way g (done ++ m ∷ []) (rest ++ n ∷ []) in
-    let left' = and_right (is_kept c done) (list_all (is_kept c) (cond (is_ignored g done) [] tail)) all in
-    let kept = sym (ap (λ b. list_all (is_kept c) (cond b [] tail)) here) ∙ left' in
-    sym (ap (is_kept c) (append_assoc done (m ∷ []) rest)) ∙ last_known g c (done ++ m ∷ []) rest n kept later
-
-open_now : (o : Option Kept) → is_some o ≡ true → is_shut o ≡ false → (place : Option Place) × (o ≡ Some (Loaded place))
-open_now None k s = cc
-open_now (Some Ignored) k s = cc
-open_now (Some (Loaded place)) k s = (place, refl)
-
--- where all that an answer needs is kept, and no directory on the way is ignored, that in which the
--- path is is loaded
-pub parent_loaded : (g : Scene) (c : Cache) (front : List (List ℕ)) (n : List ℕ) → Agrees g c → All IsName (front ++ n ∷ [])
-    → is_known g c (front ++ n ∷ []) ≡ true → list_any (is_ignored g) (ancestors (front ++ n ∷ [])) ≡ false → IsLoaded c front
-parent_loaded g c front n a clean all open' =
-    let way' = sym (ap (list_all (is_kept c)) (needed_way g (front ++ n ∷ []))) ∙ all in
-    let any = ap (list_any (is_ignored g)) (left_all (front ++ n ∷ [])) ∙ open' in
-    let kept = last_known g c [] front n way' any in
-    let off = or_right (list_any (is_ignored g) (ancestors front)) (is_ignored g front) (sym (any-more g front n) ∙ open') in
-    open_now (kept_at c front) kept
-    (sym (by_kept g c front (kept_at c front) a (front_names front (n ∷ []) clean) refl kept) ∙ off)
-
 -- What an answer leaves kept.
 
 known_way : (g : Scene) (c : Cache) (needs : List (List (List ℕ))) (done rest : List (List ℕ))
@@ -283,20 +257,11 @@ why_asked g path is_dir h =
     ap (λ a. cond (not a) unasked (cond (is_beyond g.settings (depth_of path) is_dir) (why_beyond g.settings (depth_of path))
     (cond (has_rules g.tree g.root path) (why_by_rules g path is_dir) unruled))) h
 
-pub why_deep : (g : Scene) (path : List ℕ) (is_dir : Bool) → is_asked g.root path ≡ true
-    → is_beyond g.settings (depth_of path) is_dir ≡ true → is_beyond g.settings (depth_of path) true ≡ true → too_deep ≡ query_why g path is_dir
-why_deep g path is_dir a b d =
+pub why_far : (g : Scene) (path : List ℕ) (is_dir : Bool) → is_asked g.root path ≡ true
+    → is_beyond g.settings (depth_of path) is_dir ≡ true → why_beyond g.settings (depth_of path) ≡ query_why g path is_dir
+why_far g path is_dir a b =
     sym (why_asked g path is_dir a
-    ∙ (ap (λ x. cond x (why_beyond g.settings (depth_of path)) (cond (has_rules g.tree g.root path) (why_by_rules g path is_dir) unruled)) b
-    ∙ ap (λ x. cond x too_deep too_shallow) d))
-
-pub why_shallow : (g : Scene) (path : List ℕ) (is_dir : Bool) → is_asked g.root path ≡ true
-    → is_beyond g.settings (depth_of path) is_dir ≡ true → is_beyond g.settings (depth_of path) true ≡ false
-    → too_shallow ≡ query_why g path is_dir
-why_shallow g path is_dir a b d =
-    sym (why_asked g path is_dir a
-    ∙ (ap (λ x. cond x (why_beyond g.settings (depth_of path)) (cond (has_rules g.tree g.root path) (why_by_rules g path is_dir) unruled)) b
-    ∙ ap (λ x. cond x too_deep too_shallow) d))
+    ∙ ap (λ x. cond x (why_beyond g.settings (depth_of path)) (cond (has_rules g.tree g.root path) (why_by_rules g path is_dir) unruled)) b)
 
 pub why_unruled : (g : Scene) (path : List ℕ) (is_dir : Bool) → is_asked g.root path ≡ true
     → is_beyond g.settings (depth_of path) is_dir ≡ false → has_rules g.tree g.root path ≡ false → unruled ≡ query_why g path is_dir
@@ -313,29 +278,57 @@ why_ruled g path is_dir a b r =
     ∙ (ap (λ x. cond x (why_beyond g.settings (depth_of path)) (cond (has_rules g.tree g.root path) (why_by_rules g path is_dir) unruled)) b
     ∙ ap (λ x. cond x (why_by_rules g path is_dir) unruled) r))
 
-pub decided_is : (g : Scene) (path : List ℕ) (is_dir : Bool) → is_asked g.root path ≡ true
-    → is_beyond g.settings (depth_of path) is_dir ≡ false → has_rules g.tree g.root path ≡ true → is_decided g path is_dir ≡ true
-decided_is g path is_dir a b r =
-    ap (λ x. x && (not (is_beyond g.settings (depth_of path) is_dir) && has_rules g.tree g.root path)) a
-    ∙ (ap (λ x. not x && has_rules g.tree g.root path) b ∙ r)
+-- What is kept of the directory in which a path is.
 
--- rules don't decide where a flag that they need is off
-pub rules_off : (b above : Bool) → (b ≡ true → above ≡ true) → above ≡ false → b ≡ false
-rules_off true above f h = absurd (cc (f refl, h))
-rules_off false above f h = refl
+pub parent_says : (g : Scene) (c : Cache) (front : List (List ℕ)) (n : List ℕ) (k : Kept) → Agrees g c → All IsName (front ++ n ∷ [])
+    → kept_at c front ≡ Some k → is_loaded k ≡ not (list_any (is_ignored g) (ancestors (front ++ n ∷ [])))
+parent_says g c front n Ignored a clean h = sym (ap not (parent_shut g c front n a clean h))
+parent_says g c front n (Loaded place) a clean h = sym (ap not (parent_open g c front n a clean (place, h)))
 
-pub decided_parts : (g : Scene) (path : List ℕ) (is_dir : Bool) → is_decided g path is_dir ≡ true
-    → (is_asked g.root path ≡ true) × (has_rules g.tree g.root path ≡ true)
-decided_parts g path is_dir h =
-    let rest = not (is_beyond g.settings (depth_of path) is_dir) && has_rules g.tree g.root path in (
-      and_left (is_asked g.root path) rest h,
-      and_right (not (is_beyond g.settings (depth_of path) is_dir)) (has_rules g.tree g.root path)
-          (and_right (is_asked g.root path) rest h),
-    )
+pub parent_next : (g : Scene) (c : Cache) (names front : List (List ℕ)) (n : List ℕ) (k : Kept) (place : Option Place) → Agrees g c
+    → names ≡ front ++ n ∷ [] → kept_at c front ≡ Some k → k ≡ Loaded place → IsNext c names place
+parent_next g c names front n k place a split h e = record {
+  rooted = a.first front k h;
+  top = λ t. absurd (next_top front n (sym split ∙ t));
+  inside = λ f m s. next_inside c front f n m place (sym split ∙ s) (h ∙ ap Some e);
+}
 
-pub empty_off : (tree : Tree) (root path : List ℕ) → (length path == 0) ≡ true → has_rules tree root path ≡ false
-empty_off tree root path h = ap (λ b. not b && is_dir_there (tree.stat root true)) h
+-- whether a directory on the way is ignored, by what is kept of the last of them
+pub shut_by : (k : Kept) (b : Bool) → k ≡ Ignored → is_loaded k ≡ not b → b ≡ true
+shut_by k true e h = refl
+shut_by k false e h = let off : is_loaded k ≡ false = ap is_loaded e in cc (off, h)
 
-pub rules_on : (tree : Tree) (root path : List ℕ) → (length path == 0) ≡ false → is_dir_there (tree.stat root true) ≡ true
-    → has_rules tree root path ≡ true
-rules_on tree root path h d = ap (λ b. not b && is_dir_there (tree.stat root true)) h ∙ d
+pub open_by : (k : Kept) (place : Option Place) (b : Bool) → k ≡ Loaded place → is_loaded k ≡ not b → b ≡ false
+open_by k place true e h = let on : is_loaded k ≡ true = ap is_loaded e in cc (on, h)
+open_by k place false e h = refl
+
+-- the components of a path of names are its names
+pub proper_names : (path : List ℕ) → list_all is_proper (components path) ≡ true → components path ≡ names_of path
+proper_names [] h = cc (h)
+proper_names (b ∷ bs) h = refl
+
+-- a path below an ignored directory has no limit on size
+pub shut_size : (g : Scene) (path file : List ℕ) (is_dir : Bool) → list_any (is_ignored g) (ancestors (names_of path)) ≡ true
+    → option_to_list (size_problem file (limit_of g path is_dir) (size_of g path)) ≡ []
+shut_size g path file is_dir h =
+    let off : size_limit g.settings is_dir v.Ignore ≡ None = ap (λ b. cond b None g.settings.max_filesize) (or_true is_dir) in
+    ap (λ w. option_to_list (size_problem file (size_limit g.settings is_dir w) (size_of g path))) (sym (shut_verdict g (names_of path) is_dir h))
+    ∙ ap (λ l. option_to_list (size_problem file l (size_of g path))) off
+
+-- The answer that goes with a reason, by a depth that stands for another.
+
+pub answer_at : (s : Settings) (depth deep : ℕ) (is_dir : Bool) (w : QueryWhy)
+    → ((verdict : Verdict) → limited s depth is_dir verdict ≡ limited s deep is_dir verdict)
+    → answer_of s depth is_dir w ≡ answer_of s deep is_dir w
+answer_at s depth deep is_dir unasked same = refl
+answer_at s depth deep is_dir unruled same = same v.None
+answer_at s depth deep is_dir too_shallow same = refl
+answer_at s depth deep is_dir too_deep same = refl
+answer_at s depth deep is_dir (decided said) same = same (verdict_of said)
+answer_at s depth deep is_dir (larger size most) same = same v.Ignore
+answer_at s depth deep is_dir (inside dir said) same = same v.Ignore
+
+-- what holds anyway holds on `Ok`
+pub always : {A E : Type 0} {P : Type 0} (r : Result A E) → P → OnOk r P
+always (Ok a) p = p
+always (Err e) p = tt

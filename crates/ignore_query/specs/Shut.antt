@@ -19,6 +19,3 @@ open_in None = None
 open_in (Some Ignored) = None
 open_in (Some (Loaded place)) = Some place
 
--- the directory in which that with these names is isn't kept as loaded
-abbrev pub IsShutIn : Cache → List Bytes → Type 0
-IsShutIn c names = (front : List Bytes) (name : Bytes) → names ≡ front ++ name ∷ [] → open_in (kept_at c front) ≡ None

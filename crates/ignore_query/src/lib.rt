@@ -24,4 +24,4 @@ pub use ignore_dir::IncrementalMatch;
 pub use ignore_why::{Cause, Explanation, NamedRule, Reason, RuleRank};
 pub use incremental::IncrementalIgnore;
 pub use kept::{Cache, Kept};
-pub use paths::check_paths;
+pub use paths::{check_paths, explain_paths};

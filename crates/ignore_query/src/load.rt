@@ -162,7 +162,7 @@ impl Cache {
 impl Cache {
     /// Keeps the proper ancestors of a path of these names, from the root down to the first ignored
     /// one. Returns what is kept of the last of them.
-    fn keep_way<F: Files>(
+    pub(crate) fn keep_way<F: Files>(
         &mut self,
         call: &Call<'_, F>,
         names: &[&str],

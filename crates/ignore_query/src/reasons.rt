@@ -1,24 +1,28 @@
 //! The reason of an answer, from what is kept.
-ghost use Rattle.std.specs.Prelude.{◌≡◌, ◌++◌, ◌∷◌, [], ℕ, Bool, List, All, Option, Some, true, map, option_map, IfOk, IfErr, IfSome, string_bytes};
+ghost use Rattle.std.specs.Prelude.{◌≡◌, ◌++◌, ◌∷◌, [], ℕ, Bool, List, All, Option, Some, true, map, option_map, IfOk, IfErr, IfSome, OnOk, string_bytes};
 ghost use Rattle.std.specs.BTreeMap.{get_by_text};
+ghost use Rattle.std.specs.List.{filter_map, list_all, list_any};
+ghost use Rattle.std.specs.Option.{option_to_list};
 ghost use Rattle.ignore_base.specs.Match.{match_map};
-ghost use Rattle.ignore_base.specs.Paths.{IsName, components, join_of, joined};
+ghost use Rattle.ignore_base.specs.Paths.{IsName, components, is_proper, join_of, joined};
 ghost use Rattle.ignore_base.specs.Problem.{problem_of, memory};
 ghost use Rattle.ignore_dir.specs.Chains.{slashed};
 ghost use Rattle.ignore_dir.specs.Limits as limits;
 ghost use Rattle.ignore_dir.specs.Load.{Loaded};
-ghost use Rattle.ignore_dir.specs.Query.{ancestors};
+ghost use Rattle.ignore_dir.specs.Query.{ancestors, is_ignored};
 ghost use Rattle.ignore_dir.specs.Query as queries;
 ghost use Rattle.ignore_dir.specs.Scene.{Scene};
+ghost use Rattle.ignore_dir.specs.Soft.{AllSoft};
 ghost use Rattle.ignore_dir.specs.Verdict as verdicts;
 ghost use Rattle.ignore_files.specs.Gives.{IsHonest};
 ghost use Rattle.ignore_files.specs.Tree.{Tree};
 ghost use Rattle.ignore_query.specs.declared.kept.Kept as kept;
 ghost use Rattle.ignore_query.specs.Agrees.{Agrees, kept_at};
-ghost use Rattle.ignore_query.specs.Needs.{is_known};
+ghost use Rattle.ignore_query.specs.Needs.{KeepsNeeded, Stays, is_known, needed};
 ghost use Rattle.ignore_query.specs.Reached.{scene_of};
-ghost use Rattle.ignore_query.specs.Shut.{IsShutIn, is_shut, open_in};
-ghost use Rattle.ignore_query.specs.Where.{InCall};
+ghost use Rattle.ignore_query.specs.Reports.{new_above, new_below};
+ghost use Rattle.ignore_query.specs.Shut.{is_shut, open_in};
+ghost use Rattle.ignore_query.specs.Where.{WhereAsked};
 ghost use Rattle.ignore_why.specs.Cited.{cited_of};
 ghost use Rattle.ignore_why.specs.QueryWhy.{first_ignored, path_cited, why_by_rules, why_by_size, query_why_of};
 ghost use Rattle.ignore_why.specs.QueryWhy.QueryWhy.{inside};
@@ -27,6 +31,7 @@ use crate::asked::{Asked, Call};
 use crate::kept::{Cache, Kept};
 use crate::known::parent_key;
 use crate::load::without_slash;
+use crate::size::fault_at;
 use ignore_base::text::{join, join_law};
 use ignore_base::{Error, Match};
 use ignore_dir::limits::size_limit;
@@ -39,8 +44,9 @@ use ignore_why::{Cause, Reason, causes};
 use std::alloc::{AllocError, Global};
 
 /// The verdict of what decides.
-fn verdict_of(said: &Match<Cause>) -> Verdict
-    ensures { result ≡ verdicts.verdict_of said.now }
+pub(crate) fn verdict_of(said: &Match<Cause>) -> Verdict
+    ensures value { result ≡ verdicts.verdict_of said.now }
+    ensures named { result ≡ verdicts.verdict_of (match_map cited_of said.now) }
 {
     match said {
         Match::None => Verdict::None,
@@ -49,16 +55,23 @@ fn verdict_of(said: &Match<Cause>) -> Verdict
     }
 }
 
-/// What decides, unless the path is larger than the greatest size.
+/// What decides, unless the path is larger than the greatest size. Where the size isn't known, the
+/// fault is appended to the errors.
 fn by_size<F: Files>(
     call: &Call<'_, F>,
     path: &str,
     is_dir: bool,
     said: Match<Cause>,
+    errors: &mut Vec<Error>,
 ) -> Result<Reason, Error>
     ensures value { (tree : Tree) → IsHonest F.Files call.now.files.now tree → let s = call.now.asked.now.settings in
         IfOk result (λ r. query_why_of r ≡ why_by_size (limits.size_limit s is_dir (verdicts.verdict_of said))
         (tree.stat (join_of (string_bytes call.now.asked.now.root) path.now) s.follow_links) (match_map cited_of said)) }
+    ensures problem { (tree : Tree) → IsHonest F.Files call.now.files.now tree → let s = call.now.asked.now.settings in
+        let file = join_of (string_bytes call.now.asked.now.root) path.now in OnOk result (map problem_of errors.new.items
+        ≡ map problem_of errors.old.items ++ option_to_list (limits.size_problem file
+        (limits.size_limit s is_dir (verdicts.verdict_of said)) (tree.stat file s.follow_links))) }
+    ensures soft { AllSoft (map problem_of errors.old.items) → OnOk result (AllSoft (map problem_of errors.new.items)) }
     ensures out_of_memory { IfErr result (λ e. problem_of e ≡ memory) }
 {
     let settings = &call.asked.settings;
@@ -78,7 +91,10 @@ fn by_size<F: Files>(
                 Ok(Reason::Decided(said))
             }
         }
-        Err(Refusal::Fault(_)) => Ok(Reason::Decided(said)),
+        Err(Refusal::Fault(fault)) => {
+            errors.push(fault_at(call.alloc(), path.as_str(), fault)?)?;
+            Ok(Reason::Decided(said))
+        }
         Err(Refusal::Memory) => Err(Error::Memory),
     }
 }
@@ -180,7 +196,7 @@ impl Cache {
     fn reason_inside(&self, asked: &Asked, path: &str) -> Result<Reason, Error>
         ensures why { (tree : Tree) (loads : List ℕ → Loaded) (is_dir : Bool) → let g = scene_of asked.now tree loads in
             Agrees g self.now → All IsName (queries.names_of path.now) → components path.now ≡ queries.names_of path.now
-            → is_known g self.now (queries.names_of path.now) ≡ true → IsShutIn self.now (queries.names_of path.now)
+            → is_known g self.now (queries.names_of path.now) ≡ true → list_any (is_ignored g) (ancestors (queries.names_of path.now)) ≡ true
             → IfOk result (λ r. query_why_of r ≡ why_by_rules g path.now is_dir) }
         ensures out_of_memory { IfErr result (λ e. problem_of e ≡ memory) }
     {
@@ -192,24 +208,36 @@ impl Cache {
         }
     }
 
-    /// The reason of an answer that the rules give, where all that it needs is kept.
-    pub(crate) fn reason_by_rules<F: Files>(
-        &self,
+    /// The reason of an answer that the rules give for a path of names below a root that is a
+    /// directory. What the answer needs is kept then: what isn't kept before is loaded.
+    pub(crate) fn explain<F: Files>(
+        &mut self,
         call: &Call<'_, F>,
         path: &str,
         is_dir: bool,
+        errors: &mut Vec<Error>,
     ) -> Result<Reason, Error>
-        ensures why { InCall F.Files call.now (λ g. Agrees g self.now → queries.is_asked g.root path.now ≡ true
-            → queries.has_rules g.tree g.root path.now ≡ true → is_known g self.now (queries.names_of path.now) ≡ true
-            → IfOk result (λ r. query_why_of r ≡ why_by_rules g path.now is_dir)) }
+        requires named { list_all is_proper (components path.now) ≡ true }
+        ensures why { WhereAsked F.Files call.now self.old path.now (λ g.
+            IfOk result (λ r. query_why_of r ≡ why_by_rules g path.now is_dir)) }
+        ensures stays { Stays self.old self.new }
+        ensures kept { WhereAsked F.Files call.now self.old path.now (λ g.
+            OnOk result (KeepsNeeded (needed g (components path.now)) self.old self.new)) }
+        ensures agrees { WhereAsked F.Files call.now self.old path.now (λ g.
+            Agrees g self.new) }
+        ensures problems { WhereAsked F.Files call.now self.old path.now (λ g.
+            OnOk result (map problem_of errors.new.items ≡ (map problem_of errors.old.items
+            ++ (option_to_list (new_above g self.old) ++ filter_map (λ p. p) (new_below g self.old (components path.now))))
+            ++ option_to_list (limits.size_problem (join_of g.root path.now) (queries.limit_of g path.now is_dir) (queries.size_of g path.now)))) }
+        ensures soft { AllSoft (map problem_of errors.old.items) → OnOk result (AllSoft (map problem_of errors.new.items)) }
         ensures out_of_memory { IfErr result (λ e. problem_of e ≡ memory) }
     {
-        match self.open_at(parent_key(path)) {
-            Some(place) => {
+        match self.keep_for(call, path, errors)? {
+            Kept::Ignored => self.reason_inside(call.asked, path),
+            Kept::Loaded(place) => {
                 let said = self.causes_at(call.asked, place, path, is_dir)?;
-                by_size(call, path, is_dir, said)
+                by_size(call, path, is_dir, said, errors)
             }
-            None => self.reason_inside(call.asked, path),
         }
     }
 }

@@ -14,8 +14,7 @@ use Rattle.ignore_query.specs.Needs.{is_known}
 use Rattle.ignore_query.specs.Reached.{scene_of}
 use Rattle.ignore_query.specs.Shut.{is_shut}
 use Rattle.ignore_query.proofs.KeepLemmas.{Ends, ends, last, none}
-use Rattle.ignore_query.proofs.KnownLemmas.{last_of}
-use Rattle.ignore_query.proofs.WhyLemmas.{first_names, found_front, found_none, not_open, parent_loaded, root_shut, shut_is, why_shut}
+use Rattle.ignore_query.proofs.WhyLemmas.{first_names, found_front, found_none, root_shut, shut_is, why_shut}
 use Rattle.ignore_query.proofs.kept.Cache.reason_inside.Goals as goal
 
 pub returns-in-Some-clause-why : goal.returns-in-Some-clause-why
@@ -55,9 +54,4 @@ returns-clause-why c = λ tree loads is_dir agrees clean same all shut.
     let none' = found_none (first_ignored g (ancestors (names_of path)))
     (ap (option_map string_bytes) (sym c.in-None.is) ∙ (first ∙ ap (λ l. option_map slashed (first_ignored g (ancestors l))) is)) in
     let open' = first_none g (ancestors (names_of path)) none' in
-    let end = last_of path in
-    let split = sym same ∙ end.1.1 in
-    let loaded = parent_loaded g c.args.self.now end.0 end.1.0 agrees (subst (All IsName) split clean)
-    (subst (λ l. is_known g c.args.self.now l ≡ true) split all)
-    (subst (λ l. list_any (is_ignored g) (ancestors l) ≡ false) split open') in
-    absurd (not_open (kept_at c.args.self.now end.0) loaded.0 loaded.1 (shut end.0 end.1.0 split))
+    absurd (cc (open', shut))
