@@ -13,7 +13,7 @@ returns-clause-value g c = λ tree loads honest are agrees.
     let path = c.args.path.now in
     let is_dir = c.args.is_dir in
     let why = query_why_of c.in_ok-reason.reason in
-    c.answer_of.ensures
+    c.answer_of-answer.ensures
     ∙ (answer_at c.reason.new.self.asked.settings c.depth_for.result (depth_of path) is_dir why (λ verdict. c.depth_for.ensures.limited is_dir verdict)
     ∙ (ap (λ (a : Asked). answer_of a.settings (depth_of path) is_dir why) c.reason.ensures.same
     ∙ (ap (answer_of scene.settings (depth_of path) is_dir) (c.in_ok-reason.ensures.why tree loads honest are agrees)
