@@ -46,22 +46,6 @@ use Rattle.ignore_query.proofs.KnownLemmas.{known_next, next_inside, next_top, p
 use Rattle.ignore_query.proofs.NeedLemmas.{any-more, needed_way, or_true, way}
 use Rattle.ignore_query.proofs.WayLemmas.{left, left_all, left_at, left_end, left_next}
 
-and_left : (a b : Bool) → (a && b) ≡ true → a ≡ true
-and_left true b h = refl
-and_left false b h = h
-
-and_right : (a b : Bool) → (a && b) ≡ true → b ≡ true
-and_right true b h = h
-and_right false b h = cc
-
-or_left : (a b : Bool) → (a || b) ≡ false → a ≡ false
-or_left true b h = h
-or_left false b h = refl
-
-or_right : (a b : Bool) → (a || b) ≡ false → b ≡ false
-or_right true b h = cc
-or_right false b h = h
-
 -- Over the chain of a path.
 
 -- the text of an entry of a directory
