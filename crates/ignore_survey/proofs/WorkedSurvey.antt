@@ -26,8 +26,7 @@ use Rattle.ignore_why.specs.declared.cause.RuleRank.TheVariants.{Ignore}
 use Rattle.ignore_why.specs.Cited.Cited.{on_name, on_rule}
 use Rattle.ignore_why.specs.QueryWhy.{path_why, query_why, why_by_rules}
 use Rattle.ignore_why.specs.QueryWhy.QueryWhy.{decided}
-use Rattle.ignore_walk.specs.Walked.{comes_before}
-use Rattle.ignore_survey.specs.Survey.{Below, IsByName, IsSurvey, by_name, explained, goes_on}
+use Rattle.ignore_survey.specs.Survey.{Below, IsByName, IsSurvey, comes_before, explained, goes_on}
 use Rattle.ignore_survey.specs.Survey.Seen.{entry, unlisted}
 use Rattle.ignore_survey.specs.Survey.Below.{fails, lists}
 use Rattle.ignore_survey.specs.Survey.Each.{nothing, leaf, dir}
@@ -123,7 +122,7 @@ ways = (refl, refl, refl, refl, refl)
 one_in_order : (x : Listed) → IsByName (x ∷ []) (x ∷ [])
 one_in_order x = (IsPermutation-refl (x ∷ []), λ k d z p. absurd (omega (arith, p)), λ z. refl)
 
-rises : IsSortedBy (comes_before by_name) top_list
+rises : IsSortedBy comes_before top_list
 rises zero d z p = refl
 rises (suc zero) d z p = refl
 rises (suc (suc zero)) d z p = refl

@@ -1,11 +1,12 @@
 -- What a survey of a root yields.
 use Rattle.std.specs.Cmp.Lexicographic.{slice_cmp}
 use Rattle.std.specs.Ordering.{is_lt, nat_cmp}
-use Rattle.std.specs.Prelude.{◌≡◌, Bool, true, false, List, [], ◌∷◌, ◌++◌, map, IsPermutation, IsSortedBy, Ok, Err}
+use Rattle.std.specs.Prelude.{◌≡◌, Bool, true, false, not, ◌&&◌, List, [], ◌∷◌, ◌++◌, map, IsPermutation, IsSortedBy, Ok, Err, if◌then◌else◌}
 use Rattle.std.specs.List.Sorted.{IsStableBy}
-use Rattle.ignore_base.specs.Paths.{joined}
+use Rattle.ignore_base.specs.Paths.{has_slash, is_proper, joined}
 use Rattle.ignore_base.specs.Text.{Bytes}
 use Rattle.ignore_base.specs.declared.fault.Fault.{Fault}
+use Rattle.ignore_base.specs.declared.fault.Fault.TheVariants.{BadName}
 use Rattle.ignore_files.specs.Kinds.{is_dir}
 use Rattle.ignore_files.specs.declared.types.FileType.{FileType}
 use Rattle.ignore_files.specs.declared.types.Listed.{Listed}
@@ -13,8 +14,6 @@ use Rattle.ignore_files.specs.declared.types.Listed.TheVariants as thing
 use Rattle.ignore_dir.specs.Above.{path_along}
 use Rattle.ignore_dir.specs.Query.{is_asked, query}
 use Rattle.ignore_dir.specs.Scene.{Scene}
-use Rattle.ignore_walk.specs.Child.{named}
-use Rattle.ignore_walk.specs.Walked.{comes_before}
 use Rattle.ignore_why.specs.QueryWhy.{QueryWhy, query_why}
 
 -- what a survey yields: an entry by the names that lead to it from the root, with its kind and the
@@ -32,15 +31,22 @@ explained g names kind = entry names kind (query_why g (joined names) (is_dir ki
 abbrev pub goes_on : Scene → List Bytes → FileType → Bool
 goes_on g names kind = (query g (joined names) (is_dir kind)).0.descends
 
--- names in the order of their bytes
-abbrev pub by_name : Bytes → Bytes → Bool
-by_name a b = is_lt (slice_cmp nat_cmp a b)
+-- a listed thing, or a fault in its place where its name is no name
+abbrev pub named : Listed → Listed
+named (thing.Entry name kind) = if is_proper name && not (has_slash name) then thing.Entry name kind else thing.Fault BadName
+named (thing.Fault fault) = thing.Fault fault
 
--- a listing in the order of its names: faults first, and what has one name stays as listed
+-- one listed thing comes before another: a fault before an entry, and entries in the order of the
+-- bytes of their names
+abbrev pub comes_before : Listed → Listed → Bool
+comes_before (thing.Fault f) (thing.Fault g) = false
+comes_before (thing.Fault f) (thing.Entry b kind) = true
+comes_before (thing.Entry a kind) (thing.Fault g) = false
+comes_before (thing.Entry a kind) (thing.Entry b its) = is_lt (slice_cmp nat_cmp a b)
+
+-- a listing in this order, in which things that tie stay as listed
 abbrev pub IsByName : List Listed → List Listed → Type 0
-IsByName listed things =
-    IsPermutation listed things
-    × IsSortedBy (comes_before by_name) things × IsStableBy (comes_before by_name) listed things
+IsByName listed things = IsPermutation listed things × IsSortedBy comes_before things × IsStableBy comes_before listed things
 
 mutual
   -- what a survey yields below the directory with these names: of what it lists in the order of the
