@@ -55,10 +55,12 @@ impl<'t> Haystack<'t> {
         ensures over { IsMaskOver (drop offset self.old) result }
         ensures same { self.new ≡ self.old }
     {
-        if offset < self.from {
-            self.mask = mask_back(self.text, offset, self.from, self.mask);
-            self.from = offset;
+        if self.from <= offset {
+            return self.mask;
         }
-        self.mask
+        let mask = mask_back(self.text, offset, self.from, self.mask);
+        self.mask = mask;
+        self.from = offset;
+        mask
     }
 }
