@@ -1,5 +1,5 @@
 //! An index over patterns that their owner keeps.
-ghost use Rattle.std.specs.Prelude.{◌≡◌, ◌+◌, ◌<◌, ◌≤◌, ◌^◌, ◌++◌, ◌∷◌, [], ℕ, IfOk, IfErr, IsOk, List, Some, drop, length, map, slice_get};
+ghost use Rattle.std.specs.Prelude.{◌≡◌, ◌+◌, ◌<◌, ◌≤◌, ◌^◌, ◌++◌, ◌∷◌, [], ℕ, IfOk, IfErr, IfSome, IsOk, List, Some, drop, length, map, slice_get};
 ghost use Rattle.std.specs.Str.{IsCharBoundary, chars};
 ghost use Rattle.ignore_base.specs.Problem.{problem_of, memory};
 ghost use Rattle.ignore_set.specs.Buckets.{AreBucketsOf, IsPast};
@@ -119,6 +119,7 @@ impl Index {
         requires { IsIndexOf self.now (map M.member members.now) }
         ensures value { IsCharBoundary haystack.old offset
             → IfOk result (λ last. IsLastMatch (chars (drop offset haystack.old)) is_dir (map M.member members.now) last) }
+        ensures within { IfOk result (λ last. IfSome last (λ i. i < length members.now)) }
         ensures same { haystack.new ≡ haystack.old }
         ensures out_of_memory { IfErr result (λ e. problem_of e ≡ memory) }
         ensures succeeds { AreShort (map M.member members.now) → IsOk result }
@@ -137,6 +138,7 @@ impl Index {
         requires { IsIndexOf self.now (map M.member members.now) }
         ensures value { IsCharBoundary haystack.old offset
             → IfOk result (λ r. IsLastMatch (chars (drop offset haystack.old)) is_dir (map M.member members.now) r.0) }
+        ensures within { IfOk result (λ r. IfSome r.0 (λ i. i < length members.now)) }
         ensures count { IfOk result (λ r. r.1 ≤ pass_bound (map M.member members.now)) }
         ensures same { haystack.new ≡ haystack.old }
         ensures out_of_memory { IfErr result (λ e. problem_of e ≡ memory) }
