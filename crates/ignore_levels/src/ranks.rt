@@ -5,7 +5,7 @@ ghost use Rattle.ignore_base.specs.Match.{match_map};
 ghost use Rattle.ignore_base.specs.Paths.{trim_of};
 ghost use Rattle.ignore_base.specs.Problem.{problem_of, memory};
 ghost use Rattle.ignore_rules.specs.Answer.{list_answer};
-ghost use Rattle.ignore_dir.specs.Lists.{IsAfterSlash, asked_in, list_of};
+ghost use Rattle.ignore_dir.specs.Lists.{asked_in, list_of};
 ghost use Rattle.ignore_dir.specs.Ranks.{nearest, explicit_answer, git_answer, git_ranks, ranks_answer};
 ghost use Rattle.ignore_levels.specs.Reasons.{OverChain, down_to, rule_of};
 
@@ -67,37 +67,33 @@ struct Sought<'t> {
     is_dir: bool,
 }
 
-/// The answer of a list for what follows an offset in a text.
+impl<'t> Sought<'t> {
+    fn of(asked: &Asked<'t>) -> Sought<'t>
+        ensures { result ≡ record { text = asked.now.text.now; path = asked.now.path; is_dir = asked.now.is_dir } }
+    {
+        Sought {
+            text: Haystack::new(asked.text),
+            path: asked.path,
+            is_dir: asked.is_dir,
+        }
+    }
+}
+
+/// The answer of a list for what follows an offset in the text. A list without rules isn't asked.
 fn list_answer<'d>(
     list: &'d Gitignore,
-    text: &mut Haystack<'_>,
+    sought: &mut Sought<'_>,
     offset: usize,
-    is_dir: bool,
 ) -> Result<Match<&'d Glob>, Error>
-    ensures answered { IsCharBoundary text.old offset → IfOk result (λ m. match_map (λ g. g.now) m
-        ≡ list_answer list.now.rules (chars (drop offset text.old)) is_dir) }
-    ensures same { text.new ≡ text.old }
+    ensures answered { IsCharBoundary sought.old.text offset → IfOk result (λ m. match_map (λ g. g.now) m
+        ≡ list_answer list.now.rules (chars (drop offset sought.old.text)) sought.old.is_dir) }
+    ensures same { sought.new ≡ sought.old }
     ensures out_of_memory { IfErr result (λ e. problem_of e ≡ memory) }
 {
     if list.is_empty() {
         return Ok(Match::None);
     }
-    list.answer_after(text, offset, is_dir)
-}
-
-/// The answer of a list for what follows a slash in a text.
-fn answer_past<'d>(
-    list: &'d Gitignore,
-    text: &mut Haystack<'_>,
-    offset: usize,
-    is_dir: bool,
-) -> Result<Match<&'d Glob>, Error>
-    ensures answered { IsAfterSlash text.old offset → IfOk result (λ m. match_map (λ g. g.now) m
-        ≡ list_answer list.now.rules (chars (drop offset text.old)) is_dir) }
-    ensures same { text.new ≡ text.old }
-    ensures out_of_memory { IfErr result (λ e. problem_of e ≡ memory) }
-{
-    list_answer(list, text, offset, is_dir)
+    list.answer_after(&mut sought.text, offset, sought.is_dir)
 }
 
 /// Whether an offset isn't 0, and stands from a floor to a ceiling.
@@ -131,7 +127,7 @@ fn nearest<'d>(
             return Ok(Match::None);
         }
         let list = list_of(&level.dir, rank);
-        let answer = answer_past(list, &mut sought.text, level.offset, sought.is_dir)?;
+        let answer = list_answer(list, sought, level.offset)?;
         if !answer.is_none() {
             return Ok(ruled_by(Origin::Directory(rank, here), answer));
         }
@@ -225,11 +221,7 @@ pub(crate) fn ranks_answer<'d>(
         ≡ ranks_answer settings.now outside.now (asked_in asked.now.text.now chain) asked.now.path.now asked.now.is_dir)) }
     ensures out_of_memory { IfErr result (λ e. problem_of e ≡ memory) }
 {
-    let mut sought = Sought {
-        text: Haystack::new(asked.text),
-        path: asked.path,
-        is_dir: asked.is_dir,
-    };
+    let mut sought = Sought::of(asked);
     let answer = nearest(levels, Rank::Custom, 0, place, &mut sought)?;
     if !answer.is_none() {
         return Ok(answer);
