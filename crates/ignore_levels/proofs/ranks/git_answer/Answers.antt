@@ -1,7 +1,12 @@
-use Rattle.std.proofs.Common.{◌≡◌, sym, ap, ◌∙◌, true, false, rules}
-use Rattle.ignore_base.specs.Match.{is_none}
+use Rattle.std.proofs.Common.{◌≡◌, sym, ap, ◌∙◌, subst, true, false, rules}
+use Rattle.ignore_base.specs.Match.{is_none, match_map}
+use Rattle.ignore_base.specs.Paths.{trim_of}
 use Rattle.ignore_rules.specs.Answer.{answer}
-use Rattle.ignore_levels.specs.Reasons.{rule_of}
+use Rattle.ignore_dir.specs.declared.dir.Rank.TheVariants.{Exclude}
+use Rattle.ignore_dir.specs.Lists.{asked_in}
+use Rattle.ignore_dir.specs.Ranks.{nearest}
+use Rattle.ignore_levels.specs.declared.ranks.Sought.{Sought}
+use Rattle.ignore_levels.specs.Reasons.{OverChain, down_to, rule_of}
 use Rattle.ignore_levels.proofs.RankLemmas.{decides, match_or-none, passes}
 use Rattle.ignore_levels.proofs.ranks.git_answer.Goals as goal
 
@@ -13,23 +18,30 @@ returns-then-not-is_none-clause-answered c = λ chain is after.
 
 pub returns-then-not-is_none-2-clause-answered : goal.returns-then-not-is_none-2-clause-answered
 returns-then-not-is_none-2-clause-answered c = λ chain is after.
+    let slots = c.args.levels.now.slots.items in
     let one = c.in_ok-answer.answer in
     let two = c.in_ok-answer-2.answer in
     let none : is_none one ≡ true = search rules in
     let some : is_none two ≡ false = search rules in
-    decides rule_of two _ _ (c.in_ok-answer-2.ensures.answered chain is after) some
+    let exclude = subst (λ (s : Sought). OverChain slots c.args.place s.text (λ chain. match_map rule_of two
+    ≡ nearest Exclude (asked_in s.text (down_to c.args.floor chain)) s.is_dir)) c.in_ok-answer.ensures.same c.in_ok-answer-2.ensures.answered in
+    decides rule_of two _ _ (exclude chain is after) some
     ∙ sym (passes rule_of one _ _ (c.in_ok-answer.ensures.answered chain is after) none)
 
 pub returns-clause-answered : goal.returns-clause-answered
 returns-clause-answered c = λ chain is after.
+    let slots = c.args.levels.now.slots.items in
     let one = c.in_ok-answer.answer in
     let two = c.in_ok-answer-2.answer in
+    let three = c.in_ok-answer-3.answer in
     let none : is_none one ≡ true = search rules in
     let none' : is_none two ≡ true = search rules in
     let global = c.args.global.now in
+    let exclude = subst (λ (s : Sought). OverChain slots c.args.place s.text (λ chain. match_map rule_of two
+    ≡ nearest Exclude (asked_in s.text (down_to c.args.floor chain)) s.is_dir)) c.in_ok-answer.ensures.same c.in_ok-answer-2.ensures.answered in
+    let third : match_map (λ g. g.now) three ≡ answer global.root global.rules (trim_of c.args.sought.now.path.now) c.args.sought.now.is_dir = ? in
     c.ruled_by.ensures
-    ∙ (c.in_ok-answer-3.ensures.answered
-    ∙ (ap (λ p. answer global.root global.rules p c.args.asked.now.is_dir) c.trim_root.ensures
+    ∙ (third
     ∙ (sym (match_or-none _)
-    ∙ (sym (passes rule_of two _ _ (c.in_ok-answer-2.ensures.answered chain is after) none')
-    ∙ sym (passes rule_of one _ _ (c.in_ok-answer.ensures.answered chain is after) none)))))
+    ∙ (sym (passes rule_of two _ _ (exclude chain is after) none')
+    ∙ sym (passes rule_of one _ _ (c.in_ok-answer.ensures.answered chain is after) none))))
