@@ -8,7 +8,8 @@ use ignore_walk::{Item, Walk};
 use std::alloc::Global;
 use std::cell::Cell;
 
-/// A tree in memory that counts the followed `stat`s, and says that it is whole or doesn't.
+/// A tree in memory that counts the followed `stat`s of what is in `/t`, and says that it
+/// is whole or doesn't.
 #[derive(Drop)]
 struct Counted<'t> {
     tree: &'t MemoryTree,
@@ -22,7 +23,7 @@ impl Files for Counted<'_> {
     ghost list_gives = { λ files path r. ⟦<MemoryTree as Files>⟧.list_gives files.tree.now path r };
 
     fn stat(&self, alloc: Global, path: &str, follow: bool) -> Result<Metadata, Refusal> {
-        if follow {
+        if follow && path.starts_with("/t/") {
             self.asked.set(self.asked.get().saturating_add(1));
         }
         self.tree.stat(alloc, path, follow)
@@ -54,11 +55,21 @@ impl Files for Counted<'_> {
     }
 }
 
-/// Takes all items of a walk of `/t`.
-fn walk(alloc: Global, files: &Counted<'_>) -> anyhow::Result<()> {
+/// The one root `/t`.
+fn root(alloc: Global) -> anyhow::Result<Vec<Name>> {
     let mut names = Vec::new(alloc);
     names.push(Name::new(String::from_str(alloc, "/t")?))?;
-    take_all(Walk::new(ground_of(alloc, files, options()), names));
+    Ok(names)
+}
+
+/// Takes all items of a walk of `/t`, with custom files of these names.
+fn walk(alloc: Global, files: &Counted<'_>, custom: &[&str]) -> anyhow::Result<()> {
+    let root = root(alloc)?;
+    let mut ground = ground_of(alloc, files, options());
+    for name in custom {
+        ground.settings.custom.push(name)?;
+    }
+    take_all(Walk::new(ground, root));
     Ok(())
 }
 
@@ -69,33 +80,35 @@ fn take_all<I: Iterator<Item = Item> + Drop>(walk: I)
     for _ in walk {}
 }
 
-/// How many followed `stat`s a walk of a tree of these lines makes, with a nameless entry in `/t`
-/// or without.
-fn asked(alloc: Global, lines: &[&str], nameless: bool, is_whole: bool) -> anyhow::Result<u32> {
-    let mut tree = tree_of(alloc, lines)?;
-    if nameless {
-        tree.add_nameless("/t")?;
-    }
+/// How many followed `stat`s a walk of this tree makes of what is in `/t`.
+fn asked_in(
+    alloc: Global,
+    tree: &MemoryTree,
+    custom: &[&str],
+    is_whole: bool,
+) -> anyhow::Result<u32> {
+    let asked = Cell::new(0);
     let files = Counted {
-        tree: &tree,
+        tree,
         is_whole,
-        asked: Cell::new(0),
+        asked,
     };
-    walk(alloc, &files)?;
+    walk(alloc, &files, custom)?;
     Ok(files.asked.get())
 }
 
-/// How many more a walk makes where the tree doesn't say that it is whole.
-fn spared(alloc: Global, lines: &[&str]) -> anyhow::Result<u32> {
-    let all = asked(alloc, lines, false, false)?;
-    Ok(all.saturating_sub(asked(alloc, lines, false, true)?))
+/// The same of a tree of these lines that says it is whole, and of one that doesn't.
+fn asked(alloc: Global, lines: &[&str], custom: &[&str]) -> anyhow::Result<(u32, u32)> {
+    let tree = tree_of(alloc, lines)?;
+    let few = asked_in(alloc, &tree, custom, true)?;
+    Ok((few, asked_in(alloc, &tree, custom, false)?))
 }
 
-/// The files of rules `.ignore` and `.gitignore`, `.git`, `.jj`, and the exclude file.
+/// Else the files of rules `.ignore` and `.gitignore`, `.git`, `.jj`, and the exclude file.
 #[test]
-fn five_are_spared_for_each_directory_without_them(rt: HostRuntime) -> anyhow::Result<()> {
-    assert_eq!(rt; spared(rt.alloc(), &["/t"])?, 5);
-    assert_eq!(rt; spared(rt.alloc(), &["/t", "/t/a", "/t/a/x=", "/t/b"])?, 15);
+fn nothing_is_asked_in_directories_without_such_names(rt: HostRuntime) -> anyhow::Result<()> {
+    let lines = ["/t", "/t/a", "/t/a/x=", "/t/b"];
+    assert_eq!(rt; asked(rt.alloc(), &lines, &[])?, (0, 15));
     Ok(())
 }
 
@@ -108,22 +121,48 @@ fn what_is_listed_is_asked_whatever_its_case(rt: HostRuntime) -> anyhow::Result<
         "/t/.jj",
         "/t/.JJ=",
     ] {
-        assert_eq!(rt; spared(rt.alloc(), &["/t", name])?, 4);
+        assert_eq!(rt; asked(rt.alloc(), &["/t", name], &[])?, (1, 5));
     }
     Ok(())
 }
 
-/// With it the exclude file; but `.jj` isn't asked for in either way where `.git` is there.
+/// With `.git` the exclude file; but `.jj` isn't asked in either way where `.git` is there.
 #[test]
 fn of_a_repository_the_exclude_file_is_asked(rt: HostRuntime) -> anyhow::Result<()> {
-    assert_eq!(rt; spared(rt.alloc(), &["/t", "/t/.git"])?, 2);
-    assert_eq!(rt; spared(rt.alloc(), &["/t", "/t/.GIT"])?, 3);
+    assert_eq!(rt; asked(rt.alloc(), &["/t", "/t/.git"], &[])?, (2, 4));
+    assert_eq!(rt; asked(rt.alloc(), &["/t", "/t/.GIT"], &[])?, (2, 5));
     Ok(())
 }
 
 #[test]
-fn nothing_is_spared_where_a_fault_is_listed(rt: HostRuntime) -> anyhow::Result<()> {
-    let all = asked(rt.alloc(), &["/t"], true, false)?;
-    assert_eq!(rt; asked(rt.alloc(), &["/t"], true, true)?, all);
+fn a_custom_name_is_asked_where_it_is_listed(rt: HostRuntime) -> anyhow::Result<()> {
+    assert_eq!(rt; asked(rt.alloc(), &["/t"], &["x.ignore"])?, (0, 6));
+    assert_eq!(rt;
+        asked(rt.alloc(), &["/t", "/t/X.ignore="], &["x.ignore"])?,
+        (1, 6)
+    );
+    Ok(())
+}
+
+/// It isn't ASCII, or a path: what is listed doesn't show it.
+#[test]
+fn a_custom_name_that_is_not_plain_is_asked_always(rt: HostRuntime) -> anyhow::Result<()> {
+    assert_eq!(rt;
+        asked(rt.alloc(), &["/t"], &["conf/x.ignore", "\u{e9}", ".."])?,
+        (3, 8)
+    );
+    Ok(())
+}
+
+/// How many are made where `/t` lists a fault, in a tree that says it is whole.
+fn asked_beside_a_fault(alloc: Global) -> anyhow::Result<u32> {
+    let mut tree = tree_of(alloc, &["/t"])?;
+    tree.add_nameless("/t")?;
+    asked_in(alloc, &tree, &[], true)
+}
+
+#[test]
+fn all_are_asked_where_a_fault_is_listed(rt: HostRuntime) -> anyhow::Result<()> {
+    assert_eq!(rt; asked_beside_a_fault(rt.alloc())?, 5);
     Ok(())
 }
