@@ -44,8 +44,8 @@ pub fn load_directory<F: Files>(
     load_shown(ground, dir, &Shown::nothing())
 }
 
-/// The same of a directory of which something is shown. What isn't shown isn't asked for: a file of
-/// rules, `.git` with the exclude file in it, or `.jj`.
+/// The same as `load_directory`, of a directory whose listing may have shown its names. What that
+/// lacks isn't asked for: a file of rules, `.git` with the exclude file in it, or `.jj`.
 ///
 /// # Errors
 /// `Error::Memory` alone.

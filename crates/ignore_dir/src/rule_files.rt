@@ -77,7 +77,8 @@ pub(crate) fn rules_of_file<F: Files>(
     Ok((builder.into_gitignore(), error))
 }
 
-/// Adds the file of a directory with a name, if it is there. What isn't shown isn't asked for.
+/// Adds the file of a directory with a name, if it is there. What the listing lacks isn't asked
+/// for.
 fn add_named<F: Files>(
     ground: &Ground<'_, F>,
     dir: &str,
@@ -98,7 +99,7 @@ fn add_named<F: Files>(
 }
 
 /// The rules of the file of the directory with a name, where its filter is on, and its error. What
-/// isn't shown isn't asked for.
+/// the listing lacks isn't asked for.
 pub(crate) fn rules_if<F: Files>(
     ground: &Ground<'_, F>,
     dir: &str,
@@ -122,7 +123,7 @@ pub(crate) fn rules_if<F: Files>(
 }
 
 /// The rules of the files of the directory with these names, in turn, and their errors as one. What
-/// isn't shown isn't asked for.
+/// the listing lacks isn't asked for.
 pub(crate) fn rules_of_names<F: Files>(
     ground: &Ground<'_, F>,
     dir: &str,

@@ -55,7 +55,7 @@ pub(crate) fn loaded<F: Files>(
     loaded_by(ground, path, &Shown::nothing())
 }
 
-/// The same of a directory of which something is shown.
+/// The same of a directory whose listing may have shown its names.
 fn loaded_by<F: Files>(
     ground: &Ground<'_, F>,
     path: &str,
