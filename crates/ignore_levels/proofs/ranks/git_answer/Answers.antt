@@ -39,7 +39,10 @@ returns-clause-answered c = λ chain is after.
     let global = c.args.global.now in
     let exclude = subst (λ (s : Sought). OverChain slots c.args.place s.text (λ chain. match_map rule_of two
     ≡ nearest Exclude (asked_in s.text (down_to c.args.floor chain)) s.is_dir)) c.in_ok-answer.ensures.same c.in_ok-answer-2.ensures.answered in
-    let third : match_map (λ g. g.now) three ≡ answer global.root global.rules (trim_of c.args.sought.now.path.now) c.args.sought.now.is_dir = ? in
+    let same = c.in_ok-answer-2.ensures.same ∙ c.in_ok-answer.ensures.same in
+    let third = c.in_ok-answer-3.ensures.answered
+    ∙ (ap (λ p. answer global.root global.rules p c.nearest-2.new.sought.is_dir) c.trim_root.ensures
+    ∙ ap (λ (s : Sought). answer global.root global.rules (trim_of s.path.now) s.is_dir) same) in
     c.ruled_by.ensures
     ∙ (third
     ∙ (sym (match_or-none _)

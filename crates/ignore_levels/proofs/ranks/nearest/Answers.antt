@@ -2,6 +2,7 @@ use Rattle.std.proofs.Common.{◌≡◌, ◌-◌, Option, Some, Bor, length, dro
 use Rattle.std.specs.Option.{option_copied}
 use Rattle.std.specs.Str.{IsCharBoundary, IsUtf8, chars}
 use Rattle.ignore_base.specs.Match.{is_none, match_map}
+use Rattle.ignore_base.specs.Text.{Path}
 use Rattle.ignore_rules.specs.Answer.{list_answer}
 use Rattle.ignore_rules.specs.Rules.{Rule, Ruleset}
 use Rattle.ignore_levels.specs.declared.list.Level.{Level}
@@ -16,11 +17,15 @@ use Rattle.ignore_levels.proofs.ranks.nearest.Goals as goal
 pub loop-at-init : goal.loop-at-init
 loop-at-init c = record {
   same = refl;
-  utf8 = ?;
+  utf8 = subst IsUtf8 c.text-ceiling.ensures c.text-ceiling.utf8;
   rest = λ chain is after.
       let slots = c.args.levels.now.slots.items in
       let asked = c.args.sought.now in
-      ?;
+      let all = begin slots c.args.rank asked.text asked.is_dir c.args.floor c.args.place chain is after in
+      subst (λ (t : Path). Rest slots c.args.rank asked.text asked.is_dir c.args.floor (length t) c.ruled-at.result chain)
+      (sym c.text-ceiling.ensures)
+      (subst (λ (p : Option Place). Rest slots c.args.rank asked.text asked.is_dir c.args.floor (length asked.text) p chain)
+      (sym c.ruled-at.ensures) all);
 }
 
 pub returns-in_default-level-clause-answered : goal.returns-in_default-level-clause-answered
@@ -68,7 +73,7 @@ returns-then-not-is_none-clause-answered c = λ chain is after.
 
 pub loop-at-preserved : goal.loop-at-preserved
 loop-at-preserved c = record {
-  same = ? ∙ c.loop-at.invariant.same;
+  same = c.in_ok-answer.ensures.same ∙ c.loop-at.invariant.same;
   utf8 = c.loop-at.invariant.utf8;
   rest = λ chain is after.
       let slots = c.args.levels.now.slots.items in
