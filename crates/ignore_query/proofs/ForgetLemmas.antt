@@ -5,12 +5,14 @@ use Rattle.std.proofs.Common.{string_bytes, nat_eq, eqb, eqb-true, eq-eqb, Strin
 use Rattle.std.proofs.lemmas.List.{append-nil}
 use Rattle.std.proofs.lemmas.List.Splits.{join_with_byte-slice_split}
 use Rattle.std.proofs.Math.Dec.{eqb-suc-zero}
+use Rattle.std.proofs.Math.Logic.{∥∥₁_elim}
 use Rattle.std.specs.List.{list_all, starts_with}
 use Rattle.std.specs.Ordering.{is_eq, nat_cmp}
 use Rattle.std.specs.Cmp.Lexicographic.{slice_cmp}
 use Rattle.std.specs.Map.{lookup}
 use Rattle.std.specs.Str.{bytes_eq}
-use Rattle.std.specs.BTreeMap.{get_by_text}
+use Rattle.std.specs.BTreeMap.{BTreeMap, get_by_text}
+use mathlib.Core.HLevel.{⊥_prop}
 use Rattle.std.proofs.lemmas.Map.Text.{is_eq-slice_cmp}
 use Rattle.std.proofs.lemmas.Slice.Eq.{bytes_eq-Decides}
 use Rattle.ignore_base.specs.Paths.{IsName, components, is_proper, join_of, joined}
@@ -169,11 +171,14 @@ turned : (b : Bool) (o : Option Kept) → cond (not b) o None ≡ cond b None o
 turned true o = refl
 turned false o = refl
 
-pub still : (c c' : Cache) (dir : List ℕ) → c'.dirs.entries ≡ filter (λ e. not (is_key_in dir (string_bytes e.0))) c.dirs.entries
-    → (cs : List ℕ) → get_by_text c'.dirs cs ≡ cond (is_key_in dir cs) None (get_by_text c.dirs cs)
-still c c' dir e cs =
-    ap (λ es. lookup (at_text cs) es) e ∙ (lookup_filter (λ t. not (is_key_in dir t)) cs c.dirs.entries
-    ∙ turned (is_key_in dir cs) (get_by_text c.dirs cs))
+abbrev Map : Type 0
+Map = BTreeMap (String Global) Kept
+
+pub still : (m m' : Map) (dir : List ℕ) → m'.entries ≡ filter (λ e. not (is_key_in dir (string_bytes e.0))) m.entries
+    → (cs : List ℕ) → get_by_text m' cs ≡ cond (is_key_in dir cs) None (get_by_text m cs)
+still m m' dir e cs =
+    ap (λ es. lookup (at_text cs) es) e ∙ (lookup_filter (λ t. not (is_key_in dir t)) cs m.entries
+    ∙ turned (is_key_in dir cs) (get_by_text m cs))
 
 -- What is left agrees.
 
@@ -211,7 +216,7 @@ starts-take (suc m) (x ∷ xs) (q ∷ ps) le = ap (λ b. nat_eq q x && b) (start
 -- what was forgotten: the keys below one, and the levels of their directories
 pub record Forgets (c c' : Cache) (dir : List ℕ) : Type 0 where
   pub same : SameAbove c c'
-  pub look : (cs : List ℕ) → get_by_text c'.dirs cs ≡ cond (is_key_in dir cs) None (get_by_text c.dirs cs)
+  pub look : (cs : List ℕ) → get_by_text c'.dirs.map cs ≡ cond (is_key_in dir cs) None (get_by_text c.dirs.map cs)
   pub keeps : Keeps (slots_of c'.levels) (slots_of c.levels)
   pub chains : (place : Option Place) (chain : List Placed) → IsChain (slots_of c.levels) place chain
       → ((key : List ℕ) (at : Place) → is_key_in dir key ≡ true → IsOwn c dir key at → ¬ Passes (slots_of c.levels) place at)
@@ -224,22 +229,23 @@ module _ (g : Scene) (c c' : Cache) (dir : List ℕ) (old : Agrees g c) (f : For
   -- the chain of a directory that is left passes no level of a forgotten one
   apart : (q : List (List ℕ)) (place : Option Place) → All IsName q → is_key_in dir (slashed q) ≡ false → kept_at c q ≡ Some (Loaded place)
       → (key : List ℕ) (at : Place) → is_key_in dir key ≡ true → IsOwn c dir key at → ¬ Passes (slots_of c.levels) place at
-  apart q place clean out kept key at in' own passes =
-      let named = old.listed.keys key own.0 own.1 in
+  apart q place clean out kept key at in' own passes = ∥∥₁_elim c.dirs.keys ⊥_prop
+      (λ are.
+      let named = are key own.0 own.1 in
       let b = named.0 in
       let there : PassesAt c b at = (
         Some at,
-        ap (λ t. get_by_text c.dirs t) (sym named.2) ∙ (own.1 ∙ ap Some own.2.0),
+        ap (λ t. get_by_text c.dirs.map t) (sym named.2) ∙ (own.1 ∙ ap Some own.2.0),
         itself,
       ) in
-      let same = old.listed.shared q b at clean named.1 (place, kept, passes) there in
+      let same = old.shared q b at clean named.1 (place, kept, passes) there in
       let m = floor_at (slots_of c.levels) (Some at) - length (string_bytes c.base) in
       let le : length (key_of dir) ≤ m = omega (arith, own.2.1) in
       let one : is_key_in dir (slashed q) ≡ true =
       sym (starts-take m (slashed q) (key_of dir) le)
       ∙ (ap (λ t. starts_with nat_eq t (key_of dir)) same
       ∙ (starts-take m (slashed b) (key_of dir) le ∙ (ap (is_key_in dir) (sym named.2) ∙ in'))) in
-      cc
+      cc)
 
   -- nor does the chain above the root
   apart_above : c.has_above ≡ true → (key : List ℕ) (at : Place) → is_key_in dir key ≡ true → IsOwn c dir key at
@@ -274,7 +280,7 @@ module _ (g : Scene) (c c' : Cache) (dir : List ℕ) (old : Agrees g c) (f : For
       let down : (key : List ℕ) → key_down_to c' at key ≡ key_down_to c at key =
       λ key. ap (λ n. take (n - length (string_bytes c'.base)) key) pa.1
       ∙ ap (λ t. take (floor_at (slots_of c.levels) (Some at) - length (string_bytes t)) key) f.same.1.1 in
-      down (slashed a) ∙ (old.listed.shared a b at ca cb pa.0 pb.0 ∙ sym (down (slashed b)))
+      down (slashed a) ∙ (old.shared a b at ca cb pa.0 pb.0 ∙ sym (down (slashed b)))
 
   pub left_agrees : Agrees g c'
   left_agrees = record {
@@ -296,10 +302,7 @@ module _ (g : Scene) (c c' : Cache) (dir : List ℕ) (old : Agrees g c) (f : For
         let kept : is_key_in dir (slashed front) ≡ false = stays_false (is_key_in dir (slashed front)) (is_key_in dir (slashed q))
         (λ e. ap (is_key_in dir) grown ∙ starts_more (key_of dir) (slashed front) (name ++ 47 ∷ []) e) b.0 in
         (p.0, f.look (slashed front) ∙ (ap (λ b. cond b None (kept_at c front)) kept ∙ p.1));
-    listed = record {
-      keys = λ key k h. old.listed.keys key k (was (is_key_in dir key) (get_by_text c.dirs key) k (sym (f.look key) ∙ h)).1;
-      shared = shared_still;
-    };
+    shared = shared_still;
   }
 
 -- Another tree.
@@ -424,5 +427,5 @@ later_agrees a before after loads later c old same =
           right_later g h c q k (same_ignored a before after loads later c old same q k clean kept (ends q))
           (λ place e. same_chain a before after loads later c old same q place clean (kept ∙ ap Some e)) (old.right q k clean kept);
       inside = old.inside;
-      listed = old.listed;
+      shared = old.shared;
     }

@@ -24,25 +24,19 @@ nothing_agrees g c h = record {
   first = λ names k e. absurd (none names k e);
   right = λ names k are e. absurd (none names k e);
   inside = λ names k are e. absurd (none names k e);
-  listed = record {
-    keys = λ key k e. absurd (no_key key k e);
-    shared = λ a b at ca cb p q. absurd (none a (Loaded p.0) p.1);
-  };
+  shared = λ a b at ca cb p q. absurd (none a (Loaded p.0) p.1);
 }
   where
     never : true ≡ false → ⊥
     never e = cc
 
-    no_key : (key : List ℕ) (k : Kept) → get_by_text c.dirs key ≡ Some k → ⊥
-    no_key key k e = let z = h.dirs key in cc
-
     none : (names : List (List ℕ)) (k : Kept) → kept_at c names ≡ Some k → ⊥
-    none names k e = no_key (slashed names) k e
+    none names k e = let z = h.dirs names in cc
 
 all_new : (c : Cache) → KeepsNothing c → (fronts : List (List (List ℕ))) → not_kept c fronts ≡ fronts
 all_new c h [] = refl
 all_new c h (names ∷ fronts) =
-    ap (λ o. cond (not (is_some o)) (names ∷ not_kept c fronts) (not_kept c fronts)) (h.dirs (slashed names))
+    ap (λ o. cond (not (is_some o)) (names ∷ not_kept c fronts) (not_kept c fronts)) (h.dirs names)
     ∙ ap (λ l. names ∷ l) (all_new c h fronts)
 
 below : (g : Scene) (c : Cache) → KeepsNothing c → (names : List (List ℕ)) → new_below g c names ≡ problems_below g names

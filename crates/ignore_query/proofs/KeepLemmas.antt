@@ -21,7 +21,7 @@ use Rattle.ignore_levels.specs.Levels.{Keeps, slots_of}
 use Rattle.ignore_levels.specs.declared.list.Place.{Place}
 use Rattle.ignore_levels.proofs.ChainLemmas.{chain-kept}
 use Rattle.ignore_query.specs.Agrees.{Agrees, IsAbove, IsLoaded, IsNext, IsRight, StandsFor, chain_above, is_loaded}
-use Rattle.ignore_query.specs.Listed.{IsBelow, IsListed, kept_at}
+use Rattle.ignore_query.specs.Listed.{IsBelow, SharesLevels, kept_at}
 use Rattle.ignore_query.specs.Reports.{problem_in, problems_at}
 
 -- Names and keys.
@@ -131,16 +131,16 @@ problems_new g c names h = ap (λ o. cond (is_some o || is_ignored g names) [] (
 
 -- the second has one key more
 abbrev pub Puts : Cache → Cache → List ℕ → Kept → Type 0
-Puts c c' key k = (cs : List ℕ) → get_by_text c'.dirs cs ≡ update bytes_eq (get_by_text c.dirs) key (Some k) cs
+Puts c c' key k = (cs : List ℕ) → get_by_text c'.dirs.map cs ≡ update bytes_eq (get_by_text c.dirs.map) key (Some k) cs
 
 pub puts_from : (b m a : Cache) (key : List ℕ) (k : Kept) → m.dirs ≡ b.dirs → Puts m a key k → Puts b a key k
-puts_from b m a key k e puts cs = puts cs ∙ ap (λ d. update bytes_eq (get_by_text d) key (Some k) cs) e
+puts_from b m a key k e puts cs = puts cs ∙ ap (λ d. update bytes_eq (get_by_text d.map) key (Some k) cs) e
 
 pub puts_others : (c c' : Cache) (key : List ℕ) (k : Kept) → Puts c c' key k → (cs : List ℕ) → cs ≢ key
-    → get_by_text c'.dirs cs ≡ get_by_text c.dirs cs
+    → get_by_text c'.dirs.map cs ≡ get_by_text c.dirs.map cs
 puts_others c c' key k puts cs ne =
-    let P : (b : Bool) → bytes_eq key cs ≡ b → cond b (Some k) (get_by_text c.dirs cs) ≡ get_by_text c.dirs cs =
-    λ x. elim x as (λ b. bytes_eq key cs ≡ b → cond b (Some k) (get_by_text c.dirs cs) ≡ get_by_text c.dirs cs) [
+    let P : (b : Bool) → bytes_eq key cs ≡ b → cond b (Some k) (get_by_text c.dirs.map cs) ≡ get_by_text c.dirs.map cs =
+    λ x. elim x as (λ b. bytes_eq key cs ≡ b → cond b (Some k) (get_by_text c.dirs.map cs) ≡ get_by_text c.dirs.map cs) [
       | true ↦ λ e. absurd (ne (sym ((bytes_eq-Decides key cs).0 e)))
       | false ↦ λ e. refl
     ] in
@@ -149,16 +149,16 @@ puts_others c c' key k puts cs ne =
 same_bytes : (cs : List ℕ) → bytes_eq cs cs ≡ true
 same_bytes cs = (bytes_eq-Decides cs cs).1 refl
 
-pub puts_key : (c c' : Cache) (key : List ℕ) (k : Kept) → Puts c c' key k → get_by_text c'.dirs key ≡ Some k
-puts_key c c' key k puts = puts key ∙ ap (λ b. cond b (Some k) (get_by_text c.dirs key)) (same_bytes key)
+pub puts_key : (c c' : Cache) (key : List ℕ) (k : Kept) → Puts c c' key k → get_by_text c'.dirs.map key ≡ Some k
+puts_key c c' key k puts = puts key ∙ ap (λ b. cond b (Some k) (get_by_text c.dirs.map key)) (same_bytes key)
 
-pub puts_stays : (c c' : Cache) (key : List ℕ) (k : Kept) → Puts c c' key k → get_by_text c.dirs key ≡ None → (cs : List ℕ) (r : Kept)
-    → get_by_text c.dirs cs ≡ Some r → get_by_text c'.dirs cs ≡ Some r
+pub puts_stays : (c c' : Cache) (key : List ℕ) (k : Kept) → Puts c c' key k → get_by_text c.dirs.map key ≡ None → (cs : List ℕ) (r : Kept)
+    → get_by_text c.dirs.map cs ≡ Some r → get_by_text c'.dirs.map cs ≡ Some r
 puts_stays c c' key k puts absent cs r h =
-    let P : (b : Bool) → bytes_eq key cs ≡ b → cond b (Some k) (get_by_text c.dirs cs) ≡ Some r =
-    λ x. elim x as (λ b. bytes_eq key cs ≡ b → cond b (Some k) (get_by_text c.dirs cs) ≡ Some r) [
-      | true ↦ λ e. let same : key ≡ cs = (bytes_eq-Decides key cs).0 e in let none : get_by_text c.dirs cs
-          ≡ None = subst (λ t. get_by_text c.dirs t ≡ None) same absent in absurd (cc)
+    let P : (b : Bool) → bytes_eq key cs ≡ b → cond b (Some k) (get_by_text c.dirs.map cs) ≡ Some r =
+    λ x. elim x as (λ b. bytes_eq key cs ≡ b → cond b (Some k) (get_by_text c.dirs.map cs) ≡ Some r) [
+      | true ↦ λ e. let same : key ≡ cs = (bytes_eq-Decides key cs).0 e in let none : get_by_text c.dirs.map cs
+          ≡ None = subst (λ t. get_by_text c.dirs.map t ≡ None) same absent in absurd (cc)
       | false ↦ λ e. h
     ] in
     puts cs ∙ P (bytes_eq key cs) refl
@@ -201,8 +201,8 @@ pub record AddsOne (g : Scene) (c c' : Cache) (names : List (List ℕ)) (place :
   pub below : IsBelow (slots_of c.levels) (slots_of c'.levels) place k
 
 pub put_agrees : (g : Scene) (c c' : Cache) (names : List (List ℕ)) (place : Option Place) (k : Kept) → Agrees g c
-    → AddsOne g c c' names place k → IsListed c' → Agrees g c'
-put_agrees g c c' names place k old p listed =
+    → AddsOne g c c' names place k → SharesLevels c' → Agrees g c'
+put_agrees g c c' names place k old p shared =
     let split = put_cases c c' names k p.puts p.clean in
     let stays = puts_stays c c' (slashed names) k p.puts p.absent in
     record {
@@ -216,5 +216,5 @@ put_agrees g c c' names place k old p listed =
         | inl e ↦ (place, stays (slashed front) (Loaded place) (p.next.inside front name (sym e.0 ∙ is)))
         | inr x ↦ let in' = old.inside q r cleanq x front name is in (in'.0, stays (slashed front) (Loaded in'.0) in'.1)
       ];
-      listed = listed;
+      shared = shared;
     }

@@ -3,6 +3,7 @@ pub mod ChainLemmas
 pub mod EntryLemmas
 pub mod ForgetLemmas
 pub mod KeepLemmas
+pub mod KeyLemmas
 pub mod PlainLemmas
 pub mod WorkedPlain
 pub mod KnownLemmas

@@ -22,7 +22,7 @@ use Rattle.ignore_query.specs.declared.kept.Cache.{Cache}
 use Rattle.ignore_query.specs.declared.kept.Kept.{Kept}
 use Rattle.ignore_query.specs.declared.kept.Kept.TheVariants.{Loaded}
 use Rattle.ignore_query.specs.Agrees.{Agrees, chain_above}
-use Rattle.ignore_query.specs.Listed.{IsBelow, IsListed, PassesAt, kept_at, key_down_to}
+use Rattle.ignore_query.specs.Listed.{IsBelow, SharesLevels, PassesAt, kept_at, key_down_to}
 use Rattle.ignore_query.proofs.BoundaryLemmas.{All-reverse}
 use Rattle.ignore_query.proofs.ChainLemmas.{counting-most, front_names, text-length}
 use Rattle.ignore_query.proofs.KeepLemmas.{AddsOne, Ends, SameAbove, above_kept, ends, last, none, put_cases, right_kept}
@@ -116,7 +116,7 @@ module _ (g : Scene) (c c' : Cache) (old : Agrees g c) (same : SameAbove c c') (
       ((place, kept, back), stood at _ (passed g c q place at old clean kept back))
 
   -- levels that no kept directory stands at change nothing
-  pub grown_agrees : ((key : List ℕ) → get_by_text c'.dirs key ≡ get_by_text c.dirs key) → Agrees g c'
+  pub grown_agrees : ((key : List ℕ) → get_by_text c'.dirs.map key ≡ get_by_text c.dirs.map key) → Agrees g c'
   grown_agrees before =
       record {
         above = above_kept g c c' same keeps old.above;
@@ -124,13 +124,10 @@ module _ (g : Scene) (c c' : Cache) (old : Agrees g c) (same : SameAbove c c') (
         right = λ q r clean h. right_kept g c c' q r keeps (old.right q r clean (sym (before (slashed q)) ∙ h));
         inside = λ q r clean h front name is.
             let p = old.inside q r clean (sym (before (slashed q)) ∙ h) front name is in (p.0, before (slashed front) ∙ p.1);
-        listed = record {
-          keys = λ key r h. old.listed.keys key r (sym (before key) ∙ h);
-          shared = λ a b at ca cb p q.
-              let x = was a p.0 at ca (sym (before (slashed a)) ∙ p.1) p.2 in
-              let y = was b q.0 at cb (sym (before (slashed b)) ∙ q.1) q.2 in
-              down-same at (slashed a) x.1 ∙ (old.listed.shared a b at ca cb x.0 y.0 ∙ sym (down-same at (slashed b) x.1));
-        };
+        shared = λ a b at ca cb p q.
+            let x = was a p.0 at ca (sym (before (slashed a)) ∙ p.1) p.2 in
+            let y = was b q.0 at cb (sym (before (slashed b)) ∙ q.1) q.2 in
+            down-same at (slashed a) x.1 ∙ (old.shared a b at ca cb x.0 y.0 ∙ sym (down-same at (slashed b) x.1));
       }
 
 -- What is above the root, where nothing was kept.
@@ -159,20 +156,14 @@ pub first_agrees : (g : Scene) (c c' : Cache) → Agrees g c → c.has_above ≡
     → is_dir_there (g.tree.stat g.root true) ≡ true → IsChain (slots_of c'.levels) c'.above (counting (reverse (placed_above g)))
     → string_bytes c'.base ≡ 47 ∷ slashed (names_above g.tree g.settings g.root) → c'.has_above ≡ true → Agrees g c'
 first_agrees g c c' a off dirs root chain base has =
-    let no_key : (key : List ℕ) (k : Kept) → get_by_text c'.dirs key ≡ Some k → ⊥ =
-    λ key k h.
-    let old = ap (λ d. get_by_text d key) (sym dirs) ∙ h in
-    let named = a.listed.keys key k old in
-    let yes = a.first named.0 k (ap (λ t. get_by_text c.dirs t) (sym named.2) ∙ old) in cc (yes, off) in
+    let none_kept : (q : List (List ℕ)) (k : Kept) → kept_at c' q ≡ Some k → ⊥ =
+    λ q k h. let yes = a.first q k (ap (λ d. get_by_text d.map (slashed q)) (sym dirs) ∙ h) in cc (yes, off) in
     record {
       above = λ h. record { root = root; chain = chain; base = base };
       first = λ q k h. has;
-      right = λ q k clean h. absurd (no_key (slashed q) k h);
-      inside = λ q k clean h. absurd (no_key (slashed q) k h);
-      listed = record {
-        keys = λ key k h. absurd (no_key key k h);
-        shared = λ x y at cx cy p q. absurd (no_key (slashed x) (Loaded p.0) p.1);
-      };
+      right = λ q k clean h. absurd (none_kept q k h);
+      inside = λ q k clean h. absurd (none_kept q k h);
+      shared = λ x y at cx cy p q. absurd (none_kept x (Loaded p.0) p.1);
     }
 
 -- One directory more.
@@ -212,7 +203,7 @@ module _ (g : Scene) (c c' : Cache) (names : List (List ℕ)) (parent : Option P
       let n = floor_at (slots_of c.levels) (Some at) - length (string_bytes c.base) in
       ap (take n) grown
       ∙ (take-front n (slashed front) (name ++ 47 ∷ []) (omega (arith, l.within))
-      ∙ old.listed.shared front q at clean1 clean w.0 p)
+      ∙ old.shared front q at clean1 clean w.0 p)
 
   -- the new directory and an old one
   new_old : (q : List (List ℕ)) (place : Option Place) (at : Place) → All IsName q → PassesAt c q at → StoodAt at → k ≡ Loaded place
@@ -240,7 +231,7 @@ module _ (g : Scene) (c c' : Cache) (names : List (List ℕ)) (parent : Option P
   both : (a b : List (List ℕ)) (at : Place) → All IsName a → All IsName b → Side a at → Side b at
       → key_down_to c' at (slashed a) ≡ key_down_to c' at (slashed b)
   both a b at ca cb (before p s) (before q t) =
-      downs at (slashed a) s ∙ (old.listed.shared a b at ca cb p q ∙ sym (downs at (slashed b) s))
+      downs at (slashed a) s ∙ (old.shared a b at ca cb p q ∙ sym (downs at (slashed b) s))
   both a b at ca cb (before p s) (here e place is passes) =
       downs at (slashed a) s
       ∙ (sym (new_old a place at ca p s is passes)
@@ -251,19 +242,5 @@ module _ (g : Scene) (c c' : Cache) (names : List (List ℕ)) (parent : Option P
       ∙ (new_old b place at cb q t is passes ∙ sym (downs at (slashed b) t)))
   both a b at ca cb (here e place is passes) (here f place' is' passes') = ap (λ l. key_down_to c' at (slashed l)) (e ∙ sym f)
 
-  key_at : (key : List ℕ) (r : Kept) → get_by_text c'.dirs key ≡ Some r → (qs : List (List ℕ)) × All IsName qs × (key ≡ slashed qs)
-  key_at key r h =
-      let P : (b : Bool) → bytes_eq (slashed names) key ≡ b → cond b (Some k) (get_by_text c.dirs key) ≡ Some r
-      → (qs : List (List ℕ)) × All IsName qs × (key ≡ slashed qs) =
-      λ x. elim x as (λ b. bytes_eq (slashed names) key ≡ b → cond b (Some k) (get_by_text c.dirs key) ≡ Some r
-      → (qs : List (List ℕ)) × All IsName qs × (key ≡ slashed qs)) [
-        | true ↦ λ e f. (names, adds.clean, sym ((bytes_eq-Decides (slashed names) key).0 e))
-        | false ↦ λ e f. old.listed.keys key r f
-      ] in
-      P (bytes_eq (slashed names) key) refl (sym (adds.puts key) ∙ h)
-
-  pub put_listed : IsListed c'
-  put_listed = record {
-    keys = key_at;
-    shared = λ a b at ca cb p q. both a b at ca cb (side a at ca p) (side b at cb q);
-  }
+  pub put_shared : SharesLevels c'
+  put_shared a b at ca cb p q = both a b at ca cb (side a at ca p) (side b at cb q)

@@ -32,7 +32,7 @@ stays_then a b c p q = record {
   levels = keeps-then _ _ _ p.levels q.levels;
 }
 
-pub stays_put : (c c' : Cache) (key : List ℕ) (k : Kept) → Puts c c' key k → get_by_text c.dirs key ≡ None → SameAbove c c'
+pub stays_put : (c c' : Cache) (key : List ℕ) (k : Kept) → Puts c c' key k → get_by_text c.dirs.map key ≡ None → SameAbove c c'
     → Keeps (slots_of c.levels) (slots_of c'.levels) → Stays c c'
 stays_put c c' key k puts absent same keeps = record {
   above = λ h. (same.0 ∙ h, same.1);
@@ -49,19 +49,19 @@ some_or false (Some x) k = refl
 some_or false None k = refl
 
 pub put_kept : (c c' : Cache) (key : List ℕ) (k : Kept) → Puts c c' key k → (text : List ℕ)
-    → is_some (get_by_text c'.dirs text) ≡ (is_some (get_by_text c.dirs text) || bytes_eq key text)
-put_kept c c' key k puts text = ap (λ (o : Option Kept). is_some o) (puts text) ∙ some_or (bytes_eq key text) (get_by_text c.dirs text) k
+    → is_some (get_by_text c'.dirs.map text) ≡ (is_some (get_by_text c.dirs.map text) || bytes_eq key text)
+put_kept c c' key k puts text = ap (λ (o : Option Kept). is_some o) (puts text) ∙ some_or (bytes_eq key text) (get_by_text c.dirs.map text) k
 
 pub or_same : (a b : Bool) → (b ≡ true → a ≡ true) → a ≡ (a || b)
 or_same true b f = refl
 or_same false true f = f refl
 or_same false false f = refl
 
-pub known_kept : (c : Cache) (key : List ℕ) (k : Kept) → get_by_text c.dirs key ≡ Some k → (text : List ℕ)
-    → is_some (get_by_text c.dirs text) ≡ (is_some (get_by_text c.dirs text) || bytes_eq key text)
+pub known_kept : (c : Cache) (key : List ℕ) (k : Kept) → get_by_text c.dirs.map key ≡ Some k → (text : List ℕ)
+    → is_some (get_by_text c.dirs.map text) ≡ (is_some (get_by_text c.dirs.map text) || bytes_eq key text)
 known_kept c key k h text =
-    or_same (is_some (get_by_text c.dirs text)) (bytes_eq key text)
-    (λ e. ap (λ t. is_some (get_by_text c.dirs t)) (sym ((bytes_eq-Decides key text).0 e)) ∙ ap (λ (o : Option Kept). is_some o) h)
+    or_same (is_some (get_by_text c.dirs.map text)) (bytes_eq key text)
+    (λ e. ap (λ t. is_some (get_by_text c.dirs.map t)) (sym ((bytes_eq-Decides key text).0 e)) ∙ ap (λ (o : Option Kept). is_some o) h)
 
 -- Keys by names.
 
@@ -196,6 +196,6 @@ keeps_after g a b c names ms same is k = record {
   above = k.above;
   dirs = λ q clean.
       k.dirs q clean
-      ∙ (ap (λ d. is_some (get_by_text d (slashed q)) || is_among (needed g names) q) same
+      ∙ (ap (λ d. is_some (get_by_text d.map (slashed q)) || is_among (needed g names) q) same
       ∙ ap (λ l. is_kept a q || is_among (needed g l) q) is);
 }

@@ -37,6 +37,13 @@ pub asked_names : (tree : Tree) (root path : List ℕ) → is_asked root path �
     → list_all is_proper (components path) ≡ true
 asked_names tree root path a h = clean_names tree root path (and_right (not (bytes_eq root (45 ∷ []))) (is_clean path) a) h
 
+-- the same of a path that isn't empty
+pub named_names : (root path : List ℕ) → is_asked root path ≡ true → length path ≢ 0 → list_all is_proper (components path) ≡ true
+named_names root [] a filled = absurd (filled refl)
+named_names root (b ∷ bs) a filled =
+    sym (ap (λ t. t || list_all is_proper (components (b ∷ bs))) (eqb-suc-zero (length bs)))
+    ∙ and_right (not (bytes_eq root (45 ∷ []))) (is_clean (b ∷ bs)) a
+
 pub names_are : (tree : Tree) (root path : List ℕ) → has_rules tree root path ≡ true → components path ≡ names_of path
 names_are tree root [] h = cc
 names_are tree root (b ∷ bs) h = refl
@@ -44,7 +51,7 @@ names_are tree root (b ∷ bs) h = refl
 pub same_below : (g : Scene) (c c' : Cache) (names : List (List ℕ)) → c'.dirs ≡ c.dirs → new_below g c' names ≡ new_below g c names
 unfolding new_below
 same_below g c c' names e =
-    ap (λ d. map (problem_in g) (filter (λ n. not (is_some (get_by_text d (slashed n)))) (loaded_for g names))) e
+    ap (λ d. map (problem_in g) (filter (λ n. not (is_some (get_by_text d.map (slashed n)))) (loaded_for g names))) e
 
 collected_more : (ts : List (Option Problem)) (t : Option Problem)
     → filter_map (λ q. q) ts ++ option_to_list t ≡ filter_map (λ q. q) (ts ++ t ∷ [])

@@ -14,7 +14,7 @@ use Rattle.ignore_query.specs.declared.kept.Cache.{Cache}
 use Rattle.ignore_query.specs.declared.kept.Kept.{Kept}
 use Rattle.ignore_query.specs.declared.kept.Kept.TheVariants.{Ignored, Loaded}
 pub use Rattle.ignore_query.specs.Listed.{kept_at}
-use Rattle.ignore_query.specs.Listed.{IsListed}
+use Rattle.ignore_query.specs.Listed.{SharesLevels}
 
 -- it isn't kept as ignored
 abbrev pub is_loaded : Kept → Bool
@@ -58,7 +58,7 @@ pub record Agrees (g : Scene) (c : Cache) : Type 0 where
   pub first : (names : List Bytes) (k : Kept) → kept_at c names ≡ Some k → c.has_above ≡ true
   pub right : (names : List Bytes) (k : Kept) → All IsName names → kept_at c names ≡ Some k → IsRight g c names k
   pub inside : (names : List Bytes) (k : Kept) → All IsName names → kept_at c names ≡ Some k → IsInLoaded c names
-  pub listed : IsListed c
+  pub shared : SharesLevels c
 
 -- what is above the root is kept, and this is the place at which the directory stands in which that
 -- with these names is: for the root, the place of what is above it

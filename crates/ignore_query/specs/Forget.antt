@@ -47,5 +47,5 @@ IsFreed slots k floor at = (k ≡ Loaded (Some at)) × (floor ≤ floor_at slots
 -- what is kept of the directory with a key stands at this place, and the level there is that of a
 -- directory at or below the one at a clean path
 abbrev pub IsOwn : Cache → Path → Path → Place → Type 0
-IsOwn c dir key at = (k : Kept) × (get_by_text c.dirs key ≡ Some k)
+IsOwn c dir key at = (k : Kept) × (get_by_text c.dirs.map key ≡ Some k)
     × IsFreed (slots_of c.levels) k (length (string_bytes c.base) + length (key_of dir)) at

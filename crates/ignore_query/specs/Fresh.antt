@@ -1,17 +1,16 @@
 -- A matcher that keeps nothing yet.
-use Rattle.std.specs.Prelude.{◌≡◌, Bool, false, None}
-use Rattle.std.specs.BTreeMap.{get_by_text}
-use Rattle.ignore_base.specs.Text.{Path}
+use Rattle.std.specs.Prelude.{◌≡◌, Bool, false, List, None}
+use Rattle.ignore_base.specs.Text.{Bytes, Path}
 use Rattle.ignore_dir.specs.Query.{query}
 use Rattle.ignore_dir.specs.Scene.{Scene}
 use Rattle.ignore_query.specs.declared.kept.Cache.{Cache}
-use Rattle.ignore_query.specs.Agrees.{Agrees}
+use Rattle.ignore_query.specs.Agrees.{Agrees, kept_at}
 use Rattle.ignore_query.specs.Reports.{reported}
 
 -- nothing is kept, neither of a directory nor of what is above the root
 pub record KeepsNothing (c : Cache) : Type 0 where
   pub above : c.has_above ≡ false
-  pub dirs : (key : Path) → get_by_text c.dirs key ≡ None
+  pub dirs : (names : List Bytes) → kept_at c names ≡ None
 
 -- what keeps nothing agrees with each tree
 abbrev pub NothingAgrees : Type 0

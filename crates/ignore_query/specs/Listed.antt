@@ -14,7 +14,7 @@ use Rattle.ignore_query.specs.declared.kept.Kept.TheVariants.{Ignored, Loaded}
 -- what is kept of the directory with these names below the root. Its key is `a/b/` for `a`, `b`,
 -- and empty for the root
 abbrev pub kept_at : Cache → List Bytes → Option Kept
-kept_at c names = get_by_text c.dirs (slashed names)
+kept_at c names = get_by_text c.dirs.map (slashed names)
 
 -- the directory with these names is kept, and its chain passes the level at a place
 abbrev pub PassesAt : Cache → List Bytes → Place → Type 0
@@ -25,12 +25,10 @@ PassesAt c names at =
 abbrev pub key_down_to : Cache → Place → Path → Path
 key_down_to c at key = take (floor_at (slots_of c.levels) (Some at) - length (string_bytes c.base)) key
 
--- each key is that of a directory with some names; and directories whose chains pass one level are
--- at or below one directory, whose level it is
-pub record IsListed (c : Cache) : Type 0 where
-  pub keys : (key : Path) (k : Kept) → get_by_text c.dirs key ≡ Some k → (names : List Bytes) × All IsName names × (key ≡ slashed names)
-  pub shared : (a b : List Bytes) (at : Place) → All IsName a → All IsName b → PassesAt c a at → PassesAt c b at
-      → key_down_to c at (slashed a) ≡ key_down_to c at (slashed b)
+-- directories whose chains pass one level are at or below one directory, whose level it is
+abbrev pub SharesLevels : Cache → Type 0
+SharesLevels c = (a b : List Bytes) (at : Place) → All IsName a → All IsName b → PassesAt c a at → PassesAt c b at
+    → key_down_to c at (slashed a) ≡ key_down_to c at (slashed b)
 
 -- in the second list the chain of what is kept passes at most levels that the first doesn't have,
 -- and those that the chain of a place passes

@@ -30,6 +30,7 @@ impl Cache {
         is_dir: bool,
         errors: &mut Vec<Error>,
     ) -> Result<Verdict, Error>
+        requires named { list_all is_proper (components path.now) ≡ true }
         ensures stays { Stays self.old self.new }
         ensures kept { WhereAsked F.Files call.now self.old path.now (λ g.
             OnOk result (KeepsNeeded (needed g (components path.now)) self.old self.new)) }

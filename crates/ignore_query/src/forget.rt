@@ -19,7 +19,7 @@ use ignore_levels::{Levels, Place};
 use std::collections::BTreeMap;
 
 /// Whether a key is that of the directory at a clean path, or of one below it.
-fn is_key_in(dir: &str, key: &str) -> bool
+pub(crate) fn is_key_in(dir: &str, key: &str) -> bool
     ensures { result ≡ is_key_in dir.now key.now }
 {
     let (dir, key) = (dir.as_bytes(), key.as_bytes());
@@ -77,9 +77,9 @@ impl Cache {
     /// Drops what is kept of the directory at a clean path and of those below it, and their levels,
     /// and returns how many there were.
     pub(crate) fn forget(&mut self, dir: &str) -> usize
-        ensures looked { (text : List ℕ) → get_by_text self.new.dirs text
-            ≡ (if is_key_in dir.now text then None else get_by_text self.old.dirs text) }
-        ensures counted { result + btree_map_len self.new.dirs ≡ btree_map_len self.old.dirs }
+        ensures looked { (text : List ℕ) → get_by_text self.new.dirs.map text
+            ≡ (if is_key_in dir.now text then None else get_by_text self.old.dirs.map text) }
+        ensures counted { result + btree_map_len self.new.dirs.map ≡ btree_map_len self.old.dirs.map }
         ensures above { (self.new.has_above ≡ self.old.has_above) × ((self.new.above ≡ self.old.above) × (self.new.base ≡ self.old.base)) }
         ensures levels { Keeps (slots_of self.new.levels) (slots_of self.old.levels) }
         ensures chains { (place : Option Place) (chain : List Placed) → IsChain (slots_of self.old.levels) place chain
@@ -89,11 +89,9 @@ impl Cache {
         ensures freed { (key : List ℕ) (at : Place) → is_key_in dir.now key ≡ true → IsOwn self.old dir.now key at
             → level_at (slots_of self.new.levels) at ≡ None }
     {
-        let before = self.dirs.len();
         let floor = self.base.len() + key_len(dir);
-        free_levels(&mut self.levels, &self.dirs, dir, floor);
-        self.dirs.retain(|key: &String, _kept: &mut Kept| !is_key_in(dir, key.as_str()));
-        before - self.dirs.len()
+        free_levels(&mut self.levels, &self.dirs.map, dir, floor);
+        self.dirs.forget(dir)
     }
 }
 
@@ -112,7 +110,7 @@ impl IncrementalIgnore {
         ensures forgotten { (names : List (List ℕ)) → All IsName names → is_asked (string_bytes self.old.asked.root) dir.now ≡ true
             → kept_at self.new.cache names ≡ (if is_at_or_below (names_of dir.now) names then None else kept_at self.old.cache names) }
         ensures unchanged { is_asked (string_bytes self.old.asked.root) dir.now ≢ true → self.new.cache ≡ self.old.cache }
-        ensures counted { result + btree_map_len self.new.cache.dirs ≡ btree_map_len self.old.cache.dirs }
+        ensures counted { result + btree_map_len self.new.cache.dirs.map ≡ btree_map_len self.old.cache.dirs.map }
         ensures freed { (key : List ℕ) (at : Place) → is_asked (string_bytes self.old.asked.root) dir.now ≡ true
             → is_key_in dir.now key ≡ true → IsOwn self.old.cache dir.now key at
             → level_at (slots_of self.new.cache.levels) at ≡ None }

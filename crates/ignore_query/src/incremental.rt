@@ -2,8 +2,10 @@
 ghost use Rattle.std.specs.Prelude.{◌≡◌, ◌≢◌, true, ℕ, List, None, IfOk, IfErr, OnOk, option_map, string_bytes};
 ghost use Rattle.ignore_files.specs.Gives.{IsHonest};
 ghost use Rattle.ignore_files.specs.Tree.{Tree};
+ghost use Rattle.std.specs.List.{list_all};
 ghost use Rattle.std.specs.Option.{option_copied};
 ghost use Rattle.ignore_base.specs.Normalize.{normalize_of};
+ghost use Rattle.ignore_base.specs.Paths.{components, is_proper};
 ghost use Rattle.ignore_base.specs.Problem.{problem_of, memory};
 ghost use Rattle.ignore_dir.specs.Load.{Loaded, AreLoads};
 ghost use Rattle.ignore_dir.specs.Query as queries;
@@ -186,6 +188,7 @@ impl IncrementalIgnore {
         path: &str,
         is_dir: bool,
     ) -> Result<(IncrementalMatch, Option<Error>), Error>
+        requires named { list_all is_proper (components path.now) ≡ true }
         ensures value { WhereDecided F.Files files.now self.old path.now (λ g.
             IfOk result (λ r. r.0 ≡ (queries.answer_of_rules g path.now is_dir).0)) }
         ensures reports { WhereDecided F.Files files.now self.old path.now (λ g.

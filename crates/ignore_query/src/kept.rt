@@ -4,9 +4,9 @@ ghost use Rattle.ignore_dir.specs.Scene.{Scene};
 ghost use Rattle.ignore_query.specs.Agrees.{Agrees};
 ghost use Rattle.ignore_query.specs.Fresh.{KeepsNothing};
 
+use crate::dirs::Dirs;
 use ignore_levels::{Levels, Place};
 use std::alloc::Global;
-use std::collections::BTreeMap;
 
 /// What is kept of a directory.
 #[derive(Clone, Copy, Debug, PartialEq, Eq)]
@@ -29,9 +29,8 @@ pub struct Cache {
     pub base: String,
     /// The directories that have rules or a mark.
     pub levels: Levels,
-    /// The directories from the root down. The key of one is its names below the root, each
-    /// followed by `/`: so one is at or below another where its key begins with the other's.
-    pub dirs: BTreeMap<String, Kept>,
+    /// The directories from the root down.
+    pub dirs: Dirs,
 }
 
 impl Cache {
@@ -45,7 +44,7 @@ impl Cache {
             above: None,
             base: String::new(alloc),
             levels: Levels::new(alloc),
-            dirs: BTreeMap::new(alloc),
+            dirs: Dirs::new(alloc),
         }
     }
 }

@@ -43,7 +43,7 @@ impl Cache {
             → IfOk result (λ o. IfSome o (λ v. v ≡ rules_verdict g (components path.now) is_dir)) }
         ensures out_of_memory { IfErr result (λ e. problem_of e ≡ memory) }
     {
-        match self.dirs.get(parent_key(path)) {
+        match self.dirs.map.get(parent_key(path)) {
             Some(Kept::Loaded(place)) => {
                 let verdict = self.verdict_at(asked, *place, path, is_dir)?;
                 Ok(Some(verdict))

@@ -4,6 +4,7 @@
 mod asked;
 mod clean;
 mod decide;
+mod dirs;
 mod forget;
 mod incremental;
 mod kept;
@@ -16,6 +17,7 @@ mod root;
 mod size;
 
 pub use asked::Asked;
+pub use dirs::Dirs;
 pub use ignore_dir::IncrementalMatch;
 pub use incremental::IncrementalIgnore;
 pub use kept::{Cache, Kept};

@@ -16,6 +16,7 @@ ghost use Rattle.ignore_files.specs.Tree.{Tree};
 ghost use Rattle.ignore_levels.specs.Levels.{Keeps, slots_of};
 ghost use Rattle.ignore_query.specs.declared.kept.Kept as kept;
 ghost use Rattle.ignore_query.specs.Agrees.{Agrees, IsNext, IsRight, is_loaded};
+ghost use Rattle.ignore_query.specs.Keys.{IsKey};
 ghost use Rattle.ignore_query.specs.Listed.{IsBelow};
 ghost use Rattle.ignore_query.specs.Needs.{KeepsNeeded, Stays, is_known, needed};
 ghost use Rattle.ignore_query.specs.Reached.{scene_of};
@@ -132,22 +133,23 @@ impl Cache {
         key: &str,
         errors: &mut Vec<Error>,
     ) -> Result<Kept, Error>
+        requires named { IsKey key.now }
         ensures stays { Stays self.old self.new }
-        ensures kept { OnOk result ((text : List ℕ) → is_some (get_by_text self.new.dirs text)
-            ≡ (is_some (get_by_text self.old.dirs text) || bytes_eq key.now text)) }
-        ensures others { (text : List ℕ) → text ≢ key.now → get_by_text self.new.dirs text ≡ get_by_text self.old.dirs text }
+        ensures kept { OnOk result ((text : List ℕ) → is_some (get_by_text self.new.dirs.map text)
+            ≡ (is_some (get_by_text self.old.dirs.map text) || bytes_eq key.now text)) }
+        ensures others { (text : List ℕ) → text ≢ key.now → get_by_text self.new.dirs.map text ≡ get_by_text self.old.dirs.map text }
         ensures above { (self.new.has_above ≡ self.old.has_above) × ((self.new.above ≡ self.old.above) × (self.new.base ≡ self.old.base)) }
         ensures agrees { WhereNext F.Files call.now self.old place key.now (λ g names. Agrees g self.new) }
         ensures value { WhereNext F.Files call.now self.old place key.now (λ g names.
             IfOk result (λ k. is_loaded k ≡ not (is_ignored g names))) }
-        ensures found { IfOk result (λ k. get_by_text self.new.dirs key.now ≡ Some k) }
+        ensures found { IfOk result (λ k. get_by_text self.new.dirs.map key.now ≡ Some k) }
         ensures problems { WhereNext F.Files call.now self.old place key.now (λ g names.
             OnOk result (map problem_of errors.new.items ≡ map problem_of errors.old.items ++ problems_at g self.old names)) }
-        ensures known { is_some (get_by_text self.old.dirs key.now) ≡ true → (self.new ≡ self.old) × ((errors.new ≡ errors.old) × IsOk result) }
+        ensures known { is_some (get_by_text self.old.dirs.map key.now) ≡ true → (self.new ≡ self.old) × ((errors.new ≡ errors.old) × IsOk result) }
         ensures soft { AllSoft (map problem_of errors.old.items) → OnOk result (AllSoft (map problem_of errors.new.items)) }
         ensures out_of_memory { IfErr result (λ e. problem_of e ≡ memory) }
     {
-        if let Some(kept) = self.dirs.get(key) {
+        if let Some(kept) = self.dirs.map.get(key) {
             return Ok(*kept);
         }
         let text = String::from_str(call.alloc(), key)?;
@@ -166,6 +168,7 @@ impl Cache {
         names: &[&str],
         errors: &mut Vec<Error>,
     ) -> Result<Kept, Error>
+        requires named { All IsName (map (λ n. n.now) names.now) }
         ensures stays { Stays self.old self.new }
         ensures kept { WhereRooted F.Files call.now self.old (map (λ n. n.now) names.now) (λ g all.
             OnOk result (KeepsNeeded (needed g all) self.old self.new)) }
@@ -208,6 +211,7 @@ impl Cache {
         is_dir: bool,
         errors: &mut Vec<Error>,
     ) -> Result<Verdict, Error>
+        requires named { list_all is_proper (components path.now) ≡ true }
         ensures stays { Stays self.old self.new }
         ensures kept { WhereKept F.Files call.now self.old path.now (λ g.
             OnOk result (KeepsNeeded (needed g (components path.now)) self.old self.new)) }

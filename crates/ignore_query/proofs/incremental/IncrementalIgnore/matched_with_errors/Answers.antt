@@ -1,10 +1,10 @@
-use Rattle.std.proofs.Common.{◌≡◌, Result, Ok, Err, Option, None, IfOk, refl, sym, ap, ◌∙◌}
+use Rattle.std.proofs.Common.{◌≡◌, Result, Ok, Err, Option, None, IfOk, refl, sym, ap, ◌∙◌, string_bytes}
 use Rattle.ignore_base.specs.declared.error.Error.{Error}
 use Rattle.ignore_dir.specs.declared.incremental.IncrementalMatch.{IncrementalMatch}
 use Rattle.ignore_dir.specs.declared.verdict.Verdict.TheVariants as v
 use Rattle.ignore_dir.specs.Query.{is_asked}
 use Rattle.ignore_query.specs.Reached.{scene_of}
-use Rattle.ignore_query.proofs.QueryLemmas.{kept_none, kept_rules, query_none, query_rules}
+use Rattle.ignore_query.proofs.QueryLemmas.{kept_none, kept_rules, named_names, query_none, query_rules}
 use Rattle.ignore_query.proofs.incremental.IncrementalIgnore.matched_with_errors.Goals as goal
 
 same_answer : {A : Type 0} (a b : IncrementalMatch × A) (r : Result (IncrementalMatch × Option Error) Error) → a ≡ b
@@ -51,3 +51,9 @@ returns-clause-value g c = λ tree loads honest are agrees.
     let within = sym (c.depth_for-depth.ensures.beyond c.args.is_dir) ∙ (sym c.is_beyond.ensures ∙ c.if-is_beyond.false) in
     c.limited-answer.ensures
     ∙ (c.depth_for-depth.ensures.limited c.args.is_dir v.None ∙ sym (query_none scene path c.args.is_dir asked within off))
+
+pub answer_of_rules-requires-clause-named : goal.answer_of_rules-requires-clause-named
+answer_of_rules-requires-clause-named g c =
+    let path = c.args.path.now in
+    let asked = ap (λ r. is_asked r path) (sym c.root.ensures) ∙ (sym c.is_asked.ensures ∙ c.if-not-is_asked.false) in
+    named_names (string_bytes c.args.self.now.asked.root) path asked (c.in_ok-has_rules.ensures.named c.if-branch.true)

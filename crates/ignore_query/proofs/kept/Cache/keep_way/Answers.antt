@@ -204,9 +204,9 @@ returns-in_err-keep-clause-known g c = λ tree loads agrees clean rooted all.
     let key = c.as_str.ensures.value ∙ inv.key in
     let next = take_next p i name (omega arith) (name_at names i nothing lt) in
     let step = known_next scene c.args.self.now p i name (omega arith) (name_at names i nothing lt) next k.rest in
-    let here : is_some (get_by_text c.loop-name.self.dirs c.as_str.result.now) ≡ true =
-    ap (λ (x : Cache). is_some (get_by_text x.dirs c.as_str.result.now)) k.same
-    ∙ (ap (λ t. is_some (get_by_text c.args.self.now.dirs t)) key ∙ step.0) in
+    let here : is_some (get_by_text c.loop-name.self.dirs.map c.as_str.result.now) ≡ true =
+    ap (λ (x : Cache). is_some (get_by_text x.dirs.map c.as_str.result.now)) k.same
+    ∙ (ap (λ t. is_some (get_by_text c.args.self.now.dirs.map t)) key ∙ step.0) in
     let same = c.keep.ensures.known here in
     (same.0 ∙ k.same, (same.1.0 ∙ k.errors, search rules))
 
@@ -224,9 +224,9 @@ returns-in_err-push_str-clause-known g c = λ tree loads agrees clean rooted all
     let key = c.as_str.ensures.value ∙ inv.key in
     let next = take_next p i name (omega arith) (name_at names i nothing lt) in
     let step = known_next scene c.args.self.now p i name (omega arith) (name_at names i nothing lt) next k.rest in
-    let here : is_some (get_by_text c.loop-name.self.dirs c.as_str.result.now) ≡ true =
-    ap (λ (x : Cache). is_some (get_by_text x.dirs c.as_str.result.now)) k.same
-    ∙ (ap (λ t. is_some (get_by_text c.args.self.now.dirs t)) key ∙ step.0) in
+    let here : is_some (get_by_text c.loop-name.self.dirs.map c.as_str.result.now) ≡ true =
+    ap (λ (x : Cache). is_some (get_by_text x.dirs.map c.as_str.result.now)) k.same
+    ∙ (ap (λ t. is_some (get_by_text c.args.self.now.dirs.map t)) key ∙ step.0) in
     let same = c.keep.ensures.known here in
     (same.0 ∙ k.same, (same.1.0 ∙ k.errors, search rules))
 
@@ -244,9 +244,9 @@ returns-in_err-push-clause-known g c = λ tree loads agrees clean rooted all.
     let key = c.as_str.ensures.value ∙ inv.key in
     let next = take_next p i name (omega arith) (name_at names i nothing lt) in
     let step = known_next scene c.args.self.now p i name (omega arith) (name_at names i nothing lt) next k.rest in
-    let here : is_some (get_by_text c.loop-name.self.dirs c.as_str.result.now) ≡ true =
-    ap (λ (x : Cache). is_some (get_by_text x.dirs c.as_str.result.now)) k.same
-    ∙ (ap (λ t. is_some (get_by_text c.args.self.now.dirs t)) key ∙ step.0) in
+    let here : is_some (get_by_text c.loop-name.self.dirs.map c.as_str.result.now) ≡ true =
+    ap (λ (x : Cache). is_some (get_by_text x.dirs.map c.as_str.result.now)) k.same
+    ∙ (ap (λ t. is_some (get_by_text c.args.self.now.dirs.map t)) key ∙ step.0) in
     let same = c.keep.ensures.known here in
     (same.0 ∙ k.same, (same.1.0 ∙ k.errors, search rules))
 
@@ -264,13 +264,13 @@ returns-in-Ignored-clause-known g c = λ tree loads agrees clean rooted all.
     let key = c.as_str.ensures.value ∙ inv.key in
     let next = take_next p i name (omega arith) (name_at names i nothing lt) in
     let step = known_next scene c.args.self.now p i name (omega arith) (name_at names i nothing lt) next k.rest in
-    let here : is_some (get_by_text c.loop-name.self.dirs c.as_str.result.now) ≡ true =
-    ap (λ (x : Cache). is_some (get_by_text x.dirs c.as_str.result.now)) k.same
-    ∙ (ap (λ t. is_some (get_by_text c.args.self.now.dirs t)) key ∙ step.0) in
+    let here : is_some (get_by_text c.loop-name.self.dirs.map c.as_str.result.now) ≡ true =
+    ap (λ (x : Cache). is_some (get_by_text x.dirs.map c.as_str.result.now)) k.same
+    ∙ (ap (λ t. is_some (get_by_text c.args.self.now.dirs.map t)) key ∙ step.0) in
     let same = c.keep.ensures.known here in
     let found : kept_at c.args.self.now (take i p) ≡ Some Ignored =
     ap (λ (x : Cache). kept_at x (take i p)) (sym (same.0 ∙ k.same))
-    ∙ (ap (λ t. get_by_text c.keep.new.self.dirs t) (sym key) ∙ (c.in_ok-keep.ensures.found ∙ ap Some c.in-Ignored.is)) in
+    ∙ (ap (λ t. get_by_text c.keep.new.self.dirs.map t) (sym key) ∙ (c.in_ok-keep.ensures.found ∙ ap Some c.in-Ignored.is)) in
     let ignored = agrees.right (take i p) Ignored (take_names p i clean) found in
     let left' = left_at p i name (omega arith) (name_at names i nothing lt) next in (
       same.0 ∙ k.same,
@@ -299,7 +299,7 @@ loop-name-preserved g c =
     let key = c.as_str.ensures.value ∙ inv.key in
     let after : List (List (List ℕ)) = left (take (i + 1) p) (drop (i + 1) p) in
     let found : kept_at c.keep.new.self (take i p) ≡ Some (Loaded c.in-Loaded.found) =
-    ap (λ t. get_by_text c.keep.new.self.dirs t) (sym key) ∙ (c.in_ok-keep.ensures.found ∙ ap Some c.in-Loaded.is) in
+    ap (λ t. get_by_text c.keep.new.self.dirs.map t) (sym key) ∙ (c.in_ok-keep.ensures.found ∙ ap Some c.in-Loaded.is) in
     record {
       key = c.in_ok-push.ensures.bytes
           ∙ (ap (λ t. string_bytes c.push_str.new.self ++ t) (c.in_ok-push.ensures.ascii (lit< tt))
@@ -347,9 +347,9 @@ loop-name-preserved g c =
           let scene = scene_of c.args.call.now.asked.now tree loads in
           let k = inv.known tree loads agrees clean rooted all in
           let step = known_next scene c.args.self.now p i name (omega arith) (name_at names i nothing lt) next k.rest in
-          let some : is_some (get_by_text c.loop-name.self.dirs c.as_str.result.now) ≡ true =
-          ap (λ (x : Cache). is_some (get_by_text x.dirs c.as_str.result.now)) k.same
-          ∙ (ap (λ t. is_some (get_by_text c.args.self.now.dirs t)) key ∙ step.0) in
+          let some : is_some (get_by_text c.loop-name.self.dirs.map c.as_str.result.now) ≡ true =
+          ap (λ (x : Cache). is_some (get_by_text x.dirs.map c.as_str.result.now)) k.same
+          ∙ (ap (λ t. is_some (get_by_text c.args.self.now.dirs.map t)) key ∙ step.0) in
           let same = c.keep.ensures.known some in
           let loaded : kept_at c.args.self.now (take i p) ≡ Some (Loaded c.in-Loaded.found) =
           ap (λ (x : Cache). kept_at x (take i p)) (sym (same.0 ∙ k.same)) ∙ found in
@@ -467,3 +467,11 @@ returns-clause-soft g c = c.loop-name.invariant.soft
 
 pub returns-in-Ignored-clause-soft : goal.returns-in-Ignored-clause-soft
 returns-in-Ignored-clause-soft g c = λ soft. c.in_ok-keep.ensures.soft (c.loop-name.invariant.soft soft)
+
+pub keep-requires-clause-named : goal.keep-requires-clause-named
+keep-requires-clause-named g c =
+    let p = map (λ n. n.now) c.args.names.now in
+    let i = c.loop-name.name-index in (
+      take i p,
+      (take_names p i c.requires.named, c.as_str.ensures.value ∙ c.loop-name.invariant.key),
+    )

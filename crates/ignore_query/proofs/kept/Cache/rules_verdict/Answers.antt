@@ -159,3 +159,8 @@ returns-clause-from_kept g c = λ tree loads agrees proper rooted all.
             (c.verdict_at.ensures.value tree loads front name after (subst (All IsName) (is ∙ whole) clean) (next.inside front name (is ∙ whole)) path),
       ),
     )
+
+pub keep_way-requires-clause-named : goal.keep_way-requires-clause-named
+keep_way-requires-clause-named g c =
+    let is = ap (map (λ n. n.now)) c.as_slice.ensures.value ∙ c.in_ok-names.ensures in
+    subst (All IsName) (sym is) (names-components c.args.path.now c.requires.named)

@@ -1,0 +1,57 @@
+//! What is kept of directories, by their keys.
+ghost use Rattle.std.specs.Prelude.{◌≡◌};
+ghost use Rattle.ignore_query.specs.Keys.{AreKeys};
+
+use crate::forget::is_key_in;
+use crate::kept::Kept;
+use std::alloc::{AllocError, Global};
+use std::collections::BTreeMap;
+
+/// What is kept of directories. The key of one is its names below the root, each followed by `/`:
+/// so one is at or below another where its key begins with the other's. There is no other key.
+#[derive(Debug, Drop)]
+pub struct Dirs {
+    /// What is kept, by keys.
+    pub map: BTreeMap<String, Kept>,
+    pub ghost keys: { ∥ AreKeys map ∥₁ },
+}
+
+impl Dirs {
+    ghost use Rattle.std.specs.Prelude.{◌+◌, ℕ, List, IfOk, IfErr, None, Some, string_bytes, if◌then◌else◌};
+    ghost use Rattle.std.specs.BTreeMap.{btree_map_len, get_by_text};
+    ghost use Rattle.std.specs.Str.{bytes_eq};
+    ghost use Rattle.ignore_query.specs.Forget.{is_key_in};
+    ghost use Rattle.ignore_query.specs.Keys.{IsKey};
+
+    /// Nothing is kept. It allocates nothing.
+    pub(crate) fn new(alloc: Global) -> Dirs
+        ensures empty { (text : List ℕ) → get_by_text result.map text ≡ None }
+    {
+        Dirs {
+            map: BTreeMap::new(alloc),
+        }
+    }
+
+    /// Keeps this of the directory with a key.
+    pub(crate) fn insert(&mut self, key: String, kept: Kept) -> Result<(), AllocError>
+        requires named { IsKey (string_bytes key) }
+        ensures added { (text : List ℕ) → IfOk result (λ _. get_by_text self.new.map text
+            ≡ (if bytes_eq (string_bytes key) text then Some kept else get_by_text self.old.map text)) }
+        ensures unchanged { (text : List ℕ) → IfErr result (λ _. get_by_text self.new.map text ≡ get_by_text self.old.map text) }
+    {
+        self.map.insert(key, kept)?;
+        Ok(())
+    }
+
+    /// Drops what is kept of the directory at a clean path and of those below it, and returns how
+    /// many there were.
+    pub(crate) fn forget(&mut self, dir: &str) -> usize
+        ensures looked { (text : List ℕ) → get_by_text self.new.map text
+            ≡ (if is_key_in dir.now text then None else get_by_text self.old.map text) }
+        ensures counted { result + btree_map_len self.new.map ≡ btree_map_len self.old.map }
+    {
+        let before = self.map.len();
+        self.map.retain(|key: &String, _kept: &mut Kept| !is_key_in(dir, key.as_str()));
+        before - self.map.len()
+    }
+}
