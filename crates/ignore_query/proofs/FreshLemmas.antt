@@ -1,8 +1,6 @@
 -- What holds where nothing is kept.
 use Rattle.std.proofs.Common.{◌≡◌, ℕ, Bool, true, false, not, cond, List, [], ◌∷◌, ◌++◌, map, Option, None, Some, is_some, refl, sym, ap, ◌∙◌}
-use Rattle.std.specs.BTreeMap.{get_by_text}
 use Rattle.ignore_base.specs.Paths.{join_of}
-use Rattle.ignore_dir.specs.Chains.{slashed}
 use Rattle.ignore_dir.specs.Limits.{beyond, is_beyond, limited, no_match, size_problem}
 use Rattle.ignore_base.specs.Problem.{Problem}
 use Rattle.ignore_dir.specs.declared.incremental.IncrementalMatch.{IncrementalMatch}

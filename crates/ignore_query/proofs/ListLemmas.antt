@@ -1,11 +1,9 @@
 -- Which levels the chains of kept directories pass, with one directory more.
 use Rattle.std.proofs.Common.{◌≡◌, ℕ, suc, zero, ◌+◌, ◌-◌, ◌<◌, ◌≤◌, All, List, [], ◌∷◌, ◌++◌, length, reverse, take, Option, Some}
-use Rattle.std.proofs.Common.{None, Bool, cond, string_bytes, refl, sym, ◌∙◌, ap, subst, inl, inr, true, false, arith}
+use Rattle.std.proofs.Common.{None, string_bytes, refl, sym, ◌∙◌, ap, subst, inl, inr, true, false, arith}
 use Rattle.std.proofs.lemmas.List.{length-append, length-map}
 use Rattle.std.proofs.lemmas.List.Elements.{All-filter}
 use Rattle.std.specs.BTreeMap.{get_by_text}
-use Rattle.std.specs.Str.{bytes_eq}
-use Rattle.std.proofs.lemmas.Slice.Eq.{bytes_eq-Decides}
 use Rattle.ignore_base.specs.Paths.{IsName, join_of}
 use Rattle.ignore_dir.specs.declared.dir.Dir.{Dir}
 use Rattle.ignore_dir.specs.Above.{directories_along, dirs_above, names_above, paths_above}

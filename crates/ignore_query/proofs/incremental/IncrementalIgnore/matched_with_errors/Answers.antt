@@ -52,8 +52,9 @@ returns-clause-value g c = λ tree loads honest are agrees.
     c.limited-answer.ensures
     ∙ (c.depth_for-depth.ensures.limited c.args.is_dir v.None ∙ sym (query_none scene path c.args.is_dir asked within off))
 
-pub answer_of_rules-requires-clause-named : goal.answer_of_rules-requires-clause-named
-answer_of_rules-requires-clause-named g c =
+pub answer_of_rules-requires : goal.answer_of_rules-requires
+answer_of_rules-requires g c =
     let path = c.args.path.now in
-    let asked = ap (λ r. is_asked r path) (sym c.root.ensures) ∙ (sym c.is_asked.ensures ∙ c.if-not-is_asked.false) in
-    named_names (string_bytes c.args.self.now.asked.root) path asked (c.in_ok-has_rules.ensures.named c.if-branch.true)
+    let asked = ap (λ r. is_asked r path) (sym c.root.ensures) ∙ (sym c.is_asked.ensures ∙ c.if-not-is_asked.false) in record {
+      named = named_names (string_bytes c.args.self.now.asked.root) path asked (c.in_ok-has_rules.ensures.named c.if-branch.true);
+    }

@@ -1,4 +1,4 @@
-use Rattle.std.proofs.Common.{◌≡◌, ◌++◌, cond, List, Some, None, map, refl, sym, ap, ◌∙◌, subst}
+use Rattle.std.proofs.Common.{◌≡◌, ◌++◌, cond, List, Some, None, map, sym, ap, ◌∙◌, subst}
 use Rattle.std.proofs.lemmas.List.{append-nil}
 use Rattle.std.specs.BTreeMap.{get_by_text}
 use Rattle.std.specs.Str.{bytes_eq}
@@ -121,5 +121,5 @@ returns-clause-problems g c = λ tree loads honest are names agrees clean key ne
     c.in_ok-kept.ensures.problems tree loads honest are names agrees clean key next
     ∙ ap (λ (l : List Problem). map problem_of c.args.errors.now.items ++ l) (sym (problems_new scene before names absent))
 
-pub insert-requires-clause-named : goal.insert-requires-clause-named
-insert-requires-clause-named g c = subst IsKey (sym c.in_ok-text.ensures.ok) c.requires.named
+pub insert-requires : goal.insert-requires
+insert-requires g c = record { named = subst IsKey (sym c.in_ok-text.ensures.ok) c.requires.named }

@@ -468,10 +468,9 @@ returns-clause-soft g c = c.loop-name.invariant.soft
 pub returns-in-Ignored-clause-soft : goal.returns-in-Ignored-clause-soft
 returns-in-Ignored-clause-soft g c = λ soft. c.in_ok-keep.ensures.soft (c.loop-name.invariant.soft soft)
 
-pub keep-requires-clause-named : goal.keep-requires-clause-named
-keep-requires-clause-named g c =
+pub keep-requires : goal.keep-requires
+keep-requires g c =
     let p = map (λ n. n.now) c.args.names.now in
-    let i = c.loop-name.name-index in (
-      take i p,
-      (take_names p i c.requires.named, c.as_str.ensures.value ∙ c.loop-name.invariant.key),
-    )
+    let i = c.loop-name.name-index in record {
+      named = (take i p, take_names p i c.requires.named, c.as_str.ensures.value ∙ c.loop-name.invariant.key);
+    }

@@ -160,7 +160,8 @@ returns-clause-from_kept g c = λ tree loads agrees proper rooted all.
       ),
     )
 
-pub keep_way-requires-clause-named : goal.keep_way-requires-clause-named
-keep_way-requires-clause-named g c =
-    let is = ap (map (λ n. n.now)) c.as_slice.ensures.value ∙ c.in_ok-names.ensures in
-    subst (All IsName) (sym is) (names-components c.args.path.now c.requires.named)
+pub keep_way-requires : goal.keep_way-requires
+keep_way-requires g c =
+    let is = ap (map (λ n. n.now)) c.as_slice.ensures.value ∙ c.in_ok-names.ensures in record {
+      named = subst (All IsName) (sym is) (names-components c.args.path.now c.requires.named);
+    }
