@@ -4,14 +4,20 @@ use Rattle.std.proofs.Common.{◌∙◌, append_assoc, length, ◌==◌, ◌<◌
 use Rattle.std.proofs.lemmas.List.{append-nil, map_more}
 use Rattle.std.proofs.lemmas.Bool.Decides.{nat_tests}
 use Rattle.std.specs.Option.{option_to_list}
+use Rattle.std.specs.Prelude.{codes, ◌&&◌, ◌||◌, Result, Ok, Err, is_ok, cond}
+use Rattle.ignore_base.specs.declared.fault.Fault.{Fault}
 use Rattle.ignore_base.specs.Paths.{join_of}
 use Rattle.ignore_base.specs.Problem.{Problem, joined}
 use Rattle.ignore_files.specs.Tree.{Tree}
+use Rattle.ignore_files.specs.Whole.{IsAbsent, is_found}
+use Rattle.ignore_files.specs.declared.types.Metadata.{Metadata}
 use Rattle.ignore_base.specs.Errors.{without_fault}
+use Rattle.ignore_rules.specs.Matchers.{is_file_there}
 use Rattle.ignore_rules.specs.RuleFile.{AddsFile}
 use Rattle.ignore_rules.specs.Rules.{Building, Ruleset, built, empty}
 use Rattle.ignore_dir.specs.declared.settings.Settings.{Settings}
-use Rattle.ignore_dir.specs.Load.{is_there, AddsPresent, AddsFiles, started, IsRules}
+use Rattle.ignore_dir.specs.Exclude.{Place, excludes_in, by_git_file, exclude_by, exclude_place}
+use Rattle.ignore_dir.specs.Load.{is_there, AddsPresent, AddsFiles, started, IsRules, IsExclude}
 
 -- one problem at most, as one
 joined_one : (reported : Option Problem) → reported ≡ joined (option_to_list reported ++ [])
@@ -23,7 +29,7 @@ present : (there : Bool) (tree : Tree) (path : List ℕ) (old new : Building) (p
 present true tree path old new problem reported e adds same = (problem, adds, same)
 present false tree path old new problem reported e adds same = cc
 
-absent : (there : Bool) (tree : Tree) (path : List ℕ) (old : Building) → there ≡ false → AddsPresent there tree path old old None
+pub absent : (there : Bool) (tree : Tree) (path : List ℕ) (old : Building) → there ≡ false → AddsPresent there tree path old old None
 absent false tree path old e = (refl, refl)
 absent true tree path old e = cc
 
@@ -104,3 +110,31 @@ one_name_more tree s dir names i name path between new problems after reported l
     map_more (join_of dir) names i name lt ∙ ap (λ p. map (join_of dir) (take i names) ++ p ∷ []) (ap (join_of dir) (sym is) ∙ sym joins) in
     subst (λ (ps : List (List ℕ)). AddsFiles tree ps (started s dir) new after) (sym paths)
     (subst (λ (t : List Problem). AddsFiles tree (map (join_of dir) (take i names) ++ path ∷ []) (started s dir) new t) (sym same) more)
+
+no_file : (r : Result Metadata Fault) → is_ok r ≡ false → is_file_there r ≡ false
+no_file (Ok m) h = absurd (cc (h))
+no_file (Err fault) h = refl
+
+-- where `.git` is absent there is no exclude file
+pub no_exclude : (tree : Tree) (s : Settings) (dir : List ℕ) (rules : Ruleset) → IsAbsent (is_found tree) (join_of dir (codes ".git"))
+    → rules ≡ empty → IsExclude tree s dir (exclude_place tree s dir) rules None
+no_exclude tree s dir rules none same = put s.git_exclude
+  where
+    git : List ℕ
+    git = join_of dir (codes ".git")
+
+    is : exclude_by tree git ≡ excludes_in git
+    is = ap (λ b. let place : Place = cond b (by_git_file tree git (tree.contents git)) (excludes_in git) in place)
+        (no_file (tree.stat git true) none.here)
+
+    put : (on : Bool) → IsExclude tree s dir (let place : Place = cond on (exclude_by tree git) (Ok None) in place) rules None
+    put false = rules_of_none tree s dir rules same
+    put true = subst (λ (p : Place). IsExclude tree s dir p rules None) (sym is)
+        (rules_absent tree s dir (join_of git (codes "info/exclude")) rules (none.below (codes "info/exclude") refl) same)
+
+-- where neither is there, no repository begins
+pub no_mark : (matters git jj : Bool) → git ≡ false → jj ≡ false → false ≡ matters && (git || jj)
+no_mark false git jj h k = refl
+no_mark true true jj h k = absurd (cc (h))
+no_mark true false true h k = absurd (cc (k))
+no_mark true false false h k = refl

@@ -2,6 +2,7 @@
 ghost use Rattle.std.specs.Prelude.{◌≡◌, [], ◌∷◌, codes, true, IfOk, IfErr, None, Ok, option_map, if◌then◌else◌};
 ghost use Rattle.ignore_base.specs.Paths.{join_of};
 ghost use Rattle.ignore_base.specs.Problem.{problem_of, memory};
+ghost use Rattle.ignore_files.specs.Shown.{Shows};
 ghost use Rattle.ignore_rules.specs.Matchers.{is_file_there};
 ghost use Rattle.ignore_dir.specs.Exclude.{exclude_place, exclude_by};
 ghost use Rattle.ignore_dir.specs.Ground.{InTree};
@@ -17,6 +18,7 @@ use crate::rule_files::{is_there, rules_if, rules_of_file, rules_of_names};
 use crate::settings::Settings;
 use ignore_base::Error;
 use ignore_base::text::join;
+use ignore_files::internal::Shown;
 use ignore_files::{Files, Refusal};
 use ignore_rules::gitignore::Gitignore;
 use std::alloc::Global;
@@ -39,8 +41,27 @@ pub fn load_directory<F: Files>(
     ensures soft { IfOk result (λ r. IsSoft (option_map problem_of r.1)) }
     ensures out_of_memory { IfErr result (λ e. problem_of e ≡ memory) }
 {
-    let own = own_rules(ground, dir)?;
-    let git = git_rules(ground, dir)?;
+    load_shown(ground, dir, &Shown::nothing())
+}
+
+/// The same as `load_directory`, of a directory whose listing may have shown its names. What that
+/// lacks isn't asked for: a file of rules, `.git` with the exclude file in it, or `.jj`.
+///
+/// # Errors
+/// `Error::Memory` alone.
+/// For dependents.
+pub fn load_shown<F: Files>(
+    ground: &Ground<'_, F>,
+    dir: &str,
+    shown: &Shown<'_>,
+) -> Result<(Dir, Option<Error>), Error>
+    ensures read { InTree F.Files ground.now (λ tree. Shows tree dir.now shown.now →
+        IfOk result (λ r. Loads tree ground.now.settings.now dir.now r.0 (option_map problem_of r.1))) }
+    ensures soft { IfOk result (λ r. IsSoft (option_map problem_of r.1)) }
+    ensures out_of_memory { IfErr result (λ e. problem_of e ≡ memory) }
+{
+    let own = own_rules(ground, dir, shown)?;
+    let git = git_rules(ground, dir, shown)?;
     let error = joined_four(
         ground.alloc,
         own.of_custom,
@@ -70,13 +91,17 @@ struct OwnRules {
 }
 
 /// The rules of the files that stand in a directory, each where its filter is on.
-fn own_rules<F: Files>(ground: &Ground<'_, F>, dir: &str) -> Result<OwnRules, Error>
-    ensures custom { InTree F.Files ground.now (λ tree.
+fn own_rules<F: Files>(
+    ground: &Ground<'_, F>,
+    dir: &str,
+    shown: &Shown<'_>,
+) -> Result<OwnRules, Error>
+    ensures custom { InTree F.Files ground.now (λ tree. Shows tree dir.now shown.now →
         IfOk result (λ own. IsRules tree ground.now.settings.now dir.now (custom_paths ground.now.settings.now dir.now) own.custom (option_map problem_of own.of_custom))) }
-    ensures ignore { InTree F.Files ground.now (λ tree.
+    ensures ignore { InTree F.Files ground.now (λ tree. Shows tree dir.now shown.now →
         IfOk result (λ own. IsRules tree ground.now.settings.now dir.now (path_if ground.now.settings.now.ignore dir.now (codes ".ignore"))
         own.ignore (option_map problem_of own.of_ignore))) }
-    ensures gitignore { InTree F.Files ground.now (λ tree.
+    ensures gitignore { InTree F.Files ground.now (λ tree. Shows tree dir.now shown.now →
         IfOk result (λ own. IsRules tree ground.now.settings.now dir.now (path_if ground.now.settings.now.git_ignore dir.now (codes ".gitignore"))
         own.gitignore (option_map problem_of own.of_gitignore))) }
     ensures soft_custom { IfOk result (λ own. IsSoft (option_map problem_of own.of_custom)) }
@@ -85,10 +110,11 @@ fn own_rules<F: Files>(ground: &Ground<'_, F>, dir: &str) -> Result<OwnRules, Er
     ensures out_of_memory { IfErr result (λ e. problem_of e ≡ memory) }
 {
     let names = ground.settings.custom.as_slice();
-    let (custom, of_custom) = rules_of_names(ground, dir, names)?;
-    let (ignore, of_ignore) = rules_if(ground, dir, ground.settings.ignore, ".ignore")?;
+    let (custom, of_custom) = rules_of_names(ground, dir, shown, names)?;
+    let on = ground.settings.ignore;
+    let (ignore, of_ignore) = rules_if(ground, dir, shown, on, ".ignore")?;
     let on = ground.settings.git_ignore;
-    let (gitignore, of_gitignore) = rules_if(ground, dir, on, ".gitignore")?;
+    let (gitignore, of_gitignore) = rules_if(ground, dir, shown, on, ".gitignore")?;
     Ok(OwnRules {
         custom,
         of_custom,
@@ -108,16 +134,27 @@ struct GitRules {
 }
 
 /// Whether a repository begins at a directory, and the rules of its exclude file.
-fn git_rules<F: Files>(ground: &Ground<'_, F>, dir: &str) -> Result<GitRules, Error>
-    ensures mark { InTree F.Files ground.now (λ tree.
+fn git_rules<F: Files>(
+    ground: &Ground<'_, F>,
+    dir: &str,
+    shown: &Shown<'_>,
+) -> Result<GitRules, Error>
+    ensures mark { InTree F.Files ground.now (λ tree. Shows tree dir.now shown.now →
         IfOk result (λ git. git.mark ≡ is_marked tree ground.now.settings.now dir.now)) }
-    ensures exclude { InTree F.Files ground.now (λ tree.
+    ensures exclude { InTree F.Files ground.now (λ tree. Shows tree dir.now shown.now →
         IfOk result (λ git. IsExclude tree ground.now.settings.now dir.now (exclude_place tree ground.now.settings.now dir.now)
         git.exclude (option_map problem_of git.of_exclude))) }
     ensures soft { IfOk result (λ git. IsSoft (option_map problem_of git.of_exclude)) }
     ensures out_of_memory { IfErr result (λ e. problem_of e ≡ memory) }
 {
-    let repository = repository_of(ground, dir)?;
+    if shown.lacks(".git") {
+        return Ok(GitRules {
+            mark: is_marked(ground, dir, shown, false)?,
+            exclude: Gitignore::empty(ground.alloc),
+            of_exclude: None,
+        });
+    }
+    let repository = repository_of(ground, dir, shown)?;
     let mark = repository.mark;
     let (exclude, of_exclude) = exclude_rules(ground, dir, repository.exclude)?;
     Ok(GitRules {
@@ -136,8 +173,12 @@ struct Repository {
 
 /// What the `.git` and the `.jj` of a directory say, as far as that is asked for. `.git` is asked
 /// once, for the mark and for the exclude file.
-fn repository_of<F: Files>(ground: &Ground<'_, F>, dir: &str) -> Result<Repository, Error>
-    ensures mark { InTree F.Files ground.now (λ tree.
+fn repository_of<F: Files>(
+    ground: &Ground<'_, F>,
+    dir: &str,
+    shown: &Shown<'_>,
+) -> Result<Repository, Error>
+    ensures mark { InTree F.Files ground.now (λ tree. Shows tree dir.now shown.now →
         IfOk result (λ r. r.mark ≡ is_marked tree ground.now.settings.now dir.now)) }
     ensures exclude { InTree F.Files ground.now (λ tree.
         IfOk result (λ r. place_of r.exclude ≡ exclude_place tree ground.now.settings.now dir.now)) }
@@ -154,7 +195,7 @@ fn repository_of<F: Files>(ground: &Ground<'_, F>, dir: &str) -> Result<Reposito
     let path = git.as_str();
     let kind = kind_of(ground, path)?;
     let exclude = exclude_place(ground, path, kind.is_file)?;
-    let mark = is_marked(ground, dir, kind.is_there)?;
+    let mark = is_marked(ground, dir, shown, kind.is_there)?;
     Ok(Repository { mark, exclude })
 }
 
@@ -214,8 +255,13 @@ fn exclude_place<F: Files>(
 }
 
 /// Whether a repository begins at the directory, where marks matter.
-fn is_marked<F: Files>(ground: &Ground<'_, F>, dir: &str, has_git: bool) -> Result<bool, Error>
-    ensures value { InTree F.Files ground.now (λ tree. has_git ≡ is_there tree (join_of dir.now (codes ".git"))
+fn is_marked<F: Files>(
+    ground: &Ground<'_, F>,
+    dir: &str,
+    shown: &Shown<'_>,
+    has_git: bool,
+) -> Result<bool, Error>
+    ensures value { InTree F.Files ground.now (λ tree. Shows tree dir.now shown.now → has_git ≡ is_there tree (join_of dir.now (codes ".git"))
         → IfOk result (λ yes. yes ≡ is_marked tree ground.now.settings.now dir.now)) }
     ensures out_of_memory { IfErr result (λ e. problem_of e ≡ memory) }
 {
@@ -224,6 +270,9 @@ fn is_marked<F: Files>(ground: &Ground<'_, F>, dir: &str, has_git: bool) -> Resu
     }
     if has_git {
         return Ok(true);
+    }
+    if shown.lacks(".jj") {
+        return Ok(false);
     }
     let jj = join(ground.alloc, dir, ".jj")?;
     is_there(ground, jj.as_str())

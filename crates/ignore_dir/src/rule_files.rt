@@ -2,6 +2,7 @@
 ghost use Rattle.std.specs.Prelude.{◌≡◌, [], ◌∷◌, map, IfOk, IfErr, option_map};
 ghost use Rattle.ignore_base.specs.Paths.{join_of};
 ghost use Rattle.ignore_base.specs.Problem.{problem_of, memory};
+ghost use Rattle.ignore_files.specs.Shown.{Shows};
 ghost use Rattle.ignore_dir.specs.Ground.{InTree};
 ghost use Rattle.ignore_dir.specs.Soft.{IsSoft};
 ghost use Rattle.ignore_dir.specs.Load.{is_there, started, AddsPresent, IsRules, path_if};
@@ -11,6 +12,7 @@ use crate::ground::Ground;
 use crate::settings::Settings;
 use ignore_base::Error;
 use ignore_base::text::join;
+use ignore_files::internal::Shown;
 use ignore_files::{Files, Name, Refusal};
 use ignore_rules::gitignore::{Gitignore, GitignoreBuilder};
 use std::alloc::Global;
@@ -38,7 +40,7 @@ fn start(alloc: Global, settings: &Settings, dir: &str) -> Result<GitignoreBuild
     Ok(builder)
 }
 
-/// Adds a file, if it is there. The result is its error, unless that is a fault.
+/// Adds the file at a path, if it is there. The result is its error, unless that is a fault.
 fn add_present<F: Files>(
     ground: &Ground<'_, F>,
     path: &str,
@@ -75,14 +77,37 @@ pub(crate) fn rules_of_file<F: Files>(
     Ok((builder.into_gitignore(), error))
 }
 
-/// The rules of the file of the directory with a name, where its filter is on, and its error.
+/// Adds the file of a directory with a name, if it is there. What the listing lacks isn't asked
+/// for.
+fn add_named<F: Files>(
+    ground: &Ground<'_, F>,
+    dir: &str,
+    shown: &Shown<'_>,
+    name: &str,
+    builder: &mut GitignoreBuilder,
+) -> Result<Option<Error>, Error>
+    ensures added { InTree F.Files ground.now (λ tree. Shows tree dir.now shown.now → IfOk result (λ e.
+        AddsPresent (is_there tree (join_of dir.now name.now)) tree (join_of dir.now name.now) builder.old builder.new (option_map problem_of e))) }
+    ensures soft { IfOk result (λ e. IsSoft (option_map problem_of e)) }
+    ensures out_of_memory { IfErr result (λ e. problem_of e ≡ memory) }
+{
+    if shown.lacks(name) {
+        return Ok(None);
+    }
+    let path = join(ground.alloc, dir, name)?;
+    add_present(ground, path.as_str(), builder)
+}
+
+/// The rules of the file of the directory with a name, where its filter is on, and its error. What
+/// the listing lacks isn't asked for.
 pub(crate) fn rules_if<F: Files>(
     ground: &Ground<'_, F>,
     dir: &str,
+    shown: &Shown<'_>,
     on: bool,
     name: &str,
 ) -> Result<(Gitignore, Option<Error>), Error>
-    ensures read { InTree F.Files ground.now (λ tree.
+    ensures read { InTree F.Files ground.now (λ tree. Shows tree dir.now shown.now →
         IfOk result (λ r. IsRules tree ground.now.settings.now dir.now (path_if on dir.now name.now) r.0 (option_map problem_of r.1))) }
     ensures soft { IfOk result (λ r. IsSoft (option_map problem_of r.1)) }
     ensures out_of_memory { IfErr result (λ e. problem_of e ≡ memory) }
@@ -90,17 +115,22 @@ pub(crate) fn rules_if<F: Files>(
     if !on {
         return Ok((Gitignore::empty(ground.alloc), None));
     }
+    if shown.lacks(name) {
+        return Ok((Gitignore::empty(ground.alloc), None));
+    }
     let path = join(ground.alloc, dir, name)?;
     rules_of_file(ground, dir, path.as_str())
 }
 
-/// The rules of the files of the directory with these names, in turn, and their errors as one.
+/// The rules of the files of the directory with these names, in turn, and their errors as one. What
+/// the listing lacks isn't asked for.
 pub(crate) fn rules_of_names<F: Files>(
     ground: &Ground<'_, F>,
     dir: &str,
+    shown: &Shown<'_>,
     names: &[Name],
 ) -> Result<(Gitignore, Option<Error>), Error>
-    ensures read { InTree F.Files ground.now (λ tree.
+    ensures read { InTree F.Files ground.now (λ tree. Shows tree dir.now shown.now →
         IfOk result (λ r. IsRules tree ground.now.settings.now dir.now (map (join_of dir.now) names.now) r.0 (option_map problem_of r.1))) }
     ensures soft { IfOk result (λ r. IsSoft (option_map problem_of r.1)) }
     ensures out_of_memory { IfErr result (λ e. problem_of e ≡ memory) }
@@ -111,8 +141,7 @@ pub(crate) fn rules_of_names<F: Files>(
     let mut builder = start(ground.alloc, ground.settings, dir)?;
     let mut errors = Vec::new(ground.alloc);
     for name in names {
-        let path = join(ground.alloc, dir, name.as_str())?;
-        let error = add_present(ground, path.as_str(), &mut builder)?;
+        let error = add_named(ground, dir, shown, name.as_str(), &mut builder)?;
         push_some(&mut errors, error)?;
     }
     Ok((builder.into_gitignore(), Error::joined(errors)))

@@ -20,10 +20,10 @@ use Rattle.ignore_files.proofs.EntryLemmas.{named_nameless, named_more}
 use Rattle.ignore_files.proofs.NodeLemmas.{write_changed}
 use Rattle.ignore_files.proofs.Places.{parent_ok, sought_ok}
 
-abbrev KeepsKinds : (Node → Node) → Type 0
+abbrev pub KeepsKinds : (Node → Node) → Type 0
 KeepsKinds f = (n : Node) → file_type_of (f n).kind ≡ file_type_of n.kind
 
-kind_changed : (f : Node → Node) → KeepsKinds f → (ns : List Node) (p i : ℕ) → kind_at (changed f ns p) i ≡ kind_at ns i
+pub kind_changed : (f : Node → Node) → KeepsKinds f → (ns : List Node) (p i : ℕ) → kind_at (changed f ns p) i ≡ kind_at ns i
 kind_changed f keeps [] p i = refl
 kind_changed f keeps (n ∷ ns) zero zero = ap Some (keeps n)
 kind_changed f keeps (n ∷ ns) zero (suc i) = refl
@@ -47,10 +47,10 @@ length_changed f (n ∷ ns) zero = refl
 length_changed f (n ∷ ns) (suc p) = ap suc (length_changed f ns p)
 
 -- a node of the changed ones was changed, or was there
-abbrev Changed : (Node → Node) → List Node → ℕ → ℕ → Node → Type 0
+abbrev pub Changed : (Node → Node) → List Node → ℕ → ℕ → Node → Type 0
 Changed f ns p i d = ((i ≡ p) × ((n : Node) × (slice_get ns i ≡ Some n) × (d ≡ f n))) ⊎ (slice_get ns i ≡ Some d)
 
-get_changed : (f : Node → Node) (ns : List Node) (p i : ℕ) (d : Node) → slice_get (changed f ns p) i ≡ Some d → Changed f ns p i d
+pub get_changed : (f : Node → Node) (ns : List Node) (p i : ℕ) (d : Node) → slice_get (changed f ns p) i ≡ Some d → Changed f ns p i d
 get_changed f [] p i d h = absurd (cc (h))
 get_changed f (n ∷ ns) zero zero d h = inl (refl, (n, refl, cc (h)))
 get_changed f (n ∷ ns) zero (suc i) d h = inr h

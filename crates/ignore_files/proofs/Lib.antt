@@ -13,6 +13,7 @@ mod Absent
 mod ShownLemmas
 mod Unstated
 mod GrownLemmas
+mod RemovedLemmas
 mod Honest
 mod Truthful
 mod ChangesOnly

@@ -52,7 +52,7 @@ sought_ok test nodes path place h =
     let clean = chosen (is_canonical_path path) place _ refusal.NotClean h in
     at_some test (slice_get nodes place) (passing_ok test refusal.Missing nodes (place_of nodes path) place clean.1).1
 
-folder_ok : (nodes : List Node) (path : List ℕ) (place : ℕ) → Ok place ≡ folder_sought nodes path
+pub folder_ok : (nodes : List Node) (path : List ℕ) (place : ℕ) → Ok place ≡ folder_sought nodes path
     → (below nodes 0 (but_last (components path)) ≡ Some place) × ((n : Node) × (slice_get nodes place ≡ Some n))
 folder_ok nodes path place h =
     let clean = chosen (is_canonical_path path) place _ refusal.NotClean h in

@@ -11,6 +11,7 @@ pub mod Answers
 pub mod Dirs
 pub mod Grown
 pub mod Changes
+pub mod Removed
 pub mod Reported
 pub mod Heard
 pub mod Machine

@@ -12,6 +12,7 @@ mod canonical_path;
 mod directory;
 mod entry;
 mod node;
+mod remove;
 mod resolve;
 
 use crate::memory::add::add_node;
@@ -192,7 +193,7 @@ impl MemoryTree {
         Ok(())
     }
 
-    /// How many directories there are, `/` among them.
+    /// How many directories there are, `/` among them, and those that were removed.
     /// For dependents.
     pub fn dir_count(&self) -> usize
         ensures { result ≡ dir_count self.now }

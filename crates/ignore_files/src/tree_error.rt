@@ -7,7 +7,7 @@ use std::{error, fmt};
 pub enum TreeError {
     /// The path isn't `/`, or `/` and names joined by single slashes.
     NotClean = 1,
-    /// What the path should be added to isn't a directory of the tree.
+    /// What the path should be in isn't a directory of the tree.
     NoParent = 2,
     /// The path is there already.
     Exists = 3,

@@ -5,7 +5,7 @@ ghost use Rattle.ignore_base.specs.Match.{is_none, match_map};
 ghost use Rattle.ignore_base.specs.Paths.{trim_of};
 ghost use Rattle.ignore_base.specs.Problem.{problem_of, memory};
 ghost use Rattle.ignore_rules.specs.Answer.{list_answer};
-ghost use Rattle.ignore_dir.specs.Lists.{IsAfterSlash, asked_in, list_of};
+ghost use Rattle.ignore_dir.specs.Lists.{asked_in, list_of};
 ghost use Rattle.ignore_base.specs.Text.{Path};
 ghost use Rattle.ignore_dir.specs.Ranks.{explicit_answer};
 ghost use Rattle.ignore_levels.specs.Reasons.{IsAtBoundary, IsRulingInside, OverChain, down_to, site_of, sited_of};
@@ -16,6 +16,7 @@ use ignore_base::text::trim_root;
 use ignore_base::{Error, Match};
 use ignore_dir::{Asked, Dir, Outside, Rank, Settings};
 use ignore_rules::gitignore::{Gitignore, Glob};
+use ignore_set::Haystack;
 
 /// Where a rule stands.
 #[derive(Clone, Copy, Debug, PartialEq, Eq)]
@@ -62,40 +63,45 @@ fn ruled_by<'d>(origin: Origin, answer: Match<&'d Glob>) -> Match<Ruling<'d>>
     }
 }
 
-/// The answer of a list for what follows an offset in a text.
+/// What is asked, with a text that all lists of directories are asked about.
+#[derive(Drop)]
+struct Sought<'t> {
+    text: Haystack<'t>,
+    path: &'t str,
+    is_dir: bool,
+}
+
+impl<'t> Sought<'t> {
+    fn of(asked: &Asked<'t>) -> Sought<'t>
+        ensures { result ≡ record { text = asked.now.text.now; path = asked.now.path; is_dir = asked.now.is_dir } }
+    {
+        Sought {
+            text: Haystack::new(asked.text),
+            path: asked.path,
+            is_dir: asked.is_dir,
+        }
+    }
+}
+
+/// The answer of a list for what follows an offset in the text. A list without rules isn't asked.
 fn list_answer<'d>(
     list: &'d Gitignore,
-    text: &str,
+    sought: &mut Sought<'_>,
     offset: usize,
-    is_dir: bool,
 ) -> Result<Match<&'d Glob>, Error>
-    ensures answered { IsCharBoundary text.now offset → IfOk result (λ m. match_map (λ g. g.now) m
-        ≡ list_answer list.now.rules (chars (drop offset text.now)) is_dir) }
-    ensures inside { IfOk result (λ m. is_none m ≡ false → IsCharBoundary text.now offset) }
+    ensures answered { IsCharBoundary sought.old.text offset → IfOk result (λ m. match_map (λ g. g.now) m
+        ≡ list_answer list.now.rules (chars (drop offset sought.old.text)) sought.old.is_dir) }
+    ensures inside { IfOk result (λ m. is_none m ≡ false → IsCharBoundary sought.old.text offset) }
+    ensures same { sought.new ≡ sought.old }
     ensures out_of_memory { IfErr result (λ e. problem_of e ≡ memory) }
 {
     if list.is_empty() {
         return Ok(Match::None);
     }
-    if !text.is_char_boundary(offset) {
+    if !sought.text.text().is_char_boundary(offset) {
         return Ok(Match::None);
     }
-    list.answer(&text[offset..], is_dir)
-}
-
-/// The answer of a list for what follows a slash in a text.
-fn answer_past<'d>(
-    list: &'d Gitignore,
-    text: &str,
-    offset: usize,
-    is_dir: bool,
-) -> Result<Match<&'d Glob>, Error>
-    ensures answered { IsAfterSlash text.now offset → IfOk result (λ m. match_map (λ g. g.now) m
-        ≡ list_answer list.now.rules (chars (drop offset text.now)) is_dir) }
-    ensures inside { IfOk result (λ m. is_none m ≡ false → IsCharBoundary text.now offset) }
-    ensures out_of_memory { IfErr result (λ e. problem_of e ≡ memory) }
-{
-    list_answer(list, text, offset, is_dir)
+    list.answer_after(&mut sought.text, offset, sought.is_dir)
 }
 
 /// Whether an offset isn't 0, and stands from a floor to a ceiling.
@@ -112,15 +118,16 @@ fn nearest<'d>(
     rank: Rank,
     floor: usize,
     place: Option<Place>,
-    asked: &Asked<'_>,
+    sought: &mut Sought<'_>,
 ) -> Result<Match<Ruling<'d>>, Error>
-    ensures answered { OverChain levels.now.slots.items place asked.now.text.now (λ chain. IfOk result (λ m. match_map (sited_of asked.now.text.now) m
-        ≡ nearest_sited rank (asked_in asked.now.text.now (down_to floor chain)) asked.now.is_dir)) }
-    ensures inside { IfOk result (λ m. IsRulingInside asked.now.text.now m) }
+    ensures answered { OverChain levels.now.slots.items place sought.old.text (λ chain. IfOk result (λ m. match_map (sited_of sought.old.text) m
+        ≡ nearest_sited rank (asked_in sought.old.text (down_to floor chain)) sought.old.is_dir)) }
+    ensures inside { IfOk result (λ m. IsRulingInside sought.old.text m) }
+    ensures same { sought.new ≡ sought.old }
     ensures out_of_memory { IfErr result (λ e. problem_of e ≡ memory) }
 {
     let mut at = levels.ruled(place);
-    let mut ceiling = asked.text.len();
+    let mut ceiling = sought.text.text().len();
     while let Some(here) = at {
         let Some(level) = levels.level(here) else {
             return Ok(Match::None);
@@ -129,7 +136,7 @@ fn nearest<'d>(
             return Ok(Match::None);
         }
         let list = list_of(&level.dir, rank);
-        let answer = answer_past(list, asked.text, level.offset, asked.is_dir)?;
+        let answer = list_answer(list, sought, level.offset)?;
         if !answer.is_none() {
             return Ok(ruled_by(Origin::Directory(rank, level.offset), answer));
         }
@@ -163,22 +170,22 @@ fn git_answer<'d>(
     levels: &'d Levels,
     floor: usize,
     place: Option<Place>,
-    asked: &Asked<'_>,
+    sought: &mut Sought<'_>,
 ) -> Result<Match<Ruling<'d>>, Error>
-    ensures answered { OverChain levels.now.slots.items place asked.now.text.now (λ chain. IfOk result (λ m. match_map (sited_of asked.now.text.now) m
-        ≡ git_sited global.now (asked_in asked.now.text.now (down_to floor chain)) (trim_of asked.now.path.now) asked.now.is_dir)) }
-    ensures inside { IfOk result (λ m. IsRulingInside asked.now.text.now m) }
+    ensures answered { OverChain levels.now.slots.items place sought.old.text (λ chain. IfOk result (λ m. match_map (sited_of sought.old.text) m
+        ≡ git_sited global.now (asked_in sought.old.text (down_to floor chain)) (trim_of sought.old.path.now) sought.old.is_dir)) }
+    ensures inside { IfOk result (λ m. IsRulingInside sought.old.text m) }
     ensures out_of_memory { IfErr result (λ e. problem_of e ≡ memory) }
 {
-    let answer = nearest(levels, Rank::Gitignore, floor, place, asked)?;
+    let answer = nearest(levels, Rank::Gitignore, floor, place, sought)?;
     if !answer.is_none() {
         return Ok(answer);
     }
-    let answer = nearest(levels, Rank::Exclude, floor, place, asked)?;
+    let answer = nearest(levels, Rank::Exclude, floor, place, sought)?;
     if !answer.is_none() {
         return Ok(answer);
     }
-    let answer = global.matched(trim_root(asked.path), asked.is_dir)?;
+    let answer = global.matched(trim_root(sought.path), sought.is_dir)?;
     Ok(ruled_by(Origin::Global, answer))
 }
 
@@ -196,11 +203,11 @@ fn git_ranks<'d>(
     global: &'d Gitignore,
     levels: &'d Levels,
     place: Option<Place>,
-    asked: &Asked<'_>,
+    sought: &mut Sought<'_>,
 ) -> Result<Match<Ruling<'d>>, Error>
-    ensures answered { OverChain levels.now.slots.items place asked.now.text.now (λ chain. IfOk result (λ m. match_map (sited_of asked.now.text.now) m
-        ≡ git_ranks_sited settings.now global.now (asked_in asked.now.text.now chain) (trim_of asked.now.path.now) asked.now.is_dir)) }
-    ensures inside { IfOk result (λ m. IsRulingInside asked.now.text.now m) }
+    ensures answered { OverChain levels.now.slots.items place sought.old.text (λ chain. IfOk result (λ m. match_map (sited_of sought.old.text) m
+        ≡ git_ranks_sited settings.now global.now (asked_in sought.old.text chain) (trim_of sought.old.path.now) sought.old.is_dir)) }
+    ensures inside { IfOk result (λ m. IsRulingInside sought.old.text m) }
     ensures out_of_memory { IfErr result (λ e. problem_of e ≡ memory) }
 {
     let mark = levels.mark(place);
@@ -208,7 +215,7 @@ fn git_ranks<'d>(
         return Ok(Match::None);
     }
     let floor = levels.floor(mark);
-    git_answer(global, levels, floor, place, asked)
+    git_answer(global, levels, floor, place, sought)
 }
 
 /// The answer of the first rank that has a match, for a path: custom files, `.ignore`,
@@ -226,15 +233,16 @@ pub(crate) fn ranks_answer<'d>(
     ensures inside { IfOk result (λ m. IsRulingInside asked.now.text.now m) }
     ensures out_of_memory { IfErr result (λ e. problem_of e ≡ memory) }
 {
-    let answer = nearest(levels, Rank::Custom, 0, place, asked)?;
+    let mut sought = Sought::of(asked);
+    let answer = nearest(levels, Rank::Custom, 0, place, &mut sought)?;
     if !answer.is_none() {
         return Ok(answer);
     }
-    let answer = nearest(levels, Rank::Ignore, 0, place, asked)?;
+    let answer = nearest(levels, Rank::Ignore, 0, place, &mut sought)?;
     if !answer.is_none() {
         return Ok(answer);
     }
-    let answer = git_ranks(settings, &outside.global, levels, place, asked)?;
+    let answer = git_ranks(settings, &outside.global, levels, place, &mut sought)?;
     if !answer.is_none() {
         return Ok(answer);
     }

@@ -1,10 +1,10 @@
 -- What the tables and the others of an index say together.
 use Rattle.std.proofs.Common.{◌≡◌, ◌⊎◌, ℕ, zero, suc, ◌+◌, ◌-◌, ◌<◌, ◌≤◌, max, Bool, List, [], ◌∷◌, ◌++◌, length, map, take}
-use Rattle.std.proofs.Common.{drop, get_or, slice_get, Option, Some, None, SomeIff, refl, sym, ap, subst, ◌∙◌, inl, inr}
+use Rattle.std.proofs.Common.{drop, get_or, slice_get, Option, Some, None, IfSome, SomeIff, refl, sym, ap, subst, ◌∙◌, inl, inr}
 use Rattle.std.proofs.Common.{arith, append_assoc}
 use Rattle.std.specs.Str.{chars, IsUtf8}
 use Rattle.std.proofs.lemmas.List.{get_or-drop, get_or-map, length-drop, length-map}
-use Rattle.std.proofs.lemmas.Option.{slice_get-get_or}
+use Rattle.std.proofs.lemmas.Option.{slice_get-get_or, slice_get_within}
 use Rattle.std.proofs.lemmas.Str.{IsCharBoundary-at_seam, IsUtf8-append, IsUtf8-take}
 use Rattle.std.proofs.Math.Seq.{take-append_seam}
 use Rattle.ignore_glob.specs.Forms.{Form, whole, name, ending, other, form_of}
@@ -108,21 +108,21 @@ is_other (name key) = inr (λ e. cc)
 is_other (ending key) = inr (λ e. cc)
 is_other other = inl refl
 
-pub all_above : (text : List ℕ) (is_dir : Bool) (ms : List Member) (best n : ℕ) → IsExactOf text is_dir ms best
+all_above : (text : List ℕ) (is_dir : Bool) (ms : List Member) (best n : ℕ) → IsExactOf text is_dir ms best
     → IsFoundFrom text is_dir ms best n → (i : ℕ) (m : Member) → slice_get ms i ≡ Some m → Applies (chars text) is_dir m → i < n
 all_above text is_dir ms best n exact found i m g a = elim (is_other (form_of m.reading)) [
   | inl form ↦ found.above i m g form a
   | inr formed ↦ omega (arith, exact.above i m g a formed, found.kept)
 ]
 
-pub all_last : (text : List ℕ) (is_dir : Bool) (ms : List Member) (best n : ℕ) → IsExactOf text is_dir ms best
+all_last : (text : List ℕ) (is_dir : Bool) (ms : List Member) (best n : ℕ) → IsExactOf text is_dir ms best
     → IsFoundFrom text is_dir ms best n → Stands (chars text) is_dir ms n
 all_last text is_dir ms best n exact found = elim (found.last) [
   | inl e ↦ subst (λ k. Stands (chars text) is_dir ms k) (sym e) exact.last
   | inr f ↦ inr f
 ]
 
-pub decided : (text : List ℕ) (is_dir : Bool) (ms : List Member) (n : ℕ) (r : Option ℕ) → SomeIff r (1 ≤ n) (n - 1)
+decided : (text : List ℕ) (is_dir : Bool) (ms : List Member) (n : ℕ) (r : Option ℕ) → SomeIff r (1 ≤ n) (n - 1)
     → ((i : ℕ) (m : Member) → slice_get ms i ≡ Some m → Applies text is_dir m → i < n) → Stands text is_dir ms n
     → IsLastMatch text is_dir ms r
 decided text is_dir ms n None none above last = λ k d fits a. none (omega (arith, above k (get_or ms k d) (slice_get-get_or ms k d fits) a))
@@ -181,3 +181,14 @@ pub any_default : (xs : List ℕ) (i d e : ℕ) → i < length xs → get_or xs 
 any_default [] i d e h = absurd (omega arith)
 any_default (x ∷ xs) zero d e h = refl
 any_default (x ∷ xs) (suc i) d e h = any_default xs i d e (omega (arith, h))
+
+-- the greatest index of all, by those of the tables and of the others
+pub last_found : (text : List ℕ) (is_dir : Bool) (ms : List Member) (best n : ℕ) (r : Option ℕ) → SomeIff r (1 ≤ n) (n - 1)
+    → IsExactOf text is_dir ms best → IsFoundFrom text is_dir ms best n → IsLastMatch (chars text) is_dir ms r
+last_found text is_dir ms best n r is exact found =
+    decided (chars text) is_dir ms n r is (all_above text is_dir ms best n exact found) (all_last text is_dir ms best n exact found)
+
+pub last_within : (text : List ℕ) (is_dir : Bool) (ms : List Member) (r : Option ℕ) → IsLastMatch text is_dir ms r
+    → IfSome r (λ i. i < length ms)
+last_within text is_dir ms None none = tt
+last_within text is_dir ms (Some i) (m, at, applies, rest) = slice_get_within ms i m at

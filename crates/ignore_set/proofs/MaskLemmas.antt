@@ -1,13 +1,13 @@
 -- A text has the bits of each text in it.
-use Rattle.std.proofs.Common.{◌≡◌, ◌≢◌, ℕ, ◌+◌, ◌<◌, ◌≤◌, List, [], ◌∷◌, ◌++◌, length, get_or, drop, drop-cons, add-one, suc}
+use Rattle.std.proofs.Common.{◌≡◌, ◌≢◌, ℕ, ◌+◌, ◌-◌, ◌<◌, ◌≤◌, List, [], ◌∷◌, ◌++◌, length, append_assoc, get_or, take, drop, drop-cons, add-one, suc}
 use Rattle.std.proofs.Common.{sym, ap, subst, ◌∙◌, arith, inl, inr, set}
 use Rattle.std.specs.Prelude.{bit_or}
 use Rattle.std.specs.Int.{bit_at}
 use Rattle.std.specs.Str.Iter.{HasSubslice}
 use Rattle.std.proofs.lemmas.Nat.Bits.{bit_at_or, bit_at-zero, same_from_bits}
-use Rattle.std.proofs.lemmas.List.{get_or-set_same, get_or-set_other}
+use Rattle.std.proofs.lemmas.List.{drop-drop, get_or-set_same, get_or-set_other, take-append-drop}
 use Rattle.ignore_set.proofs.IndexLemmas.{split}
-use Rattle.ignore_set.specs.Others.{bit_of, first_bit, mask_of}
+use Rattle.ignore_set.specs.Others.{IsMaskOver, bit_of, first_bit, mask_of}
 
 -- each bit of a is one of b
 abbrev pub Covers : ℕ → ℕ → Type 0
@@ -50,6 +50,17 @@ inside_covered text needle (a, b, cut) =
     let all = subst (λ t. Covers (mask_of needle) (mask_of t)) (sym cut)
     (λ i. omega (arith, front_covered needle b i, back_covered a (needle ++ b) i)) in
     covered_or (mask_of needle) (mask_of text) all
+
+-- the mask of what follows an offset is over what follows a later one
+pub over_later : (text : List ℕ) (from offset : ℕ) → from ≤ offset → IsMaskOver (drop offset text) (mask_of (drop from text))
+over_later text from offset le inside (a, b, cut) =
+    let more : from + (offset - from) ≡ offset = omega arith in
+    let rest = drop from text in
+    let front = take (offset - from) rest in
+    let same : rest ≡ front ++ (a ++ (inside ++ b)) =
+    sym (take-append-drop (offset - from) rest)
+    ∙ ap (λ l. front ++ l) (drop-drop (offset - from) from text ∙ (ap (λ k. drop k text) more ∙ cut)) in
+    inside_covered rest inside (front ++ a, b, same ∙ sym (append_assoc front a (inside ++ b)))
 
 pub mask_step : (bytes : List ℕ) (at : ℕ) → at < length bytes
     → mask_of (drop at bytes) ≡ bit_or (first_bit (drop at bytes)) (mask_of (drop (at + 1) bytes))

@@ -34,6 +34,10 @@ abbrev pub mask_of : List ℕ → ℕ
 mask_of [] = 0
 mask_of (a ∷ text) = bit_or (first_bit (a ∷ text)) (mask_of text)
 
+-- a mask has the bits of each text that is in this one
+abbrev pub IsMaskOver : List ℕ → ℕ → Type 0
+IsMaskOver text mask = (inside : List ℕ) → HasSubslice text inside → bit_or (mask_of inside) mask ≡ mask
+
 -- one of 4,096 buckets, for three bytes
 abbrev pub bucket_at : ℕ → ℕ → ℕ → ℕ
 bucket_at a b c = (a * 577 + b * 37 + c) % 4096

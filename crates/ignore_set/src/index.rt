@@ -1,16 +1,17 @@
 //! An index over patterns that their owner keeps.
-ghost use Rattle.std.specs.Prelude.{◌≡◌, ◌+◌, ◌<◌, ◌≤◌, ◌^◌, ◌++◌, ◌∷◌, [], ℕ, IfOk, IfErr, IsOk, List, Some, length, map, slice_get};
-ghost use Rattle.std.specs.Str.{chars};
+ghost use Rattle.std.specs.Prelude.{◌≡◌, ◌+◌, ◌<◌, ◌≤◌, ◌^◌, ◌++◌, ◌∷◌, [], ℕ, IfOk, IfErr, IfSome, IsOk, List, Some, drop, length, map, slice_get};
+ghost use Rattle.std.specs.Str.{IsCharBoundary, chars};
 ghost use Rattle.ignore_base.specs.Problem.{problem_of, memory};
 ghost use Rattle.ignore_set.specs.Buckets.{AreBucketsOf, IsPast};
 ghost use Rattle.ignore_set.specs.Index.{IsIndexOf, IsExactOf};
-ghost use Rattle.ignore_set.specs.Others.{AreOthers, IndexedText, IsFoundFrom};
+ghost use Rattle.ignore_set.specs.Others.{AreOthers, IndexedText, IsFoundFrom, IsMaskOver};
 ghost use Rattle.ignore_set.specs.Sets.{Member, Applies, AreShort, IsLastMatch, pass_bound};
 
 use crate::buckets::Buckets;
 use crate::candidate::applies;
 use crate::has_pattern::HasPattern;
-use crate::needle::{Needle, mask_of, put_needles};
+use crate::haystack::Haystack;
+use crate::needle::{Needle, put_needles};
 use crate::table::Table;
 use crate::text::Ending;
 use ignore_base::Error;
@@ -100,9 +101,65 @@ impl Index {
         ensures out_of_memory { IfErr result (λ e. problem_of e ≡ memory) }
         ensures succeeds { AreShort (map M.member members.now) → IsOk result }
     {
+        self.last_counted_after(members, &mut Haystack::new(text), 0, is_dir)
+    }
+
+    /// As `last_match`, of what follows an offset in a text of which other indexes are asked too.
+    /// Where the offset is within a character, or beyond the text, nothing matches.
+    ///
+    /// # Errors
+    /// As `last_match`.
+    pub fn last_match_after<M: HasPattern>(
+        &self,
+        members: &[M],
+        haystack: &mut Haystack<'_>,
+        offset: usize,
+        is_dir: bool,
+    ) -> Result<Option<usize>, Error>
+        requires { IsIndexOf self.now (map M.member members.now) }
+        ensures value { IsCharBoundary haystack.old offset
+            → IfOk result (λ last. IsLastMatch (chars (drop offset haystack.old)) is_dir (map M.member members.now) last) }
+        ensures within { IfOk result (λ last. IfSome last (λ i. i < length members.now)) }
+        ensures same { haystack.new ≡ haystack.old }
+        ensures out_of_memory { IfErr result (λ e. problem_of e ≡ memory) }
+        ensures succeeds { AreShort (map M.member members.now) → IsOk result }
+    {
+        let (last, _) = self.last_counted_after(members, haystack, offset, is_dir)?;
+        Ok(last)
+    }
+
+    fn last_counted_after<M: HasPattern>(
+        &self,
+        members: &[M],
+        haystack: &mut Haystack<'_>,
+        offset: usize,
+        is_dir: bool,
+    ) -> Result<(Option<usize>, u64), Error>
+        requires { IsIndexOf self.now (map M.member members.now) }
+        ensures value { IsCharBoundary haystack.old offset
+            → IfOk result (λ r. IsLastMatch (chars (drop offset haystack.old)) is_dir (map M.member members.now) r.0) }
+        ensures within { IfOk result (λ r. IfSome r.0 (λ i. i < length members.now)) }
+        ensures count { IfOk result (λ r. r.1 ≤ pass_bound (map M.member members.now)) }
+        ensures same { haystack.new ≡ haystack.old }
+        ensures out_of_memory { IfErr result (λ e. problem_of e ≡ memory) }
+        ensures succeeds { AreShort (map M.member members.now) → IsOk result }
+    {
+        let whole = haystack.text();
+        if !whole.is_char_boundary(offset) {
+            return Ok((None, 0));
+        }
+        let text = &whole[offset..];
         let exact = self.last_exact(text, is_dir);
         let end = self.end_of(text);
-        let (after, passes) = last_if_any(members, &self.others, end, exact, text, is_dir)?;
+        if end == 0 {
+            return Ok((exact.checked_sub(1), 0));
+        }
+        let left = Left {
+            needles: self.others.as_slice(),
+            end,
+            mask: haystack.mask_from(offset),
+        };
+        let (after, passes) = last_other(members, &left, exact, text, is_dir)?;
         Ok((after.checked_sub(1), passes))
     }
 
@@ -162,54 +219,39 @@ fn without_buckets<M: HasPattern>(alloc: Global, members: &[M]) -> Result<Index,
     Ok(index)
 }
 
-/// As `last_other`, which looks at the whole text and isn't called where no needle is in it.
-fn last_if_any<M: HasPattern>(
-    members: &[M],
-    others: &[Needle],
+/// The needles that may be in a text: none from `end` on is, and a mask is over the text.
+#[derive(Drop)]
+struct Left<'o> {
+    needles: &'o [Needle],
     end: usize,
-    best: usize,
-    text: &str,
-    is_dir: bool,
-) -> Result<(usize, u64), Error>
-    requires others { AreOthers others.now (map M.member members.now) }
-    requires past { IsPast text.now others.now end }
-    requires within { end ≤ length others.now }
-    ensures value { IfOk result (λ r. IsFoundFrom text.now is_dir (map M.member members.now) best r.0) }
-    ensures count { IfOk result (λ r. r.1 ≤ pass_bound (map M.member members.now)) }
-    ensures out_of_memory { IfErr result (λ e. problem_of e ≡ memory) }
-    ensures succeeds { AreShort (map M.member members.now) → IsOk result }
-{
-    if end == 0 {
-        return Ok((best, 0));
-    }
-    last_other(members, others, end, best, text, is_dir)
+    mask: u64,
 }
 
 /// One more than the greatest index among the patterns of no form that apply, and `best`, and how
-/// many passes over positions that took. No needle from `end` on is in the text.
+/// many passes over positions that took.
 fn last_other<M: HasPattern>(
     members: &[M],
-    others: &[Needle],
-    end: usize,
+    left: &Left<'_>,
     best: usize,
     text: &str,
     is_dir: bool,
 ) -> Result<(usize, u64), Error>
-    requires others { AreOthers others.now (map M.member members.now) }
-    requires past { IsPast text.now others.now end }
-    requires within { end ≤ length others.now }
+    requires others { AreOthers left.now.needles.now (map M.member members.now) }
+    requires past { IsPast text.now left.now.needles.now left.now.end }
+    requires within { left.now.end ≤ length left.now.needles.now }
+    requires over { IsMaskOver text.now left.now.mask }
     ensures value { IfOk result (λ r. IsFoundFrom text.now is_dir (map M.member members.now) best r.0) }
     ensures count { IfOk result (λ r. r.1 ≤ pass_bound (map M.member members.now)) }
     ensures out_of_memory { IfErr result (λ e. problem_of e ≡ memory) }
     ensures succeeds { AreShort (map M.member members.now) → IsOk result }
 {
-    let mask = mask_of(text);
+    let others = left.needles;
     let mut passes = 0u64;
     let mut tried = members.len();
     let from = first_from(others, best);
-    for j in (from..end.max(from)).rev() {
+    for j in (from..left.end.max(from)).rev() {
         let needle = &others[j];
-        if !needle.may_be_in(mask) {
+        if !needle.may_be_in(left.mask) {
             continue;
         }
         let i = needle.index();

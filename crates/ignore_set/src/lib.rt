@@ -5,6 +5,7 @@ mod buckets;
 mod candidate;
 mod entry;
 mod has_pattern;
+mod haystack;
 mod index;
 mod needle;
 mod set;
@@ -12,5 +13,6 @@ mod table;
 mod text;
 
 pub use has_pattern::HasPattern;
+pub use haystack::Haystack;
 pub use index::Index;
 pub use set::PatternSet;

@@ -1,8 +1,8 @@
 //! Texts without which patterns don't match.
-ghost use Rattle.std.specs.Prelude.{◌≡◌, ◌↔◌, ◌++◌, ◌*◌, ◌^◌, ◌+◌, ◌<◌, ◌≤◌, ℕ, List, IsTrue, IfOk, SomeIff, length, map, string_bytes};
+ghost use Rattle.std.specs.Prelude.{◌≡◌, ◌↔◌, ◌++◌, ◌*◌, ◌^◌, ◌+◌, ◌<◌, ◌≤◌, ℕ, List, IsTrue, IfOk, SomeIff, drop, length, map, string_bytes};
 ghost use Rattle.std.specs.Str.Iter.{HasSubslice};
 ghost use Rattle.ignore_set.specs.Buckets.{IsFrontOf};
-ghost use Rattle.ignore_set.specs.Others.{bit_of, bucket_at, bucket_of, first_bit, mask_of};
+ghost use Rattle.ignore_set.specs.Others.{IsMaskOver, bit_of, bucket_at, bucket_of, first_bit, mask_of};
 
 use std::alloc::AllocError;
 use std::marker::Model;
@@ -43,9 +43,9 @@ impl Needle {
         self.index
     }
 
-    /// Whether the needle may be in a text with this mask: where not, it isn't.
+    /// Whether the needle may be in a text that this mask is over: where not, it isn't.
     pub(crate) fn may_be_in(&self, mask: u64) -> bool
-        ensures { (text : List ℕ) → mask ≡ mask_of text → HasSubslice text self.now.text → IsTrue result }
+        ensures { (text : List ℕ) → IsMaskOver text mask → HasSubslice text self.now.text → IsTrue result }
     {
         self.mask | mask == mask
     }
@@ -77,12 +77,22 @@ impl Needle {
 }
 
 /// The bits of each three bytes that follow each other in the text.
-pub(crate) fn mask_of(text: &str) -> u64
+fn mask_of(text: &str) -> u64
     ensures { result ≡ mask_of text.now }
 {
+    mask_back(text, 0, text.len(), 0)
+}
+
+/// The mask of what follows an offset in the text, by that of what follows a later offset.
+pub(crate) fn mask_back(text: &str, from: usize, later: usize, mask: u64) -> u64
+    requires order { from ≤ later }
+    requires within { later ≤ length text.now }
+    requires mask { mask ≡ mask_of (drop later text.now) }
+    ensures { result ≡ mask_of (drop from text.now) }
+{
     let bytes = text.as_bytes();
-    let mut mask = 0u64;
-    for at in (0..bytes.len()).rev() {
+    let mut mask = mask;
+    for at in (from..later).rev() {
         mask |= first_bit(&bytes[at..]);
     }
     mask

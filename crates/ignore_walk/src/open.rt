@@ -2,7 +2,9 @@
 ghost use Rattle.std.specs.Prelude.{◌≡◌, ℕ, Bool, List, Option, IfOk, option_map};
 ghost use Rattle.std.specs.Result.{result_err};
 ghost use Rattle.ignore_base.specs.Problem.{problem_of};
+ghost use Rattle.ignore_base.specs.Text.{Path};
 ghost use Rattle.ignore_files.specs.Gives.{IsHonest};
+ghost use Rattle.ignore_files.specs.Shown.{Shows};
 ghost use Rattle.ignore_files.specs.Tree.{Tree};
 ghost use Rattle.ignore_dir.specs.Ground.{InLoads};
 ghost use Rattle.ignore_walk.specs.Suits.{IsOrderBy};
@@ -14,9 +16,10 @@ use crate::child::all_named;
 use crate::memory::answered;
 use ignore_base::{Error, Fault};
 use ignore_dir::laws::one_load;
-use ignore_dir::load::load_directory;
+use ignore_dir::load::load_shown;
 use ignore_dir::{Dir, Ground};
-use ignore_files::{Files, Listed, Name};
+use ignore_files::internal::Shown;
+use ignore_files::{Files, Listed, Listing, Name};
 use std::alloc::{AllocError, Global};
 use std::collections::VecDeque;
 
@@ -49,47 +52,80 @@ pub(crate) fn loaded<F: Files>(
     ensures dir { InLoads F.Files ground.now (λ tree loads. IfOk result (λ r. r.0 ≡ (loads path.now).0)) }
     ensures problem { InLoads F.Files ground.now (λ tree loads. IfOk result (λ r. option_map problem_of r.1 ≡ (loads path.now).1)) }
 {
+    loaded_by(ground, path, &Shown::nothing())
+}
+
+/// The same of a directory whose listing may have shown its names.
+fn loaded_by<F: Files>(
+    ground: &Ground<'_, F>,
+    path: &str,
+    shown: &Shown<'_>,
+) -> Result<(Dir, Option<Error>), AllocError>
+    ensures dir { InLoads F.Files ground.now (λ tree loads. Shows tree path.now shown.now → IfOk result (λ r. r.0 ≡ (loads path.now).0)) }
+    ensures problem { InLoads F.Files ground.now (λ tree loads. Shows tree path.now shown.now
+        → IfOk result (λ r. option_map problem_of r.1 ≡ (loads path.now).1)) }
+{
     one_load();
-    match load_directory(ground, path) {
+    match load_shown(ground, path, shown) {
         Ok(found) => Ok(found),
         Err(_) => Err(AllocError),
     }
 }
 
-/// What a directory lists, each name that is none as a fault; or the fault of the listing.
-fn listing_of<F: Files>(
+/// What a directory lists, or the fault in place of that.
+fn answer_of<F: Files>(
     alloc: Global,
     files: &F,
     path: &str,
-) -> Result<(Vec<Listed>, Option<Fault>), AllocError>
-    ensures listing { (tree : Tree) → IsHonest F.Files files.now tree → IfOk result (λ r. r.0.items ≡ listing_of (tree.list path.now)) }
-    ensures fault { (tree : Tree) → IsHonest F.Files files.now tree → IfOk result (λ r. r.1 ≡ result_err (tree.list path.now)) }
+) -> Result<Result<Listing, Fault>, AllocError>
+    ensures { (tree : Tree) → IsHonest F.Files files.now tree → IfOk result (λ answer. tree.list path.now ≡ answer) }
 {
-    match answered(files.list(alloc, path))? {
+    answered(files.list(alloc, path))
+}
+
+/// What an answer of these files shows of the names in a directory.
+fn shown_by<'l, F: Files>(files: &F, answer: &'l Result<Listing, Fault>) -> Shown<'l>
+    ensures { (tree : Tree) (dir : Path) → IsHonest F.Files files.now tree → tree.list dir ≡ answer.now → Shows tree dir result }
+{
+    match answer {
+        Ok(listing) => Shown::by(files, listing.as_slice()),
+        Err(_) => Shown::nothing(),
+    }
+}
+
+/// What was listed, each name that is none as a fault; and the fault of the listing.
+fn listing_of(
+    alloc: Global,
+    answer: Result<Listing, Fault>,
+) -> Result<(Vec<Listed>, Option<Fault>), AllocError>
+    ensures listing { IfOk result (λ r. r.0.items ≡ listing_of answer) }
+    ensures fault { IfOk result (λ r. r.1 ≡ result_err answer) }
+{
+    match answer {
         Ok(listing) => Ok((all_named(alloc, listing.into_vec())?, None)),
         Err(fault) => Ok((Vec::new(alloc), Some(fault))),
     }
 }
 
-/// What a directory lists, in the order of the walk; and the fault of the listing.
-fn listed<F: Files, S: Callbacks>(
+/// What was listed at a path, in the order of the walk; and the fault of the listing.
+fn listed<S: Callbacks>(
     alloc: Global,
-    files: &F,
     owner: &S,
     order: Order,
     path: &str,
+    answer: Result<Listing, Fault>,
 ) -> Result<(VecDeque<Listed>, Option<Fault>), AllocError>
-    ensures rest { (tree : Tree) (chosen : Option (List ℕ → List ℕ → List ℕ → Bool)) → IsHonest F.Files files.now tree
-        → IsOrderBy order (S.compares owner.now) chosen
-        → IfOk result (λ r. IsArranged chosen path.now (listing_of (tree.list path.now)) r.0.items) }
-    ensures fault { (tree : Tree) → IsHonest F.Files files.now tree → IfOk result (λ r. r.1 ≡ result_err (tree.list path.now)) }
+    ensures rest { (chosen : Option (List ℕ → List ℕ → List ℕ → Bool)) → IsOrderBy order (S.compares owner.now) chosen
+        → IfOk result (λ r. IsArranged chosen path.now (listing_of answer) r.0.items) }
+    ensures fault { IfOk result (λ r. r.1 ≡ result_err answer) }
 {
-    let (listing, fault) = listing_of(alloc, files, path)?;
+    let (listing, fault) = listing_of(alloc, answer)?;
     let listing = arranged(alloc, owner, order, path, listing)?;
     Ok((VecDeque::from_vec(listing), fault))
 }
 
-/// Loads and lists a directory. `text` is its path as the directories around it see it.
+/// Lists and loads a directory: what its listing lacks isn't asked for. `text` is its path as the
+/// directories around it see it.
 pub(crate) fn open<F: Files, S: Callbacks>(
     ground: &Ground<'_, F>,
     owner: &S,
@@ -106,8 +142,11 @@ pub(crate) fn open<F: Files, S: Callbacks>(
         → IfOk result (λ o. IsArranged chosen path (listing_of (tree.list path)) o.directory.rest.items) }
     ensures fault { (tree : Tree) → IsHonest F.Files ground.now.files.now tree → IfOk result (λ o. o.fault ≡ result_err (tree.list path)) }
 {
-    let (rest, fault) = listed(ground.alloc, ground.files, owner, order, path.as_str())?;
-    let (dir, error) = loaded(ground, path.as_str())?;
+    let at = path.as_str();
+    let answer = answer_of(ground.alloc, ground.files, at)?;
+    let shown = shown_by(ground.files, &answer);
+    let (dir, error) = loaded_by(ground, at, &shown)?;
+    let (rest, fault) = listed(ground.alloc, owner, order, at, answer)?;
     let directory = Directory {
         path,
         text,

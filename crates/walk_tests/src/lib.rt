@@ -16,6 +16,8 @@ mod loads;
 #[cfg(test)]
 mod matchers;
 #[cfg(test)]
+mod probes;
+#[cfg(test)]
 mod queries;
 #[cfg(test)]
 mod refused_matchers;

@@ -19,7 +19,8 @@ pub fn is_canonical_path(path: &str) -> bool
     }
 }
 
-fn child(nodes: &[Node], here: usize, name: &str) -> Option<usize>
+/// The node under a name in the directory at a place.
+pub fn child(nodes: &[Node], here: usize, name: &str) -> Option<usize>
     ensures { result ≡ child nodes.now here name.now }
 {
     match nodes.get(here) {

@@ -1,6 +1,7 @@
 //! A directory in memory: its entries in the order of adding, found by name in a map.
 
 use crate::memory::entry::Entry;
+use crate::memory::remove::is_under;
 use crate::types::{FileType, Name};
 use std::alloc::{AllocError, Global};
 use std::collections::BTreeMap;
@@ -31,6 +32,7 @@ impl Directory {
     ghost use Rattle.std.specs.Prelude.{◌≡◌, [], ◌∷◌, ◌++◌, None, OnOk, OnErr};
     ghost use Rattle.ignore_files.specs.declared.memory.entry.Entry.TheVariants.{Named, Nameless};
     ghost use Rattle.ignore_files.specs.Entries.{named};
+    ghost use Rattle.ignore_files.specs.Removed.{without};
 
     /// An empty directory. It allocates nothing.
     pub fn new(alloc: Global) -> Directory
@@ -84,5 +86,13 @@ impl Directory {
     {
         self.entries.push(Entry::Nameless)?;
         Ok(())
+    }
+
+    /// Removes what is under a name.
+    pub fn remove(&mut self, name: &str)
+        ensures { self.new ≡ without name.now self.old }
+    {
+        self.entries.retain(|entry: &Entry| !is_under(entry, name));
+        self.by_name.remove(name);
     }
 }

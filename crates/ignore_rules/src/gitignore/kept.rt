@@ -1,6 +1,6 @@
 //! What a matcher keeps: its rules, and an index of them.
-ghost use Rattle.std.specs.Prelude.{◌≡◌, IfOk, IfErr, IsOk, map, string_bytes};
-ghost use Rattle.std.specs.Str.{chars};
+ghost use Rattle.std.specs.Prelude.{◌≡◌, IfOk, IfErr, IsOk, drop, map, string_bytes};
+ghost use Rattle.std.specs.Str.{IsCharBoundary, chars};
 ghost use Rattle.ignore_base.specs.Match.{match_map};
 ghost use Rattle.ignore_base.specs.Problem.{problem_of, memory};
 ghost use Rattle.ignore_set.specs.Index.{IsIndexOf};
@@ -12,7 +12,7 @@ ghost use Rattle.ignore_rules.specs.Rules.{empty, ignore_count, whitelist_count}
 use crate::gitignore::glob::Glob;
 use ignore_base::{Error, Match};
 use ignore_glob::glob::laws::matching_is_decided;
-use ignore_set::Index;
+use ignore_set::{Haystack, Index};
 use std::alloc::{AllocError, Global};
 use std::marker::Model;
 use std::sync::Arc;
@@ -151,12 +151,19 @@ impl IndexedRules {
         rules
     }
 
-    fn answer(&self, text: &str, is_dir: bool) -> Result<Match<&Glob>, Error>
+    fn answer(
+        &self,
+        haystack: &mut Haystack<'_>,
+        offset: usize,
+        is_dir: bool,
+    ) -> Result<Match<&Glob>, Error>
         ensures out_of_memory { IfErr result (λ e. problem_of e ≡ memory) }
-        ensures answered { IfOk result (λ m. match_map (λ g. g.now) m ≡ list_answer self.now.rules (chars text.now) is_dir) }
+        ensures answered { IsCharBoundary haystack.old offset → IfOk result (λ m. match_map (λ g. g.now) m
+            ≡ list_answer self.now.rules (chars (drop offset haystack.old)) is_dir) }
+        ensures same { haystack.new ≡ haystack.old }
         ensures succeeds { AreShortRules self.now.rules → IsOk result }
     {
-        indexed_answer(&self.index, self.rules.globs(), text, is_dir)
+        indexed_answer(&self.index, self.rules.globs(), haystack, offset, is_dir)
     }
 }
 
@@ -192,15 +199,22 @@ impl Kept {
         }
     }
 
-    /// The answer of the rules for a text.
-    pub(crate) fn answer(&self, text: &str, is_dir: bool) -> Result<Match<&Glob>, Error>
+    /// The answer of the rules for what follows an offset in a text.
+    pub(crate) fn answer(
+        &self,
+        haystack: &mut Haystack<'_>,
+        offset: usize,
+        is_dir: bool,
+    ) -> Result<Match<&Glob>, Error>
         ensures out_of_memory { IfErr result (λ e. problem_of e ≡ memory) }
-        ensures answered { IfOk result (λ m. match_map (λ g. g.now) m ≡ list_answer (kept_rules self.now).rules (chars text.now) is_dir) }
+        ensures answered { IsCharBoundary haystack.old offset → IfOk result (λ m. match_map (λ g. g.now) m
+            ≡ list_answer (kept_rules self.now).rules (chars (drop offset haystack.old)) is_dir) }
+        ensures same { haystack.new ≡ haystack.old }
         ensures succeeds { AreShortRules (kept_rules self.now).rules → IsOk result }
     {
         match self {
-            Kept::Shared(kept) => kept.answer(text, is_dir),
-            Kept::Alone(rules) => last_answer(rules.globs(), text, is_dir),
+            Kept::Shared(kept) => kept.answer(haystack, offset, is_dir),
+            Kept::Alone(rules) => answer_after(rules.globs(), haystack.text(), offset, is_dir),
         }
     }
 
@@ -228,19 +242,40 @@ fn shared(indexed: IndexedRules) -> Kept
 fn indexed_answer<'g>(
     index: &Index,
     globs: &'g [Glob],
-    text: &str,
+    haystack: &mut Haystack<'_>,
+    offset: usize,
     is_dir: bool,
 ) -> Result<Match<&'g Glob>, Error>
     requires { IsIndexOf index.now (map rule_member globs.now) }
     ensures out_of_memory { IfErr result (λ e. problem_of e ≡ memory) }
-    ensures answered { IfOk result (λ m. match_map (λ g. g.now) m ≡ list_answer globs.now (chars text.now) is_dir) }
+    ensures answered { IsCharBoundary haystack.old offset
+        → IfOk result (λ m. match_map (λ g. g.now) m ≡ list_answer globs.now (chars (drop offset haystack.old)) is_dir) }
+    ensures same { haystack.new ≡ haystack.old }
     ensures succeeds { AreShortRules globs.now → IsOk result }
 {
     matching_is_decided();
-    match index.last_match(globs, text, is_dir)? {
+    match index.last_match_after(globs, haystack, offset, is_dir)? {
         Some(i) => Ok(globs[i].decision()),
         None => Ok(Match::None),
     }
+}
+
+/// As `last_answer`, for what follows an offset in a text.
+fn answer_after<'g>(
+    globs: &'g [Glob],
+    text: &str,
+    offset: usize,
+    is_dir: bool,
+) -> Result<Match<&'g Glob>, Error>
+    ensures out_of_memory { IfErr result (λ e. problem_of e ≡ memory) }
+    ensures answered { IsCharBoundary text.now offset
+        → IfOk result (λ m. match_map (λ g. g.now) m ≡ list_answer globs.now (chars (drop offset text.now)) is_dir) }
+    ensures succeeds { AreShortRules globs.now → IsOk result }
+{
+    if !text.is_char_boundary(offset) {
+        return Ok(Match::None);
+    }
+    last_answer(globs, &text[offset..], is_dir)
 }
 
 /// The answer of the rules asked one by one, from the last.

@@ -1,6 +1,6 @@
 //! A matcher of rules.
-ghost use Rattle.std.specs.Prelude.{◌≡◌, ◌+◌, ◌==◌, IfOk, IfErr, IsOk, length, string_bytes};
-ghost use Rattle.std.specs.Str.{chars};
+ghost use Rattle.std.specs.Prelude.{◌≡◌, ◌+◌, ◌==◌, IfOk, IfErr, IsOk, drop, length, string_bytes};
+ghost use Rattle.std.specs.Str.{IsCharBoundary, chars};
 ghost use Rattle.ignore_base.specs.Match.{match_map};
 ghost use Rattle.ignore_base.specs.Problem.{problem_of, memory};
 ghost use Rattle.ignore_rules.specs.Answer.{answer, list_answer};
@@ -11,6 +11,7 @@ use crate::gitignore::glob::Glob;
 use crate::gitignore::kept::{Kept, RootedRules};
 use ignore_base::text::strip;
 use ignore_base::{Error, Match};
+use ignore_set::Haystack;
 use std::alloc::{AllocError, Global};
 use std::marker::Model;
 
@@ -127,7 +128,28 @@ impl Gitignore {
         ensures out_of_memory { IfErr result (λ e. problem_of e ≡ memory) }
         ensures succeeds { AreShortRules self.now.rules → IsOk result }
     {
-        self.kept.answer(stripped, is_dir)
+        self.kept.answer(&mut Haystack::new(stripped), 0, is_dir)
+    }
+
+    /// For dependents: as `answer`, of what follows an offset in a path of which other matchers are
+    /// asked too, each by an offset of its own: what the rules look for in a path is looked for once.
+    /// Where the offset is within a character, or beyond the path, there is no match.
+    ///
+    /// # Errors
+    /// As `matched`.
+    pub fn answer_after(
+        &self,
+        path: &mut Haystack<'_>,
+        offset: usize,
+        is_dir: bool,
+    ) -> Result<Match<&Glob>, Error>
+        ensures answered { IsCharBoundary path.old offset → IfOk result (λ m. match_map (λ g. g.now) m
+            ≡ list_answer self.now.rules (chars (drop offset path.old)) is_dir) }
+        ensures same { path.new ≡ path.old }
+        ensures out_of_memory { IfErr result (λ e. problem_of e ≡ memory) }
+        ensures succeeds { AreShortRules self.now.rules → IsOk result }
+    {
+        self.kept.answer(path, offset, is_dir)
     }
 }
 

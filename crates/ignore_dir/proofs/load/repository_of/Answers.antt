@@ -4,8 +4,8 @@ use Rattle.ignore_dir.specs.Load.{is_there}
 use Rattle.ignore_dir.proofs.load.repository_of.Goals as goal
 
 pub returns-clause-mark : goal.returns-clause-mark
-returns-clause-mark g c = λ tree h.
-    c.in_ok-mark.ensures.value tree h (c.in_ok-kind.ensures.there tree h
+returns-clause-mark g c = λ tree h shows.
+    c.in_ok-mark.ensures.value tree h shows (c.in_ok-kind.ensures.there tree h
     ∙ ap (is_there tree) (c.as_str-path.ensures.value ∙ c.in_ok-git.ensures.joins))
 
 pub returns-clause-exclude : goal.returns-clause-exclude

@@ -8,17 +8,16 @@ use Rattle.ignore_dir.proofs.LoadLemmas.{rules_of_none, no_names, one_name_more}
 use Rattle.ignore_dir.proofs.rule_files.rules_of_names.Goals as goal
 
 pub returns-then-is_empty-clause-read : goal.returns-then-is_empty-clause-read
-returns-then-is_empty-clause-read g c = λ tree h.
+returns-then-is_empty-clause-read g c = λ tree h shows.
     rw (no_names c.args.names.now (sym c.is_empty.ensures ∙ c.if-is_empty.true))
     (rules_of_none tree c.args.ground.now.settings.now c.args.dir.now c.empty.result c.empty.ensures)
 
 pub loop-name-preserved : goal.loop-name-preserved
 loop-name-preserved g c = record {
-  added = λ tree h.
-      let path = c.as_str-in-loop-name.ensures.value ∙ (c.in_ok-path.ensures.joins ∙ ap (join_of c.args.dir.now) c.as_str.ensures) in
+  added = λ tree h shows.
       one_name_more tree c.args.ground.now.settings.now c.args.dir.now c.args.names.now c.loop-name.name-index c.name-item.result
-      _ _ _ _ _ _ c.loop-name-test.true c.name-item.is path (c.loop-name.invariant.added tree h)
-      (c.in_ok-error.ensures.added tree h) c.in_ok-push_some.ensures.added;
+      _ _ _ _ _ _ c.loop-name-test.true c.name-item.is (ap (join_of c.args.dir.now) c.as_str.ensures)
+      (c.loop-name.invariant.added tree h shows) (c.in_ok-error.ensures.added tree h shows) c.in_ok-push_some.ensures.added;
   soft = subst AllSoft (sym c.in_ok-push_some.ensures.added)
       (more_soft (map problem_of c.loop-name.errors.items)
       (option_map problem_of c.in_ok-error.error) c.loop-name.invariant.soft c.in_ok-error.ensures.soft);

@@ -16,19 +16,19 @@ pub returns-then-not-has_git-clause-answered : goal.returns-then-not-has_git-cla
 returns-then-not-has_git-clause-answered c = λ chain is after.
     let require = c.args.settings.now.require_git in
     let slots = c.args.levels.now.slots.items in
-    let text = c.args.asked.now.text.now in
+    let text = c.args.sought.now.text in
     let has = c.has_git.ensures
     ∙ (ap (λ o. not require || is_some o) c.mark-mark.ensures ∙ ap (λ (b : Bool). not require || b) (chain-has_mark slots text is)) in
-    let all = git_sited c.args.global.now (cut (asked_in text chain)) (trim_of c.args.asked.now.path.now) c.args.asked.now.is_dir in
+    let all = git_sited c.args.global.now (cut (asked_in text chain)) (trim_of c.args.sought.now.path.now) c.args.sought.now.is_dir in
     sym (ap (λ (b : Bool). cond b all None) (sym has ∙ c.if-not-has_git.true))
 
 pub returns-clause-answered : goal.returns-clause-answered
 returns-clause-answered c = λ chain is after.
     let require = c.args.settings.now.require_git in
     let global = c.args.global.now in
-    let text = c.args.asked.now.text.now in
-    let path = trim_of c.args.asked.now.path.now in
-    let is_dir = c.args.asked.now.is_dir in
+    let text = c.args.sought.now.text in
+    let path = trim_of c.args.sought.now.path.now in
+    let is_dir = c.args.sought.now.is_dir in
     let slots = c.args.levels.now.slots.items in
     let has = c.has_git.ensures
     ∙ (ap (λ o. not require || is_some o) c.mark-mark.ensures ∙ ap (λ (b : Bool). not require || b) (chain-has_mark slots text is)) in

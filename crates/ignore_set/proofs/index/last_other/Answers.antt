@@ -13,7 +13,7 @@ use Rattle.ignore_set.proofs.index.last_other.Goals as goal
 pub returns-then-i-best-clause-value : goal.returns-then-i-best-clause-value
 returns-then-i-best-clause-value g c =
     let ms = map g.M.HasPattern.member c.args.members.now in
-    let others = c.args.others.now in
+    let others = c.args.left.now.needles.now in
     let n = c.index-others-j.result in
     let j = c.loop-j.j - 1 in
     let next : c.loop-j.j ≡ j + 1 = omega arith in
@@ -29,7 +29,7 @@ returns-then-i-best-clause-count g c =
 pub loop-j-preserved-then-i-tried : goal.loop-j-preserved-then-i-tried
 loop-j-preserved-then-i-tried g c =
     let ms = map g.M.HasPattern.member c.args.members.now in
-    let others = c.args.others.now in
+    let others = c.args.left.now.needles.now in
     let n = c.index-others-j.result in
     let j = c.loop-j.j - 1 in
     let next : c.loop-j.j ≡ j + 1 = omega arith in
@@ -48,7 +48,7 @@ loop-j-preserved-then-i-tried g c =
 pub loop-j-preserved-then-not-is_in : goal.loop-j-preserved-then-not-is_in
 loop-j-preserved-then-not-is_in g c =
     let ms = map g.M.HasPattern.member c.args.members.now in
-    let others = c.args.others.now in
+    let others = c.args.left.now.needles.now in
     let n = c.index-others-j.result in
     let j = c.loop-j.j - 1 in
     let next : c.loop-j.j ≡ j + 1 = omega arith in
@@ -66,7 +66,7 @@ loop-j-preserved-then-not-is_in g c =
 pub loop-j-preserved-then-not-may_be_in : goal.loop-j-preserved-then-not-may_be_in
 loop-j-preserved-then-not-may_be_in g c =
     let ms = map g.M.HasPattern.member c.args.members.now in
-    let others = c.args.others.now in
+    let others = c.args.left.now.needles.now in
     let n = c.index-others-j.result in
     let j = c.loop-j.j - 1 in
     let next : c.loop-j.j ≡ j + 1 = omega arith in
@@ -75,7 +75,7 @@ loop-j-preserved-then-not-may_be_in g c =
     let tried = subst (λ k. IsTried c.args.text.now c.args.is_dir ms others k c.loop-j.tried) next c.loop-j.invariant.tried in
     record {
       none = none_more c.args.text.now c.args.is_dir ms others j n here
-          (λ m h has a. false≢true (sym c.if-not-may_be_in.true ∙ c.may_be_in.ensures c.args.text.now c.mask_of-mask.ensures has)) none;
+          (λ m h has a. false≢true (sym c.if-not-may_be_in.true ∙ c.may_be_in.ensures c.args.text.now c.requires.over has)) none;
       tried = tried_before c.args.text.now c.args.is_dir ms others j c.loop-j.tried tried;
       few = c.loop-j.invariant.few;
       least = omega (arith, c.loop-j-test.true);
@@ -85,7 +85,7 @@ pub bounds-members-i : goal.bounds-members-i
 bounds-members-i g c =
     let member = g.M.HasPattern.member in
     let xs = c.args.members.now in
-    let others = c.args.others.now in
+    let others = c.args.left.now.needles.now in
     let n = c.index-others-j.result in
     let j = c.loop-j.j - 1 in
     let here = slice_get-get_or others j n (omega arith) ∙ ap Some (sym c.index-others-j.is) in
@@ -100,7 +100,7 @@ returns-then-yes-clause-value g c =
     let member = g.M.HasPattern.member in
     let xs = c.args.members.now in
     let ms = map member xs in
-    let others = c.args.others.now in
+    let others = c.args.left.now.needles.now in
     let n = c.index-others-j.result in
     let x = c.index-members-i.result in
     let j = c.loop-j.j - 1 in
@@ -117,7 +117,7 @@ returns-then-yes-clause-value g c =
 pub returns-then-yes-clause-count : goal.returns-then-yes-clause-count
 returns-then-yes-clause-count g c =
     let ms = map g.M.HasPattern.member c.args.members.now in
-    let others = c.args.others.now in
+    let others = c.args.left.now.needles.now in
     let n = c.index-others-j.result in
     let j = c.loop-j.j - 1 in
     let here = slice_get-get_or others j n (omega arith) ∙ ap Some (sym c.index-others-j.is) in
@@ -131,7 +131,7 @@ loop-j-preserved g c =
     let member = g.M.HasPattern.member in
     let xs = c.args.members.now in
     let ms = map member xs in
-    let others = c.args.others.now in
+    let others = c.args.left.now.needles.now in
     let n = c.index-others-j.result in
     let x = c.index-members-i.result in
     let text = c.args.text.now in
@@ -160,7 +160,7 @@ loop-j-preserved g c =
 pub returns-clause-value : goal.returns-clause-value
 returns-clause-value g c =
     let ms = map g.M.HasPattern.member c.args.members.now in
-    let others = c.args.others.now in
+    let others = c.args.left.now.needles.now in
     let from = c.first_from-from.result in
     let none = subst (λ k. NoneFrom c.args.text.now c.args.is_dir ms others k)
     (let e : c.loop-j.j ≡ from = omega (arith, c.loop-j-test.false, c.loop-j.invariant.least) in e) c.loop-j.invariant.none in

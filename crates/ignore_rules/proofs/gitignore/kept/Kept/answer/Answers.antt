@@ -12,5 +12,5 @@ returns-in-Shared-clause-succeeds c short =
 
 pub returns-in-Alone-clause-succeeds : goal.returns-in-Alone-clause-succeeds
 returns-in-Alone-clause-succeeds c short =
-    c.last_answer.ensures.succeeds
+    c.answer_after.ensures.succeeds
     (subst AreShortRules (ap (λ (k : Kept). (kept_rules k).rules) c.in-Alone.is ∙ sym c.globs.ensures) short)

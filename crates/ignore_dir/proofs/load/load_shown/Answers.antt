@@ -1,7 +1,7 @@
 use Rattle.std.proofs.Common.{subst, sym}
 use Rattle.ignore_dir.specs.Soft.{IsSoft}
 use Rattle.ignore_dir.proofs.SoftLemmas.{joined_four-soft}
-use Rattle.ignore_dir.proofs.load.load_directory.Goals as goal
+use Rattle.ignore_dir.proofs.load.load_shown.Goals as goal
 
 pub returns-clause-soft : goal.returns-clause-soft
 returns-clause-soft g c =
