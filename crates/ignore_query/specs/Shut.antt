@@ -18,4 +18,3 @@ abbrev pub open_in : Option Kept → Option (Option Place)
 open_in None = None
 open_in (Some Ignored) = None
 open_in (Some (Loaded place)) = Some place
-

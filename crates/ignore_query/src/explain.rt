@@ -39,12 +39,7 @@ fn beyond_by(settings: &Settings, depth: usize) -> Reason
 }
 
 /// The answer that goes with a reason, for a path at a depth.
-fn answer_of(
-    settings: &Settings,
-    depth: usize,
-    is_dir: bool,
-    reason: &Reason,
-) -> IncrementalMatch
+fn answer_of(settings: &Settings, depth: usize, is_dir: bool, reason: &Reason) -> IncrementalMatch
     ensures { result ≡ answer_of settings.now depth is_dir (query_why_of reason.now) }
 {
     match reason {

@@ -33,7 +33,12 @@ fn a_tool_asks_about_one_path(rt: HostRuntime) -> Result<(), Fail> {
 }
 
 /// Whether the reason for which a file of the folder is left out is this one.
-fn is_left_out_by(alloc: Global, tree: &MemoryTree, path: &str, reason: &str) -> Result<bool, Error> {
+fn is_left_out_by(
+    alloc: Global,
+    tree: &MemoryTree,
+    path: &str,
+    reason: &str,
+) -> Result<bool, Error> {
     let mut matcher = matcher_below(alloc, tree, &UNKNOWN, "/p")?;
     match left_out(alloc, &mut matcher, tree, path)? {
         Some(text) => Ok(text.as_str() == reason),
