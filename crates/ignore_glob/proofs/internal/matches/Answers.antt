@@ -3,7 +3,7 @@ use Rattle.std.specs.Str.{chars}
 use Rattle.std.proofs.lemmas.Bool.Decides.{same_from_decides}
 use Rattle.ignore_glob.specs.Reading.{Reading, Matches}
 use Rattle.ignore_glob.proofs.DoesMatchLemmas.{matching_decided}
-use Rattle.ignore_glob.proofs.glob.pattern.Pattern.matches.Goals as goal
+use Rattle.ignore_glob.proofs.internal.matches.Goals as goal
 
 pub returns-clause-decided : goal.returns-clause-decided
 returns-clause-decided c =
