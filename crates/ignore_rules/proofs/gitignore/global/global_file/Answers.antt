@@ -17,7 +17,7 @@ returns-then-branch-clause-found g c = λ tree honest.
     let here = chosen tree path c.as_str.result.now _ c.as_str.ensures.value (c.in_ok-is_file-in-Some.ensures tree honest) in (
       Some path,
       subst (λ (found : Option (List ℕ)). IsExcludesPath tree c.args.env.now found) (ap (option_map string_bytes) c.in-Some.is)
-          (c.in_ok-gitconfig_excludes_path.ensures.found tree honest),
+          (c.in_ok-excludes_path.ensures.found tree honest),
       sym (here ∙ ap (λ b. cond b (Some path) None) c.if-branch.true),
     )
 
@@ -27,6 +27,6 @@ returns-else-branch-clause-found g c = λ tree honest.
     let here = chosen tree path c.as_str.result.now _ c.as_str.ensures.value (c.in_ok-is_file-in-Some.ensures tree honest) in (
       Some path,
       subst (λ (found : Option (List ℕ)). IsExcludesPath tree c.args.env.now found) (ap (option_map string_bytes) c.in-Some.is)
-          (c.in_ok-gitconfig_excludes_path.ensures.found tree honest),
+          (c.in_ok-excludes_path.ensures.found tree honest),
       sym (here ∙ ap (λ b. cond b (Some path) None) c.if-branch.false),
     )
