@@ -15,5 +15,5 @@ pub fn matches(pattern: &Pattern, text: &str) -> Result<bool, AllocError>
     ensures decided { IfOk result (λ yes. yes ≡ does_match pattern.now (chars text.now)) }
     ensures succeeds { has_braces pattern.now.tokens ≡ false → positions pattern.now.tokens ≤ 62 → IsOk result }
 {
-    pattern.matcher().matches(text)
+    Ok(pattern.matcher().matches(text)?)
 }

@@ -5,8 +5,11 @@ use Rattle.ignore_glob.specs.Reading.{Reading, Matches}
 use Rattle.ignore_glob.proofs.DoesMatchLemmas.{matching_decided}
 use Rattle.ignore_glob.proofs.internal.matches.Goals as goal
 
+pub returns-clause-value : goal.returns-clause-value
+returns-clause-value c =
+    let R : Reading → Type 0 = λ r. IsTrue c.in_ok-matches.field-0 ↔ Matches r (chars c.args.text.now) in
+    subst R c.matcher.ensures c.in_ok-matches.ensures.value
+
 pub returns-clause-decided : goal.returns-clause-decided
 returns-clause-decided c =
-    let text = chars c.args.text.now in
-    let R : Reading → Type 0 = λ r. IsTrue c.in_ok-matches.field-0 ↔ Matches r text in
-    same_from_decides _ _ (subst R c.self.view_is c.in_ok-matches.ensures.value) (matching_decided c.args.self.now text)
+    same_from_decides _ _ (returns-clause-value c) (matching_decided c.args.pattern.now (chars c.args.text.now))
