@@ -60,7 +60,11 @@ impl GitignoreBuilder {
         Ok(internal::add(self, files, path)?)
     }
 
-    pub(crate) fn add_contents(&mut self, path: &str, contents: &Contents) -> Result<Option<Error>, AllocError>
+    pub(crate) fn add_contents(
+        &mut self,
+        path: &str,
+        contents: &Contents,
+    ) -> Result<Option<Error>, AllocError>
         ensures added { IfOk result (λ problem. AddsContents path.now (Ok contents.now) self.old self.new (option_map problem_of problem)) }
         ensures unchanged { OnErr result (self.new ≡ self.old) }
     {

@@ -274,7 +274,11 @@ fn answer_after<'g>(
 }
 
 /// The answer of the rules asked one by one, from the last.
-fn last_answer<'g>(globs: &'g [Glob], text: &str, is_dir: bool) -> Result<Match<&'g Glob>, AllocError>
+fn last_answer<'g>(
+    globs: &'g [Glob],
+    text: &str,
+    is_dir: bool,
+) -> Result<Match<&'g Glob>, AllocError>
     ensures answered { IfOk result (λ m. match_map (λ g. g.now) m ≡ list_answer globs.now (chars text.now) is_dir) }
     ensures succeeds { AreShortRules globs.now → IsOk result }
 {

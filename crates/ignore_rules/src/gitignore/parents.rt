@@ -66,7 +66,10 @@ fn nearest_answer<'g>(
     }
 }
 
-fn nearest_parent_answer<'g>(matcher: &'g Gitignore, text: &str) -> Result<Match<&'g Glob>, AllocError>
+fn nearest_parent_answer<'g>(
+    matcher: &'g Gitignore,
+    text: &str,
+) -> Result<Match<&'g Glob>, AllocError>
     requires { slice_index text.now 0 ≢ 47 }
     ensures answered { IfOk result (λ m. match_map (λ g. g.now) m ≡ directories_answer matcher.now.rules (parents (chars text.now))) }
     ensures succeeds { AreShortRules matcher.now.rules → IsOk result }
