@@ -1,2 +1,4 @@
 pub mod Owners
 pub mod Adding
+pub mod Telling
+pub mod Asking

@@ -19,6 +19,7 @@ use Rattle.ignore_c.specs.declared.rules.Reason.{Reason}
 -- the matcher that a handle keeps, if it keeps one
 abbrev pub rules_of : Kept → Option Ruleset
 rules_of (keeps.Lines lines) = None
+rules_of (keeps.Files held) = None
 rules_of (keeps.Rules rules) = Some rules
 
 -- what these rules say of a path, alone or with its parents
@@ -98,3 +99,4 @@ counts_of rules = record { ignores = ignore_count rules.rules; whitelists = whit
 abbrev pub Counted : Kept → ℕ → Counts → Type 0
 Counted (keeps.Rules rules) code counts = (code ≡ 0) × (counts ≡ counts_of rules)
 Counted (keeps.Lines lines) code counts = (code ≡ 9) × (counts ≡ record { ignores = 0; whitelists = 0 })
+Counted (keeps.Files held) code counts = (code ≡ 9) × (counts ≡ record { ignores = 0; whitelists = 0 })

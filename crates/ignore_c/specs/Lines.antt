@@ -26,11 +26,13 @@ IsText text (Err refusal) = refusal ≡ NoMemory
 abbrev pub building_of : Kept → Option Building
 building_of (keeps.Lines lines) = Some lines.builder
 building_of (keeps.Rules rules) = None
+building_of (keeps.Files held) = None
 
 -- what is wrong with what was added last, if anything
 abbrev pub problem_in : Kept → Option Problem
 problem_in (keeps.Lines lines) = option_map problem_of lines.problem
 problem_in (keeps.Rules rules) = None
+problem_in (keeps.Files held) = None
 
 -- the builder of which later lines are read by these options
 abbrev pub read_with : Building → RuleOptions → Building
@@ -126,3 +128,4 @@ TellsText (Some problem) code text = ((code ≡ 0) × (text ≡ problem_text pro
 abbrev pub TellsProblem : Kept → ℕ → Bytes → Type 0
 TellsProblem (keeps.Lines lines) code text = TellsText (option_map problem_of lines.problem) code text
 TellsProblem (keeps.Rules rules) code text = (code ≡ refusal_code Misused) × (text ≡ [])
+TellsProblem (keeps.Files held) code text = (code ≡ refusal_code Misused) × (text ≡ [])

@@ -194,12 +194,12 @@ pub(crate) fn count(kept: &Kept) -> (u32, Counts)
             };
             (0, counts)
         }
-        Kept::Lines(_) => {
-            let counts = Counts {
-                ignores: 0,
-                whitelists: 0,
-            };
-            (Refused::Misused.code(), counts)
-        }
+        Kept::Lines(_) => (Refused::Misused.code(), NO_COUNTS),
+        Kept::Files(_) => (Refused::Misused.code(), NO_COUNTS),
     }
 }
+
+const NO_COUNTS: Counts = Counts {
+    ignores: 0,
+    whitelists: 0,
+};

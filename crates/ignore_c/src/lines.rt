@@ -1,5 +1,5 @@
 //! Rules to which lines are added, as a handle keeps them.
-ghost use Rattle.std.specs.Prelude.{◌≡◌, IfOk, IfErr, IsOk, Ok, Err, Some, option_map, string_bytes};
+ghost use Rattle.std.specs.Prelude.{◌≡◌, [], IfOk, IfErr, IsOk, Ok, Err, Some, option_map, string_bytes};
 ghost use Rattle.ignore_base.specs.Errors.{problem_text};
 ghost use Rattle.ignore_base.specs.Problem.{problem_of};
 ghost use Rattle.ignore_rules.specs.RuleFile.{is_memory};
@@ -154,14 +154,19 @@ pub(crate) fn last_problem(alloc: Global, kept: &Kept) -> Problem
                 ..
             },
         ) => told_problem(alloc, error),
-        Kept::Lines(Lines { problem: None, .. }) => Problem {
-            code: 1,
-            text: String::new(alloc),
-        },
-        Kept::Rules(_) => Problem {
-            code: Refused::Misused.code(),
-            text: String::new(alloc),
-        },
+        Kept::Lines(Lines { problem: None, .. }) => no_problem(alloc, 1),
+        Kept::Rules(_) => no_problem(alloc, Refused::Misused.code()),
+        Kept::Files(_) => no_problem(alloc, Refused::Misused.code()),
+    }
+}
+
+fn no_problem(alloc: Global, code: u32) -> Problem
+    ensures code { result.code ≡ code }
+    ensures text { string_bytes result.text ≡ [] }
+{
+    Problem {
+        code,
+        text: String::new(alloc),
     }
 }
 
@@ -177,7 +182,8 @@ fn told_problem(alloc: Global, error: &Error) -> Problem
     }
 }
 
-fn text_of_error(alloc: Global, error: &Error) -> Result<String, AllocError>
+/// The text of an error.
+pub(crate) fn text_of_error(alloc: Global, error: &Error) -> Result<String, AllocError>
     ensures { IfOk result (λ text. string_bytes text ≡ problem_text (problem_of error.now)) }
 {
     Ok(format!(in alloc; "{error}")?)
