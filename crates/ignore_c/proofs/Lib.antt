@@ -1,4 +1,1 @@
 pub mod Owners
-pub mod Adding
-pub mod Telling
-pub mod Asking

@@ -1,17 +1,17 @@
 //! The exports of builders.
 ghost use Rattle.std.specs.Prelude.{◌≡◌, ℕ, Option, Result, Ok, Err, IfOk, IfErr, Some, None};
-ghost use Rattle.ignore_c.specs.Stops.{ended_code};
-ghost use Rattle.ignore_c.specs.Setups.{Begins, Set, TextSet, on_options, with_setting, if_set};
-ghost use Rattle.ignore_c.specs.declared.handle.Kept.{Kept};
-ghost use Rattle.ignore_c.specs.declared.setting.Setting.TheVariants as setting;
-ghost use Rattle.ignore_c.specs.declared.setup.Text.TheVariants as label;
-ghost use Rattle.ignore_c.specs.declared.stopped.Stopped.{Stopped};
+ghost use Rattle.ignore_kept.specs.Stops.{ended_code};
+ghost use Rattle.ignore_kept.specs.Setups.{Begins, Set, TextSet, on_options, with_setting, if_set};
+ghost use Rattle.ignore_kept.specs.declared.kept.Kept.{Kept};
+ghost use Rattle.ignore_kept.specs.declared.setting.Setting.TheVariants as setting;
+ghost use Rattle.ignore_kept.specs.declared.setup.Text.TheVariants as label;
+ghost use Rattle.ignore_kept.specs.declared.stopped.Stopped.{Stopped};
 
-use crate::handle::{Handle, Kept, close, open};
-use crate::setting::Setting;
-use crate::setup::{self, Text};
-use crate::stopped::{Stopped, done};
+use crate::handle::{Handle, close, open};
 use core::mem;
+use ignore_kept::setting::Setting;
+use ignore_kept::setup::{self, Text};
+use ignore_kept::{Kept, Stopped, done};
 use std::alloc::Global;
 
 /// A text of a builder, and what it says.

@@ -1,17 +1,17 @@
 //! The exports of builders that tell globs, file types and files of rules.
 ghost use Rattle.std.specs.Prelude.{◌≡◌, List, ℕ, length, map, string_bytes};
-ghost use Rattle.ignore_c.specs.Kinds.{setup_in};
-ghost use Rattle.ignore_c.specs.Rooms.{put_in};
-ghost use Rattle.ignore_c.specs.Wishes.{Adds, TellsOf, Wished};
-ghost use Rattle.ignore_c.specs.declared.wish.Wish.TheVariants as wish;
+ghost use Rattle.ignore_kept.specs.Kinds.{setup_in};
+ghost use Rattle.ignore_kept.specs.Rooms.{put_in};
+ghost use Rattle.ignore_kept.specs.Wishes.{Adds, TellsOf, Wished};
+ghost use Rattle.ignore_kept.specs.declared.wish.Wish.TheVariants as wish;
 
-use crate::handle::{Handle, Held, Kept, close, give_back, lend, open};
-use crate::lines::text_of_error;
-use crate::room::put;
-use crate::stopped::{Stopped, done};
-use crate::wish::{self, Wish};
+use crate::handle::{Handle, close, give_back, lend, open};
 use core::mem;
 use ignore::default_types::DEFAULT_TYPES;
+use ignore_kept::done;
+use ignore_kept::lines::Problem;
+use ignore_kept::room::put;
+use ignore_kept::wish::{self, Wish};
 
 fn told(builder: Handle, wish: Wish<'_>) -> (Handle, u32)
     ensures { Wished (map (λ r. (map (λ n. n.now) r.0.now, map (λ g. g.now) r.1.now)) DEFAULT_TYPES) wish.entry builder.value result.1 result.0.value }
@@ -136,27 +136,17 @@ pub extern "C" fn ignore_builder_problem(
     ensures kept { builder.new.value ≡ builder.old.value }
     ensures told { (text : List ℕ) × TellsOf (setup_in builder.old.value) result text × (whole.new ≡ length text) × (room.new ≡ put_in text room.old) }
 {
-    let (code, text) = mem::replace_with(builder, (), |builder, ()| problem_told(builder));
-    *whole = text.len();
-    put(text.as_bytes(), room);
-    code
+    let told = mem::replace_with(builder, (), |builder, ()| problem_told(builder));
+    *whole = told.text.len();
+    put(told.text.as_bytes(), room);
+    told.code
 }
 
-fn problem_told(builder: Handle) -> (Handle, (u32, String))
+fn problem_told(builder: Handle) -> (Handle, Problem)
     ensures kept { result.0.value ≡ builder.value }
-    ensures told { TellsOf (setup_in builder.value) result.1.0 (string_bytes result.1.1) }
+    ensures told { TellsOf (setup_in builder.value) result.1.code (string_bytes result.1.text) }
 {
     let kept = open(builder);
-    let alloc = *Box::allocator(&kept);
-    let told = match &*kept {
-        Kept::Files(Held::Setup(setup)) => match &setup.problem {
-            None => (1, String::new(alloc)),
-            Some(error) => match text_of_error(alloc, error) {
-                Ok(text) => (0, text),
-                Err(_) => (Stopped::Memory.code(), String::new(alloc)),
-            },
-        },
-        _ => (Stopped::Misused.code(), String::new(alloc)),
-    };
+    let told = wish::problem(*Box::allocator(&kept), &kept);
     (close(kept), told)
 }

@@ -1,51 +1,14 @@
 //! What C holds: a pointer to a box, which it owns.
 ghost use Rattle.std.specs.Prelude.{◌≡◌};
 ghost use Rattle.std.specs.Box.Ownership.{box_owns};
-ghost use Rattle.ignore_c.specs.declared.handle.Kept.{Kept};
+ghost use Rattle.ignore_kept.specs.declared.kept.Kept.{Kept};
 ghost use Rattle.ignore_c.specs.Owned.{kept_code};
 
 use crate::loose::Loose;
-use crate::setup::Setup;
-use crate::walked::Walked;
-use ignore::files::MemoryTree;
-use ignore::gitignore::{Gitignore, GitignoreBuilder};
-use ignore::{Error, IncrementalIgnore};
+use ignore_kept::Kept;
 use std::alloc::Global;
 use std::marker::Model;
 use std::mem;
-
-/// Rules that lines are added to, and what is wrong with the line or the file that was added last.
-#[derive(Drop)]
-pub struct Lines {
-    pub(crate) builder: GitignoreBuilder,
-    pub(crate) problem: Option<Error>,
-}
-
-/// What a handle keeps.
-#[derive(Drop)]
-pub enum Kept {
-    /// Rules that lines are added to.
-    Lines(Lines),
-    /// Rules that are asked.
-    Rules(Gitignore),
-    /// What has to do with a tree of files.
-    Files(Held),
-}
-
-/// What a handle keeps that has to do with a tree of files.
-#[derive(Drop)]
-pub enum Held {
-    /// A tree of files, as its host tells it.
-    Tree(MemoryTree),
-    /// The settings of matchers and walks.
-    Setup(Setup),
-    /// A matcher of single paths.
-    Matcher(IncrementalIgnore),
-    /// The items of a walk.
-    Walk(Walked),
-    /// Nothing: a call has what was kept, and gives it back before it ends.
-    Lent,
-}
 
 /// A handle, as C holds it: one pointer, to what it keeps.
 #[repr(C)]
@@ -104,7 +67,7 @@ pub(crate) fn lend(handle: Handle) -> (Handle, Kept)
     ensures { result.1 ≡ handle.value }
 {
     let mut kept = open(handle);
-    let lent = mem::replace(&mut *kept, Kept::Files(Held::Lent));
+    let lent = mem::replace(&mut *kept, Kept::Lent);
     (close(kept), lent)
 }
 

@@ -1,16 +1,16 @@
 //! The exports of matchers of single paths.
 ghost use Rattle.std.specs.Prelude.{◌≡◌, List, ℕ, Result, Ok, Err, IfOk, IfErr, Option, length, string_bytes};
-ghost use Rattle.ignore_c.specs.Matching.{Asks, Builds, ForgetsTold, NormalText};
-ghost use Rattle.ignore_c.specs.Rooms.{put_in};
-ghost use Rattle.ignore_c.specs.Stops.{ended_code};
-ghost use Rattle.ignore_c.specs.declared.handle.Kept.{Kept};
-ghost use Rattle.ignore_c.specs.declared.stopped.Stopped.{Stopped};
+ghost use Rattle.ignore_kept.specs.Matching.{Asks, Builds, ForgetsTold, NormalText};
+ghost use Rattle.ignore_kept.specs.Rooms.{put_in};
+ghost use Rattle.ignore_kept.specs.Stops.{ended_code};
+ghost use Rattle.ignore_kept.specs.declared.kept.Kept.{Kept};
+ghost use Rattle.ignore_kept.specs.declared.stopped.Stopped.{Stopped};
 
-use crate::asker::{self, Asked, Found};
-use crate::handle::{Handle, Kept, close, give_back, lend, open};
-use crate::room::put;
-use crate::stopped::Stopped;
+use crate::handle::{Handle, close, give_back, lend, open};
 use core::mem;
+use ignore_kept::asker::{self, Asked, Found};
+use ignore_kept::room::put;
+use ignore_kept::{Kept, Stopped};
 use std::alloc::Global;
 
 /// Makes the matcher of a builder with one root, and hands out its handle.

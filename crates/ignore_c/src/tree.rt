@@ -1,18 +1,18 @@
 //! The exports of trees.
 ghost use Rattle.std.specs.Prelude.{◌≡◌, Result, Ok, Err, IfOk, IfErr, Some, None};
 ghost use Rattle.std.specs.List.{slice_get};
-ghost use Rattle.ignore_c.specs.Stops.{ended_code};
-ghost use Rattle.ignore_c.specs.Trees.{Begins, Told, Faulted};
-ghost use Rattle.ignore_c.specs.declared.change.Change.TheVariants as change;
-ghost use Rattle.ignore_c.specs.declared.handle.Kept.{Kept};
-ghost use Rattle.ignore_c.specs.declared.stopped.Stopped.{Stopped};
+ghost use Rattle.ignore_kept.specs.Stops.{ended_code};
+ghost use Rattle.ignore_kept.specs.Trees.{Begins, Told, Faulted};
+ghost use Rattle.ignore_kept.specs.declared.change.Change.TheVariants as change;
+ghost use Rattle.ignore_kept.specs.declared.kept.Kept.{Kept};
+ghost use Rattle.ignore_kept.specs.declared.stopped.Stopped.{Stopped};
 
-use crate::change::{self, Change};
-use crate::handle::{Handle, Kept, close, open};
-use crate::stopped::{Stopped, done};
+use crate::handle::{Handle, close, open};
 use core::mem;
 use ignore::Fault;
 use ignore::files::Identity;
+use ignore_kept::change::{self, Change};
+use ignore_kept::{Kept, Stopped, done};
 use std::alloc::Global;
 
 /// The faults of a file system, in the order of their numbers.

@@ -1,16 +1,16 @@
 //! The exports of walks.
 ghost use Rattle.std.specs.Prelude.{◌≡◌, List, ℕ, Result, Ok, Err, IfOk, IfErr, length};
-ghost use Rattle.ignore_c.specs.Rooms.{put_in};
-ghost use Rattle.ignore_c.specs.Stops.{ended_code};
-ghost use Rattle.ignore_c.specs.Walking.{Builds, Nexts};
-ghost use Rattle.ignore_c.specs.declared.handle.Kept.{Kept};
-ghost use Rattle.ignore_c.specs.declared.stopped.Stopped.{Stopped};
+ghost use Rattle.ignore_kept.specs.Rooms.{put_in};
+ghost use Rattle.ignore_kept.specs.Stops.{ended_code};
+ghost use Rattle.ignore_kept.specs.Walking.{Builds, Nexts};
+ghost use Rattle.ignore_kept.specs.declared.kept.Kept.{Kept};
+ghost use Rattle.ignore_kept.specs.declared.stopped.Stopped.{Stopped};
 
-use crate::handle::{Handle, Kept, close, give_back, lend, open};
-use crate::room::put;
-use crate::stopped::Stopped;
-use crate::walked::{self, Told, WalkEntry};
+use crate::handle::{Handle, close, give_back, lend, open};
 use core::mem;
+use ignore_kept::room::put;
+use ignore_kept::walked::{self, Told, WalkEntry};
+use ignore_kept::{Kept, Stopped};
 use std::alloc::Global;
 
 /// Makes all items of a walk of a builder over a tree, and hands out their handle.
