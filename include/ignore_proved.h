@@ -64,7 +64,7 @@ typedef struct ignore_rule_options {
 
 /* The rule that decided. */
 typedef struct ignore_reason {
-    uint64_t line;     /* the number of its line; 0 where that isn't known, as yet always */
+    uint64_t line;     /* the number of its line in its file; 0 where it was added by itself */
     size_t source;     /* bytes of its source: the file of the rule, as it was given */
     size_t pattern;    /* bytes of its line, without white space at the end */
     size_t glob;       /* bytes of the glob that the line stands for */
@@ -349,7 +349,8 @@ uint32_t ignore_matcher_normalize(ignore_matcher *matcher, const uint8_t *path,
 /* Frees a matcher. */
 void ignore_matcher_free(ignore_matcher matcher);
 
-/* The items of a walk of a builder over a tree, made at once. The tree may change afterwards. */
+/* The items of a walk of a builder over a tree. They are made at once, so the tree and the builder
+   may change, or be freed, while they are handed out. */
 typedef struct ignore_walk {
     uint8_t *at;
 } ignore_walk;

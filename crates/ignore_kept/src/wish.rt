@@ -105,6 +105,7 @@ fn globs_of(alloc: Global, root: &str, both_cases: bool) -> Result<OverrideBuild
     Ok(globs)
 }
 
+#[tactic(auto, using(crate::proofs::Wishing::glob_added, crate::proofs::Wishing::glob_refused))]
 fn add_glob(setup: &mut Setup, glob: &[u8]) -> Result<(), Stopped>
     ensures { (rows : List Row) → Takes rows (wish.Glob glob.entry) setup.old result setup.new }
 {
