@@ -68,6 +68,13 @@ fn if_set(is_set: bool, value: usize) -> Option<usize>
     if is_set { Some(value) } else { None }
 }
 
+/// A size, where one is set.
+fn size_if_set(is_set: bool, value: u64) -> Option<u64>
+    ensures { result ≡ if_set is_set value }
+{
+    if is_set { Some(value) } else { None }
+}
+
 /// Adds a root, after the others.
 #[unsafe(no_mangle)]
 pub extern "C" fn ignore_builder_add(builder: &mut Handle, text: &[u8]) -> u32
@@ -308,8 +315,11 @@ pub extern "C" fn ignore_builder_min_depth(builder: &mut Handle, is_set: bool, m
 pub extern "C" fn ignore_builder_max_filesize(builder: &mut Handle, is_set: bool, most: u64) -> u32
     ensures { Set (on_options (with_setting (setting.MaxFilesize (if_set is_set most)))) builder.old.value result builder.new.value }
 {
-    let most = if is_set { Some(most) } else { None };
-    mem::replace_with(builder, Setting::MaxFilesize(most), settled)
+    mem::replace_with(
+        builder,
+        Setting::MaxFilesize(size_if_set(is_set, most)),
+        settled,
+    )
 }
 
 /// As `WalkBuilder::limit`.

@@ -38,6 +38,16 @@ struct News<'n> {
     change: Change<'n>,
 }
 
+/// The fault of a number.
+fn fault_of(number: u32) -> Option<Fault>
+    ensures { result ≡ slice_get FAULTS number }
+{
+    match FAULTS.get(number as usize) {
+        None => None,
+        Some(fault) => Some(*fault),
+    }
+}
+
 /// Begins a tree with the directory `/` alone, and hands out its handle.
 #[unsafe(no_mangle)]
 pub extern "C" fn ignore_tree_new(alloc: Global, cwd: &[u8], out: &mut *mut u8) -> u32
@@ -156,34 +166,37 @@ pub extern "C" fn ignore_tree_remove(tree: &mut Handle, path: &[u8]) -> u32
 }
 
 /// Has the question what is at a path fail.
+#[tactic(auto, using(crate::proofs::Faults::unfaulted))]
 #[unsafe(no_mangle)]
 pub extern "C" fn ignore_tree_fault_stat(tree: &mut Handle, path: &[u8], fault: u32) -> u32
     ensures { Faulted (slice_get FAULTS fault) (λ fault. Told tree.old.value (change.StatFault fault) path.now result tree.new.value) result tree.old.value tree.new.value }
 {
-    match FAULTS.get(fault as usize) {
+    match fault_of(fault) {
         None => Stopped::Misused.code(),
         Some(fault) => {
-            let change = Change::StatFault(*fault);
+            let change = Change::StatFault(fault);
             mem::replace_with(tree, News { path, change }, told)
         }
     }
 }
 
 /// Has the listing of a directory fail.
+#[tactic(auto, using(crate::proofs::Faults::unfaulted))]
 #[unsafe(no_mangle)]
 pub extern "C" fn ignore_tree_fault_list(tree: &mut Handle, path: &[u8], fault: u32) -> u32
     ensures { Faulted (slice_get FAULTS fault) (λ fault. Told tree.old.value (change.ListFault fault) path.now result tree.new.value) result tree.old.value tree.new.value }
 {
-    match FAULTS.get(fault as usize) {
+    match fault_of(fault) {
         None => Stopped::Misused.code(),
         Some(fault) => {
-            let change = Change::ListFault(*fault);
+            let change = Change::ListFault(fault);
             mem::replace_with(tree, News { path, change }, told)
         }
     }
 }
 
 /// Ends the reading of a file by a fault, after so many bytes.
+#[tactic(auto, using(crate::proofs::Faults::unfaulted))]
 #[unsafe(no_mangle)]
 pub extern "C" fn ignore_tree_cut_contents(
     tree: &mut Handle,
@@ -193,10 +206,10 @@ pub extern "C" fn ignore_tree_cut_contents(
 ) -> u32
     ensures { Faulted (slice_get FAULTS fault) (λ fault. Told tree.old.value (change.Cut len fault) path.now result tree.new.value) result tree.old.value tree.new.value }
 {
-    match FAULTS.get(fault as usize) {
+    match fault_of(fault) {
         None => Stopped::Misused.code(),
         Some(fault) => {
-            let change = Change::Cut(len, *fault);
+            let change = Change::Cut(len, fault);
             mem::replace_with(tree, News { path, change }, told)
         }
     }
