@@ -1,6 +1,6 @@
 #!/usr/bin/env python3
-"""Asks the stored vectors on rules, globs, file types, single paths and walks through the package: `vectors.py
-FILE..`, by default the files of `crates/replay/data` and `crates/replay_walks/data`. Of an answer it
+"""Asks the stored vectors on rules, globs, file types, single paths and walks through the package:
+`vectors.py FILE..`, by default those of the crates `replay` and `replay_walks`. Of an answer it
 compares what the package gives: the kind, the line and the glob of the rule that decided, the
 counts, and the texts of errors; what becomes of each path; the items of a walk. A line that it can't
 ask, as one of another kind, is left out, and counted. The last line is `N agree, M differ, K left
@@ -155,10 +155,13 @@ def set_types(builder, ops):
     return refused, error_in(builder.set_types)
 
 
-def verdict_of(builder, path, is_dir):
+def verdict_of(builder, path, is_dir, root="/r"):
     """What the globs or types of a builder say of a path, where nothing else decides."""
     with Tree("/") as tree:
-        tree.add_dir("/r")
+        folder = ""
+        for name in root.strip("/").split("/") if root != "/" else ():
+            folder = f"{folder}/{name}"
+            tree.add_dir(folder)
         with TreeMatcher(builder, tree) as matcher:
             return matcher.match(tree, path, is_dir).decision.name.lower()
 
@@ -170,11 +173,12 @@ def is_plain(path):
 
 def ask_override(given, wanted):
     """What globs of a command line say of a path."""
-    if not is_plain(given["path"]):
-        raise LeftOut("a path that no walk comes to")
-    with Builder("/r", standard_filters=False) as builder:
-        yield wanted["refused"], set_overrides(builder, given["root"], given["ops"])
-        yield wanted["kind"], verdict_of(builder, given["path"], given["is_dir"])
+    root = given["root"]
+    if not is_plain(given["path"]) or not (root == "/" or root[:1] == "/" and is_plain(root[1:])):
+        raise LeftOut("a path that no walk comes to, or a root that isn't in its tree")
+    with Builder(root, standard_filters=False) as builder:
+        yield wanted["refused"], set_overrides(builder, root, given["ops"])
+        yield wanted["kind"], verdict_of(builder, given["path"], given["is_dir"], root)
 
 
 def ask_types(given, wanted):
@@ -183,7 +187,7 @@ def ask_types(given, wanted):
         refused, error = set_types(builder, given["ops"])
         yield wanted["refused"], refused
         if "build" in wanted:
-            yield wanted["build"], error
+            yield wanted["build"] and wanted["build"]["text"], error
         for (path, is_dir), want in zip(given["asks"], wanted.get("answers") or []):
             if is_plain(path):
                 yield want[0], verdict_of(builder, path, is_dir)
@@ -194,6 +198,8 @@ def builder_of(given, tree):
     roots = [given["root"]] if "root" in given else given["roots"]
     if not roots:
         raise LeftOut("no root")
+    if sum(1 for name, *_ in given["set"] if name == "types") > 1:
+        raise LeftOut("file types that begin anew")
     builder, added = Builder(roots[0]).env(**given["env"]), []
     for root in roots[1:]:
         builder.add(root)
@@ -295,5 +301,5 @@ def main(files):
 
 if __name__ == "__main__":
     TOP = pathlib.Path(__file__).resolve().parents[2]
-    DATA = sorted(TOP.glob("crates/replay*/data/*.jsonl"))
+    DATA = sorted([*TOP.glob("crates/replay*/data/*.jsonl"), *TOP.glob("crates/replay*/stdin")])
     sys.exit(main(sys.argv[1:] or DATA))
