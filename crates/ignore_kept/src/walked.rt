@@ -82,6 +82,7 @@ pub struct Told {
 }
 
 /// The next item, which is handed out where its texts fit into so many bytes, and else stays the next.
+#[tactic(auto, using(crate::proofs::Listing::nexts))]
 pub fn next(alloc: Global, kept: &mut Kept, room: usize) -> Told
     ensures { Nexts room kept.old result.code result.entry result.text.items kept.new }
 {
