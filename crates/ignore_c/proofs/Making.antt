@@ -15,9 +15,11 @@ matcher_made builder files setup told kept s t h =
 pub matcher_unmade : (builder files setup told : Kept) (stopped : Stopped) (code : ℕ) → setup ≡ builder → told ≡ files
     → matching.Builds setup told (Err stopped) → code ≡ stop_code stopped
     → (given : Result Kept Stopped) × matching.Builds builder files given × (code ≡ ended_code given)
-matcher_unmade builder files setup told stopped code s t h is =
-    (Err stopped,
-    subst (λ (b : Kept). matching.Builds b files (Err stopped)) s (subst (λ (f : Kept). matching.Builds setup f (Err stopped)) t h), is)
+matcher_unmade builder files setup told stopped code s t h is = (
+  Err stopped,
+  subst (λ (b : Kept). matching.Builds b files (Err stopped)) s (subst (λ (f : Kept). matching.Builds setup f (Err stopped)) t h),
+  is,
+)
 
 -- walk is made of what two handles keep, which were lent
 pub walk_made : (builder files setup told kept : Kept) → setup ≡ builder → told ≡ files → walking.Builds setup told (Ok kept)
@@ -28,6 +30,8 @@ walk_made builder files setup told kept s t h =
 pub walk_unmade : (builder files setup told : Kept) (stopped : Stopped) (code : ℕ) → setup ≡ builder → told ≡ files
     → walking.Builds setup told (Err stopped) → code ≡ stop_code stopped
     → (given : Result Kept Stopped) × walking.Builds builder files given × (code ≡ ended_code given)
-walk_unmade builder files setup told stopped code s t h is =
-    (Err stopped,
-    subst (λ (b : Kept). walking.Builds b files (Err stopped)) s (subst (λ (f : Kept). walking.Builds setup f (Err stopped)) t h), is)
+walk_unmade builder files setup told stopped code s t h is = (
+  Err stopped,
+  subst (λ (b : Kept). walking.Builds b files (Err stopped)) s (subst (λ (f : Kept). walking.Builds setup f (Err stopped)) t h),
+  is,
+)

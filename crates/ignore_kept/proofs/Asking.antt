@@ -28,22 +28,22 @@ module _ (builder files : Kept) (options : Setup) (told : Memory) (b : builder �
   builds_none Invalid h = absurd h
   builds_none (Tree error) h = absurd h
 
--- the one matcher of a builder is the matcher of its options
-pub one_matcher : (tree : Memory) (env : Env) (options taken : WalkOptions) (ms : List IncrementalIgnore) (m : IncrementalIgnore)
-    → taken ≡ options → AreMatchers (tree_of tree) env taken ms → All (λ m. KeepsNothing m.cache) ms → ms ≡ m ∷ []
-    → IsBuilt tree env options (Ok m)
-one_matcher tree env options taken ms m same are fresh one =
-    let fresh_one : All (λ m. KeepsNothing m.cache) (m ∷ []) = subst (λ (l : List IncrementalIgnore). All (λ m. KeepsNothing m.cache) l) one fresh in
-    (subst (λ (b : WalkOptions). AreMatchers (tree_of tree) env b (m ∷ [])) same
-    (subst (λ (l : List IncrementalIgnore). AreMatchers (tree_of tree) env taken l) one are), fresh_one.0)
-
-pub no_matcher : (tree : Memory) (env : Env) (options taken : WalkOptions) (ms : List IncrementalIgnore) (e : Stopped)
-    → taken ≡ options → length ms ≡ length taken.roots → (e ≡ Misused) × (length ms ≢ 1) → IsBuilt tree env options (Err e)
-no_matcher tree env options taken ms e same counted misused =
+-- the one matcher of a builder is the matcher of its options; there is none where it has not one root
+pub one_matcher : (tree : Memory) (env : Env) (options copy taken : WalkOptions) (ms : List IncrementalIgnore)
+    (r : Result IncrementalIgnore Stopped) → copy ≡ options → taken ≡ copy → AreMatchers (tree_of tree) env taken ms
+    → All (λ m. KeepsNothing m.cache) ms → length ms ≡ length taken.roots → IfOk r (λ m. ms ≡ m ∷ [])
+    → IfErr r (λ e. (e ≡ Misused) × (length ms ≢ 1)) → IsBuilt tree env options r
+one_matcher tree env options copy taken ms (Ok m) copied same are fresh counted one misused =
+    let alone : All (λ m. KeepsNothing m.cache) (m ∷ []) =
+    subst (λ (l : List IncrementalIgnore). All (λ m. KeepsNothing m.cache) l) one fresh in (
+      subst (λ (b : WalkOptions). AreMatchers (tree_of tree) env b (m ∷ [])) (same ∙ copied)
+          (subst (λ (l : List IncrementalIgnore). AreMatchers (tree_of tree) env taken l) one are),
+      alone.0,
+    )
+one_matcher tree env options copy taken ms (Err e) copied same are fresh counted one misused =
     subst (λ (s : Stopped). IsBuilt tree env options (Err s)) (sym misused.0)
-    (λ one. misused.1 (counted ∙ ap (λ (b : WalkOptions). length b.roots) same ∙ one))
+    (λ single. misused.1 (counted ∙ ap (λ (b : WalkOptions). length b.roots) (same ∙ copied) ∙ single))
 
--- the answer of a matcher is that of its handle
 answered : (kept files : Kept) (path : Path) (is_dir : Bool) (old : IncrementalIgnore) (told : Memory)
     (r : Result IncrementalMatch Stopped) (new : IncrementalIgnore) → kept ≡ keeping old → files ≡ tree.keeping told
     → InScene old told (λ g. IfOk r (λ m. m ≡ (query g path is_dir).0)) → InScene old told (λ g. Agrees g new.cache)

@@ -52,8 +52,8 @@ pub listed : {S : Type 0} (calls : Callbacks S) (owner : S) (tree : Memory) (env
     → IsListIn calls owner env taken order (tree_of tree) all → IsListOf tree env b (Ok all)
 listed calls owner tree env taken b order all same plain bare h =
     let l : IsListIn calls owner env b Listed (tree_of tree) all =
-        subst (λ (o : WalkOptions). IsListIn calls owner env o Listed (tree_of tree) all) same
-        (subst (λ (o : Order). IsListIn calls owner env taken o (tree_of tree) all) plain h) in
+    subst (λ (o : WalkOptions). IsListIn calls owner env o Listed (tree_of tree) all) same
+    (subst (λ (o : Order). IsListIn calls owner env taken o (tree_of tree) all) plain h) in
     (l.0, l.1, λ g items n is whole. l.2 g items n (bare_scene calls owner b (tree_of tree) l.0 g bare is) whole)
 
 -- why there is no list by such an owner
@@ -66,7 +66,7 @@ unlisted files calls f owner tree env taken b order problem stopped honest same 
     subst (λ (s : Stopped). IsListOf tree env b (Err s)) (sym (is ∙ ap end_of m)) tt
 unlisted files calls f owner tree env taken b order problem stopped honest same plain bare is (inr h) =
     let l = subst (λ (o : WalkOptions). IsAboveLimit files calls f owner env o Listed) same
-        (subst (λ (o : Order). IsAboveLimit files calls f owner env taken o) plain h.1) (tree_of tree) honest in
+    (subst (λ (o : Order). IsAboveLimit files calls f owner env taken o) plain h.1) (tree_of tree) honest in
     subst (λ (s : Stopped). IsListOf tree env b (Err s)) (sym (is ∙ ap end_of h.0))
     (l.0, l.1, λ g items n p whole. l.2 g items n (bare_scene calls owner b (tree_of tree) l.0 g bare p) whole)
 
@@ -74,9 +74,16 @@ module _ (builder files : Kept) (options : Setup) (told : Memory) (taken : WalkO
     (t : files ≡ tree.keeping told) (same : taken ≡ options.options) where
   pub walks : (walk : Walked) → IsListOf told options.env taken (Ok (map item_of walk.items.items)) → walk.given ≡ 0
       → Builds builder files (Ok (keeping walk))
-  walks walk h none =
-      (options, told, walk, ap setup_in b, ap tree_in t,
-      subst (λ (o : WalkOptions). IsListOf told options.env o (Ok (map item_of walk.items.items))) same h, none, refl)
+  walks walk h none = (
+    options,
+    told,
+    walk,
+    ap setup_in b,
+    ap tree_in t,
+    subst (λ (o : WalkOptions). IsListOf told options.env o (Ok (map item_of walk.items.items))) same h,
+    none,
+    refl,
+  )
 
   pub walks_none : (e : Stopped) → IsListOf told options.env taken (Err e) → Builds builder files (Err e)
   walks_none Limit h =

@@ -44,7 +44,12 @@ pub glob_refused : (rows : List Row) (glob : Bor Bytes) (text : Bytes) (old : Se
     → Takes rows (wish.Glob glob) old (Err Invalid) (record old { globs = Some after; problem = Some error })
 glob_refused rows glob text old before after error flag is e same told other (inl m) =
     absurd (cc (subst (λ (p : Problem). is_memory p ≡ false) m (sym told ∙ other)))
-glob_refused rows glob text old before after error flag is e same told other (inr h) =
-    (problem_of error, (before, is, subst (λ (t : Bytes). Refuses before.options t (problem_of error)) e h),
-    (refl, ap (λ (b : Building). record old { globs = Some b; problem = Some error }) same
-    ∙ ap (λ g. record old { globs = g; problem = Some error }) (sym is)))
+glob_refused rows glob text old before after error flag is e same told other (inr h) = (
+  problem_of error,
+  (before, is, subst (λ (t : Bytes). Refuses before.options t (problem_of error)) e h),
+  (
+    refl,
+    ap (λ (b : Building). record old { globs = Some b; problem = Some error }) same
+        ∙ ap (λ g. record old { globs = g; problem = Some error }) (sym is),
+  ),
+)

@@ -38,7 +38,7 @@ pub fn build(setup: &Kept, tree: &Kept) -> Result<Kept, Stopped>
 }
 
 /// The matcher of options with one root.
-#[tactic(auto, using(crate::proofs::Asking::one_matcher, crate::proofs::Asking::no_matcher))]
+#[tactic(auto, using(crate::proofs::Asking::one_matcher))]
 fn matcher_of(
     options: &WalkOptions,
     tree: &MemoryTree,

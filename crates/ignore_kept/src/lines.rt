@@ -61,12 +61,7 @@ pub fn set_options(kept: &mut Kept, options: &RuleOptions) -> Result<(), Refused
 }
 
 /// Adds a line. Its source is none where it is empty.
-pub fn add_line(
-    alloc: Global,
-    kept: &mut Kept,
-    from: &[u8],
-    line: &[u8],
-) -> Result<(), Refused>
+pub fn add_line(alloc: Global, kept: &mut Kept, from: &[u8], line: &[u8]) -> Result<(), Refused>
     ensures { LineAdds kept.old from.now line.now result kept.new }
 {
     let Kept::Lines(lines) = kept else {
