@@ -1,5 +1,5 @@
 -- A matcher is one of what the handle keeps.
-use Rattle.std.proofs.Common.{◌≡◌, ◌≢◌, ℕ, Bool, List, [], ◌∷◌, Result, Ok, Err, IfOk, IfErr, inl, inr, refl, sym, ap, subst, ◌∙◌, length}
+use Rattle.std.proofs.Common.{arith, ◌≡◌, ◌≢◌, ℕ, Bool, List, [], ◌∷◌, Result, Ok, Err, IfOk, IfErr, inl, inr, refl, sym, ap, subst, ◌∙◌, length}
 use Rattle.std.specs.Prelude.{All}
 use Rattle.ignore.specs.WalkWords.{Agrees, AreMatchers, IncrementalIgnore, IncrementalMatch, KeepsNothing, query}
 use Rattle.ignore.specs.declared.options.WalkOptions.{WalkOptions}
