@@ -4,6 +4,7 @@
 #![tactic(auto)]
 
 mod answer;
+mod counting;
 mod environments;
 mod error;
 mod files;
@@ -14,6 +15,7 @@ mod tree_calls;
 mod types;
 
 pub use answer::{Answer, Items, Written};
+pub use counting::{Bounds, Calls, Counting};
 pub use environments::{environment, name_of, variable};
 pub use error::{fault_of, printed, shape};
 pub use hex_digits::bytes_of;

@@ -1,11 +1,13 @@
 //! The answers of a matcher for paths in turn.
 
-use crate::settings::{Machine, items_at};
-use answers::{Answer, Items, but_for_memory, tree_of_calls};
+use crate::settings::{Machine, bounds_of, items_at};
+use answers::{Answer, Bounds, Calls, Counting, Items, but_for_memory, tree_of_calls};
 use ignore::files::MemoryTree;
+use ignore::text::join;
 use ignore::{Error, IncrementalIgnore, IncrementalMatch, WalkBuilder, check_paths};
 use serde_json::Value;
 use std::alloc::{AllocError, Global};
+use std::mem;
 use vectors::{Trouble, flag_at, list, text, text_at};
 
 /// The name of the field with what is done in turn.
@@ -36,6 +38,9 @@ fn stepped(
 ) -> Result<Items, Trouble> {
     let mut subject = Subject {
         matcher: matcher(machine, builder)?,
+        other: matcher(machine, builder)?,
+        latest: Calls::new(alloc),
+        kept: Calls::new(alloc),
         later: None,
     };
     steps(alloc, input, machine, &mut subject)
@@ -48,16 +53,48 @@ fn steps(
     subject: &mut Subject,
 ) -> Result<Items, Trouble> {
     let mut items = Items::new(alloc);
+    let mut bounds = bounds_of(alloc, input)?;
     for step in list(input, STEPS)? {
         items.put_value(Ok(subject.take(alloc, input, machine, step)?));
+        bounds.dirs = dirs_of(step)?;
+        if let Some(excess) = subject.excess(alloc, machine, &bounds, step)? {
+            items.put(excess);
+        }
     }
     Ok(items)
+}
+
+/// How many directories are on the way to the paths of a step, each with its root.
+fn dirs_of(step: &Value) -> Result<u64, Trouble> {
+    match text_at(step, 0, STEPS)? {
+        "ask" | "matched" => Ok(dirs_to(text_at(step, 1, STEPS)?)),
+        "check" => {
+            let mut dirs = 0u64;
+            for item in items_at(step, 1, STEPS)? {
+                dirs = dirs.saturating_add(dirs_to(text_at(item, 0, STEPS)?));
+            }
+            Ok(dirs)
+        }
+        _ => Ok(0),
+    }
+}
+
+/// How many directories are on the way to a path, with its root.
+pub(super) fn dirs_to(path: &str) -> u64 {
+    let slashes = path.bytes().filter(|b: &u8| *b == b'/').count() as u64;
+    slashes.saturating_add(1)
 }
 
 /// A matcher that is asked, and the tree that is there from a step `tree` on.
 #[derive(Drop)]
 struct Subject {
     matcher: IncrementalIgnore,
+    /// Another one, which says what is ignored on the way to a path.
+    other: IncrementalIgnore,
+    /// The calls of the last step.
+    latest: Calls,
+    /// The calls since the matcher kept nothing.
+    kept: Calls,
     later: Option<MemoryTree>,
 }
 
@@ -75,10 +112,79 @@ impl Subject {
             "tree" => self.later = Some(later_tree(alloc, input, step)?),
             _ => {
                 let tree = self.later.as_ref().unwrap_or(&machine.tree);
-                return done(alloc, tree, &mut self.matcher, step);
+                let files = Counting::new(alloc, tree);
+                let value = done(alloc, &files, &mut self.matcher, step)?;
+                self.latest = files.taken(alloc);
+                return Ok(value);
             }
         }
         Ok(Value::Null)
+    }
+
+    /// What was too much of the calls of a step, if anything was: by the bounds, below a directory
+    /// that is ignored, or a file that was read since the matcher kept nothing.
+    fn excess(
+        &mut self,
+        alloc: Global,
+        machine: &Machine,
+        bounds: &Bounds<'_>,
+        step: &Value,
+    ) -> Result<Option<&'static str>, Trouble> {
+        let latest = mem::replace(&mut self.latest, Calls::new(alloc));
+        if let Some(excess) = bounds.excess(&latest) {
+            return Ok(Some(excess));
+        }
+        if self.is_below_ignored(alloc, machine, &latest, step)? {
+            return Ok(Some("a directory that is ignored is asked"));
+        }
+        match text_at(step, 0, STEPS)? {
+            "clone" | "tree" | "forget" => {
+                self.kept = Calls::new(alloc);
+                Ok(None)
+            }
+            _ => {
+                self.kept.append(latest)?;
+                Ok(bounds.reads_again(&self.kept))
+            }
+        }
+    }
+
+    /// Whether something is asked below a directory that is ignored, on the way to the path of a
+    /// step. After a change of the tree none is known.
+    fn is_below_ignored(
+        &mut self,
+        alloc: Global,
+        machine: &Machine,
+        latest: &Calls,
+        step: &Value,
+    ) -> Result<bool, Trouble> {
+        let step_name = text_at(step, 0, STEPS)?;
+        if self.later.is_some() || (step_name != "ask" && step_name != "matched") {
+            return Ok(false);
+        }
+        let path = text_at(step, 1, STEPS)?;
+        for (at, _) in path.match_indices('/') {
+            if self.is_asked_below(alloc, machine, latest, &path[..at])? {
+                return Ok(true);
+            }
+        }
+        Ok(false)
+    }
+
+    /// Whether a directory is ignored, and something below it is asked.
+    fn is_asked_below(
+        &mut self,
+        alloc: Global,
+        machine: &Machine,
+        latest: &Calls,
+        dir: &str,
+    ) -> Result<bool, Trouble> {
+        let found = but_for_memory(self.other.matched(&machine.tree, dir, true))?;
+        if !found.is_ignore() {
+            return Ok(false);
+        }
+        let below = but_for_memory(join(alloc, self.other.root(), dir))?;
+        Ok(latest.has_below(below.as_str()))
     }
 }
 
@@ -103,7 +209,7 @@ pub(super) fn matcher(
 /// `["forget", "a"]`. A question that was out of memory is asked again, of the same matcher.
 fn done(
     alloc: Global,
-    tree: &MemoryTree,
+    tree: &Counting<'_, MemoryTree>,
     matcher: &mut IncrementalIgnore,
     step: &Value,
 ) -> Result<Value, Trouble> {
@@ -128,38 +234,45 @@ fn forgotten(alloc: Global, matcher: &mut IncrementalIgnore, dir: &str) -> Resul
 
 fn answer(
     alloc: Global,
-    tree: &MemoryTree,
+    tree: &Counting<'_, MemoryTree>,
     matcher: &mut IncrementalIgnore,
     step: &Value,
 ) -> Result<Value, Trouble> {
     let (path, is_dir) = (text_at(step, 1, STEPS)?, flag_at(step, 2, STEPS)?);
-    let (found, error) = matched(tree, matcher, path, is_dir)?;
+    let (found, error) = matched(alloc, tree, matcher, path, is_dir)?;
     Ok(shown(alloc, found, &error)?)
 }
 
 fn matched(
-    tree: &MemoryTree,
+    alloc: Global,
+    tree: &Counting<'_, MemoryTree>,
     matcher: &mut IncrementalIgnore,
     path: &str,
     is_dir: bool,
 ) -> Result<(IncrementalMatch, Option<Error>), Trouble> {
     match matcher.matched_with_errors(tree, path, is_dir) {
         Ok(answer) => Ok(answer),
-        Err(_) => but_for_memory(matcher.matched_with_errors(tree, path, is_dir)),
+        Err(_) => {
+            tree.forget(alloc);
+            but_for_memory(matcher.matched_with_errors(tree, path, is_dir))
+        }
     }
 }
 
 /// The answer of `matched`, which has no error.
 fn plain_answer(
     alloc: Global,
-    tree: &MemoryTree,
+    tree: &Counting<'_, MemoryTree>,
     matcher: &mut IncrementalIgnore,
     step: &Value,
 ) -> Result<Value, Trouble> {
     let (path, is_dir) = (text_at(step, 1, STEPS)?, flag_at(step, 2, STEPS)?);
     let found = match matcher.matched(tree, path, is_dir) {
         Ok(found) => Ok(found),
-        Err(_) => but_for_memory(matcher.matched(tree, path, is_dir)),
+        Err(_) => {
+            tree.forget(alloc);
+            but_for_memory(matcher.matched(tree, path, is_dir))
+        }
     };
     Ok(match_value(alloc, found?)?)
 }
@@ -167,23 +280,27 @@ fn plain_answer(
 /// The answers for several paths by one call.
 fn checked(
     alloc: Global,
-    tree: &MemoryTree,
+    tree: &Counting<'_, MemoryTree>,
     matcher: &mut IncrementalIgnore,
     step: &Value,
 ) -> Result<Value, Trouble> {
     let paths = paths_of(alloc, items_at(step, 1, STEPS)?)?;
-    let answers = checked_in(tree, matcher, paths.as_slice())?;
+    let answers = checked_in(alloc, tree, matcher, paths.as_slice())?;
     Ok(shown_all(alloc, answers.as_slice())?)
 }
 
 fn checked_in(
-    tree: &MemoryTree,
+    alloc: Global,
+    tree: &Counting<'_, MemoryTree>,
     matcher: &mut IncrementalIgnore,
     paths: &[(String, bool)],
 ) -> Result<Vec<(IncrementalMatch, Option<Error>)>, Trouble> {
     match check_paths(matcher, tree, paths) {
         Ok(answers) => Ok(answers),
-        Err(_) => but_for_memory(check_paths(matcher, tree, paths)),
+        Err(_) => {
+            tree.forget(alloc);
+            but_for_memory(check_paths(matcher, tree, paths))
+        }
     }
 }
 
