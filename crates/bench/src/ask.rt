@@ -6,10 +6,10 @@ use ignore_rules::gitignore::Gitignore;
 use std::fs;
 
 /// Prints how many of the paths in a file, none of a directory, are ignored by the first rules of
-/// another file, so many at most.
+/// another file, so many at most. The file of paths is opened after those rules are read and built.
 pub(crate) fn ask(rt: &HostRuntime, rules: &str, paths: &str, count: usize) -> Result<(), Error> {
-    let paths = fs::read_to_string(rt, paths)?;
     let matcher = matcher_in(rt, rules, count)?;
+    let paths = fs::read_to_string(rt, paths)?;
     let ignored = ignored(&matcher, paths.as_str())?;
     println!(rt; "{ignored}")?;
     Ok(())

@@ -119,14 +119,16 @@ fn answered(
     if !is_walk {
         return query::asked(alloc, input, machine, &builder, added);
     }
-    walk::asked(
+    let added = added?;
+    let mut answer = walk::asked(
         alloc,
         input,
         &mut builder,
-        added,
         |b: &mut WalkBuilder, limit: u64| {
             b.limit(limit);
         },
         move |b: &WalkBuilder| walk::list_of(alloc, machine, by, b),
-    )
+    )?;
+    answer.put_value("added", added.value());
+    Ok(answer.value()?)
 }

@@ -1,8 +1,8 @@
 //! Runs of the program `igwalk`, with writers in memory.
 
-use super::query::dirs_to;
+use super::query::is_dir_there;
 use crate::settings::{Machine, machine_of};
-use answers::{Answer, Bounds, Counting};
+use answers::{Answer, Bounds, Calls, Counting, Questions};
 use commands::run::run;
 use serde_json::Value;
 use std::alloc::{AllocError, Global};
@@ -77,7 +77,6 @@ fn repeated(alloc: Global, machine: &Machine, words: &[String]) -> Result<Outcom
 }
 
 fn left(alloc: Global, machine: &Machine, words: &[String]) -> Result<Outcome, Trouble> {
-    let bounds = bounds_of(alloc, words)?;
     let mut out: Vec<u8> = Vec::new(alloc);
     let mut err: Vec<u8> = Vec::new(alloc);
     let files = Counting::new(alloc, &machine.tree);
@@ -86,45 +85,49 @@ fn left(alloc: Global, machine: &Machine, words: &[String]) -> Result<Outcome, T
         status: ran.unwrap_or(ENDED),
         out,
         err,
-        excess: bounds.excess(&files.taken(alloc)),
+        excess: excess(alloc, machine, words, &files.taken(alloc))?,
     })
 }
 
-/// How often a run of these words may call the files: for a list by its roots, for a check by its
-/// root and the directories on the way to its paths; a match asks none.
-fn bounds_of<'w>(alloc: Global, words: &'w [String]) -> Result<Bounds<'w>, Trouble> {
-    let mut bounds = Bounds {
-        roots: Vec::new(alloc),
-        dirs: 0,
-        customs: 0,
-        has_sizes: false,
-        follows: false,
-        has_devices: false,
-    };
-    let Some((command, rest)) = words.split_first() else {
-        return Ok(bounds);
-    };
-    match command.as_str() {
-        "list" => {
-            for root in rest {
-                bounds.roots.push(root.as_str())?;
-            }
+/// What is too much of the calls of a run, if anything is: a list is a walk, a check asks about its
+/// paths, and any other run calls no files.
+fn excess(
+    alloc: Global,
+    machine: &Machine,
+    words: &[String],
+    calls: &Calls,
+) -> Result<Option<&'static str>, Trouble> {
+    let mut bounds = Bounds::new(alloc);
+    bounds.has_outside = true;
+    let roots = match words {
+        [command, roots @ ..] if command.as_str() == "list" => roots,
+        [command, root, paths @ ..] if command.as_str() == "check" => {
+            bounds.roots.push(root.as_str())?;
+            let asked = questions(alloc, machine, root.as_str(), paths)?;
+            return Ok(bounds.excess_of_questions(calls, &asked));
         }
-        "check" => check_bounds(&mut bounds, rest)?,
-        _ => {}
+        _ => &[],
+    };
+    for root in roots {
+        bounds.roots.push(root.as_str())?;
     }
-    Ok(bounds)
+    Ok(bounds.excess_of_walk(calls))
 }
 
-fn check_bounds<'w>(bounds: &mut Bounds<'w>, words: &'w [String]) -> Result<(), Trouble> {
-    let Some((root, paths)) = words.split_first() else {
-        return Ok(());
-    };
-    bounds.roots.push(root.as_str())?;
+/// The questions of a check.
+fn questions(
+    alloc: Global,
+    machine: &Machine,
+    root: &str,
+    paths: &[String],
+) -> Result<Questions, Trouble> {
+    let mut asked = Questions::new(alloc);
+    asked.is_dir = is_dir_there(alloc, &machine.tree, root)?;
+    asked.are_looked_up = true;
     for path in paths {
-        bounds.dirs = bounds.dirs.saturating_add(dirs_to(path.as_str()));
+        asked.note(alloc, path.as_str())?;
     }
-    Ok(())
+    Ok(asked)
 }
 
 /// The text of these bytes, or `null`.

@@ -1,13 +1,12 @@
 //! The answers of a matcher for paths in turn.
 
 use crate::settings::{Machine, bounds_of, items_at};
-use answers::{Answer, Bounds, Calls, Counting, Items, but_for_memory, tree_of_calls};
-use ignore::files::MemoryTree;
+use answers::{Answer, Bounds, Calls, Counting, Items, Questions, but_for_memory, tree_of_calls};
+use ignore::files::{Files, MemoryTree, Refusal};
 use ignore::text::join;
 use ignore::{Error, IncrementalIgnore, IncrementalMatch, WalkBuilder, check_paths};
 use serde_json::Value;
 use std::alloc::{AllocError, Global};
-use std::mem;
 use vectors::{Trouble, flag_at, list, text, text_at};
 
 /// The name of the field with what is done in turn.
@@ -39,8 +38,8 @@ fn stepped(
     let mut subject = Subject {
         matcher: matcher(machine, builder)?,
         other: matcher(machine, builder)?,
-        latest: Calls::new(alloc),
-        kept: Calls::new(alloc),
+        calls: Calls::new(alloc),
+        asked: Questions::new(alloc),
         later: None,
     };
     steps(alloc, input, machine, &mut subject)
@@ -53,10 +52,9 @@ fn steps(
     subject: &mut Subject,
 ) -> Result<Items, Trouble> {
     let mut items = Items::new(alloc);
-    let mut bounds = bounds_of(alloc, input)?;
+    let bounds = bounds_of(alloc, input)?;
     for step in list(input, STEPS)? {
         items.put_value(Ok(subject.take(alloc, input, machine, step)?));
-        bounds.dirs = dirs_of(step)?;
         if let Some(excess) = subject.excess(alloc, machine, &bounds, step)? {
             items.put(excess);
         }
@@ -64,25 +62,19 @@ fn steps(
     Ok(items)
 }
 
-/// How many directories are on the way to the paths of a step, each with its root.
-fn dirs_of(step: &Value) -> Result<u64, Trouble> {
+/// The paths that a step asks about.
+fn paths_in<'v>(alloc: Global, step: &'v Value) -> Result<Vec<&'v str>, Trouble> {
+    let mut paths = Vec::new(alloc);
     match text_at(step, 0, STEPS)? {
-        "ask" | "matched" => Ok(dirs_to(text_at(step, 1, STEPS)?)),
+        "ask" | "matched" => paths.push(text_at(step, 1, STEPS)?)?,
         "check" => {
-            let mut dirs = 0u64;
             for item in items_at(step, 1, STEPS)? {
-                dirs = dirs.saturating_add(dirs_to(text_at(item, 0, STEPS)?));
+                paths.push(text_at(item, 0, STEPS)?)?;
             }
-            Ok(dirs)
         }
-        _ => Ok(0),
+        _ => {}
     }
-}
-
-/// How many directories are on the way to a path, with its root.
-pub(super) fn dirs_to(path: &str) -> u64 {
-    let slashes = path.bytes().filter(|b: &u8| *b == b'/').count() as u64;
-    slashes.saturating_add(1)
+    Ok(paths)
 }
 
 /// A matcher that is asked, and the tree that is there from a step `tree` on.
@@ -91,10 +83,10 @@ struct Subject {
     matcher: IncrementalIgnore,
     /// Another one, which says what is ignored on the way to a path.
     other: IncrementalIgnore,
-    /// The calls of the last step.
-    latest: Calls,
-    /// The calls since the matcher kept nothing.
-    kept: Calls,
+    /// The calls of the files since the matcher kept nothing.
+    calls: Calls,
+    /// What it was asked since.
+    asked: Questions,
     later: Option<MemoryTree>,
 }
 
@@ -114,15 +106,15 @@ impl Subject {
                 let tree = self.later.as_ref().unwrap_or(&machine.tree);
                 let files = Counting::new(alloc, tree);
                 let value = done(alloc, &files, &mut self.matcher, step)?;
-                self.latest = files.taken(alloc);
+                self.calls.append(files.taken(alloc))?;
                 return Ok(value);
             }
         }
         Ok(Value::Null)
     }
 
-    /// What was too much of the calls of a step, if anything was: by the bounds, below a directory
-    /// that is ignored, or a file that was read since the matcher kept nothing.
+    /// What is too much of the calls since the matcher kept nothing, if anything is: by the bounds,
+    /// or below a directory that is ignored. After a step that isn't a question it may keep less.
     fn excess(
         &mut self,
         alloc: Global,
@@ -130,42 +122,36 @@ impl Subject {
         bounds: &Bounds<'_>,
         step: &Value,
     ) -> Result<Option<&'static str>, Trouble> {
-        let latest = mem::replace(&mut self.latest, Calls::new(alloc));
-        if let Some(excess) = bounds.excess(&latest) {
-            return Ok(Some(excess));
+        let paths = paths_in(alloc, step)?;
+        if paths.is_empty() {
+            self.calls = Calls::new(alloc);
+            self.asked = Questions::new(alloc);
+            return Ok(None);
         }
-        if self.is_below_ignored(alloc, machine, &latest, step)? {
+        let tree = self.later.as_ref().unwrap_or(&machine.tree);
+        self.asked.is_dir = is_dir_there(alloc, tree, self.matcher.root())?;
+        for path in &paths {
+            self.asked.note(alloc, *path)?;
+        }
+        if self.later.is_none() && self.is_below_ignored(alloc, machine, paths.as_slice())? {
             return Ok(Some("a directory that is ignored is asked"));
         }
-        match text_at(step, 0, STEPS)? {
-            "clone" | "tree" | "forget" => {
-                self.kept = Calls::new(alloc);
-                Ok(None)
-            }
-            _ => {
-                self.kept.append(latest)?;
-                Ok(bounds.reads_again(&self.kept))
-            }
-        }
+        Ok(bounds.excess_of_questions(&self.calls, &self.asked))
     }
 
-    /// Whether something is asked below a directory that is ignored, on the way to the path of a
-    /// step. After a change of the tree none is known.
+    /// Whether something is asked below a directory that is ignored, on the way to one of these
+    /// paths.
     fn is_below_ignored(
         &mut self,
         alloc: Global,
         machine: &Machine,
-        latest: &Calls,
-        step: &Value,
+        paths: &[&str],
     ) -> Result<bool, Trouble> {
-        let step_name = text_at(step, 0, STEPS)?;
-        if self.later.is_some() || (step_name != "ask" && step_name != "matched") {
-            return Ok(false);
-        }
-        let path = text_at(step, 1, STEPS)?;
-        for (at, _) in path.match_indices('/') {
-            if self.is_asked_below(alloc, machine, latest, &path[..at])? {
-                return Ok(true);
+        for path in paths {
+            for (at, _) in path.match_indices('/') {
+                if self.is_asked_below(alloc, machine, &path[..at])? {
+                    return Ok(true);
+                }
             }
         }
         Ok(false)
@@ -176,7 +162,6 @@ impl Subject {
         &mut self,
         alloc: Global,
         machine: &Machine,
-        latest: &Calls,
         dir: &str,
     ) -> Result<bool, Trouble> {
         let found = but_for_memory(self.other.matched(&machine.tree, dir, true))?;
@@ -184,7 +169,16 @@ impl Subject {
             return Ok(false);
         }
         let below = but_for_memory(join(alloc, self.other.root(), dir))?;
-        Ok(latest.has_below(below.as_str()))
+        Ok(self.calls.has_below(below.as_str()))
+    }
+}
+
+/// Whether a path leads to a directory.
+pub(super) fn is_dir_there(alloc: Global, tree: &MemoryTree, path: &str) -> Result<bool, Trouble> {
+    match tree.stat(alloc, path, true) {
+        Ok(metadata) => Ok(metadata.is_dir()),
+        Err(Refusal::Fault(_)) => Ok(false),
+        Err(Refusal::Memory) => Err(Trouble::Memory),
     }
 }
 

@@ -1,7 +1,7 @@
 //! The items of a walk, and its steps.
 
 use crate::settings::{Machine, bounds_of, limit_of};
-use answers::{Answer, Bounds, Calls, Counting, Items, but_for_memory};
+use answers::{Answer, Bounds, Calls, Counting, but_for_memory};
 use ignore::files::MemoryTree;
 use ignore::{DirEntry, Error, Fault, Item, WalkBuilder, collect_walk};
 use serde_json::Value;
@@ -17,17 +17,16 @@ const SHOWN: &str = "shown";
 /// The most steps that are counted.
 const MOST: u64 = 1 << 12;
 
-/// Answers `added`, what was reported of each file that was added, `items`, and `steps`, how many
-/// the limit counts; where the vector has a field `shown`, the paths of the entries that the filter
-/// was shown, in turn; and `calls`, where the files were called more often than the bounds say.
+/// Answers `items`, and `steps`, how many the limit counts; where the vector has a field `shown`, the
+/// paths of the entries that the filter was shown, in turn; and `calls`, where the files were called
+/// more often than the bounds say.
 pub(crate) fn asked<B, L, I>(
     alloc: Global,
     input: &Value,
     builder: &mut B,
-    added: Result<Items, Trouble>,
     set_limit: L,
     list: I,
-) -> Result<Value, Trouble>
+) -> Result<Answer, Trouble>
 where
     L: Fn(&mut B, u64),
     I: Fn(&B) -> Result<Listed, AllocError>,
@@ -35,12 +34,12 @@ where
     requires list { I.IsAlwaysCallable list }
 {
     let most = limit_of(input)?.min(MOST);
-    let added = added?;
     let all = list(builder)?;
-    let excess = all.excess(&bounds_of(alloc, input)?);
+    let mut bounds = bounds_of(alloc, input)?;
+    bounds.has_outside = matches!(by_of(input)?, By::Collect);
+    let excess = all.excess(&bounds);
     let steps = steps(builder, most, all.items.as_slice(), set_limit, list)?;
     let mut answer = Answer::new(alloc);
-    answer.put_value("added", added.value());
     answer.put_value("items", Ok(Value::Array(all.items)));
     answer.put("steps", steps);
     if input.get(SHOWN).is_some() {
@@ -49,7 +48,7 @@ where
     if let Some(excess) = excess {
         answer.put("calls", excess);
     }
-    Ok(answer.value()?)
+    Ok(answer)
 }
 
 /// The least limit that doesn't end the walk, at most this one. There is none where a smaller one
@@ -110,7 +109,7 @@ impl Listed {
     fn excess(&self, bounds: &Bounds<'_>) -> Option<&'static str> {
         match self.building.first_repeated() {
             Some(excess) => Some(excess),
-            None => bounds.excess(&self.walking),
+            None => bounds.excess_of_walk(&self.walking),
         }
     }
 
