@@ -89,14 +89,14 @@ impl<'v> Bounds<'v> {
         }
     }
 
-    /// What of the calls of a walk is too much, if anything is: a directory is listed, or a file
-    /// read, more often than it is loaded; what is in a directory that isn't entered is asked; or
-    /// kinds are asked too often.
+    /// What of the calls of a walk is too much, if anything is: a directory is listed more often than
+    /// there are roots at or above it; what is in a directory that isn't entered is asked; kinds are
+    /// asked too often; or a file is read more often than its directory is loaded.
     pub fn excess_of_walk(&self, calls: &Calls) -> Option<&'static str> {
         for call in &calls.made {
             let path = call.path.as_str();
             if call.asked == Asked::Entries
-                && calls.times(Asked::Entries, path) > self.loads(path)
+                && calls.times(Asked::Entries, path) > self.holders(path)
             {
                 return Some("a directory is listed again");
             }
@@ -138,8 +138,8 @@ impl<'v> Bounds<'v> {
         None
     }
 
-    /// How often a walk loads a directory, by the path of it or of something in it: once for each
-    /// root at or above it, and once as one that is above other roots.
+    /// How often a walk loads a directory, by the path of something in it: once for each root at or
+    /// above it, and once as one that is above other roots.
     fn loads(&self, path: &str) -> u64 {
         let holders = self.holders(path);
         if holders < self.roots.len() as u64 {
