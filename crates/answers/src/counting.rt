@@ -285,10 +285,14 @@ pub(crate) fn is_of_git(path: &str) -> bool {
     path.contains(".git/") || matches!(last_name(path), "commondir" | "exclude")
 }
 
-/// A root without the slashes at its end, unless it has no other.
-pub(crate) fn trimmed(root: &str) -> &str {
-    let front = root.trim_end_matches('/');
-    if front.is_empty() { root } else { front }
+/// A path without the slashes at its end; of slashes alone one is left.
+pub(crate) fn trimmed(path: &str) -> &str {
+    let front = path.trim_end_matches('/');
+    if front.is_empty() && !path.is_empty() {
+        "/"
+    } else {
+        front
+    }
 }
 
 /// Whether a path is that of a root, or below it.

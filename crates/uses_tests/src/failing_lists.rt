@@ -12,7 +12,7 @@ const CANNOT_WRITE: &[u8] = b"igwalk: cannot write\n";
 
 /// What a run leaves.
 #[derive(Drop)]
-struct Left {
+struct Outcome {
     status: u8,
     out: Vec<u8>,
     err: Vec<u8>,
@@ -25,11 +25,11 @@ fn left(
     texts: &[&str],
     mut out: Failing,
     mut err: Failing,
-) -> Result<Left, AllocError> {
+) -> Result<Outcome, AllocError> {
     let env = at_home(alloc)?;
     let words = words_of(alloc, texts)?;
     let ran = run(alloc, tree, &env, words.as_slice(), &mut out, &mut err);
-    Ok(Left {
+    Ok(Outcome {
         status: ran.unwrap_or(2),
         out: out.kept,
         err: err.kept,
@@ -51,7 +51,7 @@ fn failing(alloc: Global, turn: usize) -> Failing {
 fn is_begun(
     alloc: Global,
     tree: &MemoryTree,
-    all: &Left,
+    all: &Outcome,
     texts: &[&str],
     turn: usize,
 ) -> Result<bool, AllocError> {
@@ -69,7 +69,7 @@ fn is_begun(
 fn is_silent(
     alloc: Global,
     tree: &MemoryTree,
-    all: &Left,
+    all: &Outcome,
     texts: &[&str],
     turn: usize,
 ) -> Result<bool, AllocError> {
