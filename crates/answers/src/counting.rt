@@ -1,6 +1,8 @@
 //! Files that keep which calls were made of them.
 
-use ignore_files::{Contents, FileType, Files, Identity, Listed, Listing, Metadata, Name, Refusal};
+use ignore_files::{
+    Contents, Env, FileType, Files, Identity, Listed, Listing, Metadata, Name, Refusal,
+};
 use std::alloc::{AllocError, Global};
 use std::cell::Cell;
 
@@ -56,10 +58,14 @@ impl Calls {
         self.made.len()
     }
 
-    /// That a call was made of a path again, if one was.
-    pub fn first_repeated(&self) -> Option<&'static str> {
+    /// That a call for the rules from outside was made of a path too often, if one was: of each once,
+    /// and once more for each variable that names it as a configuration of git's.
+    pub fn excess_outside(&self, env: &Env) -> Option<&'static str> {
         for call in &self.made {
-            if self.times(call.asked, call.path.as_str()) > 1 {
+            let path = call.path.as_str();
+            let named = is_named(&env.git_config_global, path) as u64;
+            let most = named.saturating_add(is_named(&env.git_config_system, path) as u64);
+            if self.times(call.asked, path) > most.saturating_add(1) {
                 return Some("what is outside is asked again");
             }
         }
@@ -269,6 +275,14 @@ impl<F: Files> Files for Counting<'_, F> {
     ) -> Result<Option<Identity>, Refusal> {
         self.note(alloc, Asked::Kind, path)?;
         self.files.identity(alloc, path, follow)
+    }
+}
+
+/// Whether a variable has this path.
+fn is_named(variable: &Option<Name>, path: &str) -> bool {
+    match variable {
+        Some(name) => name.as_str() == path,
+        None => false,
     }
 }
 

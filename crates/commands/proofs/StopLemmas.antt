@@ -10,7 +10,7 @@ use Rattle.commands.specs.declared.stop.Stop.{Stop}
 use Rattle.commands.specs.declared.stop.Stop.TheVariants.{Usage, Memory, Write, Silence}
 use Rattle.commands.specs.Matching.{AddsAll}
 use Rattle.commands.specs.Words.{Question}
-use Rattle.commands.specs.Stops.{Ends, EndsLine, EndsLines, EndsAfter, EndsReported, EndsReportedAfter, IsCut, reason}
+use Rattle.commands.specs.Stops.{Ends, EndsLine, EndsLines, EndsAfter, EndsReported, EndsReportedAfter, BreaksOff, reason}
 use Rattle.commands.proofs.LineLemmas.{appends_on}
 
 -- a list around one of its members
@@ -67,7 +67,7 @@ append_some [] ys some = λ e. some refl
 append_some (x ∷ xs) ys some = λ e. cc e
 
 -- what is written of a beginning of a line is written of the line
-pub cut_first : (xs ys : List ℕ) (out : List ℕ → Type 0) → IsCut [] xs out → IsCut [] (xs ++ ys) out
+pub cut_first : (xs ys : List ℕ) (out : List ℕ → Type 0) → BreaksOff [] xs out → BreaksOff [] (xs ++ ys) out
 cut_first xs ys out h = (
   h.0,
   h.1 ++ ys,
@@ -77,7 +77,7 @@ cut_first xs ys out h = (
 )
 
 -- the rest of a line was cut, after its beginning was written
-pub cut_on : (a b c : Option (List ℕ)) (xs ys : List ℕ) → Appends a b xs → IsCut [] ys (Appends b c) → IsCut [] (xs ++ ys) (Appends a c)
+pub cut_on : (a b c : Option (List ℕ)) (xs ys : List ℕ) → Appends a b xs → BreaksOff [] ys (Appends b c) → BreaksOff [] (xs ++ ys) (Appends a c)
 cut_on a b c xs ys h k = (
   xs ++ k.0,
   k.1,
@@ -87,8 +87,8 @@ cut_on a b c xs ys h k = (
 )
 
 -- a line was cut after others were written
-cut_after : (a b c : Option (List ℕ)) (written line : List ℕ) → Appends a b written → IsCut [] line (Appends b c)
-    → IsCut written line (Appends a c)
+cut_after : (a b c : Option (List ℕ)) (written line : List ℕ) → Appends a b written → BreaksOff [] line (Appends b c)
+    → BreaksOff written line (Appends a c)
 cut_after a b c written line h k = (k.0, k.1, k.2, k.3, appends_on a b c written k.0 h k.4)
 
 -- the reason is the last report of a list or a check

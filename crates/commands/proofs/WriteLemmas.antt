@@ -4,7 +4,7 @@ use Rattle.std.proofs.Common.{None as Nothing}
 use Rattle.std.proofs.Math.Seq.{take-add}
 use Rattle.std.proofs.lemmas.List.{length-drop}
 use Rattle.std.specs.Io.KnownBytes.{Appends, Keeps}
-use Rattle.commands.specs.Stops.{IsCut}
+use Rattle.commands.specs.Stops.{BreaksOff}
 use Rattle.commands.proofs.LineLemmas.{appends_on}
 
 -- nothing is appended by a write that fails
@@ -23,5 +23,5 @@ some_left : (bs : List ℕ) (w : ℕ) → w < length bs → drop w bs ≢ []
 some_left bs w within = λ none. omega (arith, within, length-drop w bs, ap length none)
 
 -- the first bytes are not all
-pub cut_at : (a c : Option (List ℕ)) (bs : List ℕ) (w : ℕ) → w < length bs → Appends a c (take w bs) → IsCut [] bs (Appends a c)
+pub cut_at : (a c : Option (List ℕ)) (bs : List ℕ) (w : ℕ) → w < length bs → Appends a c (take w bs) → BreaksOff [] bs (Appends a c)
 cut_at a c bs w within h = (take w bs, drop w bs, sym (take-append-drop w bs), some_left bs w within, h)

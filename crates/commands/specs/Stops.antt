@@ -89,8 +89,8 @@ abbrev pub Ends : Question → (Bytes → Type 0) → (Bytes → Type 0) → Sto
 Ends question out err stop = Wrote out stop × ReportedOf question err stop
 
 -- of this line a beginning was written, after what was written before, and not all of it
-abbrev pub IsCut : Bytes → Bytes → (Bytes → Type 0) → Type 0
-IsCut written line out = (part rest : Bytes) × (line ≡ part ++ rest) × (rest ≢ []) × out (written ++ part)
+abbrev pub BreaksOff : Bytes → Bytes → (Bytes → Type 0) → Type 0
+BreaksOff written line out = (part rest : Bytes) × (line ≡ part ++ rest) × (rest ≢ []) × out (written ++ part)
 
 -- a list or a check ended early, after some things, and at the next one if there is one: out of
 -- memory, with the lines and the reports of those before it; by a failed write, with a beginning of
@@ -99,7 +99,7 @@ abbrev pub EndsAfter : {T : Type 0} → (T → Bytes) → (T → Bytes) → List
 EndsAfter line report all next out err Usage = ⊥
 EndsAfter line report all next out err Memory = out (flat_map line all) × err (flat_map report all)
 EndsAfter line report all None out err Write = ⊥
-EndsAfter line report all (Some x) out err Write = IsCut (flat_map line all) (line x) out × err (flat_map report all)
+EndsAfter line report all (Some x) out err Write = BreaksOff (flat_map line all) (line x) out × err (flat_map report all)
 EndsAfter line report all None out err Silence = ⊥
 EndsAfter line report all (Some x) out err Silence = out (flat_map line all ++ line x) × (report x ≢ [])
 

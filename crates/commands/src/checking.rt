@@ -14,7 +14,7 @@ ghost use Rattle.ignore_query.specs.declared.kept.Cache.{Cache};
 ghost use Rattle.commands.specs.Checking.{AreAnswers, AreAnswersSoFar, AreFirst, Checked, Checks, IsAnswer, IsMatcher, IsReport, ReportsInTurn};
 ghost use Rattle.commands.specs.Checking.{answer_at, check_line, checked, is_wrong, line_for, report_for, with_next};
 ghost use Rattle.commands.specs.Listing.{is_known, report_of};
-ghost use Rattle.commands.specs.Stops.{EndsAfter, EndsReportedAfter, IsCut};
+ghost use Rattle.commands.specs.Stops.{EndsAfter, EndsReportedAfter, BreaksOff};
 
 use crate::listing::report;
 use crate::stop::{Stop, report_stop};
@@ -219,7 +219,7 @@ fn is_dir_at<F: Files>(alloc: Global, files: &F, root: &str, path: &str) -> Resu
 #[tactic(auto, using(crate::proofs::StopLemmas::cut_first, crate::proofs::StopLemmas::cut_on))]
 fn write_found<W: Write>(found: IncrementalMatch, path: &str, out: &mut W) -> Result<(), Stop>
     ensures writes { OnOk result (Appends (W.contents out.old) (W.contents out.new) (check_line found path.now)) }
-    ensures cut { OnErr result (IsCut [] (check_line found path.now) (Appends (W.contents out.old) (W.contents out.new))) }
+    ensures cut { OnErr result (BreaksOff [] (check_line found path.now) (Appends (W.contents out.old) (W.contents out.new))) }
     ensures ended { IfErr result (λ stop. stop ≡ Stop.Write) }
 {
     let word = if found.is_ignore() {

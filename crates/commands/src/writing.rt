@@ -2,7 +2,7 @@
 ghost use Rattle.std.specs.Prelude.{◌≡◌, [], OnErr, OnOk, IfErr};
 ghost use Rattle.std.specs.Io.KnownBytes.{Appends};
 ghost use Rattle.commands.specs.Listing.{path_line};
-ghost use Rattle.commands.specs.Stops.{IsCut};
+ghost use Rattle.commands.specs.Stops.{BreaksOff};
 
 use crate::stop::Stop;
 use std::io::{ErrorKind, Write};
@@ -15,7 +15,7 @@ const MOST_WRITES: u64 = u64::MAX;
 /// written then.
 pub fn write_bytes<W: Write>(bytes: &[u8], out: &mut W) -> Result<(), Stop>
     ensures writes { OnOk result (Appends (W.contents out.old) (W.contents out.new) bytes.now) }
-    ensures cut { OnErr result (IsCut [] bytes.now (Appends (W.contents out.old) (W.contents out.new))) }
+    ensures cut { OnErr result (BreaksOff [] bytes.now (Appends (W.contents out.old) (W.contents out.new))) }
     ensures ended { IfErr result (λ stop. stop ≡ Stop.Write) }
 {
     let mut written = 0;
@@ -41,7 +41,7 @@ pub fn write_bytes<W: Write>(bytes: &[u8], out: &mut W) -> Result<(), Stop>
 #[tactic(auto, using(crate::proofs::StopLemmas::cut_first, crate::proofs::StopLemmas::cut_on))]
 pub fn write_path<W: Write>(path: &str, out: &mut W) -> Result<(), Stop>
     ensures writes { OnOk result (Appends (W.contents out.old) (W.contents out.new) (path_line path.now)) }
-    ensures cut { OnErr result (IsCut [] (path_line path.now) (Appends (W.contents out.old) (W.contents out.new))) }
+    ensures cut { OnErr result (BreaksOff [] (path_line path.now) (Appends (W.contents out.old) (W.contents out.new))) }
     ensures ended { IfErr result (λ stop. stop ≡ Stop.Write) }
 {
     write_bytes(path.as_bytes(), out)?;

@@ -3,7 +3,7 @@
 use answers::{Answer, Counting, fault_of};
 use ignore_base::Error;
 use ignore_files::{
-    Contents, Fault, Files, Identity, Listing, MemoryTree, Metadata, Name, Refusal,
+    Contents, Env, Fault, Files, Identity, Listing, MemoryTree, Metadata, Name, Refusal,
 };
 use serde_json::Value;
 use std::alloc::Global;
@@ -51,10 +51,10 @@ impl<'t> Refusing<'t> {
         self.tree.forget(alloc);
     }
 
-    /// Puts `calls` where a call of the files was made again of the same path: no file of rules has
-    /// to be asked twice.
-    pub fn put_excess(&self, answer: &mut Answer, alloc: Global) {
-        if let Some(excess) = self.tree.taken(alloc).first_repeated() {
+    /// Puts `calls` where a call of the files was made of a path too often: no file of rules has to be
+    /// asked twice.
+    pub fn put_excess(&self, answer: &mut Answer, alloc: Global, env: &Env) {
+        if let Some(excess) = self.tree.taken(alloc).excess_outside(env) {
             answer.put("calls", excess);
         }
     }

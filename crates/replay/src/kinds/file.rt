@@ -4,7 +4,7 @@ use crate::refusing::Refusing;
 use crate::rules::{put_error, put_read};
 use answers::{Answer, CALLS, tree_of_calls};
 use ignore_base::Error;
-use ignore_files::MemoryTree;
+use ignore_files::{Env, MemoryTree};
 use ignore_rules::gitignore::Gitignore;
 use serde_json::Value;
 use std::alloc::Global;
@@ -36,7 +36,7 @@ fn reported(
     put_read(&mut answer, alloc, matcher, error);
     answer.put("is_empty", matcher.is_empty());
     answer.put("len", matcher.len());
-    files.put_excess(&mut answer, alloc);
+    files.put_excess(&mut answer, alloc, &Env::empty());
     Ok(answer.value()?)
 }
 

@@ -30,7 +30,7 @@ fn reported(alloc: Global, input: &Value, tree: &MemoryTree, env: &Env) -> Resul
     put_path(&mut answer, alloc, &Refusing::of(alloc, tree, input)?, env)?;
     let files = Refusing::of(alloc, tree, input)?;
     put_matcher(&mut answer, alloc, input, &files, env)?;
-    files.put_excess(&mut answer, alloc);
+    files.put_excess(&mut answer, alloc, env);
     Ok(answer.value()?)
 }
 

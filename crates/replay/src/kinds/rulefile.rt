@@ -4,7 +4,7 @@ use crate::refusing::Refusing;
 use crate::rules::{builder_of_lines, rules_value};
 use answers::{Answer, but_for_memory, bytes_of, fault_of, problem, unrefused};
 use ignore_base::Error;
-use ignore_files::MemoryTree;
+use ignore_files::{Env, MemoryTree};
 use ignore_rules::gitignore::GitignoreBuilder;
 use serde_json::Value;
 use std::alloc::Global;
@@ -64,7 +64,7 @@ fn reported(
     answer.put("error", error.as_ref());
     answer.put("is_io", is_io(error));
     answer.put("is_partial", is_partial(error));
-    files.put_excess(&mut answer, alloc);
+    files.put_excess(&mut answer, alloc, &Env::empty());
     Ok(answer.value()?)
 }
 

@@ -98,24 +98,21 @@ pub(crate) struct Listed {
     end: End,
     /// The paths of the entries that the filter was shown.
     shown: Vec<String>,
-    /// The calls of the files for the rules from outside.
-    building: Calls,
+    /// What was too much of the calls of the files for the rules from outside, if anything was.
+    outside: Option<&'static str>,
     /// The calls after those.
     walking: Calls,
+    /// How many there were of both.
+    calls: usize,
 }
 
 impl Listed {
     /// What is too much of the calls, if anything is.
     fn excess(&self, bounds: &Bounds<'_>) -> Option<&'static str> {
-        match self.building.first_repeated() {
+        match self.outside {
             Some(excess) => Some(excess),
             None => bounds.excess_of_walk(&self.walking),
         }
-    }
-
-    /// How many calls there were.
-    fn calls(&self) -> usize {
-        self.building.len().saturating_add(self.walking.len())
     }
 
     /// Whether they are the first of these, where the error that ended the walk is left out; and
@@ -186,7 +183,7 @@ pub(crate) fn list_of(
 fn agreed(alloc: Global, machine: &Machine, builder: &WalkBuilder) -> Result<Listed, Trouble> {
     let mut given = given(alloc, machine, builder)?;
     let collected = collected(alloc, machine, builder)?;
-    let is_more = collected.calls() > given.calls() || collected.shown != given.shown;
+    let is_more = collected.calls > given.calls || collected.shown != given.shown;
     if is_more || collected.end != given.end || !collected.is_front_of(given.items.as_slice()) {
         given.items.push(Value::Null)?;
     }
@@ -221,12 +218,14 @@ fn walked(alloc: Global, machine: &Machine, builder: &WalkBuilder) -> Result<Lis
         end = end_of(&item);
         items.push(shown(alloc, &machine.tree, item)?)?;
     }
+    let walking = files.taken(alloc);
     Ok(Listed {
         items,
         end,
         shown: machine.shown.taken(alloc)?,
-        building,
-        walking: files.taken(alloc),
+        outside: building.excess_outside(&machine.env),
+        calls: building.len().saturating_add(walking.len()),
+        walking,
     })
 }
 
@@ -259,7 +258,8 @@ fn cloned(
         items: values,
         end,
         shown: machine.shown.taken(alloc)?,
-        building: Calls::new(alloc),
+        outside: None,
+        calls: walking.len(),
         walking,
     })
 }
