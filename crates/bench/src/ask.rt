@@ -3,15 +3,17 @@
 use crate::input::matcher_of;
 use ignore_base::Error;
 use ignore_rules::gitignore::Gitignore;
-use std::fs;
+use std::{fs, mem};
 
 /// Prints how many of the paths in a file, none of a directory, are ignored by the first rules of
-/// another file, so many at most. The file of paths is opened after those rules are read and built.
+/// another file, so many at most. The file of paths is opened after those rules are read and built,
+/// and what was built isn't taken apart, so that from there on the questions alone are counted.
 pub(crate) fn ask(rt: &HostRuntime, rules: &str, paths: &str, count: usize) -> Result<(), Error> {
     let matcher = matcher_in(rt, rules, count)?;
     let paths = fs::read_to_string(rt, paths)?;
     let ignored = ignored(&matcher, paths.as_str())?;
     println!(rt; "{ignored}")?;
+    mem::forget(matcher);
     Ok(())
 }
 
