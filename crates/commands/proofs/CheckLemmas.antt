@@ -148,6 +148,7 @@ last_of (Some c) middle new = new
 pub answers_with : (g : Scene) (all : List Checked) (next : Option Checked) (old middle new : Cache) → All (IsAnswer g) all
     → ReportsInTurn g all old middle → IfSome next (λ c. IsAnswer g c × IsReport g middle new c.path c.problem)
     → All (IsAnswer g) (with_next all next) × ReportsInTurn g (with_next all next) old (last_of next middle new)
+unfolding last_of
 answers_with g all None old middle new h k is =
     subst (λ (xs : List Checked). All (IsAnswer g) xs × ReportsInTurn g xs old middle) (sym (append-nil all)) (h, k)
 answers_with g all (Some c) old middle new h k is = (All-push (IsAnswer g) all c h is.0, reports_more g all c old middle new k is.1)

@@ -19,7 +19,7 @@ pub written_more : (a b c : Option (List ℕ)) (bs : List ℕ) (w n : ℕ) → A
     → Appends b c (take n (take (length bs - w) (drop w bs))) → Appends a c (take (w + n) bs)
 written_more a b c bs w n h k =
     subst (Appends a c) (sym (take-add w n bs)) (
-      appends_on a b c (take w bs) (take n (drop w bs)) h (subst (λ xs. Appends b c (take n xs)) (take_rest bs w) k)
+    appends_on a b c (take w bs) (take n (drop w bs)) h (subst (λ xs. Appends b c (take n xs)) (take_rest bs w) k)
     )
 
 -- nothing more

@@ -10,9 +10,9 @@ returns-in-Ok-eq0-clause-cut g c =
     let bs = c.args.bytes.now in
     let rest = take (length bs - c.loop.written) (drop c.loop.written bs) in
     cut_at _ _ bs c.loop.written c.if-written-bytes.false (
-      written_none _ _ _ bs c.loop.written c.in-Ok-eq0.field-0 (omega (arith, c.in-Ok-eq0.field-0-test)) c.loop.invariant.begun (
-        subst (λ r. WriteAppends (g.W.Write.contents c.loop.out) (g.W.Write.contents c.write.new.self) r rest) c.in-Ok-eq0.is c.write.ensures.bytes
-      )
+    written_none _ _ _ bs c.loop.written c.in-Ok-eq0.field-0 (omega (arith, c.in-Ok-eq0.field-0-test)) c.loop.invariant.begun (
+    subst (λ r. WriteAppends (g.W.Write.contents c.loop.out) (g.W.Write.contents c.write.new.self) r rest) c.in-Ok-eq0.is c.write.ensures.bytes
+    )
     )
 
 pub returns-in-Err-2-clause-cut : goal.returns-in-Err-2-clause-cut
@@ -23,18 +23,18 @@ pub loop-preserved : goal.loop-preserved
 loop-preserved g c =
     let bs = c.args.bytes.now in
     elim c.match-write.branch [
-      in-Ok w ↦ rw (w.written-is) (
-        record {
-          within = within_rest bs c.loop.written w.in-Ok.n c.loop.invariant.within w.in-Ok.ensures.bound;
-          begun = written_more _ _ _ bs c.loop.written w.in-Ok.n c.loop.invariant.begun w.in-Ok.ensures.bytes;
-        }
-      )
+      | in-Ok w ↦ rw (w.written-is) (
+          record {
+            within = within_rest bs c.loop.written w.in-Ok.n c.loop.invariant.within w.in-Ok.ensures.bound;
+            begun = written_more _ _ _ bs c.loop.written w.in-Ok.n c.loop.invariant.begun w.in-Ok.ensures.bytes;
+          }
+          )
       | in-Err w ↦ rw (w.written-is) (
-        record {
-          within = c.loop.invariant.within;
-          begun = appends_kept _ _ _ _ c.loop.invariant.begun w.in-Err.ensures.bytes;
-        }
-      )
+          record {
+            within = c.loop.invariant.within;
+            begun = appends_kept _ _ _ _ c.loop.invariant.begun w.in-Err.ensures.bytes;
+          }
+          )
     ]
 
 pub returns-else-written-bytes-2-clause-cut : goal.returns-else-written-bytes-2-clause-cut
