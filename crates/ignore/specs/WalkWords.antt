@@ -6,6 +6,7 @@ pub use Rattle.ignore_dir.specs.Load.{AreLoads, Loaded}
 pub use Rattle.ignore_dir.specs.Query.{is_asked, is_dir_there, names_of, query}
 pub use Rattle.ignore_dir.specs.Scene.{Scene as QueryScene, scene}
 pub use Rattle.ignore_dir.specs.Standard.{standard}
+pub use Rattle.ignore_dir.specs.Verdict.{is_ignore as does_ignore}
 pub use Rattle.ignore_dir.specs.declared.incremental.IncrementalMatch.{IncrementalMatch}
 pub use Rattle.ignore_dir.specs.declared.outside.Outside.{Outside}
 pub use Rattle.ignore_query.specs.Agrees.{Agrees, kept_at}
@@ -15,10 +16,13 @@ pub use Rattle.ignore_query.specs.InTurn.{Leaves, Question, ReportInTurn}
 pub use Rattle.ignore_query.specs.Needs.{KeepsNeeded, Stays, needed}
 pub use Rattle.ignore_query.specs.Reached.{dir_of, scene_of}
 pub use Rattle.ignore_query.specs.Reports.{reported}
+pub use Rattle.ignore_query.specs.Where.{WhereAgrees}
 pub use Rattle.ignore_query.specs.declared.asked.Asked.{Asked}
 pub use Rattle.ignore_query.specs.declared.incremental.IncrementalIgnore.{IncrementalIgnore}
 pub use Rattle.ignore_query.specs.declared.kept.Cache.{Cache}
 pub use Rattle.ignore_query.specs.declared.kept.Kept.{Kept}
+pub use Rattle.ignore_why.specs.Texts.{query_why_text}
+pub use Rattle.ignore_why.specs.QueryWhy.{query_why, query_why_of}
 pub use Rattle.ignore_walk.specs.Agreement.{Reachable}
 pub use Rattle.ignore_walk.specs.Branch.{Branch, entered}
 pub use Rattle.ignore_walk.specs.Entry.{Entry, Item, entry_of, item_of, named_or, problem_in}

@@ -6,7 +6,8 @@ ghost use Rattle.ignore_dir.specs.Lists.{asked_in};
 ghost use Rattle.ignore_dir.specs.Verdict.{placed_verdict, verdict_of, is_dotted};
 ghost use Rattle.ignore_base.specs.Match.{match_map};
 ghost use Rattle.ignore_base.specs.declared.match_result.Match.TheVariants as decided;
-ghost use Rattle.ignore_levels.specs.Reasons.{OverChain, file_reason, placed_why, rule_of, why_of};
+ghost use Rattle.ignore_base.specs.Text.{Path};
+ghost use Rattle.ignore_levels.specs.Reasons.{IsInside, IsRulingInside, OverChain, file_reason, placed_why, sited_of, why_of};
 ghost use Rattle.ignore_levels.specs.Reasons.Why.{by_override, by_rule, by_type, by_name};
 
 use crate::list::{Levels, Place};
@@ -32,7 +33,8 @@ pub enum Reason<'d> {
 }
 
 fn by_override<'d>(answer: Match<overrides::Glob<'d>>) -> Match<Reason<'d>>
-    ensures { match_map why_of result ≡ match_map by_override answer.entry }
+    ensures why { (text : Path) → match_map (why_of text) result ≡ match_map by_override answer.entry }
+    ensures inside { (text : Path) → IsInside text result }
 {
     match answer {
         Match::None => Match::None,
@@ -42,7 +44,8 @@ fn by_override<'d>(answer: Match<overrides::Glob<'d>>) -> Match<Reason<'d>>
 }
 
 fn by_rule<'d>(answer: Match<Ruling<'d>>) -> Match<Reason<'d>>
-    ensures { match_map why_of result ≡ match_map (λ r. by_rule (rule_of r)) answer.entry }
+    ensures why { (text : Path) → match_map (why_of text) result ≡ match_map (λ r. by_rule (sited_of text r)) answer.entry }
+    ensures inside { (text : Path) → IsRulingInside text answer.entry → IsInside text result }
 {
     match answer {
         Match::None => Match::None,
@@ -52,7 +55,8 @@ fn by_rule<'d>(answer: Match<Ruling<'d>>) -> Match<Reason<'d>>
 }
 
 fn by_type<'d>(answer: Match<types::Glob<'d>>) -> Match<Reason<'d>>
-    ensures { match_map why_of result ≡ match_map by_type answer.entry }
+    ensures why { (text : Path) → match_map (why_of text) result ≡ match_map by_type answer.entry }
+    ensures inside { (text : Path) → IsInside text result }
 {
     match answer {
         Match::None => Match::None,
@@ -70,7 +74,8 @@ fn is_dotted(path: &str) -> bool
 
 /// What a hidden name decides, where that filter is on.
 fn by_name<'d>(settings: &Settings, path: &str) -> Match<Reason<'d>>
-    ensures { match_map why_of result ≡ (if settings.now.hidden && is_dotted (file_name_of path.now) then decided.Ignore by_name else decided.None) }
+    ensures why { (text : Path) → match_map (why_of text) result ≡ (if settings.now.hidden && is_dotted (file_name_of path.now) then decided.Ignore by_name else decided.None) }
+    ensures inside { (text : Path) → IsInside text result }
 {
     if settings.hidden && is_dotted(path) {
         Match::Ignore(Reason::Hidden)
@@ -87,8 +92,9 @@ fn by_file<'d>(
     place: Option<Place>,
     asked: &Asked<'_>,
 ) -> Result<Match<Reason<'d>>, Error>
-    ensures why { OverChain levels.now.slots.items place asked.now.text.now (λ chain. IfOk result (λ m. match_map why_of m
+    ensures why { OverChain levels.now.slots.items place asked.now.text.now (λ chain. IfOk result (λ m. match_map (why_of asked.now.text.now) m
         ≡ file_reason settings.now outside.now (asked_in asked.now.text.now chain) asked.now.path.now asked.now.is_dir)) }
+    ensures inside { IfOk result (λ m. IsInside asked.now.text.now m) }
     ensures out_of_memory { IfErr result (λ e. problem_of e ≡ memory) }
 {
     let ruled = ranks_answer(settings, outside, levels, place, asked)?;
@@ -121,10 +127,11 @@ pub fn judge<'d>(
     place: Option<Place>,
     asked: &Asked<'_>,
 ) -> Result<Match<Reason<'d>>, Error>
-    ensures why { OverChain levels.now.slots.items place asked.now.text.now (λ chain. IfOk result (λ m. match_map why_of m
+    ensures why { OverChain levels.now.slots.items place asked.now.text.now (λ chain. IfOk result (λ m. match_map (why_of asked.now.text.now) m
         ≡ placed_why settings.now outside.now chain asked.now.text.now asked.now.path.now asked.now.is_dir)) }
     ensures value { OverChain levels.now.slots.items place asked.now.text.now (λ chain. IfOk result (λ m. verdict_of m
         ≡ placed_verdict settings.now outside.now chain asked.now.text.now asked.now.path.now asked.now.is_dir)) }
+    ensures inside { IfOk result (λ m. IsInside asked.now.text.now m) }
     ensures out_of_memory { IfErr result (λ e. problem_of e ≡ memory) }
 {
     let overridden = outside

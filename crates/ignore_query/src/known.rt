@@ -18,7 +18,7 @@ use ignore_base::text::last_component;
 use ignore_dir::verdict::Verdict;
 
 /// The key of the directory in which a path is.
-fn parent_key(path: &str) -> &str
+pub(crate) fn parent_key(path: &str) -> &str
     ensures { (front : List (List ℕ)) (name : List ℕ) → components path.now ≡ front ++ name ∷ [] → result.now ≡ slashed front }
 {
     match path.strip_suffix(last_component(path)) {

@@ -38,7 +38,7 @@ use ignore_levels::Place;
 use std::alloc::Global;
 
 /// The names of a directory below the root, joined, by its key.
-fn without_slash(key: &str) -> &str
+pub(crate) fn without_slash(key: &str) -> &str
     ensures root { key.now ≡ [] → result.now ≡ [] }
     ensures below { (path : List ℕ) → key.now ≡ path ++ 47 ∷ [] → result.now ≡ path }
 {
@@ -162,7 +162,7 @@ impl Cache {
 impl Cache {
     /// Keeps the proper ancestors of a path of these names, from the root down to the first ignored
     /// one. Returns what is kept of the last of them.
-    fn keep_way<F: Files>(
+    pub(crate) fn keep_way<F: Files>(
         &mut self,
         call: &Call<'_, F>,
         names: &[&str],

@@ -17,7 +17,7 @@ use ignore_files::{Files, Refusal};
 use std::alloc::{AllocError, Global};
 
 /// A fault at a path, as an error.
-fn fault_at(alloc: Global, path: &str, fault: Fault) -> Result<Error, AllocError>
+pub(crate) fn fault_at(alloc: Global, path: &str, fault: Fault) -> Result<Error, AllocError>
     ensures { IfOk result (λ e. problem_of e ≡ at_path path.now (io fault)) }
 {
     Error::Io(fault).with_path(alloc, path)

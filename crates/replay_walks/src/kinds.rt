@@ -21,6 +21,7 @@ impl Kinds for Library {
 
     fn answer(&self, alloc: Global, kind: &str, input: &Value) -> Option<Result<Value, Trouble>> {
         match kind {
+            "explain" => Some(answer(alloc, input, false)),
             "igwalk" => Some(igwalk::answer(alloc, input)),
             "normalize" => Some(normalize::answer(alloc, input)),
             "query" => Some(answer(alloc, input, false)),

@@ -3,7 +3,7 @@
 use crate::settings::{Machine, items_at};
 use answers::{Answer, Items, but_for_memory, tree_of_calls};
 use ignore::files::MemoryTree;
-use ignore::{Error, IncrementalIgnore, IncrementalMatch, WalkBuilder, check_paths};
+use ignore::{Error, Explanation, IncrementalIgnore, IncrementalMatch, WalkBuilder, check_paths};
 use serde_json::Value;
 use std::alloc::{AllocError, Global};
 use vectors::{Trouble, flag_at, list, text, text_at};
@@ -99,8 +99,9 @@ pub(super) fn matcher(
     }
 }
 
-/// The answer of one step, as `["ask", "a/b", false]`, `["check", [["a", true], ["b", false]]]` or
-/// `["forget", "a"]`. A question that was out of memory is asked again, of the same matcher.
+/// The answer of one step, as `["ask", "a/b", false]`, `["explain", "a/b", false]`,
+/// `["check", [["a", true], ["b", false]]]` or `["forget", "a"]`. A question that was out of memory
+/// is asked again, of the same matcher.
 fn done(
     alloc: Global,
     tree: &MemoryTree,
@@ -111,9 +112,35 @@ fn done(
         "ask" => answer(alloc, tree, matcher, step),
         "matched" => plain_answer(alloc, tree, matcher, step),
         "check" => checked(alloc, tree, matcher, step),
+        "explain" => explained(alloc, tree, matcher, step),
         "forget" => forgotten(alloc, matcher, text_at(step, 1, STEPS)?),
         _ => Err(Trouble::Field(STEPS)),
     }
+}
+
+/// The text of the reason.
+fn explained(
+    alloc: Global,
+    tree: &MemoryTree,
+    matcher: &mut IncrementalIgnore,
+    step: &Value,
+) -> Result<Value, Trouble> {
+    let (path, is_dir) = (text_at(step, 1, STEPS)?, flag_at(step, 2, STEPS)?);
+    let explanation = explain(tree, matcher, path, is_dir)?;
+    Ok(Value::String(format!(in alloc; "{explanation}")?))
+}
+
+fn explain(
+    tree: &MemoryTree,
+    matcher: &mut IncrementalIgnore,
+    path: &str,
+    is_dir: bool,
+) -> Result<Explanation, Trouble> {
+    let (explanation, _) = match matcher.explain(tree, path, is_dir) {
+        Ok(answer) => answer,
+        Err(_) => but_for_memory(matcher.explain(tree, path, is_dir))?,
+    };
+    Ok(explanation)
 }
 
 /// How many directories were forgotten.

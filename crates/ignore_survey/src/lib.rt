@@ -1,0 +1,2 @@
+//! What becomes of each entry below a root, with its reason.
+#![tactic(auto)]
