@@ -93,7 +93,7 @@ fn list_answer<'d>(
     if list.is_empty() {
         return Ok(Match::None);
     }
-    list.answer_after(&mut sought.text, offset, sought.is_dir)
+    Ok(list.answer_after(&mut sought.text, offset, sought.is_dir)?)
 }
 
 /// Whether an offset isn't 0, and stands from a floor to a ceiling.
