@@ -101,7 +101,7 @@ fn list_answer<'d>(
     if !sought.text.text().is_char_boundary(offset) {
         return Ok(Match::None);
     }
-    list.answer_after(&mut sought.text, offset, sought.is_dir)
+    Ok(list.answer_after(&mut sought.text, offset, sought.is_dir)?)
 }
 
 /// Whether an offset isn't 0, and stands from a floor to a ceiling.

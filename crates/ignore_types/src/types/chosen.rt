@@ -13,7 +13,7 @@ use ignore_base::Error;
 use ignore_glob::glob::laws::matching_is_decided;
 use ignore_glob::glob::{GlobFault, Options, Pattern, PatternError};
 use ignore_set::{HasPattern, Index};
-use std::alloc::Global;
+use std::alloc::{AllocError, Global};
 use std::marker::Model;
 
 /// A parsed glob of a type, which is matched against the names of files.
@@ -78,9 +78,8 @@ impl ChosenType {
         definition: FileTypeDef,
         globs: Vec<NameGlob>,
         negated: bool,
-    ) -> Result<ChosenType, Error>
+    ) -> Result<ChosenType, AllocError>
         ensures value { IfOk result (λ c. c ≡ record { definition = definition; readings = globs.items; negated = negated }) }
-        ensures out_of_memory { IfErr result (λ e. problem_of e ≡ memory) }
     {
         let index = Index::new(*globs.allocator(), &globs)?;
         Ok(ChosenType {
@@ -104,8 +103,7 @@ impl ChosenType {
     }
 
     /// Whether some glob of the type matches the name.
-    pub(super) fn matches(&self, name: &str) -> Result<bool, Error>
-        ensures out_of_memory { IfErr result (λ e. problem_of e ≡ memory) }
+    pub(super) fn matches(&self, name: &str) -> Result<bool, AllocError>
         ensures value { IfOk result (λ yes. yes ≡ does_choice_match (chars name.now) self.now) }
     {
         matching_is_decided();
@@ -117,8 +115,7 @@ impl ChosenType {
 pub(super) fn last_choice<'a>(
     choices: &'a [ChosenType],
     name: &str,
-) -> Result<Option<&'a ChosenType>, Error>
-    ensures out_of_memory { IfErr result (λ e. problem_of e ≡ memory) }
+) -> Result<Option<&'a ChosenType>, AllocError>
     ensures value { IfOk result (λ found. MatchOption found (choices_answer choices.now (chars name.now) ≡ None)
         (λ c. choices_answer choices.now (chars name.now) ≡ verdict_of c.now)) }
 {

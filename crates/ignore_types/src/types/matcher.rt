@@ -182,7 +182,7 @@ impl Types {
         }
         match file_name(path) {
             None => Ok(unmatched(self.choices())),
-            Some(name) => matched_name(self.choices(), name),
+            Some(name) => Ok(matched_name(self.choices(), name)?),
         }
     }
 }
@@ -202,8 +202,7 @@ impl Clone for Types {
     }
 }
 
-fn matched_name<'a>(choices: &'a [ChosenType], name: &str) -> Result<Match<Glob<'a>>, Error>
-    ensures out_of_memory { IfErr result (λ e. problem_of e ≡ memory) }
+fn matched_name<'a>(choices: &'a [ChosenType], name: &str) -> Result<Match<Glob<'a>>, AllocError>
     ensures answered { IfOk result (λ m. m ≡ match_or (choices_answer choices.now (chars name.now)) (unmatched choices.now)) }
 {
     match last_choice(choices, name)? {

@@ -4,7 +4,7 @@ use Rattle.std.specs.Option.{option_copied}
 use Rattle.ignore_excludes.specs.ExcludesSearch.{below, xdg_folder, configurations, FilesGive, IsFirstPath, LeadsTo, IsExcludesPath}
 use Rattle.ignore_excludes.proofs.ExcludesPlaces.{configurations-same, LeadsTo-some, LeadsTo-none, IsExcludesPath-answered}
 use Rattle.ignore_excludes.proofs.ExcludesPlaces.{IsExcludesPath-one}
-use Rattle.ignore_excludes.proofs.config.gitconfig_excludes_path.Goals as goal
+use Rattle.ignore_excludes.proofs.config.excludes_path.Goals as goal
 
 pub returns-clause-answered : goal.returns-clause-answered
 returns-clause-answered g c =
