@@ -1,5 +1,5 @@
 //! What dependents need beside the surface.
-ghost use Rattle.std.specs.Prelude.{◌≡◌, ◌×◌, IfOk, OnErr, Result, option_map};
+ghost use Rattle.std.specs.Prelude.{◌≡◌, IfOk, OnErr, Result, option_map};
 ghost use Rattle.ignore_base.specs.Problem.{problem_of};
 ghost use Rattle.ignore_files.specs.declared.types.Contents.{Contents};
 ghost use Rattle.ignore_files.specs.declared.types.Refusal.{Refusal};
