@@ -22,7 +22,7 @@ pub(crate) fn matched<'d>(
 {
     match rules.matched(path, is_dir) {
         Ok(answer) => Ok(answer),
-        Err(_) => Err(AllocError),
+        Err(_error) => Err(AllocError),
     }
 }
 
@@ -36,7 +36,7 @@ pub(crate) fn overridden<'d>(
 {
     match globs.matched(path, is_dir) {
         Ok(answer) => Ok(answer),
-        Err(_) => Err(AllocError),
+        Err(_error) => Err(AllocError),
     }
 }
 
@@ -50,6 +50,6 @@ pub(crate) fn typed<'d>(
 {
     match types.matched(path, is_dir) {
         Ok(answer) => Ok(answer),
-        Err(_) => Err(AllocError),
+        Err(_error) => Err(AllocError),
     }
 }
