@@ -12,12 +12,12 @@ ghost use Rattle.ignore_walk.specs.Walked.{ignores, is_too_large};
 
 use crate::child::is_dir_kind;
 use crate::entry::DirEntry;
-use crate::memory::answered;
 use ignore_base::Error;
 use ignore_dir::laws::steps_are_whole;
 use ignore_dir::verdict::Verdict;
 use ignore_dir::{Asked, Ground, Settings};
 use ignore_files::Files;
+use ignore_files::internal::answered;
 use ignore_levels::laws::what_counts_decides;
 use ignore_levels::{Levels, Place, verdict};
 use std::alloc::{AllocError, Global};
