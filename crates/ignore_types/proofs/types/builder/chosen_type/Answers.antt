@@ -8,4 +8,4 @@ use Rattle.ignore_types.proofs.types.builder.chosen_type.Goals as goal
 pub new-requires : goal.new-requires
 new-requires c =
     AllZip-long IsReadAs (map string_bytes c.globs.result.now) c.in_ok-globs.globs.items c.in_ok-globs.ensures.read
-    ∙ (ap length c.globs.ensures ∙ ap (λ (d : Definition). length d.globs) (sym c.in_ok-copy.ensures))
+    ∙ (ap length c.globs.ensures ∙ ap (λ (d : Definition). length d.globs) (sym c.in_ok-copy.ensures.cases))
