@@ -12,7 +12,7 @@ returns-in_ok-names-in-Ok-clause-dirs g c = λ tree loads honest are.
     ap (map (λ n. n.now)) c.as_slice.ensures.value ∙ (c.in_ok-names-in-Ok.ensures ∙ ap (λ p. canonical_names (Ok p)) c.as_str.ensures) in
     let path : tree.canonical c.args.root.now ≡ Ok c.in-Ok.path =
     answered-is (tree.canonical c.args.root.now) c.canonical.result _ (honest.canonical c.args.root.now c.canonical.result c.canonical.ensures)
-    c.in_ok-answered.ensures.answered ∙ c.in-Ok.is in
+    c.in_ok-path.ensures.answered ∙ c.in-Ok.is in
     let names = names_above-is tree s c.args.root.now c.in-Ok.path (map (λ n. n.now) c.as_slice.result.now)
     (sym c.needs_above.ensures ∙ c.if-not-needs_above.false) path is in
     subst (λ (ns : List (List ℕ)). IfOk c.load_along.result
@@ -26,7 +26,7 @@ returns-in_ok-names-in-Ok-clause-errors g c = λ tree loads honest are.
     ap (map (λ n. n.now)) c.as_slice.ensures.value ∙ (c.in_ok-names-in-Ok.ensures ∙ ap (λ p. canonical_names (Ok p)) c.as_str.ensures) in
     let path : tree.canonical c.args.root.now ≡ Ok c.in-Ok.path =
     answered-is (tree.canonical c.args.root.now) c.canonical.result _ (honest.canonical c.args.root.now c.canonical.result c.canonical.ensures)
-    c.in_ok-answered.ensures.answered ∙ c.in-Ok.is in
+    c.in_ok-path.ensures.answered ∙ c.in-Ok.is in
     let names = names_above-is tree s c.args.root.now c.in-Ok.path (map (λ n. n.now) c.as_slice.result.now)
     (sym c.needs_above.ensures ∙ c.if-not-needs_above.false) path is in
     subst (λ (ns : List (List ℕ)). IfOk c.load_along.result
