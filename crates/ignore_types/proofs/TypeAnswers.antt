@@ -60,7 +60,7 @@ decided cs name i c fits is none some =
     let here = at_choice cs name i c fits is none in
     settled cs name i (λ f. some (sym here ∙ f)) ∙ here
 
-shifted : Option ℕ → Bool → Option ℕ
+abbrev shifted : Option ℕ → Bool → Option ℕ
 shifted later here = option_map_or (λ i. option.Some (suc i)) later (cond here (option.Some zero) option.None)
 
 -- The law that the test of matching decides matching is handed in.
