@@ -4,6 +4,7 @@ pub mod Branch
 pub mod Child
 pub mod Walked
 pub mod Whole
+pub mod Finished
 pub mod Visits
 pub mod Agreement
 pub mod Suits
