@@ -1,5 +1,5 @@
 -- What is written for the items of a walk, one more at a time.
-use Rattle.std.proofs.Common.{◌≡◌, ◌≢◌, ◌∙◌, ℕ, All, Bool, ◌||◌, List, [], ◌∷◌, ◌++◌, Option, Result, Err, map, sym, ap, subst}
+use Rattle.std.proofs.Common.{◌≡◌, ◌≢◌, ◌∙◌, ℕ, All, Bool, ◌||◌, List, [], ◌∷◌, ◌++◌, None, Option, Result, Some, Err, map, refl, sym, ap, subst}
 use Rattle.std.proofs.lemmas.Grind.{flat_map-append}
 use Rattle.std.proofs.lemmas.List.{append-nil, map-append}
 use Rattle.std.proofs.lemmas.List.Elements.{All-push}
@@ -10,7 +10,10 @@ use Rattle.ignore_base.specs.Problem.{memory}
 use Rattle.ignore_base.specs.declared.error.Error.{Error}
 use Rattle.ignore_walk.specs.Entry.{Item, item_of}
 use Rattle.ignore_walk.specs.declared.entry.DirEntry.{DirEntry}
-use Rattle.commands.specs.Listing.{is_reported}
+use Rattle.commands.specs.declared.stop.Stop.{Stop}
+use Rattle.commands.specs.declared.stop.Stop.TheVariants.{Memory}
+use Rattle.commands.specs.Listing.{IsOf, is_reported, lines_of, reports_of}
+use Rattle.commands.specs.Stops.{EndsAfter}
 use Rattle.commands.proofs.LineLemmas.{appends_on, or-false}
 
 one_more : (f : Item → List ℕ) (items : List Item) (item : Item) → flat_map f (items ++ item ∷ []) ≡ flat_map f items ++ f item
@@ -43,3 +46,14 @@ pub enough_more : (items : List (Result DirEntry Error)) (item : Result DirEntry
 enough_more items item h k =
     subst (λ (is : List Item). All (λ (i : Item). i ≢ Err memory) is) (sym (map-append item_of items (item ∷ [])))
     (All-push (λ (i : Item). i ≢ Err memory) (map item_of items) (item_of item) h k)
+
+-- an item that isn't out of memory is the next one
+pub ends_at : (item : Item) (out err : List ℕ → Type 0) (stop : Stop) → item ≢ Err memory
+    → EndsAfter lines_of reports_of [] (Some item) out err stop
+    → (next : Option Item) × IsOf item next × EndsAfter lines_of reports_of [] next out err stop
+ends_at item out err stop other h = (Some item, (refl, other), h)
+
+-- out of memory there is none
+pub ends_before : (item : Item) (out err : List ℕ → Type 0) → out [] → err []
+    → (next : Option Item) × IsOf item next × EndsAfter lines_of reports_of [] next out err Memory
+ends_before item out err written reported = (None, tt, (written, reported))

@@ -9,3 +9,4 @@ mod TrimsOnly
 mod EndsOnly
 mod ListsOnly
 mod PromisesOnly
+pub mod WriteLemmas

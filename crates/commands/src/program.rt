@@ -1,0 +1,91 @@
+//! What the `main` of a program does around a run: the words after its name, and a buffer before its
+//! output.
+ghost use Rattle.std.specs.Prelude.{◌≡◌, ◌<◌, ◌≤◌, ℕ, List, None, Some, IfOk, IsSomeAnd, drop, map, string_bytes};
+ghost use Rattle.std.specs.Io.KnownBytes.{Appends};
+ghost use Rattle.std.specs.Iterator.{Drains, IsFinite};
+ghost use Rattle.ignore_base.specs.Text.{Path};
+ghost use Rattle.ignore_files.specs.Gives.{IsHonest};
+ghost use Rattle.ignore_files.specs.Tree.{Tree};
+ghost use Rattle.ignore_walk.specs.Entry.{Item};
+ghost use Rattle.commands.specs.Checking.{AreAnswers, Checked, Checks};
+ghost use Rattle.commands.specs.Listing.{Lists};
+ghost use Rattle.commands.specs.Matching.{Prints};
+ghost use Rattle.commands.specs.Walking.{AreListed};
+ghost use Rattle.commands.specs.Words.{Question, command_of, of_check, of_list, of_match};
+
+use crate::run::run;
+use crate::stop::{Stop, report_stop};
+use ignore_files::{Env, Files};
+use std::alloc::{AllocError, Global};
+use std::io::{BufWriter, Write};
+
+/// How many bytes of the output are kept before they are written.
+const CAPACITY: usize = 64 * 1024;
+
+/// All words but the first, which is the program's name.
+pub fn words_after_name<T: Drop, I: Iterator<Item = T>>(
+    alloc: Global,
+    words: I,
+) -> Result<Vec<T>, AllocError>
+    requires ends { I.can_next words × IsFinite (I.remaining words) }
+    ensures value { IfOk result (λ rest. (all : List T) × Drains I.next_gives words all × (rest.items ≡ drop 1 all)) }
+{
+    let mut all = all_words(alloc, words)?;
+    if !all.is_empty() {
+        let _name = all.remove(0);
+    }
+    Ok(all)
+}
+
+/// All words.
+fn all_words<T: Drop, I: Iterator<Item = T>>(alloc: Global, words: I) -> Result<Vec<T>, AllocError>
+    requires ends { I.can_next words × IsFinite (I.remaining words) }
+    ensures value { IfOk result (λ all. Drains I.next_gives words all.items) }
+{
+    let mut all = Vec::new(alloc);
+    for word in words {
+        all.push(word)?;
+    }
+    Ok(all)
+}
+
+/// Runs the words as [`run`] does, with a buffer before the output. It returns the status, and the
+/// output where all that was written stands on it: with a status below 2 it does.
+///
+/// # Errors
+/// Why the run ended, where that can't be written to `err`. The status is then 2 too.
+pub fn run_buffered<F: Files, W: Write + Drop, E: Write>(
+    alloc: Global,
+    files: &F,
+    env: &Env,
+    words: &[String],
+    out: W,
+    err: &mut E,
+) -> Result<(u8, Option<W>), Stop>
+    ensures prints { (question : Question) → command_of (map string_bytes words.now) ≡ Some (of_match question)
+        → IfOk result (λ r. r.0 < 2 → IsSomeAnd r.1 (λ w. Prints question r.0 (Appends (W.contents out) (W.contents w))
+        (Appends (E.contents err.old) (E.contents err.new)))) }
+    ensures lists { (roots : List Path) → command_of (map string_bytes words.now) ≡ Some (of_list roots)
+        → IfOk result (λ r. r.0 < 2 → IsSomeAnd r.1 (λ w. (items : List Item) × Lists items r.0 (Appends (W.contents out) (W.contents w))
+        (Appends (E.contents err.old) (E.contents err.new))
+        × ((tree : Tree) → IsHonest F.Files files.now tree → AreListed tree env.now roots items))) }
+    ensures checks { (root : Path) (paths : List Path) → command_of (map string_bytes words.now) ≡ Some (of_check root paths)
+        → IfOk result (λ r. r.0 < 2 → IsSomeAnd r.1 (λ w. (all : List Checked) × Checks paths all r.0 (Appends (W.contents out) (W.contents w))
+        (Appends (E.contents err.old) (E.contents err.new))
+        × ((tree : Tree) → IsHonest F.Files files.now tree → AreAnswers tree env.now root all))) }
+    ensures wrong { command_of (map string_bytes words.now) ≡ None → IfOk result (λ r. r.0 ≡ 2) }
+    ensures status { IfOk result (λ r. r.0 ≤ 2) }
+{
+    let Ok(mut buffered) = BufWriter::with_capacity(alloc, CAPACITY, out) else {
+        return Ok((report_stop(err, Stop::Memory)?, None));
+    };
+    let status = run(alloc, files, env, words, &mut buffered, err)?;
+    if buffered.flush().is_ok() {
+        let (out, _) = buffered.into_parts();
+        return Ok((status, Some(out)));
+    }
+    if status < 2 {
+        return Ok((report_stop(err, Stop::Write)?, None));
+    }
+    Ok((status, None))
+}
