@@ -214,11 +214,12 @@ impl<'t, F: Files> Counting<'t, F> {
         self.calls.set(Calls::new(alloc));
     }
 
-    fn note(&self, alloc: Global, asked: Asked, path: &str) -> Result<(), Refusal> {
+    /// Notes a call. It returns whether memory sufficed.
+    fn note(&self, alloc: Global, asked: Asked, path: &str) -> bool {
         let mut calls = self.taken(alloc);
         let noted = calls.note(alloc, asked, path);
         self.calls.set(calls);
-        noted_or_refused(noted)
+        noted.is_ok()
     }
 
     fn note_names(&self, alloc: Global, dir: &str, listing: &Listing) {
@@ -227,44 +228,73 @@ impl<'t, F: Files> Counting<'t, F> {
         self.calls.set(calls);
     }
 
-    fn note_above(&self, alloc: Global, path: &str) -> Result<(), Refusal> {
+    /// Notes the directories above a canonical path, if it was found. It returns whether memory
+    /// sufficed.
+    fn note_answer(&self, alloc: Global, answer: &Result<Name, Refusal>) -> bool {
+        match answer {
+            Ok(name) => self.note_above(alloc, name.as_str()),
+            Err(_) => true,
+        }
+    }
+
+    fn note_above(&self, alloc: Global, path: &str) -> bool {
         let mut calls = self.taken(alloc);
         let noted = calls.note_above(alloc, path);
         self.calls.set(calls);
-        noted_or_refused(noted)
+        noted.is_ok()
     }
 }
 
-fn noted_or_refused(noted: Result<(), AllocError>) -> Result<(), Refusal> {
-    match noted {
-        Ok(()) => Ok(()),
-        Err(AllocError) => Err(Refusal::Memory),
-    }
-}
-
+/// They give the answers of those files, or are out of memory.
 impl<F: Files> Files for Counting<'_, F> {
+    ghost use Rattle.std.specs.Prelude.{◌≡◌, ◌⊎◌, Err};
+    ghost use Rattle.ignore_files.specs.declared.types.Refusal.TheVariants.{Memory};
+
+    ghost stat_gives = { λ c path follow r. ⟦<F as Files>⟧.stat_gives c.files.now path follow r ⊎ (r ≡ Err Memory) };
+
+    ghost list_gives = { λ c path r. ⟦<F as Files>⟧.list_gives c.files.now path r ⊎ (r ≡ Err Memory) };
+
+    ghost contents_gives = { λ c path r. ⟦<F as Files>⟧.contents_gives c.files.now path r ⊎ (r ≡ Err Memory) };
+
+    ghost canonical_gives = { λ c path r. ⟦<F as Files>⟧.canonical_gives c.files.now path r ⊎ (r ≡ Err Memory) };
+
+    ghost identity_gives = { λ c path follow r. ⟦<F as Files>⟧.identity_gives c.files.now path follow r ⊎ (r ≡ Err Memory) };
+
     fn stat(&self, alloc: Global, path: &str, follow: bool) -> Result<Metadata, Refusal> {
-        self.note(alloc, Asked::Kind, path)?;
+        if !self.note(alloc, Asked::Kind, path) {
+            return Err(Refusal::Memory);
+        }
         self.files.stat(alloc, path, follow)
     }
 
     fn list(&self, alloc: Global, path: &str) -> Result<Listing, Refusal> {
-        self.note(alloc, Asked::Entries, path)?;
-        let listing = self.files.list(alloc, path)?;
-        self.note_names(alloc, path, &listing);
-        Ok(listing)
+        if !self.note(alloc, Asked::Entries, path) {
+            return Err(Refusal::Memory);
+        }
+        let answer = self.files.list(alloc, path);
+        if let Ok(listing) = &answer {
+            self.note_names(alloc, path, listing);
+        }
+        answer
     }
 
     fn contents(&self, alloc: Global, path: &str) -> Result<Contents, Refusal> {
-        self.note(alloc, Asked::Contents, path)?;
+        if !self.note(alloc, Asked::Contents, path) {
+            return Err(Refusal::Memory);
+        }
         self.files.contents(alloc, path)
     }
 
     fn canonical(&self, alloc: Global, path: &str) -> Result<Name, Refusal> {
-        self.note(alloc, Asked::Kind, path)?;
-        let name = self.files.canonical(alloc, path)?;
-        self.note_above(alloc, name.as_str())?;
-        Ok(name)
+        if !self.note(alloc, Asked::Kind, path) {
+            return Err(Refusal::Memory);
+        }
+        let answer = self.files.canonical(alloc, path);
+        if self.note_answer(alloc, &answer) {
+            answer
+        } else {
+            Err(Refusal::Memory)
+        }
     }
 
     fn identity(
@@ -273,8 +303,14 @@ impl<F: Files> Files for Counting<'_, F> {
         path: &str,
         follow: bool,
     ) -> Result<Option<Identity>, Refusal> {
-        self.note(alloc, Asked::Kind, path)?;
+        if !self.note(alloc, Asked::Kind, path) {
+            return Err(Refusal::Memory);
+        }
         self.files.identity(alloc, path, follow)
+    }
+
+    fn listings_are_whole(&self) -> bool {
+        self.files.listings_are_whole()
     }
 }
 

@@ -1,5 +1,5 @@
 -- What a list, a check and an early end pin: one status, and what is written and reported.
-use Rattle.std.proofs.Common.{◌≡◌, ◌∙◌, ℕ, List, [], ◌++◌, Option, None, Some, append_assoc, ap, refl, sym}
+use Rattle.std.proofs.Common.{◌≡◌, ◌∙◌, ◌⊎◌, ℕ, List, [], ◌++◌, Option, None, Some, append_assoc, ap, inl, inr, refl, sym}
 use Rattle.std.proofs.lemmas.List.{append-nil}
 use Rattle.std.specs.List.{flat_map}
 use Rattle.std.specs.Prelude.{option_to_list}
@@ -9,7 +9,7 @@ use Rattle.commands.specs.declared.stop.Stop.{Stop}
 use Rattle.commands.specs.declared.stop.Stop.TheVariants.{Usage, Memory, Write, Silence}
 use Rattle.commands.specs.Checking.{Checked, Checks}
 use Rattle.commands.specs.Listing.{Lists}
-use Rattle.commands.specs.Stops.{Ends, EndsAfter, EndsReportedAfter, HasRefused, reason}
+use Rattle.commands.specs.Stops.{BreaksOff, Ends, EndsAfter, EndsReportedAfter, EndsUnreportedAfter, HasRefused, reason}
 use Rattle.commands.specs.Words.{Question}
 
 -- a list of some items has one status
@@ -66,3 +66,14 @@ reason_is_last line report all next out err (Memory, can, h) = (Memory, h.1)
 reason_is_last line report all None out err (Write, can, h) = absurd h
 reason_is_last line report all (Some x) out err (Write, can, h) = (Write, h.1)
 reason_is_last line report all next out err (Silence, can, h) = absurd (can refl)
+
+-- where it can't be reported, a beginning of it comes there, and not all of it; or a report before it
+-- couldn't be written
+pub reason_is_cut : {T : Type 0} (line report : T → List ℕ) (all : List T) (next : Option T) (out err : List ℕ → Type 0) (stop : Stop)
+    → EndsUnreportedAfter line report all next out err stop
+    → (stop ≡ Silence) ⊎ BreaksOff (flat_map report all) (reason stop) err
+reason_is_cut line report all next out err Usage h = absurd h
+reason_is_cut line report all next out err Memory h = inr h.1
+reason_is_cut line report all None out err Write h = absurd h
+reason_is_cut line report all (Some x) out err Write h = inr h.1
+reason_is_cut line report all next out err Silence h = inl refl

@@ -10,3 +10,4 @@ mod EndsOnly
 mod ListsOnly
 mod PromisesOnly
 pub mod WriteLemmas
+pub mod BufferLemmas

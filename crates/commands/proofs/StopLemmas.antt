@@ -2,7 +2,6 @@
 use Rattle.std.proofs.Common.{◌≡◌, ◌≢◌, ℕ, ◌<◌, suc, zero, Bool, List, [], ◌∷◌, ◌++◌, length, take, drop, get_or, Option, None, Some, refl, sym, ap}
 use Rattle.std.proofs.Common.{◌∙◌, subst, append_assoc, arith, take-append-drop}
 use Rattle.std.proofs.lemmas.List.{append-nil}
-use Rattle.std.specs.Prelude.{⊤}
 use Rattle.std.specs.Io.KnownBytes.{Appends}
 use Rattle.std.specs.List.{flat_map}
 use Rattle.ignore_rules.specs.Rules.{Building}
@@ -10,7 +9,7 @@ use Rattle.commands.specs.declared.stop.Stop.{Stop}
 use Rattle.commands.specs.declared.stop.Stop.TheVariants.{Usage, Memory, Write, Silence}
 use Rattle.commands.specs.Matching.{AddsAll}
 use Rattle.commands.specs.Words.{Question}
-use Rattle.commands.specs.Stops.{Ends, EndsLine, EndsLines, EndsAfter, EndsReported, EndsReportedAfter, BreaksOff, reason}
+use Rattle.commands.specs.Stops.{BreaksOff, Ends, EndsAfter, EndsLine, EndsLines, EndsReported, EndsReportedAfter, EndsUnreported, EndsUnreportedAfter, IsUnreported, reason}
 use Rattle.commands.proofs.LineLemmas.{appends_on}
 
 -- a list around one of its members
@@ -120,20 +119,27 @@ ends_after line report all (Some q) a b c x y z Write out err h = (
 ends_after line report all None a b c x y z Silence out err h = absurd h
 ends_after line report all (Some q) a b c x y z Silence out err h = (appends_on a b c (flat_map line all) (line q) out h.0, h.1)
 
--- less about what was reported
-pub ends_after_anyhow : {T : Type 0} (line report : T → List ℕ) (all : List T) (next : Option T) (out err : List ℕ → Type 0)
-    (stop : Stop) → EndsAfter line report all next out err stop → EndsAfter line report all next out (λ reported. ⊤) stop
-ends_after_anyhow line report all next out err Usage h = absurd h
-ends_after_anyhow line report all next out err Memory h = (h.0, tt)
-ends_after_anyhow line report all None out err Write h = absurd h
-ends_after_anyhow line report all (Some x) out err Write h = (h.0, tt)
-ends_after_anyhow line report all None out err Silence h = absurd h
-ends_after_anyhow line report all (Some x) out err Silence h = h
+-- the reason was cut, after the other reports
+pub ends_unreported_after : {T : Type 0} (line report : T → List ℕ) (all : List T) (next : Option T) (out : List ℕ → Type 0)
+    (before middle after : Option (List ℕ)) (stop : Stop) → EndsAfter line report all next out (Appends before middle) stop
+    → IsUnreported (Appends middle after) stop → EndsUnreportedAfter line report all next out (Appends before after) stop
+ends_unreported_after line report all next out before middle after Usage h cut = absurd h
+ends_unreported_after line report all next out before middle after Memory h cut =
+    (h.0, cut_after before middle after (flat_map report all) (reason Memory) h.1 cut)
+ends_unreported_after line report all None out before middle after Write h cut = absurd h
+ends_unreported_after line report all (Some x) out before middle after Write h cut =
+    (h.0, cut_after before middle after (flat_map report all) (reason Write) h.1 cut)
+ends_unreported_after line report all None out before middle after Silence h cut = absurd h
+ends_unreported_after line report all (Some x) out before middle after Silence h cut = h
 
--- less about what was reported
-pub ends_anyhow : (question : Question) (out err : List ℕ → Type 0) (stop : Stop) → Ends question out err stop
-    → Ends question out (λ reported. ⊤) stop
-ends_anyhow question out err Usage h = absurd h.1
-ends_anyhow question out err Memory h = let so = h.1.3 in (h.0, (h.1.0, h.1.1, h.1.2, (so.0, so.1, so.2, tt)))
-ends_anyhow question out err Write h = let so = h.1 in (h.0, (so.0, so.1, so.2, tt))
-ends_anyhow question out err Silence h = h
+-- and after the rejected lines
+pub ends_unreported : (question : Question) (out : List ℕ → Type 0) (before middle after : Option (List ℕ)) (stop : Stop)
+    → Ends question out (Appends before middle) stop → IsUnreported (Appends middle after) stop
+    → EndsUnreported question out (Appends before after) stop
+ends_unreported question out before middle after Usage h cut = absurd h.1
+ends_unreported question out before middle after Memory h cut =
+    let so = h.1.3 in
+    (h.0, (h.1.0, h.1.1, h.1.2, (so.0, so.1, so.2, cut_after before middle after so.1 (reason Memory) so.3 cut)))
+ends_unreported question out before middle after Write h cut =
+    let so = h.1 in (h.0, (so.0, so.1, so.2, cut_after before middle after so.1 (reason Write) so.3 cut))
+ends_unreported question out before middle after Silence h cut = h

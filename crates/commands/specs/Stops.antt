@@ -108,7 +108,26 @@ abbrev pub EndsReportedAfter : {T : Type 0} → (T → Bytes) → (T → Bytes) 
 EndsReportedAfter line report all next out err =
     (stop : Stop) × (stop ≢ Silence) × EndsAfter line report all next out (λ bs. err (bs ++ reason stop)) stop
 
+-- the same, and the reason can't be reported: after the other reports a beginning of it was written,
+-- and not all of it
+abbrev pub EndsUnreportedAfter : {T : Type 0} → (T → Bytes) → (T → Bytes) → List T → Option T → (Bytes → Type 0) → (Bytes → Type 0) → Stop → Type 0
+EndsUnreportedAfter line report all next out err stop =
+    EndsAfter line report all next out (λ bs. BreaksOff bs (reason stop) err) stop
+
 -- the run of a question ended early, and the reason was reported after the rejected lines
 abbrev pub EndsReported : Question → (Bytes → Type 0) → (Bytes → Type 0) → Type 0
 EndsReported question out err =
     (stop : Stop) × (stop ≢ Silence) × Wrote out stop × ReportedOf question (λ reported. err (reported ++ reason stop)) stop
+
+-- the same, and the reason can't be reported: a beginning of it was written after the rejected lines,
+-- and not all of it
+abbrev pub EndsUnreported : Question → (Bytes → Type 0) → (Bytes → Type 0) → Stop → Type 0
+EndsUnreported question out err stop =
+    Wrote out stop × ReportedOf question (λ reported. BreaksOff reported (reason stop) err) stop
+
+-- a reason can't be reported: a beginning of it was written, and not all of it; in silence nothing
+abbrev pub IsUnreported : (Bytes → Type 0) → Stop → Type 0
+IsUnreported err Usage = BreaksOff [] (reason Usage) err
+IsUnreported err Memory = BreaksOff [] (reason Memory) err
+IsUnreported err Write = BreaksOff [] (reason Write) err
+IsUnreported err Silence = err []

@@ -1,5 +1,5 @@
 //! The command `check`: what becomes of paths below a root, each on a line.
-ghost use Rattle.std.specs.Prelude.{◌≡◌, ◌≢◌, ◌≤◌, ◌⊎◌, ℕ, All, List, [], Option, Some, ⊤, false, OnErr, OnOk, IfOk, IfErr, IfSome, map, option_map, string_bytes, if◌then◌else◌};
+ghost use Rattle.std.specs.Prelude.{◌≡◌, ◌≢◌, ◌≤◌, ◌⊎◌, ℕ, All, List, [], Option, Some, false, OnErr, OnOk, IfOk, IfErr, IfSome, map, option_map, string_bytes, if◌then◌else◌};
 ghost use Rattle.std.specs.Io.KnownBytes.{Appends};
 ghost use Rattle.ignore_base.specs.Paths.{join_of};
 ghost use Rattle.ignore_base.specs.Problem.{problem_of};
@@ -12,13 +12,13 @@ ghost use Rattle.ignore_query.specs.Fresh.{KeepsNothing};
 ghost use Rattle.ignore_query.specs.Reached.{InEachScene, scene_of};
 ghost use Rattle.ignore_query.specs.declared.kept.Cache.{Cache};
 ghost use Rattle.commands.specs.Checking.{AreAnswers, AreAnswersSoFar, AreFirst, Checked, Checks, IsAnswer, IsMatcher, IsReport, ReportsInTurn};
-ghost use Rattle.commands.specs.Checking.{answer_at, check_line, checked, is_wrong, line_for, report_for, with_next};
+ghost use Rattle.commands.specs.Checking.{answer_at, check_line, checked, is_wrong, line_for, report_for, with_next, word_of};
 ghost use Rattle.commands.specs.Listing.{is_known, report_of};
-ghost use Rattle.commands.specs.Stops.{EndsAfter, EndsReportedAfter, BreaksOff};
+ghost use Rattle.commands.specs.Stops.{BreaksOff, EndsAfter, EndsReportedAfter, EndsUnreportedAfter};
 
 use crate::listing::report;
 use crate::stop::{Stop, report_stop};
-use crate::writing::{write_bytes, write_path};
+use crate::writing::{write_bytes, write_line};
 use ignore::{IncrementalIgnore, IncrementalMatch, WalkBuilder, text};
 use ignore_base::Error;
 use ignore_files::{Env, Files, Refusal};
@@ -31,7 +31,6 @@ use std::io::Write;
 ///
 /// # Errors
 /// Why the run ended, where that can't be written to `err`.
-#[tactic(auto, using(crate::proofs::StopLemmas::ends_reported_after, crate::proofs::StopLemmas::ends_after_anyhow))]
 pub fn check<F: Files, W: Write, E: Write>(
     alloc: Global,
     files: &F,
@@ -50,7 +49,8 @@ pub fn check<F: Files, W: Write, E: Write>(
         × ((tree : Tree) → IsHonest F.Files files.now tree → AreAnswersSoFar tree env.now root.now (with_next all next)))) }
     ensures unreported { IfErr result (λ stop. (all : List Checked) × (next : Option Checked)
         × AreFirst (map string_bytes paths.now) (with_next all next)
-        × EndsAfter line_for report_for all next (Appends (W.contents out.old) (W.contents out.new)) (λ reported. ⊤) stop
+        × EndsUnreportedAfter line_for report_for all next (Appends (W.contents out.old) (W.contents out.new))
+        (Appends (E.contents err.old) (E.contents err.new)) stop
         × ((tree : Tree) → IsHonest F.Files files.now tree → AreAnswersSoFar tree env.now root.now (with_next all next))) }
     ensures status { IfOk result (λ status. status ≤ 2) }
 {
@@ -216,22 +216,28 @@ fn is_dir_at<F: Files>(alloc: Global, files: &F, root: &str, path: &str) -> Resu
 }
 
 /// Writes the word of an answer and its path, on a line.
-#[tactic(auto, using(crate::proofs::StopLemmas::cut_first, crate::proofs::StopLemmas::cut_on))]
+#[tactic(auto, using(crate::proofs::StopLemmas::cut_first))]
 fn write_found<W: Write>(found: IncrementalMatch, path: &str, out: &mut W) -> Result<(), Stop>
     ensures writes { OnOk result (Appends (W.contents out.old) (W.contents out.new) (check_line found path.now)) }
     ensures cut { OnErr result (BreaksOff [] (check_line found path.now) (Appends (W.contents out.old) (W.contents out.new))) }
     ensures ended { IfErr result (λ stop. stop ≡ Stop.Write) }
 {
-    let word = if found.is_ignore() {
+    write_bytes(word_for(found).as_bytes(), out)?;
+    write_bytes(b" ", out)?;
+    write_line(path, out)
+}
+
+/// The word of an answer.
+fn word_for(found: IncrementalMatch) -> &'static str
+    ensures { result.now ≡ word_of found.verdict }
+{
+    if found.is_ignore() {
         "ignore"
     } else if found.is_whitelist() {
         "whitelist"
     } else {
         "none"
-    };
-    write_bytes(word.as_bytes(), out)?;
-    write_bytes(b" ", out)?;
-    write_path(path, out)
+    }
 }
 
 /// Reports an error, if there is one. It returns whether there is.

@@ -1,5 +1,5 @@
 //! The command `list`: the entries of a walk, each on a line.
-ghost use Rattle.std.specs.Prelude.{◌≡◌, ◌≢◌, ◌≤◌, ◌⊎◌, List, Option, Result, Ok, Err, Some, ⊤, true, map, OnOk, IfOk, IfErr, if◌then◌else◌, string_bytes, []};
+ghost use Rattle.std.specs.Prelude.{◌≡◌, ◌≢◌, ◌≤◌, ◌⊎◌, List, Option, Result, Ok, Err, Some, true, map, OnOk, IfOk, IfErr, if◌then◌else◌, string_bytes, []};
 ghost use Rattle.std.specs.Io.KnownBytes.{Appends};
 ghost use Rattle.std.specs.Iterator.{Drains, IsFinite, YieldsThen};
 ghost use Rattle.std.specs.List.{AllZip};
@@ -12,12 +12,12 @@ ghost use Rattle.ignore.specs.Asked.{IsOutside};
 ghost use Rattle.ignore.specs.Builder.{unset};
 ghost use Rattle.ignore_walk.specs.declared.entry.DirEntry.{DirEntry};
 ghost use Rattle.commands.specs.Listing.{IsOf, Lists, report_line, lines_of, reports_of, is_reported};
-ghost use Rattle.commands.specs.Stops.{EndsAfter, EndsReportedAfter};
+ghost use Rattle.commands.specs.Stops.{EndsAfter, EndsReportedAfter, EndsUnreportedAfter};
 ghost use Rattle.commands.specs.Walking.{AreBegun, AreListed, IsTrimmed};
 
 use crate::by_name::ByName;
 use crate::stop::{Stop, report_stop};
-use crate::writing::write_path;
+use crate::writing::write_line;
 use ignore::WalkBuilder;
 use ignore_base::Error;
 use ignore_dir::{Outside, Settings};
@@ -39,7 +39,6 @@ const OPTIONS: Options = Options {
 ///
 /// # Errors
 /// Why the run ended, where that can't be written to `err`.
-#[tactic(auto, using(crate::proofs::StopLemmas::ends_reported_after, crate::proofs::StopLemmas::ends_after_anyhow))]
 pub fn list<F: Files, W: Write, E: Write>(
     alloc: Global,
     files: &F,
@@ -55,7 +54,8 @@ pub fn list<F: Files, W: Write, E: Write>(
         (Appends (W.contents out.old) (W.contents out.new)) (Appends (E.contents err.old) (E.contents err.new))
         × ((tree : Tree) → IsHonest F.Files files.now tree → AreBegun tree env.now (map string_bytes roots.now) items next))) }
     ensures unreported { IfErr result (λ stop. (items : List Item) × (next : Option Item)
-        × EndsAfter lines_of reports_of items next (Appends (W.contents out.old) (W.contents out.new)) (λ reported. ⊤) stop
+        × EndsUnreportedAfter lines_of reports_of items next (Appends (W.contents out.old) (W.contents out.new))
+        (Appends (E.contents err.old) (E.contents err.new)) stop
         × ((tree : Tree) → IsHonest F.Files files.now tree → AreBegun tree env.now (map string_bytes roots.now) items next)) }
     ensures status { IfOk result (λ status. status ≤ 2) }
 {
@@ -155,7 +155,7 @@ fn write_items<I: Iterator<Item = Item>, W: Write, E: Write>(
 }
 
 /// Writes an item. It returns whether something was reported.
-#[tactic(auto, using(crate::proofs::ItemLemmas::ends_at, crate::proofs::ItemLemmas::ends_before))]
+#[tactic(auto, using(crate::proofs::ItemLemmas::ends_at))]
 fn write_item<W: Write, E: Write>(item: Item, out: &mut W, err: &mut E) -> Result<bool, Stop>
     ensures lists { IfOk result (λ any. Appends (W.contents out.old) (W.contents out.new) (lines_of (item_of item))
         × Appends (E.contents err.old) (E.contents err.new) (reports_of (item_of item)) × (any ≡ is_reported (item_of item))) }
@@ -168,8 +168,23 @@ fn write_item<W: Write, E: Write>(item: Item, out: &mut W, err: &mut E) -> Resul
 {
     match item {
         Ok(entry) => write_entry(&entry, out, err),
-        Err(Error::Memory) => Err(Stop::Memory),
-        Err(error) => report(&error, err),
+        Err(error) => report_problem(&error, err),
+    }
+}
+
+/// Reports what stands in the place of an entry. Out of memory ends the run. It returns that it did.
+#[tactic(auto, using(crate::proofs::LineLemmas::appends_nothing))]
+fn report_problem<E: Write>(error: &Error, err: &mut E) -> Result<bool, Stop>
+    ensures reports { IfOk result (λ any. (any ≡ true) × Appends (E.contents err.old) (E.contents err.new) (report_line (problem_of error.now))) }
+    ensures enough { OnOk result (problem_of error.now ≢ memory) }
+    ensures cause { problem_of error.now ≡ memory → IfErr result (λ stop. stop ≡ Stop.Memory) }
+    ensures only { IfErr result (λ stop. stop ≡ Stop.Memory → problem_of error.now ≡ memory) }
+    ensures kept { IfErr result (λ stop. stop ≡ Stop.Memory → Appends (E.contents err.old) (E.contents err.new) []) }
+    ensures ended { IfErr result (λ stop. (stop ≡ Stop.Memory) ⊎ (stop ≡ Stop.Silence)) }
+{
+    match error {
+        Error::Memory => Err(Stop::Memory),
+        _ => report(error, err),
     }
 }
 
@@ -182,7 +197,7 @@ fn write_entry<W: Write, E: Write>(entry: &DirEntry, out: &mut W, err: &mut E) -
         (Appends (W.contents out.old) (W.contents out.new)) (Appends (E.contents err.old) (E.contents err.new))) }
     ensures enough { IfErr result (λ stop. stop ≢ Stop.Memory) }
 {
-    write_path(entry.path(), out)?;
+    write_line(entry.path(), out)?;
     match entry.error() {
         None => Ok(false),
         Some(error) => report(error, err),

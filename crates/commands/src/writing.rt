@@ -1,7 +1,6 @@
 //! Bytes that are written as far as a writer takes them.
-ghost use Rattle.std.specs.Prelude.{◌≡◌, [], OnErr, OnOk, IfErr};
+ghost use Rattle.std.specs.Prelude.{◌≡◌, [], ◌∷◌, ◌++◌, OnErr, OnOk, IfErr};
 ghost use Rattle.std.specs.Io.KnownBytes.{Appends};
-ghost use Rattle.commands.specs.Listing.{path_line};
 ghost use Rattle.commands.specs.Stops.{BreaksOff};
 
 use crate::stop::Stop;
@@ -37,13 +36,13 @@ pub fn write_bytes<W: Write>(bytes: &[u8], out: &mut W) -> Result<(), Stop>
     }
 }
 
-/// Writes a path on a line.
+/// Writes a text on a line, as [`write_bytes`] does.
 #[tactic(auto, using(crate::proofs::StopLemmas::cut_first, crate::proofs::StopLemmas::cut_on))]
-pub fn write_path<W: Write>(path: &str, out: &mut W) -> Result<(), Stop>
-    ensures writes { OnOk result (Appends (W.contents out.old) (W.contents out.new) (path_line path.now)) }
-    ensures cut { OnErr result (BreaksOff [] (path_line path.now) (Appends (W.contents out.old) (W.contents out.new))) }
+pub fn write_line<W: Write>(text: &str, out: &mut W) -> Result<(), Stop>
+    ensures writes { OnOk result (Appends (W.contents out.old) (W.contents out.new) (text.now ++ 10 ∷ [])) }
+    ensures cut { OnErr result (BreaksOff [] (text.now ++ 10 ∷ []) (Appends (W.contents out.old) (W.contents out.new))) }
     ensures ended { IfErr result (λ stop. stop ≡ Stop.Write) }
 {
-    write_bytes(path.as_bytes(), out)?;
+    write_bytes(text.as_bytes(), out)?;
     write_bytes(b"\n", out)
 }

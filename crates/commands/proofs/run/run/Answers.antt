@@ -1,5 +1,5 @@
 use Rattle.std.proofs.Common.{◌≡◌, ◌∙◌, ◌⊎◌, ℕ, IfErr, IfOk, List, Option, Some, ap, map, string_bytes, subst, sym}
-use Rattle.std.specs.Prelude.{⊤, option_map}
+use Rattle.std.specs.Prelude.{option_map}
 use Rattle.std.specs.Io.KnownBytes.{Appends}
 use Rattle.ignore_files.specs.Gives.{IsHonest}
 use Rattle.ignore_files.specs.Tree.{Tree}
@@ -7,7 +7,7 @@ use Rattle.ignore_walk.specs.Entry.{Item}
 use Rattle.commands.specs.Checking.{AreAnswers, AreAnswersSoFar, AreFirst, Checked, Checks, line_for, report_for, with_next}
 use Rattle.commands.specs.Listing.{Lists, lines_of, reports_of}
 use Rattle.commands.specs.Matching.{Prints}
-use Rattle.commands.specs.Stops.{Ends, EndsAfter, EndsReported, EndsReportedAfter}
+use Rattle.commands.specs.Stops.{EndsReported, EndsReportedAfter, EndsUnreported, EndsUnreportedAfter}
 use Rattle.commands.specs.Walking.{AreBegun, AreListed}
 use Rattle.commands.specs.Words.{Question, command_view, of_check, of_list, of_match, request_view}
 use Rattle.commands.proofs.run.run.Goals as goal
@@ -29,7 +29,8 @@ returns-in-Some-Match-clause-unreported g c = λ question is.
     = sym (ap (option_map command_view) (c.in-Some-Match.is ∙ ap Some c.in-Some-Match.field-0-is)) ∙ (c.read_command.ensures ∙ is) in
     let same : request_view c.in-Some-Match.request ≡ question = cc in
     let out = Appends (g.W.Write.contents c.args.out.now) (g.W.Write.contents c.answer_or_report.new.out) in
-    subst (λ (q : Question). IfErr c.answer_or_report.result (Ends q out (λ reported. ⊤))) same c.answer_or_report.ensures.unreported
+    let err = Appends (g.E.Write.contents c.args.err.now) (g.E.Write.contents c.answer_or_report.new.err) in
+    subst (λ (q : Question). IfErr c.answer_or_report.result (EndsUnreported q out err)) same c.answer_or_report.ensures.unreported
 
 -- the roots that are listed are those of the words
 pub returns-in-Some-List-clause-lists : goal.returns-in-Some-List-clause-lists
@@ -51,8 +52,9 @@ returns-in-Some-List-clause-unreported_list g c = λ roots is.
     = sym (ap (option_map command_view) (c.in-Some-List.is ∙ ap Some c.in-Some-List.field-0-is)) ∙ (c.read_command.ensures ∙ is) in
     let same : map string_bytes c.in-Some-List.roots.now ≡ roots = cc in
     let out = Appends (g.W.Write.contents c.args.out.now) (g.W.Write.contents c.list.new.out) in
+    let err = Appends (g.E.Write.contents c.args.err.now) (g.E.Write.contents c.list.new.err) in
     subst (λ (rs : List (List ℕ)). IfErr c.list.result (λ stop. (items : List Item) × (next : Option Item)
-    × EndsAfter lines_of reports_of items next out (λ reported. ⊤) stop
+    × EndsUnreportedAfter lines_of reports_of items next out err stop
     × ((tree : Tree) → IsHonest g.F.Files c.args.files.now tree → AreBegun tree c.args.env.now rs items next))) same c.list.ensures.unreported
 
 -- the paths that are asked about are those of the words
@@ -81,7 +83,8 @@ returns-in-Some-Check-clause-unreported_check g c = λ root paths is.
     let of_paths : map string_bytes c.in-Some-Check.paths.now ≡ paths = cc in
     let same : (c.in-Some-Check.root.now, map string_bytes c.in-Some-Check.paths.now) ≡ (root, paths) = cc in
     let out = Appends (g.W.Write.contents c.args.out.now) (g.W.Write.contents c.check.new.out) in
+    let err = Appends (g.E.Write.contents c.args.err.now) (g.E.Write.contents c.check.new.err) in
     subst (λ (q : List ℕ × List (List ℕ)). IfErr c.check.result (λ stop. (all : List Checked) × (next : Option Checked)
-    × AreFirst q.1 (with_next all next) × EndsAfter line_for report_for all next out (λ reported. ⊤) stop
+    × AreFirst q.1 (with_next all next) × EndsUnreportedAfter line_for report_for all next out err stop
     × ((tree : Tree) → IsHonest g.F.Files c.args.files.now tree → AreAnswersSoFar tree c.args.env.now q.0 (with_next all next)))) same
     c.check.ensures.unreported
