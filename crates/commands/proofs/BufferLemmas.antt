@@ -1,5 +1,5 @@
 -- What stands on a writer after a buffer before it was flushed.
-use Rattle.std.proofs.Common.{◌≡◌, ◌∙◌, ℕ, List, [], ◌++◌, Option, Some, ap, sym}
+use Rattle.std.proofs.Common.{◌≡◌, ◌∙◌, ℕ, List, [], ◌++◌, Option, Some, ap, subst}
 use Rattle.std.proofs.Common.{None as Nothing}
 use Rattle.std.proofs.lemmas.List.{append-nil}
 use Rattle.std.specs.Io.KnownBytes.{append_known, Appends, Keeps}
@@ -12,15 +12,27 @@ use Rattle.commands.specs.Stops.{EndsAfter, EndsReported, EndsReportedAfter, Wro
 use Rattle.commands.specs.Words.{Question}
 use Rattle.ignore_walk.specs.Entry.{Item}
 
--- what was appended behind an empty buffer stands on the writer, once the buffer is empty again
-pub flushed : (before middle after : Option (List ℕ)) (first last bs : List ℕ) → first ≡ [] → last ≡ []
-    → Appends (append_known before first) middle bs → Keeps middle (append_known after last) → Appends before after bs
-flushed Nothing middle after first last bs none empty h k = tt
-flushed (Some a) Nothing after first last bs none empty h k = absurd h
-flushed (Some a) (Some m) Nothing first last bs none empty h k = absurd k
-flushed (Some a) (Some m) (Some z) first last bs none empty h k =
-    sym (ap (λ l. z ++ l) empty ∙ append-nil z)
-    ∙ (k ∙ (h ∙ ap (λ f. f ++ bs) (ap (λ f. a ++ f) none ∙ append-nil a)))
+-- what is kept by two steps
+pub keeps_on : (a b c : Option (List ℕ)) → Keeps a b → Keeps b c → Keeps a c
+keeps_on Nothing b c h k = tt
+keeps_on (Some a) Nothing c h k = absurd h
+keeps_on (Some a) (Some b) Nothing h k = absurd k
+keeps_on (Some a) (Some b) (Some c) h k = k ∙ h
+
+grown : (before middle after : Option (List ℕ)) (first bs : List ℕ) → first ≡ [] → Keeps middle after
+    → Appends (append_known before first) middle bs → Appends before after bs
+grown Nothing middle after first bs none k h = tt
+grown (Some a) Nothing after first bs none k h = absurd h
+grown (Some a) (Some m) Nothing first bs none k h = absurd k
+grown (Some a) (Some m) (Some z) first bs none k h =
+    k ∙ (h ∙ ap (λ f. f ++ bs) (ap (λ f. a ++ f) none ∙ append-nil a))
+
+-- what was appended to an empty buffer stands on the writer after it, once that keeps all
+pub written_on : {T : Type 0} (contents : T → Option (List ℕ)) (before inner : T) (first : List ℕ) (middle after : Option (List ℕ))
+    (bs : List ℕ) → inner ≡ before → first ≡ [] → Keeps middle after → Appends (append_known (contents inner) first) middle bs
+    → Appends (contents before) after bs
+written_on contents before inner first middle after bs is none k h =
+    grown (contents before) middle after first bs none k (subst (λ w. Appends (append_known (contents w) first) middle bs) is h)
 
 -- what holds of an output holds of another one that has the same
 pub prints_over : (question : Question) (status : ℕ) (out over err : List ℕ → Type 0) → ((bs : List ℕ) → out bs → over bs)

@@ -1,7 +1,8 @@
 //! What the `main` of a program does around a run: the words after its name, and a buffer before its
 //! output.
 ghost use Rattle.std.specs.Prelude.{◌≡◌, ◌≤◌, ◌⊎◌, ℕ, List, [], Option, None, Some, IfOk, IfSome, drop, map, string_bytes};
-ghost use Rattle.std.specs.Io.KnownBytes.{Appends};
+ghost use Rattle.std.specs.Io.Buffered.{writer_contents};
+ghost use Rattle.std.specs.Io.KnownBytes.{Appends, Keeps};
 ghost use Rattle.std.specs.Iterator.{Drains, IsFinite};
 ghost use Rattle.ignore_base.specs.Text.{Path};
 ghost use Rattle.ignore_files.specs.Gives.{IsHonest};
@@ -93,12 +94,23 @@ pub fn run_buffered<F: Files, W: Write + Drop, E: Write>(
         return Ok((report_stop(err, Stop::Memory)?, None));
     };
     let status = run(alloc, files, env, words, &mut buffered, err)?;
-    if buffered.flush().is_ok() {
-        let (out, _) = buffered.into_parts();
-        return Ok((status, Some(out)));
+    match flushed(buffered) {
+        Some(out) => Ok((status, Some(out))),
+        None if status < 2 => Ok((report_stop(err, Stop::Write)?, None)),
+        None => Ok((status, None)),
     }
-    if status < 2 {
-        return Ok((report_stop(err, Stop::Write)?, None));
+}
+
+/// The writer after a buffer, once all of the buffer is written and flushed; none where that fails.
+#[tactic(auto, using(crate::proofs::BufferLemmas::keeps_on))]
+fn flushed<W: Write + Drop>(mut buffered: BufWriter<W>) -> Option<W>
+    ensures { IfSome result (λ w. Keeps (writer_contents W.contents buffered) (W.contents w)) }
+{
+    if buffered.flush().is_err() {
+        return None;
     }
-    Ok((status, None))
+    match buffered.into_inner() {
+        Ok(out) => Some(out),
+        Err(_) => None,
+    }
 }
