@@ -8,7 +8,7 @@ use Rattle.commands.specs.declared.stop.Stop.TheVariants.{Usage, Memory, Write, 
 use Rattle.commands.specs.Checking.{Checked, Checks}
 use Rattle.commands.specs.Listing.{Lists}
 use Rattle.commands.specs.Matching.{Prints}
-use Rattle.commands.specs.Stops.{EndsAfter, EndsReported, EndsReportedAfter, Wrote}
+use Rattle.commands.specs.Stops.{EndsAfter, EndsReported, EndsReportedAfter, Wrote, reason}
 use Rattle.commands.specs.Words.{Question}
 use Rattle.ignore_walk.specs.Entry.{Item}
 
@@ -72,4 +72,4 @@ ended_over line report all (Some x) out over err Silence same h = (same _ h.0, h
 pub ends_after_over : {T : Type 0} (line report : T → List ℕ) (all : List T) (next : Option T) (out over err : List ℕ → Type 0)
     → ((bs : List ℕ) → out bs → over bs) → EndsReportedAfter line report all next out err
     → EndsReportedAfter line report all next over err
-ends_after_over line report all next out over err same h = (h.0, h.1, ended_over line report all next out over _ h.0 same h.2)
+ends_after_over line report all next out over err same h = (h.0, h.1, ended_over line report all next out over (λ bs. err (bs ++ reason h.0)) h.0 same h.2)

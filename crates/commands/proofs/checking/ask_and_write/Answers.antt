@@ -1,7 +1,8 @@
-use Rattle.std.proofs.Common.{inr}
+use Rattle.std.proofs.Common.{None, [], inl, inr, map, refl, string_bytes}
 use Rattle.std.proofs.lemmas.Result.{IfErr-weaker, IfOk-weaker}
 use Rattle.commands.specs.Checking.{with_next}
 use Rattle.commands.proofs.CheckLemmas.{answers_of}
+use Rattle.commands.proofs.LineLemmas.{appends_nothing}
 use Rattle.commands.proofs.checking.ask_and_write.Goals as goal
 
 pub returns-clause-checks : goal.returns-clause-checks
@@ -30,3 +31,13 @@ returns-clause-ended g c =
           (λ loads are. h.5 tree loads honest are (c.in-Ok.ensures.fresh tree loads))),
     ))
     c.check_paths.ensures.ended
+
+-- without a matcher no path is
+pub returns-in_default-clause-ended : goal.returns-in_default-clause-ended
+returns-in_default-clause-ended g c = (
+  [],
+  None,
+  (map string_bytes c.args.paths.now, refl),
+  (appends_nothing (g.W.Write.contents c.args.out.now), appends_nothing (g.E.Write.contents c.args.err.now)),
+  λ tree honest. inl refl,
+)

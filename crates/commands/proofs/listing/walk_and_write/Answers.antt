@@ -1,7 +1,8 @@
-use Rattle.std.proofs.Common.{inr, map, refl}
+use Rattle.std.proofs.Common.{None, [], inl, inr, map, refl}
 use Rattle.std.proofs.lemmas.Result.{IfErr-weaker, IfOk-weaker}
 use Rattle.ignore_walk.specs.Entry.{item_of}
 use Rattle.commands.specs.Walking.{listing}
+use Rattle.commands.proofs.LineLemmas.{appends_nothing}
 use Rattle.commands.proofs.WalkLemmas.{comes_next, suits_listing, within}
 use Rattle.commands.proofs.listing.walk_and_write.Goals as goal
 
@@ -52,3 +53,20 @@ returns-clause-ended g c =
       ),
     ))
     c.write_items.ensures.ended
+
+-- without names, or rules from outside, nothing is
+pub returns-in_default-clause-ended : goal.returns-in_default-clause-ended
+returns-in_default-clause-ended g c = (
+  [],
+  None,
+  (appends_nothing (g.W.Write.contents c.args.out.now), appends_nothing (g.E.Write.contents c.args.err.now)),
+  λ tree honest. inl (refl, refl),
+)
+
+pub returns-in_default-outside_of-clause-ended : goal.returns-in_default-outside_of-clause-ended
+returns-in_default-outside_of-clause-ended g c = (
+  [],
+  None,
+  (appends_nothing (g.W.Write.contents c.args.out.now), appends_nothing (g.E.Write.contents c.args.err.now)),
+  λ tree honest. inl (refl, refl),
+)

@@ -1,4 +1,6 @@
-use Rattle.std.proofs.Common.{[], inl, inr}
+use Rattle.std.proofs.Common.{List, [], ℕ, inl, inr}
+use Rattle.std.specs.Io.Buffered.{writer_contents}
+use Rattle.std.specs.Io.KnownBytes.{Appends}
 use Rattle.commands.specs.Checking.{line_for, report_for}
 use Rattle.commands.specs.Listing.{lines_of, reports_of}
 use Rattle.commands.proofs.BufferLemmas.{checks_over, ends_after_over, ends_over, lists_over, prints_over, written_on}
@@ -16,7 +18,9 @@ returns-in-Some-clause-wrong g c = λ is.
 pub returns-in-Some-clause-prints : goal.returns-in-Some-clause-prints
 returns-in-Some-clause-prints g c = λ question is.
     let contents = g.W.Write.contents in
-    let same = λ bs h. written_on contents c.args.out _ _ _ (contents c.in-Some.out) bs c.in-Ok.ensures.inner c.in-Ok.ensures.empty
+    let same : (bs : List ℕ) → Appends (writer_contents contents c.in-Ok.buffered) (writer_contents contents c.run.new.out) bs
+    → Appends (contents c.args.out) (contents c.in-Some.out) bs
+    = λ bs h. written_on contents c.args.out _ _ _ (contents c.in-Some.out) bs c.in-Ok.ensures.inner c.in-Ok.ensures.empty
     c.in-Some.ensures h in
     elim (c.in_ok-status.ensures.prints question is) [
       | inl h ↦ inl (prints_over question c.in_ok-status.field-0 _ _ _ same h)
@@ -26,7 +30,9 @@ returns-in-Some-clause-prints g c = λ question is.
 pub returns-in-Some-clause-lists : goal.returns-in-Some-clause-lists
 returns-in-Some-clause-lists g c = λ roots is.
     let contents = g.W.Write.contents in
-    let same = λ bs h. written_on contents c.args.out _ _ _ (contents c.in-Some.out) bs c.in-Ok.ensures.inner c.in-Ok.ensures.empty
+    let same : (bs : List ℕ) → Appends (writer_contents contents c.in-Ok.buffered) (writer_contents contents c.run.new.out) bs
+    → Appends (contents c.args.out) (contents c.in-Some.out) bs
+    = λ bs h. written_on contents c.args.out _ _ _ (contents c.in-Some.out) bs c.in-Ok.ensures.inner c.in-Ok.ensures.empty
     c.in-Some.ensures h in
     elim (c.in_ok-status.ensures.lists roots is) [
       | inl (items, h, are) ↦ inl (items, lists_over items c.in_ok-status.field-0 _ _ _ same h, are)
@@ -36,7 +42,9 @@ returns-in-Some-clause-lists g c = λ roots is.
 pub returns-in-Some-clause-checks : goal.returns-in-Some-clause-checks
 returns-in-Some-clause-checks g c = λ root paths is.
     let contents = g.W.Write.contents in
-    let same = λ bs h. written_on contents c.args.out _ _ _ (contents c.in-Some.out) bs c.in-Ok.ensures.inner c.in-Ok.ensures.empty
+    let same : (bs : List ℕ) → Appends (writer_contents contents c.in-Ok.buffered) (writer_contents contents c.run.new.out) bs
+    → Appends (contents c.args.out) (contents c.in-Some.out) bs
+    = λ bs h. written_on contents c.args.out _ _ _ (contents c.in-Some.out) bs c.in-Ok.ensures.inner c.in-Ok.ensures.empty
     c.in-Some.ensures h in
     elim (c.in_ok-status.ensures.checks root paths is) [
       | inl (all, h, are) ↦ inl (all, checks_over paths all c.in_ok-status.field-0 _ _ _ same h, are)
