@@ -23,7 +23,7 @@ returns-in-Some-clause-prints g c = λ question is.
     = λ bs h. written_on contents c.args.out _ _ _ (contents c.in-Some.out) bs c.in-Ok.ensures.inner c.in-Ok.ensures.empty
     c.in-Some.ensures h in
     elim (c.in_ok-status.ensures.prints question is) [
-      | inl h ↦ inl (prints_over question c.in_ok-status.field-0 _ _ _ same h)
+      | inl h ↦ inl (prints_over question _ _ _ _ same h)
       | inr (two, h) ↦ inr (two, ends_over question _ _ _ same h)
     ]
 
@@ -35,7 +35,7 @@ returns-in-Some-clause-lists g c = λ roots is.
     = λ bs h. written_on contents c.args.out _ _ _ (contents c.in-Some.out) bs c.in-Ok.ensures.inner c.in-Ok.ensures.empty
     c.in-Some.ensures h in
     elim (c.in_ok-status.ensures.lists roots is) [
-      | inl (items, h, are) ↦ inl (items, lists_over items c.in_ok-status.field-0 _ _ _ same h, are)
+      | inl (items, h, are) ↦ inl (items, lists_over items _ _ _ _ same h, are)
       | inr (two, items, next, h, begun) ↦ inr (two, items, next, ends_after_over lines_of reports_of items next _ _ _ same h, begun)
     ]
 
@@ -47,7 +47,7 @@ returns-in-Some-clause-checks g c = λ root paths is.
     = λ bs h. written_on contents c.args.out _ _ _ (contents c.in-Some.out) bs c.in-Ok.ensures.inner c.in-Ok.ensures.empty
     c.in-Some.ensures h in
     elim (c.in_ok-status.ensures.checks root paths is) [
-      | inl (all, h, are) ↦ inl (all, checks_over paths all c.in_ok-status.field-0 _ _ _ same h, are)
+      | inl (all, h, are) ↦ inl (all, checks_over paths all _ _ _ _ same h, are)
       | inr (two, all, next, first, h, so_far) ↦
           inr (two, all, next, first, ends_after_over line_for report_for all next _ _ _ same h, so_far)
     ]
