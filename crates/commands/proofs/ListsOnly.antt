@@ -1,5 +1,5 @@
 -- What the clauses of a list and of a check give whoever knows the walk, or the loads of directories.
-use Rattle.std.proofs.Common.{◌≡◌, ◌≤◌, ◌⊎◌, inl, inr, ℕ, All, List, [], ◌∷◌, ◌++◌, ◌∙◌, Option, Some, refl, sym, ap, arith}
+use Rattle.std.proofs.Common.{◌≡◌, ◌≤◌, inl, inr, ℕ, All, List, ◌∷◌, ◌++◌, ◌∙◌, Option, Some, sym, ap, arith}
 use Rattle.std.specs.List.{AllZip, flat_map}
 use Rattle.ignore_base.specs.Text.{Bytes, Path}
 use Rattle.ignore_dir.specs.Load.{AreLoads, Loaded}

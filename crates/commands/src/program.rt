@@ -1,6 +1,6 @@
 //! What the `main` of a program does around a run: the words after its name, and a buffer before its
 //! output.
-ghost use Rattle.std.specs.Prelude.{◌≡◌, ◌≤◌, ◌⊎◌, ℕ, List, [], Option, None, Some, IfOk, IfSome, drop, map, string_bytes};
+ghost use Rattle.std.specs.Prelude.{◌≡◌, ◌≤◌, ◌⊎◌, List, [], Option, None, Some, IfOk, IfSome, drop, map, string_bytes};
 ghost use Rattle.std.specs.Io.Buffered.{writer_contents};
 ghost use Rattle.std.specs.Io.KnownBytes.{Appends, Keeps};
 ghost use Rattle.std.specs.Iterator.{Drains, IsFinite};

@@ -1,6 +1,5 @@
-use Rattle.std.proofs.Common.{◌≡◌, ◌≤◌, ◌-◌, length, refl, sym, subst, arith, drop, take, Ok, Err}
-use Rattle.std.specs.Result.{IfOk}
-use Rattle.std.specs.Io.KnownBytes.{Appends, WriteAppends}
+use Rattle.std.proofs.Common.{◌-◌, length, subst, arith, drop, take}
+use Rattle.std.specs.Io.KnownBytes.{WriteAppends}
 use Rattle.commands.proofs.WriteLemmas.{appends_kept, cut_at, within_rest, written_more, written_none}
 use Rattle.commands.proofs.writing.write_bytes.Goals as goal
 use Rattle.commands.proofs.writing.write_bytes.Goals.{in-Ok, in-Err}
