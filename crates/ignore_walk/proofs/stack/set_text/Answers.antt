@@ -10,6 +10,6 @@ returns-in_ok-push_str-in-Some c = λ s root place all.
     let frame = entered_last s root place c.args.frames.now c.in-Some.frame.now all (sym c.last.ensures.value
     ∙ ap option_copied c.in-Some.is) in
     let around : string_bytes c.push_str.new.self ≡ text_at s root place =
-    c.in_ok-push_str.ensures.bytes
+    c.in_ok-push_str-in-Some.ensures.bytes
     ∙ (ap (λ (t : List ℕ). t ++ c.as_str.result.now) c.clear.ensures.bytes ∙ (c.as_str.ensures ∙ frame.text)) in
     on_ok_map c.push_name.result (λ grown. grown ∙ ap (λ (t : List ℕ). t ++ name_in c.args.listed.now) around) c.push_name.ensures

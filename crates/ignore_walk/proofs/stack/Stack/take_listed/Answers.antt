@@ -22,4 +22,4 @@ returns-clause-taken c = λ s items n some r.
     let size : length xs ≡ suc k = omega (some, c.args.self.now.frames.ok.0, arith) in
     let is : f ≡ get_or xs k f = c.in-Some.ensures.value in
     stand_left s c.args.self.now _ f items n (record { seen = refl; roots = refl; above = refl; device = refl }) refl
-    (last_popped xs c.pop.new.self.items k f _ size is c.pop.ensures.rest) c.cut.ensures.cut c.in_default.ensures r
+    (last_popped xs c.pop.new.self.items k f _ size is c.pop.ensures.rest) c.cut.ensures.cut c.in_default-take_next.ensures r
