@@ -222,10 +222,13 @@ impl<'t, F: Files> Counting<'t, F> {
         noted.is_ok()
     }
 
-    fn note_names(&self, alloc: Global, dir: &str, listing: &Listing) {
-        let mut calls = self.taken(alloc);
-        calls.note_names(dir, listing);
-        self.calls.set(calls);
+    /// Notes what is listed, if a directory was.
+    fn note_names(&self, alloc: Global, dir: &str, answer: &Result<Listing, Refusal>) {
+        if let Ok(listing) = answer {
+            let mut calls = self.taken(alloc);
+            calls.note_names(dir, listing);
+            self.calls.set(calls);
+        }
     }
 
     /// Notes the directories above a canonical path, if it was found. It returns whether memory
@@ -272,9 +275,7 @@ impl<F: Files> Files for Counting<'_, F> {
             return Err(Refusal::Memory);
         }
         let answer = self.files.list(alloc, path);
-        if let Ok(listing) = &answer {
-            self.note_names(alloc, path, listing);
-        }
+        self.note_names(alloc, path, &answer);
         answer
     }
 
