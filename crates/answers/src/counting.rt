@@ -253,15 +253,15 @@ impl<F: Files> Files for Counting<'_, F> {
     ghost use Rattle.std.specs.Prelude.{◌≡◌, ◌⊎◌, Err};
     ghost use Rattle.ignore_files.specs.declared.types.Refusal.TheVariants.{Memory};
 
-    ghost stat_gives = { λ c path follow r. ⟦<F as Files>⟧.stat_gives c.files.now path follow r ⊎ (r ≡ Err Memory) };
+    ghost stat_gives = { λ c path follow r. F.stat_gives c.files.now path follow r ⊎ (r ≡ Err Memory) };
 
-    ghost list_gives = { λ c path r. ⟦<F as Files>⟧.list_gives c.files.now path r ⊎ (r ≡ Err Memory) };
+    ghost list_gives = { λ c path r. F.list_gives c.files.now path r ⊎ (r ≡ Err Memory) };
 
-    ghost contents_gives = { λ c path r. ⟦<F as Files>⟧.contents_gives c.files.now path r ⊎ (r ≡ Err Memory) };
+    ghost contents_gives = { λ c path r. F.contents_gives c.files.now path r ⊎ (r ≡ Err Memory) };
 
-    ghost canonical_gives = { λ c path r. ⟦<F as Files>⟧.canonical_gives c.files.now path r ⊎ (r ≡ Err Memory) };
+    ghost canonical_gives = { λ c path r. F.canonical_gives c.files.now path r ⊎ (r ≡ Err Memory) };
 
-    ghost identity_gives = { λ c path follow r. ⟦<F as Files>⟧.identity_gives c.files.now path follow r ⊎ (r ≡ Err Memory) };
+    ghost identity_gives = { λ c path follow r. F.identity_gives c.files.now path follow r ⊎ (r ≡ Err Memory) };
 
     fn stat(&self, alloc: Global, path: &str, follow: bool) -> Result<Metadata, Refusal> {
         if !self.note(alloc, Asked::Kind, path) {
