@@ -84,7 +84,9 @@ abbrev pub HasNoLimits : Settings → Type 0
 HasNoLimits s = (s.min_depth ≡ None) × (s.max_depth ≡ None)
 
 not_beyond : (s : Settings) (depth : ℕ) (d : Bool) → HasNoLimits s → is_beyond s depth d ≡ false
-not_beyond s depth d h = rw (h.0, h.1) (by d)
+not_beyond s depth d h =
+    ap (λ (o : Option ℕ). (not d && is_above o depth) || is_below s.max_depth depth) h.0
+    ∙ (ap (λ (o : Option ℕ). (not d && false) || is_below o depth) h.1 ∙ by d)
   where
     by : (b : Bool) → ((not b && false) || false) ≡ false
     by true = refl
@@ -105,7 +107,10 @@ and_true true false = refl
 and_true false b = refl
 
 limited-fair : (s : Settings) (depth : ℕ) (d : Bool) (said : Verdict) (p : Option Problem) → HasNoLimits s → IsFair d (limited s depth d said, p)
-limited-fair s depth d said p h = rw (h.0, h.1) (refl, and_true d (not (is_ignore said)))
+limited-fair s depth d said p h = (
+  ap (λ (o : Option ℕ). not (is_above o depth)) h.0,
+  ap (λ (o : Option ℕ). d && (not (is_ignore said) && not (is_deepest o depth))) h.1 ∙ and_true d (not (is_ignore said)),
+)
 
 pub query-fair : (g : below.Scene) (path : Path) (d : Bool) → HasNoLimits g.settings → IsFair d (query g path d)
 unfolding query answer_of_rules
@@ -122,7 +127,7 @@ unfolding query
 root-descends g h =
     let own = limited g.settings 0 true v.None in
     let Descends : Answer → Type 0 = λ a. a.0.descends ≡ true in
-    let root : own.descends ≡ true = rw h.1 refl in
+    let root : own.descends ≡ true = ap (λ (o : Option ℕ). not (is_deepest o 0)) h.1 in
     choose Descends (is_asked g.root []) (is_beyond g.settings 0 true) false (no_match true, None) (beyond, None) (own, None) (own, None)
     refl (λ out. absurd (let e = sym (not_beyond g.settings 0 true h) ∙ out in cc (e))) root root
 

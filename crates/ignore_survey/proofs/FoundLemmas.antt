@@ -7,6 +7,7 @@ use Rattle.ignore_base.specs.Problem.{Problem}
 use Rattle.ignore_base.specs.Text.{Bytes, Path}
 use Rattle.ignore_base.specs.declared.fault.Fault.{Fault}
 use Rattle.ignore_dir.specs.Query.{depth_of, query}
+use Rattle.ignore_dir.specs.Scene as below
 use Rattle.ignore_dir.specs.Verdict.{is_ignore}
 use Rattle.ignore_files.specs.Kinds.{is_dir}
 use Rattle.ignore_files.specs.declared.types.FileType.{FileType}
@@ -51,7 +52,7 @@ later : (x y : Item) (xs : List Item) → Contains xs y → Contains (x ∷ xs) 
 later x y xs (k, l, e) = (suc k, omega (arith, l), e)
 
 module _ (w : Scene) (root : Path) (join : JoinsName) (plain : IsPlain w) where
-  abbrev g : _
+  abbrev g : below.Scene
   g = queries w root
 
   -- an entry of a survey, and the entry of the walk at its place

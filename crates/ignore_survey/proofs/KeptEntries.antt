@@ -1,11 +1,12 @@
 -- The entries of a survey that aren't ignored are those of the walk.
-use Rattle.std.proofs.Common.{◌≡◌, ℕ, suc, ◌+◌, ◌<◌, Bool, true, false, not, ◌&&◌, List, [], ◌∷◌, length, reverse, codes, bytes_eq, Contains, None, Some, Ok, refl, sym, ◌∙◌, ap, subst, arith}
+use Rattle.std.proofs.Common.{◌≡◌, ℕ, suc, ◌+◌, ◌<◌, Bool, true, false, not, ◌&&◌, List, [], ◌∷◌, length, reverse, codes, bytes_eq, Contains, Option, None, Some, Ok, refl, sym, ◌∙◌, ap, subst, arith}
 use Rattle.std.specs.Prelude.{◌↔◌}
 use Rattle.ignore_base.specs.Paths.{JoinsName, join_of, joined}
 use Rattle.ignore_base.specs.Problem.{Problem}
 use Rattle.ignore_base.specs.Text.{Bytes, Path}
 use Rattle.ignore_dir.specs.Limits.{is_below}
 use Rattle.ignore_dir.specs.Query.{query}
+use Rattle.ignore_dir.specs.Scene as below
 use Rattle.ignore_dir.specs.Verdict.{is_ignore}
 use Rattle.ignore_dir.specs.declared.incremental.IncrementalMatch.{IncrementalMatch}
 use Rattle.ignore_files.specs.Kinds.{is_dir}
@@ -48,14 +49,14 @@ module _ (w : Scene) (root : Path) (join : JoinsName) (plain : IsPlain w) (no_st
     (items : List Item) (survey : IsSurvey (queries w root) items) (out : List WalkItem) (n : ℕ) (walk : WalkedOne w root [] (root_entry w root) out n)
     (agrees : (b : Branch) (e : Walked) → Reachable w root b e → is_within w b ≡ true → IsYielded out e ↔ (is_kept w root b e ≡ true))
     (shows : (e : Walked) → IsYielded out e ↔ IsShown w root e) where
-  abbrev g : _
+  abbrev g : below.Scene
   g = queries w root
 
   within : (b : Branch) → is_within w b ≡ true
-  within b = rw plain.no_greatest refl
+  within b = ap (λ (o : Option ℕ). not (is_below o (length b))) plain.no_greatest
 
   deep : (e : Walked) → is_at_least w.settings.min_depth e.depth ≡ true
-  deep e = rw plain.no_least refl
+  deep e = ap (λ (o : Option ℕ). is_at_least o e.depth) plain.no_least
 
   -- what the walk asks of an entry
   kept_at : (b : Branch) (e : Walked) (path : Path) (kind : FileType) → joined (reverse b) ≡ path → e.kind ≡ Some kind

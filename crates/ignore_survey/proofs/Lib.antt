@@ -5,3 +5,4 @@ pub mod LeftLemmas
 pub mod OneSurvey
 pub mod SuitLemmas
 pub mod SurveyLemmas
+pub mod WorkedSurvey

@@ -38,7 +38,7 @@ one_listing tree path xs ys a b =
 -- of a directory that can't be listed
 pub below_failed : (g : Scene) (dir : Path) (own : List Item) (f : Fault) → g.tree.list (place g.root dir) ≡ Err f
     → Below g dir own → own ≡ unlisted g dir f ∷ []
-below_failed g dir own f no (fails {fault = k} is) = let e = sym no ∙ is in let same : f ≡ k = cc (e) in cc (same)
+below_failed g dir own f no (fails {fault = k} is) = let e = sym no ∙ is in let same : k ≡ f = cc (e) in ap (λ (x : Fault). unlisted g dir x ∷ []) same
 below_failed g dir own f no (lists listed each) = absurd (let e = sym no ∙ listed.1 in cc (e))
 
 -- of one that lists these things

@@ -1,5 +1,5 @@
 //! What a survey has in hand: directories whose listings are half read, and one that is to be listed.
-ghost use Rattle.std.specs.Prelude.{◌≡◌, Err, IfOk, List, MatchOption, None};
+ghost use Rattle.std.specs.Prelude.{◌≡◌, [], Err, IfOk, List, MatchOption, None};
 ghost use Rattle.ignore_base.specs.Problem.{problem_of};
 ghost use Rattle.ignore_dir.specs.Scene.{Scene};
 ghost use Rattle.ignore_files.specs.Gives.{IsHonest};

@@ -13,7 +13,7 @@ use crate::stack::Stack;
 use crate::surveyed::{Item, Surveyed};
 use ignore_base::{Error, Fault};
 use ignore_files::{FileType, Files, Name};
-use ignore_query::{Explanation, IncrementalIgnore};
+use ignore_query::IncrementalIgnore;
 use std::alloc::{AllocError, Global};
 use std::collections::VecDeque;
 use std::iter::FusedIterator;
@@ -37,6 +37,16 @@ pub struct Survey<'a, F: Files> {
     ended: bool,
 }
 
+/// What is to be listed next: a directory, where the survey goes on below it.
+fn next_dir(alloc: Global, goes_on: bool, path: &str) -> Result<Option<Name>, AllocError>
+    ensures { IfOk result (λ dir. dir ≡ (if goes_on then Some path.now else None)) }
+{
+    if !goes_on {
+        return Ok(None);
+    }
+    Ok(Some(Name::from_str(alloc, path)?))
+}
+
 /// The root, where it is surveyed.
 fn first<F: Files>(
     alloc: Global,
@@ -51,10 +61,7 @@ fn first<F: Files>(
         return Ok(None);
     }
     let (explanation, _) = matcher.explain(files, "", true)?;
-    if !explanation.answer.should_descend() {
-        return Ok(None);
-    }
-    Ok(Some(Name::new(String::new(alloc))))
+    Ok(next_dir(alloc, explanation.answer.should_descend(), "")?)
 }
 
 /// The error of a survey that may yield no item more.
@@ -111,7 +118,7 @@ impl<'a, F: Files> Survey<'a, F> {
     }
 
     /// An entry with what becomes of it. Where the survey goes on below it, it is listed next.
-    fn visit(&mut self, path: String, file_type: FileType) -> Result<Surveyed, AllocError>
+    fn visit(&mut self, path: String, file_type: FileType) -> Result<Surveyed, Error>
         ensures entry { (g : Scene) → Suits F.Files self.old.files.now self.old.matcher g
             → IfOk result (λ s. entry_of s ≡ entry_at g (string_bytes path) file_type) }
         ensures stack { (g : Scene) (items : List Yielded) → Suits F.Files self.old.files.now self.old.matcher g
@@ -123,14 +130,12 @@ impl<'a, F: Files> Survey<'a, F> {
             → Suits F.Files self.new.files.now self.new.matcher g }
         ensures left { self.new.left ≡ self.old.left }
         ensures ended { self.new.ended ≡ self.old.ended }
+        ensures out_of_memory { IfErr result (λ e. problem_of e ≡ memory) }
     {
-        let found = self
-            .matcher
-            .explain(self.files, path.as_str(), file_type.is_dir());
-        let (explanation, error) = known(found)?;
-        if explanation.answer.should_descend() {
-            self.stack.waiting = Some(Name::from_str(self.alloc, path.as_str())?);
-        }
+        let (files, is_dir) = (self.files, file_type.is_dir());
+        let (explanation, error) = self.matcher.explain(files, path.as_str(), is_dir)?;
+        let goes_on = explanation.answer.should_descend();
+        self.stack.waiting = next_dir(self.alloc, goes_on, path.as_str())?;
         Ok(Surveyed {
             path,
             file_type,
@@ -140,7 +145,7 @@ impl<'a, F: Files> Survey<'a, F> {
     }
 
     /// The next item, whatever the limit is.
-    fn step(&mut self) -> Result<Option<Item>, AllocError>
+    fn step(&mut self) -> Result<Option<Item>, Error>
         ensures given { (g : Scene) (items : List Yielded) → Suits F.Files self.old.files.now self.old.matcher g
             → Stands g self.old.stack items → IfOk result (λ next. MatchOption next (items ≡ [])
             (λ item. Hands g self.new.stack (item_of item) items)) }
@@ -150,6 +155,7 @@ impl<'a, F: Files> Survey<'a, F> {
             → Suits F.Files self.new.files.now self.new.matcher g }
         ensures left { self.new.left ≡ self.old.left }
         ensures ended { self.new.ended ≡ self.old.ended }
+        ensures out_of_memory { IfErr result (λ e. problem_of e ≡ memory) }
     {
         let (alloc, root) = (self.alloc, self.matcher.root());
         if let Some(error) = self.stack.open(alloc, self.files, root)? {
@@ -188,7 +194,7 @@ impl<'a, F: Files> Survey<'a, F> {
             return None;
         }
         match self.step() {
-            Err(_) => self.end(Error::Memory),
+            Err(error) => self.end(error),
             Ok(None) => {
                 self.ended = true;
                 None
@@ -201,18 +207,6 @@ impl<'a, F: Files> Survey<'a, F> {
                 Some(item)
             }
         }
-    }
-}
-
-/// A reason that memory sufficed for.
-fn known(
-    found: Result<(Explanation, Option<Error>), Error>,
-) -> Result<(Explanation, Option<Error>), AllocError>
-    ensures known { IfOk result (λ r. found ≡ Ok r) }
-{
-    match found {
-        Ok(found) => Ok(found),
-        Err(_) => Err(AllocError),
     }
 }
 
