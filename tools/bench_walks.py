@@ -1,5 +1,6 @@
 """Measurements of walks by the proved program `igwalk`, for `tools/bench`: what further roots below
-one file of rules cost, and what a walk costs beside ripgrep, in time and in system calls.
+one file of rules cost, and what a walk costs beside ripgrep, in time and in system calls, and beside
+a listing of its folders by the kit alone.
 """
 import os
 import re
@@ -14,6 +15,8 @@ TOP = os.path.dirname(os.path.dirname(os.path.abspath(__file__)))
 # A proved program, as the gate or `tools/launch --prove igwalk` leaves it, or another to compare.
 IGWALK = os.environ.get("IGWALK") or f"{TOP}/crates/igwalk/out/igwalk"
 ROUNDS = 9
+# The proved program that lists folders by the kit alone.
+FLOOR = os.environ.get("FLOOR") or f"{TOP}/crates/bench/out/bench"
 # The system calls that are counted beside all.
 CALLS = ("statx", "newfstatat", "getdents64", "openat", "read")
 
@@ -131,3 +134,32 @@ def walks(tree):
         print(f"{name:28} {wall * 1000:8.1f} {used * 1000:10.1f} {memory / 1e6:7.1f} {wall / base:6.2f} {shown} {sum(calls.values()):10}")
         if name == "igwalk list":
             print(f"{'':28} {calls.get('statx', 0) / max(count, 1):.3f} statx for each listed entry")
+
+
+# A walk beside a listing of its folders
+
+
+def folders_of(tree):
+    """The folders that `igwalk list` lists: those that it entered, as it names them."""
+    listed = subprocess.run([IGWALK, "list", "."], cwd=tree, stdout=subprocess.PIPE, stderr=subprocess.DEVNULL, check=True)
+    paths = listed.stdout.decode().splitlines()
+    return [it for it in paths if os.path.isdir(f"{tree}/{it}") and not os.path.islink(f"{tree}/{it}")]
+
+
+def floor(tree):
+    wanted(IGWALK, FLOOR)
+    with tempfile.NamedTemporaryFile("w", encoding="utf-8") as it:
+        folders = folders_of(tree)
+        it.write("".join(f"{name}\n" for name in folders))
+        it.flush()
+        ways = {"igwalk list": [IGWALK, "list", "."], "the kit alone": [FLOOR, "floor", it.name]}
+        found = {name: [] for name in ways}
+        for _ in range(ROUNDS):
+            for name, words in ways.items():
+                found[name].append(timed(words, tree))
+    print(f"{tree}: {len(folders)} folders\n")
+    print(f"{'':14} {'ms':>8} {'processor':>10} {'MB':>7} {'to the kit':>11}")
+    base = statistics.median(it[0] for it in found["the kit alone"])
+    for name, ones in found.items():
+        wall, used, memory = (statistics.median(it[at] for it in ones) for at in range(3))
+        print(f"{name:14} {wall * 1000:8.1f} {used * 1000:10.1f} {memory / 1e6:7.1f} {wall / base:11.2f}")

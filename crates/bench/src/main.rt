@@ -4,6 +4,7 @@
 
 mod build;
 mod check;
+mod floor;
 mod globs;
 mod input;
 mod list;
@@ -18,7 +19,7 @@ use input::words;
 use std::process::ExitCode;
 
 const USAGE: &str =
-    "usage: bench check | globs GLOBS TEXTS ROUNDS | rules RULES TEXTS COUNT ROUNDS | list RULES PATHS | queries ROOT PATHS ROUNDS | build RULES ROUNDS";
+    "usage: bench check | globs GLOBS TEXTS ROUNDS | rules RULES TEXTS COUNT ROUNDS | list RULES PATHS | queries ROOT PATHS ROUNDS | build RULES ROUNDS | floor FOLDERS";
 
 /// Runs the command in the words; returns whether there is such a command.
 fn run(rt: &HostRuntime, words: &[String]) -> Result<bool, Error> {
@@ -41,6 +42,9 @@ fn run(rt: &HostRuntime, words: &[String]) -> Result<bool, Error> {
         }
         [command, rules, paths] if command.as_str() == "list" => {
             list::list(rt, rules.as_str(), paths.as_str())?;
+        }
+        [command, folders] if command.as_str() == "floor" => {
+            floor::list_folders(rt, folders.as_str())?;
         }
         _ => return Ok(false),
     }

@@ -30,3 +30,5 @@ pub mod KeptLemmas
 pub mod AgreeLemmas
 pub mod YieldLemmas
 pub mod RunLemmas
+pub mod PlacedLemmas
+pub mod EndLemmas

@@ -4,3 +4,4 @@ pub mod Explained
 pub mod Queries
 pub mod Watched
 pub mod Searched
+pub mod Stored
