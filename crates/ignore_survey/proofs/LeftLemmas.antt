@@ -114,3 +114,19 @@ module _ (g : Scene) (f : Frame) (fs : List Frame) where
           are = refl;
         };
       }
+
+-- after an entry, the stack waits for what is below it
+pub next_waits : (g : Scene) (s t : Stack) (path : Path) (kind : FileType) (items : List Item) → t.waiting ≡ next_dir g path kind
+    → t.frames ≡ s.frames → Finds g s (Ok (path, kind)) items → Hands g t (Ok (entry_at g path kind)) items
+next_waits g s t path kind items waits same h =
+    record {
+      others = h.others;
+      are = h.are;
+      rest = record {
+        own = h.rest.own;
+        outer = h.rest.outer;
+        first = subst (λ (w : Option Path). Waits g w h.rest.own) (sym waits) h.rest.first;
+        rest = rw same h.rest.rest;
+        are = h.rest.are;
+      };
+    }

@@ -13,7 +13,8 @@ ghost use Rattle.ignore_walk.specs.Walked.{IsArranged, comes_before};
 use ignore_base::internal::join;
 use ignore_base::text::{has_slash, is_proper};
 use ignore_base::{Error, Fault};
-use ignore_files::{Files, Listed, Refusal};
+use ignore_files::internal::answered;
+use ignore_files::{Files, Listed, Listing};
 use std::alloc::{AllocError, Global};
 use std::cmp::Ordering;
 use std::collections::VecDeque;
@@ -71,6 +72,26 @@ fn sort(listing: &mut Vec<Listed>) -> Result<(), AllocError>
     )
 }
 
+/// A listing in the order of the names, each name that is none as a fault.
+fn in_order(alloc: Global, listing: Listing) -> Result<VecDeque<Listed>, AllocError>
+    ensures { (dir : Path) → IfOk result (λ things. IsArranged by_name dir (map named listing) things.items) }
+{
+    let mut things = all_named(alloc, listing.into_vec())?;
+    sort(&mut things)?;
+    Ok(VecDeque::from_vec(things))
+}
+
+/// What the directory at a path lists, or the fault in place of that.
+fn answer_of<F: Files>(
+    alloc: Global,
+    files: &F,
+    path: &str,
+) -> Result<Result<Listing, Fault>, AllocError>
+    ensures { (tree : Tree) → IsHonest F.Files files.now tree → IfOk result (λ answer. tree.list path.now ≡ answer) }
+{
+    answered(files.list(alloc, path))
+}
+
 /// What the directory at a path lists, in the order of the names; or the fault of its listing.
 pub(crate) fn listed<F: Files>(
     alloc: Global,
@@ -81,14 +102,9 @@ pub(crate) fn listed<F: Files>(
         (λ things. Lists tree path.now things.items)
         (λ fault. tree.list path.now ≡ Err fault)) }
 {
-    match files.list(alloc, path) {
-        Ok(listing) => {
-            let mut things = all_named(alloc, listing.into_vec())?;
-            sort(&mut things)?;
-            Ok(Ok(VecDeque::from_vec(things)))
-        }
-        Err(Refusal::Fault(fault)) => Ok(Err(fault)),
-        Err(Refusal::Memory) => Err(AllocError),
+    match answer_of(alloc, files, path)? {
+        Ok(listing) => Ok(Ok(in_order(alloc, listing)?)),
+        Err(fault) => Ok(Err(fault)),
     }
 }
 
