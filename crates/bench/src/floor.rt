@@ -1,39 +1,53 @@
-//! What a walk costs at the least: its folders, listed by the kit alone.
+//! What a list of folders costs by the kit alone.
 
-use ignore_base::Error;
+use std::alloc::Global;
 use std::fs;
-use std::io::{BufWriter, Write};
+use std::io::{self, BufWriter, Write};
 
-/// How many bytes of the output are kept before they are written: as many as `igwalk` keeps.
-const CAPACITY: usize = 64 * 1024;
-
-/// Writes what is in each folder that a line of a file names, a path on each line, in each folder
-/// by name. The kind of each entry is asked, as a walk must.
-pub(crate) fn list_folders(rt: &HostRuntime, folders: &str) -> Result<(), Error> {
+/// Lists each of the folders in a file, one on a line, by the kit alone: writes the path of each of
+/// its entries, in the order of their names, and asks the kind of each, as a walk has to. A folder
+/// that can't be listed ends it.
+pub(crate) fn floor(rt: &HostRuntime, folders: &str) -> io::Result<()> {
     let folders = fs::read_to_string(rt, folders)?;
-    let mut out = BufWriter::with_capacity(rt.alloc(), CAPACITY, rt.stdout())?;
-    for folder in folders.lines() {
-        write_names(&mut out, folder, names_in(rt, folder)?.as_slice())?;
-    }
-    Ok(out.flush()?)
+    let mut out = BufWriter::with_capacity(rt.alloc(), 64 * 1024, rt.stdout())?;
+    write_folders(rt, folders.as_str(), &mut out)
 }
 
-/// The names of what is in a folder, sorted.
-fn names_in(rt: &HostRuntime, folder: &str) -> Result<Vec<String>, Error> {
+fn write_folders<W: Write>(rt: &HostRuntime, folders: &str, out: &mut W) -> io::Result<()> {
+    for folder in folders.lines() {
+        let names = names_in(rt, folder)?;
+        write_names(folder, names.as_slice(), out)?;
+    }
+    out.flush()
+}
+
+/// The names in a folder, sorted, each with whether it is a folder.
+fn names_in(rt: &HostRuntime, folder: &str) -> io::Result<Vec<(String, bool)>> {
     let mut names = Vec::new(rt.alloc());
     for entry in fs::read_dir(rt, folder)? {
-        let entry = entry?;
-        let _ = entry.file_type()?;
-        names.push(String::from_str(rt.alloc(), entry.file_name())?)?;
+        names.push(name_of(rt, entry)?)?;
     }
     names.sort()?;
     Ok(names)
 }
 
-/// Writes the paths of the names in a folder.
-fn write_names<W: Write>(out: &mut W, folder: &str, names: &[String]) -> Result<(), Error> {
-    for name in names {
-        writeln!(out, "{folder}/{name}")?;
+fn name_of(
+    rt: &HostRuntime,
+    entry: io::Result<fs::DirEntry<HostRuntime, Global>>,
+) -> io::Result<(String, bool)> {
+    let entry = entry?;
+    let is_dir = entry.file_type()?.is_dir();
+    Ok((String::from_str(rt.alloc(), entry.file_name())?, is_dir))
+}
+
+/// Writes the path of each name, with a slash after a folder's.
+fn write_names<W: Write>(folder: &str, names: &[(String, bool)], out: &mut W) -> io::Result<()> {
+    for (name, is_dir) in names {
+        let end = if *is_dir { "/\n" } else { "\n" };
+        out.write_all(folder.as_bytes())?;
+        out.write_all(b"/")?;
+        out.write_all(name.as_bytes())?;
+        out.write_all(end.as_bytes())?;
     }
     Ok(())
 }
