@@ -1,0 +1,101 @@
+-- A walk is one of what the handle keeps.
+use Rattle.std.proofs.Common.{◌≡◌, ◌⊎◌, ◌∙◌, ℕ, Bool, true, List, Ok, Err, inl, inr, refl, sym, ap, subst, map}
+use Rattle.std.specs.declared.cmp.Ordering.TheVariants.{Equal}
+use Rattle.ignore.specs.Headline.{IsAboveLimit, IsListIn, IsSceneOf}
+use Rattle.ignore.specs.WalkWords.{Entry, Item, IsOutside, Outside, Scene, Whole, item_of}
+use Rattle.ignore.specs.FileWords.{Tree as Files}
+use Rattle.ignore.specs.declared.options.WalkOptions.{WalkOptions}
+use Rattle.ignore_base.specs.Problem.{Problem, io, memory}
+use Rattle.ignore_base.specs.Text.{Bytes}
+use Rattle.ignore_base.specs.declared.fault.Fault.TheVariants.{StepLimit}
+use Rattle.ignore_files.specs.Answers.{tree_of}
+use Rattle.ignore_files.specs.Gives.{IsHonest}
+use Rattle.ignore_files.specs.Memory.{Memory}
+use Rattle.ignore_files.specs.declared.files.Files.{Ghosts as FileCalls}
+use Rattle.ignore_files.specs.declared.env.Env.{Env}
+use Rattle.ignore_walk.specs.declared.callbacks.Callbacks.{Ghosts as Callbacks}
+use Rattle.ignore_walk.specs.declared.callbacks.Order.{Order}
+use Rattle.ignore_walk.specs.declared.callbacks.Order.TheVariants.{Listed}
+use Rattle.ignore_kept.specs.Kinds.{setup_in, tree_in}
+use Rattle.ignore_kept.specs.Setups as setup
+use Rattle.ignore_kept.specs.Trees as tree
+use Rattle.ignore_kept.specs.Walking.{Builds, IsListOf, IsPlain, Nexts, TellsNext, end_of, keeping, next_of}
+use Rattle.ignore_kept.specs.declared.kept.Kept.{Kept}
+use Rattle.ignore_kept.specs.declared.setup.Setup.{Setup}
+use Rattle.ignore_kept.specs.declared.stopped.Stopped.{Stopped}
+use Rattle.ignore_kept.specs.declared.stopped.Stopped.TheVariants.{NotUtf8, Memory as Full, Limit, Invalid, Misused, Tree}
+use Rattle.ignore_kept.specs.declared.walked.WalkEntry.{WalkEntry}
+use Rattle.ignore_kept.specs.declared.walked.Walked.{Walked}
+
+-- an owner without closures: each entry passes, and all names tie
+pub record IsBare {S : Type 0} (calls : Callbacks S) (owner : S) : Type 0 where
+  pub passes : (keep : Entry → Bool) → ((e : Entry) → keep e ≡ true) → calls.filters owner keep
+  pub ties : calls.compares owner (λ a b. Equal)
+
+-- a scene without a filter and an order is one by such an owner
+pub bare_scene : {S : Type 0} (calls : Callbacks S) (owner : S) (b : WalkOptions) (t : Files) (o : Outside) (g : Scene)
+    → IsBare calls owner → IsPlain b t o g → IsSceneOf calls owner b Listed t o g
+bare_scene calls owner b t o g bare p =
+    record {
+      tree = p.tree;
+      loads = p.loads;
+      settings = p.settings;
+      outside = p.outside;
+      device = p.device;
+      filter = bare.passes g.keep p.filter;
+      sorted = (λ a b. Equal, bare.ties, record { one_way = λ x y is. refl; chain = λ x y z a b. refl }, p.order);
+    }
+
+-- the list by such an owner is the list of the definition
+pub listed : {S : Type 0} (calls : Callbacks S) (owner : S) (tree : Memory) (env : Env) (taken b : WalkOptions) (order : Order)
+    (all : List Item) → taken ≡ b → order ≡ Listed → IsBare calls owner
+    → IsListIn calls owner env taken order (tree_of tree) all → IsListOf tree env b (Ok all)
+listed calls owner tree env taken b order all same plain bare h =
+    let l : IsListIn calls owner env b Listed (tree_of tree) all =
+    subst (λ (o : WalkOptions). IsListIn calls owner env o Listed (tree_of tree) all) same
+    (subst (λ (o : Order). IsListIn calls owner env taken o (tree_of tree) all) plain h) in
+    (l.0, l.1, λ g items n is whole. l.2 g items n (bare_scene calls owner b (tree_of tree) l.0 g bare is) whole)
+
+-- why there is no list by such an owner
+pub unlisted : {F S : Type 0} (files : FileCalls F) (calls : Callbacks S) (f : F) (owner : S) (tree : Memory) (env : Env)
+    (taken b : WalkOptions) (order : Order) (problem : Problem) (stopped : Stopped) → IsHonest files f (tree_of tree) → taken ≡ b
+    → order ≡ Listed → IsBare calls owner → stopped ≡ end_of problem
+    → (problem ≡ memory) ⊎ ((problem ≡ io StepLimit) × IsAboveLimit files calls f owner env taken order)
+    → IsListOf tree env b (Err stopped)
+unlisted files calls f owner tree env taken b order problem stopped honest same plain bare is (inl m) =
+    subst (λ (s : Stopped). IsListOf tree env b (Err s)) (sym (is ∙ ap end_of m)) tt
+unlisted files calls f owner tree env taken b order problem stopped honest same plain bare is (inr h) =
+    let l = subst (λ (o : WalkOptions). IsAboveLimit files calls f owner env o Listed) same
+    (subst (λ (o : Order). IsAboveLimit files calls f owner env taken o) plain h.1) (tree_of tree) honest in
+    subst (λ (s : Stopped). IsListOf tree env b (Err s)) (sym (is ∙ ap end_of h.0))
+    (l.0, l.1, λ g items n p whole. l.2 g items n (bare_scene calls owner b (tree_of tree) l.0 g bare p) whole)
+
+module _ (builder files : Kept) (options : Setup) (told : Memory) (taken : WalkOptions) (b : builder ≡ setup.keeping options)
+    (t : files ≡ tree.keeping told) (same : taken ≡ options.options) where
+  pub walks : (walk : Walked) → IsListOf told options.env taken (Ok (map item_of walk.items.items)) → walk.given ≡ 0
+      → Builds builder files (Ok (keeping walk))
+  walks walk h none = (
+    options,
+    told,
+    walk,
+    ap setup_in b,
+    ap tree_in t,
+    subst (λ (o : WalkOptions). IsListOf told options.env o (Ok (map item_of walk.items.items))) same h,
+    none,
+    refl,
+  )
+
+  pub walks_none : (e : Stopped) → IsListOf told options.env taken (Err e) → Builds builder files (Err e)
+  walks_none Limit h =
+      (options, told, ap setup_in b, ap tree_in t, subst (λ (o : WalkOptions). IsListOf told options.env o (Err Limit)) same h)
+  walks_none Full h = tt
+  walks_none NotUtf8 h = absurd h
+  walks_none Invalid h = absurd h
+  walks_none Misused h = absurd h
+  walks_none (Tree error) h = absurd h
+
+-- the next item of a walk is that of what the handle keeps
+pub nexts : (room : ℕ) (kept : Kept) (old : Walked) (code : ℕ) (entry : WalkEntry) (text : Bytes) (new : Walked) → kept ≡ keeping old
+    → TellsNext room old (next_of old) code entry text new → Nexts room kept code entry text (keeping new)
+nexts room kept old code entry text new is h =
+    subst (λ (k : Kept). Nexts room k code entry text (keeping new)) (sym is) (new, refl, h)
