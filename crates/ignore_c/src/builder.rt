@@ -1,7 +1,8 @@
 //! The exports of builders.
-ghost use Rattle.std.specs.Prelude.{◌≡◌, ℕ, Option, Result, Ok, Err, IfOk, IfErr, Some, None};
+ghost use Rattle.std.specs.Prelude.{◌≡◌, Result, Ok, Err, IfOk, IfErr};
+ghost use Rattle.std.specs.Bool.{then_some};
 ghost use Rattle.ignore_kept.specs.Stops.{ended_code};
-ghost use Rattle.ignore_kept.specs.Setups.{Begins, Set, TextSet, on_options, with_setting, if_set};
+ghost use Rattle.ignore_kept.specs.Setups.{Begins, Set, TextSet, on_options, with_setting};
 ghost use Rattle.ignore_kept.specs.declared.kept.Kept.{Kept};
 ghost use Rattle.ignore_kept.specs.declared.setting.Setting.TheVariants as setting;
 ghost use Rattle.ignore_kept.specs.declared.setup.Text.TheVariants as label;
@@ -59,20 +60,6 @@ fn labelled(builder: Handle, label: Label<'_>) -> (Handle, u32)
     let alloc = *Box::allocator(&kept);
     let code = done(setup::name(alloc, &mut kept, label.what, label.text));
     (close(kept), code)
-}
-
-/// A number, where one is set.
-fn if_set(is_set: bool, value: usize) -> Option<usize>
-    ensures { result ≡ if_set is_set value }
-{
-    if is_set { Some(value) } else { None }
-}
-
-/// A size, where one is set.
-fn size_if_set(is_set: bool, value: u64) -> Option<u64>
-    ensures { result ≡ if_set is_set value }
-{
-    if is_set { Some(value) } else { None }
 }
 
 /// Adds a root, after the others.
@@ -297,27 +284,27 @@ pub extern "C" fn ignore_builder_same_file_system(builder: &mut Handle, on: bool
 /// As `WalkBuilder::max_depth`; no limit where it isn't set.
 #[unsafe(no_mangle)]
 pub extern "C" fn ignore_builder_max_depth(builder: &mut Handle, is_set: bool, most: usize) -> u32
-    ensures { Set (on_options (with_setting (setting.MaxDepth (if_set is_set most)))) builder.old.value result builder.new.value }
+    ensures { Set (on_options (with_setting (setting.MaxDepth (then_some is_set most)))) builder.old.value result builder.new.value }
 {
-    mem::replace_with(builder, Setting::MaxDepth(if_set(is_set, most)), settled)
+    mem::replace_with(builder, Setting::MaxDepth(is_set.then_some(most)), settled)
 }
 
 /// As `WalkBuilder::min_depth`; no limit where it isn't set.
 #[unsafe(no_mangle)]
 pub extern "C" fn ignore_builder_min_depth(builder: &mut Handle, is_set: bool, most: usize) -> u32
-    ensures { Set (on_options (with_setting (setting.MinDepth (if_set is_set most)))) builder.old.value result builder.new.value }
+    ensures { Set (on_options (with_setting (setting.MinDepth (then_some is_set most)))) builder.old.value result builder.new.value }
 {
-    mem::replace_with(builder, Setting::MinDepth(if_set(is_set, most)), settled)
+    mem::replace_with(builder, Setting::MinDepth(is_set.then_some(most)), settled)
 }
 
 /// As `WalkBuilder::max_filesize`; no limit where it isn't set.
 #[unsafe(no_mangle)]
 pub extern "C" fn ignore_builder_max_filesize(builder: &mut Handle, is_set: bool, most: u64) -> u32
-    ensures { Set (on_options (with_setting (setting.MaxFilesize (if_set is_set most)))) builder.old.value result builder.new.value }
+    ensures { Set (on_options (with_setting (setting.MaxFilesize (then_some is_set most)))) builder.old.value result builder.new.value }
 {
     mem::replace_with(
         builder,
-        Setting::MaxFilesize(size_if_set(is_set, most)),
+        Setting::MaxFilesize(is_set.then_some(most)),
         settled,
     )
 }

@@ -1,5 +1,5 @@
 -- A matcher is one of what the handle keeps.
-use Rattle.std.proofs.Common.{arith, ◌≡◌, ◌≢◌, ℕ, Bool, List, [], ◌∷◌, Result, Ok, Err, IfOk, IfErr, inl, inr, refl, sym, ap, subst, ◌∙◌, length}
+use Rattle.std.proofs.Common.{arith, ◌≡◌, ◌≢◌, ◌+◌, ℕ, suc, Bool, List, [], ◌∷◌, ◌++◌, length-append, Result, Ok, Err, IfOk, IfErr, inl, inr, refl, sym, ap, subst, ◌∙◌, length}
 use Rattle.std.specs.Prelude.{All}
 use Rattle.ignore.specs.WalkWords.{Agrees, AreMatchers, IncrementalIgnore, IncrementalMatch, KeepsNothing, query}
 use Rattle.ignore.specs.declared.options.WalkOptions.{WalkOptions}
@@ -66,3 +66,16 @@ matched kept files path text is_dir old told r new is t e value agrees same memo
 pub forgets : (kept : Kept) (dir text : Path) (old : IncrementalIgnore) (count : ℕ) (new : IncrementalIgnore) → kept ≡ keeping old
     → text ≡ dir → Forgot old text count new → Forgets kept dir (Ok count) (keeping new)
 forgets kept dir text old count new is e h = (old, new, ap matcher_in is, refl, subst (λ (d : Path). Forgot old d count new) e h)
+
+no_successor : (n : ℕ) → suc n ≡ 0 → ⊥
+no_successor n h = omega arith
+
+-- a list of which one thing was taken, and then none, had that thing alone
+pub single : {X : Type 0} (all rest : List X) (m : X) → all ≡ rest ++ m ∷ [] → length rest ≡ 0 → all ≡ m ∷ []
+single all [] m is none = is
+single all (x ∷ rest) m is none = absurd (no_successor (length rest) none)
+
+-- and one of which a second thing was taken had more
+pub several : {X : Type 0} (all rest : List X) (m : X) (left : ℕ) → all ≡ rest ++ m ∷ [] → left + 1 ≡ length rest → length all ≢ 1
+several all rest m left is more one =
+    let counted : length all ≡ length rest + 1 = ap length is ∙ length-append rest (m ∷ []) in omega arith

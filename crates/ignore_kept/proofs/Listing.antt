@@ -1,5 +1,8 @@
 -- A walk is one of what the handle keeps.
-use Rattle.std.proofs.Common.{◌≡◌, ◌⊎◌, ◌∙◌, ℕ, Bool, true, List, Ok, Err, inl, inr, refl, sym, ap, subst, map}
+use Rattle.std.proofs.Common.{◌≡◌, ◌≢◌, ◌⊎◌, ◌∙◌, ◌+◌, ◌<◌, ◌≤◌, ℕ, Bool, true, List, Option, None, Some, Ok, Err, inl, inr, refl, sym, ap, arith, subst, map, length}
+use Rattle.std.proofs.lemmas.List.{length-map}
+use Rattle.std.proofs.lemmas.Option.{slice_get_within}
+use Rattle.std.specs.List.{slice_get}
 use Rattle.std.specs.declared.cmp.Ordering.TheVariants.{Equal}
 use Rattle.ignore.specs.Headline.{IsAboveLimit, IsListIn, IsSceneOf}
 use Rattle.ignore.specs.WalkWords.{Entry, Item, IsOutside, Outside, Scene, Whole, item_of}
@@ -19,7 +22,7 @@ use Rattle.ignore_walk.specs.declared.callbacks.Order.TheVariants.{Listed}
 use Rattle.ignore_kept.specs.Kinds.{setup_in, tree_in}
 use Rattle.ignore_kept.specs.Setups as setup
 use Rattle.ignore_kept.specs.Trees as tree
-use Rattle.ignore_kept.specs.Walking.{Builds, IsListOf, IsPlain, Nexts, TellsNext, end_of, keeping, next_of}
+use Rattle.ignore_kept.specs.Walking.{Builds, IsListOf, IsNext, IsPlain, Nexts, TellsNext, end_of, keeping, next_of}
 use Rattle.ignore_kept.specs.declared.kept.Kept.{Kept}
 use Rattle.ignore_kept.specs.declared.setup.Setup.{Setup}
 use Rattle.ignore_kept.specs.declared.stopped.Stopped.{Stopped}
@@ -99,3 +102,44 @@ pub nexts : (room : ℕ) (kept : Kept) (old : Walked) (code : ℕ) (entry : Walk
     → TellsNext room old (next_of old) code entry text new → Nexts room kept code entry text (keeping new)
 nexts room kept old code entry text new is h =
     subst (λ (k : Kept). Nexts room k code entry text (keeping new)) (sym is) (new, refl, h)
+
+-- no number is two
+told_one : (code : ℕ) → code ≡ 0 → code ≡ 1 → ⊥
+told_one code zero one = omega arith
+
+told_five : (code : ℕ) → code ≡ 0 → code ≡ 5 → ⊥
+told_five code zero five = omega arith
+
+-- where an item isn't told, nothing is handed out
+pub not_handed : (room : ℕ) (walk : Walked) (item : Option Item) (code : ℕ) (entry : WalkEntry) (text : Bytes)
+    → IsNext item code entry text → code ≢ 0 → TellsNext room walk item code entry text walk
+not_handed room walk None code entry text (is, none, empty) other = (is, none, empty, refl)
+not_handed room walk (Some item) code entry text (inl h) other = absurd (other h.0)
+not_handed room walk (Some item) code entry text (inr (is, none, empty)) other = inr (inr (is, none, empty, refl))
+
+-- one that is told, and whose texts don't fit, stays the next
+pub withheld : (room : ℕ) (walk : Walked) (item : Option Item) (code : ℕ) (entry : WalkEntry) (text : Bytes)
+    → IsNext item code entry text → code ≡ 0 → room < length text → TellsNext room walk item 15 entry text walk
+withheld room walk None code entry text h zero more = absurd (told_one code zero h.0)
+withheld room walk (Some item) code entry text (inl (is, how, what)) zero more = inr (inl (refl, how, what, more, refl))
+withheld room walk (Some item) code entry text (inr h) zero more = absurd (told_five code zero h.0)
+
+-- and one whose texts fit is handed out
+pub handed : (room : ℕ) (walk : Walked) (item : Option Item) (code : ℕ) (entry : WalkEntry) (text : Bytes)
+    → IsNext item code entry text → code ≡ 0 → length text ≤ room
+    → TellsNext room walk item code entry text (record walk { given = walk.given + 1 })
+handed room walk None code entry text h zero fits = absurd (told_one code zero h.0)
+handed room walk (Some item) code entry text (inl (is, how, what)) zero fits = inl (is, how, what, fits, refl)
+handed room walk (Some item) code entry text (inr h) zero fits = absurd (told_five code zero h.0)
+
+-- an item that is told is one of the list
+within : (item : Option Item) (items : List Item) (place code : ℕ) (entry : WalkEntry) (text : Bytes) → slice_get items place ≡ item
+    → IsNext item code entry text → code ≡ 0 → place < length items
+within None items place code entry text at h zero = absurd (told_one code zero h.0)
+within (Some item) items place code entry text at h zero = slice_get_within items place item at
+
+pub below : (walk : Walked) (code : ℕ) (entry : WalkEntry) (text : Bytes) → IsNext (next_of walk) code entry text → code ≡ 0
+    → walk.given < length walk.items.items
+below walk code entry text h zero =
+    subst (λ (n : ℕ). walk.given < n) (length-map walk.items.items item_of)
+    (within (next_of walk) (map item_of walk.items.items) walk.given code entry text refl h zero)

@@ -106,7 +106,7 @@ Asks old tree path is_dir code found new =
 -- a directory and all below it were forgotten, and so many were kept of them
 abbrev pub Forgot : IncrementalIgnore → Path → ℕ → IncrementalIgnore → Type 0
 Forgot old dir count new =
-    (count + btree_map_len new.cache.dirs ≡ btree_map_len old.cache.dirs) × (new.asked ≡ old.asked)
+    (count + btree_map_len new.cache.dirs.map ≡ btree_map_len old.cache.dirs.map) × (new.asked ≡ old.asked)
     × ((names : List Bytes) → All IsName names → is_asked (string_bytes old.asked.root) dir ≡ true
     → kept_at new.cache names ≡ (if is_at_or_below (names_of dir) names then None else kept_at old.cache names))
     × (is_asked (string_bytes old.asked.root) dir ≢ true → new.cache ≡ old.cache)

@@ -1,5 +1,5 @@
 -- Builders that C sets.
-use Rattle.std.specs.Prelude.{◌≡◌, ℕ, Bool, true, false, [], ◌∷◌, Option, Some, None, Result, Ok, Err}
+use Rattle.std.specs.Prelude.{◌≡◌, ℕ, [], Option, Some, None, Result, Ok, Err}
 use Rattle.std.specs.Str.{IsUtf8}
 use Rattle.ignore.specs.Builder.{unset, with_root, with_custom, with_current_dir, with_standard_filters, with_hidden, with_parents, with_ignore}
 use Rattle.ignore.specs.Builder.{with_git_ignore, with_git_global, with_git_exclude, with_require_git, with_case_insensitive}
@@ -113,8 +113,3 @@ Set f old code new = (given : Result (Unit {0}) Stopped) × Sets f old given new
 
 abbrev pub TextSet : Text → Bytes → Kept → ℕ → Kept → Type 0
 TextSet what bytes old code new = (given : Result (Unit {0}) Stopped) × SetsText what bytes old given new × (code ≡ ended_code given)
-
--- a number, where one is set
-abbrev pub if_set : Bool → ℕ → Option ℕ
-if_set true value = Some value
-if_set false value = None

@@ -2,13 +2,13 @@
 ghost use Rattle.std.specs.Prelude.{◌≡◌, [], IfOk, IfErr, IsOk, Ok, Err, Some, option_map, string_bytes};
 ghost use Rattle.ignore_base.specs.Errors.{problem_text};
 ghost use Rattle.ignore_base.specs.Problem.{problem_of};
-ghost use Rattle.ignore_rules.specs.RuleFile.{is_memory};
 ghost use Rattle.ignore_kept.specs.Lines.{Begins, LineAdds, Pushes, FileAdds, Builds, TellsProblem, TellsText, SetsOptions, read_with, source_of};
 
 use crate::kept::{Kept, Lines};
 use crate::refused::Refused;
 use crate::room::text_of;
 use crate::rule::RuleOptions;
+use crate::stopped::is_memory;
 use crate::text::Text;
 use ignore::Error;
 use ignore::gitignore::GitignoreBuilder;
@@ -123,12 +123,6 @@ fn source(alloc: Global, from: &str) -> Result<Option<String>, AllocError>
         return Ok(None);
     }
     Ok(Some(String::from_str(alloc, from)?))
-}
-
-fn is_memory(error: &Error) -> bool
-    ensures { result ≡ is_memory (problem_of error.now) }
-{
-    matches!(error, Error::Memory)
 }
 
 /// What C is told of what is wrong: a number, and a text.

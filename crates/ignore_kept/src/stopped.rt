@@ -1,5 +1,7 @@
 //! Why a call on trees, builders, matchers and walks did nothing.
 ghost use Rattle.std.specs.Prelude.{◌≡◌};
+ghost use Rattle.ignore_base.specs.Problem.{problem_of};
+ghost use Rattle.ignore_rules.specs.RuleFile.{is_memory};
 ghost use Rattle.ignore_kept.specs.Stops.{ended_code, stop_code, tree_code};
 
 use crate::refused::Refused;
@@ -50,6 +52,13 @@ fn tree_code(error: TreeError) -> u32
         TreeError::Missing => 14,
         TreeError::Memory => 5,
     }
+}
+
+/// Whether an error is out of memory.
+pub(crate) fn is_memory(error: &Error) -> bool
+    ensures { result ≡ is_memory (problem_of error.now) }
+{
+    matches!(error, Error::Memory)
 }
 
 /// The number of a call that returns nothing.

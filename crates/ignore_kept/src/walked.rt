@@ -1,8 +1,8 @@
 //! The items of a walk, made at once and handed out one by one.
-ghost use Rattle.std.specs.Prelude.{◌≡◌, [], IfOk, IfErr, Ok, Err, map};
+ghost use Rattle.std.specs.Prelude.{◌≡◌, ◌++◌, [], IfOk, IfErr, Ok, Err, map, string_bytes};
 ghost use Rattle.ignore.specs.WalkWords.{entry_of, item_of, problem_in};
 ghost use Rattle.ignore_base.specs.Problem.{problem_of};
-ghost use Rattle.ignore_kept.specs.Walking.{Builds, IsListOf, IsNext, Nexts, TellsItem, TellsNext, end_of, kind_code, next_of, no_entry};
+ghost use Rattle.ignore_kept.specs.Walking.{Builds, IsListOf, IsNext, Nexts, TellsItem, TellsNext, end_of, error_text, kind_code, next_of, no_entry};
 
 use crate::kept::Kept;
 use crate::lines::text_of_error;
@@ -163,12 +163,8 @@ fn told_item(alloc: Global, item: &Item) -> Result<Told, AllocError>
 fn told_entry(alloc: Global, entry: &DirEntry) -> Result<Told, AllocError>
     ensures { IfOk result (λ told. (told.code ≡ 0) × TellsItem (Ok (entry_of entry.now, problem_in entry.now)) told.entry told.text.items) }
 {
-    let mut text = Vec::from_slice(alloc, entry.path().as_bytes())?;
-    let error = match entry.error() {
-        None => String::new(alloc),
-        Some(error) => text_of_error(alloc, error)?,
-    };
-    text.extend_from_slice(error.as_bytes())?;
+    let error = error_text(alloc, entry)?;
+    let text = joined(alloc, entry.path(), error.as_str())?;
     Ok(Told {
         code: 0,
         entry: WalkEntry {
@@ -181,6 +177,25 @@ fn told_entry(alloc: Global, entry: &DirEntry) -> Result<Told, AllocError>
         },
         text,
     })
+}
+
+/// The text of what is wrong with the files of rules of an entry.
+fn error_text(alloc: Global, entry: &DirEntry) -> Result<String, AllocError>
+    ensures { IfOk result (λ text. string_bytes text ≡ error_text (problem_in entry.now)) }
+{
+    match entry.error() {
+        None => Ok(String::new(alloc)),
+        Some(error) => text_of_error(alloc, error),
+    }
+}
+
+/// Two texts, one after the other.
+fn joined(alloc: Global, first: &str, second: &str) -> Result<Vec<u8>, AllocError>
+    ensures { IfOk result (λ text. text.items ≡ first.now ++ second.now) }
+{
+    let mut text = Vec::from_slice(alloc, first.as_bytes())?;
+    text.extend_from_slice(second.as_bytes())?;
+    Ok(text)
 }
 
 /// The number of what an entry is; 0 for standard input.

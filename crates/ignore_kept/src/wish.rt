@@ -1,7 +1,5 @@
 //! What a builder is told besides settings: globs of a command line, file types, files of rules.
 ghost use Rattle.std.specs.Prelude.{◌≡◌, false, IfOk, List, map, string_bytes};
-ghost use Rattle.ignore_base.specs.Problem.{problem_of};
-ghost use Rattle.ignore_rules.specs.RuleFile.{is_memory};
 ghost use Rattle.ignore_rules.specs.Rules.{begun, with_case_insensitive, with_unclosed_class};
 ghost use Rattle.ignore_types.specs.Defaults.{Row};
 ghost use Rattle.ignore_kept.specs.Kinds.{setup_in, tree_in};
@@ -12,7 +10,7 @@ use crate::kept::Kept;
 use crate::lines::{Problem, no_problem, told_problem};
 use crate::room::text_of;
 use crate::setup::Setup;
-use crate::stopped::Stopped;
+use crate::stopped::{Stopped, is_memory};
 use ignore::Error;
 use ignore::default_types::DEFAULT_TYPES;
 use ignore::files::MemoryTree;
@@ -70,12 +68,6 @@ fn take(alloc: Global, setup: &mut Setup, wish: Wish<'_>) -> Result<(), Stopped>
         Wish::Defaults => defaults(setup),
         Wish::SetTypes => set_types(setup),
     }
-}
-
-fn is_memory(error: &Error) -> bool
-    ensures { result ≡ is_memory (problem_of error.now) }
-{
-    matches!(error, Error::Memory)
 }
 
 fn begin_globs(
