@@ -3,13 +3,16 @@ use Rattle.std.proofs.Common.{◌≡◌, ◌≢◌, ◌⊎◌, ◌∙◌, ◌+�
 use Rattle.std.proofs.lemmas.List.{length-map}
 use Rattle.std.proofs.lemmas.Option.{slice_get_within}
 use Rattle.std.specs.List.{slice_get}
+use Rattle.std.specs.declared.cmp.Ordering.{Ordering}
 use Rattle.std.specs.declared.cmp.Ordering.TheVariants.{Equal}
+use denote.Bor.{Bor}
+use Rattle.ignore.specs.Closures.{Compares, Filters}
 use Rattle.ignore.specs.Headline.{IsAboveLimit, IsListIn, IsSceneOf}
 use Rattle.ignore.specs.WalkWords.{Entry, Item, IsOutside, Outside, Scene, Whole, item_of}
 use Rattle.ignore.specs.FileWords.{Tree as Files}
 use Rattle.ignore.specs.declared.options.WalkOptions.{WalkOptions}
 use Rattle.ignore_base.specs.Problem.{Problem, io, memory}
-use Rattle.ignore_base.specs.Text.{Bytes}
+use Rattle.ignore_base.specs.Text.{Bytes, Path}
 use Rattle.ignore_base.specs.declared.fault.Fault.TheVariants.{StepLimit}
 use Rattle.ignore_files.specs.Answers.{tree_of}
 use Rattle.ignore_files.specs.Gives.{IsHonest}
@@ -18,6 +21,7 @@ use Rattle.ignore_files.specs.declared.files.Files.{Ghosts as FileCalls}
 use Rattle.ignore_files.specs.declared.env.Env.{Env}
 use Rattle.ignore_walk.specs.declared.callbacks.Callbacks.{Ghosts as Callbacks}
 use Rattle.ignore_walk.specs.declared.callbacks.Order.{Order}
+use Rattle.ignore_walk.specs.declared.entry.DirEntry.{DirEntry}
 use Rattle.ignore_walk.specs.declared.callbacks.Order.TheVariants.{Listed}
 use Rattle.ignore_kept.specs.Kinds.{setup_in, tree_in}
 use Rattle.ignore_kept.specs.Setups as setup
@@ -34,6 +38,16 @@ use Rattle.ignore_kept.specs.declared.walked.Walked.{Walked}
 pub record IsBare {S : Type 0} (calls : Callbacks S) (owner : S) : Type 0 where
   pub passes : (keep : Entry → Bool) → ((e : Entry) → keep e ≡ true) → calls.filters owner keep
   pub ties : calls.compares owner (λ a b. Equal)
+
+-- where no filter is set, each entry passes
+pub passes_all : {X : Type 0} (filter : Option X) (gives : X → Bor DirEntry → Bool → Type 0) (keep : Entry → Bool) → filter ≡ None
+    → ((e : Entry) → keep e ≡ true) → Filters filter gives keep
+passes_all {X} filter gives keep none all = subst (λ (f : Option X). Filters f gives keep) (sym none) all
+
+-- and where no comparison is set, all names tie
+pub all_tie : {X : Type 0} (sorter : Option X) (gives : X → Bor Path → Bor Path → Ordering → Type 0) → sorter ≡ None
+    → Compares sorter gives (λ a b. Equal)
+all_tie {X} sorter gives none = subst (λ (s : Option X). Compares s gives (λ a b. Equal)) (sym none) (λ a b. refl)
 
 -- a scene without a filter and an order is one by such an owner
 pub bare_scene : {S : Type 0} (calls : Callbacks S) (owner : S) (b : WalkOptions) (t : Files) (o : Outside) (g : Scene)
@@ -125,12 +139,12 @@ withheld room walk (Some item) code entry text (inl (is, how, what)) zero more =
 withheld room walk (Some item) code entry text (inr h) zero more = absurd (told_five code zero h.0)
 
 -- and one whose texts fit is handed out
-pub handed : (room : ℕ) (walk : Walked) (item : Option Item) (code : ℕ) (entry : WalkEntry) (text : Bytes)
-    → IsNext item code entry text → code ≡ 0 → length text ≤ room
-    → TellsNext room walk item code entry text (record walk { given = walk.given + 1 })
-handed room walk None code entry text h zero fits = absurd (told_one code zero h.0)
-handed room walk (Some item) code entry text (inl (is, how, what)) zero fits = inl (is, how, what, fits, refl)
-handed room walk (Some item) code entry text (inr h) zero fits = absurd (told_five code zero h.0)
+pub handed : (room : ℕ) (walk : Walked) (item : Option Item) (code : ℕ) (entry : WalkEntry) (text : Bytes) (new : Walked)
+    → IsNext item code entry text → code ≡ 0 → length text ≤ room → new ≡ record walk { given = walk.given + 1 }
+    → TellsNext room walk item code entry text new
+handed room walk None code entry text new h zero fits on = absurd (told_one code zero h.0)
+handed room walk (Some item) code entry text new (inl (is, how, what)) zero fits on = inl (is, how, what, fits, on)
+handed room walk (Some item) code entry text new (inr h) zero fits on = absurd (told_five code zero h.0)
 
 -- an item that is told is one of the list
 within : (item : Option Item) (items : List Item) (place code : ℕ) (entry : WalkEntry) (text : Bytes) → slice_get items place ≡ item

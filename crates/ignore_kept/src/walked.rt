@@ -1,5 +1,5 @@
 //! The items of a walk, made at once and handed out one by one.
-ghost use Rattle.std.specs.Prelude.{◌≡◌, ◌++◌, [], IfOk, IfErr, Ok, Err, map, string_bytes};
+ghost use Rattle.std.specs.Prelude.{◌≡◌, ◌<◌, ◌+◌, ◌++◌, [], length, IfOk, IfErr, Ok, Err, map, string_bytes};
 ghost use Rattle.ignore.specs.WalkWords.{entry_of, item_of, problem_in};
 ghost use Rattle.ignore_base.specs.Problem.{problem_of};
 ghost use Rattle.ignore_kept.specs.Walking.{Builds, IsListOf, IsNext, Nexts, TellsItem, TellsNext, end_of, error_text, kind_code, next_of, no_entry};
@@ -102,8 +102,17 @@ fn hand_out(alloc: Global, walk: &mut Walked, room: usize) -> Told
     if told.text.len() > room {
         return Told { code: 15, ..told };
     }
-    walk.given += 1;
+    go_on(walk);
     told
+}
+
+/// Goes on to the item after the next, where there is a next.
+fn go_on(walk: &mut Walked)
+    ensures { walk.old.given < length walk.old.items.items → walk.new ≡ record walk.old { given = walk.old.given + 1 } }
+{
+    if walk.given < walk.items.len() {
+        walk.given += 1;
+    }
 }
 
 /// What is told of the next item.
