@@ -6,7 +6,7 @@ use Rattle.std.specs.List.{slice_get}
 use Rattle.std.specs.declared.cmp.Ordering.{Ordering}
 use Rattle.std.specs.declared.cmp.Ordering.TheVariants.{Equal}
 use denote.Bor.{Bor}
-use Rattle.ignore.specs.Closures.{Compares, Filters}
+use Rattle.ignore.specs.Closures.{Compares, Filters, order_of}
 use Rattle.ignore.specs.Headline.{IsAboveLimit, IsListIn, IsSceneOf}
 use Rattle.ignore.specs.WalkWords.{Entry, Item, IsOutside, Outside, Scene, Whole, item_of}
 use Rattle.ignore.specs.FileWords.{Tree as Files}
@@ -48,6 +48,10 @@ passes_all {X} filter gives keep none all = subst (λ (f : Option X). Filters f 
 pub all_tie : {X : Type 0} (sorter : Option X) (gives : X → Bor Path → Bor Path → Ordering → Type 0) → sorter ≡ None
     → Compares sorter gives (λ a b. Equal)
 all_tie {X} sorter gives none = subst (λ (s : Option X). Compares s gives (λ a b. Equal)) (sym none) (λ a b. refl)
+
+-- and entries come as they are listed
+pub unordered : {X : Type 0} (order : X → Order) (sorter : Option X) → sorter ≡ None → order_of order sorter ≡ Listed
+unordered {X} order sorter none = ap (λ (s : Option X). order_of order s) none
 
 -- a scene without a filter and an order is one by such an owner
 pub bare_scene : {S : Type 0} (calls : Callbacks S) (owner : S) (b : WalkOptions) (t : Files) (o : Outside) (g : Scene)
