@@ -1,7 +1,7 @@
 -- A walk is one of what the handle keeps.
-use Rattle.std.proofs.Common.{◌≡◌, ◌≢◌, ◌⊎◌, ◌∙◌, ◌+◌, ◌<◌, ◌≤◌, ℕ, Bool, true, List, Option, None, Some, Ok, Err, inl, inr, refl, sym, ap, arith, subst, map, length}
+use Rattle.std.proofs.Common.{◌≡◌, ◌≢◌, ◌⊎◌, ◌∙◌, ◌+◌, ◌<◌, ◌≤◌, ℕ, Bool, true, List, [], Option, None, Some, Result, Ok, Err, inl, inr, refl, sym, ap, arith, subst, map, length, option_map}
 use Rattle.std.proofs.lemmas.List.{length-map}
-use Rattle.std.proofs.lemmas.Option.{slice_get_within}
+use Rattle.std.proofs.lemmas.Option.{slice_get-map, slice_get_within}
 use Rattle.std.specs.List.{slice_get}
 use Rattle.std.specs.declared.cmp.Ordering.{Ordering}
 use Rattle.std.specs.declared.cmp.Ordering.TheVariants.{Equal}
@@ -11,8 +11,10 @@ use Rattle.ignore.specs.Headline.{IsAboveLimit, IsListIn, IsSceneOf}
 use Rattle.ignore.specs.WalkWords.{Entry, Item, IsOutside, Outside, Scene, Whole, item_of}
 use Rattle.ignore.specs.FileWords.{Tree as Files}
 use Rattle.ignore.specs.declared.options.WalkOptions.{WalkOptions}
+use Rattle.ignore_base.specs.Errors.{problem_text}
 use Rattle.ignore_base.specs.Problem.{Problem, io, memory}
 use Rattle.ignore_base.specs.Text.{Bytes, Path}
+use Rattle.ignore_base.specs.declared.error.Error.{Error}
 use Rattle.ignore_base.specs.declared.fault.Fault.TheVariants.{StepLimit}
 use Rattle.ignore_files.specs.Answers.{tree_of}
 use Rattle.ignore_files.specs.Gives.{IsHonest}
@@ -26,7 +28,7 @@ use Rattle.ignore_walk.specs.declared.callbacks.Order.TheVariants.{Listed}
 use Rattle.ignore_kept.specs.Kinds.{setup_in, tree_in}
 use Rattle.ignore_kept.specs.Setups as setup
 use Rattle.ignore_kept.specs.Trees as tree
-use Rattle.ignore_kept.specs.Walking.{Builds, IsListOf, IsNext, IsPlain, Nexts, TellsNext, end_of, keeping, next_of}
+use Rattle.ignore_kept.specs.Walking.{Builds, IsListOf, IsNext, IsPlain, Nexts, TellsNext, end_of, error_text, keeping, next_of}
 use Rattle.ignore_kept.specs.declared.kept.Kept.{Kept}
 use Rattle.ignore_kept.specs.declared.setup.Setup.{Setup}
 use Rattle.ignore_kept.specs.declared.stopped.Stopped.{Stopped}
@@ -161,3 +163,19 @@ pub below : (walk : Walked) (code : ℕ) (entry : WalkEntry) (text : Bytes) → 
 below walk code entry text h zero =
     subst (λ (n : ℕ). walk.given < n) (length-map walk.items.items item_of)
     (within (next_of walk) (map item_of walk.items.items) walk.given code entry text refl h zero)
+
+-- the next item is that of the list
+pub of_next : (walk : Walked) (item : Option (Result DirEntry Error)) (code : ℕ) (entry : WalkEntry) (text : Bytes)
+    → slice_get walk.items.items walk.given ≡ item → IsNext (option_map item_of item) code entry text
+    → IsNext (next_of walk) code entry text
+of_next walk item code entry text at h =
+    subst (λ (n : Option Item). IsNext n code entry text)
+    (sym (slice_get-map item_of walk.items.items walk.given ∙ ap (λ (i : Option (Result DirEntry Error)). option_map item_of i) at)) h
+
+-- the text of no problem, and that of one
+pub no_error : (problem : Option Problem) (text : Bytes) → None ≡ problem → text ≡ [] → text ≡ error_text problem
+no_error problem text is empty = empty ∙ ap error_text is
+
+pub an_error : (problem : Option Problem) (of : Problem) (text : Bytes) → Some of ≡ problem → text ≡ problem_text of
+    → text ≡ error_text problem
+an_error problem of text is told = told ∙ ap error_text is

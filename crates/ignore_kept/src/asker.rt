@@ -74,6 +74,7 @@ fn matchers_of(
 }
 
 /// The one matcher, if there is one alone.
+#[tactic(auto, using(crate::proofs::Asking::several, crate::proofs::Asking::single))]
 fn only(mut matchers: Vec<IncrementalIgnore>) -> Result<IncrementalIgnore, Stopped>
     ensures one { IfOk result (λ m. matchers.items ≡ m ∷ []) }
     ensures misused { IfErr result (λ e. (e ≡ Misused) × (length matchers.items ≢ 1)) }

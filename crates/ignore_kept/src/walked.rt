@@ -92,6 +92,7 @@ pub fn next(alloc: Global, kept: &mut Kept, room: usize) -> Told
     hand_out(alloc, walk, room)
 }
 
+#[tactic(auto, using(crate::proofs::Listing::below, crate::proofs::Listing::handed, crate::proofs::Listing::not_handed, crate::proofs::Listing::withheld))]
 fn hand_out(alloc: Global, walk: &mut Walked, room: usize) -> Told
     ensures { TellsNext room walk.old (next_of walk.old) result.code result.entry result.text.items walk.new }
 {
@@ -116,6 +117,7 @@ fn go_on(walk: &mut Walked)
 }
 
 /// What is told of the next item.
+#[tactic(auto, using(crate::proofs::Listing::of_next))]
 fn told_next(alloc: Global, walk: &Walked) -> Told
     ensures { IsNext (next_of walk.now) result.code result.entry result.text.items }
 {
@@ -189,6 +191,7 @@ fn told_entry(alloc: Global, entry: &DirEntry) -> Result<Told, AllocError>
 }
 
 /// The text of what is wrong with the files of rules of an entry.
+#[tactic(auto, using(crate::proofs::Listing::an_error, crate::proofs::Listing::no_error))]
 fn error_text(alloc: Global, entry: &DirEntry) -> Result<String, AllocError>
     ensures { IfOk result (λ text. string_bytes text ≡ error_text (problem_in entry.now)) }
 {
