@@ -125,10 +125,10 @@ nexts room kept old code entry text new is h =
 
 -- no number is two
 told_one : (code : ℕ) → code ≡ 0 → code ≡ 1 → ⊥
-told_one code zero one = omega arith
+told_one code ok one = omega arith
 
 told_five : (code : ℕ) → code ≡ 0 → code ≡ 5 → ⊥
-told_five code zero five = omega arith
+told_five code ok five = omega arith
 
 -- where an item isn't told, nothing is handed out
 pub not_handed : (room : ℕ) (walk : Walked) (item : Option Item) (code : ℕ) (entry : WalkEntry) (text : Bytes)
@@ -140,29 +140,29 @@ not_handed room walk (Some item) code entry text (inr (is, none, empty)) other =
 -- one that is told, and whose texts don't fit, stays the next
 pub withheld : (room : ℕ) (walk : Walked) (item : Option Item) (code : ℕ) (entry : WalkEntry) (text : Bytes)
     → IsNext item code entry text → code ≡ 0 → room < length text → TellsNext room walk item 15 entry text walk
-withheld room walk None code entry text h zero more = absurd (told_one code zero h.0)
-withheld room walk (Some item) code entry text (inl (is, how, what)) zero more = inr (inl (refl, how, what, more, refl))
-withheld room walk (Some item) code entry text (inr h) zero more = absurd (told_five code zero h.0)
+withheld room walk None code entry text h ok more = absurd (told_one code ok h.0)
+withheld room walk (Some item) code entry text (inl (is, how, what)) ok more = inr (inl (refl, how, what, more, refl))
+withheld room walk (Some item) code entry text (inr h) ok more = absurd (told_five code ok h.0)
 
 -- and one whose texts fit is handed out
 pub handed : (room : ℕ) (walk : Walked) (item : Option Item) (code : ℕ) (entry : WalkEntry) (text : Bytes) (new : Walked)
     → IsNext item code entry text → code ≡ 0 → length text ≤ room → new ≡ record walk { given = walk.given + 1 }
     → TellsNext room walk item code entry text new
-handed room walk None code entry text new h zero fits on = absurd (told_one code zero h.0)
-handed room walk (Some item) code entry text new (inl (is, how, what)) zero fits on = inl (is, how, what, fits, on)
-handed room walk (Some item) code entry text new (inr h) zero fits on = absurd (told_five code zero h.0)
+handed room walk None code entry text new h ok fits on = absurd (told_one code ok h.0)
+handed room walk (Some item) code entry text new (inl (is, how, what)) ok fits on = inl (is, how, what, fits, on)
+handed room walk (Some item) code entry text new (inr h) ok fits on = absurd (told_five code ok h.0)
 
 -- an item that is told is one of the list
 within : (item : Option Item) (items : List Item) (place code : ℕ) (entry : WalkEntry) (text : Bytes) → slice_get items place ≡ item
     → IsNext item code entry text → code ≡ 0 → place < length items
-within None items place code entry text at h zero = absurd (told_one code zero h.0)
-within (Some item) items place code entry text at h zero = slice_get_within items place item at
+within None items place code entry text at h ok = absurd (told_one code ok h.0)
+within (Some item) items place code entry text at h ok = slice_get_within items place item at
 
 pub below : (walk : Walked) (code : ℕ) (entry : WalkEntry) (text : Bytes) → IsNext (next_of walk) code entry text → code ≡ 0
     → walk.given < length walk.items.items
-below walk code entry text h zero =
+below walk code entry text h ok =
     subst (λ (n : ℕ). walk.given < n) (length-map walk.items.items item_of)
-    (within (next_of walk) (map item_of walk.items.items) walk.given code entry text refl h zero)
+    (within (next_of walk) (map item_of walk.items.items) walk.given code entry text refl h ok)
 
 -- the next item is that of the list
 pub of_next : (walk : Walked) (item : Option (Result DirEntry Error)) (code : ℕ) (entry : WalkEntry) (text : Bytes)
