@@ -5,8 +5,7 @@ use Rattle.ignore_base.specs.Paths.{file_name_of, trim_of}
 use Rattle.ignore_base.specs.Text.{Path}
 use Rattle.ignore_base.specs.declared.match_result.Match.{Match}
 use Rattle.ignore_base.specs.declared.match_result.Match.TheVariants as m
-use Rattle.ignore_types.specs.TypeMatch.{type_answer}
-use Rattle.ignore_types.specs.Types.{Definition}
+use Rattle.ignore_types.specs.TypeMatch.{TypeGlob, type_answer}
 use Rattle.ignore_rules.specs.Overrides.{override_answer}
 use Rattle.ignore_rules.specs.Rules.{Rule, Ruleset}
 use Rattle.ignore_dir.specs.declared.outside.Outside.{Outside}
@@ -39,14 +38,14 @@ no_override (m.Whitelist x) b other is none = absurd (cc (none))
 
 module _ (text : Path) (hides : Bool) where
   -- a rule that ignores decides
-  pub ignores : (a : Match Ruling) (ranks : Match Sited) (types : Match (Option Definition)) → match_map (sited_of text) a ≡ ranks → is_ignore a ≡ true
+  pub ignores : (a : Match Ruling) (ranks : Match Sited) (types : Match (Option TypeGlob)) → match_map (sited_of text) a ≡ ranks → is_ignore a ≡ true
       → match_map (λ r. by_rule (sited_of text r)) a ≡ file_why ranks types hides
   ignores m.None ranks types is said = absurd (cc (said))
   ignores (m.Ignore x) ranks types is said = ap (λ r. file_why r types hides) is
   ignores (m.Whitelist x) ranks types is said = absurd (cc (said))
 
   -- else a type decides
-  pub typed : (a : Match Ruling) (ranks : Match Sited) (t types : Match (Option Definition)) → match_map (sited_of text) a ≡ ranks → is_ignore a ≡ false
+  pub typed : (a : Match Ruling) (ranks : Match Sited) (t types : Match (Option TypeGlob)) → match_map (sited_of text) a ≡ ranks → is_ignore a ≡ false
       → t ≡ types → is_none t ≡ false → match_map by_type t ≡ file_why ranks types hides
   typed (m.Ignore x) ranks t types is denied same some = absurd (cc (denied))
   typed m.None ranks m.None types is denied same some = absurd (cc (some))
@@ -57,7 +56,7 @@ module _ (text : Path) (hides : Bool) where
   typed (m.Whitelist x) ranks (m.Whitelist k) types is denied same some = rw (← is, ← same) refl
 
   -- else a hidden name, where no rule matches
-  pub named : (a : Match Ruling) (ranks : Match Sited) (t types : Match (Option Definition)) → match_map (sited_of text) a ≡ ranks → is_none a ≡ true
+  pub named : (a : Match Ruling) (ranks : Match Sited) (t types : Match (Option TypeGlob)) → match_map (sited_of text) a ≡ ranks → is_none a ≡ true
       → t ≡ types → is_none t ≡ true → cond hides (m.Ignore by_name) m.None ≡ file_why ranks types hides
   named m.None ranks m.None types is none same none' = rw (← is, ← same) refl
   named m.None ranks (m.Ignore k) types is none same none' = absurd (cc (none'))
@@ -66,7 +65,7 @@ module _ (text : Path) (hides : Bool) where
   named (m.Whitelist x) ranks t types is none same none' = absurd (cc (none))
 
   -- else a rule that whitelists
-  pub whitelists : (a : Match Ruling) (ranks : Match Sited) (t types : Match (Option Definition)) → match_map (sited_of text) a ≡ ranks
+  pub whitelists : (a : Match Ruling) (ranks : Match Sited) (t types : Match (Option TypeGlob)) → match_map (sited_of text) a ≡ ranks
       → is_ignore a ≡ false → is_none a ≡ false → t ≡ types → is_none t ≡ true
       → match_map (λ r. by_rule (sited_of text r)) a ≡ file_why ranks types hides
   whitelists (m.Ignore x) ranks t types is denied some same none = absurd (cc (denied))
@@ -80,7 +79,7 @@ verdict-map f m.None = refl
 verdict-map f (m.Ignore x) = refl
 verdict-map f (m.Whitelist x) = refl
 
-file-verdict : (ranks : Match Sited) (types : Match (Option Definition)) (hides : Bool)
+file-verdict : (ranks : Match Sited) (types : Match (Option TypeGlob)) (hides : Bool)
     → verdict_of (file_why ranks types hides) ≡ without_override (verdict_of ranks) (verdict_of types) hides
 file-verdict (m.Ignore x) types hides = refl
 file-verdict (m.Whitelist x) m.None hides = refl

@@ -6,8 +6,7 @@ use Rattle.ignore_base.specs.Paths.{file_name_of, trim_of}
 use Rattle.ignore_base.specs.Text.{Path}
 use Rattle.ignore_base.specs.declared.match_result.Match.{Match}
 use Rattle.ignore_base.specs.declared.match_result.Match.TheVariants.{None, Ignore, Whitelist}
-use Rattle.ignore_types.specs.TypeMatch.{type_answer}
-use Rattle.ignore_types.specs.Types.{Definition}
+use Rattle.ignore_types.specs.TypeMatch.{TypeGlob, type_answer}
 use Rattle.ignore_rules.specs.Overrides.{override_answer}
 use Rattle.ignore_rules.specs.Rules.{Rule}
 use Rattle.ignore_dir.specs.declared.outside.Outside.{Outside}
@@ -49,13 +48,13 @@ sited_of text r = record { site = site_of text r.origin; rule = r.glob.now }
 pub data Why : Type 0 where
   by_override : Option Rule → Why
   by_rule : Sited → Why
-  by_type : Option Definition → Why
+  by_type : Option TypeGlob → Why
   by_name : Why
 
 -- what decides where no override does, by the answers of the ranks and of the types, and whether
 -- the name is ignored for its dot: a rule that ignores, else a type, else a rule that whitelists,
 -- else the name
-abbrev pub file_why : Match Sited → Match (Option Definition) → Bool → Match Why
+abbrev pub file_why : Match Sited → Match (Option TypeGlob) → Bool → Match Why
 file_why (Ignore rule) types hides = Ignore (by_rule rule)
 file_why (Whitelist rule) types hides = match_or (match_map by_type types) (Whitelist (by_rule rule))
 file_why None types hides = match_or (match_map by_type types) (if hides then Ignore by_name else None)

@@ -1,8 +1,7 @@
 -- The reason of an answer, by what is kept.
 use lib.Pointwise.{pointwise}
-use Rattle.std.proofs.Common.{◌≡◌, ◌==◌, ℕ, ◌+◌, ◌<◌, take, drop, get_or, Bool, true, false, not, ◌&&◌, ◌||◌, cond, All, List, [], ◌∷◌, ◌++◌}
-use Rattle.std.proofs.Common.{length, map, Option, Some, None, Result, Ok, Err, OnOk, is_some, option_map, refl, sym, ◌∙◌, ap, subst, append_assoc, arith}
-use Rattle.std.proofs.lemmas.List.{append-nil}
+use Rattle.std.proofs.Common.{◌≡◌, ℕ, ◌+◌, ◌<◌, take, drop, get_or, Bool, true, false, not, ◌&&◌, ◌||◌, cond, All, List, [], ◌∷◌, ◌++◌}
+use Rattle.std.proofs.Common.{length, Option, Some, None, Result, Ok, Err, OnOk, is_some, option_map, refl, sym, ◌∙◌, ap, subst, append_assoc, arith}
 use Rattle.std.proofs.lemmas.Slice.Eq.{bytes_eq-Decides, slice_eq-Decides}
 use Rattle.std.specs.List.{list_all, list_any}
 use Rattle.std.specs.Option.{option_to_list}
@@ -18,9 +17,8 @@ use Rattle.ignore_dir.specs.declared.settings.Settings.{Settings}
 use Rattle.ignore_dir.specs.declared.verdict.Verdict.{Verdict}
 use Rattle.ignore_dir.specs.declared.verdict.Verdict.TheVariants as v
 use Rattle.ignore_dir.specs.Limits.{is_beyond, limited, size_limit, size_problem}
-use Rattle.ignore_dir.specs.Query.{ancestors, depth_of, has_rules, is_asked, is_dir_there, is_ignored, limit_of, names_of, rules_verdict}
+use Rattle.ignore_dir.specs.Query.{ancestors, depth_of, has_rules, is_asked, is_ignored, limit_of, names_of, rules_verdict}
 use Rattle.ignore_dir.specs.Query.{size_of}
-use Rattle.ignore_files.specs.Tree.{Tree}
 use Rattle.ignore_dir.specs.Scene.{Scene, chain}
 use Rattle.ignore_dir.specs.Steps.{reached_in}
 use Rattle.ignore_dir.specs.Verdict.{verdict_of}
@@ -31,9 +29,9 @@ use Rattle.ignore_levels.proofs.ReasonLemmas.{verdict-map}
 use Rattle.ignore_query.specs.declared.kept.Cache.{Cache}
 use Rattle.ignore_query.specs.declared.kept.Kept.{Kept}
 use Rattle.ignore_query.specs.declared.kept.Kept.TheVariants.{Ignored, Loaded}
-use Rattle.ignore_query.specs.Agrees.{Agrees, IsLoaded, IsNext, is_loaded}
+use Rattle.ignore_query.specs.Agrees.{Agrees, IsNext, is_loaded}
 use Rattle.ignore_query.specs.Listed.{kept_at}
-use Rattle.ignore_query.specs.Needs.{KeepsNeeded, is_among, is_decided, is_kept, is_known, needed}
+use Rattle.ignore_query.specs.Needs.{KeepsNeeded, is_among, is_kept, is_known, needed}
 use Rattle.ignore_query.specs.Shut.{is_shut, open_in}
 use Rattle.ignore_why.specs.Cited.{Cited, cited}
 use Rattle.ignore_why.specs.QueryWhy.{QueryWhy, answer_of, first_ignored, path_cited, path_why, text_to, query_why, why_beyond, why_by_rules, why_by_size}
@@ -41,10 +39,9 @@ use Rattle.ignore_why.specs.QueryWhy.{why_on_way}
 use Rattle.ignore_why.specs.QueryWhy.QueryWhy.{unasked, unruled, too_shallow, too_deep, decided, larger, inside}
 use Rattle.ignore_why.proofs.QueryWhyLemmas.{none_first, rules_said}
 use Rattle.ignore_query.proofs.ChainLemmas.{front_names, joined-slashed, take_names}
-use Rattle.ignore_query.proofs.KeepLemmas.{Ends, ends, last, none}
 use Rattle.ignore_query.proofs.KnownLemmas.{known_next, next_inside, next_top, parent_open, parent_shut, shut_verdict}
-use Rattle.ignore_query.proofs.NeedLemmas.{any-more, needed_way, or_true, way}
-use Rattle.ignore_query.proofs.WayLemmas.{left, left_all, left_at, left_end, left_next}
+use Rattle.ignore_query.proofs.NeedLemmas.{needed_way, or_true, way}
+use Rattle.ignore_query.proofs.WayLemmas.{left, left_all, left_at, left_next}
 
 -- Over the chain of a path.
 

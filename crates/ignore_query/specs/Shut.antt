@@ -1,11 +1,8 @@
 -- What is kept of a directory: that it is ignored, or its place.
-use Rattle.std.specs.Prelude.{◌≡◌, Bool, true, false, List, [], ◌∷◌, ◌++◌, Option, None, Some}
-use Rattle.ignore_base.specs.Text.{Bytes}
+use Rattle.std.specs.Prelude.{Bool, true, false, Option, None, Some}
 use Rattle.ignore_levels.specs.declared.list.Place.{Place}
-use Rattle.ignore_query.specs.declared.kept.Cache.{Cache}
 use Rattle.ignore_query.specs.declared.kept.Kept.{Kept}
 use Rattle.ignore_query.specs.declared.kept.Kept.TheVariants.{Ignored, Loaded}
-use Rattle.ignore_query.specs.Listed.{kept_at}
 
 -- what is kept is that it is ignored
 abbrev pub is_shut : Option Kept → Bool

@@ -1,9 +1,9 @@
 //! What the rules say of a path, from what is kept or else from files.
-ghost use Rattle.std.specs.Prelude.{◌≡◌, ◌++◌, ℕ, List, Option, IfOk, IfErr, OnOk, true, not, map};
+ghost use Rattle.std.specs.Prelude.{◌≡◌, ◌++◌, ℕ, List, Option, IfOk, OnOk, true, not, map};
 ghost use Rattle.std.specs.List.{filter_map, list_all, list_any};
 ghost use Rattle.std.specs.Option.{option_to_list};
 ghost use Rattle.ignore_base.specs.Paths.{components, is_proper};
-ghost use Rattle.ignore_base.specs.Problem.{problem_of, memory};
+ghost use Rattle.ignore_base.specs.Problem.{problem_of};
 ghost use Rattle.ignore_dir.specs.Load.{Loaded};
 ghost use Rattle.ignore_dir.specs.Query as queries;
 ghost use Rattle.ignore_dir.specs.Soft.{AllSoft};
@@ -23,6 +23,7 @@ use ignore_dir::names::components;
 use ignore_dir::verdict::Verdict;
 use ignore_files::Files;
 use ignore_levels::Place;
+use std::alloc::AllocError;
 
 impl Cache {
     /// What the rules say of a path of names below a root that is a directory. What the answer
@@ -33,7 +34,7 @@ impl Cache {
         path: &str,
         is_dir: bool,
         errors: &mut Vec<Error>,
-    ) -> Result<Verdict, Error>
+    ) -> Result<Verdict, AllocError>
         requires named { list_all is_proper (components path.now) ≡ true }
         ensures stays { Stays self.old self.new }
         ensures kept { WhereAsked F.Files call.now self.old path.now (λ g.
@@ -50,7 +51,6 @@ impl Cache {
             → (self.new ≡ self.old) × ((errors.new ≡ errors.old)
             × IfOk result (λ v. v ≡ queries.rules_verdict g (components path.now) is_dir)) }
         ensures soft { AllSoft (map problem_of errors.old.items) → OnOk result (AllSoft (map problem_of errors.new.items)) }
-        ensures out_of_memory { IfErr result (λ e. problem_of e ≡ memory) }
     {
         if let Some(verdict) = self.known_verdict(call.asked, path, is_dir)? {
             return Ok(verdict);
@@ -66,7 +66,7 @@ impl Cache {
         call: &Call<'_, F>,
         path: &str,
         errors: &mut Vec<Error>,
-    ) -> Result<Kept, Error>
+    ) -> Result<Kept, AllocError>
         requires named { list_all is_proper (components path.now) ≡ true }
         ensures stays { Stays self.old self.new }
         ensures kept { WhereAsked F.Files call.now self.old path.now (λ g.
@@ -81,7 +81,6 @@ impl Cache {
             OnOk result (map problem_of errors.new.items ≡ map problem_of errors.old.items
             ++ (option_to_list (new_above g self.old) ++ filter_map (λ p. p) (new_below g self.old (components path.now))))) }
         ensures soft { AllSoft (map problem_of errors.old.items) → OnOk result (AllSoft (map problem_of errors.new.items)) }
-        ensures out_of_memory { IfErr result (λ e. problem_of e ≡ memory) }
     {
         if let Some(kept) = self.dirs.map.get(parent_key(path)) {
             return Ok(*kept);

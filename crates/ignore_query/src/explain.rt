@@ -26,6 +26,7 @@ use ignore_dir::verdict::Verdict;
 use ignore_dir::{IncrementalMatch, Settings};
 use ignore_files::Files;
 use ignore_why::{Explanation, Reason};
+use std::alloc::AllocError;
 
 /// Why a path at a depth beyond the limits is ignored.
 fn beyond_by(settings: &Settings, depth: usize) -> Reason
@@ -99,7 +100,7 @@ impl IncrementalIgnore {
         files: &F,
         path: &str,
         is_dir: bool,
-    ) -> Result<(Reason, Option<Error>), Error>
+    ) -> Result<(Reason, Option<Error>), AllocError>
         ensures why { WhereAgrees F.Files files.now self.old (λ g. IfOk result (λ r. query_why_of r.0 ≡ query_why g path.now is_dir)) }
         ensures reports { WhereAgrees F.Files files.now self.old (λ g. IfOk result (λ r. option_map problem_of r.1 ≡ reported g self.old.cache path.now is_dir)) }
         ensures stays { Stays self.old.cache self.new.cache }
@@ -109,7 +110,6 @@ impl IncrementalIgnore {
         ensures agrees { WhereAgrees F.Files files.now self.old (λ g. Agrees g self.new.cache) }
         ensures soft { IfOk result (λ r. IsSoft (option_map problem_of r.1)) }
         ensures same { self.new.asked ≡ self.old.asked }
-        ensures out_of_memory { IfErr result (λ e. problem_of e ≡ memory) }
     {
         if !is_asked(self.root(), path) {
             return Ok((Reason::Unasked, None));
@@ -134,7 +134,7 @@ impl IncrementalIgnore {
         files: &F,
         path: &str,
         is_dir: bool,
-    ) -> Result<(Reason, Option<Error>), Error>
+    ) -> Result<(Reason, Option<Error>), AllocError>
         requires named { list_all is_proper (components path.now) ≡ true }
         ensures why { WhereDecided F.Files files.now self.old path.now (λ g.
             IfOk result (λ r. query_why_of r.0 ≡ why_by_rules g path.now is_dir)) }
@@ -147,7 +147,6 @@ impl IncrementalIgnore {
             Agrees g self.new.cache) }
         ensures soft { IfOk result (λ r. IsSoft (option_map problem_of r.1)) }
         ensures same { self.new.asked ≡ self.old.asked }
-        ensures out_of_memory { IfErr result (λ e. problem_of e ≡ memory) }
     {
         let (asked, cache) = (&self.asked, &mut self.cache);
         let call = Call { files, asked };

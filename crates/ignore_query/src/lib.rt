@@ -21,7 +21,7 @@ mod size;
 pub use asked::Asked;
 pub use dirs::Dirs;
 pub use ignore_dir::IncrementalMatch;
-pub use ignore_why::{Cause, Explanation, NamedRule, Reason, RuleRank};
+pub use ignore_why::{Cause, Explanation, NamedRule, NamedType, Reason, RuleRank};
 pub use incremental::IncrementalIgnore;
 pub use kept::{Cache, Kept};
 pub use paths::{check_paths, explain_paths};

@@ -1,11 +1,11 @@
 //! The reason of an answer, from what is kept.
-ghost use Rattle.std.specs.Prelude.{◌≡◌, ◌++◌, ◌∷◌, [], ℕ, Bool, List, All, Option, Some, true, map, option_map, IfOk, IfErr, IfSome, OnOk, string_bytes};
+ghost use Rattle.std.specs.Prelude.{◌≡◌, ◌++◌, ◌∷◌, [], ℕ, Bool, List, All, Option, Some, true, map, option_map, IfOk, IfSome, OnOk, string_bytes};
 ghost use Rattle.std.specs.BTreeMap.{get_by_text};
 ghost use Rattle.std.specs.List.{filter_map, list_all, list_any};
 ghost use Rattle.std.specs.Option.{option_to_list};
 ghost use Rattle.ignore_base.specs.Match.{match_map};
 ghost use Rattle.ignore_base.specs.Paths.{IsName, components, is_proper, join_of, joined};
-ghost use Rattle.ignore_base.specs.Problem.{problem_of, memory};
+ghost use Rattle.ignore_base.specs.Problem.{problem_of};
 ghost use Rattle.ignore_dir.specs.Chains.{slashed};
 ghost use Rattle.ignore_dir.specs.Limits as limits;
 ghost use Rattle.ignore_dir.specs.Load.{Loaded};
@@ -32,12 +32,14 @@ use crate::kept::{Cache, Kept};
 use crate::known::parent_key;
 use crate::load::without_slash;
 use crate::size::fault_at;
-use ignore_base::text::{join, join_law};
+use ignore_base::internal::join;
+use ignore_base::text::join_law;
 use ignore_base::{Error, Match};
 use ignore_dir::limits::size_limit;
 use ignore_dir::names::components;
 use ignore_dir::verdict::Verdict;
-use ignore_files::{Files, Refusal};
+use ignore_files::Files;
+use ignore_files::internal::answered;
 use ignore_levels::laws::what_counts_decides;
 use ignore_levels::{Place, judge};
 use ignore_why::{Cause, Reason, causes};
@@ -63,7 +65,7 @@ fn by_size<F: Files>(
     is_dir: bool,
     said: Match<Cause>,
     errors: &mut Vec<Error>,
-) -> Result<Reason, Error>
+) -> Result<Reason, AllocError>
     ensures value { (tree : Tree) → IsHonest F.Files call.now.files.now tree → let s = call.now.asked.now.settings in
         IfOk result (λ r. query_why_of r ≡ why_by_size (limits.size_limit s is_dir (verdicts.verdict_of said))
         (tree.stat (join_of (string_bytes call.now.asked.now.root) path.now) s.follow_links) (match_map cited_of said)) }
@@ -72,17 +74,16 @@ fn by_size<F: Files>(
         ≡ map problem_of errors.old.items ++ option_to_list (limits.size_problem file
         (limits.size_limit s is_dir (verdicts.verdict_of said)) (tree.stat file s.follow_links))) }
     ensures soft { AllSoft (map problem_of errors.old.items) → OnOk result (AllSoft (map problem_of errors.new.items)) }
-    ensures out_of_memory { IfErr result (λ e. problem_of e ≡ memory) }
 {
     let settings = &call.asked.settings;
     let Some(limit) = size_limit(settings, is_dir, verdict_of(&said)) else {
         return Ok(Reason::Decided(said));
     };
     let path = join(call.alloc(), call.asked.root.as_str(), path)?;
-    match call
+    let found = call
         .files
-        .stat(call.alloc(), path.as_str(), settings.follow_links)
-    {
+        .stat(call.alloc(), path.as_str(), settings.follow_links);
+    match answered(found)? {
         Ok(metadata) => {
             let size = metadata.len();
             if limit < size {
@@ -91,11 +92,10 @@ fn by_size<F: Files>(
                 Ok(Reason::Decided(said))
             }
         }
-        Err(Refusal::Fault(fault)) => {
+        Err(fault) => {
             errors.push(fault_at(call.alloc(), path.as_str(), fault)?)?;
             Ok(Reason::Decided(said))
         }
-        Err(Refusal::Memory) => Err(Error::Memory),
     }
 }
 
@@ -107,13 +107,12 @@ impl Cache {
         place: Option<Place>,
         path: &str,
         is_dir: bool,
-    ) -> Result<Match<Cause>, Error>
+    ) -> Result<Match<Cause>, AllocError>
         ensures value { (tree : Tree) (loads : List ℕ → Loaded) (front : List (List ℕ)) (name : List ℕ)
             → let g = scene_of asked.now tree loads in
             Agrees g self.now → All IsName (front ++ name ∷ []) → kept_at self.now front ≡ Some (kept.Kept.Loaded place)
             → path.now ≡ joined (front ++ name ∷ [])
             → IfOk result (λ m. match_map cited_of m ≡ path_cited g (front ++ name ∷ []) is_dir) }
-        ensures out_of_memory { IfErr result (λ e. problem_of e ≡ memory) }
     {
         join_law();
         what_counts_decides();
@@ -128,7 +127,7 @@ impl Cache {
             is_dir,
         };
         let found = judge(&asked.settings, &asked.outside, &self.levels, place, &entry)?;
-        Ok(causes(alloc, text.as_str(), &found)?)
+        causes(alloc, text.as_str(), &found)
     }
 
     /// Whether the directory with this key is kept as ignored.
@@ -172,13 +171,12 @@ impl Cache {
     }
 
     /// What decides on the ignored directory with this key.
-    fn inside(&self, asked: &Asked, key: &str) -> Result<Reason, Error>
+    fn inside(&self, asked: &Asked, key: &str) -> Result<Reason, AllocError>
         ensures value { (tree : Tree) (loads : List ℕ → Loaded) (front : List (List ℕ)) (name : List ℕ)
             → let g = scene_of asked.now tree loads in
             Agrees g self.now → All IsName (front ++ name ∷ []) → kept_at self.now (front ++ name ∷ []) ≡ Some kept.Kept.Ignored
             → key.now ≡ slashed (front ++ name ∷ [])
             → IfOk result (λ r. query_why_of r ≡ inside (joined (front ++ name ∷ [])) (path_cited g (front ++ name ∷ []) true)) }
-        ensures out_of_memory { IfErr result (λ e. problem_of e ≡ memory) }
     {
         let path = without_slash(key);
         match self.open_at(parent_key(path)) {
@@ -193,12 +191,11 @@ impl Cache {
 
     /// The reason of an answer that the rules give for a path below an ignored directory, where all
     /// that it needs is kept.
-    fn reason_inside(&self, asked: &Asked, path: &str) -> Result<Reason, Error>
+    fn reason_inside(&self, asked: &Asked, path: &str) -> Result<Reason, AllocError>
         ensures why { (tree : Tree) (loads : List ℕ → Loaded) (is_dir : Bool) → let g = scene_of asked.now tree loads in
             Agrees g self.now → All IsName (queries.names_of path.now) → components path.now ≡ queries.names_of path.now
             → is_known g self.now (queries.names_of path.now) ≡ true → list_any (is_ignored g) (ancestors (queries.names_of path.now)) ≡ true
             → IfOk result (λ r. query_why_of r ≡ why_by_rules g path.now is_dir) }
-        ensures out_of_memory { IfErr result (λ e. problem_of e ≡ memory) }
     {
         let alloc = *asked.root.allocator();
         let names = components(alloc, path)?;
@@ -216,7 +213,7 @@ impl Cache {
         path: &str,
         is_dir: bool,
         errors: &mut Vec<Error>,
-    ) -> Result<Reason, Error>
+    ) -> Result<Reason, AllocError>
         requires named { list_all is_proper (components path.now) ≡ true }
         ensures why { WhereAsked F.Files call.now self.old path.now (λ g.
             IfOk result (λ r. query_why_of r ≡ why_by_rules g path.now is_dir)) }
@@ -230,7 +227,6 @@ impl Cache {
             ++ (option_to_list (new_above g self.old) ++ filter_map (λ p. p) (new_below g self.old (components path.now))))
             ++ option_to_list (limits.size_problem (join_of g.root path.now) (queries.limit_of g path.now is_dir) (queries.size_of g path.now)))) }
         ensures soft { AllSoft (map problem_of errors.old.items) → OnOk result (AllSoft (map problem_of errors.new.items)) }
-        ensures out_of_memory { IfErr result (λ e. problem_of e ≡ memory) }
     {
         match self.keep_for(call, path, errors)? {
             Kept::Ignored => self.reason_inside(call.asked, path),

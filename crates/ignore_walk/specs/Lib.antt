@@ -9,6 +9,7 @@ pub mod Visits
 pub mod Agreement
 pub mod Suits
 pub mod Frames
+pub mod Found
 pub mod Keyed
 pub mod Shared
 pub mod OnList

@@ -6,7 +6,8 @@ ghost use Rattle.ignore_base.specs.Problem.{problem_of};
 ghost use Rattle.ignore_dir.specs.Query.{is_dir_there};
 ghost use Rattle.ignore_levels.specs.Levels.{IsChain, counting, slots_of};
 ghost use Rattle.ignore_walk.specs.Branch.{Branch, path_of, text_at, placed_above};
-ghost use Rattle.ignore_walk.specs.Entry.{Item as Yielded, entry_of, item_of, problem_in};
+ghost use Rattle.ignore_walk.specs.Entry.{Item as Yielded, entry_of, item_of};
+ghost use Rattle.ignore_walk.specs.Found.{IsFoundAt};
 ghost use Rattle.ignore_walk.specs.Frames.{AreFrames};
 ghost use Rattle.ignore_walk.specs.Left.{Remains, InHand, IsNext};
 ghost use Rattle.ignore_walk.specs.OnList.{place_around};
@@ -21,6 +22,7 @@ use crate::above::{Seen, see, way_along};
 use crate::callbacks::Callbacks;
 use crate::child::is_dir_kind;
 use crate::entry::{DirEntry, Item};
+use crate::found::Found;
 use crate::frame::{Frame, frame_of, take_next};
 use crate::ground::{Fate, Ground};
 use crate::made::{make, make_error, make_fault};
@@ -54,24 +56,28 @@ pub struct Stack {
 }
 
 impl Stack {
-    /// What an entry gives that isn't skipped: itself, and where it leads into a directory, what
-    /// is in it. `text` is its path as the directories around it see it, with a final slash.
+    /// What an entry gives that was found and isn't skipped: itself, and where it leads into a
+    /// directory, what is in it. `text` is its path as the directories around it see it, with a
+    /// final slash.
     fn visit<F: Files, S: Callbacks>(
         &mut self,
         ground: &Ground<'_, F, S>,
-        entry: DirEntry,
+        found: Found,
         leads_in: bool,
         text: Name,
     ) -> Result<(), AllocError>
         ensures visited { (g : Scene) (root : List ℕ) (place b : Branch) (seen : List (List ℕ)) (items : List Yielded) (n : ℕ)
             → IsGroundOf F.Files S.Callbacks ground.now g
-            → IsIn g root place seen self.old → Visits g root b self.old (entry_of entry) leads_in text
+            → IsIn g root place seen self.old → Visits g root b self.old found leads_in text
             → IsNext b place (state_of self.old root place seen).rests
-            → InHand g (state_of self.old root place seen) b (Ok (entry_of entry)) items n → OnOk result (Stands g self.new items n) }
+            → InHand g (state_of self.old root place seen) b (Ok (entry_of found.entry)) items n
+            → OnOk result (Stands g self.new items n) }
         ensures made { length self.new.made.items ≤ length self.old.made.items + 2 }
     {
         let settings = &ground.settings;
-        match ground.fate(self.device, &entry, leads_in)? {
+        let fate = ground.fate(self.device, &found, leads_in);
+        let entry = found.entry;
+        match fate {
             Fate::Yield => make(&mut self.made, settings, entry, None),
             Fate::Load => {
                 let error = ground.load_error(entry.path())?;
@@ -124,7 +130,7 @@ impl Stack {
                 let text = text_of(ground.alloc, self.frames.as_slice(), &listed)?;
                 match ground.child(self.frames.as_slice(), listed)? {
                     Err(error) => make_error(&mut self.made, error),
-                    Ok(entry) => self.take(ground, entry, text),
+                    Ok(found) => self.take(ground, found, text),
                 }
             }
         }
@@ -151,29 +157,29 @@ impl Stack {
         }
     }
 
-    /// What an entry below a root gives. `text` is its path as the directories around it see it.
+    /// What an entry gives that was found below a root. `text` is its path as the directories
+    /// around it see it.
     fn take<F: Files, S: Callbacks>(
         &mut self,
         ground: &Ground<'_, F, S>,
-        entry: DirEntry,
+        found: Found,
         mut text: String,
     ) -> Result<(), AllocError>
         ensures taken { (g : Scene) (root : List ℕ) (place : Branch) (name : List ℕ) (seen : List (List ℕ)) (items : List Yielded) (n : ℕ)
             → IsGroundOf F.Files S.Callbacks ground.now g
             → IsIn g root place seen self.old → AreFrames g root place (reverse self.old.frames.items) → IsAt g root self.old
-            → string_bytes text ≡ text_at g root place ++ name → (entry_of entry).path ≡ path_of root (name ∷ place)
-            → problem_in entry ≡ None
-            → InHand g (state_of self.old root place seen) (name ∷ place) (Ok (entry_of entry)) items n
+            → string_bytes text ≡ text_at g root place ++ name → IsFoundAt g root (name ∷ place) found
+            → InHand g (state_of self.old root place seen) (name ∷ place) (Ok (entry_of found.entry)) items n
             → OnOk result (Stands g self.new items n) }
         ensures made { length self.new.made.items ≤ length self.old.made.items + 2 }
     {
         let around = place_around(self.above, self.frames.as_slice());
-        if ground.is_skipped(&self.levels, around, text.as_str(), &entry)? {
+        if ground.is_skipped(&self.levels, around, text.as_str(), &found.entry)? {
             return Ok(());
         }
-        let leads_in = is_dir_kind(entry.file_type());
+        let leads_in = is_dir_kind(found.entry.file_type());
         text.push('/')?;
-        self.visit(ground, entry, leads_in, Name::new(text))
+        self.visit(ground, found, leads_in, Name::new(text))
     }
 
     /// Begins a root.
@@ -220,9 +226,9 @@ impl Stack {
     {
         match ground.root_entry(is_dir, root)? {
             Err(error) => make_error(&mut self.made, error),
-            Ok(entry) => {
-                self.device = ground.device(is_dir, root)?;
-                self.visit(ground, entry, is_dir, Name::new(base))
+            Ok(found) => {
+                self.device = found.device;
+                self.visit(ground, found, is_dir, Name::new(base))
             }
         }
     }

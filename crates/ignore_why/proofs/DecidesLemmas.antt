@@ -7,8 +7,7 @@ use Rattle.ignore_base.specs.Paths.{file_name_of, strip_of, trim_of}
 use Rattle.ignore_base.specs.Text.{Chars, Path}
 use Rattle.ignore_base.specs.declared.match_result.Match.{Match}
 use Rattle.ignore_base.specs.declared.match_result.Match.TheVariants as m
-use Rattle.ignore_types.specs.TypeMatch.{type_answer}
-use Rattle.ignore_types.specs.Types.{Definition}
+use Rattle.ignore_types.specs.TypeMatch.{TypeGlob, type_answer}
 use Rattle.ignore_rules.specs.Answer.{AnswersByTheLast, IsAnswer, IsLast, does_apply, list_answer, rule_answer}
 use Rattle.ignore_rules.specs.Overrides.{override_answer}
 use Rattle.ignore_rules.specs.Parents.{first_match}
@@ -191,7 +190,7 @@ module _ (nearest : NearestDecides) (law : AnswersByTheLast) (s : Settings) (o :
 
 -- Of all that may decide.
 
-no-type : (t : Match (Option Definition)) (other : Match Why) (x : Sited) → inner (match_or (match_map by_type t) other) ≡ Some (by_rule x)
+no-type : (t : Match (Option TypeGlob)) (other : Match Why) (x : Sited) → inner (match_or (match_map by_type t) other) ≡ Some (by_rule x)
     → inner other ≡ Some (by_rule x)
 no-type m.None other x h = h
 no-type (m.Ignore d) other x h = absurd (cc (h))
@@ -201,7 +200,7 @@ no-name : (hides : Bool) (x : Sited) → inner (cond hides (m.Ignore by_name) m.
 no-name true x h = cc (h)
 no-name false x h = cc (h)
 
-ruled-by : (ranks : Match Sited) (types : Match (Option Definition)) (hides : Bool) (x : Sited)
+ruled-by : (ranks : Match Sited) (types : Match (Option TypeGlob)) (hides : Bool) (x : Sited)
     → inner (file_why ranks types hides) ≡ Some (by_rule x) → inner ranks ≡ Some x
 ruled-by m.None types hides x h = absurd (no-name hides x (no-type types (cond hides (m.Ignore by_name) m.None) x h))
 ruled-by (m.Ignore y) types hides x h = let same : y ≡ x = cc (h) in ap Some same

@@ -23,7 +23,7 @@ use Rattle.ignore_dir.specs.Query.{is_ignored, rules_verdict}
 use Rattle.ignore_dir.specs.Scene.{Scene, path_verdict, scene}
 use Rattle.ignore_why.specs.declared.cause.RuleRank.{RuleRank}
 use Rattle.ignore_why.specs.declared.cause.RuleRank.TheVariants.{Custom, Ignore, Gitignore, Exclude, Global, Explicit}
-use Rattle.ignore_why.specs.Cited.{Cited}
+use Rattle.ignore_why.specs.Cited.{Cited, Typed}
 use Rattle.ignore_why.specs.Cited.Cited.{on_name, on_override, on_rule, on_type}
 use Rattle.ignore_why.specs.QueryWhy.{path_why, query_why, why_by_rules}
 use Rattle.ignore_why.specs.QueryWhy.QueryWhy.{decided, inside, larger, too_deep, too_shallow, unasked, unruled}
@@ -101,11 +101,15 @@ settings least most = record {
   max_filesize = Some 9;
 }
 
--- the type `r` of the name `7`, selected or negated
+-- the type `r` of the names `7` and `8`, selected or negated
 abbrev typed : Bool → Matcher
 typed negated = record {
   definitions = [];
-  choices = record { definition = record { name = codes "r"; globs = [] }; readings = only 55 ∷ []; negated = negated } ∷ [];
+  choices = record {
+    definition = record { name = codes "r"; globs = codes "7" ∷ codes "8" ∷ [] };
+    readings = only 55 ∷ only 56 ∷ [];
+    negated = negated;
+  } ∷ [];
 }
 
 abbrev asked : Option ℕ → Option ℕ → Ruleset → Matcher → List ℕ → Scene
@@ -171,14 +175,19 @@ pub by_directories : (query_why g (codes "n/3") false ≡ decided (m.Whitelist (
 unfolding query_why why_by_rules path_why is_ignored path_verdict rules_verdict join_of file_name_of below strip_prefix_of does_match chars
 by_directories = (refl, refl, refl, refl)
 
--- a rule whitelists `7`, and a negated type decides before it; a selected type ignores what it
--- doesn't match, but a rule that ignores decides before types
+-- the type `r` by one of its globs
+abbrev by_glob : List ℕ → Option Typed
+by_glob glob = Some (record { name = codes "r"; glob = glob })
+
+-- a rule whitelists `7`, and a negated type decides before it, by the glob that matches; a selected
+-- type ignores what it doesn't match, but a rule that ignores decides before types
 pub by_types : (query_why g (codes "7") false ≡ decided (m.Whitelist (named Custom top_path 55 7 true)))
-    × (query_why (asked None None empty (typed true) (codes "/t")) (codes "7") false ≡ decided (m.Ignore (on_type (Some (codes "r")))))
+    × (query_why (asked None None empty (typed true) (codes "/t")) (codes "7") false ≡ decided (m.Ignore (on_type (by_glob (codes "7")))))
+    × (query_why (asked None None empty (typed true) (codes "/t")) (codes "8") false ≡ decided (m.Ignore (on_type (by_glob (codes "8")))))
     × (query_why (asked None None empty (typed false) (codes "/t")) (codes "k") false ≡ decided (m.Ignore (on_type None)))
     × (query_why (asked None None empty (typed false) (codes "/t")) (codes "2") false ≡ decided (m.Ignore (named Ignore top_path 50 2 false)))
 unfolding query_why why_by_rules path_why is_ignored path_verdict rules_verdict join_of file_name_of below strip_prefix_of does_match chars
-by_types = (refl, refl, refl, refl)
+by_types = (refl, refl, refl, refl, refl)
 
 -- an override decides before all else: `1` is its glob, and `7` isn't
 pub by_overrides : let overrides = rules (rule (only 49) 49 1 false ∷ []) in
@@ -191,7 +200,7 @@ by_overrides = (refl, refl)
 pub texts : (query_why_text (decided (m.Ignore (named Custom top_path 49 12 false))) ≡ codes "f:" ++ (decimal 12 ++ codes ":1"))
     × (query_why_text (inside (codes "1") (m.Ignore (named Custom top_path 49 1 false))) ≡ codes "f:" ++ (decimal 1 ++ codes ":1"))
     × (query_why_text (decided m.None) ≡ codes "no rule") × (query_why_text (larger 10 9) ≡ codes "larger than " ++ decimal 9)
-    × (query_why_text (decided (m.Ignore (on_type (Some (codes "r"))))) ≡ codes "type r")
+    × (query_why_text (decided (m.Ignore (on_type (by_glob (codes "7"))))) ≡ codes "type r")
     × (query_why_text (decided (m.Whitelist (on_override (Some (codes "*.rs"))))) ≡ codes "override *.rs")
     × (query_why_text (decided (m.Ignore on_name)) ≡ codes "hidden") × (query_why_text unasked ≡ codes "not asked")
 texts = (refl, refl, refl, refl, refl, refl, refl, refl)

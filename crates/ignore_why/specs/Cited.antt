@@ -1,7 +1,7 @@
 -- What decides on a path, by name.
 use Rattle.std.specs.Prelude.{ℕ, ◌-◌, Bool, length, take, Option, None, Some, option_map, string_bytes}
 use Rattle.ignore_base.specs.Text.{Bytes, Path}
-use Rattle.ignore_types.specs.Types.{Definition}
+use Rattle.ignore_types.specs.TypeMatch.{TypeGlob}
 use Rattle.ignore_rules.specs.Rules.{Rule}
 use Rattle.ignore_dir.specs.declared.dir.Rank.TheVariants as list
 use Rattle.ignore_levels.specs.Reasons.{Why}
@@ -11,6 +11,7 @@ use Rattle.ignore_levels.specs.Sites.Site.{in_directory, in_global, in_explicit}
 use Rattle.ignore_why.specs.declared.cause.Cause.{Cause}
 use Rattle.ignore_why.specs.declared.cause.Cause.TheVariants as cause
 use Rattle.ignore_why.specs.declared.cause.NamedRule.{NamedRule}
+use Rattle.ignore_why.specs.declared.cause.NamedType.{NamedType}
 use Rattle.ignore_why.specs.declared.cause.RuleRank.{RuleRank}
 use Rattle.ignore_why.specs.declared.cause.RuleRank.TheVariants.{Custom, Ignore, Gitignore, Exclude, Global, Explicit}
 
@@ -52,19 +53,27 @@ named text s =
       is_whitelist = s.rule.is_whitelist;
     }
 
+-- a file type by name, and one of its globs
+pub record Typed : Type 0 where
+  pub name : Bytes
+  pub glob : Bytes
+
+abbrev pub typed : TypeGlob → Typed
+typed t = record { name = t.definition.name; glob = t.glob }
+
 -- what decides, by name: a glob of the command line as it was written, or that none matches; a
--- rule; a file type by its name, or that none matches; or a hidden name
+-- rule; a file type with its glob, or that none matches; or a hidden name
 pub data Cited : Type 0 where
   on_override : Option Bytes → Cited
   on_rule : Named → Cited
-  on_type : Option Bytes → Cited
+  on_type : Option Typed → Cited
   on_name : Cited
 
 -- what decides, by name, in a text
 abbrev pub cited : Path → Why → Cited
 cited text (by_override rule) = on_override (option_map (λ (r : Rule). r.original) rule)
 cited text (by_rule s) = on_rule (named text s)
-cited text (by_type definition) = on_type (option_map (λ (d : Definition). d.name) definition)
+cited text (by_type found) = on_type (option_map typed found)
 cited text by_name = on_name
 
 -- a named rule as plain data
@@ -79,9 +88,13 @@ named_of r =
       is_whitelist = r.is_whitelist;
     }
 
+-- a named type as plain data
+abbrev pub typed_of : NamedType → Typed
+typed_of t = record { name = string_bytes t.name; glob = string_bytes t.glob }
+
 -- a cause as plain data
 abbrev pub cited_of : Cause → Cited
 cited_of (cause.Override text) = on_override (option_map string_bytes text)
 cited_of (cause.Rule rule) = on_rule (named_of rule)
-cited_of (cause.Type name) = on_type (option_map string_bytes name)
+cited_of (cause.Type found) = on_type (option_map typed_of found)
 cited_of cause.Hidden = on_name

@@ -28,7 +28,7 @@ abbrev pub cited_text : Cited → Bytes
 cited_text (on_override (Some glob)) = codes "override " ++ glob
 cited_text (on_override None) = codes "no override"
 cited_text (on_rule r) = rule_text r
-cited_text (on_type (Some name)) = codes "type " ++ name
+cited_text (on_type (Some found)) = codes "type " ++ found.name
 cited_text (on_type None) = codes "no type"
 cited_text on_name = codes "hidden"
 

@@ -5,7 +5,7 @@ ghost use Rattle.std.specs.Option.{option_copied};
 ghost use Rattle.ignore_base.specs.Match.{match_map};
 ghost use Rattle.ignore_base.specs.Text.{Path};
 ghost use Rattle.ignore_levels.specs.Reasons.{IsAtBoundary, IsInside, IsReasonInside, site_of, sited_of, why_of};
-ghost use Rattle.ignore_why.specs.Cited.{directory_of, cited, cited_of, named, named_of, rank_of};
+ghost use Rattle.ignore_why.specs.Cited.{directory_of, cited, cited_of, named, named_of, rank_of, typed, typed_of};
 
 use ignore_base::Match;
 use ignore_dir::Rank;
@@ -51,6 +51,15 @@ pub struct NamedRule {
     pub is_whitelist: bool,
 }
 
+/// A file type that decides, by its name and its glob.
+#[derive(Debug, Drop)]
+pub struct NamedType {
+    /// Its name.
+    pub name: String,
+    /// The last of its globs that matches.
+    pub glob: String,
+}
+
 /// What decides on a path.
 #[derive(Debug, Drop)]
 pub enum Cause {
@@ -59,9 +68,8 @@ pub enum Cause {
     Override(Option<String>),
     /// A rule.
     Rule(NamedRule),
-    /// A chosen file type, by its name; or, without one, that none matches where a type is
-    /// selected.
-    Type(Option<String>),
+    /// A chosen file type; or, without one, that none matches where a type is selected.
+    Type(Option<NamedType>),
     /// A leading dot of its name.
     Hidden,
 }
@@ -144,14 +152,19 @@ fn written(alloc: Global, glob: &overrides::Glob<'_>) -> Result<Option<String>, 
     }
 }
 
-/// The name of the type that decides, if one matches.
-fn type_name(alloc: Global, glob: &types::Glob<'_>) -> Result<Option<String>, AllocError>
-    ensures { IfOk result (λ name. option_map string_bytes name ≡ option_map (λ definition. definition.name) glob.now) }
+/// The type that decides, by its name and its glob, if one matches.
+fn named_type(alloc: Global, found: &types::Glob<'_>) -> Result<Option<NamedType>, AllocError>
+    ensures { IfOk result (λ named. option_map typed_of named ≡ option_map typed found.now) }
 {
-    match glob.file_type_def() {
-        Some(definition) => Ok(Some(String::from_str(alloc, definition.name())?)),
-        None => Ok(None),
-    }
+    let Some(definition) = found.file_type_def() else {
+        return Ok(None);
+    };
+    let Some(text) = found.glob() else {
+        return Ok(None);
+    };
+    let name = String::from_str(alloc, definition.name())?;
+    let glob = String::from_str(alloc, text)?;
+    Ok(Some(NamedType { name, glob }))
 }
 
 /// What decides, by name.
@@ -162,7 +175,7 @@ fn caused_by(alloc: Global, text: &str, reason: &Reason<'_>) -> Result<Cause, Al
     match reason {
         Reason::Override(glob) => Ok(Cause::Override(written(alloc, glob)?)),
         Reason::Rule(ruling) => Ok(Cause::Rule(named(alloc, text, ruling)?)),
-        Reason::Type(glob) => Ok(Cause::Type(type_name(alloc, glob)?)),
+        Reason::Type(glob) => Ok(Cause::Type(named_type(alloc, glob)?)),
         Reason::Hidden => Ok(Cause::Hidden),
     }
 }

@@ -38,7 +38,10 @@ impl fmt::Display for Cause {
             Cause::Override(Some(glob)) => write!(f, "override {glob}"),
             Cause::Override(None) => write!(f, "no override"),
             Cause::Rule(rule) => write!(f, "{rule}"),
-            Cause::Type(Some(name)) => write!(f, "type {name}"),
+            Cause::Type(Some(found)) => {
+                let name = found.name.as_str();
+                write!(f, "type {name}")
+            }
             Cause::Type(None) => write!(f, "no type"),
             Cause::Hidden => write!(f, "hidden"),
         }

@@ -6,5 +6,5 @@ mod display;
 mod explanation;
 pub mod laws;
 
-pub use cause::{Cause, NamedRule, RuleRank, causes};
+pub use cause::{Cause, NamedRule, NamedType, RuleRank, causes};
 pub use explanation::{Explanation, Reason};

@@ -1,4 +1,4 @@
-use Rattle.std.proofs.Common.{◌≡◌, IfOk, refl, sym, ap, ◌∙◌, cond, true, subst, string_bytes}
+use Rattle.std.proofs.Common.{◌≡◌, IfOk, sym, ap, ◌∙◌, cond, true, subst, string_bytes}
 use Rattle.ignore_dir.specs.Query.{is_asked}
 use Rattle.ignore_why.specs.QueryWhy.{QueryWhy, query_why_of}
 use Rattle.ignore_why.specs.QueryWhy.QueryWhy.{too_deep, too_shallow}

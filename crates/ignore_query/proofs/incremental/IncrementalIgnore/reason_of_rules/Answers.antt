@@ -1,4 +1,4 @@
-use Rattle.std.proofs.Common.{◌≡◌, ◌++◌, List, Option, map, sym, ap, ◌∙◌, subst, string_bytes}
+use Rattle.std.proofs.Common.{◌++◌, List, Option, map, sym, ap, ◌∙◌, subst, string_bytes}
 use Rattle.std.specs.List.{filter_map}
 use Rattle.std.specs.Option.{option_to_list}
 use Rattle.ignore_base.specs.Paths.{components, join_of}

@@ -1,4 +1,4 @@
-use Rattle.std.proofs.Common.{◌≡◌, ◌++◌, ◌∷◌, [], ℕ, not, All, IfOk, OnOk, List, Option, map, refl, sym, ap, ◌∙◌, subst, string_bytes}
+use Rattle.std.proofs.Common.{◌≡◌, ◌++◌, ◌∷◌, [], All, IfOk, List, map, sym, ap, ◌∙◌, subst}
 use Rattle.std.proofs.lemmas.List.{append-nil}
 use Rattle.std.proofs.lemmas.List.Splits.{join_with_byte-slice_split}
 use Rattle.std.specs.List.{filter_map, list_any}
@@ -7,11 +7,11 @@ use Rattle.ignore_base.specs.Paths.{IsName, components, join_of, joined}
 use Rattle.ignore_base.specs.Problem.{Problem, problem_of}
 use Rattle.ignore_base.proofs.CleanLemmas.{names-components}
 use Rattle.ignore_dir.specs.Limits.{size_limit, size_problem}
-use Rattle.ignore_dir.specs.Query.{ancestors, is_ignored, names_of, rules_verdict, size_of}
+use Rattle.ignore_dir.specs.Query.{ancestors, is_ignored, rules_verdict, size_of}
 use Rattle.ignore_dir.specs.Verdict.{verdict_of}
 use Rattle.ignore_why.specs.Cited.{cited_of}
 use Rattle.ignore_why.specs.QueryWhy.{QueryWhy, query_why_of}
-use Rattle.ignore_query.specs.Needs.{KeepsNeeded, is_known, needed}
+use Rattle.ignore_query.specs.Needs.{is_known}
 use Rattle.ignore_query.specs.Reached.{scene_of}
 use Rattle.ignore_query.specs.Reports.{new_above, new_below}
 use Rattle.ignore_query.proofs.KnownLemmas.{last_of}
