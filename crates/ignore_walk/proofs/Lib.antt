@@ -32,3 +32,4 @@ pub mod YieldLemmas
 pub mod RunLemmas
 pub mod PlacedLemmas
 pub mod EndLemmas
+pub mod PaceLemmas

@@ -17,5 +17,6 @@ pub mod Opens
 pub mod Fates
 pub mod Left
 pub mod Stands
+pub mod Paces
 pub mod Nexts
 pub mod Runs

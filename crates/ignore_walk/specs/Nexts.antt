@@ -5,6 +5,7 @@ use Rattle.ignore_base.specs.declared.fault.Fault.TheVariants.{StepLimit}
 use Rattle.ignore_base.specs.Problem.{io, memory}
 use Rattle.ignore_files.specs.declared.files.Files.{Ghosts as Files}
 use Rattle.ignore_walk.specs.Entry.{Item}
+use Rattle.ignore_walk.specs.Paces.{Paces}
 use Rattle.ignore_walk.specs.Scene.{Scene}
 use Rattle.ignore_walk.specs.Stands.{Stands}
 use Rattle.ignore_walk.specs.Suits.{IsGroundOf}
@@ -57,10 +58,12 @@ IsLast (Some item) left = (item ≡ Err memory) ⊎ ((item ≡ Err (io StepLimit
 
 -- what one `next` of a walk answers, and what it makes of the walk. For files that are consistent
 -- with a tree it is an item of what remains. For all files: a walk that is over answers none; after
--- none it is over; and where it wasn't ended and now is, it is over, and that was its last answer
+-- none it is over; where it wasn't ended and now is, it is over, and that was its last answer; and
+-- the steps that are left are fewer by exactly those that it took
 pub record NextGives {F S : Type 0} (files : Files F) (calls : Callbacks S) (a : Walk F S) (answer : Option Item) (b : Walk F S)
     : Type 0 where
   pub given : (g : Scene) (items : List Item) (n : ℕ) → Remaining files calls g a items n → Nexts files calls g a answer b items n
   pub over : IsOver a → answer ≡ None
   pub none : answer ≡ None → IsOver b
   pub last : a.ended ≡ false → b.ended ≡ true → IsOver b × IsLast answer b.left
+  pub paced : Paces a answer b

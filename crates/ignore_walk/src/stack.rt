@@ -12,6 +12,7 @@ ghost use Rattle.ignore_walk.specs.Frames.{AreFrames};
 ghost use Rattle.ignore_walk.specs.Left.{Remains, InHand, IsNext};
 ghost use Rattle.ignore_walk.specs.OnList.{place_around};
 ghost use Rattle.ignore_walk.specs.Opens.{Opens};
+ghost use Rattle.ignore_walk.specs.Paces.{HasWork, IsStep, Leaves, MayEnter, TakesOne, work_of};
 ghost use Rattle.ignore_walk.specs.Scene.{Scene};
 ghost use Rattle.ignore_walk.specs.Stands.{state_of, before_root, name_in, text_below, IsAround, IsAt, IsIn, IsKept, Stands, Steps, Takes, Visits, Hands};
 ghost use Rattle.ignore_walk.specs.Suits.{IsGroundOf};
@@ -72,6 +73,8 @@ impl Stack {
             → IsNext b place (state_of self.old root place seen).rests
             → InHand g (state_of self.old root place seen) b (Ok (entry_of found.entry)) items n
             → OnOk result (Stands g self.new items n) }
+        ensures roots { self.new.roots ≡ self.old.roots }
+        ensures enters { OnOk result (MayEnter self.old.frames.items self.new.frames.items) }
         ensures made { length self.new.made.items ≤ length self.old.made.items + 2 }
     {
         let settings = &ground.settings;
@@ -104,6 +107,8 @@ impl Stack {
             → (entry_of entry).path ≡ path_of root b → Opens g (path_of root b) (text_at g root b) opened
             → fate g root b (entry_of entry) ≡ enter → IsNext b place (state_of self.old root place seen).rests
             → InHand g (state_of self.old root place seen) b (Ok (entry_of entry)) items n → OnOk result (Stands g self.new items n) }
+        ensures roots { self.new.roots ≡ self.old.roots }
+        ensures enters { OnOk result (MayEnter self.old.frames.items self.new.frames.items) }
         ensures made { length self.new.made.items ≤ length self.old.made.items + 2 }
     {
         let depth = entry.depth();
@@ -122,6 +127,7 @@ impl Stack {
         ensures stepped { (g : Scene) (items : List Yielded) (n : ℕ)
             → IsGroundOf F.Files S.Callbacks ground.now g
             → 0 < length self.old.frames.items → Stands g self.old items n → OnOk result (Steps g self.new items n) }
+        ensures paced { 0 < length self.old.frames.items → OnOk result (IsStep (work_of self.old) (work_of self.new)) }
         ensures made { length self.new.made.items ≤ length self.old.made.items + 2 }
     {
         match self.take_listed()? {
@@ -139,6 +145,8 @@ impl Stack {
     /// What is listed next in the directory that was entered last; where nothing is, it is left.
     fn take_listed(&mut self) -> Result<Option<Listed>, AllocError>
         ensures made { self.new.made ≡ self.old.made }
+        ensures next { 0 < length self.old.frames.items → IfOk result (λ next. MatchOption next (Leaves (work_of self.old) (work_of self.new))
+            (λ x. TakesOne (work_of self.old) x (work_of self.new))) }
         ensures taken { (g : Scene) (items : List Yielded) (n : ℕ) → 0 < length self.old.frames.items → Stands g self.old items n
             → IfOk result (λ next. MatchOption next (Steps g self.new items n) (λ x. Takes g self.new x items n)) }
     {
@@ -171,6 +179,8 @@ impl Stack {
             → string_bytes text ≡ text_at g root place ++ name → IsFoundAt g root (name ∷ place) found
             → InHand g (state_of self.old root place seen) (name ∷ place) (Ok (entry_of found.entry)) items n
             → OnOk result (Stands g self.new items n) }
+        ensures roots { self.new.roots ≡ self.old.roots }
+        ensures enters { OnOk result (MayEnter self.old.frames.items self.new.frames.items) }
         ensures made { length self.new.made.items ≤ length self.old.made.items + 2 }
     {
         let around = place_around(self.above, self.frames.as_slice());
@@ -193,6 +203,8 @@ impl Stack {
             → self.old.frames.items ≡ [] → IsKept g seen self.old
             → Remains g (before_root self.old last place seen root.now) items n
             → OnOk result (Steps g self.new items n) }
+        ensures roots { self.new.roots ≡ self.old.roots }
+        ensures enters { self.old.frames.items ≡ [] → OnOk result (MayEnter [] self.new.frames.items) }
         ensures made { length self.new.made.items ≤ length self.old.made.items + 3 }
     {
         if root == "-" {
@@ -222,6 +234,8 @@ impl Stack {
             → (is_dir ≡ true → string_bytes base ≡ text_at g root.now [])
             → InHand g (state_of self.old root.now [] seen) [] (root_entry g root.now) items n
             → OnOk result (Stands g self.new items n) }
+        ensures roots { self.new.roots ≡ self.old.roots }
+        ensures enters { OnOk result (MayEnter self.old.frames.items self.new.frames.items) }
         ensures made { length self.new.made.items ≤ length self.old.made.items + 2 }
     {
         match ground.root_entry(is_dir, root)? {
@@ -293,6 +307,7 @@ impl Stack {
         ensures advanced { (g : Scene) (items : List Yielded) (n : ℕ)
             → IsGroundOf F.Files S.Callbacks ground.now g
             → Stands g self.old items n → 0 < n → OnOk result (Steps g self.new items n) }
+        ensures paced { HasWork (work_of self.old) → OnOk result (IsStep (work_of self.old) (work_of self.new)) }
         ensures made { length self.new.made.items ≤ length self.old.made.items + 3 }
     {
         if !is_outside(self.frames.as_slice()) {
@@ -306,6 +321,7 @@ impl Stack {
 
     /// Whether no step is left.
     pub(crate) fn is_done(&self) -> bool
+        ensures work { result ≡ false → HasWork (work_of self.now) }
         ensures more { result ≡ false → (g : Scene) (items : List Yielded) (n : ℕ) → Stands g self.now items n → 0 < n }
         ensures none { result ≡ true → (g : Scene) (items : List Yielded) (n : ℕ) → self.now.made.items ≡ [] → Stands g self.now items n
             → (items ≡ []) × (n ≡ 0) }
@@ -315,6 +331,7 @@ impl Stack {
 
     /// The item that was made first.
     pub(crate) fn take_made(&mut self) -> Option<Item>
+        ensures same { work_of self.new ≡ work_of self.old }
         ensures length { MatchOption result ((length self.old.made.items ≡ 0) × (self.new.made.items ≡ []))
             (λ _. length self.old.made.items ≡ suc (length self.new.made.items)) }
         ensures handed { (g : Scene) (items : List Yielded) (n : ℕ) → Stands g self.old items n

@@ -3,6 +3,7 @@ ghost use Rattle.std.specs.Prelude.{◌≡◌, ◌<◌, ◌≤◌, ◌⊎◌, []
 ghost use Rattle.ignore_base.specs.declared.fault.Fault.TheVariants.{StepLimit};
 ghost use Rattle.ignore_base.specs.Problem.{Problem, problem_of, io, memory};
 ghost use Rattle.ignore_walk.specs.Entry.{Item as Yielded, item_of};
+ghost use Rattle.ignore_walk.specs.Paces.{HasWork, Paces, work_of};
 ghost use Rattle.ignore_walk.specs.Scene.{Scene};
 ghost use Rattle.ignore_walk.specs.Stands.{Stands};
 ghost use Rattle.ignore_walk.specs.Suits.{IsGroundOf};
@@ -84,6 +85,7 @@ impl<'a, F: Files, S: Callbacks> Walk<'a, F, S> {
     fn is_done(&self) -> bool
         ensures goes_on { result ≡ false → self.now.ended ≡ false }
         ensures ended { self.now.ended ≡ true → result ≡ true }
+        ensures work { result ≡ false → HasWork (work_of self.now.stack) }
         ensures more { result ≡ false → (g : Scene) (items : List Yielded) (n : ℕ) → Stands g self.now.stack items n → 0 < n }
         ensures none { result ≡ true → self.now.ended ≡ false → (g : Scene) (items : List Yielded) (n : ℕ)
             → self.now.stack.made.items ≡ [] → Stands g self.now.stack items n → (items ≡ []) × (n ≡ 0) }
@@ -100,6 +102,7 @@ impl<'a, F: Files, S: Callbacks> Walk<'a, F, S> {
         ensures none { result ≡ None → IsOver self.new }
         ensures last { self.old.ended ≡ false → self.new.ended ≡ true
             → IsOver self.new × IsLast (option_map item_of result) self.new.left }
+        ensures paced { Paces self.old (option_map item_of result) self.new }
     {
         if let Some(item) = self.stack.take_made() {
             return Some(item);

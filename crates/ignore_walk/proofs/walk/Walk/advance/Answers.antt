@@ -1,6 +1,7 @@
 use Rattle.std.proofs.Common.{◌<◌, Option, inl, inr, refl, sym, ap, subst, arith, Err}
 use Rattle.ignore_walk.specs.Entry.{Item}
 use Rattle.ignore_walk.specs.Nexts.{Nexts}
+use Rattle.ignore_walk.proofs.PaceLemmas.{one_more_step}
 use Rattle.ignore_walk.proofs.walk.Walk.advance.Goals as goal
 
 pub returns-in-Some-clause-given : goal.returns-in-Some-clause-given
@@ -44,6 +45,8 @@ loop-self-preserved g c = record {
   fewer = omega (c.loop-self.invariant.fewer, arith);
   ground = c.loop-self.invariant.ground;
   ended = c.loop-self.invariant.ended;
+  paced = one_more_step c.args.self.now.left c.loop-self.self.left _ _ _ _ (omega (c.if-self-eq0.false, arith)) c.loop-self.invariant.paced
+      (c.in-Ok.ensures.paced (c.is_done.ensures.work c.loop-self-test.true)) c.in_default-take_made.ensures.same _ (omega (c.if-self-eq0.false, arith));
   remaining = λ s items n r.
       let i = c.loop-self.invariant.remaining s items n r in
       let more : 0 < i.0 = c.is_done.ensures.more c.loop-self-test.true s items i.0 i.2.stands in
