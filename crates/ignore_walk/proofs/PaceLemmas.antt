@@ -1,5 +1,5 @@
 -- Steps that were taken, one after the other.
-use Rattle.std.proofs.Common.{◌≡◌, ◌⊎◌, inl, inr, ℕ, suc, ◌+◌, ◌<◌, true, false, List, [], ◌∷◌, ◌++◌, length, Option, None, Some, Ok, Err, Result, refl, sym, ◌∙◌, ap, subst, arith}
+use Rattle.std.proofs.Common.{◌≡◌, ◌⊎◌, inl, inr, ℕ, suc, ◌+◌, ◌<◌, true, false, List, [], ◌∷◌, ◌++◌, length, Option, None, OnOk, Some, Ok, Err, Result, refl, sym, ◌∙◌, ap, subst, arith}
 use Rattle.ignore_base.specs.Text.{Path}
 use Rattle.ignore_files.specs.declared.types.Listed.{Listed}
 use Rattle.ignore_walk.specs.Paces.{Begins, HasWork, IsStep, Leaves, MayEnter, Takes, TakesOne, TookSteps, Work, more, none, work_of}
@@ -36,3 +36,8 @@ all_steps first left a b zero s =
     let sum = s.1 in
     let is : s.0 ≡ first = omega (sum, zero, arith) in
     subst (λ (k : ℕ). TookSteps k a b) is s.2
+
+-- a fact of each `Ok`
+pub on_any_ok : {A E : Type 0} {P : Type 0} (r : Result A E) → P → OnOk r P
+on_any_ok (Ok a) p = p
+on_any_ok (Err e) p = tt

@@ -1,4 +1,4 @@
-use Rattle.std.proofs.Common.{◌≡◌, ◌++◌, ◌∷◌, [], ℕ, List, Option, None, Ok, map, refl, reverse, sym, ◌∙◌, ap, subst}
+use Rattle.std.proofs.Common.{◌≡◌, ◌++◌, ◌∷◌, [], ℕ, List, Option, None, Ok, inl, map, refl, reverse, sym, ◌∙◌, ap, subst}
 use Rattle.std.proofs.lemmas.List.{append-nil, map-append}
 use Rattle.ignore_base.specs.Problem.{Problem}
 use Rattle.ignore_files.specs.declared.types.Listed.{Listed}
@@ -7,6 +7,7 @@ use Rattle.ignore_walk.specs.Branch.{placed_above}
 use Rattle.ignore_walk.specs.Entry.{Entry, Item, item_of, problem_in, stdin_entry}
 use Rattle.ignore_walk.specs.Left.{Remains, InHand}
 use Rattle.ignore_walk.specs.OnList.{place_around}
+use Rattle.ignore_walk.specs.Paces.{MayEnter}
 use Rattle.ignore_walk.specs.Stands.{IsAround, state_of}
 use Rattle.ignore_walk.specs.declared.frame.Frame.{Frame}
 use Rattle.ignore_walk.specs.Whole.{root_entry, above_root, reported_before}
@@ -77,3 +78,17 @@ returns-clause-begun g c = λ s last place seen items n suits empty kept r.
     t.2)) in
     on_ok_map c.begin_at-2.result (λ stands. (t.0, t.1, stands))
     (c.begin_at-2.ensures.begun s seen items t.0 suits empty kept is_dir (λ t. absurd (cc (t))) (λ t. absurd (cc (t))) hand)
+
+pub returns-then-eq-clause-enters : goal.returns-then-eq-clause-enters
+returns-then-eq-clause-enters g c = λ empty. inl empty
+
+pub returns-then-branch-clause-enters : goal.returns-then-branch-clause-enters
+returns-then-branch-clause-enters g c = λ empty.
+    on_ok_map c.begin_at.result
+    (λ enters. subst (λ (fs : List Frame). MayEnter fs c.begin_at.new.self.frames.items)
+    (ap (λ fs. fs.items) c.in_ok-base.ensures.frames ∙ empty) enters) c.begin_at.ensures.enters
+
+pub returns-clause-enters : goal.returns-clause-enters
+returns-clause-enters g c = λ empty.
+    on_ok_map c.begin_at-2.result
+    (λ enters. subst (λ (fs : List Frame). MayEnter fs c.begin_at-2.new.self.frames.items) empty enters) c.begin_at-2.ensures.enters

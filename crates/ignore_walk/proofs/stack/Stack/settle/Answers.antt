@@ -1,4 +1,4 @@
-use Rattle.std.proofs.Common.{◌≡◌, ◌++◌, ℕ, List, Option, option_map, length, map, refl, reverse, subst, sym, ◌∙◌, ap, append_assoc}
+use Rattle.std.proofs.Common.{◌≡◌, ◌++◌, ℕ, List, Option, inr, option_map, length, map, refl, reverse, subst, sym, ◌∙◌, ap, append_assoc}
 use Rattle.ignore_dir.specs.Lists.{Placed}
 use Rattle.ignore_files.specs.declared.types.Listed.{Listed}
 use Rattle.ignore_levels.specs.declared.list.Place.{Place}
@@ -50,3 +50,6 @@ returns-clause-entered c = λ s root place b seen items n ordered settings is at
     (record { seen = refl; roots = refl; above = refl; device = refl }) c.in_ok-push.ensures.items
     (faults ∙ (ap (λ (t : List Item). t ++ unlisted e lists) yields ∙ append_assoc made (loaded s e) (unlisted e lists)))
     is at ordered is_frame on arranged enters next hand
+
+pub returns-clause-enters : goal.returns-clause-enters
+returns-clause-enters c = inr (c.in_ok-entered.entered, c.in_ok-push.ensures.items)

@@ -1,4 +1,4 @@
-use Rattle.std.proofs.Common.{◌≡◌, ◌++◌, ◌∷◌, [], ℕ, List, None, Ok, Err, Result, reverse, refl, sym, ◌∙◌, ap, subst}
+use Rattle.std.proofs.Common.{◌≡◌, ◌++◌, ◌∷◌, [], ℕ, List, None, Ok, Err, Result, inl, inr, reverse, refl, sym, ◌∙◌, ap, subst}
 use Rattle.ignore_base.specs.Problem.{Problem, problem_of}
 use Rattle.ignore_base.specs.declared.error.Error.{Error}
 use Rattle.ignore_walk.specs.Branch.{Branch, text_at}
@@ -7,11 +7,13 @@ use Rattle.ignore_walk.specs.Entry.{Entry, entry_of}
 use Rattle.ignore_walk.specs.Found.{IsFound}
 use Rattle.ignore_walk.specs.Frames.{AreFrames}
 use Rattle.ignore_walk.specs.Left.{InHand}
+use Rattle.ignore_walk.specs.Paces.{work_of}
 use Rattle.ignore_walk.specs.Stands.{state_of}
 use Rattle.ignore_walk.specs.declared.found.Found.{Found}
 use Rattle.ignore_walk.specs.declared.frame.Frame.{Frame}
 use Rattle.ignore_walk.proofs.LeftLemmas.{make_failed}
 use Rattle.ignore_walk.proofs.VisitLemmas.{on_ok_map, when_none, when_some, child_place}
+use Rattle.ignore_walk.proofs.PaceLemmas.{on_any_ok, taken}
 use Rattle.ignore_walk.proofs.StandLemmas.{stand_made}
 use Rattle.ignore_walk.proofs.stack.Stack.step.Goals as goal
 
@@ -66,3 +68,22 @@ returns-in-Ok-clause-stepped g c = λ s items n suits some r.
     on_ok_map c.take.result (λ stands. (t.k, t.fewer, stands))
     (c.take.ensures.taken s t.root t.place at.0 t.seen items t.k suits t.is t.frames t.at text
     (record { path = at.3; sound = found.1; device = found.2 }) hand)
+
+pub returns-in-None-clause-paced : goal.returns-in-None-clause-paced
+returns-in-None-clause-paced g c = λ some.
+    inr (inr (when_none _ _ c.in_ok-take_listed.field-0 c.in-None.is (c.in_ok-take_listed.ensures.next some)))
+
+pub returns-in-Err-clause-paced : goal.returns-in-Err-clause-paced
+returns-in-Err-clause-paced g c = λ some.
+    let x = c.in-Some.listed in
+    let one = when_some _ _ c.in_ok-take_listed.field-0 x c.in-Some.is (c.in_ok-take_listed.ensures.next some) in
+    on_any_ok c.make_error.result (taken (work_of c.args.self.now) (work_of c.take_listed.new.self) _ x one (inl refl) refl)
+
+pub returns-in-Ok-clause-paced : goal.returns-in-Ok-clause-paced
+returns-in-Ok-clause-paced g c = λ some.
+    let x = c.in-Some.listed in
+    let one = when_some _ _ c.in_ok-take_listed.field-0 x c.in-Some.is (c.in_ok-take_listed.ensures.next some) in
+    on_ok_map c.take.result
+    (λ enters. taken (work_of c.args.self.now) (work_of c.take_listed.new.self) (work_of c.take.new.self) x one enters
+    (ap (λ r. r.items) c.take.ensures.roots))
+    c.take.ensures.enters

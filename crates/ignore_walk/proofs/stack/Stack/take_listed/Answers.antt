@@ -12,3 +12,19 @@ returns-in_ok-push-in-Some-take_next-clause-taken c = λ s items n some r.
     stand_taken s c.args.self.now _ c.in-Some.frame _ c.pop.new.self.items c.in-Some-take_next.listed items n
     (record { seen = refl; roots = refl; above = refl; device = refl }) refl refl c.in-Some.ensures.items
     c.in_ok-push-in-Some-take_next.ensures.items refl refl refl refl c.in-Some-take_next.ensures r
+
+pub returns-in-None-clause-next : goal.returns-in-None-clause-next
+returns-in-None-clause-next c = λ some.
+    record { left = c.in-Some.frame; frames = c.in-Some.ensures.items; done = c.in-None.ensures; roots = refl }
+
+pub returns-in_ok-push-in-Some-take_next-clause-next : goal.returns-in_ok-push-in-Some-take_next-clause-next
+returns-in_ok-push-in-Some-take_next-clause-next c = λ some.
+    record {
+      around = c.pop.new.self.items;
+      before = c.in-Some.frame;
+      after = _;
+      was = c.in-Some.ensures.items;
+      taken = c.in-Some-take_next.ensures;
+      is = c.in_ok-push-in-Some-take_next.ensures.items;
+      roots = refl;
+    }

@@ -1,4 +1,4 @@
-use Rattle.std.proofs.Common.{◌≡◌, ◌++◌, ℕ, List, Option, None, map, option_map, refl, sym, ◌∙◌, ap, subst, true}
+use Rattle.std.proofs.Common.{◌≡◌, ◌++◌, ℕ, List, Option, None, inl, map, option_map, refl, sym, ◌∙◌, ap, subst, true}
 use Rattle.ignore_base.specs.Problem.{Problem, problem_of}
 use Rattle.ignore_dir.specs.declared.settings.Settings.{Settings}
 use Rattle.ignore_walk.specs.Branch.{path_of, text_at}
@@ -9,6 +9,7 @@ use Rattle.ignore_walk.specs.Stands.{state_of}
 use Rattle.ignore_walk.specs.Walked.{yield, load, enter, fate, yielded, loaded}
 use Rattle.ignore_walk.proofs.LeftLemmas.{make_leaf, make_closed}
 use Rattle.ignore_walk.proofs.VisitLemmas.{on_ok_map, enter_leads, chosen_ordered}
+use Rattle.ignore_walk.proofs.PaceLemmas.{on_any_ok}
 use Rattle.ignore_walk.proofs.StandLemmas.{stand_made}
 use Rattle.ignore_walk.proofs.stack.Stack.visit.Goals as goal
 
@@ -52,3 +53,12 @@ returns-in_ok-opened-in-Enter-clause-visited g c = λ s root place b seen items 
     (subst (λ (p : List ℕ). Opens s p c.args.text c.in_ok-opened-in-Enter.opened) path (c.in_ok-opened-in-Enter.ensures.value s suits)) in
     c.settle.ensures.entered s root place b seen items n (chosen_ordered _ _ s.order suits.order) suits.settings is (visits.at leads)
     (visits.around leads) visits.path opens enters next hand
+
+pub returns-in-Yield-clause-enters : goal.returns-in-Yield-clause-enters
+returns-in-Yield-clause-enters g c = on_any_ok c.make.result (inl refl)
+
+pub returns-in_ok-error-in-Load-clause-enters : goal.returns-in_ok-error-in-Load-clause-enters
+returns-in_ok-error-in-Load-clause-enters g c = on_any_ok c.make-in-Load.result (inl refl)
+
+pub returns-in_ok-opened-in-Enter-clause-enters : goal.returns-in_ok-opened-in-Enter-clause-enters
+returns-in_ok-opened-in-Enter-clause-enters g c = c.settle.ensures.enters

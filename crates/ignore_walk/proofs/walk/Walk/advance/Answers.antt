@@ -1,7 +1,7 @@
-use Rattle.std.proofs.Common.{◌<◌, Option, inl, inr, refl, sym, ap, subst, arith, Err}
+use Rattle.std.proofs.Common.{◌<◌, Option, inl, inr, refl, sym, ◌∙◌, ap, subst, arith, Err}
 use Rattle.ignore_walk.specs.Entry.{Item}
 use Rattle.ignore_walk.specs.Nexts.{Nexts}
-use Rattle.ignore_walk.proofs.PaceLemmas.{one_more_step}
+use Rattle.ignore_walk.proofs.PaceLemmas.{all_steps, no_step, one_more_step}
 use Rattle.ignore_walk.proofs.walk.Walk.advance.Goals as goal
 
 pub returns-in-Some-clause-given : goal.returns-in-Some-clause-given
@@ -67,3 +67,39 @@ returns-clause-given g c = λ s items n r.
     (record { suits = r.suits; goes_on = r.goes_on; stands = c.in_default.ensures.handed s items n r.stands }) in
     let done = c.is_done.ensures.none c.loop-self-test.false i.2.goes_on s items i.0 c.loop-self.invariant.made i.2.stands in
     (done.0, omega (i.1, done.1, arith))
+
+-- the steps that were taken
+
+pub returns-in-Some-clause-paced : goal.returns-in-Some-clause-paced
+returns-in-Some-clause-paced g c = record {
+  paced = λ same. (0, omega arith, no_step _ _ c.in-Some.ensures.same);
+  limited = λ on over is. absurd (let e = sym on ∙ over in cc (e));
+}
+
+pub returns-then-self-eq0-clause-paced : goal.returns-then-self-eq0-clause-paced
+returns-then-self-eq0-clause-paced g c = record {
+  paced = λ same.
+      absurd (let e = sym c.end.ensures.over.0 ∙ (same ∙ (sym c.loop-self.invariant.ended ∙ c.is_done.ensures.goes_on c.loop-self-test.true)) in cc (e));
+  limited = λ on over is. (_, all_steps c.args.self.now.left c.loop-self.self.left _ _ c.if-self-eq0.true c.loop-self.invariant.paced);
+}
+
+pub returns-in-Err-clause-paced : goal.returns-in-Err-clause-paced
+returns-in-Err-clause-paced g c = record {
+  paced = λ same.
+      absurd (let e = sym c.end.ensures.over.0 ∙ (same ∙ (sym c.loop-self.invariant.ended ∙ c.is_done.ensures.goes_on c.loop-self-test.true)) in cc (e));
+  limited = λ on over is. absurd (let e = sym c.end.ensures.item ∙ is in cc (e));
+}
+
+pub returns-in-Some-take_made-clause-paced : goal.returns-in-Some-take_made-clause-paced
+returns-in-Some-take_made-clause-paced g c = record {
+  paced = λ same.
+      one_more_step c.args.self.now.left c.loop-self.self.left _ _ _ _ (omega (c.if-self-eq0.false, arith)) c.loop-self.invariant.paced
+      (c.in-Ok.ensures.paced (c.is_done.ensures.work c.loop-self-test.true)) c.in-Some-take_made.ensures.same _ (omega (c.if-self-eq0.false, arith));
+  limited = λ on over is. absurd (let e = sym on ∙ (sym c.loop-self.invariant.ended ∙ over) in cc (e));
+}
+
+pub returns-clause-paced : goal.returns-clause-paced
+returns-clause-paced g c = record {
+  paced = λ same. c.loop-self.invariant.paced;
+  limited = λ on over is. absurd (cc (is));
+}
