@@ -44,4 +44,3 @@ pub use Rattle.ignore.specs.Agreement.{IsKeptByOne, IsMatcherIn, IsReached, answ
 pub use Rattle.ignore.specs.Asked.{IsOutside}
 pub use Rattle.ignore.specs.Builder.{unset, with_root}
 pub use Rattle.ignore.specs.Matchers.{AreMatchers, asked_by}
-pub use Rattle.ignore.specs.declared.options.WalkOptions.{WalkOptions}

@@ -18,7 +18,8 @@ use crate::settings::Settings;
 use ignore_base::Error;
 use ignore_base::internal::join;
 use ignore_base::text::is_absolute;
-use ignore_files::{Files, Refusal};
+use ignore_files::Files;
+use ignore_files::internal::answered;
 use ignore_rules::gitignore::Gitignore;
 use std::alloc::{AllocError, Global};
 
@@ -162,12 +163,11 @@ pub fn load_above<F: Files>(ground: &Ground<'_, F>, root: &str) -> Result<Above,
     if !needs_above(ground.settings) {
         return Above::new(ground.alloc);
     }
-    match ground.files.canonical(ground.alloc, root) {
+    match answered(ground.files.canonical(ground.alloc, root))? {
         Ok(path) => {
             let names = canonical_names(ground.alloc, path.as_str())?;
             load_along(ground, names.as_slice())
         }
-        Err(Refusal::Fault(_)) => Above::new(ground.alloc),
-        Err(Refusal::Memory) => Err(AllocError),
+        Err(_) => Above::new(ground.alloc),
     }
 }

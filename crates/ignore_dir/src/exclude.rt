@@ -9,7 +9,8 @@ ghost use Rattle.ignore_dir.specs.Soft.{IsSoftPlace};
 use crate::ground::Ground;
 use ignore_base::Error;
 use ignore_base::internal::join;
-use ignore_files::{Fault, Files, Refusal};
+use ignore_files::internal::answered;
+use ignore_files::{Fault, Files};
 use ignore_rules::gitignore::first_line;
 use std::alloc::{AllocError, Global};
 
@@ -59,7 +60,7 @@ fn by_commondir<F: Files>(ground: &Ground<'_, F>, folder: &str) -> Result<Exclud
     ensures soft { IfOk result (λ place. IsSoftPlace (place_of place)) }
 {
     let path = join(ground.alloc, folder, "commondir")?;
-    match ground.files.contents(ground.alloc, path.as_str()) {
+    match answered(ground.files.contents(ground.alloc, path.as_str()))? {
         Ok(contents) => match first_line(&contents) {
             Ok(Some(line)) => {
                 let common = common_folder(ground.alloc, folder, line)?;
@@ -68,8 +69,7 @@ fn by_commondir<F: Files>(ground: &Ground<'_, F>, folder: &str) -> Result<Exclud
             Ok(None) => Ok(ExcludePlace::Nowhere),
             Err(fault) => failed_at(ground.alloc, path.as_str(), fault),
         },
-        Err(Refusal::Fault(_)) => Ok(ExcludePlace::Nowhere),
-        Err(Refusal::Memory) => Err(AllocError),
+        Err(_) => Ok(ExcludePlace::Nowhere),
     }
 }
 
@@ -94,13 +94,12 @@ pub(crate) fn by_git_file<F: Files>(
         IfOk result (λ place. place_of place ≡ by_git_file tree git.now (tree.contents git.now))) }
     ensures soft { IfOk result (λ place. IsSoftPlace (place_of place)) }
 {
-    match ground.files.contents(ground.alloc, git) {
+    match answered(ground.files.contents(ground.alloc, git))? {
         Ok(contents) => match first_line(&contents) {
             Ok(Some(line)) => by_gitdir(ground, line),
             Ok(None) => Ok(ExcludePlace::Nowhere),
             Err(fault) => failed_at(ground.alloc, git, fault),
         },
-        Err(Refusal::Fault(fault)) => failed_at(ground.alloc, git, fault),
-        Err(Refusal::Memory) => Err(AllocError),
+        Err(fault) => failed_at(ground.alloc, git, fault),
     }
 }

@@ -18,8 +18,8 @@ use crate::rule_files::{is_there, rules_if, rules_of_file, rules_of_names};
 use crate::settings::Settings;
 use ignore_base::Error;
 use ignore_base::internal::join;
-use ignore_files::internal::Shown;
-use ignore_files::{Files, Refusal};
+use ignore_files::Files;
+use ignore_files::internal::{Shown, answered};
 use ignore_rules::gitignore::Gitignore;
 use std::alloc::{AllocError, Global};
 
@@ -208,16 +208,15 @@ fn kind_of<F: Files>(ground: &Ground<'_, F>, path: &str) -> Result<Kind, AllocEr
     ensures file { InTree F.Files ground.now (λ tree.
         IfOk result (λ k. k.is_file ≡ is_file_there (tree.stat path.now true))) }
 {
-    match ground.files.stat(ground.alloc, path, true) {
+    match answered(ground.files.stat(ground.alloc, path, true))? {
         Ok(metadata) => Ok(Kind {
             is_there: true,
             is_file: metadata.is_file(),
         }),
-        Err(Refusal::Fault(_)) => Ok(Kind {
+        Err(_) => Ok(Kind {
             is_there: false,
             is_file: false,
         }),
-        Err(Refusal::Memory) => Err(AllocError),
     }
 }
 

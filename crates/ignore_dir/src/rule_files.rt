@@ -12,8 +12,8 @@ use crate::ground::Ground;
 use crate::settings::Settings;
 use ignore_base::Error;
 use ignore_base::internal::join;
-use ignore_files::internal::Shown;
-use ignore_files::{Files, Name, Refusal};
+use ignore_files::internal::{Shown, answered};
+use ignore_files::{Files, Name};
 use ignore_rules::gitignore::{Gitignore, GitignoreBuilder};
 use ignore_rules::internal::{add, begun};
 use std::alloc::{AllocError, Global};
@@ -22,11 +22,7 @@ use std::alloc::{AllocError, Global};
 pub(crate) fn is_there<F: Files>(ground: &Ground<'_, F>, path: &str) -> Result<bool, AllocError>
     ensures value { InTree F.Files ground.now (λ tree. IfOk result (λ yes. yes ≡ is_there tree path.now)) }
 {
-    match ground.files.stat(ground.alloc, path, true) {
-        Ok(_) => Ok(true),
-        Err(Refusal::Fault(_)) => Ok(false),
-        Err(Refusal::Memory) => Err(AllocError),
-    }
+    Ok(answered(ground.files.stat(ground.alloc, path, true))?.is_ok())
 }
 
 /// A builder for the rules of a directory.

@@ -60,7 +60,7 @@ decided cs name i c fits is none some =
     let here = at_choice cs name i c fits is none in
     settled cs name i (λ f. some (sym here ∙ f)) ∙ here
 
-shifted : Option ℕ → Bool → Option ℕ
+abbrev shifted : Option ℕ → Bool → Option ℕ
 shifted later here = option_map_or (λ i. option.Some (suc i)) later (cond here (option.Some zero) option.None)
 
 -- The law that the test of matching decides matching is handed in.
@@ -86,7 +86,9 @@ module _ (decides : (reading : Reading) (text : List ℕ) → Decides (does_matc
       sym (ap (λ o. shifted o (does_match r name)) (none_last name rs later)
       ∙ ap (λ b. shifted option.None b) ((decides r name).1 matches))
   last_found name (r ∷ rs) (option.Some (suc i)) (m, here, applies, later) =
-      ap (λ o. shifted o (does_match r name)) (last_found name rs (option.Some i) (m, here, applies, later))
+      let next : suc i + 1 ≡ suc (i + 1) = omega arith in
+      let rest = subst (λ n. All (λ (k : Member). Applies name false k → ⊥) (drop n (map name_member (r ∷ rs)))) next later in
+      ap (λ o. shifted o (does_match r name)) (last_found name rs (option.Some i) (m, here, applies, rest))
 
   -- the last of the globs that matches the name, or none
   last_of_globs : (name : List ℕ) (rs : List Reading)

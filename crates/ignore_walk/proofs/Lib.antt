@@ -15,6 +15,7 @@ pub mod TextLemmas
 pub mod GroundLemmas
 pub mod RootLemmas
 pub mod AboveLemmas
+pub mod LastLemmas
 pub mod LeftLemmas
 pub mod PlaceNames
 pub mod CanonicalLemmas

@@ -1,5 +1,5 @@
 //! What one listed thing is.
-ghost use Rattle.std.specs.Prelude.{◌≡◌, ◌+◌, ◌&&◌, ℕ, Bool, List, Result, length, map, reverse, option_map, IfOk, MatchResult};
+ghost use Rattle.std.specs.Prelude.{◌≡◌, ◌+◌, ℕ, List, Result, length, map, reverse, option_map, IfOk, MatchResult};
 ghost use Rattle.std.specs.Prelude.{None, Some, Ok, Err, string_bytes, true, if◌then◌else◌};
 ghost use Rattle.std.specs.Option.{option_copied};
 ghost use Rattle.ignore_base.specs.Paths.{is_proper, has_slash};
@@ -244,17 +244,19 @@ fn tested<F: Files>(
     }
 }
 
-/// The device of an entry, where it matters, or the error in its place, where it isn't known.
+/// The device of a root, where it is a directory and that matters; or the error in its place, where
+/// that isn't known.
 pub(crate) fn device_at<F: Files>(
     alloc: Global,
     files: &F,
-    matters: bool,
+    same_file_system: bool,
+    is_dir: bool,
     entry: &DirEntry,
 ) -> Result<Result<Option<u64>, Error>, AllocError>
-    ensures value { (g : Scene) (is_dir : Bool) → IsHonest F.Files files.now g.tree → matters ≡ g.same_file_system && is_dir
+    ensures value { (g : Scene) → IsHonest F.Files files.now g.tree → g.same_file_system ≡ same_file_system
         → IfOk result (λ r. IsTested g (with_device g is_dir (entry_of entry.now)) is_dir (entry_of entry.now) r) }
 {
-    if !matters {
+    if !same_file_system || !is_dir {
         return Ok(Ok(None));
     }
     match identity_at(alloc, files, entry.path())? {

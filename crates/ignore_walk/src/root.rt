@@ -93,7 +93,7 @@ pub(crate) fn on_device<F: Files>(
         → IfOk result (λ found. IsFound g (λ _. is_dir) found (and_then (with_device g is_dir) r)) }
 {
     match item {
-        Ok(entry) => match device_at(alloc, files, same_file_system && is_dir, &entry)? {
+        Ok(entry) => match device_at(alloc, files, same_file_system, is_dir, &entry)? {
             Ok(device) => Ok(Ok(Found { entry, device })),
             Err(error) => Ok(Err(error)),
         },

@@ -3,7 +3,8 @@ use Rattle.std.proofs.Common.{◌≡◌, ◌⊎◌, ◌↔◌, ℕ, Bool, true, 
 use Rattle.ignore.specs.FileWords.{Env, Tree}
 use Rattle.ignore.specs.Headline.{IsListIn, IsSceneOf}
 use Rattle.ignore.specs.WalkWords.{AreLoads, Callbacks, Entry, IncrementalIgnore, IncrementalMatch, IsKeptByOne, IsOpen, IsOutside, IsYielded}
-use Rattle.ignore.specs.WalkWords.{Item, Order, Outside, Scene, Settings, WalkOptions, Whole, answer_at, joined, keeps, query, scene_of, stdin_entry}
+use Rattle.ignore.specs.WalkWords.{Item, Order, Outside, Scene, Whole, answer_at, joined, keeps, query, scene_of, stdin_entry}
+use Rattle.ignore.specs.declared.options.WalkOptions.{WalkOptions}
 use Rattle.uses.specs.Stored.{HoldsWhatTheyKeep, IsAbout}
 
 pub holds : {S : Type 0} (calls : Callbacks S) (owner : S) (env : Env) (b : WalkOptions) (order : Order) (tree : Tree)

@@ -3,9 +3,10 @@ use Rattle.std.specs.Prelude.{◌≡◌, ◌⊎◌, ◌↔◌, ℕ, Bool, List, 
 use Rattle.ignore.specs.FileWords.{Env, Tree}
 use Rattle.ignore.specs.Headline.{IsSceneOf}
 use Rattle.ignore.specs.WalkWords.{Branch, Callbacks, Entry, IncrementalIgnore, IsKeptByOne, IsMatcherIn, IsOpen, IsOutside, IsReached}
-use Rattle.ignore.specs.WalkWords.{IsYielded, Item, Order, Outside, Scene, WalkOptions, WalkedOne, Whole, is_dir_kind, joined, matcher_root}
+use Rattle.ignore.specs.WalkWords.{IsYielded, Item, Order, Outside, Scene, WalkedOne, Whole, is_dir_kind, joined, matcher_root}
 use Rattle.ignore.specs.WalkWords.{root_entry, stdin_entry}
 use Rattle.ignore.specs.Words.{Path}
+use Rattle.ignore.specs.declared.options.WalkOptions.{WalkOptions}
 
 -- these items have an entry exactly where one of some matchers keeps it, or it is standard input
 -- and a root: in each scene of a walk in a tree that leaves nothing else out and has a list

@@ -5,8 +5,8 @@ use Rattle.ignore_dir.specs.Soft.{AllSoft, holds_memory}
 use Rattle.ignore_dir.proofs.SoftLemmas.{more_soft}
 use Rattle.ignore_query.proofs.size.by_size.Goals as goal
 
-pub returns-in-Err-clause-soft : goal.returns-in-Err-clause-soft
-returns-in-Err-clause-soft g c = λ soft.
+pub returns-clause-soft : goal.returns-clause-soft
+returns-clause-soft g c = λ soft.
     let old = c.args.errors.now.items in
     let error = c.in_ok-fault_at-in-Err.field-0 in
     subst AllSoft (sym (ap (map problem_of) c.in_ok-push-in-Err.ensures.items ∙ map-append problem_of old (error ∷ [])))

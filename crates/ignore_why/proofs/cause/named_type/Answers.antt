@@ -13,7 +13,7 @@ no_glob : (found : Option TypeGlob) → option_map (λ (t : TypeGlob). t.glob) f
 no_glob None h = refl
 no_glob (Some t) h = absurd (cc (h))
 
-of : List ℕ → List ℕ → Option Typed
+abbrev of : List ℕ → List ℕ → Option Typed
 of name glob = Some (record { name = name; glob = glob })
 
 both : (found : Option TypeGlob) (d : Definition) (name glob : List ℕ) → option_map (λ (t : TypeGlob). t.definition) found ≡ Some d
@@ -24,17 +24,17 @@ both (Some t) d name glob h k n =
     let text : t.glob ≡ glob = cc (k) in
     ap (λ (x : List ℕ). of x glob) (n ∙ ap (λ (d : Definition). d.name) (sym type)) ∙ ap (of t.definition.name) (sym text)
 
-pub returns-in_default-definition : goal.returns-in_default-definition
-returns-in_default-definition c =
-    no_type c.args.found.now (sym c.file_type_def.ensures ∙ ap (λ (o : Option (Bor Definition)). option_copied o) c.in_default-definition.is)
+pub returns-in_default : goal.returns-in_default
+returns-in_default c =
+    no_type c.args.found.now (sym c.file_type_def.ensures ∙ ap (λ (o : Option (Bor Definition)). option_copied o) c.in_default.is)
 
-pub returns-in_default-text : goal.returns-in_default-text
-returns-in_default-text c = no_glob c.args.found.now (sym c.glob.ensures ∙ ap (λ (o : Option (Bor (List ℕ))). option_copied o) c.in_default-text.is)
+pub returns-in_default-glob : goal.returns-in_default-glob
+returns-in_default-glob c = no_glob c.args.found.now (sym c.glob.ensures ∙ ap (λ (o : Option (Bor (List ℕ))). option_copied o) c.in_default-glob.is)
 
 pub returns : goal.returns
 returns c =
     let text = c.in_ok-glob.ensures.ok in
-    both c.args.found.now c.in-Some-definition.definition.now (string_bytes c.in_ok-name.name) (string_bytes c.in_ok-glob.glob)
-    (sym c.file_type_def.ensures ∙ ap (λ (o : Option (Bor Definition)). option_copied o) c.in-Some-definition.is)
-    (sym c.glob.ensures ∙ (ap (λ (o : Option (Bor (List ℕ))). option_copied o) c.in-Some-text.is ∙ ap Some (sym text)))
+    both c.args.found.now c.in-Some.definition.now (string_bytes c.in_ok-name.name) (string_bytes c.in_ok-glob.glob)
+    (sym c.file_type_def.ensures ∙ ap (λ (o : Option (Bor Definition)). option_copied o) c.in-Some.is)
+    (sym c.glob.ensures ∙ (ap (λ (o : Option (Bor (List ℕ))). option_copied o) c.in-Some-glob.is ∙ ap Some (sym text)))
     (c.in_ok-name.ensures.ok ∙ c.name.ensures)

@@ -9,7 +9,7 @@ returns-clause-agreed g c = λ tree ms honest asked.
     IfOk-weaker c.entries_of.result _ _
     (λ entries all.
     holds _ (record { builder = Some c.args.builder }) c.args.env.now c.args.builder.now.options _ tree ms
-    (map item_of c.in_ok-collect_walk.value.items) (map (λ e. item_of (Ok e)) entries.items) all
+    (map item_of c.in_ok-collect_walk.field-0.items) (map (λ e. item_of (Ok e)) entries.items) all
     (c.in_ok-collect_walk.ensures.headline tree honest)
     (λ o s e items n outside scene open_ whole.
     c.walk_agrees_with_matchers.ensures.whole (record { builder = Some c.args.builder }) c.args.env.now c.args.builder.now.options _ tree o s ms e

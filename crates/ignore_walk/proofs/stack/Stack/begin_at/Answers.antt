@@ -49,6 +49,7 @@ returns-in-Ok-clause-begun g c = λ s seen items n suits empty kept is_dir above
       device = c.in-Ok.found.device;
       frames = self.frames;
       made = self.made;
+      text = self.text;
     } in
     c.visit.ensures.visited s root [] [] seen items n suits
     (outside s root [] seen next empty (record { kept = kept.kept; places = kept.places }))

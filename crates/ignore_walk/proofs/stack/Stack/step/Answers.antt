@@ -11,21 +11,24 @@ use Rattle.ignore_walk.specs.Paces.{work_of}
 use Rattle.ignore_walk.specs.Stands.{state_of}
 use Rattle.ignore_walk.specs.declared.found.Found.{Found}
 use Rattle.ignore_walk.specs.declared.frame.Frame.{Frame}
+use Rattle.ignore_walk.specs.declared.stack.Stack.{Stack}
 use Rattle.ignore_walk.proofs.LeftLemmas.{make_failed}
 use Rattle.ignore_walk.proofs.VisitLemmas.{on_ok_map, when_none, when_some, child_place}
 use Rattle.ignore_walk.proofs.PaceLemmas.{on_any_ok, taken}
-use Rattle.ignore_walk.proofs.StandLemmas.{stand_made}
+use Rattle.ignore_walk.proofs.StandLemmas.{stand_made, takes_same}
 use Rattle.ignore_walk.proofs.stack.Stack.step.Goals as goal
 
 pub returns-in-None-clause-stepped : goal.returns-in-None-clause-stepped
 returns-in-None-clause-stepped g c = λ s items n suits some r.
-    when_none _ _ c.in_ok-take_listed.field-0 c.in-None.is (c.in_ok-take_listed.ensures.taken s items n some r)
+    when_none _ _ c.take_listed.result c.in-None.is (c.take_listed.ensures.taken s items n some r)
 
 pub returns-in-Err-clause-stepped : goal.returns-in-Err-clause-stepped
 returns-in-Err-clause-stepped g c = λ s items n suits some r.
-    let stack = c.take_listed.new.self in
+    let was = c.take_listed.new.self in
+    let stack : Stack = record was { text = c.set_text.new.text } in
     let x = c.in-Some.listed in
-    let t = when_some _ _ c.in_ok-take_listed.field-0 x c.in-Some.is (c.in_ok-take_listed.ensures.taken s items n some r) in
+    let t = takes_same s was stack x items n (record { seen = refl; roots = refl; above = refl; device = refl }) refl refl refl
+    (when_some _ _ c.take_listed.result x c.in-Some.is (c.take_listed.ensures.taken s items n some r)) in
     let p = problem_of c.in-Err.error in
     let state = state_of stack t.root t.place t.seen in
     let frames : AreFrames s t.root t.place (reverse c.as_slice-in-Some.result.now) =
@@ -47,9 +50,11 @@ returns-in-Err-clause-stepped g c = λ s items n suits some r.
 
 pub returns-in-Ok-clause-stepped : goal.returns-in-Ok-clause-stepped
 returns-in-Ok-clause-stepped g c = λ s items n suits some r.
-    let stack = c.take_listed.new.self in
+    let was = c.take_listed.new.self in
+    let stack : Stack = record was { text = c.set_text.new.text } in
     let x = c.in-Some.listed in
-    let t = when_some _ _ c.in_ok-take_listed.field-0 x c.in-Some.is (c.in_ok-take_listed.ensures.taken s items n some r) in
+    let t = takes_same s was stack x items n (record { seen = refl; roots = refl; above = refl; device = refl }) refl refl refl
+    (when_some _ _ c.take_listed.result x c.in-Some.is (c.take_listed.ensures.taken s items n some r)) in
     let e = entry_of c.in-Ok.found.entry in
     let state = state_of stack t.root t.place t.seen in
     let frames : AreFrames s t.root t.place (reverse c.as_slice-in-Some.result.now) =
@@ -61,7 +66,7 @@ returns-in-Ok-clause-stepped g c = λ s items n suits some r.
     (c.in_ok-error-in-Some.ensures.value s t.root t.place suits frames) in
     let is : child s t.root t.place x ≡ Ok e = found.0 in
     let at = child_place s t.root t.place x e is in
-    let text = c.in_ok-text-in-Some.ensures s t.root t.place frames' ∙ ap (λ (n : List ℕ). text_at s t.root t.place ++ n) at.2 in
+    let text = c.in_ok-set_text-in-Some.ensures s t.root t.place frames' ∙ ap (λ (n : List ℕ). text_at s t.root t.place ++ n) at.2 in
     let hand : InHand s state (at.0 ∷ t.place) (Ok e) items t.k =
     subst (λ (b : Branch). InHand s state b (Ok e) items t.k) at.1
     (subst (λ (r : Result Entry Problem). InHand s state (below t.place x) r items t.k) is t.hand) in
@@ -71,18 +76,18 @@ returns-in-Ok-clause-stepped g c = λ s items n suits some r.
 
 pub returns-in-None-clause-paced : goal.returns-in-None-clause-paced
 returns-in-None-clause-paced g c = λ some.
-    inr (inr (when_none _ _ c.in_ok-take_listed.field-0 c.in-None.is (c.in_ok-take_listed.ensures.next some)))
+    inr (inr (when_none _ _ c.take_listed.result c.in-None.is (c.take_listed.ensures.next some)))
 
 pub returns-in-Err-clause-paced : goal.returns-in-Err-clause-paced
 returns-in-Err-clause-paced g c = λ some.
     let x = c.in-Some.listed in
-    let one = when_some _ _ c.in_ok-take_listed.field-0 x c.in-Some.is (c.in_ok-take_listed.ensures.next some) in
+    let one = when_some _ _ c.take_listed.result x c.in-Some.is (c.take_listed.ensures.next some) in
     on_any_ok c.make_error.result (taken (work_of c.args.self.now) (work_of c.take_listed.new.self) _ x one (inl refl) refl)
 
 pub returns-in-Ok-clause-paced : goal.returns-in-Ok-clause-paced
 returns-in-Ok-clause-paced g c = λ some.
     let x = c.in-Some.listed in
-    let one = when_some _ _ c.in_ok-take_listed.field-0 x c.in-Some.is (c.in_ok-take_listed.ensures.next some) in
+    let one = when_some _ _ c.take_listed.result x c.in-Some.is (c.take_listed.ensures.next some) in
     on_ok_map c.take.result
     (λ enters. taken (work_of c.args.self.now) (work_of c.take_listed.new.self) (work_of c.take.new.self) x one enters
     (ap (λ r. r.items) c.take.ensures.roots))

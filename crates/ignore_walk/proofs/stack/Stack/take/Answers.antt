@@ -33,7 +33,6 @@ returns-then-branch-clause-taken g c = λ s root place name seen items n suits i
     }
 
 pub returns-clause-taken : goal.returns-clause-taken
-unfolding lib.Utf8.encode
 returns-clause-taken g c = λ s root place name seen items n suits is frames at text here hand.
     let e = entry_of c.args.found.entry in
     let self = c.args.self.now in
@@ -42,17 +41,17 @@ returns-clause-taken g c = λ s root place name seen items n suits is frames at 
     c.place_around-around.ensures ∙ ap (λ (fs : List Frame). place_around self.above (reverse fs)) c.as_slice.ensures.value in
     let chain = subst (λ (p : Option Place). IsChain (slots_of self.levels) p (counting (placed_to s root place))) (sym nearest) around in
     let answer = c.in_ok-is_skipped.ensures.value s root place name suits chain (c.as_str.ensures.value ∙ text) here.path here.sound in
-    let full : c.new.result ≡ text_at s root (name ∷ place) =
-    c.new.ensures ∙ (c.in_ok-push.ensures.bytes ∙ (ap (λ (t : List ℕ). t ++ 47 ∷ []) text
-    ∙ append_assoc (text_at s root place) name (47 ∷ []))) in
+    let full : c.is_dir_kind-leads_in.result ≡ true → c.in_ok-text.text ≡ text_at s root (name ∷ place) =
+    λ leads. c.in_ok-text.ensures leads ∙ (ap (λ (t : List ℕ). t ++ 47 ∷ []) (c.as_str-2.ensures.value ∙ text)
+    ∙ append_assoc (text_at s root place) name (47 ∷ [])) in
     let leads : c.is_dir_kind-leads_in.result ≡ is_dir_kind e.kind = c.is_dir_kind-leads_in.ensures ∙ ap is_dir_kind c.file_type.ensures in
-    let visits : Visits s root (name ∷ place) c.args.self.now c.args.found c.is_dir_kind-leads_in.result c.new.result = record {
+    let visits : Visits s root (name ∷ place) c.args.self.now c.args.found c.is_dir_kind-leads_in.result c.in_ok-text.text = record {
       path = here.path;
       leads_there = leads;
       kept = sym answer ∙ c.if-branch.false;
       at = λ _. at;
       device = λ t. here.device (sym leads ∙ t);
-      seen_as = λ _. full;
+      seen_as = full;
       around = λ _. around;
     } in
     c.visit.ensures.visited s root place (name ∷ place) seen items n suits is visits

@@ -40,4 +40,4 @@ verdict-requires c =
     let same = c.deref.ensures.value ∙ ap (λ (t : Chosen). t.readings) c.self.view_is in
     subst (λ rs. c.in-Some.place < length rs) same
     (subst (λ n. c.in-Some.place < n) (length-map c.deref.result.now name_member)
-    (slice_get_within (map name_member c.deref.result.now) c.in-Some.place found.0 found.1.0))
+    (slice_get_within (map name_member c.deref.result.now) c.in-Some.place found.0 found.1))
