@@ -62,7 +62,7 @@ fn root(alloc: Global) -> anyhow::Result<Vec<Name>> {
     Ok(names)
 }
 
-/// Takes all items of a walk of `/t`, with custom files of these names.
+/// Walks `/t` to the end, with custom files of these names.
 fn walk(alloc: Global, files: &Counted<'_>, custom: &[&str]) -> anyhow::Result<()> {
     let root = root(alloc)?;
     let mut ground = ground_of(alloc, files, options());
@@ -73,7 +73,7 @@ fn walk(alloc: Global, files: &Counted<'_>, custom: &[&str]) -> anyhow::Result<(
     Ok(())
 }
 
-/// Takes all items.
+/// Goes through all items.
 fn take_all<I: Iterator<Item = Item> + Drop>(walk: I)
     requires ends { I.can_next walk × IsFinite (I.remaining walk) }
 {
