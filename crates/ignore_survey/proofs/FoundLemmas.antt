@@ -112,19 +112,19 @@ module _ (w : Scene) (root : Path) (join : JoinsName) (plain : IsPlain w) where
 
   -- where a survey goes on is a directory
   dir_kind : (path : Path) (kind : FileType) → goes_on g path kind ≡ true → is_dir kind ≡ true
-  dir_kind path kind yes =
+  dir_kind path kind goes =
       let fair = query-fair g path (is_dir kind) (plain.no_least, plain.no_greatest) in
-      descends_dir (is_dir kind) (not (is_ignore (query g path (is_dir kind)).0.verdict)) (sym fair.1 ∙ yes)
+      descends_dir (is_dir kind) (not (is_ignore (query g path (is_dir kind)).0.verdict)) (sym fair.1 ∙ goes)
 
   -- each entry of a survey is one that listings lead to
   mutual
     pub in_below : (b : Branch) (d : Walked) (dir : Path) (own : List Item) (e : Entry) → dir ≡ joined (reverse b)
         → Reachable w root b d → leads_in w b d ≡ true → Below g dir own → Contains own (Ok e) → Found e
-    in_below b d dir own e at r l (fails no) c = absurd (not_alone _ e c)
+    in_below b d dir own e at r l (fails shut) c = absurd (not_alone _ e c)
     in_below b d dir own e at r l (lists {things = things} (xs, is, arranged) each) c =
-        let lists : w.tree.list d.path ≡ Ok xs = ap w.tree.list (dir_place b d dir at r) ∙ is in
+        let its : w.tree.list d.path ≡ Ok xs = ap w.tree.list (dir_place b d dir at r) ∙ is in
         in_each b d dir things own e at r l
-        (λ x h. subst (λ (a : Result (List Listed) Fault). Contains (listing_of a) x) (sym lists)
+        (λ x h. subst (λ (a : Result (List Listed) Fault). Contains (listing_of a) x) (sym its)
         (as_listed by_name (place root dir) (map named xs) things x arranged h)) each c
 
     in_each : (b : Branch) (d : Walked) (dir : Path) (things : List Listed) (own : List Item) (e : Entry) → dir ≡ joined (reverse b)
@@ -134,19 +134,19 @@ module _ (w : Scene) (root : Path) (join : JoinsName) (plain : IsPlain w) where
     in_each b d dir things own e at r l sub (fault each) (zero, less, is) = absurd (no_entry _ e is)
     in_each b d dir things own e at r l sub (fault {f = f} {things = xs} {items = items} each) (suc k, less, is) =
         in_each b d dir xs items e at r l (λ x h. sub x (one_more (thing.Fault f) xs x h)) each (k, omega (arith, less), is)
-    in_each b d dir things own e at r l sub (leaf {name = name} {kind = kind} {things = xs} no each) (zero, less, is) =
+    in_each b d dir things own e at r l sub (leaf {name = name} {kind = kind} {things = xs} shut each) (zero, less, is) =
         found b d dir name kind e at r l (sub (thing.Entry name kind) (the_first (thing.Entry name kind) xs)) (entry_is _ e is)
-    in_each b d dir things own e at r l sub (leaf {name = name} {kind = kind} {things = xs} {items = items} no each) (suc k, less, is) =
+    in_each b d dir things own e at r l sub (leaf {name = name} {kind = kind} {things = xs} {items = items} shut each) (suc k, less, is) =
         in_each b d dir xs items e at r l (λ x h. sub x (one_more (thing.Entry name kind) xs x h)) each (k, omega (arith, less), is)
-    in_each b d dir things own e at r l sub (inner {name = name} {kind = kind} {things = xs} yes below each) (zero, less, is) =
+    in_each b d dir things own e at r l sub (inner {name = name} {kind = kind} {things = xs} goes below each) (zero, less, is) =
         found b d dir name kind e at r l (sub (thing.Entry name kind) (the_first (thing.Entry name kind) xs)) (entry_is _ e is)
     in_each b d dir things own e at r l sub
-        (inner {name = name} {kind = kind} {things = xs} {inside = inside} {items = items} yes below each) (suc k, less, is) =
+        (inner {name = name} {kind = kind} {things = xs} {inside = inside} {items = items} goes below each) (suc k, less, is) =
         let reached = listed_below b d name kind r l (sub (thing.Entry name kind) (the_first (thing.Entry name kind) xs)) in
         let names = reach_names w root (name ∷ b) (entry_below b name kind) reached in
         elim (Contains-append_cases inside items (Ok e) (k, omega (arith, less), is)) [
           | inl h ↦ in_below (name ∷ b) (entry_below b name kind) (join_of dir name) inside e (path_below b name dir at names) reached
-              (dir_kind (join_of dir name) kind yes) below h
+              (dir_kind (join_of dir name) kind goes) below h
           | inr h ↦ in_each b d dir xs items e at r l (λ x i. sub x (one_more (thing.Entry name kind) xs x i)) each h
         ]
 
@@ -165,7 +165,7 @@ module _ (w : Scene) (root : Path) (join : JoinsName) (plain : IsPlain w) where
 
   has_more : (xs ys : List Item) (path : Path) (kind : FileType) → ((x : Item) → Contains xs x → Contains ys x) → Has xs path kind
       → Has ys path kind
-  has_more xs ys path kind more h = (more _ h.0, λ yes. widen xs ys path more (h.1 yes))
+  has_more xs ys path kind more h = (more _ h.0, λ goes. widen xs ys path more (h.1 goes))
 
   has_same : (items : List Item) (dir n m : Bytes) (k l : FileType) → thing.Entry n k ≡ thing.Entry m l → Has items (join_of dir n) k
       → Has items (join_of dir m) l
@@ -179,11 +179,11 @@ module _ (w : Scene) (root : Path) (join : JoinsName) (plain : IsPlain w) where
   has dir things own name kind (fault each) (zero, less, is) = absurd (cc (is))
   has dir things own name kind (fault {things = xs} {items = items} each) (suc k, less, is) =
       has_more items own (join_of dir name) kind (λ x h. later _ x items h) (has dir xs items name kind each (k, omega (arith, less), is))
-  has dir things own name kind (leaf {name = n} {kind = l} {items = items} no each) (zero, less, is) =
-      has_same own dir n name l kind is (first _ items, λ yes. absurd (let e = sym no ∙ yes in cc (e)))
-  has dir things own name kind (leaf {things = xs} {items = items} no each) (suc k, less, is) =
+  has dir things own name kind (leaf {name = n} {kind = l} {items = items} shut each) (zero, less, is) =
+      has_same own dir n name l kind is (first _ items, λ goes. absurd (let e = sym shut ∙ goes in cc (e)))
+  has dir things own name kind (leaf {things = xs} {items = items} shut each) (suc k, less, is) =
       has_more items own (join_of dir name) kind (λ x h. later _ x items h) (has dir xs items name kind each (k, omega (arith, less), is))
-  has dir things own name kind (inner {name = n} {kind = l} {inside = inside} {items = items} yes below each) (zero, less, is) =
+  has dir things own name kind (inner {name = n} {kind = l} {inside = inside} {items = items} goes below each) (zero, less, is) =
       has_same own dir n name l kind is (
         first _ (inside ++ items),
         λ h. record {
@@ -192,7 +192,7 @@ module _ (w : Scene) (root : Path) (join : JoinsName) (plain : IsPlain w) where
           among = λ x i. later _ x (inside ++ items) (Contains-append_left inside items x i);
         },
       )
-  has dir things own name kind (inner {things = xs} {inside = inside} {items = items} yes below each) (suc k, less, is) =
+  has dir things own name kind (inner {things = xs} {inside = inside} {items = items} goes below each) (suc k, less, is) =
       has_more items own (join_of dir name) kind (λ x h. later _ x (inside ++ items) (Contains-append_right inside items x h))
       (has dir xs items name kind each (k, omega (arith, less), is))
 
@@ -205,6 +205,6 @@ module _ (w : Scene) (root : Path) (join : JoinsName) (plain : IsPlain w) where
       at a is = subst (λ (r : Result (List Listed) Fault). Contains (listing_of r) (thing.Entry name kind)) (ap w.tree.list path ∙ is) c
 
       by : (own : List Item) → Below g dir own → Has own (join_of dir name) kind
-      by own (fails {fault = f} no) = let h = at (Err f) no in absurd (omega (arith, h.1))
+      by own (fails {fault = f} shut) = let h = at (Err f) shut in absurd (omega (arith, h.1))
       by own (lists {things = things} (xs, is, arranged) each) =
           has dir things own name kind each (Contains-permutation (map named xs) things (thing.Entry name kind) arranged.0 (at (Ok xs) is))

@@ -84,8 +84,8 @@ module _ (w : Scene) (root : Path) (join : JoinsName) (plain : IsPlain w) (no_st
           (subst (IsYielded out) same own, let depth : v.depth ≡ f.v.depth = ap (λ (x : Walked). x.depth) (sym same) in omega (size, depth, arith))
 
       by : (all : List Item) → IsSurvey g all → Contains all (Ok e) → IsYielded out v × (0 < v.depth)
-      by all (closed no) (k, less, h) = absurd (omega (arith, less))
-      by all (of_root yes below) c = one (in_below w root join plain [] top [] all e refl (reach_root root_is) is_directory below c)
+      by all (closed shut) (k, less, h) = absurd (omega (arith, less))
+      by all (of_root goes below) c = one (in_below w root join plain [] top [] all e refl (reach_root root_is) is_directory below c)
 
   -- the root is surveyed
   opens : is_open g ≡ true
@@ -95,8 +95,8 @@ module _ (w : Scene) (root : Path) (join : JoinsName) (plain : IsPlain w) (no_st
   from_root = by items survey
     where
       by : (all : List Item) → IsSurvey g all → Within w root join plain all []
-      by all (closed no) = absurd (let e = sym no ∙ opens in cc (e))
-      by all (of_root yes below) = record { inside = all; below = below; among = λ x h. h }
+      by all (closed shut) = absurd (let e = sym shut ∙ opens in cc (e))
+      by all (of_root goes below) = record { inside = all; below = below; among = λ x h. h }
 
   -- what is listed in a directory that the walk enters
   record Listed (c : Branch) (name : Bytes) (kind : FileType) (d : Walked) : Type 0 where
@@ -118,7 +118,7 @@ module _ (w : Scene) (root : Path) (join : JoinsName) (plain : IsPlain w) (no_st
       let path = path_below w root join plain c name dir refl names in
       record {
         has = has.0;
-        goes = λ yes. subst (Within w root join plain items) path (has.1 yes);
+        goes = λ goes. subst (Within w root join plain items) path (has.1 goes);
         reached = reached;
         path = path;
         is = ok_equal (entry_below w root join plain c name kind) d

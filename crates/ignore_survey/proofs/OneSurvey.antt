@@ -10,7 +10,7 @@ use Rattle.ignore_survey.proofs.SurveyLemmas.{below_failed, below_listed, each_e
 
 mutual
   one_below : (g : Scene) (dir : Path) (xs ys : List Item) → Below g dir xs → Below g dir ys → ys ≡ xs
-  one_below g dir xs ys (fails {fault = f} no) b = below_failed g dir ys f no b
+  one_below g dir xs ys (fails {fault = f} shut) b = below_failed g dir ys f shut b
   one_below g dir xs ys (lists {things = things} ls each) b = one_each g dir things xs ys each (below_listed g dir ys things ls b)
 
   one_each : (g : Scene) (dir : Path) (things : List Listed) (xs ys : List Item) → Each g dir things xs → Each g dir things ys → ys ≡ xs
@@ -18,19 +18,19 @@ mutual
   one_each g dir things xs ys (fault {f = f} {things = rest} {items = items} each) e =
       let h = each_fault g dir f rest ys e in
       h.1 ∙ ap (λ (o : List Item). unlisted g dir f ∷ o) (one_each g dir rest items h.0 each h.2)
-  one_each g dir things xs ys (leaf {name = name} {kind = kind} {things = rest} {items = items} no each) e =
+  one_each g dir things xs ys (leaf {name = name} {kind = kind} {things = rest} {items = items} shut each) e =
       let h = each_entry g dir name kind rest ys e in
       let own = entry_at g (join_of dir name) kind in
-      h.are ∙ (ap (λ (o : List Item). Ok own ∷ (o ++ h.items)) (h.leaf_there no)
+      h.are ∙ (ap (λ (o : List Item). Ok own ∷ (o ++ h.items)) (h.leaf_there shut)
       ∙ ap (λ (o : List Item). Ok own ∷ o) (one_each g dir rest items h.items each h.each))
-  one_each g dir things xs ys (inner {name = name} {kind = kind} {things = rest} {inside = inside} {items = items} yes below each) e =
+  one_each g dir things xs ys (inner {name = name} {kind = kind} {things = rest} {inside = inside} {items = items} goes below each) e =
       let h = each_entry g dir name kind rest ys e in
       let own = entry_at g (join_of dir name) kind in
-      h.are ∙ (ap (λ (o : List Item). Ok own ∷ (o ++ h.items)) (one_below g (join_of dir name) inside h.inside below (h.inner_there yes))
+      h.are ∙ (ap (λ (o : List Item). Ok own ∷ (o ++ h.items)) (one_below g (join_of dir name) inside h.inside below (h.inner_there goes))
       ∙ ap (λ (o : List Item). Ok own ∷ (inside ++ o)) (one_each g dir rest items h.items each h.each))
 
 pub one_survey : (g : Scene) (xs ys : List Item) → IsSurvey g xs → IsSurvey g ys → ys ≡ xs
-one_survey g xs ys (closed no) (closed also) = refl
-one_survey g xs ys (closed no) (of_root yes below) = absurd (let e = sym no ∙ yes in cc (e))
-one_survey g xs ys (of_root yes below) (closed no) = absurd (let e = sym no ∙ yes in cc (e))
-one_survey g xs ys (of_root yes below) (of_root also other) = one_below g [] xs ys below other
+one_survey g xs ys (closed shut) (closed also) = refl
+one_survey g xs ys (closed shut) (of_root goes below) = absurd (let e = sym shut ∙ goes in cc (e))
+one_survey g xs ys (of_root goes below) (closed shut) = absurd (let e = sym shut ∙ goes in cc (e))
+one_survey g xs ys (of_root goes below) (of_root also other) = one_below g [] xs ys below other

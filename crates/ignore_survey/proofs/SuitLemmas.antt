@@ -1,5 +1,5 @@
 -- What a matcher ensures holds of each scene that suits it.
-use Rattle.std.proofs.Common.{◌≡◌, Bool, Option, None, Some, if◌then◌else◌, sym, ◌∙◌, ap, subst}
+use Rattle.std.proofs.Common.{◌≡◌, Bool, sym, ◌∙◌, ap, subst}
 use Rattle.ignore_base.specs.Text.{Path}
 use Rattle.ignore_dir.specs.Load.{AreLoads}
 use Rattle.ignore_dir.specs.Query.{query}
@@ -13,8 +13,7 @@ use Rattle.ignore_query.specs.Reached.{scene_of}
 use Rattle.ignore_query.specs.Where.{WhereAgrees}
 use Rattle.ignore_query.specs.declared.asked.Asked.{Asked}
 use Rattle.ignore_query.specs.declared.incremental.IncrementalIgnore.{IncrementalIgnore}
-use Rattle.ignore_survey.specs.Nexts.{Suits}
-use Rattle.ignore_survey.specs.Stands.{next_dir}
+use Rattle.ignore_survey.specs.Suits.{Suits}
 use Rattle.ignore_survey.specs.Survey.{Entry, entry_at}
 use Rattle.ignore_why.specs.QueryWhy.{QueryWhy, query_why}
 
@@ -46,13 +45,3 @@ entry_is g path p kind d a why same dir is because =
     let with_answer : IncrementalMatch → Entry = λ x. record { path = path; kind = kind; answer = x; why = why } in
     let with_reason : QueryWhy → Entry = λ w. record { path = path; kind = kind; answer = (query g path (is_dir kind)).0; why = w } in
     ap with_answer answer ∙ ap with_reason reason
-
--- what is to be listed next, by that
-pub next_is : (g : Scene) (path p : Path) (kind : FileType) (d b : Bool) (a : IncrementalMatch) (w : Option Path)
-    → w ≡ (if b then Some p else None) → p ≡ path → d ≡ is_dir kind → b ≡ a.descends → a ≡ (query g p d).0 → w ≡ next_dir g path kind
-next_is g path p kind d b a w waits same dir goes is =
-    let answer : a ≡ (query g path (is_dir kind)).0 =
-    is ∙ (ap (λ (x : Path). (query g x d).0) same ∙ ap (λ (b : Bool). (query g path b).0) dir) in
-    waits
-    ∙ (ap (λ (x : Path). if b then Some x else None) same
-    ∙ ap (λ (b : Bool). if b then Some path else None) (goes ∙ ap (λ (x : IncrementalMatch). x.descends) answer))

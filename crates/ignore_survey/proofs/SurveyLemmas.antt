@@ -38,15 +38,15 @@ one_listing tree path xs ys a b =
 -- of a directory that can't be listed
 pub below_failed : (g : Scene) (dir : Path) (own : List Item) (f : Fault) → g.tree.list (place g.root dir) ≡ Err f
     → Below g dir own → own ≡ unlisted g dir f ∷ []
-below_failed g dir own f no (fails {fault = k} is) = let e = sym no ∙ is in let same : k ≡ f = cc (e) in ap (λ (x : Fault). unlisted g dir x ∷ []) same
-below_failed g dir own f no (lists listed each) = absurd (let e = sym no ∙ listed.1 in cc (e))
+below_failed g dir own f shut (fails {fault = k} is) = let e = sym shut ∙ is in let same : k ≡ f = cc (e) in ap (λ (x : Fault). unlisted g dir x ∷ []) same
+below_failed g dir own f shut (lists listed each) = absurd (let e = sym shut ∙ listed.1 in cc (e))
 
 -- of one that lists these things
 pub below_listed : (g : Scene) (dir : Path) (own : List Item) (xs : List Listed) → Lists g.tree (place g.root dir) xs
     → Below g dir own → Each g dir xs own
 below_listed g dir own xs listed (fails is) = absurd (let e = sym is ∙ listed.1 in cc (e))
 below_listed g dir own xs listed (lists {things = ys} other each) =
-    subst (λ (l : List Listed). Each g dir l own) (sym (one_listing g.tree (place g.root dir) xs ys listed other)) each
+    subst (λ (l : List Listed). Each g dir l own) (one_listing g.tree (place g.root dir) xs ys listed other) each
 
 -- of no things
 pub each_none : (g : Scene) (dir : Path) (own : List Item) → Each g dir [] own → own ≡ []
@@ -68,20 +68,20 @@ pub record AnEntry (g : Scene) (dir : Path) (name : Bytes) (kind : FileType) (xs
 
 pub each_entry : (g : Scene) (dir : Path) (name : Bytes) (kind : FileType) (xs : List Listed) (own : List Item)
     → Each g dir (thing.Entry name kind ∷ xs) own → AnEntry g dir name kind xs own
-each_entry g dir name kind xs own (leaf {items = items} no each) =
+each_entry g dir name kind xs own (leaf {items = items} shut each) =
     record {
       inside = [];
       items = items;
       leaf_there = λ h. refl;
-      inner_there = λ yes. absurd (let e = sym no ∙ yes in cc (e));
+      inner_there = λ goes. absurd (let e = sym shut ∙ goes in cc (e));
       each = each;
       are = refl;
     }
-each_entry g dir name kind xs own (inner {inside = inside} {items = items} yes below each) =
+each_entry g dir name kind xs own (inner {inside = inside} {items = items} goes below each) =
     record {
       inside = inside;
       items = items;
-      leaf_there = λ no. absurd (let e = sym no ∙ yes in cc (e));
+      leaf_there = λ shut. absurd (let e = sym shut ∙ goes in cc (e));
       inner_there = λ h. below;
       each = each;
       are = refl;

@@ -32,6 +32,12 @@ abbrev pub Waits : Scene → Option Path → List Item → Type 0
 Waits g None items = items ≡ []
 Waits g (Some dir) items = Below g dir items
 
+-- the directory at a path is entered, and what it lists gives its items; or this error is all that it
+-- gives
+abbrev pub Enters : Scene → Path → Result Frame Error → Type 0
+Enters g dir (Ok f) = (items : List Item) → Below g dir items → Each g f.path f.rest.items items
+Enters g dir (Err e) = (items : List Item) → Below g dir items → items ≡ Err (problem_of e) ∷ []
+
 -- a stack still gives these items
 abbrev pub Stands : Scene → Stack → List Item → Type 0
 Stands g s items = InTurn (Waits g s.waiting) (Left g s.frames.items) items

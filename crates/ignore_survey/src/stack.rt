@@ -3,7 +3,7 @@ ghost use Rattle.std.specs.Prelude.{◌≡◌, [], Err, IfOk, List, MatchOption,
 ghost use Rattle.ignore_base.specs.Problem.{problem_of};
 ghost use Rattle.ignore_dir.specs.Scene.{Scene};
 ghost use Rattle.ignore_files.specs.Gives.{IsHonest};
-ghost use Rattle.ignore_survey.specs.Stands.{Finds, Hands, Left, Stands, Takes, found_at, found_of};
+ghost use Rattle.ignore_survey.specs.Stands.{Enters, Finds, Hands, Left, Stands, Takes, found_at, found_of};
 ghost use Rattle.ignore_survey.specs.Survey.{Item as Yielded};
 
 use crate::listing::{listed, place, unlisted};
@@ -12,6 +12,9 @@ use ignore_base::internal::join;
 use ignore_files::{FileType, Files, Listed, Name};
 use std::alloc::{AllocError, Global};
 use std::collections::VecDeque;
+
+/// The path below the root and the kind of an entry that was listed, or an error in its place.
+pub(crate) type Found = Result<(String, FileType), Error>;
 
 /// A directory that was entered.
 #[derive(Drop)]
@@ -45,10 +48,42 @@ fn take_listed(frames: &mut VecDeque<Frame>) -> Option<(Frame, Listed)>
     None
 }
 
+/// The directory at a path below the root, with what it lists; or the error in the place of that.
+fn enter<F: Files>(
+    alloc: Global,
+    files: &F,
+    root: &str,
+    path: Name,
+) -> Result<Result<Frame, Error>, AllocError>
+    ensures { (g : Scene) → IsHonest F.Files files.now g.tree → g.root ≡ root.now → IfOk result (Enters g path) }
+{
+    let place = place(alloc, root, path.as_str())?;
+    match listed(alloc, files, place.as_str())? {
+        Ok(rest) => Ok(Ok(Frame { path, rest })),
+        Err(fault) => Ok(Err(Error::Io(fault).with_path(alloc, place.as_str())?)),
+    }
+}
+
 impl Stack {
+    /// What is listed next, whose directory was listed already or is listed now.
+    pub(crate) fn next<F: Files>(
+        &mut self,
+        alloc: Global,
+        files: &F,
+        root: &str,
+    ) -> Result<Option<Found>, AllocError>
+        ensures { (g : Scene) (items : List Yielded) → IsHonest F.Files files.now g.tree → g.root ≡ root.now → Stands g self.old items
+            → IfOk result (λ r. MatchOption r (items ≡ []) (λ found. Finds g self.new (found_of found) items)) }
+    {
+        if let Some(error) = self.open(alloc, files, root)? {
+            return Ok(Some(Err(error)));
+        }
+        self.take(alloc, root)
+    }
+
     /// Lists the directory that is to be listed next, if there is one. The result is the error in the
     /// place of what it lists, if it can't be listed.
-    pub(crate) fn open<F: Files>(
+    fn open<F: Files>(
         &mut self,
         alloc: Global,
         files: &F,
@@ -62,44 +97,32 @@ impl Stack {
         let Some(path) = self.waiting.take() else {
             return Ok(None);
         };
-        let place = place(alloc, root, path.as_str())?;
-        match listed(alloc, files, place.as_str())? {
-            Ok(rest) => {
-                self.frames.push_front(Frame { path, rest })?;
+        match enter(alloc, files, root, path)? {
+            Ok(frame) => {
+                self.frames.push_front(frame)?;
                 Ok(None)
             }
-            Err(fault) => Ok(Some(unlisted(alloc, root, path.as_str(), fault)?)),
+            Err(error) => Ok(Some(error)),
         }
     }
 
-    /// What is listed next, where no directory is to be listed: the path and kind of an entry, or an
-    /// error in its place.
-    pub(crate) fn take(
-        &mut self,
-        alloc: Global,
-        root: &str,
-    ) -> Result<Option<Result<(String, FileType), Error>>, AllocError>
-        ensures found { (g : Scene) (items : List Yielded) → g.root ≡ root.now → self.old.waiting ≡ None → Left g self.old.frames.items items
-            → IfOk result (λ r. MatchOption r (items ≡ []) (λ thing. Finds g self.new (found_of thing) items)) }
-        ensures waiting { self.new.waiting ≡ self.old.waiting }
+    /// What is listed next in the directories that were entered.
+    fn take(&mut self, alloc: Global, root: &str) -> Result<Option<Found>, AllocError>
+        ensures { (g : Scene) (items : List Yielded) → g.root ≡ root.now → self.old.waiting ≡ None → Left g self.old.frames.items items
+            → IfOk result (λ r. MatchOption r (items ≡ []) (λ found. Finds g self.new (found_of found) items)) }
     {
         let Some((frame, listed)) = take_listed(&mut self.frames) else {
             return Ok(None);
         };
-        let thing = thing_at(alloc, root, frame.path.as_str(), listed)?;
+        let found = found_at(alloc, root, frame.path.as_str(), listed)?;
         self.frames.push_front(frame)?;
-        Ok(Some(thing))
+        Ok(Some(found))
     }
 }
 
-/// The path and kind of an entry that the directory at a path lists, or the error in its place.
-fn thing_at(
-    alloc: Global,
-    root: &str,
-    dir: &str,
-    listed: Listed,
-) -> Result<Result<(String, FileType), Error>, AllocError>
-    ensures { IfOk result (λ thing. found_of thing ≡ found_at root.now dir.now listed) }
+/// What a thing is that the directory at a path lists.
+fn found_at(alloc: Global, root: &str, dir: &str, listed: Listed) -> Result<Found, AllocError>
+    ensures { IfOk result (λ found. found_of found ≡ found_at root.now dir.now listed) }
 {
     match listed {
         Listed::Entry { name, file_type } => {

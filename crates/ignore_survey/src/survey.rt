@@ -1,16 +1,17 @@
 //! A survey, as an iterator.
-ghost use Rattle.std.specs.Prelude.{◌≡◌, ◌<◌, List, [], true, false, None, Some, Ok, Err, IfErr, IfOk, IfSome, MatchOption, OnOk, option_map, string_bytes, if◌then◌else◌};
+ghost use Rattle.std.specs.Prelude.{◌≡◌, ◌<◌, List, [], true, false, None, Some, Ok, Err, IfErr, IfOk, IfSome, MatchOption, option_map, string_bytes, if◌then◌else◌};
 ghost use Rattle.ignore_base.specs.declared.fault.Fault.TheVariants.{StepLimit};
 ghost use Rattle.ignore_base.specs.Problem.{problem_of, io, memory};
 ghost use Rattle.ignore_dir.specs.Scene.{Scene};
 ghost use Rattle.ignore_query.specs.declared.kept.Cache.{Cache};
-ghost use Rattle.ignore_survey.specs.Nexts.{IsLast, Nexts, Remaining, Reports, Suits, items_at_most};
-ghost use Rattle.ignore_survey.specs.Stands.{Finds, Hands, Stands};
-ghost use Rattle.ignore_survey.specs.Survey.{IsSurvey, Item as Yielded, entry_at, is_open};
-ghost use Rattle.ignore_survey.specs.Surveyed.{entry_of, item_of};
+ghost use Rattle.ignore_survey.specs.Nexts.{IsLast, Nexts, Remaining, items_at_most};
+ghost use Rattle.ignore_survey.specs.Stands.{Finds, Hands, Stands, found_of};
+ghost use Rattle.ignore_survey.specs.Suits.{Reports, ReportsNext, Suits};
+ghost use Rattle.ignore_survey.specs.Survey.{IsSurvey, Item as Yielded, is_open};
+ghost use Rattle.ignore_survey.specs.Surveyed.{item_of};
 
-use crate::stack::Stack;
-use crate::surveyed::{Item, Surveyed};
+use crate::stack::{Found, Stack};
+use crate::surveyed::{Item, Surveyed, explained};
 use ignore_base::{Error, Fault};
 use ignore_files::{FileType, Files, Name};
 use ignore_query::IncrementalIgnore;
@@ -119,29 +120,40 @@ impl<'a, F: Files> Survey<'a, F> {
 
     /// An entry with what becomes of it. Where the survey goes on below it, it is listed next.
     fn visit(&mut self, path: String, file_type: FileType) -> Result<Surveyed, Error>
-        ensures entry { (g : Scene) → Suits F.Files self.old.files.now self.old.matcher g
-            → IfOk result (λ s. entry_of s ≡ entry_at g (string_bytes path) file_type) }
-        ensures stack { (g : Scene) (items : List Yielded) → Suits F.Files self.old.files.now self.old.matcher g
-            → self.old.stack.waiting ≡ None → Finds g self.old.stack (Ok (string_bytes path, file_type)) items
-            → OnOk result (Hands g self.new.stack (Ok (entry_at g (string_bytes path) file_type)) items) }
+        ensures hands { (g : Scene) (items : List Yielded) → Suits F.Files self.old.files.now self.old.matcher g
+            → Finds g self.old.stack (Ok (string_bytes path, file_type)) items
+            → IfOk result (λ s. Hands g self.new.stack (item_of (Ok s)) items) }
         ensures reports { (g : Scene) → Suits F.Files self.old.files.now self.old.matcher g
-            → IfOk result (λ s. Reports g self.old.matcher.cache (Some (Ok s))) }
+            → IfOk result (λ s. Reports g self.old.matcher.cache (Ok s)) }
         ensures suits { (g : Scene) → Suits F.Files self.old.files.now self.old.matcher g
             → Suits F.Files self.new.files.now self.new.matcher g }
         ensures left { self.new.left ≡ self.old.left }
         ensures ended { self.new.ended ≡ self.old.ended }
         ensures out_of_memory { IfErr result (λ e. problem_of e ≡ memory) }
     {
-        let (files, is_dir) = (self.files, file_type.is_dir());
-        let (explanation, error) = self.matcher.explain(files, path.as_str(), is_dir)?;
-        let goes_on = explanation.answer.should_descend();
-        self.stack.waiting = next_dir(self.alloc, goes_on, path.as_str())?;
-        Ok(Surveyed {
-            path,
-            file_type,
-            explanation,
-            error,
-        })
+        let entry = explained(self.files, &mut self.matcher, path, file_type)?;
+        let goes_on = entry.explanation.answer.should_descend();
+        self.stack.waiting = next_dir(self.alloc, goes_on, entry.path.as_str())?;
+        Ok(entry)
+    }
+
+    /// The item of what was listed.
+    fn item(&mut self, found: Found) -> Result<Item, Error>
+        ensures hands { (g : Scene) (items : List Yielded) → Suits F.Files self.old.files.now self.old.matcher g
+            → Finds g self.old.stack (found_of found) items
+            → IfOk result (λ item. Hands g self.new.stack (item_of item) items) }
+        ensures reports { (g : Scene) → Suits F.Files self.old.files.now self.old.matcher g
+            → IfOk result (Reports g self.old.matcher.cache) }
+        ensures suits { (g : Scene) → Suits F.Files self.old.files.now self.old.matcher g
+            → Suits F.Files self.new.files.now self.new.matcher g }
+        ensures left { self.new.left ≡ self.old.left }
+        ensures ended { self.new.ended ≡ self.old.ended }
+        ensures out_of_memory { IfErr result (λ e. problem_of e ≡ memory) }
+    {
+        match found {
+            Err(error) => Ok(Err(error)),
+            Ok((path, file_type)) => Ok(Ok(self.visit(path, file_type)?)),
+        }
     }
 
     /// The next item, whatever the limit is.
@@ -150,28 +162,26 @@ impl<'a, F: Files> Survey<'a, F> {
             → Stands g self.old.stack items → IfOk result (λ next. MatchOption next (items ≡ [])
             (λ item. Hands g self.new.stack (item_of item) items)) }
         ensures reports { (g : Scene) → Suits F.Files self.old.files.now self.old.matcher g
-            → IfOk result (λ next. Reports g self.old.matcher.cache next) }
+            → IfOk result (ReportsNext g self.old.matcher.cache) }
         ensures suits { (g : Scene) → Suits F.Files self.old.files.now self.old.matcher g
             → Suits F.Files self.new.files.now self.new.matcher g }
         ensures left { self.new.left ≡ self.old.left }
         ensures ended { self.new.ended ≡ self.old.ended }
         ensures out_of_memory { IfErr result (λ e. problem_of e ≡ memory) }
     {
-        let (alloc, root) = (self.alloc, self.matcher.root());
-        if let Some(error) = self.stack.open(alloc, self.files, root)? {
-            return Ok(Some(Err(error)));
-        }
-        match self.stack.take(alloc, root)? {
+        let root = self.matcher.root();
+        match self.stack.next(self.alloc, self.files, root)? {
             None => Ok(None),
-            Some(Err(error)) => Ok(Some(Err(error))),
-            Some(Ok((path, file_type))) => Ok(Some(Ok(self.visit(path, file_type)?))),
+            Some(found) => Ok(Some(self.item(found)?)),
         }
     }
 
     /// Ends the survey by an error.
     fn end(&mut self, error: Error) -> Option<Item>
         ensures item { option_map item_of result ≡ Some (Err (problem_of error)) }
-        ensures reports { (g : Scene) (c : Cache) → Reports g c result }
+        ensures reports { (g : Scene) (c : Cache) → ReportsNext g c result }
+        ensures files { self.new.files ≡ self.old.files }
+        ensures matcher { self.new.matcher ≡ self.old.matcher }
         ensures left { self.new.left ≡ self.old.left }
         ensures ended { self.new.ended ≡ true }
     {
@@ -185,7 +195,9 @@ impl<'a, F: Files> Survey<'a, F> {
         ensures given { (g : Scene) (items : List Yielded) → Remaining F.Files g self.old items
             → Nexts F.Files g self.old (option_map item_of result) self.new items }
         ensures reports { (g : Scene) → Suits F.Files self.old.files.now self.old.matcher g
-            → Reports g self.old.matcher.cache result }
+            → ReportsNext g self.old.matcher.cache result }
+        ensures suits { (g : Scene) → Suits F.Files self.old.files.now self.old.matcher g
+            → Suits F.Files self.new.files.now self.new.matcher g }
         ensures over { self.old.ended ≡ true → result ≡ None }
         ensures none { result ≡ None → self.new.ended ≡ true }
         ensures last { self.old.ended ≡ false → self.new.ended ≡ true → IsLast (option_map item_of result) self.new.left }

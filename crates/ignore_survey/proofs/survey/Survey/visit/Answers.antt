@@ -1,61 +1,11 @@
-use Rattle.std.proofs.Common.{◌≡◌, None, Some, if◌then◌else◌, option_map, refl, string_bytes, sym, ◌∙◌, ap}
-use Rattle.ignore_base.specs.Problem.{problem_of}
-use Rattle.ignore_base.specs.Text.{Path}
-use Rattle.ignore_dir.specs.Query.{query}
-use Rattle.ignore_query.specs.Agrees.{Agrees}
-use Rattle.ignore_query.specs.Reports.{reported}
-use Rattle.ignore_why.specs.QueryWhy.{query_why, query_why_of}
-use Rattle.ignore_survey.proofs.LeftLemmas.{next_waits}
-use Rattle.ignore_survey.proofs.SuitLemmas.{entry_is, next_is, suits_still, where_suits}
+use Rattle.std.proofs.Common.{string_bytes, refl, ◌∙◌}
+use Rattle.ignore_survey.specs.Surveyed.{entry_of}
+use Rattle.ignore_survey.proofs.LeftLemmas.{next_is, next_waits}
 use Rattle.ignore_survey.proofs.survey.Survey.visit.Goals as goal
 
-pub returns-in_err-explanation-clause-suits : goal.returns-in_err-explanation-clause-suits
-returns-in_err-explanation-clause-suits g c = λ s suits.
-    let self = c.args.self.now in
-    suits_still g.F.Files self.files.now self.matcher s c.explain.new.self suits c.explain.ensures.same
-    (where_suits g.F.Files self.files.now self.matcher s (λ x. Agrees x c.explain.new.self.cache) suits c.explain.ensures.agrees)
-
-pub returns-in_err-next_dir-clause-suits : goal.returns-in_err-next_dir-clause-suits
-returns-in_err-next_dir-clause-suits g c = λ s suits.
-    let self = c.args.self.now in
-    suits_still g.F.Files self.files.now self.matcher s c.explain.new.self suits c.explain.ensures.same
-    (where_suits g.F.Files self.files.now self.matcher s (λ x. Agrees x c.explain.new.self.cache) suits c.explain.ensures.agrees)
-
-pub returns-clause-suits : goal.returns-clause-suits
-returns-clause-suits g c = λ s suits.
-    let self = c.args.self.now in
-    suits_still g.F.Files self.files.now self.matcher s c.explain.new.self suits c.explain.ensures.same
-    (where_suits g.F.Files self.files.now self.matcher s (λ x. Agrees x c.explain.new.self.cache) suits c.explain.ensures.agrees)
-
-pub returns-clause-entry : goal.returns-clause-entry
-returns-clause-entry g c = λ s suits.
-    let self = c.args.self.now in
-    let p = c.as_str.result.now in
-    let d = c.is_dir-is_dir.result in
-    let e = c.in_ok-explanation.explanation in
-    entry_is s (string_bytes c.args.path) p c.args.file_type d e.answer (query_why_of e.reason) c.as_str.ensures.value c.is_dir-is_dir.ensures
-    (where_suits g.F.Files self.files.now self.matcher s (λ x. e.answer ≡ (query x p d).0) suits c.in_ok-explanation.ensures.value)
-    (where_suits g.F.Files self.files.now self.matcher s (λ x. query_why_of e.reason ≡ query_why x p d) suits c.in_ok-explanation.ensures.why)
-
-pub returns-clause-stack : goal.returns-clause-stack
-returns-clause-stack g c = λ s items suits empty finds.
-    let self = c.args.self.now in
-    let p = c.as_str.result.now in
-    let d = c.is_dir-is_dir.result in
-    let e = c.in_ok-explanation.explanation in
-    next_waits s self.stack _ (string_bytes c.args.path) c.args.file_type items
-    (next_is s (string_bytes c.args.path) p c.args.file_type d c.should_descend-goes_on.result e.answer _
-    (c.in_ok-next_dir.ensures ∙ ap (λ (x : Path). if c.should_descend-goes_on.result then Some x else None) (c.as_str-2.ensures.value ∙ sym c.as_str.ensures.value))
-    c.as_str.ensures.value c.is_dir-is_dir.ensures c.should_descend-goes_on.ensures
-    (where_suits g.F.Files self.files.now self.matcher s (λ x. e.answer ≡ (query x p d).0) suits c.in_ok-explanation.ensures.value))
-    refl finds
-
-pub returns-clause-reports : goal.returns-clause-reports
-returns-clause-reports g c = λ s suits.
-    let self = c.args.self.now in
-    let p = c.as_str.result.now in
-    let d = c.is_dir-is_dir.result in
-    where_suits g.F.Files self.files.now self.matcher s
-    (λ x. option_map problem_of c.in_ok-explanation.error ≡ reported x self.matcher.cache p d) suits c.in_ok-explanation.ensures.reports
-    ∙ (ap (λ (x : Path). reported s self.matcher.cache x d) c.as_str.ensures.value
-    ∙ ap (λ b. reported s self.matcher.cache (string_bytes c.args.path) b) c.is_dir-is_dir.ensures)
+pub returns-clause-hands : goal.returns-clause-hands
+returns-clause-hands g c = λ s items suits finds.
+    let e = c.in_ok-entry.entry in
+    next_waits s c.args.self.now.stack _ (string_bytes c.args.path) c.args.file_type (entry_of e) items
+    (c.in_ok-entry.ensures.entry s suits)
+    (c.in_ok-next_dir.ensures ∙ next_is _ _ _ _ c.should_descend-goes_on.ensures c.as_str.ensures.value) refl finds
