@@ -1,8 +1,8 @@
 -- A survey and the walk of its root yield the same entries, those that a survey finds ignored left out.
 use Rattle.std.proofs.Common.{◌≡◌, ℕ, zero, suc, ◌+◌, ◌<◌, ◌==◌, Bool, true, false, cond, not, ◌&&◌, ◌||◌, List, [], ◌∷◌, ◌++◌, length, map, reverse, codes, bytes_eq, Contains, Option, None, Some, Result, Ok, Err, refl, sym, ◌∙◌, ap, subst, arith, add-one, inl, inr}
+use Rattle.std.proofs.lemmas.Bool.{both_ways}
 use Rattle.std.proofs.lemmas.List.{length-reverse}
-use Rattle.std.proofs.lemmas.List.Elements.{Contains-append_left, Contains-append_right, Contains-append_cases}
-use Rattle.std.proofs.lemmas.List.Sorted.{Contains-permutation}
+use Rattle.ignore_base.proofs.JoinLemmas.{join_of-nil}
 use Rattle.ignore_base.specs.Paths.{JoinsName, components, directory_of, join_of, joined}
 use Rattle.ignore_base.specs.Problem.{Problem}
 use Rattle.ignore_base.specs.Text.{Bytes, Path}
@@ -19,7 +19,7 @@ use Rattle.ignore_files.specs.Kinds.{is_dir}
 use Rattle.ignore_files.specs.declared.types.FileType.{FileType}
 use Rattle.ignore_files.specs.declared.types.Listed.{Listed}
 use Rattle.ignore_files.specs.declared.types.Listed.TheVariants as thing
-use Rattle.ignore_walk.proofs.PlaceNames.{AreNames, all_names, components-joined, filled, name_from, names-reverse, relative, reverse-cons}
+use Rattle.ignore_walk.proofs.PlaceNames.{AreNames, all_names, components-joined, filled, name_from, names-reverse, reverse-cons}
 use Rattle.ignore_walk.proofs.ReachLemmas.{path-is}
 use Rattle.ignore_walk.specs.Branch.{Branch, path_of}
 use Rattle.ignore_walk.specs.Child.{child}
@@ -29,21 +29,20 @@ use Rattle.ignore_survey.specs.Survey.{place}
 
 -- the paths of names
 
-directory-empty : (ns : List (List ℕ)) → AreNames ns → directory_of [] ns ≡ joined ns
-unfolding join_of
-directory-empty [] h = refl
-directory-empty (n ∷ ns) h = rw (relative n ns h.0) (ap joined (components-joined n ns h))
+directory-empty : (ns : List (List ℕ)) → directory_of [] ns ≡ joined ns
+directory-empty [] = refl
+directory-empty (n ∷ ns) = join_of-nil (joined (n ∷ ns))
 
 pub joined-push : JoinsName → (b : Branch) (name : Bytes) → AreNames (name ∷ b)
     → join_of (joined (reverse b)) name ≡ joined (reverse (name ∷ b))
 joined-push join b name h =
     let names = names-reverse b h.1 in
-    ap (λ (p : Path). join_of p name) (sym (directory-empty (reverse b) names))
+    ap (λ (p : Path). join_of p name) (sym (directory-empty (reverse b)))
     ∙ (join [] (reverse b) name (all_names (reverse b) names) (name_from name h.0)
-    ∙ (ap (directory_of []) (sym (reverse-cons name b)) ∙ directory-empty (reverse (name ∷ b)) (names-reverse (name ∷ b) h)))
+    ∙ (ap (directory_of []) (sym (reverse-cons name b)) ∙ directory-empty (reverse (name ∷ b))))
 
 place-some : (root p : Path) → (length p == 0) ≡ false → place root p ≡ join_of root p
-place-some root [] h = absurd (cc (h))
+place-some root [] h = absurd (both_ways _ h refl)
 place-some root (c ∷ cs) h = refl
 
 place-names : (root : Path) (ns : List (List ℕ)) → AreNames ns → place root (joined ns) ≡ directory_of root ns
@@ -54,7 +53,7 @@ pub place-at : JoinsName → (root : Path) (b : Branch) → AreNames b → place
 place-at join root b h = place-names root (reverse b) (names-reverse b h) ∙ sym (path-is join root b h)
 
 names-some : (p : Path) → (length p == 0) ≡ false → names_of p ≡ components p
-names-some [] h = absurd (cc (h))
+names-some [] h = absurd (both_ways _ h refl)
 names-some (c ∷ cs) h = refl
 
 names-joined : (ns : List (List ℕ)) → AreNames ns → names_of (joined ns) ≡ ns

@@ -56,7 +56,8 @@ enters_listed g dir f path listed = λ items below.
 pub enters_failed : (g : Scene) (dir : Path) (e : Error) (fault : Fault) → g.tree.list (place g.root dir) ≡ Err fault
     → problem_of e ≡ at_path (place g.root dir) (io fault) → Enters g dir (Err e)
 enters_failed g dir e fault shut is = λ items below.
-    below_failed g dir items fault shut below ∙ ap (λ (p : Problem). Err p ∷ []) (sym is)
+    let alone : Problem → List Item = λ p. Err p ∷ [] in
+    below_failed g dir items fault shut below ∙ ap alone (sym is)
 
 -- the directory that waits is entered
 pub entered : (g : Scene) (s : Stack) (f : Frame) (dir : Path) (items : List Item) → s.waiting ≡ Some dir → Enters g dir (Ok f)
@@ -163,9 +164,9 @@ stand_whole g s items waits empty survey =
       are = sym (append-nil items);
     }
   where
-    at : (b : Bool) → is_open g ≡ b → s.waiting ≡ (if b then Some [] else None)
-    at b is = waits ∙ ap (λ (x : Bool). if x then Some [] else None) is
+    waits_at : (b : Bool) → is_open g ≡ b → s.waiting ≡ (if b then Some [] else None)
+    waits_at b is = waits ∙ ap (λ (x : Bool). if x then Some [] else None) is
 
     by : (all : List Item) → IsSurvey g all → Waits g s.waiting all
-    by all (closed shut) = subst (λ (w : Option Path). Waits g w []) (sym (at false shut)) refl
-    by all (of_root goes below) = subst (λ (w : Option Path). Waits g w all) (sym (at true goes)) below
+    by all (closed shut) = subst (λ (w : Option Path). Waits g w []) (sym (waits_at false shut)) refl
+    by all (of_root goes below) = subst (λ (w : Option Path). Waits g w all) (sym (waits_at true goes)) below

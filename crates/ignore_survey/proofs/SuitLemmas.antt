@@ -36,7 +36,7 @@ module _ {F : Type 0} (files : Files F) (f : F) (m : IncrementalIgnore) (g : Sce
 -- what an entry of a survey is, by what a matcher answers
 pub entry_is : (g : Scene) (path p : Path) (kind : FileType) (d : Bool) (a : IncrementalMatch) (why : QueryWhy) → p ≡ path → d ≡ is_dir kind
     → a ≡ (query g p d).0 → why ≡ query_why g p d
-    → record { path = path; kind = kind; answer = a; why = why } ≡ entry_at g path kind
+    → let e : Entry = record { path = path; kind = kind; answer = a; why = why } in e ≡ entry_at g path kind
 entry_is g path p kind d a why same dir is because =
     let answer : a ≡ (query g path (is_dir kind)).0 =
     is ∙ (ap (λ (x : Path). (query g x d).0) same ∙ ap (λ (b : Bool). (query g path b).0) dir) in

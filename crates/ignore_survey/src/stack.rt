@@ -98,8 +98,8 @@ impl Stack {
             return Ok(None);
         };
         match enter(alloc, files, root, path)? {
-            Ok(frame) => {
-                self.frames.push_front(frame)?;
+            Ok(entered) => {
+                self.frames.push_front(entered)?;
                 Ok(None)
             }
             Err(error) => Ok(Some(error)),
