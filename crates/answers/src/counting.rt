@@ -222,10 +222,13 @@ impl<'t, F: Files> Counting<'t, F> {
         noted.is_ok()
     }
 
-    fn note_names(&self, alloc: Global, dir: &str, listing: &Listing) {
-        let mut calls = self.taken(alloc);
-        calls.note_names(dir, listing);
-        self.calls.set(calls);
+    /// Notes what is listed, if a directory was.
+    fn note_names(&self, alloc: Global, dir: &str, answer: &Result<Listing, Refusal>) {
+        if let Ok(listing) = answer {
+            let mut calls = self.taken(alloc);
+            calls.note_names(dir, listing);
+            self.calls.set(calls);
+        }
     }
 
     /// Notes the directories above a canonical path, if it was found. It returns whether memory
@@ -250,15 +253,15 @@ impl<F: Files> Files for Counting<'_, F> {
     ghost use Rattle.std.specs.Prelude.{◌≡◌, ◌⊎◌, Err};
     ghost use Rattle.ignore_files.specs.declared.types.Refusal.TheVariants.{Memory};
 
-    ghost stat_gives = { λ c path follow r. ⟦<F as Files>⟧.stat_gives c.files.now path follow r ⊎ (r ≡ Err Memory) };
+    ghost stat_gives = { λ c path follow r. F.stat_gives c.files.now path follow r ⊎ (r ≡ Err Memory) };
 
-    ghost list_gives = { λ c path r. ⟦<F as Files>⟧.list_gives c.files.now path r ⊎ (r ≡ Err Memory) };
+    ghost list_gives = { λ c path r. F.list_gives c.files.now path r ⊎ (r ≡ Err Memory) };
 
-    ghost contents_gives = { λ c path r. ⟦<F as Files>⟧.contents_gives c.files.now path r ⊎ (r ≡ Err Memory) };
+    ghost contents_gives = { λ c path r. F.contents_gives c.files.now path r ⊎ (r ≡ Err Memory) };
 
-    ghost canonical_gives = { λ c path r. ⟦<F as Files>⟧.canonical_gives c.files.now path r ⊎ (r ≡ Err Memory) };
+    ghost canonical_gives = { λ c path r. F.canonical_gives c.files.now path r ⊎ (r ≡ Err Memory) };
 
-    ghost identity_gives = { λ c path follow r. ⟦<F as Files>⟧.identity_gives c.files.now path follow r ⊎ (r ≡ Err Memory) };
+    ghost identity_gives = { λ c path follow r. F.identity_gives c.files.now path follow r ⊎ (r ≡ Err Memory) };
 
     fn stat(&self, alloc: Global, path: &str, follow: bool) -> Result<Metadata, Refusal> {
         if !self.note(alloc, Asked::Kind, path) {
@@ -272,9 +275,7 @@ impl<F: Files> Files for Counting<'_, F> {
             return Err(Refusal::Memory);
         }
         let answer = self.files.list(alloc, path);
-        if let Ok(listing) = &answer {
-            self.note_names(alloc, path, listing);
-        }
+        self.note_names(alloc, path, &answer);
         answer
     }
 

@@ -17,8 +17,8 @@ pub use closures::{Compare, Keep};
 pub use collect::collect_walk;
 pub use ignore_base::{Error, Fault, Match, match_laws, text};
 pub use ignore_query::{
-    Cause, Explanation, IncrementalIgnore, IncrementalMatch, NamedRule, Reason, RuleRank,
-    check_paths, explain_paths, laws as query_laws,
+    Cause, Explanation, IncrementalIgnore, IncrementalMatch, NamedRule, NamedType, Reason,
+    RuleRank, check_paths, explain_paths, laws as query_laws,
 };
 pub use ignore_rules::{gitignore, overrides};
 pub use ignore_types::{default_types, types};

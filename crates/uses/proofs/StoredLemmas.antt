@@ -30,5 +30,5 @@ about_is g m path is_dir e items about =
     ∙ ap (λ d. (query (scene_of m.asked g.tree g.loads) (joined (reverse about.place)) d).0) about.kind
 
 -- a test that is equal to another holds where that does
-pub test_is : (yes other : Bool) (Y : Type 0) → yes ≡ other → Y ↔ (other ≡ true) → (yes ≡ true) ↔ Y
-test_is yes other Y is t = (λ y. t.1 (sym is ∙ y), λ y. is ∙ t.0 y)
+pub test_is : (test other : Bool) (Y : Type 0) → test ≡ other → Y ↔ (other ≡ true) → (test ≡ true) ↔ Y
+test_is test other Y is t = (λ y. t.1 (sym is ∙ y), λ y. is ∙ t.0 y)

@@ -10,6 +10,9 @@ use std::test::Fail;
 /// The report of an output that can't be written.
 const CANNOT_WRITE: &[u8] = b"igwalk: cannot write\n";
 
+/// How many turns are tried: of each of 30 writes two.
+const TURNS: usize = 60;
+
 /// What a run leaves.
 #[derive(Drop)]
 struct Outcome {
@@ -83,21 +86,23 @@ fn is_silent(
 /// How many writes of the output of a run fail in turn, each so that a beginning is written.
 fn begun(alloc: Global, tree: &MemoryTree, texts: &[&str]) -> Result<usize, AllocError> {
     let all = left(alloc, tree, texts, sound(alloc), sound(alloc))?;
-    let mut turn = 0usize;
-    while turn < 60 && is_begun(alloc, tree, &all, texts, turn)? {
-        turn = turn.saturating_add(1);
+    for turn in 0..TURNS {
+        if !is_begun(alloc, tree, &all, texts, turn)? {
+            return Ok(turn);
+        }
     }
-    Ok(turn)
+    Ok(TURNS)
 }
 
 /// The same of the errors.
 fn silent(alloc: Global, tree: &MemoryTree, texts: &[&str]) -> Result<usize, AllocError> {
     let all = left(alloc, tree, texts, sound(alloc), sound(alloc))?;
-    let mut turn = 0usize;
-    while turn < 60 && is_silent(alloc, tree, &all, texts, turn)? {
-        turn = turn.saturating_add(1);
+    for turn in 0..TURNS {
+        if !is_silent(alloc, tree, &all, texts, turn)? {
+            return Ok(turn);
+        }
     }
-    Ok(turn)
+    Ok(TURNS)
 }
 
 /// Each write of the output in turn fails, and those after it fail or succeed: what is written is a
@@ -106,7 +111,7 @@ fn silent(alloc: Global, tree: &MemoryTree, texts: &[&str]) -> Result<usize, All
 fn an_output_that_cannot_be_written_is_reported(rt: HostRuntime) -> Result<(), Fail> {
     let tree = folder(rt.alloc())?;
     for texts in RUNS {
-        assert_eq!(rt; begun(rt.alloc(), &tree, texts)?, 60);
+        assert_eq!(rt; begun(rt.alloc(), &tree, texts)?, TURNS);
     }
     Ok(())
 }
@@ -117,7 +122,7 @@ fn an_output_that_cannot_be_written_is_reported(rt: HostRuntime) -> Result<(), F
 fn errors_that_cannot_be_written_end_a_list(rt: HostRuntime) -> Result<(), Fail> {
     let tree = folder(rt.alloc())?;
     for texts in RUNS {
-        assert_eq!(rt; silent(rt.alloc(), &tree, texts)?, 60);
+        assert_eq!(rt; silent(rt.alloc(), &tree, texts)?, TURNS);
     }
     Ok(())
 }

@@ -98,8 +98,8 @@ pub(crate) struct Listed {
     end: End,
     /// The paths of the entries that the filter was shown.
     shown: Vec<String>,
-    /// What was too much of the calls of the files for the rules from outside, if anything was.
-    outside: Option<&'static str>,
+    /// Whether the files were called too often for the rules from outside.
+    is_outside_again: bool,
     /// The calls after those.
     walking: Calls,
     /// How many there were of both.
@@ -109,10 +109,10 @@ pub(crate) struct Listed {
 impl Listed {
     /// What is too much of the calls, if anything is.
     fn excess(&self, bounds: &Bounds<'_>) -> Option<&'static str> {
-        match self.outside {
-            Some(excess) => Some(excess),
-            None => bounds.excess_of_walk(&self.walking),
+        if self.is_outside_again {
+            return Some("what is outside is asked again");
         }
+        bounds.excess_of_walk(&self.walking)
     }
 
     /// Whether they are the first of these, where the error that ended the walk is left out; and
@@ -223,7 +223,7 @@ fn walked(alloc: Global, machine: &Machine, builder: &WalkBuilder) -> Result<Lis
         items,
         end,
         shown: machine.shown.taken(alloc)?,
-        outside: building.excess_outside(&machine.env),
+        is_outside_again: building.excess_outside(&machine.env).is_some(),
         calls: building.len().saturating_add(walking.len()),
         walking,
     })
@@ -258,7 +258,7 @@ fn cloned(
         items: values,
         end,
         shown: machine.shown.taken(alloc)?,
-        outside: None,
+        is_outside_again: false,
         calls: walking.len(),
         walking,
     })

@@ -1,2 +1,0 @@
-//! What becomes of each entry below a root, with its reason.
-#![tactic(auto)]
