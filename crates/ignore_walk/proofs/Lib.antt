@@ -34,3 +34,4 @@ pub mod RunLemmas
 pub mod PlacedLemmas
 pub mod EndLemmas
 pub mod PaceLemmas
+pub mod NoEndLemmas

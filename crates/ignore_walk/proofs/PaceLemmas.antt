@@ -31,11 +31,22 @@ pub one_more_step : (first left : ℕ) (a b c d : Work) → 0 < left
 one_more_step first left a b c d some s step same now fewer =
     let sum = s.1 in (suc s.0, omega (sum, fewer, arith), step_more s.0 a b c d s.2 step same)
 
+-- the steps from a work that is the same
+pub from_same : (first left : ℕ) (a b c : Work) → b ≡ a → (k : ℕ) × (left + k ≡ first) × TookSteps k b c
+    → (k : ℕ) × (left + k ≡ first) × TookSteps k a c
+from_same first left a b c same s = (s.0, s.1, subst (λ (w : Work). TookSteps s.0 w c) same s.2)
+
 pub all_steps : (first left : ℕ) (a b : Work) → left ≡ 0 → (s : (k : ℕ) × (left + k ≡ first) × TookSteps k a b) → TookSteps first a b
 all_steps first left a b zero s =
     let sum = s.1 in
     let is : s.0 ≡ first = omega (sum, zero, arith) in
     subst (λ (k : ℕ). TookSteps k a b) is s.2
+
+-- some steps, and then others
+pub both_steps : (j k m : ℕ) (a b c : Work) → j + k ≡ m → TookSteps j a b → TookSteps k b c → TookSteps m a c
+both_steps j k m a b c sum s none = subst (λ (n : ℕ). TookSteps n a b) (omega (sum, arith)) s
+both_steps j k m a b d sum s (more {k = i} {b = c} t step) =
+    subst (λ (n : ℕ). TookSteps n a d) (omega (sum, arith)) (more (both_steps j i (j + i) a b c refl s t) step)
 
 -- a fact of each `Ok`
 pub on_any_ok : {A E : Type 0} {P : Type 0} (r : Result A E) → P → OnOk r P

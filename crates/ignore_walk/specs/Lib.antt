@@ -1,10 +1,12 @@
 pub mod Entry
+pub mod Given
 pub mod Scene
 pub mod Branch
 pub mod Child
 pub mod Walked
 pub mod Whole
 pub mod Finished
+pub mod GoesOn
 pub mod Visits
 pub mod Agreement
 pub mod Suits

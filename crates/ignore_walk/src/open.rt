@@ -5,6 +5,7 @@ ghost use Rattle.ignore_base.specs.Problem.{problem_of};
 ghost use Rattle.ignore_base.specs.Text.{Path};
 ghost use Rattle.ignore_files.specs.Shown.{Shows};
 ghost use Rattle.ignore_dir.specs.Ground.{InLoads, InTree};
+ghost use Rattle.ignore_dir.specs.Soft.{IsSoft};
 ghost use Rattle.ignore_walk.specs.Suits.{IsOrderBy};
 ghost use Rattle.ignore_walk.specs.Walked.{IsArranged, listing_of};
 
@@ -48,6 +49,7 @@ pub(crate) fn loaded<F: Files>(
 ) -> Result<(Dir, Option<Error>), AllocError>
     ensures dir { InLoads F.Files ground.now (λ tree loads. IfOk result (λ r. r.0 ≡ (loads path.now).0)) }
     ensures problem { InLoads F.Files ground.now (λ tree loads. IfOk result (λ r. option_map problem_of r.1 ≡ (loads path.now).1)) }
+    ensures soft { IfOk result (λ r. IsSoft (option_map problem_of r.1)) }
 {
     loaded_by(ground, path, &Shown::nothing())
 }
@@ -61,6 +63,7 @@ fn loaded_by<F: Files>(
     ensures dir { InLoads F.Files ground.now (λ tree loads. Shows tree path.now shown.now → IfOk result (λ r. r.0 ≡ (loads path.now).0)) }
     ensures problem { InLoads F.Files ground.now (λ tree loads. Shows tree path.now shown.now
         → IfOk result (λ r. option_map problem_of r.1 ≡ (loads path.now).1)) }
+    ensures soft { IfOk result (λ r. IsSoft (option_map problem_of r.1)) }
 {
     one_load();
     load_shown(ground, path, shown)
@@ -130,6 +133,7 @@ pub(crate) fn open<F: Files, S: Callbacks>(
     ensures text { IfOk result (λ o. o.directory.text ≡ text) }
     ensures dir { InLoads F.Files ground.now (λ tree loads. IfOk result (λ o. o.directory.dir ≡ (loads path).0)) }
     ensures problem { InLoads F.Files ground.now (λ tree loads. IfOk result (λ o. option_map problem_of o.error ≡ (loads path).1)) }
+    ensures soft { IfOk result (λ o. IsSoft (option_map problem_of o.error)) }
     ensures rest { InTree F.Files ground.now (λ tree. (chosen : Option (List ℕ → List ℕ → List ℕ → Bool))
         → IsOrderBy order (S.compares owner.now) chosen
         → IfOk result (λ o. IsArranged chosen path (listing_of (tree.list path)) o.directory.rest.items)) }

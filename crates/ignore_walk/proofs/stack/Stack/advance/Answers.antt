@@ -35,3 +35,12 @@ returns-in-Some-clause-paced g c = λ work.
     (λ enters. begun (work_of stack) (work_of c.begin.new.self) c.in-Some.root c.pop_front.new.self.items empty c.in-Some.ensures.items
     (ap (λ r. r.items) c.begin.ensures.roots) enters)
     (c.begin.ensures.enters empty)
+
+pub returns-then-not-is_outside-clause-no_end : goal.returns-then-not-is_outside-clause-no_end
+returns-then-not-is_outside-clause-no_end g c = c.step.ensures.no_end
+
+pub returns-in-None-clause-no_end : goal.returns-in-None-clause-no_end
+returns-in-None-clause-no_end g c = λ h. h
+
+pub returns-in-Some-clause-no_end : goal.returns-in-Some-clause-no_end
+returns-in-Some-clause-no_end g c = λ h. c.begin.ensures.no_end h

@@ -14,6 +14,7 @@ use Rattle.ignore_walk.specs.Whole.{root_entry, above_root, reported_before}
 use Rattle.ignore_walk.proofs.LeftLemmas.{begin_stdin, begin_root, state}
 use Rattle.ignore_walk.proofs.VisitLemmas.{on_ok_map, plain_root, plain_report}
 use Rattle.ignore_walk.proofs.StandLemmas.{stand_made, rests_none, outside}
+use Rattle.ignore_walk.proofs.NoEndLemmas.{made_go_on}
 use Rattle.ignore_walk.proofs.stack.Stack.begin.Goals as goal
 
 abbrev ok : Entry × Option Problem → Item
@@ -92,3 +93,21 @@ pub returns-clause-enters : goal.returns-clause-enters
 returns-clause-enters g c = λ empty.
     on_ok_map c.begin_at-2.result
     (λ enters. subst (λ (fs : List Frame). MayEnter fs c.begin_at-2.new.self.frames.items) empty enters) c.begin_at-2.ensures.enters
+
+pub returns-then-eq-clause-no_end : goal.returns-then-eq-clause-no_end
+returns-then-eq-clause-no_end g c = λ h.
+    let made = map item_of c.args.self.now.made.items in
+    let own = c.in_ok-stdin.field-0 in
+    let is : item_of (Ok own) ≡ Ok (stdin_entry, None) =
+    ap (λ (e : Entry). ok (e, problem_in own)) c.in_ok-stdin.ensures.entry ∙ ap (λ (o : Option Problem). ok
+    (stdin_entry, o)) c.in_ok-stdin.ensures.no_error in
+    let makes : map item_of c.push_back.new.self.items ≡ made ++ Ok (stdin_entry, None) ∷ [] =
+    ap (map item_of) c.in_ok-push_back.ensures.items ∙ (map-append item_of c.args.self.now.made.items (Ok own ∷ [])
+    ∙ ap (λ (i : Item). made ++ i ∷ []) is) in
+    made_go_on made _ _ makes h (tt, tt)
+
+pub returns-then-branch-clause-no_end : goal.returns-then-branch-clause-no_end
+returns-then-branch-clause-no_end g c = λ h. c.begin_at.ensures.no_end (c.in_ok-base.ensures.no_end h)
+
+pub returns-clause-no_end : goal.returns-clause-no_end
+returns-clause-no_end g c = λ h. c.begin_at-2.ensures.no_end h

@@ -1,4 +1,4 @@
-use Rattle.std.proofs.Common.{◌≡◌, ◌++◌, ◌∷◌, [], ℕ, List, None, Ok, Err, Result, inl, inr, reverse, refl, sym, ◌∙◌, ap, subst}
+use Rattle.std.proofs.Common.{◌≡◌, ◌++◌, ◌∷◌, [], ℕ, List, None, Ok, Err, Result, inl, inr, reverse, refl, sym, ◌∙◌, ap, subst, false, IfErr}
 use Rattle.ignore_base.specs.Problem.{Problem, problem_of}
 use Rattle.ignore_base.specs.declared.error.Error.{Error}
 use Rattle.ignore_walk.specs.Branch.{Branch, text_at}
@@ -16,6 +16,8 @@ use Rattle.ignore_walk.proofs.LeftLemmas.{make_failed}
 use Rattle.ignore_walk.proofs.VisitLemmas.{on_ok_map, when_none, when_some, child_place}
 use Rattle.ignore_walk.proofs.PaceLemmas.{on_any_ok, taken}
 use Rattle.ignore_walk.proofs.StandLemmas.{stand_made, takes_same}
+use Rattle.ignore_walk.proofs.NoEndLemmas.{made_go_on, same_no_end}
+use Rattle.ignore_walk.specs.GoesOn.{is_end}
 use Rattle.ignore_walk.proofs.stack.Stack.step.Goals as goal
 
 pub returns-in-None-clause-stepped : goal.returns-in-None-clause-stepped
@@ -92,3 +94,18 @@ returns-in-Ok-clause-paced g c = λ some.
     (λ enters. taken (work_of c.args.self.now) (work_of c.take_listed.new.self) (work_of c.take.new.self) x one enters
     (ap (λ r. r.items) c.take.ensures.roots))
     c.take.ensures.enters
+
+pub returns-in-None-clause-no_end : goal.returns-in-None-clause-no_end
+returns-in-None-clause-no_end g c = λ h. same_no_end c.args.self.now _ c.take_listed.ensures.made h
+
+pub returns-in-Err-clause-no_end : goal.returns-in-Err-clause-no_end
+returns-in-Err-clause-no_end g c = λ h.
+    let goes_on : is_end (problem_of c.in-Err.error) ≡ false =
+    subst (λ (r : Result Found Error). IfErr r (λ e. is_end (problem_of e) ≡ false)) c.in-Err.is c.in_ok-error-in-Some.ensures.no_end in
+    on_ok_map c.make_error.result
+    (λ makes. made_go_on _ _ _ makes (same_no_end c.args.self.now c.take_listed.new.self c.take_listed.ensures.made h) (goes_on, tt))
+    c.make_error.ensures.value
+
+pub returns-in-Ok-clause-no_end : goal.returns-in-Ok-clause-no_end
+returns-in-Ok-clause-no_end g c = λ h.
+    c.take.ensures.no_end (same_no_end c.args.self.now c.take_listed.new.self c.take_listed.ensures.made h)

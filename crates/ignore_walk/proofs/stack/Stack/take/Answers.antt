@@ -62,3 +62,9 @@ returns-then-branch-clause-enters g c = inl refl
 
 pub returns-clause-enters : goal.returns-clause-enters
 returns-clause-enters g c = c.visit.ensures.enters
+
+pub returns-then-branch-clause-no_end : goal.returns-then-branch-clause-no_end
+returns-then-branch-clause-no_end g c = λ h. h
+
+pub returns-clause-no_end : goal.returns-clause-no_end
+returns-clause-no_end g c = c.visit.ensures.no_end

@@ -11,6 +11,7 @@ use Rattle.ignore_walk.proofs.LeftLemmas.{make_leaf, make_closed}
 use Rattle.ignore_walk.proofs.VisitLemmas.{on_ok_map, enter_leads, chosen_ordered}
 use Rattle.ignore_walk.proofs.PaceLemmas.{on_any_ok}
 use Rattle.ignore_walk.proofs.StandLemmas.{stand_made}
+use Rattle.ignore_walk.proofs.NoEndLemmas.{made_go_on, yielded_go_on}
 use Rattle.ignore_walk.proofs.stack.Stack.visit.Goals as goal
 
 pub returns-in-Yield-clause-visited : goal.returns-in-Yield-clause-visited
@@ -62,3 +63,15 @@ returns-in_ok-error-in-Load-clause-enters g c = on_any_ok c.make-in-Load.result 
 
 pub returns-in_ok-opened-in-Enter-clause-enters : goal.returns-in_ok-opened-in-Enter-clause-enters
 returns-in_ok-opened-in-Enter-clause-enters g c = c.settle.ensures.enters
+
+pub returns-in-Yield-clause-no_end : goal.returns-in-Yield-clause-no_end
+returns-in-Yield-clause-no_end g c = λ h.
+    on_ok_map c.make.result (λ makes. made_go_on _ _ _ makes h (yielded_go_on _ _ None tt)) c.make.ensures.value
+
+pub returns-in_ok-error-in-Load-clause-no_end : goal.returns-in_ok-error-in-Load-clause-no_end
+returns-in_ok-error-in-Load-clause-no_end g c = λ h.
+    on_ok_map c.make-in-Load.result (λ makes. made_go_on _ _ _ makes h (yielded_go_on _ _ _ c.in_ok-error-in-Load.ensures.soft))
+    c.make-in-Load.ensures.value
+
+pub returns-in_ok-opened-in-Enter-clause-no_end : goal.returns-in_ok-opened-in-Enter-clause-no_end
+returns-in_ok-opened-in-Enter-clause-no_end g c = λ h. c.settle.ensures.no_end c.in_ok-opened-in-Enter.ensures.soft h

@@ -1,7 +1,8 @@
 use Rattle.std.proofs.Common.{◌<◌, Option, inl, inr, refl, sym, ◌∙◌, ap, subst, arith, Err}
 use Rattle.ignore_walk.specs.Entry.{Item}
-use Rattle.ignore_walk.specs.Nexts.{Nexts}
-use Rattle.ignore_walk.proofs.PaceLemmas.{all_steps, no_step, one_more_step}
+use Rattle.ignore_walk.specs.Nexts.{EndsOrGoesOn, Nexts}
+use Rattle.ignore_walk.proofs.NoEndLemmas.{none_go_on}
+use Rattle.ignore_walk.proofs.PaceLemmas.{all_steps, from_same, no_step, one_more_step}
 use Rattle.ignore_walk.proofs.walk.Walk.advance.Goals as goal
 
 pub returns-in-Some-clause-given : goal.returns-in-Some-clause-given
@@ -45,6 +46,7 @@ loop-self-preserved g c = record {
   fewer = omega (c.loop-self.invariant.fewer, arith);
   ground = c.loop-self.invariant.ground;
   ended = c.loop-self.invariant.ended;
+  no_end = λ h. (c.in_default-take_made.ensures.no_end (c.in-Ok.ensures.no_end (c.loop-self.invariant.no_end h))).0;
   paced = one_more_step c.args.self.now.left c.loop-self.self.left _ _ _ _ (omega (c.if-self-eq0.false, arith)) c.loop-self.invariant.paced
       (c.in-Ok.ensures.paced (c.is_done.ensures.work c.loop-self-test.true)) c.in_default-take_made.ensures.same _ (omega (c.if-self-eq0.false, arith));
   remaining = λ s items n r.
@@ -80,7 +82,8 @@ pub returns-then-self-eq0-clause-paced : goal.returns-then-self-eq0-clause-paced
 returns-then-self-eq0-clause-paced g c = record {
   paced = λ same.
       absurd (let e = sym c.end.ensures.over.0 ∙ (same ∙ (sym c.loop-self.invariant.ended ∙ c.is_done.ensures.goes_on c.loop-self-test.true)) in cc (e));
-  limited = λ on over is. (_, all_steps c.args.self.now.left c.loop-self.self.left _ _ c.if-self-eq0.true c.loop-self.invariant.paced);
+  limited = λ on over is. (_, all_steps c.args.self.now.left c.loop-self.self.left _ _ c.if-self-eq0.true
+      (from_same _ _ _ _ _ c.in_default.ensures.same c.loop-self.invariant.paced));
 }
 
 pub returns-in-Err-clause-paced : goal.returns-in-Err-clause-paced
@@ -93,13 +96,38 @@ returns-in-Err-clause-paced g c = record {
 pub returns-in-Some-take_made-clause-paced : goal.returns-in-Some-take_made-clause-paced
 returns-in-Some-take_made-clause-paced g c = record {
   paced = λ same.
-      one_more_step c.args.self.now.left c.loop-self.self.left _ _ _ _ (omega (c.if-self-eq0.false, arith)) c.loop-self.invariant.paced
+      one_more_step c.args.self.now.left c.loop-self.self.left _ _ _ _ (omega (c.if-self-eq0.false, arith))
+      (from_same _ _ _ _ _ c.in_default.ensures.same c.loop-self.invariant.paced)
       (c.in-Ok.ensures.paced (c.is_done.ensures.work c.loop-self-test.true)) c.in-Some-take_made.ensures.same _ (omega (c.if-self-eq0.false, arith));
   limited = λ on over is. absurd (let e = sym on ∙ (sym c.loop-self.invariant.ended ∙ over) in cc (e));
 }
 
 pub returns-clause-paced : goal.returns-clause-paced
 returns-clause-paced g c = record {
-  paced = λ same. c.loop-self.invariant.paced;
+  paced = λ same. from_same _ _ _ _ _ c.in_default.ensures.same c.loop-self.invariant.paced;
   limited = λ on over is. absurd (cc (is));
 }
+
+-- items that end a walk
+
+pub returns-in-Some-clause-ends : goal.returns-in-Some-clause-ends
+returns-in-Some-clause-ends g c = λ h. let t = c.in-Some.ensures.no_end h in (t.0, inl t.1)
+
+pub returns-then-self-eq0-clause-ends : goal.returns-then-self-eq0-clause-ends
+returns-then-self-eq0-clause-ends g c = λ h.
+    (none_go_on c.end.new.self.stack.made.items c.end.ensures.over.1,
+    subst (λ (o : Option Item). EndsOrGoesOn o c.end.new.self) (sym c.end.ensures.item) (inr (inr (ap Err c.step_limit.ensures), c.end.ensures.over)))
+
+pub returns-in-Err-clause-ends : goal.returns-in-Err-clause-ends
+returns-in-Err-clause-ends g c = λ h.
+    (none_go_on c.end.new.self.stack.made.items c.end.ensures.over.1,
+    subst (λ (o : Option Item). EndsOrGoesOn o c.end.new.self) (sym c.end.ensures.item) (inr (inl refl, c.end.ensures.over)))
+
+pub returns-in-Some-take_made-clause-ends : goal.returns-in-Some-take_made-clause-ends
+returns-in-Some-take_made-clause-ends g c = λ h.
+    let before = c.loop-self.invariant.no_end (c.in_default.ensures.no_end h).0 in
+    let t = c.in-Some-take_made.ensures.no_end (c.in-Ok.ensures.no_end before) in
+    (t.0, inl t.1)
+
+pub returns-clause-ends : goal.returns-clause-ends
+returns-clause-ends g c = λ h. (c.loop-self.invariant.no_end (c.in_default.ensures.no_end h).0, tt)
