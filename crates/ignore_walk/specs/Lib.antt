@@ -1,5 +1,5 @@
 pub mod Entry
-pub mod Given
+pub mod Answered
 pub mod Scene
 pub mod Branch
 pub mod Child

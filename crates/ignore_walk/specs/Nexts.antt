@@ -75,5 +75,5 @@ pub record NextGives {F S : Type 0} (files : Files F) (calls : Callbacks S) (a :
   pub over : IsOver a → answer ≡ None
   pub none : answer ≡ None → IsOver b
   pub last : a.ended ≡ false → b.ended ≡ true → IsOver b × IsLast answer b.left
-  pub paced : Paces a answer b
+  pub paced : Paces files a answer b
   pub ends : HasNoEnd a.stack → HasNoEnd b.stack × EndsOrGoesOn answer b

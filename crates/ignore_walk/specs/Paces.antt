@@ -1,11 +1,17 @@
 -- The steps of a walk, whatever the files answer.
-use Rattle.std.specs.Prelude.{◌≡◌, ◌⊎◌, ◌+◌, ◌<◌, ℕ, suc, true, false, List, [], ◌∷◌, ◌++◌, Option, None, Some, Err, length}
+use Rattle.std.specs.Prelude.{◌≡◌, ◌⊎◌, ◌+◌, ◌<◌, ℕ, suc, true, false, List, [], ◌∷◌, ◌++◌, Option, None, Some, Result, Err, IsPermutation, length}
 use Rattle.ignore_base.specs.Text.{Path}
 use Rattle.ignore_base.specs.Problem.{io}
+use Rattle.ignore_base.specs.declared.fault.Fault.{Fault}
 use Rattle.ignore_base.specs.declared.fault.Fault.TheVariants.{StepLimit}
+use Rattle.ignore_files.specs.declared.files.Files.{Ghosts as Files}
 use Rattle.ignore_files.specs.declared.types.Listed.{Listed}
+use Rattle.ignore_files.specs.declared.types.Refusal.{Refusal}
+use Rattle.ignore_walk.specs.Answered.{as_answer}
 use Rattle.ignore_walk.specs.Entry.{Item}
+use Rattle.ignore_walk.specs.Walked.{listing_of}
 use Rattle.ignore_walk.specs.declared.frame.Frame.{Frame}
+use Rattle.ignore_walk.specs.declared.open.Directory.{Directory}
 use Rattle.ignore_walk.specs.declared.stack.Stack.{Stack}
 use Rattle.ignore_walk.specs.declared.walk.Walk.{Walk}
 
@@ -17,16 +23,33 @@ pub record Work : Type 0 where
 abbrev pub work_of : Stack → Work
 work_of s = record { roots = s.roots.items; frames = s.frames.items }
 
--- of these directories none was left, and at most one was entered
-abbrev pub MayEnter : List Frame → List Frame → Type 0
-MayEnter old new = (new ≡ old) ⊎ ((f : Frame) × (new ≡ old ++ f ∷ []))
+-- at first: these roots, and no directory
+abbrev pub work_at : List Path → Work
+work_at roots = record { roots = roots; frames = [] }
+
+-- which answers files may give to `list`
+abbrev pub Lists : Type 1
+Lists = Path → Result (List Listed) Refusal → Type 0
+
+-- these things are what an answer for the directory at a path lists, in some order and with each
+-- name that is none as a fault; a fault in its place lists nothing
+abbrev pub IsListed : Lists → Path → List Listed → Type 0
+IsListed lists path things = (answer : Result (List Listed) Fault) × lists path (as_answer answer) × IsPermutation (listing_of answer) things
+
+-- a directory that was listed is entered, below those that were entered before it
+abbrev pub Enters : Directory → List Frame → List Frame → Type 0
+Enters directory old new = (f : Frame) × (f.path ≡ directory.path) × (f.rest.items ≡ directory.rest.items) × (new ≡ old ++ f ∷ [])
+
+-- of these directories none was left, and at most one was entered, with all that it lists
+abbrev pub MayEnter : Lists → List Frame → List Frame → Type 0
+MayEnter lists old new = (new ≡ old) ⊎ ((f : Frame) × IsListed lists f.path f.rest.items × (new ≡ old ++ f ∷ []))
 
 -- a root was begun, where no directory is entered
-pub record Begins (old new : Work) : Type 0 where
+pub record Begins (lists : Lists) (old new : Work) : Type 0 where
   pub root : Path
   pub outside : old.frames ≡ []
   pub roots : old.roots ≡ root ∷ new.roots
-  pub enters : MayEnter [] new.frames
+  pub enters : MayEnter lists [] new.frames
 
 -- something is to be done: a directory is entered, or a root wasn't begun
 abbrev pub HasWork : Work → Type 0
@@ -43,11 +66,11 @@ pub record TakesOne (old : Work) (thing : Listed) (new : Work) : Type 0 where
   pub roots : new.roots ≡ old.roots
 
 -- a listed thing was taken, and the directory that it is may have been entered
-pub record Takes (old new : Work) : Type 0 where
+pub record Takes (lists : Lists) (old new : Work) : Type 0 where
   pub thing : Listed
   pub between : Work
   pub taken : TakesOne old thing between
-  pub enters : MayEnter between.frames new.frames
+  pub enters : MayEnter lists between.frames new.frames
   pub roots : new.roots ≡ between.roots
 
 -- the directory that was entered last was left, after all that it lists was taken
@@ -58,17 +81,20 @@ pub record Leaves (old new : Work) : Type 0 where
   pub roots : new.roots ≡ old.roots
 
 -- one step was taken
-abbrev pub IsStep : Work → Work → Type 0
-IsStep old new = Begins old new ⊎ (Takes old new ⊎ Leaves old new)
+abbrev pub IsStep : Lists → Work → Work → Type 0
+IsStep lists old new = Begins lists old new ⊎ (Takes lists old new ⊎ Leaves old new)
 
 -- so many steps were taken, one after the other
-pub data TookSteps : ℕ → Work → Work → Type 0 where
-  none : {a : Work} → TookSteps 0 a a
-  more : {k : ℕ} {a b c : Work} → TookSteps k a b → IsStep b c → TookSteps (suc k) a c
+pub data TookSteps (lists : Lists) : ℕ → Work → Work → Type 0 where
+  none : {a : Work} → TookSteps lists 0 a a
+  more : {k : ℕ} {a b c : Work} → TookSteps lists k a b → IsStep lists b c → TookSteps lists (suc k) a c
 
--- what one `next` of a walk takes of the steps that are left. Where it doesn't end the walk, exactly
--- those that it took (`paced`). It ends it by the limit after all that were left (`limited`)
-pub record Paces {F S : Type 0} (a : Walk F S) (answer : Option Item) (b : Walk F S) : Type 0 where
-  pub paced : b.ended ≡ a.ended → (k : ℕ) × (b.left + k ≡ a.left) × TookSteps k (work_of a.stack) (work_of b.stack)
+-- what one `next` of a walk takes of the steps that are left. The walk stays one of the same files
+-- (`ground`). Where the `next` doesn't end it, exactly those that it took (`paced`). It ends it by
+-- the limit after all that were left (`limited`)
+pub record Paces {F S : Type 0} (files : Files F) (a : Walk F S) (answer : Option Item) (b : Walk F S) : Type 0 where
+  pub ground : b.ground ≡ a.ground
+  pub paced : b.ended ≡ a.ended
+      → (k : ℕ) × (b.left + k ≡ a.left) × TookSteps (files.list_gives a.ground.files.now) k (work_of a.stack) (work_of b.stack)
   pub limited : a.ended ≡ false → b.ended ≡ true → answer ≡ Some (Err (io StepLimit))
-      → (w : Work) × TookSteps a.left (work_of a.stack) w
+      → (w : Work) × TookSteps (files.list_gives a.ground.files.now) a.left (work_of a.stack) w

@@ -14,6 +14,7 @@ ghost use Rattle.ignore_walk.specs.Found.{IsFound};
 ghost use Rattle.ignore_walk.specs.Frames.{AreFrames, device_of};
 ghost use Rattle.ignore_walk.specs.GoesOn.{is_end};
 ghost use Rattle.ignore_walk.specs.Opens.{Opens};
+ghost use Rattle.ignore_walk.specs.Paces.{IsListed};
 ghost use Rattle.ignore_walk.specs.Scene.{Scene};
 ghost use Rattle.ignore_walk.specs.Suits.{IsGroundOf, Suits};
 ghost use Rattle.ignore_walk.specs.Walked as walked;
@@ -144,6 +145,7 @@ impl<'a, F: Files, S: Callbacks> Ground<'a, F, S> {
             → IsGroundOf F.Files S.Callbacks self.now g
             → IfOk result (λ o. Opens g path.now text o) }
         ensures soft { IfOk result (λ o. IsSoft (option_map problem_of o.error)) }
+        ensures listed { IfOk result (λ o. IsListed (F.list_gives self.now.files.now) o.directory.path o.directory.rest.items) }
     {
         let path = named(self.alloc, path)?;
         let order = self.options.order;

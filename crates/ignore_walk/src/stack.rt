@@ -14,7 +14,7 @@ ghost use Rattle.ignore_walk.specs.GoesOn.{GoesOn, HasNoEnd, is_end, is_limit};
 ghost use Rattle.ignore_walk.specs.Left.{Remains, InHand, IsNext};
 ghost use Rattle.ignore_walk.specs.OnList.{place_around};
 ghost use Rattle.ignore_walk.specs.Opens.{Opens};
-ghost use Rattle.ignore_walk.specs.Paces.{HasWork, IsStep, Leaves, MayEnter, TakesOne, work_of};
+ghost use Rattle.ignore_walk.specs.Paces.{Enters, HasWork, IsStep, Leaves, MayEnter, TakesOne, work_of};
 ghost use Rattle.ignore_walk.specs.Scene.{Scene};
 ghost use Rattle.ignore_walk.specs.Stands.{state_of, before_root, name_in, text_below, IsAround, IsAt, IsIn, IsKept, Stands, Steps, Takes, Visits, Hands};
 ghost use Rattle.ignore_walk.specs.Suits.{IsGroundOf};
@@ -79,7 +79,7 @@ impl Stack {
             → InHand g (state_of self.old root place seen) b (Ok (entry_of found.entry)) items n
             → OnOk result (Stands g self.new items n) }
         ensures roots { self.new.roots ≡ self.old.roots }
-        ensures enters { OnOk result (MayEnter self.old.frames.items self.new.frames.items) }
+        ensures enters { OnOk result (MayEnter (F.list_gives ground.now.files.now) self.old.frames.items self.new.frames.items) }
         ensures made { length self.new.made.items ≤ length self.old.made.items + 2 }
         ensures no_end { HasNoEnd self.old → OnOk result (HasNoEnd self.new) }
     {
@@ -114,7 +114,7 @@ impl Stack {
             → fate g root b (entry_of entry) ≡ enter → IsNext b place (state_of self.old root place seen).rests
             → InHand g (state_of self.old root place seen) b (Ok (entry_of entry)) items n → OnOk result (Stands g self.new items n) }
         ensures roots { self.new.roots ≡ self.old.roots }
-        ensures enters { OnOk result (MayEnter self.old.frames.items self.new.frames.items) }
+        ensures enters { OnOk result (Enters opened.directory self.old.frames.items self.new.frames.items) }
         ensures made { length self.new.made.items ≤ length self.old.made.items + 2 }
         ensures no_end { IsSoft (option_map problem_of opened.error) → HasNoEnd self.old → OnOk result (HasNoEnd self.new) }
     {
@@ -134,7 +134,7 @@ impl Stack {
         ensures stepped { (g : Scene) (items : List Yielded) (n : ℕ)
             → IsGroundOf F.Files S.Callbacks ground.now g
             → 0 < length self.old.frames.items → Stands g self.old items n → OnOk result (Steps g self.new items n) }
-        ensures paced { 0 < length self.old.frames.items → OnOk result (IsStep (work_of self.old) (work_of self.new)) }
+        ensures paced { 0 < length self.old.frames.items → OnOk result (IsStep (F.list_gives ground.now.files.now) (work_of self.old) (work_of self.new)) }
         ensures made { length self.new.made.items ≤ length self.old.made.items + 2 }
         ensures no_end { HasNoEnd self.old → OnOk result (HasNoEnd self.new) }
     {
@@ -182,7 +182,7 @@ impl Stack {
             → InHand g (state_of self.old root place seen) (name ∷ place) (Ok (entry_of found.entry)) items n
             → OnOk result (Stands g self.new items n) }
         ensures roots { self.new.roots ≡ self.old.roots }
-        ensures enters { OnOk result (MayEnter self.old.frames.items self.new.frames.items) }
+        ensures enters { OnOk result (MayEnter (F.list_gives ground.now.files.now) self.old.frames.items self.new.frames.items) }
         ensures made { length self.new.made.items ≤ length self.old.made.items + 2 }
         ensures no_end { HasNoEnd self.old → OnOk result (HasNoEnd self.new) }
     {
@@ -207,7 +207,7 @@ impl Stack {
             → Remains g (before_root self.old last place seen root.now) items n
             → OnOk result (Steps g self.new items n) }
         ensures roots { self.new.roots ≡ self.old.roots }
-        ensures enters { self.old.frames.items ≡ [] → OnOk result (MayEnter [] self.new.frames.items) }
+        ensures enters { self.old.frames.items ≡ [] → OnOk result (MayEnter (F.list_gives ground.now.files.now) [] self.new.frames.items) }
         ensures made { length self.new.made.items ≤ length self.old.made.items + 3 }
         ensures no_end { HasNoEnd self.old → OnOk result (HasNoEnd self.new) }
     {
@@ -239,7 +239,7 @@ impl Stack {
             → InHand g (state_of self.old root.now [] seen) [] (root_entry g root.now) items n
             → OnOk result (Stands g self.new items n) }
         ensures roots { self.new.roots ≡ self.old.roots }
-        ensures enters { OnOk result (MayEnter self.old.frames.items self.new.frames.items) }
+        ensures enters { OnOk result (MayEnter (F.list_gives ground.now.files.now) self.old.frames.items self.new.frames.items) }
         ensures made { length self.new.made.items ≤ length self.old.made.items + 2 }
         ensures no_end { HasNoEnd self.old → OnOk result (HasNoEnd self.new) }
     {
@@ -314,7 +314,7 @@ impl Stack {
         ensures advanced { (g : Scene) (items : List Yielded) (n : ℕ)
             → IsGroundOf F.Files S.Callbacks ground.now g
             → Stands g self.old items n → 0 < n → OnOk result (Steps g self.new items n) }
-        ensures paced { HasWork (work_of self.old) → OnOk result (IsStep (work_of self.old) (work_of self.new)) }
+        ensures paced { HasWork (work_of self.old) → OnOk result (IsStep (F.list_gives ground.now.files.now) (work_of self.old) (work_of self.new)) }
         ensures made { length self.new.made.items ≤ length self.old.made.items + 3 }
         ensures no_end { HasNoEnd self.old → OnOk result (HasNoEnd self.new) }
     {

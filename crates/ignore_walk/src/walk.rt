@@ -4,7 +4,7 @@ ghost use Rattle.ignore_base.specs.declared.fault.Fault.TheVariants.{StepLimit};
 ghost use Rattle.ignore_base.specs.Problem.{Problem, problem_of, io, memory};
 ghost use Rattle.ignore_walk.specs.Entry.{Item as Yielded, item_of};
 ghost use Rattle.ignore_walk.specs.GoesOn.{AllGoOn, HasNoEnd};
-ghost use Rattle.ignore_walk.specs.Paces.{HasWork, Paces, TookSteps, Work, work_of};
+ghost use Rattle.ignore_walk.specs.Paces.{HasWork, Paces, TookSteps, Work, work_at, work_of};
 ghost use Rattle.ignore_walk.specs.Scene.{Scene};
 ghost use Rattle.ignore_walk.specs.Stands.{Stands};
 ghost use Rattle.ignore_walk.specs.Suits.{IsGroundOf};
@@ -51,7 +51,8 @@ impl<'a, F: Files, S: Callbacks> Walk<'a, F, S> {
             → Remaining F.Files S.Callbacks g result items n }
         ensures limit { result.left ≡ ground.entry.options.limit }
         ensures goes_on { result.ended ≡ false }
-        ensures begins { work_of result.stack ≡ record { roots = roots.items; frames = [] } }
+        ensures begins { work_of result.stack ≡ work_at roots.items }
+        ensures files { result.ground ≡ ground.entry }
         ensures no_end { HasNoEnd result.stack }
     {
         let (alloc, left) = (ground.alloc, ground.options.limit);
@@ -106,7 +107,7 @@ impl<'a, F: Files, S: Callbacks> Walk<'a, F, S> {
         ensures none { result ≡ None → IsOver self.new }
         ensures last { self.old.ended ≡ false → self.new.ended ≡ true
             → IsOver self.new × IsLast (option_map item_of result) self.new.left }
-        ensures paced { Paces self.old (option_map item_of result) self.new }
+        ensures paced { Paces F.Files self.old (option_map item_of result) self.new }
         ensures ends { HasNoEnd self.old.stack → HasNoEnd self.new.stack × EndsOrGoesOn (option_map item_of result) self.new }
     {
         if let Some(item) = self.stack.take_made() {
@@ -178,7 +179,7 @@ impl<'a, F: Files, S: Callbacks> Walk<'a, F, S> {
             → IfErr result (λ e. (problem_of e ≡ memory) ⊎ ((problem_of e ≡ io StepLimit) × (self.entry.left < n))) }
         ensures errors { self.entry.ended ≡ false → IfErr result (λ e. (problem_of e ≡ memory) ⊎ (problem_of e ≡ io StepLimit)) }
         ensures limited { self.entry.ended ≡ false → IfErr result (λ e. problem_of e ≡ io StepLimit
-            → (w : Work) × TookSteps self.entry.left (work_of self.entry.stack) w) }
+            → (w : Work) × TookSteps (F.list_gives self.entry.ground.files.now) self.entry.left (work_of self.entry.stack) w) }
         ensures no_end { HasNoEnd self.entry.stack → IfOk result (λ all. AllGoOn (map item_of all.items)) }
         ensures over { IsOver self.entry → IsOkAnd result (λ all. all.items ≡ []) }
     {

@@ -10,3 +10,6 @@ pub returns-clause-ended : goal.returns-clause-ended
 returns-clause-ended g c =
     c.all_items.ensures.ended c.args.files.now (record { builder = Some c.args.builder }) c.args.env.now c.args.builder.now.options _ c.in_ok-build.ensures.whole
     c.in_ok-build.ensures.limit c.in_ok-build.ensures.goes_on
+
+pub returns-clause-no_end : goal.returns-clause-no_end
+returns-clause-no_end g c = c.all_items.ensures.no_end c.in_ok-build.ensures.no_end

@@ -32,7 +32,7 @@ returns-in-Some-clause-paced g c = λ work.
     let stack = c.args.self.now in
     let empty : stack.frames.items ≡ [] = sym c.as_slice.ensures.value ∙ c.is_outside.ensures.yes c.if-not-is_outside.false in
     on_ok_map c.begin.result
-    (λ enters. begun (work_of stack) (work_of c.begin.new.self) c.in-Some.root c.pop_front.new.self.items empty c.in-Some.ensures.items
+    (λ enters. begun (g.F.Files.list_gives c.args.ground.now.files.now) (work_of stack) (work_of c.begin.new.self) c.in-Some.root c.pop_front.new.self.items empty c.in-Some.ensures.items
     (ap (λ r. r.items) c.begin.ensures.roots) enters)
     (c.begin.ensures.enters empty)
 

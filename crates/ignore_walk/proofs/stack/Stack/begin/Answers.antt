@@ -86,13 +86,13 @@ returns-then-eq-clause-enters g c = λ empty. inl empty
 pub returns-then-branch-clause-enters : goal.returns-then-branch-clause-enters
 returns-then-branch-clause-enters g c = λ empty.
     on_ok_map c.begin_at.result
-    (λ enters. subst (λ (fs : List Frame). MayEnter fs c.begin_at.new.self.frames.items)
+    (λ enters. subst (λ (fs : List Frame). MayEnter (g.F.Files.list_gives c.args.ground.now.files.now) fs c.begin_at.new.self.frames.items)
     (ap (λ fs. fs.items) c.in_ok-base.ensures.frames ∙ empty) enters) c.begin_at.ensures.enters
 
 pub returns-clause-enters : goal.returns-clause-enters
 returns-clause-enters g c = λ empty.
     on_ok_map c.begin_at-2.result
-    (λ enters. subst (λ (fs : List Frame). MayEnter fs c.begin_at-2.new.self.frames.items) empty enters) c.begin_at-2.ensures.enters
+    (λ enters. subst (λ (fs : List Frame). MayEnter (g.F.Files.list_gives c.args.ground.now.files.now) fs c.begin_at-2.new.self.frames.items) empty enters) c.begin_at-2.ensures.enters
 
 pub returns-then-eq-clause-no_end : goal.returns-then-eq-clause-no_end
 returns-then-eq-clause-no_end g c = λ h.

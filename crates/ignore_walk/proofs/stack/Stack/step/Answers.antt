@@ -84,14 +84,14 @@ pub returns-in-Err-clause-paced : goal.returns-in-Err-clause-paced
 returns-in-Err-clause-paced g c = λ some.
     let x = c.in-Some.listed in
     let one = when_some _ _ c.take_listed.result x c.in-Some.is (c.take_listed.ensures.next some) in
-    on_any_ok c.make_error.result (taken (work_of c.args.self.now) (work_of c.take_listed.new.self) _ x one (inl refl) refl)
+    on_any_ok c.make_error.result (taken (g.F.Files.list_gives c.args.ground.now.files.now) (work_of c.args.self.now) (work_of c.take_listed.new.self) _ x one (inl refl) refl)
 
 pub returns-in-Ok-clause-paced : goal.returns-in-Ok-clause-paced
 returns-in-Ok-clause-paced g c = λ some.
     let x = c.in-Some.listed in
     let one = when_some _ _ c.take_listed.result x c.in-Some.is (c.take_listed.ensures.next some) in
     on_ok_map c.take.result
-    (λ enters. taken (work_of c.args.self.now) (work_of c.take_listed.new.self) (work_of c.take.new.self) x one enters
+    (λ enters. taken (g.F.Files.list_gives c.args.ground.now.files.now) (work_of c.args.self.now) (work_of c.take_listed.new.self) (work_of c.take.new.self) x one enters
     (ap (λ r. r.items) c.take.ensures.roots))
     c.take.ensures.enters
 

@@ -9,7 +9,7 @@ use Rattle.ignore_walk.specs.Stands.{state_of}
 use Rattle.ignore_walk.specs.Walked.{yield, load, enter, fate, yielded, loaded}
 use Rattle.ignore_walk.proofs.LeftLemmas.{make_leaf, make_closed}
 use Rattle.ignore_walk.proofs.VisitLemmas.{on_ok_map, enter_leads, chosen_ordered}
-use Rattle.ignore_walk.proofs.PaceLemmas.{on_any_ok}
+use Rattle.ignore_walk.proofs.PaceLemmas.{entered, on_any_ok}
 use Rattle.ignore_walk.proofs.StandLemmas.{stand_made}
 use Rattle.ignore_walk.proofs.NoEndLemmas.{made_go_on, yielded_go_on}
 use Rattle.ignore_walk.proofs.stack.Stack.visit.Goals as goal
@@ -62,7 +62,11 @@ pub returns-in_ok-error-in-Load-clause-enters : goal.returns-in_ok-error-in-Load
 returns-in_ok-error-in-Load-clause-enters g c = on_any_ok c.make-in-Load.result (inl refl)
 
 pub returns-in_ok-opened-in-Enter-clause-enters : goal.returns-in_ok-opened-in-Enter-clause-enters
-returns-in_ok-opened-in-Enter-clause-enters g c = c.settle.ensures.enters
+returns-in_ok-opened-in-Enter-clause-enters g c =
+    on_ok_map c.settle.result
+    (entered (g.F.Files.list_gives c.args.ground.now.files.now) c.in_ok-opened-in-Enter.opened.directory c.args.self.now.frames.items c.settle.new.self.frames.items
+    c.in_ok-opened-in-Enter.ensures.listed)
+    c.settle.ensures.enters
 
 pub returns-in-Yield-clause-no_end : goal.returns-in-Yield-clause-no_end
 returns-in-Yield-clause-no_end g c = λ h.

@@ -2,7 +2,7 @@ use Rattle.std.proofs.Common.{◌<◌, Option, inl, inr, refl, sym, ◌∙◌, a
 use Rattle.ignore_walk.specs.Entry.{Item}
 use Rattle.ignore_walk.specs.Nexts.{EndsOrGoesOn, Nexts}
 use Rattle.ignore_walk.proofs.NoEndLemmas.{none_go_on}
-use Rattle.ignore_walk.proofs.PaceLemmas.{all_steps, from_same, no_step, one_more_step}
+use Rattle.ignore_walk.proofs.PaceLemmas.{all_steps, from_same, no_step, one_more_step, same_step}
 use Rattle.ignore_walk.proofs.walk.Walk.advance.Goals as goal
 
 pub returns-in-Some-clause-given : goal.returns-in-Some-clause-given
@@ -47,8 +47,10 @@ loop-self-preserved g c = record {
   ground = c.loop-self.invariant.ground;
   ended = c.loop-self.invariant.ended;
   no_end = λ h. (c.in_default-take_made.ensures.no_end (c.in-Ok.ensures.no_end (c.loop-self.invariant.no_end h))).0;
-  paced = one_more_step c.args.self.now.left c.loop-self.self.left _ _ _ _ (omega (c.if-self-eq0.false, arith)) c.loop-self.invariant.paced
-      (c.in-Ok.ensures.paced (c.is_done.ensures.work c.loop-self-test.true)) c.in_default-take_made.ensures.same _ (omega (c.if-self-eq0.false, arith));
+  paced = one_more_step _ c.loop-self.initial.self.left c.loop-self.self.left _ _ _ _ (omega (c.if-self-eq0.false, arith)) c.loop-self.invariant.paced
+      (same_step g.F.Files c.args.self.now.ground c.loop-self.self.ground _ _ c.loop-self.invariant.ground
+      (c.in-Ok.ensures.paced (c.is_done.ensures.work c.loop-self-test.true)))
+      c.in_default-take_made.ensures.same _ (omega (c.if-self-eq0.false, arith));
   remaining = λ s items n r.
       let i = c.loop-self.invariant.remaining s items n r in
       let more : 0 < i.0 = c.is_done.ensures.more c.loop-self-test.true s items i.0 i.2.stands in
@@ -74,37 +76,50 @@ returns-clause-given g c = λ s items n r.
 
 pub returns-in-Some-clause-paced : goal.returns-in-Some-clause-paced
 returns-in-Some-clause-paced g c = record {
-  paced = λ same. (0, omega arith, no_step _ _ c.in-Some.ensures.same);
+  ground = refl;
+  paced = λ same. (0, omega arith, no_step _ _ _ c.in-Some.ensures.same);
   limited = λ on over is. absurd (let e = sym on ∙ over in cc (e));
 }
 
 pub returns-then-self-eq0-clause-paced : goal.returns-then-self-eq0-clause-paced
-returns-then-self-eq0-clause-paced g c = record {
-  paced = λ same.
-      absurd (let e = sym c.end.ensures.over.0 ∙ (same ∙ (sym c.loop-self.invariant.ended ∙ c.is_done.ensures.goes_on c.loop-self-test.true)) in cc (e));
-  limited = λ on over is. (_, all_steps c.args.self.now.left c.loop-self.self.left _ _ c.if-self-eq0.true
-      (from_same _ _ _ _ _ c.in_default.ensures.same c.loop-self.invariant.paced));
-}
+returns-then-self-eq0-clause-paced g c =
+    let on = c.is_done.ensures.goes_on c.loop-self-test.true in
+    record {
+      ground = c.end.ensures.ground ∙ c.loop-self.invariant.ground;
+      paced = λ same. absurd (let e = sym c.end.ensures.over.0 ∙ (same ∙ (sym c.loop-self.invariant.ended ∙ on)) in cc (e));
+      limited = λ over done is. (
+        _,
+        all_steps _ c.args.self.now.left c.loop-self.self.left _ _ c.if-self-eq0.true
+            (from_same _ _ _ _ _ _ c.in_default.ensures.same c.loop-self.invariant.paced),
+      );
+    }
 
 pub returns-in-Err-clause-paced : goal.returns-in-Err-clause-paced
-returns-in-Err-clause-paced g c = record {
-  paced = λ same.
-      absurd (let e = sym c.end.ensures.over.0 ∙ (same ∙ (sym c.loop-self.invariant.ended ∙ c.is_done.ensures.goes_on c.loop-self-test.true)) in cc (e));
-  limited = λ on over is. absurd (let e = sym c.end.ensures.item ∙ is in cc (e));
-}
+returns-in-Err-clause-paced g c =
+    let on = c.is_done.ensures.goes_on c.loop-self-test.true in
+    record {
+      ground = c.end.ensures.ground ∙ c.loop-self.invariant.ground;
+      paced = λ same. absurd (let e = sym c.end.ensures.over.0 ∙ (same ∙ (sym c.loop-self.invariant.ended ∙ on)) in cc (e));
+      limited = λ over done is. absurd (let e = sym c.end.ensures.item ∙ is in cc (e));
+    }
 
 pub returns-in-Some-take_made-clause-paced : goal.returns-in-Some-take_made-clause-paced
-returns-in-Some-take_made-clause-paced g c = record {
-  paced = λ same.
-      one_more_step c.args.self.now.left c.loop-self.self.left _ _ _ _ (omega (c.if-self-eq0.false, arith))
-      (from_same _ _ _ _ _ c.in_default.ensures.same c.loop-self.invariant.paced)
-      (c.in-Ok.ensures.paced (c.is_done.ensures.work c.loop-self-test.true)) c.in-Some-take_made.ensures.same _ (omega (c.if-self-eq0.false, arith));
-  limited = λ on over is. absurd (let e = sym on ∙ (sym c.loop-self.invariant.ended ∙ over) in cc (e));
-}
+returns-in-Some-take_made-clause-paced g c =
+    let step = same_step g.F.Files c.args.self.now.ground c.loop-self.self.ground _ _ c.loop-self.invariant.ground
+    (c.in-Ok.ensures.paced (c.is_done.ensures.work c.loop-self-test.true)) in
+    record {
+      ground = c.loop-self.invariant.ground;
+      paced = λ same.
+          one_more_step _ c.args.self.now.left c.loop-self.self.left _ _ _ _ (omega (c.if-self-eq0.false, arith))
+          (from_same _ _ _ _ _ _ c.in_default.ensures.same c.loop-self.invariant.paced) step c.in-Some-take_made.ensures.same _
+          (omega (c.if-self-eq0.false, arith));
+      limited = λ on over is. absurd (let e = sym on ∙ (sym c.loop-self.invariant.ended ∙ over) in cc (e));
+    }
 
 pub returns-clause-paced : goal.returns-clause-paced
 returns-clause-paced g c = record {
-  paced = λ same. from_same _ _ _ _ _ c.in_default.ensures.same c.loop-self.invariant.paced;
+  ground = c.loop-self.invariant.ground;
+  paced = λ same. from_same _ _ _ _ _ _ c.in_default.ensures.same c.loop-self.invariant.paced;
   limited = λ on over is. absurd (cc (is));
 }
 

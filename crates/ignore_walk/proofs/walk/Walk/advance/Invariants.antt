@@ -17,7 +17,7 @@ invariant-loop-self g l = record {
   ground : l.self.ground ≡ l.initial.self.ground;
   ended : l.self.ended ≡ l.initial.self.ended;
   no_end : HasNoEnd l.initial.self.stack → HasNoEnd l.self.stack;
-  paced : (k : ℕ) × (l.self.left + k ≡ l.initial.self.left) × TookSteps k (work_of l.initial.self.stack) (work_of l.self.stack);
+  paced : (k : ℕ) × (l.self.left + k ≡ l.initial.self.left) × TookSteps (g.F.Files.list_gives l.initial.self.ground.files.now) k (work_of l.initial.self.stack) (work_of l.self.stack);
   remaining : (s : Scene) (items : List Item) (n : ℕ) → Remaining g.F.Files g.S.Callbacks s l.initial.self items n
       → (k : ℕ) × (n + l.self.left ≡ k + l.initial.self.left) × Remaining g.F.Files g.S.Callbacks s l.self items k;
 }

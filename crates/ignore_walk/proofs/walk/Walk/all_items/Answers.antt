@@ -5,7 +5,7 @@ use Rattle.ignore_base.specs.Problem.{io, memory}
 use Rattle.ignore_walk.specs.Entry.{Item, item_of}
 use Rattle.ignore_walk.specs.GoesOn.{AllGoOn}
 use Rattle.ignore_walk.proofs.NoEndLemmas.{more_go_on}
-use Rattle.ignore_walk.proofs.PaceLemmas.{both_steps}
+use Rattle.ignore_walk.proofs.PaceLemmas.{both_steps, same_steps}
 use Rattle.ignore_walk.proofs.walk.Walk.all_items.Goals as goal
 
 pub returns-then-self-clause-ended : goal.returns-then-self-clause-ended
@@ -34,10 +34,14 @@ pub loop-item-preserved : goal.loop-item-preserved
 loop-item-preserved g c = record {
   goes_on = λ on. c.if-self.false;
   over = λ over. absurd (let e = c.in-Some.ensures.over (c.loop-item.invariant.over over).0 in cc (e));
+  ground = c.in-Some.ensures.paced.ground ∙ c.loop-item.invariant.ground;
   paced = λ on.
       let before = c.loop-item.invariant.paced on in
       let now = c.in-Some.ensures.paced.paced (c.if-self.false ∙ sym (c.loop-item.invariant.goes_on on)) in
-      (before.0 + now.0, omega (before.1, now.1, arith), both_steps before.0 now.0 _ _ _ _ refl before.2 now.2);
+      let steps = same_steps g.F.Files c.args.self.ground c.loop-item.self.ground now.0 _ _ c.loop-item.invariant.ground now.2 in
+      let was = before.1 in
+      let are = now.1 in
+      (before.0 + now.0, omega (was, are, arith), both_steps _ before.0 now.0 _ _ _ _ refl before.2 steps);
   no_end = λ h.
       let before = c.loop-item.invariant.no_end h in
       let now = c.in-Some.ensures.ends before.0 in
@@ -87,5 +91,7 @@ returns-then-self-clause-limited g c = λ on is.
       | inl m ↦ absurd (let e = sym (c.error_of.ensures memory m) ∙ is in cc (e))
       | inr l ↦
           let all = c.in-Some.ensures.paced.limited goes_on c.if-self.true (ap Some l.0) in
-          (all.0, both_steps before.0 c.loop-item.self.left _ _ _ _ (omega (before.1, arith)) before.2 all.1)
+          let steps = same_steps g.F.Files c.args.self.ground c.loop-item.self.ground _ _ _ c.loop-item.invariant.ground all.1 in
+          let sum = before.1 in
+          (all.0, both_steps _ before.0 c.loop-item.self.left _ _ _ _ (omega (sum, arith)) before.2 steps)
     ]
