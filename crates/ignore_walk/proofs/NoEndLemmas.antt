@@ -1,5 +1,6 @@
 -- Items after which a walk goes on.
 use Rattle.std.proofs.Common.{◌≡◌, ℕ, ◌⊎◌, inl, inr, Bool, true, false, cond, List, [], ◌∷◌, ◌++◌, length, map, Option, None, Some, MatchOption, Result, Ok, Err, refl, sym, ap, subst, ◌∙◌}
+use Rattle.std.specs.Option.{option_to_list}
 use Rattle.std.specs.Prelude.{⊤}
 use Rattle.std.specs.Result.{result_err}
 use Rattle.ignore_base.specs.Problem.{Problem, at_depth, at_line, at_path, glob, invalid_definition, io, loop, memory, several, unrecognized}
@@ -84,3 +85,9 @@ reported_no_limit g paths p are is =
 -- one more was handed out, after which the walk goes on
 pub more_go_on : (all : List Item) (item : Item) → AllGoOn all → GoesOn item → AllGoOn (all ++ item ∷ [])
 more_go_on all item h k = both_go_on all (item ∷ []) h (k, tt)
+
+-- the first item is handed out, if there is one
+pub first_goes_on : (old new : List (Result DirEntry Error)) (r : Option (Result DirEntry Error)) → old ≡ option_to_list r ++ new
+    → AllGoOn (map item_of old) → AllGoOn (map item_of new) × MatchOption r ⊤ (λ item. GoesOn (item_of item))
+first_goes_on old new None is h = (subst (λ (l : List (Result DirEntry Error)). AllGoOn (map item_of l)) is h, tt)
+first_goes_on old new (Some x) is h = let t = subst (λ (l : List (Result DirEntry Error)). AllGoOn (map item_of l)) is h in (t.1, t.0)

@@ -6,7 +6,7 @@ ghost use Rattle.ignore_base.specs.Problem.{problem_of};
 ghost use Rattle.ignore_dir.specs.Above.{canonical_names, path_along};
 ghost use Rattle.ignore_dir.specs.Chains.{slashed};
 ghost use Rattle.ignore_dir.specs.Lists.{Placed};
-ghost use Rattle.ignore_dir.specs.Soft.{AllSoft, IsSoft};
+ghost use Rattle.ignore_dir.specs.Soft.{AllSoft};
 ghost use Rattle.ignore_levels.specs.Levels.{IsChain, counting, slots_of};
 ghost use Rattle.ignore_levels.specs.declared.list.Slot.{Slot};
 ghost use Rattle.ignore_walk.specs.Scene.{Scene};
@@ -49,8 +49,6 @@ fn find(seen: &[Seen], path: &str) -> Option<Option<Place>>
 fn push_some(errors: &mut Vec<Error>, error: Option<Error>) -> Result<(), AllocError>
     ensures added { OnOk result (map problem_of errors.new.items
         ≡ map problem_of errors.old.items ++ option_to_list (option_map problem_of error)) }
-    ensures soft { IsSoft (option_map problem_of error) → AllSoft (map problem_of errors.old.items)
-        → OnOk result (AllSoft (map problem_of errors.new.items)) }
 {
     match error {
         None => Ok(()),

@@ -3,6 +3,7 @@ ghost use Rattle.std.specs.Prelude.{◌≡◌, false, List, None, Some, map, IfO
 ghost use Rattle.std.specs.Iterator.{Drains, IsFinite};
 ghost use Rattle.ignore_base.specs.Problem.{problem_of, memory};
 ghost use Rattle.ignore_walk.specs.GoesOn.{HasNoEnd};
+ghost use Rattle.ignore_walk.specs.Paces.{work_at, work_of};
 ghost use Rattle.ignore_walk.specs.declared.callbacks.Order.TheVariants.{Listed};
 ghost use Rattle.ignore.specs.Builder.{unset, with_root, with_roots};
 ghost use Rattle.ignore.specs.Closures.{options_of, order_of};
@@ -34,6 +35,8 @@ impl WalkBuilder {
         ensures limit { IfOk result (λ w. w.inner.left ≡ self.now.options.limit) }
         ensures goes_on { IfOk result (λ w. w.inner.ended ≡ false) }
         ensures no_end { IfOk result (λ w. HasNoEnd w.inner.stack) }
+        ensures begins { IfOk result (λ w. work_of w.inner.stack ≡ work_at self.now.options.roots) }
+        ensures files { IfOk result (λ w. w.inner.ground.files.now ≡ files.now) }
         ensures out_of_memory { IfErr result (λ e. problem_of e ≡ memory) }
     {
         self.options.walk(
@@ -71,6 +74,8 @@ impl WalkOptions {
         ensures limit { IfOk result (λ w. w.inner.left ≡ self.now.limit) }
         ensures goes_on { IfOk result (λ w. w.inner.ended ≡ false) }
         ensures no_end { IfOk result (λ w. HasNoEnd w.inner.stack) }
+        ensures begins { IfOk result (λ w. work_of w.inner.stack ≡ work_at self.now.roots) }
+        ensures files { IfOk result (λ w. w.inner.ground.files.now ≡ files.now) }
         ensures out_of_memory { IfErr result (λ e. problem_of e ≡ memory) }
     {
         let roots = self.root_names()?;

@@ -129,14 +129,16 @@ pub returns-in-Some-clause-ends : goal.returns-in-Some-clause-ends
 returns-in-Some-clause-ends g c = λ h. let t = c.in-Some.ensures.no_end h in (t.0, inl t.1)
 
 pub returns-then-self-eq0-clause-ends : goal.returns-then-self-eq0-clause-ends
-returns-then-self-eq0-clause-ends g c = λ h.
-    (none_go_on c.end.new.self.stack.made.items c.end.ensures.over.1,
-    subst (λ (o : Option Item). EndsOrGoesOn o c.end.new.self) (sym c.end.ensures.item) (inr (inr (ap Err c.step_limit.ensures), c.end.ensures.over)))
+returns-then-self-eq0-clause-ends g c = λ h. (
+  none_go_on c.end.new.self.stack.made.items c.end.ensures.over.1,
+  subst (λ (o : Option Item). EndsOrGoesOn o c.end.new.self) (sym c.end.ensures.item) (inr (inr (ap Err c.step_limit.ensures), c.end.ensures.over)),
+)
 
 pub returns-in-Err-clause-ends : goal.returns-in-Err-clause-ends
-returns-in-Err-clause-ends g c = λ h.
-    (none_go_on c.end.new.self.stack.made.items c.end.ensures.over.1,
-    subst (λ (o : Option Item). EndsOrGoesOn o c.end.new.self) (sym c.end.ensures.item) (inr (inl refl, c.end.ensures.over)))
+returns-in-Err-clause-ends g c = λ h. (
+  none_go_on c.end.new.self.stack.made.items c.end.ensures.over.1,
+  subst (λ (o : Option Item). EndsOrGoesOn o c.end.new.self) (sym c.end.ensures.item) (inr (inl refl, c.end.ensures.over)),
+)
 
 pub returns-in-Some-take_made-clause-ends : goal.returns-in-Some-take_made-clause-ends
 returns-in-Some-take_made-clause-ends g c = λ h.
