@@ -35,3 +35,4 @@ pub mod PlacedLemmas
 pub mod EndLemmas
 pub mod PaceLemmas
 pub mod NoEndLemmas
+pub mod AnsweredLemmas
