@@ -1,15 +1,15 @@
 -- Items after which a walk goes on.
-use Rattle.std.proofs.Common.{◌≡◌, ℕ, ◌⊎◌, inl, inr, Bool, true, false, cond, List, [], ◌∷◌, ◌++◌, length, map, Option, None, Some, MatchOption, Result, Ok, Err, refl, sym, ap, subst, ◌∙◌}
+use Rattle.std.proofs.Common.{◌≡◌, ℕ, ◌⊎◌, inl, inr, Bool, true, false, cond, List, [], ◌∷◌, ◌++◌, length, map, Option, None, Some, MatchOption, Result, Ok, Err, option_map, refl, sym, ap, subst, ◌∙◌}
 use Rattle.std.specs.Option.{option_to_list}
 use Rattle.std.specs.Prelude.{⊤}
 use Rattle.std.specs.Result.{result_err}
-use Rattle.ignore_base.specs.Problem.{Problem, at_depth, at_line, at_path, glob, invalid_definition, io, loop, memory, several, unrecognized}
+use Rattle.ignore_base.specs.Problem.{Problem, at_depth, at_line, at_path, glob, invalid_definition, io, loop, memory, problem_of, several, unrecognized}
 use Rattle.ignore_base.specs.declared.error.Error.{Error}
 use Rattle.ignore_base.specs.declared.fault.Fault.{Fault}
 use Rattle.ignore_files.specs.declared.types.Listed.{Listed}
 use Rattle.ignore_dir.specs.Above.{problems_of_loads}
 use Rattle.ignore_dir.specs.Load.{AreLoads, joined_some}
-use Rattle.ignore_dir.specs.Soft.{IsSoft}
+use Rattle.ignore_dir.specs.Soft.{IsSoft, holds_memory}
 use Rattle.ignore_dir.specs.declared.settings.Settings.{Settings}
 use Rattle.ignore_walk.specs.Entry.{Entry, Item, item_of}
 use Rattle.ignore_walk.specs.GoesOn.{AllGoOn, GoesOn, HasNoEnd, is_end, is_limit}
@@ -91,3 +91,17 @@ pub first_goes_on : (old new : List (Result DirEntry Error)) (r : Option (Result
     → AllGoOn (map item_of old) → AllGoOn (map item_of new) × MatchOption r ⊤ (λ item. GoesOn (item_of item))
 first_goes_on old new None is h = (subst (λ (l : List (Result DirEntry Error)). AllGoOn (map item_of l)) is h, tt)
 first_goes_on old new (Some x) is h = let t = subst (λ (l : List (Result DirEntry Error)). AllGoOn (map item_of l)) is h in (t.1, t.0)
+
+-- a problem without memory that isn't the limit alone
+pub no_end_by : (p : Problem) → holds_memory p ≡ false → is_limit p ≡ false → is_end p ≡ false
+no_end_by p h k = rw (h, k) refl
+
+-- an error that is there
+
+pub some_no_limit_at : (error : Option Error) (e : Error) → error ≡ Some e
+    → MatchOption (option_map problem_of error) ⊤ (λ p. is_limit p ≡ false) → is_limit (problem_of e) ≡ false
+some_no_limit_at error e is h = subst (λ (o : Option Error). MatchOption (option_map problem_of o) ⊤ (λ p. is_limit p ≡ false)) is h
+
+pub some_soft_at : (error : Option Error) (e : Error) → error ≡ Some e → IsSoft (option_map problem_of error)
+    → holds_memory (problem_of e) ≡ false
+some_soft_at error e is h = subst (λ (o : Option Error). IsSoft (option_map problem_of o)) is h

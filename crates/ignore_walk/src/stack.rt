@@ -10,7 +10,7 @@ ghost use Rattle.ignore_walk.specs.Branch.{Branch, path_of, text_at, placed_abov
 ghost use Rattle.ignore_walk.specs.Entry.{Item as Yielded, entry_of, item_of};
 ghost use Rattle.ignore_walk.specs.Found.{IsFoundAt};
 ghost use Rattle.ignore_walk.specs.Frames.{AreFrames};
-ghost use Rattle.ignore_walk.specs.GoesOn.{GoesOn, HasNoEnd, is_end, is_limit};
+ghost use Rattle.ignore_walk.specs.GoesOn.{GoesOn, HasNoEnd, is_end, is_limit, is_step_limit};
 ghost use Rattle.ignore_walk.specs.Left.{Remains, InHand, IsNext};
 ghost use Rattle.ignore_walk.specs.OnList.{place_around};
 ghost use Rattle.ignore_walk.specs.Opens.{Opens};
@@ -392,16 +392,36 @@ fn are_begun(roots: &VecDeque<Name>) -> bool
     }
 }
 
+/// Whether a fault is that of the limit of steps.
+fn is_step_limit(fault: Fault) -> bool
+    ensures { result ≡ is_step_limit fault }
+{
+    match fault {
+        Fault::StepLimit => true,
+        _ => false,
+    }
+}
+
+/// Whether an error is the limit of steps alone.
+fn is_limit(error: &Error) -> bool
+    ensures { result ≡ is_limit (problem_of error.now) }
+{
+    match error {
+        Error::Io(fault) => is_step_limit(*fault),
+        _ => false,
+    }
+}
+
 /// An error above a root, as it is reported. The limit of steps alone would be the end of the walk:
 /// so that one stands at the depth of the root.
 fn below_limit(alloc: Global, error: Error) -> Result<Error, AllocError>
     ensures same { is_limit (problem_of error) ≡ false → IfOk result (λ e. problem_of e ≡ problem_of error) }
     ensures no_end { holds_memory (problem_of error) ≡ false → IfOk result (λ e. is_end (problem_of e) ≡ false) }
 {
-    match error {
-        Error::Io(Fault::StepLimit) => fault_at(alloc, 0, Fault::StepLimit),
-        other => Ok(other),
+    if is_limit(&error) {
+        return fault_at(alloc, 0, Fault::StepLimit);
     }
+    Ok(error)
 }
 
 /// Makes a text the path of a listed thing as the directories around it see it.

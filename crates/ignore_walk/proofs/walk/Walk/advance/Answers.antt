@@ -47,7 +47,7 @@ loop-self-preserved g c = record {
   ground = c.loop-self.invariant.ground;
   ended = c.loop-self.invariant.ended;
   no_end = λ h. (c.in_default-take_made.ensures.no_end (c.in-Ok.ensures.no_end (c.loop-self.invariant.no_end h))).0;
-  paced = one_more_step _ c.loop-self.initial.self.left c.loop-self.self.left _ _ _ _ (omega (c.if-self-eq0.false, arith)) c.loop-self.invariant.paced
+  paced = one_more_step _ _ c.loop-self.self.left _ _ _ _ (omega (c.if-self-eq0.false, arith)) c.loop-self.invariant.paced
       (same_step g.F.Files c.args.self.now.ground c.loop-self.self.ground _ _ c.loop-self.invariant.ground
       (c.in-Ok.ensures.paced (c.is_done.ensures.work c.loop-self-test.true)))
       c.in_default-take_made.ensures.same _ (omega (c.if-self-eq0.false, arith));
