@@ -3,10 +3,15 @@ use Rattle.std.proofs.Common.{◌≡◌, ◌⊎◌, inl, inr, ℕ, suc, ◌+◌,
 use Rattle.ignore_base.specs.Text.{Path}
 use Rattle.ignore_files.specs.declared.files.Files.{Ghosts as Files}
 use Rattle.ignore_files.specs.declared.types.Listed.{Listed}
-use Rattle.ignore_walk.specs.Paces.{Begins, Enters, HasWork, IsListed, IsStep, Leaves, Lists, MayEnter, Takes, TakesOne, TookSteps, Work, more, none, work_of}
+use Rattle.ignore_walk.specs.Paces.{Begins, Enters, HasWork, IsListed, IsStep, Leaves, Lists, MayEnter, Takes, TakesOne, TookSteps, Work, more, none, work_at, work_of}
 use Rattle.ignore_walk.specs.declared.frame.Frame.{Frame}
 use Rattle.ignore_walk.specs.declared.ground.Ground.{Ground}
 use Rattle.ignore_walk.specs.declared.open.Directory.{Directory}
+use Rattle.ignore_walk.specs.declared.stack.Stack.{Stack}
+
+-- nothing was begun
+pub work_first : (s : Stack) (roots : List Path) → s.roots.items ≡ roots → s.frames.items ≡ [] → work_of s ≡ work_at roots
+work_first s roots h k = cc (h, k)
 
 -- a directory was entered that was listed
 pub entered : (lists : Lists) (directory : Directory) (old new : List Frame) → IsListed lists directory.path directory.rest.items
