@@ -16,3 +16,6 @@ returns-clause-value g c = λ s suits is_dir.
     (root_entry-is s root c.args.is_dir is_dir)
     (c.on_device.ensures.value s found suits.honest suits.device
     (c.in_ok-item.ensures.value s suits.honest (ap (λ (x : Settings). x.follow_links) suits.settings)))
+
+pub returns-clause-no_end : goal.returns-clause-no_end
+returns-clause-no_end g c = c.on_device.ensures.no_end c.in_ok-item.ensures.no_end
