@@ -12,7 +12,7 @@ use Rattle.ignore_dir.specs.Load.{AreLoads, joined_some}
 use Rattle.ignore_dir.specs.Soft.{IsSoft, holds_memory}
 use Rattle.ignore_dir.specs.declared.settings.Settings.{Settings}
 use Rattle.ignore_walk.specs.Entry.{Entry, Item, item_of}
-use Rattle.ignore_walk.specs.GoesOn.{AllGoOn, GoesOn, HasNoEnd, is_end, is_limit}
+use Rattle.ignore_walk.specs.GoesOn.{AllGoOn, GoesOn, HasNoEnd, is_fatal, is_limit}
 use Rattle.ignore_walk.specs.Scene.{Scene}
 use Rattle.ignore_walk.specs.Walked.{is_at_least, unlisted, yielded}
 use Rattle.ignore_walk.specs.declared.entry.DirEntry.{DirEntry}
@@ -93,7 +93,7 @@ first_goes_on old new None is h = (subst (λ (l : List (Result DirEntry Error)).
 first_goes_on old new (Some x) is h = let t = subst (λ (l : List (Result DirEntry Error)). AllGoOn (map item_of l)) is h in (t.1, t.0)
 
 -- a problem without memory that isn't the limit alone
-pub no_end_by : (p : Problem) → holds_memory p ≡ false → is_limit p ≡ false → is_end p ≡ false
+pub no_end_by : (p : Problem) → holds_memory p ≡ false → is_limit p ≡ false → is_fatal p ≡ false
 no_end_by p h k = rw (h, k) refl
 
 -- an error that is there

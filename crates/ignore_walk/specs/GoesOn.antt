@@ -17,16 +17,16 @@ abbrev pub is_limit : Problem → Bool
 is_limit (io fault) = is_step_limit fault
 is_limit _ = false
 
--- a problem ends a walk: memory ran out, as it says itself or inside it, or it is the limit of
--- steps alone
-abbrev pub is_end : Problem → Bool
-is_end p = holds_memory p || is_limit p
+-- no item but the last has this problem: it is out of memory, or has that inside, or it is the limit
+-- of steps alone
+abbrev pub is_fatal : Problem → Bool
+is_fatal p = holds_memory p || is_limit p
 
--- a walk goes on after an item: memory didn't run out inside an entry's error; and an error in an
--- entry's place is no end
+-- a walk goes on after an item: out of memory is nowhere inside an entry's error, and an error in an
+-- entry's place isn't fatal
 abbrev pub GoesOn : Item → Type 0
 GoesOn (Ok (e, problem)) = IsSoft problem
-GoesOn (Err p) = is_end p ≡ false
+GoesOn (Err p) = is_fatal p ≡ false
 
 -- it goes on after each of these items
 abbrev pub AllGoOn : List Item → Type 0

@@ -12,7 +12,7 @@ ghost use Rattle.ignore_walk.specs.Entry.{entry_of, problem_in};
 ghost use Rattle.ignore_walk.specs.Fates.{fate_of, differ};
 ghost use Rattle.ignore_walk.specs.Found.{IsFound};
 ghost use Rattle.ignore_walk.specs.Frames.{AreFrames, device_of};
-ghost use Rattle.ignore_walk.specs.GoesOn.{is_end};
+ghost use Rattle.ignore_walk.specs.GoesOn.{is_fatal};
 ghost use Rattle.ignore_walk.specs.Opens.{Opens};
 ghost use Rattle.ignore_walk.specs.Paces.{IsListed};
 ghost use Rattle.ignore_walk.specs.Scene.{Scene};
@@ -187,7 +187,7 @@ impl<'a, F: Files, S: Callbacks> Ground<'a, F, S> {
             → IsGroundOf F.Files S.Callbacks self.now g
             → AreFrames g root b (reverse frames.now)
             → IfOk result (λ found. IsFound g (λ e. children.is_dir_kind e.kind) found (children.child g root b listed)) }
-        ensures no_end { IfOk result (λ found. IfErr found (λ e. is_end (problem_of e) ≡ false)) }
+        ensures no_end { IfOk result (λ found. IfErr found (λ e. is_fatal (problem_of e) ≡ false)) }
     {
         let depth = depth_below(frames);
         match listed {
@@ -211,7 +211,7 @@ impl<'a, F: Files, S: Callbacks> Ground<'a, F, S> {
             → IsGroundOf F.Files S.Callbacks self.now g
             → is_dir ≡ queries.is_dir_there (g.tree.stat root.now true)
             → IfOk result (λ found. IsFound g (λ _. is_dir) found (wholes.root_entry g root.now)) }
-        ensures no_end { IfOk result (λ found. IfErr found (λ e. is_end (problem_of e) ≡ false)) }
+        ensures no_end { IfOk result (λ found. IfErr found (λ e. is_fatal (problem_of e) ≡ false)) }
     {
         let item = root_found(self.alloc, self.files, self.settings.follow_links, root)?;
         let same = self.options.same_file_system;

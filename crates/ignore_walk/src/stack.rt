@@ -10,7 +10,7 @@ ghost use Rattle.ignore_walk.specs.Branch.{Branch, path_of, text_at, placed_abov
 ghost use Rattle.ignore_walk.specs.Entry.{Item as Yielded, entry_of, item_of};
 ghost use Rattle.ignore_walk.specs.Found.{IsFoundAt};
 ghost use Rattle.ignore_walk.specs.Frames.{AreFrames};
-ghost use Rattle.ignore_walk.specs.GoesOn.{GoesOn, HasNoEnd, is_end, is_limit, is_step_limit};
+ghost use Rattle.ignore_walk.specs.GoesOn.{GoesOn, HasNoEnd, is_fatal, is_limit, is_step_limit};
 ghost use Rattle.ignore_walk.specs.Left.{Remains, InHand, IsNext};
 ghost use Rattle.ignore_walk.specs.OnList.{place_around};
 ghost use Rattle.ignore_walk.specs.Opens.{Opens};
@@ -416,7 +416,7 @@ fn is_limit(error: &Error) -> bool
 /// so that one stands at the depth of the root.
 fn below_limit(alloc: Global, error: Error) -> Result<Error, AllocError>
     ensures same { is_limit (problem_of error) ≡ false → IfOk result (λ e. problem_of e ≡ problem_of error) }
-    ensures no_end { holds_memory (problem_of error) ≡ false → IfOk result (λ e. is_end (problem_of e) ≡ false) }
+    ensures no_end { holds_memory (problem_of error) ≡ false → IfOk result (λ e. is_fatal (problem_of e) ≡ false) }
 {
     if is_limit(&error) {
         return fault_at(alloc, 0, Fault::StepLimit);

@@ -5,7 +5,7 @@ use Rattle.ignore_walk.specs.Branch.{path_of}
 use Rattle.ignore_walk.specs.Child.{found}
 use Rattle.ignore_walk.proofs.ChildLemmas.{child_is, fault_is}
 use Rattle.ignore_walk.proofs.GroundLemmas.{frames-paths}
-use Rattle.ignore_walk.specs.GoesOn.{is_end}
+use Rattle.ignore_walk.specs.GoesOn.{is_fatal}
 use Rattle.ignore_walk.proofs.ground.Ground.child.Goals as goal
 
 pub returns-in_ok-item-in-Entry-clause-value : goal.returns-in_ok-item-in-Entry-clause-value
@@ -38,4 +38,4 @@ pub returns-in_ok-item-in-Entry-clause-no_end : goal.returns-in_ok-item-in-Entry
 returns-in_ok-item-in-Entry-clause-no_end g c = c.checked.ensures.no_end c.in_ok-item-in-Entry.ensures.no_end
 
 pub returns-in_ok-fault_at-in-Fault-clause-no_end : goal.returns-in_ok-fault_at-in-Fault-clause-no_end
-returns-in_ok-fault_at-in-Fault-clause-no_end g c = ap is_end c.in_ok-fault_at-in-Fault.ensures
+returns-in_ok-fault_at-in-Fault-clause-no_end g c = ap is_fatal c.in_ok-fault_at-in-Fault.ensures

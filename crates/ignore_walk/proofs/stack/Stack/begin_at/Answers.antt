@@ -15,7 +15,7 @@ use Rattle.ignore_walk.proofs.PaceLemmas.{on_any_ok}
 use Rattle.ignore_walk.proofs.VisitLemmas.{on_ok_map, root_path, root_kept}
 use Rattle.ignore_walk.proofs.StandLemmas.{stand_made, next_root, outside}
 use Rattle.ignore_walk.proofs.NoEndLemmas.{made_go_on}
-use Rattle.ignore_walk.specs.GoesOn.{is_end}
+use Rattle.ignore_walk.specs.GoesOn.{is_fatal}
 use Rattle.ignore_walk.proofs.stack.Stack.begin_at.Goals as goal
 
 pub returns-in-Err-clause-begun : goal.returns-in-Err-clause-begun
@@ -73,8 +73,8 @@ returns-in-Ok-clause-enters g c = c.visit.ensures.enters
 
 pub returns-in-Err-clause-no_end : goal.returns-in-Err-clause-no_end
 returns-in-Err-clause-no_end g c = λ h.
-    let goes_on : is_end (problem_of c.in-Err.error) ≡ false =
-    subst (λ (r : Result Found Error). IfErr r (λ e. is_end (problem_of e) ≡ false)) c.in-Err.is c.in_ok-error.ensures.no_end in
+    let goes_on : is_fatal (problem_of c.in-Err.error) ≡ false =
+    subst (λ (r : Result Found Error). IfErr r (λ e. is_fatal (problem_of e) ≡ false)) c.in-Err.is c.in_ok-error.ensures.no_end in
     on_ok_map c.make_error.result (λ makes. made_go_on _ _ _ makes h (goes_on, tt)) c.make_error.ensures.value
 
 pub returns-in-Ok-clause-no_end : goal.returns-in-Ok-clause-no_end

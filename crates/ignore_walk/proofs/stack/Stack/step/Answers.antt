@@ -17,7 +17,7 @@ use Rattle.ignore_walk.proofs.VisitLemmas.{on_ok_map, when_none, when_some, chil
 use Rattle.ignore_walk.proofs.PaceLemmas.{on_any_ok, taken}
 use Rattle.ignore_walk.proofs.StandLemmas.{stand_made, takes_same}
 use Rattle.ignore_walk.proofs.NoEndLemmas.{made_go_on, same_no_end}
-use Rattle.ignore_walk.specs.GoesOn.{is_end}
+use Rattle.ignore_walk.specs.GoesOn.{is_fatal}
 use Rattle.ignore_walk.proofs.stack.Stack.step.Goals as goal
 
 pub returns-in-None-clause-stepped : goal.returns-in-None-clause-stepped
@@ -100,8 +100,8 @@ returns-in-None-clause-no_end g c = λ h. same_no_end c.args.self.now _ c.take_l
 
 pub returns-in-Err-clause-no_end : goal.returns-in-Err-clause-no_end
 returns-in-Err-clause-no_end g c = λ h.
-    let goes_on : is_end (problem_of c.in-Err.error) ≡ false =
-    subst (λ (r : Result Found Error). IfErr r (λ e. is_end (problem_of e) ≡ false)) c.in-Err.is c.in_ok-error-in-Some.ensures.no_end in
+    let goes_on : is_fatal (problem_of c.in-Err.error) ≡ false =
+    subst (λ (r : Result Found Error). IfErr r (λ e. is_fatal (problem_of e) ≡ false)) c.in-Err.is c.in_ok-error-in-Some.ensures.no_end in
     on_ok_map c.make_error.result
     (λ makes. made_go_on _ _ _ makes (same_no_end c.args.self.now c.take_listed.new.self c.take_listed.ensures.made h) (goes_on, tt))
     c.make_error.ensures.value
