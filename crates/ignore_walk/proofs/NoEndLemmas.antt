@@ -1,5 +1,5 @@
 -- Items after which a walk goes on.
-use Rattle.std.proofs.Common.{◌≡◌, ℕ, ◌⊎◌, inl, inr, Bool, true, false, cond, List, [], ◌∷◌, ◌++◌, length, map, Option, None, Some, MatchOption, Result, Ok, Err, option_map, refl, sym, ap, subst, ◌∙◌}
+use Rattle.std.proofs.Common.{◌≡◌, ℕ, ◌||◌, Bool, true, false, cond, List, [], ◌∷◌, ◌++◌, length, map, Option, None, Some, MatchOption, Result, Ok, Err, option_map, refl, sym, ap, subst, ◌∙◌}
 use Rattle.std.specs.Option.{option_to_list}
 use Rattle.std.specs.Prelude.{⊤}
 use Rattle.std.specs.Result.{result_err}
@@ -66,7 +66,7 @@ placed_no_limit (at_line line p) h = refl
 placed_no_limit (at_path path p) h = refl
 placed_no_limit (at_depth depth p) h = refl
 placed_no_limit (loop ancestor child) h = refl
-placed_no_limit (io fault) h = absurd (cc (h))
+placed_no_limit (io fault) h = let e : true ≡ false = h in absurd (cc (e))
 placed_no_limit (glob pattern err) h = refl
 placed_no_limit (unrecognized name) h = refl
 placed_no_limit invalid_definition h = refl
@@ -94,7 +94,7 @@ first_goes_on old new (Some x) is h = let t = subst (λ (l : List (Result DirEnt
 
 -- a problem without memory that isn't the limit alone
 pub no_end_by : (p : Problem) → holds_memory p ≡ false → is_limit p ≡ false → is_fatal p ≡ false
-no_end_by p h k = rw (h, k) refl
+no_end_by p h k = ap (λ b. b || is_limit p) h ∙ k
 
 -- an error that is there
 

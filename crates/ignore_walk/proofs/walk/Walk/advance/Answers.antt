@@ -98,9 +98,9 @@ pub returns-in-Err-clause-paced : goal.returns-in-Err-clause-paced
 returns-in-Err-clause-paced g c =
     let on = c.is_done.ensures.goes_on c.loop-self-test.true in
     record {
-      ground = c.end.ensures.ground ∙ c.loop-self.invariant.ground;
-      paced = λ same. absurd (let e = sym c.end.ensures.over.0 ∙ (same ∙ (sym c.loop-self.invariant.ended ∙ on)) in cc (e));
-      limited = λ over done is. absurd (let e = sym c.end.ensures.item ∙ is in cc (e));
+      ground = c.end-in-Err.ensures.ground ∙ c.loop-self.invariant.ground;
+      paced = λ same. absurd (let e = sym c.end-in-Err.ensures.over.0 ∙ (same ∙ (sym c.loop-self.invariant.ended ∙ on)) in cc (e));
+      limited = λ over done is. absurd (let e = sym c.end-in-Err.ensures.item ∙ is in cc (e));
     }
 
 pub returns-in-Some-take_made-clause-paced : goal.returns-in-Some-take_made-clause-paced
@@ -136,8 +136,8 @@ returns-then-self-eq0-clause-ends g c = λ h. (
 
 pub returns-in-Err-clause-ends : goal.returns-in-Err-clause-ends
 returns-in-Err-clause-ends g c = λ h. (
-  none_go_on c.end.new.self.stack.made.items c.end.ensures.over.1,
-  subst (λ (o : Option Item). EndsOrGoesOn o c.end.new.self) (sym c.end.ensures.item) (inr (inl refl, c.end.ensures.over)),
+  none_go_on c.end-in-Err.new.self.stack.made.items c.end-in-Err.ensures.over.1,
+  subst (λ (o : Option Item). EndsOrGoesOn o c.end-in-Err.new.self) (sym c.end-in-Err.ensures.item) (inr (inl refl, c.end-in-Err.ensures.over)),
 )
 
 pub returns-in-Some-take_made-clause-ends : goal.returns-in-Some-take_made-clause-ends

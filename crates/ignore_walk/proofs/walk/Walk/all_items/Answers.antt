@@ -38,7 +38,7 @@ loop-item-preserved g c = record {
   paced = λ on.
       let before = c.loop-item.invariant.paced on in
       let now = c.in-Some.ensures.paced.paced (c.if-self.false ∙ sym (c.loop-item.invariant.goes_on on)) in
-      let steps = same_steps g.F.Files c.args.self.ground c.loop-item.self.ground now.0 _ _ c.loop-item.invariant.ground now.2 in
+      let steps = same_steps g.F.Files _ _ now.0 _ _ c.loop-item.invariant.ground now.2 in
       let was = before.1 in
       let are = now.1 in
       (before.0 + now.0, omega (was, are, arith), both_steps _ before.0 now.0 _ _ _ _ refl before.2 steps);
@@ -91,7 +91,10 @@ returns-then-self-clause-limited g c = λ on is.
       | inl m ↦ absurd (let e = sym (c.error_of.ensures memory m) ∙ is in cc (e))
       | inr l ↦
           let all = c.in-Some.ensures.paced.limited goes_on c.if-self.true (ap Some l.0) in
-          let steps = same_steps g.F.Files c.args.self.ground c.loop-item.self.ground _ _ _ c.loop-item.invariant.ground all.1 in
+          let steps = same_steps g.F.Files _ _ _ _ _ c.loop-item.invariant.ground all.1 in
           let sum = before.1 in
           (all.0, both_steps _ before.0 c.loop-item.self.left _ _ _ _ (omega (sum, arith)) before.2 steps)
     ]
+
+pub returns-clause-no_end : goal.returns-clause-no_end
+returns-clause-no_end g c = λ h. (c.loop-item.invariant.no_end h).1
