@@ -40,6 +40,17 @@ returns-in-Some-take_made-clause-given g c = λ s items n r.
       taken = omega (i.1, step.1, c.if-self-eq0.false, arith);
     })
 
+pub loop-self-init : goal.loop-self-init
+loop-self-init g c = record {
+  made = c.in_default.ensures.length.1;
+  fewer = omega arith;
+  ground = refl;
+  ended = refl;
+  no_end = λ h. h;
+  paced = (0, omega arith, no_step _ _ _ refl);
+  remaining = λ s items n r. (n, refl, r);
+}
+
 pub loop-self-preserved : goal.loop-self-preserved
 loop-self-preserved g c = record {
   made = c.in_default-take_made.ensures.length.1;

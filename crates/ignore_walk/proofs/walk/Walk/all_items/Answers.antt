@@ -1,11 +1,13 @@
-use Rattle.std.proofs.Common.{◌≡◌, ◌+◌, ◌++◌, ◌∷◌, [], List, Some, inl, inr, map, refl, subst, sym, ◌∙◌, ap, append_assoc, arith}
+use Rattle.std.proofs.Common.{◌≡◌, ◌+◌, ◌++◌, ◌∷◌, [], List, Result, Some, inl, inr, map, refl, subst, sym, ◌∙◌, ap, append_assoc, arith}
 use Rattle.std.proofs.lemmas.List.{append-nil, map-append}
 use Rattle.ignore_base.specs.declared.fault.Fault.TheVariants.{StepLimit}
 use Rattle.ignore_base.specs.Problem.{io, memory}
 use Rattle.ignore_walk.specs.Entry.{Item, item_of}
+use Rattle.ignore_base.specs.declared.error.Error.{Error}
 use Rattle.ignore_walk.specs.GoesOn.{AllGoOn}
+use Rattle.ignore_walk.specs.declared.entry.DirEntry.{DirEntry}
 use Rattle.ignore_walk.proofs.NoEndLemmas.{more_go_on}
-use Rattle.ignore_walk.proofs.PaceLemmas.{both_steps, same_steps}
+use Rattle.ignore_walk.proofs.PaceLemmas.{both_steps, no_step, same_steps}
 use Rattle.ignore_walk.proofs.walk.Walk.all_items.Goals as goal
 
 pub returns-then-self-clause-ended : goal.returns-then-self-clause-ended
@@ -29,6 +31,17 @@ returns-then-self-clause-errors g c = λ on.
 pub returns-then-self-clause-over : goal.returns-then-self-clause-over
 returns-then-self-clause-over g c = λ over.
     absurd (let e = c.in-Some.ensures.over (c.loop-item.invariant.over over).0 in cc (e))
+
+pub loop-item-init : goal.loop-item-init
+loop-item-init g c = record {
+  remaining = λ s items n r.
+      (items, n, sym (ap (λ (l : List (Result DirEntry Error)). map item_of l ++ items) c.new.ensures.items), refl, r);
+  ground = refl;
+  goes_on = λ on. on;
+  over = λ over. (over, c.new.ensures.items);
+  paced = λ on. (0, omega arith, no_step _ _ _ refl);
+  no_end = λ h. (h, subst (λ (l : List (Result DirEntry Error)). AllGoOn (map item_of l)) (sym c.new.ensures.items) tt);
+}
 
 pub loop-item-preserved : goal.loop-item-preserved
 loop-item-preserved g c = record {
