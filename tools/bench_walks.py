@@ -1,5 +1,6 @@
 """Measurements of walks by the proved program `igwalk`, for `tools/bench`: what further roots below
-one file of rules cost, and what a walk costs beside ripgrep, in time and in system calls.
+one file of rules cost, and what a walk costs beside the kit's own listing and beside ripgrep, in time
+and in system calls.
 """
 import os
 import re
@@ -95,6 +96,38 @@ def roots():
         listed = of_a_listed_file(folder)
     print(f"a listed file costs {listed:.1f} allocations")
     print(f"a further root costs {further[1_000] - further[0]:.0f} allocations more below 1,000 lines than below none")
+
+
+# A walk beside the kit's own listing
+
+
+def folders_of(listed, tree):
+    """The folders among the paths that were listed, each as it was listed."""
+    paths = listed.decode(errors="surrogateescape").splitlines()
+    return [it for it in paths if os.path.isdir(f"{tree}/{it}") and not os.path.islink(f"{tree}/{it}")]
+
+
+def floor(tree, bench):
+    """What `igwalk list` takes beside a program that lists the same folders by the kit alone, in
+    turns: medians."""
+    wanted(IGWALK, bench)
+    listed = subprocess.run([IGWALK, "list", "."], cwd=tree, stdout=subprocess.PIPE, stderr=subprocess.DEVNULL)
+    with tempfile.NamedTemporaryFile("w", encoding="utf-8", errors="surrogateescape") as file:
+        folders = folders_of(listed.stdout, tree)
+        file.write("".join(f"{it}\n" for it in folders))
+        file.flush()
+        ways = {"igwalk list": [IGWALK, "list", "."], "floor": [bench, "floor", file.name]}
+        subprocess.run(ways["floor"], cwd=tree, stdout=subprocess.DEVNULL, check=True)
+        found = {name: [] for name in ways}
+        for _ in range(ROUNDS):
+            for name, words in ways.items():
+                found[name].append(timed(words, tree))
+    print(f"{tree}: {listed.stdout.count(chr(10).encode())} entries are listed, in {len(folders)} folders\n")
+    print(f"{'':28} {'ms':>8} {'processor':>10} {'MB':>7} {'to floor':>9}")
+    base = statistics.median(it[0] for it in found["floor"])
+    for name, ones in found.items():
+        wall, used, memory = (statistics.median(it[at] for it in ones) for at in range(3))
+        print(f"{name:28} {wall * 1000:8.1f} {used * 1000:10.1f} {memory / 1e6:7.1f} {wall / base:9.2f}")
 
 
 # A walk beside ripgrep

@@ -4,6 +4,8 @@
 #![tactic(auto)]
 
 mod answer;
+mod bounds;
+mod counting;
 mod environments;
 mod error;
 mod files;
@@ -14,6 +16,8 @@ mod tree_calls;
 mod types;
 
 pub use answer::{Answer, Items, Written};
+pub use bounds::{Bounds, Questions};
+pub use counting::{Calls, Counting};
 pub use environments::{environment, name_of, variable};
 pub use error::{fault_of, printed, shape};
 pub use hex_digits::bytes_of;

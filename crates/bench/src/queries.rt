@@ -22,6 +22,20 @@ impl<F: Files> Matcher for Below<'_, F> {
     }
 }
 
+/// The same, each answer with its reason.
+#[derive(Drop)]
+struct Explained<'f, F: Files> {
+    files: &'f F,
+    matcher: IncrementalIgnore,
+}
+
+impl<F: Files> Matcher for Explained<'_, F> {
+    fn is_match(&mut self, text: &str) -> Result<bool, Error> {
+        let (explained, _) = self.matcher.explain(self.files, text, false)?;
+        Ok(explained.answer.is_ignore())
+    }
+}
+
 /// The matcher of a root by the settings at first, without a global file.
 fn matcher_at(alloc: Global, root: &str) -> Result<IncrementalIgnore, AllocError> {
     let root = String::from_str(alloc, root)?;
@@ -30,7 +44,8 @@ fn matcher_at(alloc: Global, root: &str) -> Result<IncrementalIgnore, AllocError
 }
 
 /// Prints what it costs to ask about each line of a file, as a path below a root of the disk: by a
-/// matcher that keeps nothing yet (`first`), and then by what it keeps (`kept`), in so many rounds.
+/// matcher that keeps nothing yet (`first`), and then by what it keeps (`kept`), in so many rounds;
+/// and the same where each answer is explained (`why_first`, `why_kept`).
 pub(crate) fn time_queries(
     rt: &HostRuntime,
     root: &str,
@@ -46,16 +61,28 @@ pub(crate) fn time_queries(
 }
 
 fn time_round(rt: &HostRuntime, root: &str, texts: &[&str]) -> Result<(), Error> {
+    time_matched(rt, root, texts)?;
+    time_explained(rt, root, texts)
+}
+
+fn time_matched(rt: &HostRuntime, root: &str, texts: &[&str]) -> Result<(), Error> {
     let files = DiskFiles::new(rt);
     let matcher = matcher_at(rt.alloc(), root)?;
     let mut below = Below {
         files: &files,
         matcher,
     };
-    time_twice(rt, &mut below, texts)
+    time(rt, "first", &mut below, texts)?;
+    time(rt, "kept", &mut below, texts)
 }
 
-fn time_twice<M: Matcher>(rt: &HostRuntime, matcher: &mut M, texts: &[&str]) -> Result<(), Error> {
-    time(rt, "first", matcher, texts)?;
-    time(rt, "kept", matcher, texts)
+fn time_explained(rt: &HostRuntime, root: &str, texts: &[&str]) -> Result<(), Error> {
+    let files = DiskFiles::new(rt);
+    let matcher = matcher_at(rt.alloc(), root)?;
+    let mut explained = Explained {
+        files: &files,
+        matcher,
+    };
+    time(rt, "why_first", &mut explained, texts)?;
+    time(rt, "why_kept", &mut explained, texts)
 }

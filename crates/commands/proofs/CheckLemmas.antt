@@ -1,8 +1,9 @@
 -- What is written for the answers about some paths, one more at a time.
-use Rattle.std.proofs.Common.{◌≡◌, ◌∙◌, ℕ, ◌+◌, ◌<◌, suc, zero, Bool, true, false, ◌||◌, cond, List, [], ◌∷◌, ◌++◌, All}
+use Rattle.std.proofs.Common.{◌≡◌, ◌∙◌, ℕ, ◌+◌, ◌<◌, suc, zero, Bool, true, false, ◌||◌, cond, List, [], ◌∷◌, ◌++◌, All, IfSome, None, Some, append_assoc, drop, take-append-drop}
 use Rattle.std.proofs.Common.{Option, length, map, take, get_or, refl, sym, ap, subst, arith, add-one}
 use Rattle.std.proofs.lemmas.Grind.{flat_map-append}
 use Rattle.std.proofs.lemmas.List.{append-nil, map-append}
+use Rattle.std.proofs.lemmas.List.Elements.{All-push}
 use Rattle.std.proofs.lemmas.List.Folds.{list_any-append}
 use Rattle.std.specs.Io.KnownBytes.{Appends}
 use Rattle.std.specs.List.{flat_map, list_any}
@@ -20,9 +21,10 @@ use Rattle.ignore_query.specs.Reached.{scene_of}
 use Rattle.ignore_query.specs.Reports.{reported}
 use Rattle.ignore_query.specs.declared.kept.Cache.{Cache}
 use Rattle.ignore_query.specs.declared.incremental.IncrementalIgnore.{IncrementalIgnore}
-use Rattle.commands.specs.Checking.{AreAnswers, Checked, Checks, IsAnswer, IsMatcher, IsReport, ReportsInTurn}
-use Rattle.commands.specs.Checking.{is_wrong, line_for, question_at, report_for}
+use Rattle.commands.specs.Checking.{AreAnswers, AreFirst, Checked, Checks, IsAnswer, IsMatcher, IsReport, ReportsInTurn}
+use Rattle.commands.specs.Checking.{is_wrong, line_for, question_at, report_for, with_next}
 use Rattle.commands.proofs.LineLemmas.{appends_nothing, appends_on, or-false}
+use Rattle.commands.proofs.StopLemmas.{around}
 
 map-take-suc : {A B : Type 0} (f : A → B) (xs : List A) (i : ℕ) (x : A) → i < length xs → x ≡ get_or xs i x
     → map f (take (suc i) xs) ≡ map f (take i xs) ++ f x ∷ []
@@ -115,3 +117,38 @@ answers_of tree env root m last all w empty right = (
       (right loads (subst (λ (s : Settings). AreLoads tree s loads) (sym (ap (λ t. t.0) w.2)) are)) in
       (both.0, m.cache, last, empty, both.1),
 )
+
+-- the paths that were answered, and the next one, if there is one, are the first
+pub first_of : {A : Type 0} (f : A → List ℕ) (xs : List A) (n : ℕ) (x : A) (all : List Checked) (next : Option Checked)
+    → n < length xs → x ≡ get_or xs n x → map (λ (c : Checked). c.path) all ≡ map f (take n xs)
+    → IfSome next (λ c. c.path ≡ f x) → AreFirst (map f xs) (with_next all next)
+first_of f xs n x all None within here asked is = (
+  map f (drop n xs),
+  ap (map f) (sym (take-append-drop n xs))
+      ∙ (map-append f (take n xs) (drop n xs)
+      ∙ ap (λ ps. ps ++ map f (drop n xs)) (sym asked ∙ ap (map (λ (c : Checked). c.path)) (sym (append-nil all)))),
+)
+first_of f xs n x all (Some c) within here asked is =
+    let rest = map f (drop (suc n) xs) in (
+      rest,
+      ap (map f) (around xs n x within here)
+          ∙ (map-append f (take n xs) (x ∷ drop (suc n) xs)
+          ∙ (ap (λ ps. ps ++ f x ∷ rest) (sym asked)
+          ∙ (ap (λ (q : List ℕ). map (λ (o : Checked). o.path) all ++ q ∷ rest) (sym is)
+          ∙ sym (ap (λ ps. ps ++ rest) (map-append (λ (o : Checked). o.path) all (c ∷ []))
+          ∙ append_assoc (map (λ (o : Checked). o.path) all) (c.path ∷ []) rest)))),
+    )
+
+-- what is kept after the next path, if there is one
+pub last_of : Option Checked → Cache → Cache → Cache
+last_of None middle new = middle
+last_of (Some c) middle new = new
+
+-- the next path, if there is one, is answered as those before it
+pub answers_with : (g : Scene) (all : List Checked) (next : Option Checked) (old middle new : Cache) → All (IsAnswer g) all
+    → ReportsInTurn g all old middle → IfSome next (λ c. IsAnswer g c × IsReport g middle new c.path c.problem)
+    → All (IsAnswer g) (with_next all next) × ReportsInTurn g (with_next all next) old (last_of next middle new)
+unfolding last_of
+answers_with g all None old middle new h k is =
+    subst (λ (xs : List Checked). All (IsAnswer g) xs × ReportsInTurn g xs old middle) (sym (append-nil all)) (h, k)
+answers_with g all (Some c) old middle new h k is = (All-push (IsAnswer g) all c h is.0, reports_more g all c old middle new k is.1)

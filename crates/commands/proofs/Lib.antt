@@ -9,3 +9,5 @@ mod TrimsOnly
 mod EndsOnly
 mod ListsOnly
 mod PromisesOnly
+pub mod WriteLemmas
+pub mod BufferLemmas

@@ -1,5 +1,5 @@
 -- What the clauses of a list and of a check give whoever knows the walk, or the loads of directories.
-use Rattle.std.proofs.Common.{◌≡◌, ◌≤◌, ◌⊎◌, inl, inr, ℕ, All, List, [], ◌∷◌, ◌++◌, refl, sym, ap, arith}
+use Rattle.std.proofs.Common.{◌≡◌, ◌≤◌, inl, inr, ℕ, All, List, ◌∷◌, ◌++◌, ◌∙◌, Option, Some, sym, ap, arith}
 use Rattle.std.specs.List.{AllZip, flat_map}
 use Rattle.ignore_base.specs.Text.{Bytes, Path}
 use Rattle.ignore_dir.specs.Load.{AreLoads, Loaded}
@@ -38,9 +38,21 @@ module _ (tree : Tree) (env : Env) (given : List Path) (all items : List Item) (
       all_within all items n (are loads items n right (walk roots o trimmed outside)) le
 
   -- and what a list that ended early has listed are first items of it
-  AreBegun-first : AreBegun tree env given all → (rest : List Item) × (items ≡ all ++ rest)
-  AreBegun-first (inl none) = (items, sym (ap (λ (front : List Item). front ++ items) none))
-  AreBegun-first (inr (roots, trimmed, o, outside, are)) = are loads items n right (walk roots o trimmed outside)
+  AreBegun-first : (next : Option Item) → AreBegun tree env given all next → (rest : List Item) × (items ≡ all ++ rest)
+  AreBegun-first next (inl none) = (items, sym (ap (λ (front : List Item). front ++ items) none.0))
+  AreBegun-first next (inr (roots, trimmed, o, outside, are)) =
+      let first = are loads items n right (walk roots o trimmed outside) in (first.0, first.1)
+
+  -- and where the walk stays within the limit, the next one is the next of them
+  AreBegun-next : (item : Item) → AreBegun tree env given all (Some item) → n ≤ most_steps
+      → (rest : List Item) × (items ≡ all ++ item ∷ rest)
+  AreBegun-next item (inl none) le = absurd (cc none.1)
+  AreBegun-next item (inr (roots, trimmed, o, outside, are)) le =
+      let first = are loads items n right (walk roots o trimmed outside) in
+      elim first.2 [
+        | inl (others, is) ↦ (others, first.1 ∙ ap (λ (rest : List Item). all ++ rest) is)
+        | inr (ended, many) ↦ absurd (omega (arith, many, le))
+      ]
 
 -- where the loads of the directories are known, each answer is that of the bare tree, and the problems
 -- are those of what each path in turn loads

@@ -1,5 +1,5 @@
 -- The items of a walk, as those of a list.
-use Rattle.std.proofs.Common.{◌≡◌, ◌≢◌, ◌<◌, ◌≤◌, ◌++◌, ◌∷◌, ℕ, List, [], All, true, false, Err, inl, inr, ap, subst, refl, sym, ◌∙◌}
+use Rattle.std.proofs.Common.{◌≡◌, ◌≢◌, ◌<◌, ◌≤◌, ◌++◌, ◌∷◌, ℕ, List, [], All, IfSome, Option, None, Some, true, false, ◌⊎◌, Err, inl, inr, ap, subst, refl, sym, ◌∙◌}
 use Rattle.std.proofs.lemmas.Cmp.{nat_list_cmp_total}
 use Rattle.std.proofs.lemmas.List.Elements.{All-contains, Contains-push}
 use Rattle.std.proofs.lemmas.List.MinMax.{ranks_by}
@@ -14,12 +14,14 @@ use Rattle.ignore_files.specs.Gives.{IsHonest}
 use Rattle.ignore_files.specs.Tree.{Tree}
 use Rattle.ignore_files.specs.declared.files.Files.{Ghosts as Files}
 use Rattle.ignore_walk.specs.Entry.{Item}
+use Rattle.ignore_walk.specs.Nexts.{EndsBy}
 use Rattle.ignore_walk.specs.Runs.{IsRun}
 use Rattle.ignore_walk.specs.Suits.{Suits}
 use Rattle.ignore_walk.specs.declared.callbacks.Callbacks.{Ghosts as Callbacks}
 use Rattle.ignore_walk.specs.declared.callbacks.Options.{Options}
 use Rattle.ignore_walk.specs.declared.callbacks.Order.TheVariants.{ByName}
-use Rattle.commands.specs.Walking.{AreWithin, listing, most_steps}
+use Rattle.commands.specs.Listing.{IsOf}
+use Rattle.commands.specs.Walking.{AreWithin, ComesNext, listing, most_steps}
 
 -- a run that out of memory didn't end
 pub within : (all items : List Item) (left n : ℕ) → left ≡ most_steps → All (λ item. item ≢ Err memory) all → IsRun all items left n
@@ -40,6 +42,15 @@ within all items left n is enough (inr e) =
         },
       )
     ]
+
+-- the item at which a run ended, unless out of memory, comes after those before it
+pub comes_next : (item : Item) (next : Option Item) (rest : List Item) (left n : ℕ) → IsOf item next → left ≡ most_steps
+    → ((others : List Item) × (rest ≡ item ∷ others)) ⊎ EndsBy item left n → IfSome next (λ i. ComesNext i rest n)
+comes_next item None rest left n own is at = tt
+comes_next item (Some i) rest left n own is (inl (others, first)) =
+    inl (others, first ∙ ap (λ (j : Item). j ∷ others) (sym own.0))
+comes_next item (Some i) rest left n own is (inr (inl m)) = absurd (own.1 (own.0 ∙ m))
+comes_next item (Some i) rest left n own is (inr (inr (cut, few))) = inr (own.0 ∙ cut, subst (λ (l : ℕ). l < n) is few)
 
 -- a view of files, and an owner that lets each entry pass and compares as texts do, suit a listing
 pub suits_listing : {F S : Type 0} (files : Files F) (calls : Callbacks S) (f : F) (owner : S) (options : Options) (tree : Tree)

@@ -1,5 +1,5 @@
 -- What the program answers about paths below a root.
-use Rattle.std.specs.Prelude.{◌≡◌, ◌⊎◌, ℕ, All, List, [], ◌∷◌, ◌++◌, Bool, codes, false, map, Option, if◌then◌else◌}
+use Rattle.std.specs.Prelude.{◌≡◌, ◌⊎◌, ℕ, All, List, [], ◌∷◌, ◌++◌, Bool, codes, false, map, Option, option_to_list, if◌then◌else◌}
 use Rattle.std.specs.List.{flat_map, list_any}
 use Rattle.ignore_base.specs.Text.{Bytes, Path}
 use Rattle.ignore_base.specs.Paths.{join_of}
@@ -31,6 +31,10 @@ pub record Checked : Type 0 where
   pub path : Path
   pub found : IncrementalMatch
   pub problem : Option Problem
+
+-- a path, what becomes of it, and what was reported
+abbrev pub checked : Path → IncrementalMatch → Option Problem → Checked
+checked path found problem = record { path = path; found = found; problem = problem }
 
 -- the word of an answer
 abbrev pub word_of : Verdict → Bytes
@@ -91,6 +95,10 @@ AreAnswers tree env root all =
     (o : Outside) × IsOutside tree env (with_root unset root) o
     × ((loads : Path → Loaded) → AreLoads tree standard loads → let g = scene tree loads standard o root in
     All (IsAnswer g) all × (old new : Cache) × KeepsNothing old × ReportsInTurn g all old new)
+
+-- the answers, and the next one, if there is one
+abbrev pub with_next : List Checked → Option Checked → List Checked
+with_next all next = all ++ option_to_list next
 
 -- these are the answers about the first of the paths
 abbrev pub AreFirst : List Path → List Checked → Type 0

@@ -1,5 +1,5 @@
 -- What the program writes for the items of a walk.
-use Rattle.std.specs.Prelude.{◌≡◌, ◌≢◌, ℕ, Bool, true, false, All, List, [], ◌∷◌, ◌++◌, codes, Option, None, Some, Ok, Err}
+use Rattle.std.specs.Prelude.{◌≡◌, ◌≢◌, ℕ, Bool, true, false, All, List, [], ◌∷◌, ◌++◌, codes, Option, None, Some, Ok, Err, IfSome}
 use Rattle.std.specs.Prelude.{if◌then◌else◌}
 use Rattle.std.specs.List.{flat_map, list_any}
 use Rattle.ignore_base.specs.Text.{Bytes}
@@ -39,6 +39,10 @@ is_known (Some p) = true
 abbrev pub is_reported : Item → Bool
 is_reported (Ok (e, p)) = is_known p
 is_reported (Err p) = true
+
+-- none is given, or this item, and then it isn't out of memory, which ends a walk
+abbrev pub IsOf : Item → Option Item → Type 0
+IsOf item next = IfSome next (λ i. (i ≡ item) × (i ≢ Err memory))
 
 -- the paths of these items are written to the output in turn, each on a line, and their problems
 -- are reported as errors; the status is 1 where there is one. And none of them is out of memory,

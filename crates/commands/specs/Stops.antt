@@ -1,6 +1,7 @@
 -- Why a run ends early, and what was written and reported by then. Errors are reported line by
 -- line, so a report begins with the rejected lines among the first ones.
-use Rattle.std.specs.Prelude.{◌≡◌, ◌≢◌, List, [], ◌∷◌, ◌++◌, codes, ⊤}
+use Rattle.std.specs.Prelude.{◌≡◌, ◌≢◌, List, [], ◌∷◌, ◌++◌, codes, ⊤, Option, None, Some}
+use Rattle.std.specs.List.{flat_map}
 use Rattle.std.specs.Str.Lines.{lines}
 use Rattle.ignore_base.specs.Text.{Bytes, Path}
 use Rattle.ignore_base.specs.Problem.{Problem, several, at_line, at_path, at_depth, loop, io, glob, unrecognized, invalid_definition}
@@ -87,21 +88,46 @@ ReportedOf question err Silence = HasRefused question.root (lines question.rules
 abbrev pub Ends : Question → (Bytes → Type 0) → (Bytes → Type 0) → Stop → Type 0
 Ends question out err stop = Wrote out stop × ReportedOf question err stop
 
--- a list or a check ended early, at one more thing to write, after these lines were written and
--- these reported: out of memory, with nothing more written or reported; by a failed write, with
--- nothing more reported; or by a report that can't be written
-abbrev pub EndsAfter : Bytes → Bytes → (Bytes → Type 0) → (Bytes → Type 0) → Stop → Type 0
-EndsAfter written reported out err Usage = ⊥
-EndsAfter written reported out err Memory = out written × err reported
-EndsAfter written reported out err Write = err reported
-EndsAfter written reported out err Silence = ⊤
+-- of this line a beginning was written, after what was written before, and not all of it
+abbrev pub BreaksOff : Bytes → Bytes → (Bytes → Type 0) → Type 0
+BreaksOff written line out = (part rest : Bytes) × (line ≡ part ++ rest) × (rest ≢ []) × out (written ++ part)
+
+-- a list or a check ended early, after some things, and at the next one if there is one: out of
+-- memory, with the lines and the reports of those before it; by a failed write, with a beginning of
+-- its line besides; or by a report of it that can't be written, with its whole line
+abbrev pub EndsAfter : {T : Type 0} → (T → Bytes) → (T → Bytes) → List T → Option T → (Bytes → Type 0) → (Bytes → Type 0) → Stop → Type 0
+EndsAfter line report all next out err Usage = ⊥
+EndsAfter line report all next out err Memory = out (flat_map line all) × err (flat_map report all)
+EndsAfter line report all None out err Write = ⊥
+EndsAfter line report all (Some x) out err Write = BreaksOff (flat_map line all) (line x) out × err (flat_map report all)
+EndsAfter line report all None out err Silence = ⊥
+EndsAfter line report all (Some x) out err Silence = out (flat_map line all ++ line x) × (report x ≢ [])
 
 -- the same, and the reason was reported after the other reports
-abbrev pub EndsReportedAfter : Bytes → Bytes → (Bytes → Type 0) → (Bytes → Type 0) → Type 0
-EndsReportedAfter written reported out err =
-    (stop : Stop) × (stop ≢ Silence) × EndsAfter written reported out (λ bs. err (bs ++ reason stop)) stop
+abbrev pub EndsReportedAfter : {T : Type 0} → (T → Bytes) → (T → Bytes) → List T → Option T → (Bytes → Type 0) → (Bytes → Type 0) → Type 0
+EndsReportedAfter line report all next out err =
+    (stop : Stop) × (stop ≢ Silence) × EndsAfter line report all next out (λ bs. err (bs ++ reason stop)) stop
+
+-- the same, and the reason can't be reported: after the other reports a beginning of it was written,
+-- and not all of it
+abbrev pub EndsUnreportedAfter : {T : Type 0} → (T → Bytes) → (T → Bytes) → List T → Option T → (Bytes → Type 0) → (Bytes → Type 0) → Stop → Type 0
+EndsUnreportedAfter line report all next out err stop =
+    EndsAfter line report all next out (λ bs. BreaksOff bs (reason stop) err) stop
 
 -- the run of a question ended early, and the reason was reported after the rejected lines
 abbrev pub EndsReported : Question → (Bytes → Type 0) → (Bytes → Type 0) → Type 0
 EndsReported question out err =
     (stop : Stop) × (stop ≢ Silence) × Wrote out stop × ReportedOf question (λ reported. err (reported ++ reason stop)) stop
+
+-- the same, and the reason can't be reported: a beginning of it was written after the rejected lines,
+-- and not all of it
+abbrev pub EndsUnreported : Question → (Bytes → Type 0) → (Bytes → Type 0) → Stop → Type 0
+EndsUnreported question out err stop =
+    Wrote out stop × ReportedOf question (λ reported. BreaksOff reported (reason stop) err) stop
+
+-- a reason can't be reported: a beginning of it was written, and not all of it; in silence nothing
+abbrev pub IsUnreported : (Bytes → Type 0) → Stop → Type 0
+IsUnreported err Usage = BreaksOff [] (reason Usage) err
+IsUnreported err Memory = BreaksOff [] (reason Memory) err
+IsUnreported err Write = BreaksOff [] (reason Write) err
+IsUnreported err Silence = err []

@@ -1,5 +1,5 @@
 -- Which items the program lists: those of the walk of its roots, in the bare tree.
-use Rattle.std.specs.Prelude.{◌≡◌, ◌<◌, ◌≤◌, ◌⊎◌, ℕ, true, false, List, [], ◌∷◌, ◌++◌, All, Some, Err}
+use Rattle.std.specs.Prelude.{◌≡◌, ◌<◌, ◌≤◌, ◌⊎◌, ℕ, true, false, List, [], ◌∷◌, ◌++◌, All, Option, None, Some, Err, IfSome}
 use Rattle.std.specs.Cmp.Lexicographic.{slice_cmp}
 use Rattle.std.specs.List.{AllZip}
 use Rattle.std.specs.Ordering.{is_lt, nat_cmp}
@@ -57,12 +57,18 @@ pub record IsCut (all items : List Item) : Type 0 where
 abbrev pub AreWithin : List Item → List Item → ℕ → Type 0
 AreWithin all items steps = ((steps ≤ most_steps) × (all ≡ items)) ⊎ ((most_steps < steps) × IsCut all items)
 
--- these are none, or a beginning of the items of the walk of the given roots, as below
-abbrev pub AreBegun : Tree → Env → List Path → List Item → Type 0
-AreBegun tree env given all =
-    (all ≡ []) ⊎ ((roots : List Path) × AllZip IsTrimmed given roots × (o : Outside) × IsOutside tree env unset o
+-- this item comes after the items before these: it is the first of them, or the error of the limit,
+-- where the walk takes more steps than that
+abbrev pub ComesNext : Item → List Item → ℕ → Type 0
+ComesNext item rest n = ((others : List Item) × (rest ≡ item ∷ others)) ⊎ ((item ≡ Err (io StepLimit)) × (most_steps < n))
+
+-- these are a beginning of the items of the walk of the given roots, as below, and the next one, if
+-- one is given, comes after them; or there are none yet
+abbrev pub AreBegun : Tree → Env → List Path → List Item → Option Item → Type 0
+AreBegun tree env given all next =
+    ((all ≡ []) × (next ≡ None)) ⊎ ((roots : List Path) × AllZip IsTrimmed given roots × (o : Outside) × IsOutside tree env unset o
     × ((loads : Path → Loaded) (items : List Item) (n : ℕ) → AreLoads tree standard loads → Whole (listing tree loads o) roots items n
-    → (rest : List Item) × (items ≡ all ++ rest)))
+    → (rest : List Item) × (items ≡ all ++ rest) × IfSome next (λ item. ComesNext item rest n)))
 
 -- these are the items of the walk of the given roots, each without the slashes at its end, in the
 -- bare tree: there are rules from outside, as they were read, by which they are what the roots give

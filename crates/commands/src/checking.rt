@@ -1,7 +1,6 @@
 //! The command `check`: what becomes of paths below a root, each on a line.
-ghost use Rattle.std.specs.Prelude.{◌≡◌, ◌≢◌, ◌≤◌, ◌⊎◌, ℕ, All, List, [], false, OnOk, IfOk, IfErr, map, option_map, string_bytes, if◌then◌else◌};
+ghost use Rattle.std.specs.Prelude.{◌≡◌, ◌≢◌, ◌≤◌, ◌⊎◌, ℕ, All, List, [], Option, Some, false, OnErr, OnOk, IfOk, IfErr, IfSome, map, option_map, string_bytes, if◌then◌else◌};
 ghost use Rattle.std.specs.Io.KnownBytes.{Appends};
-ghost use Rattle.std.specs.List.{flat_map};
 ghost use Rattle.ignore_base.specs.Paths.{join_of};
 ghost use Rattle.ignore_base.specs.Problem.{problem_of};
 ghost use Rattle.ignore_dir.specs.Load.{Loaded};
@@ -13,12 +12,13 @@ ghost use Rattle.ignore_query.specs.Fresh.{KeepsNothing};
 ghost use Rattle.ignore_query.specs.Reached.{InEachScene, scene_of};
 ghost use Rattle.ignore_query.specs.declared.kept.Cache.{Cache};
 ghost use Rattle.commands.specs.Checking.{AreAnswers, AreAnswersSoFar, AreFirst, Checked, Checks, IsAnswer, IsMatcher, IsReport, ReportsInTurn};
-ghost use Rattle.commands.specs.Checking.{answer_at, check_line, is_wrong, line_for, report_for};
+ghost use Rattle.commands.specs.Checking.{answer_at, check_line, checked, is_wrong, line_for, report_for, with_next, word_of};
 ghost use Rattle.commands.specs.Listing.{is_known, report_of};
-ghost use Rattle.commands.specs.Stops.{EndsAfter, EndsReportedAfter};
+ghost use Rattle.commands.specs.Stops.{BreaksOff, EndsAfter, EndsReportedAfter, EndsUnreportedAfter};
 
 use crate::listing::report;
 use crate::stop::{Stop, report_stop};
+use crate::writing::{write_bytes, write_line};
 use ignore::{IncrementalIgnore, IncrementalMatch, WalkBuilder, text};
 use ignore_base::Error;
 use ignore_files::{Env, Files, Refusal};
@@ -43,11 +43,15 @@ pub fn check<F: Files, W: Write, E: Write>(
     ensures checks { IfOk result (λ status. ((all : List Checked) × Checks (map string_bytes paths.now) all status
         (Appends (W.contents out.old) (W.contents out.new)) (Appends (E.contents err.old) (E.contents err.new))
         × ((tree : Tree) → IsHonest F.Files files.now tree → AreAnswers tree env.now root.now all))
-        ⊎ ((status ≡ 2) × (all : List Checked) × AreFirst (map string_bytes paths.now) all
-        × EndsReportedAfter (flat_map line_for all) (flat_map report_for all) (Appends (W.contents out.old) (W.contents out.new))
+        ⊎ ((status ≡ 2) × (all : List Checked) × (next : Option Checked) × AreFirst (map string_bytes paths.now) (with_next all next)
+        × EndsReportedAfter line_for report_for all next (Appends (W.contents out.old) (W.contents out.new))
         (Appends (E.contents err.old) (E.contents err.new))
-        × ((tree : Tree) → IsHonest F.Files files.now tree → AreAnswersSoFar tree env.now root.now all))) }
-    ensures unreported { IfErr result (λ stop. stop ≢ Stop.Usage) }
+        × ((tree : Tree) → IsHonest F.Files files.now tree → AreAnswersSoFar tree env.now root.now (with_next all next)))) }
+    ensures unreported { IfErr result (λ stop. (all : List Checked) × (next : Option Checked)
+        × AreFirst (map string_bytes paths.now) (with_next all next)
+        × EndsUnreportedAfter line_for report_for all next (Appends (W.contents out.old) (W.contents out.new))
+        (Appends (E.contents err.old) (E.contents err.new)) stop
+        × ((tree : Tree) → IsHonest F.Files files.now tree → AreAnswersSoFar tree env.now root.now (with_next all next))) }
     ensures status { IfOk result (λ status. status ≤ 2) }
 {
     match ask_and_write(alloc, files, env, root, paths, out, err) {
@@ -70,10 +74,11 @@ fn ask_and_write<F: Files, W: Write, E: Write>(
     ensures checks { IfOk result (λ any. (all : List Checked) × Checks (map string_bytes paths.now) all (if any then 1 else 0)
         (Appends (W.contents out.old) (W.contents out.new)) (Appends (E.contents err.old) (E.contents err.new))
         × ((tree : Tree) → IsHonest F.Files files.now tree → AreAnswers tree env.now root.now all)) }
-    ensures ended { IfErr result (λ stop. (all : List Checked) × AreFirst (map string_bytes paths.now) all
-        × EndsAfter (flat_map line_for all) (flat_map report_for all) (Appends (W.contents out.old) (W.contents out.new))
+    ensures ended { IfErr result (λ stop. (all : List Checked) × (next : Option Checked)
+        × AreFirst (map string_bytes paths.now) (with_next all next)
+        × EndsAfter line_for report_for all next (Appends (W.contents out.old) (W.contents out.new))
         (Appends (E.contents err.old) (E.contents err.new)) stop
-        × ((tree : Tree) → IsHonest F.Files files.now tree → AreAnswersSoFar tree env.now root.now all)) }
+        × ((tree : Tree) → IsHonest F.Files files.now tree → AreAnswersSoFar tree env.now root.now (with_next all next))) }
 {
     let Ok(mut matcher) = matcher_below(alloc, files, env, root) else {
         return Err(Stop::Memory);
@@ -113,11 +118,12 @@ fn check_paths<F: Files, W: Write, E: Write>(
         (Appends (W.contents out.old) (W.contents out.new)) (Appends (E.contents err.old) (E.contents err.new))
         × InEachScene F.Files files.now matcher.old.asked (λ g. Agrees g matcher.old.cache
         → All (IsAnswer g) all × ReportsInTurn g all matcher.old.cache matcher.new.cache)) }
-    ensures ended { IfErr result (λ stop. (all : List Checked) × (last : Cache) × AreFirst (map string_bytes paths.now) all
-        × EndsAfter (flat_map line_for all) (flat_map report_for all) (Appends (W.contents out.old) (W.contents out.new))
+    ensures ended { IfErr result (λ stop. (all : List Checked) × (next : Option Checked) × (last : Cache)
+        × AreFirst (map string_bytes paths.now) (with_next all next)
+        × EndsAfter line_for report_for all next (Appends (W.contents out.old) (W.contents out.new))
         (Appends (E.contents err.old) (E.contents err.new)) stop
         × InEachScene F.Files files.now matcher.old.asked (λ g. Agrees g matcher.old.cache
-        → All (IsAnswer g) all × ReportsInTurn g all matcher.old.cache last)) }
+        → All (IsAnswer g) (with_next all next) × ReportsInTurn g (with_next all next) matcher.old.cache last)) }
 {
     let mut any = false;
     for path in paths {
@@ -140,12 +146,33 @@ fn check_path<F: Files, W: Write, E: Write>(
         × Appends (E.contents err.old) (E.contents err.new) (report_for c) × (any ≡ is_wrong c)
         × InEachScene F.Files files.now matcher.old.asked (λ g. Agrees g matcher.old.cache
         → IsAnswer g c × IsReport g matcher.old.cache matcher.new.cache c.path c.problem)) }
-    ensures ended { IfErr result (EndsAfter [] [] (Appends (W.contents out.old) (W.contents out.new))
-        (Appends (E.contents err.old) (E.contents err.new))) }
+    ensures ended { IfErr result (λ stop. (next : Option Checked) × EndsAfter line_for report_for [] next
+        (Appends (W.contents out.old) (W.contents out.new)) (Appends (E.contents err.old) (E.contents err.new)) stop
+        × IfSome next (λ c. (c.path ≡ path.now) × InEachScene F.Files files.now matcher.old.asked (λ g. Agrees g matcher.old.cache
+        → IsAnswer g c × IsReport g matcher.old.cache matcher.new.cache c.path c.problem))) }
     ensures agrees { InEachScene F.Files files.now matcher.old.asked (λ g. Agrees g matcher.old.cache → Agrees g matcher.new.cache) }
     ensures same { matcher.new.asked ≡ matcher.old.asked }
 {
     let (found, error) = ask(alloc, files, matcher, path)?;
+    write_checked(path, found, error, out, err)
+}
+
+/// Writes what becomes of a path, and reports an error, if there is one. It returns whether there
+/// is.
+fn write_checked<W: Write, E: Write>(
+    path: &str,
+    found: IncrementalMatch,
+    error: Option<Error>,
+    out: &mut W,
+    err: &mut E,
+) -> Result<bool, Stop>
+    ensures writes { IfOk result (λ any.
+        Appends (W.contents out.old) (W.contents out.new) (line_for (checked path.now found (option_map problem_of error)))
+        × Appends (E.contents err.old) (E.contents err.new) (report_for (checked path.now found (option_map problem_of error)))
+        × (any ≡ is_wrong (checked path.now found (option_map problem_of error)))) }
+    ensures ended { IfErr result (EndsAfter line_for report_for [] (Some (checked path.now found (option_map problem_of error)))
+        (Appends (W.contents out.old) (W.contents out.new)) (Appends (E.contents err.old) (E.contents err.new))) }
+{
     write_found(found, path, out)?;
     report_some(error, err)
 }
@@ -189,20 +216,27 @@ fn is_dir_at<F: Files>(alloc: Global, files: &F, root: &str, path: &str) -> Resu
 }
 
 /// Writes the word of an answer and its path, on a line.
+#[tactic(auto, using(crate::proofs::StopLemmas::cut_first))]
 fn write_found<W: Write>(found: IncrementalMatch, path: &str, out: &mut W) -> Result<(), Stop>
     ensures writes { OnOk result (Appends (W.contents out.old) (W.contents out.new) (check_line found path.now)) }
+    ensures cut { OnErr result (BreaksOff [] (check_line found path.now) (Appends (W.contents out.old) (W.contents out.new))) }
     ensures ended { IfErr result (λ stop. stop ≡ Stop.Write) }
 {
-    let word = if found.is_ignore() {
+    write_bytes(word_for(found).as_bytes(), out)?;
+    write_bytes(b" ", out)?;
+    write_line(path, out)
+}
+
+/// The word of an answer.
+fn word_for(found: IncrementalMatch) -> &'static str
+    ensures { result.now ≡ word_of found.verdict }
+{
+    if found.is_ignore() {
         "ignore"
     } else if found.is_whitelist() {
         "whitelist"
     } else {
         "none"
-    };
-    match writeln!(out, "{word} {path}") {
-        Ok(()) => Ok(()),
-        Err(_) => Err(Stop::Write),
     }
 }
 
@@ -210,7 +244,7 @@ fn write_found<W: Write>(found: IncrementalMatch, path: &str, out: &mut W) -> Re
 fn report_some<E: Write>(error: Option<Error>, err: &mut E) -> Result<bool, Stop>
     ensures reports { IfOk result (λ any. (any ≡ is_known (option_map problem_of error))
         × Appends (E.contents err.old) (E.contents err.new) (report_of (option_map problem_of error))) }
-    ensures ended { IfErr result (λ stop. stop ≡ Stop.Silence) }
+    ensures ended { IfErr result (λ stop. (stop ≡ Stop.Silence) × (report_of (option_map problem_of error) ≢ [])) }
 {
     match error {
         None => Ok(false),

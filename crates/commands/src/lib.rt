@@ -6,8 +6,11 @@
 mod by_name;
 mod checking;
 mod listing;
+mod program;
 pub mod run;
 mod stop;
 mod words;
+mod writing;
 
+pub use program::{run_buffered, words_after_name};
 pub use stop::{Stop, report_stop};

@@ -1,8 +1,8 @@
 //! The command `list`: the entries of a walk, each on a line.
-ghost use Rattle.std.specs.Prelude.{◌≡◌, ◌≢◌, ◌≤◌, ◌⊎◌, List, Result, Ok, Err, Some, true, map, OnOk, IfOk, IfErr, if◌then◌else◌, string_bytes, []};
+ghost use Rattle.std.specs.Prelude.{◌≡◌, ◌≢◌, ◌≤◌, ◌⊎◌, List, Option, Result, Ok, Err, Some, true, map, OnOk, IfOk, IfErr, if◌then◌else◌, string_bytes, []};
 ghost use Rattle.std.specs.Io.KnownBytes.{Appends};
 ghost use Rattle.std.specs.Iterator.{Drains, IsFinite, YieldsThen};
-ghost use Rattle.std.specs.List.{AllZip, flat_map};
+ghost use Rattle.std.specs.List.{AllZip};
 ghost use Rattle.ignore_base.specs.Problem.{memory, problem_of};
 ghost use Rattle.ignore_base.specs.declared.error.Error.{Error};
 ghost use Rattle.ignore_files.specs.Gives.{IsHonest};
@@ -11,12 +11,13 @@ ghost use Rattle.ignore_walk.specs.Entry.{Item, item_of};
 ghost use Rattle.ignore.specs.Asked.{IsOutside};
 ghost use Rattle.ignore.specs.Builder.{unset};
 ghost use Rattle.ignore_walk.specs.declared.entry.DirEntry.{DirEntry};
-ghost use Rattle.commands.specs.Listing.{Lists, path_line, report_line, lines_of, reports_of, is_reported};
-ghost use Rattle.commands.specs.Stops.{EndsAfter, EndsReportedAfter};
+ghost use Rattle.commands.specs.Listing.{IsOf, Lists, report_line, lines_of, reports_of, is_reported};
+ghost use Rattle.commands.specs.Stops.{EndsAfter, EndsReportedAfter, EndsUnreportedAfter};
 ghost use Rattle.commands.specs.Walking.{AreBegun, AreListed, IsTrimmed};
 
 use crate::by_name::ByName;
 use crate::stop::{Stop, report_stop};
+use crate::writing::write_line;
 use ignore::WalkBuilder;
 use ignore_base::Error;
 use ignore_dir::{Outside, Settings};
@@ -49,10 +50,13 @@ pub fn list<F: Files, W: Write, E: Write>(
     ensures lists { IfOk result (λ status. ((items : List Item) × Lists items status
         (Appends (W.contents out.old) (W.contents out.new)) (Appends (E.contents err.old) (E.contents err.new))
         × ((tree : Tree) → IsHonest F.Files files.now tree → AreListed tree env.now (map string_bytes roots.now) items))
-        ⊎ ((status ≡ 2) × (items : List Item) × EndsReportedAfter (flat_map lines_of items) (flat_map reports_of items)
+        ⊎ ((status ≡ 2) × (items : List Item) × (next : Option Item) × EndsReportedAfter lines_of reports_of items next
         (Appends (W.contents out.old) (W.contents out.new)) (Appends (E.contents err.old) (E.contents err.new))
-        × ((tree : Tree) → IsHonest F.Files files.now tree → AreBegun tree env.now (map string_bytes roots.now) items))) }
-    ensures unreported { IfErr result (λ stop. stop ≢ Stop.Usage) }
+        × ((tree : Tree) → IsHonest F.Files files.now tree → AreBegun tree env.now (map string_bytes roots.now) items next))) }
+    ensures unreported { IfErr result (λ stop. (items : List Item) × (next : Option Item)
+        × EndsUnreportedAfter lines_of reports_of items next (Appends (W.contents out.old) (W.contents out.new))
+        (Appends (E.contents err.old) (E.contents err.new)) stop
+        × ((tree : Tree) → IsHonest F.Files files.now tree → AreBegun tree env.now (map string_bytes roots.now) items next)) }
     ensures status { IfOk result (λ status. status ≤ 2) }
 {
     match walk_and_write(alloc, files, env, roots, out, err) {
@@ -74,9 +78,9 @@ fn walk_and_write<F: Files, W: Write, E: Write>(
     ensures lists { IfOk result (λ any. (items : List Item) × Lists items (if any then 1 else 0)
         (Appends (W.contents out.old) (W.contents out.new)) (Appends (E.contents err.old) (E.contents err.new))
         × ((tree : Tree) → IsHonest F.Files files.now tree → AreListed tree env.now (map string_bytes roots.now) items)) }
-    ensures ended { IfErr result (λ stop. (items : List Item) × EndsAfter (flat_map lines_of items) (flat_map reports_of items)
+    ensures ended { IfErr result (λ stop. (items : List Item) × (next : Option Item) × EndsAfter lines_of reports_of items next
         (Appends (W.contents out.old) (W.contents out.new)) (Appends (E.contents err.old) (E.contents err.new)) stop
-        × ((tree : Tree) → IsHonest F.Files files.now tree → AreBegun tree env.now (map string_bytes roots.now) items)) }
+        × ((tree : Tree) → IsHonest F.Files files.now tree → AreBegun tree env.now (map string_bytes roots.now) items next)) }
 {
     let Ok(names) = trimmed_roots(alloc, roots) else {
         return Err(Stop::Memory);
@@ -139,8 +143,8 @@ fn write_items<I: Iterator<Item = Item>, W: Write, E: Write>(
     ensures lists { IfOk result (λ any. (all : List (Result DirEntry Error)) × Drains I.next_gives items all × Lists (map item_of all)
         (if any then 1 else 0) (Appends (W.contents out.old) (W.contents out.new)) (Appends (E.contents err.old) (E.contents err.new))) }
     ensures ended { IfErr result (λ stop. (all : List (Result DirEntry Error)) × (x : Result DirEntry Error) × (v : I)
-        × YieldsThen I.next_gives items all (Some x) v
-        × EndsAfter (flat_map lines_of (map item_of all)) (flat_map reports_of (map item_of all))
+        × YieldsThen I.next_gives items all (Some x) v × (next : Option Item) × IsOf (item_of x) next
+        × EndsAfter lines_of reports_of (map item_of all) next
         (Appends (W.contents out.old) (W.contents out.new)) (Appends (E.contents err.old) (E.contents err.new)) stop) }
 {
     let mut any = false;
@@ -151,19 +155,36 @@ fn write_items<I: Iterator<Item = Item>, W: Write, E: Write>(
 }
 
 /// Writes an item. It returns whether something was reported.
+#[tactic(auto, using(crate::proofs::ItemLemmas::ends_at))]
 fn write_item<W: Write, E: Write>(item: Item, out: &mut W, err: &mut E) -> Result<bool, Stop>
     ensures lists { IfOk result (λ any. Appends (W.contents out.old) (W.contents out.new) (lines_of (item_of item))
         × Appends (E.contents err.old) (E.contents err.new) (reports_of (item_of item)) × (any ≡ is_reported (item_of item))) }
     ensures enough { OnOk result (item_of item ≢ Err memory) }
     ensures cause { item_of item ≡ Err memory → IfErr result (λ stop. stop ≡ Stop.Memory) }
     ensures only { IfErr result (λ stop. stop ≡ Stop.Memory → item_of item ≡ Err memory) }
-    ensures ended { IfErr result (EndsAfter [] [] (Appends (W.contents out.old) (W.contents out.new))
-        (Appends (E.contents err.old) (E.contents err.new))) }
+    ensures ended { IfErr result (λ stop. (next : Option Item) × IsOf (item_of item) next
+        × EndsAfter lines_of reports_of [] next (Appends (W.contents out.old) (W.contents out.new))
+        (Appends (E.contents err.old) (E.contents err.new)) stop) }
 {
     match item {
         Ok(entry) => write_entry(&entry, out, err),
-        Err(Error::Memory) => Err(Stop::Memory),
-        Err(error) => report(&error, err),
+        Err(error) => report_problem(&error, err),
+    }
+}
+
+/// Reports what stands in the place of an entry. Out of memory ends the run. It returns that it did.
+#[tactic(auto, using(crate::proofs::LineLemmas::appends_nothing))]
+fn report_problem<E: Write>(error: &Error, err: &mut E) -> Result<bool, Stop>
+    ensures reports { IfOk result (λ any. (any ≡ true) × Appends (E.contents err.old) (E.contents err.new) (report_line (problem_of error.now))) }
+    ensures enough { OnOk result (problem_of error.now ≢ memory) }
+    ensures cause { problem_of error.now ≡ memory → IfErr result (λ stop. stop ≡ Stop.Memory) }
+    ensures only { IfErr result (λ stop. stop ≡ Stop.Memory → problem_of error.now ≡ memory) }
+    ensures kept { IfErr result (λ stop. stop ≡ Stop.Memory → Appends (E.contents err.old) (E.contents err.new) []) }
+    ensures ended { IfErr result (λ stop. (stop ≡ Stop.Memory) ⊎ (stop ≡ Stop.Silence)) }
+{
+    match error {
+        Error::Memory => Err(Stop::Memory),
+        _ => report(error, err),
     }
 }
 
@@ -172,33 +193,14 @@ fn write_entry<W: Write, E: Write>(entry: &DirEntry, out: &mut W, err: &mut E) -
     ensures lists { IfOk result (λ any. Appends (W.contents out.old) (W.contents out.new) (lines_of (item_of (Ok entry.now)))
         × Appends (E.contents err.old) (E.contents err.new) (reports_of (item_of (Ok entry.now)))
         × (any ≡ is_reported (item_of (Ok entry.now)))) }
-    ensures ended { IfErr result (EndsAfter [] [] (Appends (W.contents out.old) (W.contents out.new))
-        (Appends (E.contents err.old) (E.contents err.new))) }
+    ensures ended { IfErr result (EndsAfter lines_of reports_of [] (Some (item_of (Ok entry.now)))
+        (Appends (W.contents out.old) (W.contents out.new)) (Appends (E.contents err.old) (E.contents err.new))) }
     ensures enough { IfErr result (λ stop. stop ≢ Stop.Memory) }
 {
-    write_path(entry.path(), out)?;
+    write_line(entry.path(), out)?;
     match entry.error() {
         None => Ok(false),
         Some(error) => report(error, err),
-    }
-}
-
-/// Writes a path on a line.
-fn write_path<W: Write>(path: &str, out: &mut W) -> Result<(), Stop>
-    ensures writes { OnOk result (Appends (W.contents out.old) (W.contents out.new) (path_line path.now)) }
-    ensures ended { IfErr result (λ stop. stop ≡ Stop.Write) }
-{
-    write_bytes(path.as_bytes(), out)?;
-    write_bytes(b"\n", out)
-}
-
-fn write_bytes<W: Write>(bytes: &[u8], out: &mut W) -> Result<(), Stop>
-    ensures writes { OnOk result (Appends (W.contents out.old) (W.contents out.new) bytes.now) }
-    ensures ended { IfErr result (λ stop. stop ≡ Stop.Write) }
-{
-    match out.write_all(bytes) {
-        Ok(()) => Ok(()),
-        Err(_) => Err(Stop::Write),
     }
 }
 

@@ -1,8 +1,7 @@
 //! The run of the program, over any two writers.
-ghost use Rattle.std.specs.Prelude.{◌≡◌, ◌≢◌, ◌≤◌, ◌⊎◌, ◌==◌, [], ℕ, List, None, Some, true, false, ⊤, OnOk, IfOk, IfErr, codes, length};
+ghost use Rattle.std.specs.Prelude.{◌≡◌, ◌≢◌, ◌≤◌, ◌⊎◌, ◌==◌, [], ℕ, List, Option, None, Some, true, false, OnOk, IfOk, IfErr, codes, length};
 ghost use Rattle.std.specs.Prelude.{map, string_bytes, if◌then◌else◌};
 ghost use Rattle.std.specs.Io.KnownBytes.{Appends};
-ghost use Rattle.std.specs.List.{flat_map};
 ghost use Rattle.std.specs.Str.Lines.{lines};
 ghost use Rattle.ignore_base.specs.Text.{Path};
 ghost use Rattle.ignore_base.specs.Errors.{problem_text};
@@ -12,10 +11,10 @@ ghost use Rattle.ignore_files.specs.Tree.{Tree};
 ghost use Rattle.ignore_rules.specs.Rules.{begun, built};
 ghost use Rattle.ignore_walk.specs.Entry.{Item};
 ghost use Rattle.commands.specs.Listing.{Lists, lines_of, reports_of};
-ghost use Rattle.commands.specs.Checking.{AreAnswers, AreAnswersSoFar, AreFirst, Checked, Checks, line_for, report_for};
+ghost use Rattle.commands.specs.Checking.{AreAnswers, AreAnswersSoFar, AreFirst, Checked, Checks, line_for, report_for, with_next};
 ghost use Rattle.commands.specs.Walking.{AreBegun, AreListed};
 ghost use Rattle.commands.specs.Words.{Question, command_of, of_check, of_list, of_match, request_view};
-ghost use Rattle.commands.specs.Stops.{Ends, EndsAnswer, EndsLine, EndsLines, EndsReported, EndsReportedAfter, line_stop, reason};
+ghost use Rattle.commands.specs.Stops.{BreaksOff, Ends, EndsAnswer, EndsLine, EndsLines, EndsReported, EndsReportedAfter, EndsUnreported, EndsUnreportedAfter, line_stop, reason};
 ghost use Rattle.commands.specs.Matching.{AddsAll, AddsOne, Prints, answer_line, answer_of, refusal};
 
 use crate::checking::check;
@@ -139,8 +138,8 @@ fn answer_or_report<W: Write, E: Write>(
         (Appends (W.contents out.old) (W.contents out.new)) (Appends (E.contents err.old) (E.contents err.new))
         ⊎ ((status ≡ 2) × EndsReported (request_view request.entry) (Appends (W.contents out.old) (W.contents out.new))
         (Appends (E.contents err.old) (E.contents err.new)))) }
-    ensures unreported { IfErr result (Ends (request_view request.entry)
-        (Appends (W.contents out.old) (W.contents out.new)) (λ reported. ⊤)) }
+    ensures unreported { IfErr result (EndsUnreported (request_view request.entry)
+        (Appends (W.contents out.old) (W.contents out.new)) (Appends (E.contents err.old) (E.contents err.new))) }
     ensures status { IfOk result (λ status. status ≤ 2) }
 {
     match answer(alloc, request, out, err) {
@@ -178,29 +177,41 @@ pub fn run<F: Files, W: Write, E: Write>(
     ensures wrong { command_of (map string_bytes words.now) ≡ None → Appends (W.contents out.old) (W.contents out.new) [] }
     ensures usage { command_of (map string_bytes words.now) ≡ None
         → IfOk result (λ status. (status ≡ 2) × Appends (E.contents err.old) (E.contents err.new) (reason Stop.Usage)) }
-    ensures usage_unreported { command_of (map string_bytes words.now) ≡ None → IfErr result (λ stop. stop ≡ Stop.Usage) }
+    ensures usage_unreported { command_of (map string_bytes words.now) ≡ None → IfErr result (λ stop. (stop ≡ Stop.Usage)
+        × BreaksOff [] (reason Stop.Usage) (Appends (E.contents err.old) (E.contents err.new))) }
     ensures prints { (question : Question) → command_of (map string_bytes words.now) ≡ Some (of_match question)
         → IfOk result (λ status. Prints question status (Appends (W.contents out.old) (W.contents out.new))
         (Appends (E.contents err.old) (E.contents err.new))
         ⊎ ((status ≡ 2) × EndsReported question (Appends (W.contents out.old) (W.contents out.new))
         (Appends (E.contents err.old) (E.contents err.new)))) }
     ensures unreported { (question : Question) → command_of (map string_bytes words.now) ≡ Some (of_match question)
-        → IfErr result (Ends question (Appends (W.contents out.old) (W.contents out.new)) (λ reported. ⊤)) }
+        → IfErr result (EndsUnreported question (Appends (W.contents out.old) (W.contents out.new))
+        (Appends (E.contents err.old) (E.contents err.new))) }
     ensures lists { (roots : List Path) → command_of (map string_bytes words.now) ≡ Some (of_list roots)
         → IfOk result (λ status. ((items : List Item) × Lists items status
         (Appends (W.contents out.old) (W.contents out.new)) (Appends (E.contents err.old) (E.contents err.new))
         × ((tree : Tree) → IsHonest F.Files files.now tree → AreListed tree env.now roots items))
-        ⊎ ((status ≡ 2) × (items : List Item) × EndsReportedAfter (flat_map lines_of items) (flat_map reports_of items)
+        ⊎ ((status ≡ 2) × (items : List Item) × (next : Option Item) × EndsReportedAfter lines_of reports_of items next
         (Appends (W.contents out.old) (W.contents out.new)) (Appends (E.contents err.old) (E.contents err.new))
-        × ((tree : Tree) → IsHonest F.Files files.now tree → AreBegun tree env.now roots items))) }
+        × ((tree : Tree) → IsHonest F.Files files.now tree → AreBegun tree env.now roots items next))) }
+    ensures unreported_list { (roots : List Path) → command_of (map string_bytes words.now) ≡ Some (of_list roots)
+        → IfErr result (λ stop. (items : List Item) × (next : Option Item)
+        × EndsUnreportedAfter lines_of reports_of items next (Appends (W.contents out.old) (W.contents out.new))
+        (Appends (E.contents err.old) (E.contents err.new)) stop
+        × ((tree : Tree) → IsHonest F.Files files.now tree → AreBegun tree env.now roots items next)) }
     ensures checks { (root : Path) (paths : List Path) → command_of (map string_bytes words.now) ≡ Some (of_check root paths)
         → IfOk result (λ status. ((all : List Checked) × Checks paths all status
         (Appends (W.contents out.old) (W.contents out.new)) (Appends (E.contents err.old) (E.contents err.new))
         × ((tree : Tree) → IsHonest F.Files files.now tree → AreAnswers tree env.now root all))
-        ⊎ ((status ≡ 2) × (all : List Checked) × AreFirst paths all
-        × EndsReportedAfter (flat_map line_for all) (flat_map report_for all) (Appends (W.contents out.old) (W.contents out.new))
+        ⊎ ((status ≡ 2) × (all : List Checked) × (next : Option Checked) × AreFirst paths (with_next all next)
+        × EndsReportedAfter line_for report_for all next (Appends (W.contents out.old) (W.contents out.new))
         (Appends (E.contents err.old) (E.contents err.new))
-        × ((tree : Tree) → IsHonest F.Files files.now tree → AreAnswersSoFar tree env.now root all))) }
+        × ((tree : Tree) → IsHonest F.Files files.now tree → AreAnswersSoFar tree env.now root (with_next all next)))) }
+    ensures unreported_check { (root : Path) (paths : List Path) → command_of (map string_bytes words.now) ≡ Some (of_check root paths)
+        → IfErr result (λ stop. (all : List Checked) × (next : Option Checked) × AreFirst paths (with_next all next)
+        × EndsUnreportedAfter line_for report_for all next (Appends (W.contents out.old) (W.contents out.new))
+        (Appends (E.contents err.old) (E.contents err.new)) stop
+        × ((tree : Tree) → IsHonest F.Files files.now tree → AreAnswersSoFar tree env.now root (with_next all next))) }
     ensures status { IfOk result (λ status. status ≤ 2) }
 {
     match read_command(words) {

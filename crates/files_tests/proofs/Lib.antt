@@ -1,1 +1,2 @@
+mod WorkedChanges
 mod WorkedListings

@@ -1,6 +1,6 @@
 -- What remains of a builder's walk, and the headline.
 use Rattle.std.proofs.Common.{◌≡◌, ◌≤◌, ◌<◌, ◌⊎◌, ℕ, List, [], ◌∷◌, ◌++◌, Option, Result, Ok, Err, IfOk, IfErr, inl, inr, sym, ◌∙◌, ap, subst}
-use Rattle.std.specs.Iterator.{Drains, Yields}
+use Rattle.std.specs.Iterator.{Drains, Yields, YieldsThen}
 use Rattle.ignore_dir.specs.declared.outside.Outside.{Outside}
 use Rattle.ignore_files.specs.declared.files.Files.{Ghosts as Files}
 use Rattle.ignore_files.specs.Gives.{IsHonest}
@@ -65,6 +65,10 @@ yields_inner R inner a t (x ∷ xs) (j, s, y) = (inner j, s, yields_inner R inne
 pub drains_inner : {V W A : Type 0} (R : W → Option A → W → Type 0) (inner : V → W) (a : V) (xs : List A)
     → Drains (λ a o b. R (inner a) o (inner b)) a xs → Drains R (inner a) xs
 drains_inner R inner a xs (u, (t, y, s)) = (inner u, (inner t, yields_inner R inner a t xs y, s))
+
+pub yields_then_inner : {V W A : Type 0} (R : W → Option A → W → Type 0) (inner : V → W) (a v : V) (xs : List A) (answer : Option A)
+    → YieldsThen (λ a o b. R (inner a) o (inner b)) a xs answer v → YieldsThen R (inner a) xs answer (inner v)
+yields_then_inner R inner a v xs answer (t, y, s) = (inner t, yields_inner R inner a t xs y, s)
 
 -- the result of a walk that was collected
 

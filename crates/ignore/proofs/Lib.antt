@@ -1,4 +1,6 @@
+mod AgreeLemmas
 mod HeadlineLemmas
+mod MemoryLemmas
 mod OutsideOnly
 mod SceneLemmas
 mod WorkedSettings

@@ -50,3 +50,18 @@ abbrev pub IsAboveLimit : {F S : Type 0} → Files F → Callbacks S → F → S
 IsAboveLimit files calls f owner env b order =
     (tree : Tree) → IsHonest files f tree → (o : Outside) × IsOutside tree env b o
     × ((g : Scene) (items : List Item) (n : ℕ) → IsSceneOf calls owner b order tree o g → Whole g b.roots items n → b.limit < n)
+
+-- these items are the one list of the definition in a tree: the rules from outside are as they were
+-- read, there is a scene of the walk, its roots give these items, and the limit of steps allows
+-- them; and in no scene of the walk do the roots give others
+pub record IsTheList {S : Type 0} (calls : Callbacks S) (owner : S) (env : Env) (b : WalkOptions) (order : Order) (tree : Tree)
+    (all : List Item) : Type 0 where
+  pub outside : Outside
+  pub read : IsOutside tree env b outside
+  pub scene : Scene
+  pub is : IsSceneOf calls owner b order tree outside scene
+  pub steps : ℕ
+  pub given : Whole scene b.roots all steps
+  pub within : steps ≤ b.limit
+  pub only : (g : Scene) (items : List Item) (n : ℕ) → IsSceneOf calls owner b order tree outside g → Whole g b.roots items n
+      → all ≡ items

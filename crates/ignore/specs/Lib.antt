@@ -6,6 +6,7 @@ pub mod Closures
 pub mod Walks
 pub mod Headline
 pub mod Finished
+pub mod Agreement
 pub mod Words
 pub mod FileWords
 pub mod WalkWords

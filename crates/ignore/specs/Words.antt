@@ -3,6 +3,9 @@ pub use Rattle.ignore_base.specs.Text.{Bytes, Chars, Path}
 pub use Rattle.ignore_base.specs.Paths.{file_name_of, folder_of, join_of}
 pub use Rattle.ignore_base.specs.Problem.{Problem, at_depth, at_path, io, loop, memory, problem_of}
 pub use Rattle.ignore_base.specs.Match.{inner, is_ignore, is_none, is_whitelist}
+pub use Rattle.ignore_base.specs.declared.error.Error.{Error}
+pub use Rattle.ignore_base.specs.declared.fault.Fault.{Fault}
+pub use Rattle.ignore_base.specs.declared.fault.Fault.TheVariants.{InvalidData, StepLimit}
 pub use Rattle.ignore_base.specs.declared.match_result.Match.{Match}
 pub use Rattle.ignore_rules.specs.Rules.{AddsLine, Building, Refuses, Rule, Ruleset, begun, built}
 pub use Rattle.ignore_rules.specs.RuleFile.{AddsAnswer, AddsFile}

@@ -1,7 +1,7 @@
 //! Laws of walks, as calls that do nothing: each contract is the law.
-ghost use Rattle.std.specs.Prelude.{◌≡◌, ℕ, Bool, List, MatchOption, None, Result, Some, map, option_map, true};
+ghost use Rattle.std.specs.Prelude.{◌≡◌, ◌⊎◌, ◌↔◌, ℕ, Bool, List, [], Contains, MatchOption, None, Option, Result, Some, codes, map, option_map, true};
 ghost use Rattle.std.specs.Cmp.{IsStrictWeakOrder};
-ghost use Rattle.std.specs.Iterator.{Drains};
+ghost use Rattle.std.specs.Iterator.{Drains, YieldsThen};
 ghost use Rattle.std.specs.Ordering.{is_lt};
 ghost use Rattle.std.specs.declared.cmp.Ordering.{Ordering};
 ghost use Rattle.std.specs.declared.cmp.Ordering.TheVariants.{Equal};
@@ -9,19 +9,28 @@ ghost use denote.Bor.{Bor};
 ghost use Rattle.ignore_base.specs.Text.{Path};
 ghost use Rattle.ignore_base.specs.declared.error.Error.{Error};
 ghost use Rattle.ignore_dir.specs.declared.outside.Outside.{Outside};
+ghost use Rattle.ignore_files.specs.Answers.{tree_of};
 ghost use Rattle.ignore_files.specs.Tree.{Tree};
 ghost use Rattle.ignore_files.specs.declared.env.Env.{Env};
-ghost use Rattle.ignore_walk.specs.Entry.{Entry, Item, entry_of, item_of, problem_in};
+ghost use Rattle.ignore_query.specs.declared.incremental.IncrementalIgnore.{IncrementalIgnore};
+ghost use Rattle.ignore_walk.specs.Agreement.{IsOpen, keeps};
+ghost use Rattle.ignore_walk.specs.Branch.{Branch};
+ghost use Rattle.ignore_walk.specs.Entry.{Entry, Item, entry_of, item_of, problem_in, stdin_entry};
 ghost use Rattle.ignore_walk.specs.Nexts.{NextGives, Remaining};
-ghost use Rattle.ignore_walk.specs.Runs.{IsRun};
+ghost use Rattle.ignore_walk.specs.Runs.{IsBegun, IsRun};
 ghost use Rattle.ignore_walk.specs.Scene.{Scene};
 ghost use Rattle.ignore_walk.specs.Suits.{order_by};
+ghost use Rattle.ignore_walk.specs.Visits.{IsYielded};
+ghost use Rattle.ignore_walk.specs.Walked.{WalkedOne};
+ghost use Rattle.ignore_walk.specs.Whole.{Whole, root_entry};
 ghost use Rattle.ignore_walk.specs.declared.callbacks.Order.{Order};
 ghost use Rattle.ignore_walk.specs.declared.entry.DirEntry.{DirEntry};
+ghost use Rattle.ignore.specs.Agreement.{IsKeptByOne, IsMatcherIn, IsReached, answer_at, matcher_root};
 ghost use Rattle.ignore.specs.Asked.{IsOutside};
 ghost use Rattle.ignore.specs.Closures.{order_of};
 ghost use Rattle.ignore.specs.Finished.{IsFinished};
-ghost use Rattle.ignore.specs.Headline.{Headline, IsSceneOf};
+ghost use Rattle.ignore.specs.Headline.{Headline, IsSceneOf, IsTheList};
+ghost use Rattle.ignore.specs.Matchers.{AreMatchers};
 ghost use Rattle.ignore.specs.Walks.{IsWalkBy};
 ghost use Rattle.ignore.specs.declared.options.WalkOptions.{WalkOptions};
 ghost use Rattle.ignore.specs.declared.walk.Walk.{Walk};
@@ -29,8 +38,12 @@ ghost use Rattle.ignore.specs.declared.walk.Walk.{Walk};
 use crate::builder::WalkBuilder;
 use crate::closures::{Compare, Keep};
 use crate::walk::Owner;
-use ignore_dir::laws::one_load;
-use ignore_files::Files;
+pub use ignore_dir::laws::one_load;
+use ignore_files::{Env, Files, MemoryTree};
+pub use ignore_walk::laws::{
+    no_item_ends_a_walk, one_list, walk_agrees_with_queries, walk_yields_what_it_shows,
+};
+pub use ignore_walk::some_list;
 use ignore_walk::{Callbacks, runs};
 
 /// A walk that is asked until it answers none has yielded all that remained of it; or a beginning
@@ -41,6 +54,27 @@ pub fn a_run_yields_the_list<F: Files, S: Callbacks>()
         → Remaining F.Files S.Callbacks g w.inner items n → IsRun (map item_of all) items w.inner.left n }
 {
     runs::a_run_yields_the_list::<F, S>();
+}
+
+/// A walk that has yielded some items and then one more, and isn't asked to its end, as by a loop
+/// that stops there: those are a beginning of what remained of it, and the one more is the next of
+/// that, or it is out of memory or the limit of steps, and ended the walk.
+pub fn a_run_begins_the_list<F: Files, S: Callbacks>()
+    ensures { (g : Scene) (w v : Walk F S) (all : List (Result DirEntry Error)) (x : Result DirEntry Error) (items : List Item) (n : ℕ)
+        → YieldsThen (λ a answer b. NextGives F.Files S.Callbacks a.inner (option_map item_of answer) b.inner) w all (Some x) v
+        → Remaining F.Files S.Callbacks g w.inner items n → IsBegun (map item_of all) (item_of x) items w.inner.left n }
+{
+    runs::a_run_begins_the_list::<F, S>();
+}
+
+/// After a walk has answered none it answers none, whatever the files answer: the next time, and so
+/// each time after that.
+pub fn none_is_the_end<F: Files, S: Callbacks>()
+    ensures { (a b c : Walk F S) (answer : Option (Result DirEntry Error))
+        → NextGives F.Files S.Callbacks a.inner None b.inner → NextGives F.Files S.Callbacks b.inner (option_map item_of answer) c.inner
+        → answer ≡ None }
+{
+    runs::none_is_the_end::<F, S>();
 }
 
 /// The headline, item by item: a walk of a builder (`WalkBuilder::build`) that is asked until it
@@ -82,7 +116,53 @@ pub fn a_scene_with_closures(builder: &WalkBuilder)
     one_load();
 }
 
+/// What a walk yields is what the matchers of its builder keep. Each of them goes by the settings
+/// and the rules from outside of the walk, and its root is one of the walk's (`matchers`). Where the
+/// walk's filter keeps everything and it may go on to other devices, an entry that is reached from
+/// the root of a matcher is yielded under this root exactly where the matcher, asked for its path and
+/// its kind, keeps it (`entry`). So a whole walk yields standard input where that is one of its
+/// roots, and exactly the entries that one of the matchers keeps (`whole`).
+pub fn walk_agrees_with_matchers<S: Callbacks>()
+    ensures matchers { (owner : S) (env : Env) (b : WalkOptions) (order : Order) (tree : Tree) (o : Outside) (g : Scene)
+        (ms : List IncrementalIgnore) (m : IncrementalIgnore) → IsOutside tree env b o → IsSceneOf S.Callbacks owner b order tree o g
+        → AreMatchers tree env b ms → Contains ms m → IsMatcherIn g m × Contains b.roots (matcher_root m) }
+    ensures entry { (g : Scene) (m : IncrementalIgnore) (place : Branch) (e : Entry) (items : List Item) (n : ℕ)
+        → IsOpen g → IsMatcherIn g m → IsReached g m place e → WalkedOne g (matcher_root m) [] (root_entry g (matcher_root m)) items n
+        → IsYielded items e ↔ (keeps (answer_at g m place e) ≡ true) }
+    ensures whole { (owner : S) (env : Env) (b : WalkOptions) (order : Order) (tree : Tree) (o : Outside) (g : Scene)
+        (ms : List IncrementalIgnore) (e : Entry) (items : List Item) (n : ℕ) → IsOutside tree env b o
+        → IsSceneOf S.Callbacks owner b order tree o g → IsOpen g → AreMatchers tree env b ms → Whole g b.roots items n
+        → IsYielded items e ↔ (((e ≡ stdin_entry) × Contains b.roots (codes "-")) ⊎ IsKeptByOne g ms e) }
+{
+    walk_agrees_with_queries();
+    one_outside();
+}
+
 /// A tree has one list of rules from outside, by which walks and matchers of a builder go.
 pub fn one_outside()
     ensures { (tree : Tree) (env : Env) (b : WalkOptions) (o p : Outside) → IsOutside tree env b o → IsOutside tree env b p → o ≡ p }
 {}
+
+/// The headline over a tree in memory, with no premise on the walk left: a finished walk has
+/// yielded the one list of the definition, where the builder has no order and no filter (`plain`);
+/// and with closures wherever there is a scene of them, as `a_scene_with_closures` says (`closures`).
+pub fn a_tree_in_memory(builder: &WalkBuilder, tree: &MemoryTree, env: &Env)
+    ensures plain { (all : List Item) → builder.now.sorter ≡ None → builder.now.filter ≡ None
+        → Headline ⟦<MemoryTree as Files>⟧ ⟦<Owner<'static> as Callbacks>⟧ tree.now (record { builder = Some builder.entry }) env.now
+        builder.now.options (order_of (λ s. s.order) builder.now.sorter) all
+        → IsTheList ⟦<Owner<'static> as Callbacks>⟧ (record { builder = Some builder.entry }) env.now builder.now.options
+        (order_of (λ s. s.order) builder.now.sorter) (tree_of tree.now) all }
+    ensures closures { (o : Outside) (g : Scene) (all : List Item) → IsOutside (tree_of tree.now) env.now builder.now.options o
+        → IsSceneOf ⟦<Owner<'static> as Callbacks>⟧ (record { builder = Some builder.entry }) builder.now.options
+        (order_of (λ s. s.order) builder.now.sorter) (tree_of tree.now) o g
+        → Headline ⟦<MemoryTree as Files>⟧ ⟦<Owner<'static> as Callbacks>⟧ tree.now (record { builder = Some builder.entry }) env.now
+        builder.now.options (order_of (λ s. s.order) builder.now.sorter) all
+        → IsTheList ⟦<Owner<'static> as Callbacks>⟧ (record { builder = Some builder.entry }) env.now builder.now.options
+        (order_of (λ s. s.order) builder.now.sorter) (tree_of tree.now) all }
+{
+    tree.is_honest();
+    tree.is_numbered();
+    some_list();
+    one_outside();
+    a_scene_without_closures(builder);
+}

@@ -1,9 +1,14 @@
 -- One directory more on the way along names, and offsets after slashes.
-use Rattle.std.proofs.Common.{◌≡◌, ℕ, suc, ◌+◌, List, [], ◌∷◌, ◌++◌, length, Option, refl, sym, ap, ◌∙◌, arith, true, cond, Ok}
+use Rattle.std.proofs.Common.{◌≡◌, ℕ, suc, ◌+◌, List, [], ◌∷◌, ◌++◌, length, Option, refl, sym, ap, ◌∙◌, arith, true, cond}
+use Rattle.std.proofs.Common.{Result, Ok, Err, subst}
+use Rattle.std.specs.Prelude.{MatchResult}
 use Rattle.std.proofs.lemmas.List.{map-append, length-map}
+use Rattle.ignore_base.specs.declared.fault.Fault.{Fault}
 use Rattle.ignore_base.specs.Paths.{join_of}
 use Rattle.ignore_base.specs.Problem.{Problem}
-use Rattle.ignore_files.specs.Tree.{Tree}
+use Rattle.ignore_files.specs.Tree.{Tree, Answers}
+use Rattle.ignore_files.specs.declared.types.Refusal.{Refusal}
+use Rattle.ignore_files.specs.declared.types.Refusal.TheVariants.{Fault as Refused}
 use Rattle.ignore_dir.specs.declared.dir.Dir.{Dir}
 use Rattle.ignore_dir.specs.declared.settings.Settings.{Settings}
 use Rattle.ignore_dir.specs.Above.{canonical_names, directories_along, dirs_above, kept_above, names_above, needs_above}
@@ -59,6 +64,12 @@ problems-more loads dir names name path before after at old new =
     ∙ (ap (λ p. problems_of_loads loads (directories_along dir names) ++ (loads p).1 ∷ []) at
     ∙ (sym (map-append _ (directories_along dir names) (path_along dir names ∷ []))
     ∙ ap (problems_of_loads loads) (sym (directories_along-more dir names name)))))
+
+-- an answer of files that is no lack of memory is the tree's
+pub answered-is : {A : Type 0} (reported : Result A Fault) (answer : Result A Refusal) (found : Result A Fault)
+    → Answers reported answer → MatchResult found (λ a. answer ≡ Ok a) (λ f. answer ≡ Err (Refused f)) → reported ≡ found
+answered-is reported answer (Ok a) told is = subst (Answers reported) is told
+answered-is reported answer (Err f) told is = subst (Answers reported) is told
 
 -- the names above a root, where they are asked for
 pub names_above-is : (tree : Tree) (s : Settings) (root path : List ℕ) (names : List (List ℕ)) → needs_above s ≡ true

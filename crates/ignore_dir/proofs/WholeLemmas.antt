@@ -1,5 +1,5 @@
 -- The answer one name at a time is the answer over whole chains.
-use Rattle.std.proofs.Common.{◌≡◌, ℕ, zero, suc, ◌+◌, ◌<◌, ◌≤◌, Bool, true, false, not, ◌||◌, cond, List, [], ◌∷◌}
+use Rattle.std.proofs.Common.{◌≡◌, ℕ, zero, suc, ◌+◌, ◌≤◌, Bool, true, false, not, ◌||◌, cond, List, [], ◌∷◌}
 use Rattle.std.proofs.Common.{◌++◌, length, map, drop, reverse, refl, sym, ap, ◌∙◌, append_assoc, arith, Option}
 use Rattle.std.proofs.Math.Seq.{drop-append-add, drop-nil}
 use Rattle.std.proofs.lemmas.List.{append-nil, length-append, length-map, map-append, reverse-append}

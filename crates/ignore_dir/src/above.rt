@@ -1,7 +1,7 @@
 //! The load of the directories above a root.
-ghost use Rattle.std.specs.Prelude.{◌≡◌, ◌++◌, [], ◌∷◌, ℕ, List, All, IfOk, IfErr, OnOk, Ok, map, codes, length, option_map, string_bytes};
+ghost use Rattle.std.specs.Prelude.{◌≡◌, ◌++◌, [], ◌∷◌, ℕ, List, All, IfOk, OnOk, Ok, map, codes, length, option_map, string_bytes};
 ghost use Rattle.ignore_base.specs.Paths.{without_slash};
-ghost use Rattle.ignore_base.specs.Problem.{problem_of, memory};
+ghost use Rattle.ignore_base.specs.Problem.{problem_of};
 ghost use Rattle.ignore_dir.specs.Above.{needs_above, directories_along, canonical_names, names_above, paths_above};
 ghost use Rattle.ignore_dir.specs.Above.{kept_above, dirs_above, problems_of_loads, rules_if};
 ghost use Rattle.ignore_dir.specs.Chains.{placed_along, slashed};
@@ -16,8 +16,10 @@ use crate::load::load_directory;
 use crate::names::{are_names, components};
 use crate::settings::Settings;
 use ignore_base::Error;
-use ignore_base::text::{is_absolute, join};
-use ignore_files::{Files, Refusal};
+use ignore_base::internal::join;
+use ignore_base::text::is_absolute;
+use ignore_files::Files;
+use ignore_files::internal::answered;
 use ignore_rules::gitignore::Gitignore;
 use std::alloc::{AllocError, Global};
 
@@ -86,9 +88,8 @@ pub fn canonical_names(alloc: Global, path: &str) -> Result<Vec<&str>, AllocErro
 
 impl Above {
     /// Nothing is above `/`.
-    fn new(alloc: Global) -> Result<Above, Error>
+    fn new(alloc: Global) -> Result<Above, AllocError>
         ensures value { IfOk result (λ a. (a.dirs.items ≡ []) × (a.errors.items ≡ []) × (string_bytes a.base ≡ codes "/")) }
-        ensures out_of_memory { IfErr result (λ e. problem_of e ≡ memory) }
     {
         Ok(Above {
             dirs: Vec::new(alloc),
@@ -98,12 +99,11 @@ impl Above {
     }
 
     /// Appends a directory, its error, and the name that leads on from it.
-    fn push(&mut self, dir: Dir, error: Option<Error>, name: &str) -> Result<(), Error>
+    fn push(&mut self, dir: Dir, error: Option<Error>, name: &str) -> Result<(), AllocError>
         ensures dirs { OnOk result (self.new.dirs.items ≡ self.old.dirs.items ++ (dir, length (string_bytes self.old.base)) ∷ []) }
         ensures errors { OnOk result (map (option_map problem_of) self.new.errors.items
             ≡ map (option_map problem_of) self.old.errors.items ++ option_map problem_of error ∷ []) }
         ensures base { OnOk result (string_bytes self.new.base ≡ string_bytes self.old.base ++ (name.now ++ 47 ∷ [])) }
-        ensures out_of_memory { IfErr result (λ e. problem_of e ≡ memory) }
     {
         let offset = self.base.len();
         self.dirs.push(Placed { dir, offset })?;
@@ -115,7 +115,7 @@ impl Above {
 }
 
 /// Loads the directories from `/` along some names.
-fn load_along<F: Files>(ground: &Ground<'_, F>, names: &[&str]) -> Result<Above, Error>
+fn load_along<F: Files>(ground: &Ground<'_, F>, names: &[&str]) -> Result<Above, AllocError>
     ensures dirs { InLoads F.Files ground.now (λ tree loads.
         IfOk result (λ a. a.dirs.items
         ≡ placed_along 1 (dirs_above loads ground.now.settings.now (directories_along (codes "/") (map (λ n. n.now) names.now)))
@@ -127,7 +127,6 @@ fn load_along<F: Files>(ground: &Ground<'_, F>, names: &[&str]) -> Result<Above,
     ensures ends { IfOk result (λ a. IsAfterSlash (string_bytes a.base) (length (string_bytes a.base))) }
     ensures placed { IfOk result (λ a. All (λ p. IsAfterSlash (string_bytes a.base) p.1) a.dirs.items) }
     ensures soft { IfOk result (λ a. All IsSoft (map (option_map problem_of) a.errors.items)) }
-    ensures out_of_memory { IfErr result (λ e. problem_of e ≡ memory) }
 {
     one_load();
     let mut above = Above::new(ground.alloc)?;
@@ -148,10 +147,7 @@ fn load_along<F: Files>(ground: &Ground<'_, F>, names: &[&str]) -> Result<Above,
 /// asked for where `parents` and all filters of git are off, and none are known where the canonical
 /// path faults or is not `/` and a clean path. Their rules count with `parents` on, and their marks
 /// with `git_ignore` on.
-///
-/// # Errors
-/// `Error::Memory` alone.
-pub fn load_above<F: Files>(ground: &Ground<'_, F>, root: &str) -> Result<Above, Error>
+pub fn load_above<F: Files>(ground: &Ground<'_, F>, root: &str) -> Result<Above, AllocError>
     ensures dirs { InLoads F.Files ground.now (λ tree loads.
         IfOk result (λ a. a.dirs.items
         ≡ placed_along 1 (dirs_above loads ground.now.settings.now (paths_above tree ground.now.settings.now root.now))
@@ -163,17 +159,15 @@ pub fn load_above<F: Files>(ground: &Ground<'_, F>, root: &str) -> Result<Above,
     ensures ends { IfOk result (λ a. IsAfterSlash (string_bytes a.base) (length (string_bytes a.base))) }
     ensures placed { IfOk result (λ a. All (λ p. IsAfterSlash (string_bytes a.base) p.1) a.dirs.items) }
     ensures soft { IfOk result (λ a. All IsSoft (map (option_map problem_of) a.errors.items)) }
-    ensures out_of_memory { IfErr result (λ e. problem_of e ≡ memory) }
 {
     if !needs_above(ground.settings) {
         return Above::new(ground.alloc);
     }
-    match ground.files.canonical(ground.alloc, root) {
+    match answered(ground.files.canonical(ground.alloc, root))? {
         Ok(path) => {
             let names = canonical_names(ground.alloc, path.as_str())?;
             load_along(ground, names.as_slice())
         }
-        Err(Refusal::Fault(_)) => Above::new(ground.alloc),
-        Err(Refusal::Memory) => Err(Error::Memory),
+        Err(_) => Above::new(ground.alloc),
     }
 }

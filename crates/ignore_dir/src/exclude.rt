@@ -1,7 +1,6 @@
 //! The way to the exclude file of a directory's repository.
-ghost use Rattle.std.specs.Prelude.{◌≡◌, IfOk, IfErr, MatchResult, string_bytes, codes};
+ghost use Rattle.std.specs.Prelude.{◌≡◌, IfOk, MatchResult, string_bytes, codes};
 ghost use Rattle.ignore_base.specs.Paths.{join_of};
-ghost use Rattle.ignore_base.specs.Problem.{problem_of, memory};
 ghost use Rattle.ignore_dir.specs.Exclude.{common_folder, excludes_in, by_commondir, by_gitdir, by_git_file, failed_at};
 ghost use Rattle.ignore_dir.specs.Ground.{InTree};
 ghost use Rattle.ignore_dir.specs.Places.{place_of};
@@ -9,10 +8,11 @@ ghost use Rattle.ignore_dir.specs.Soft.{IsSoftPlace};
 
 use crate::ground::Ground;
 use ignore_base::Error;
-use ignore_base::text::join;
-use ignore_files::{Fault, Files, Refusal};
+use ignore_base::internal::join;
+use ignore_files::internal::answered;
+use ignore_files::{Fault, Files};
 use ignore_rules::gitignore::first_line;
-use std::alloc::Global;
+use std::alloc::{AllocError, Global};
 
 /// Where an exclude file may be, or why the way to it ended.
 #[derive(Debug, Drop)]
@@ -26,28 +26,25 @@ pub enum ExcludePlace {
 }
 
 /// The way ended with a fault at a path.
-fn failed_at(alloc: Global, path: &str, fault: Fault) -> Result<ExcludePlace, Error>
+fn failed_at(alloc: Global, path: &str, fault: Fault) -> Result<ExcludePlace, AllocError>
     ensures value { IfOk result (λ place. place_of place ≡ failed_at path.now fault) }
     ensures soft { IfOk result (λ place. IsSoftPlace (place_of place)) }
-    ensures out_of_memory { IfErr result (λ e. problem_of e ≡ memory) }
 {
     let error = Error::Io(fault).with_path(alloc, path)?;
     Ok(ExcludePlace::Failed(error))
 }
 
 /// The exclude file in the folder of a repository.
-pub(crate) fn excludes_in(alloc: Global, folder: &str) -> Result<ExcludePlace, Error>
+pub(crate) fn excludes_in(alloc: Global, folder: &str) -> Result<ExcludePlace, AllocError>
     ensures value { IfOk result (λ place. place_of place ≡ excludes_in folder.now) }
     ensures soft { IfOk result (λ place. IsSoftPlace (place_of place)) }
-    ensures out_of_memory { IfErr result (λ e. problem_of e ≡ memory) }
 {
     Ok(ExcludePlace::At(join(alloc, folder, "info/exclude")?))
 }
 
 /// The common folder that the line of `commondir` in a folder names.
-fn common_folder(alloc: Global, folder: &str, line: &str) -> Result<String, Error>
+fn common_folder(alloc: Global, folder: &str, line: &str) -> Result<String, AllocError>
     ensures value { IfOk result (λ path. string_bytes path ≡ common_folder folder.now line.now) }
-    ensures out_of_memory { IfErr result (λ e. problem_of e ≡ memory) }
 {
     if line.starts_with(".") {
         join(alloc, folder, line)
@@ -57,14 +54,13 @@ fn common_folder(alloc: Global, folder: &str, line: &str) -> Result<String, Erro
 }
 
 /// From the folder that a `.git` file names, by its `commondir`.
-fn by_commondir<F: Files>(ground: &Ground<'_, F>, folder: &str) -> Result<ExcludePlace, Error>
+fn by_commondir<F: Files>(ground: &Ground<'_, F>, folder: &str) -> Result<ExcludePlace, AllocError>
     ensures value { InTree F.Files ground.now (λ tree.
         IfOk result (λ place. place_of place ≡ by_commondir folder.now (tree.contents (join_of folder.now (codes "commondir"))))) }
     ensures soft { IfOk result (λ place. IsSoftPlace (place_of place)) }
-    ensures out_of_memory { IfErr result (λ e. problem_of e ≡ memory) }
 {
     let path = join(ground.alloc, folder, "commondir")?;
-    match ground.files.contents(ground.alloc, path.as_str()) {
+    match answered(ground.files.contents(ground.alloc, path.as_str()))? {
         Ok(contents) => match first_line(&contents) {
             Ok(Some(line)) => {
                 let common = common_folder(ground.alloc, folder, line)?;
@@ -73,17 +69,15 @@ fn by_commondir<F: Files>(ground: &Ground<'_, F>, folder: &str) -> Result<Exclud
             Ok(None) => Ok(ExcludePlace::Nowhere),
             Err(fault) => failed_at(ground.alloc, path.as_str(), fault),
         },
-        Err(Refusal::Fault(_)) => Ok(ExcludePlace::Nowhere),
-        Err(Refusal::Memory) => Err(Error::Memory),
+        Err(_) => Ok(ExcludePlace::Nowhere),
     }
 }
 
 /// By the first line of a `.git` file.
-fn by_gitdir<F: Files>(ground: &Ground<'_, F>, line: &str) -> Result<ExcludePlace, Error>
+fn by_gitdir<F: Files>(ground: &Ground<'_, F>, line: &str) -> Result<ExcludePlace, AllocError>
     ensures value { InTree F.Files ground.now (λ tree.
         IfOk result (λ place. place_of place ≡ by_gitdir tree line.now)) }
     ensures soft { IfOk result (λ place. IsSoftPlace (place_of place)) }
-    ensures out_of_memory { IfErr result (λ e. problem_of e ≡ memory) }
 {
     match line.strip_prefix("gitdir: ") {
         Some(folder) => by_commondir(ground, folder),
@@ -95,19 +89,17 @@ fn by_gitdir<F: Files>(ground: &Ground<'_, F>, line: &str) -> Result<ExcludePlac
 pub(crate) fn by_git_file<F: Files>(
     ground: &Ground<'_, F>,
     git: &str,
-) -> Result<ExcludePlace, Error>
+) -> Result<ExcludePlace, AllocError>
     ensures value { InTree F.Files ground.now (λ tree.
         IfOk result (λ place. place_of place ≡ by_git_file tree git.now (tree.contents git.now))) }
     ensures soft { IfOk result (λ place. IsSoftPlace (place_of place)) }
-    ensures out_of_memory { IfErr result (λ e. problem_of e ≡ memory) }
 {
-    match ground.files.contents(ground.alloc, git) {
+    match answered(ground.files.contents(ground.alloc, git))? {
         Ok(contents) => match first_line(&contents) {
             Ok(Some(line)) => by_gitdir(ground, line),
             Ok(None) => Ok(ExcludePlace::Nowhere),
             Err(fault) => failed_at(ground.alloc, git, fault),
         },
-        Err(Refusal::Fault(fault)) => failed_at(ground.alloc, git, fault),
-        Err(Refusal::Memory) => Err(Error::Memory),
+        Err(fault) => failed_at(ground.alloc, git, fault),
     }
 }

@@ -1,7 +1,7 @@
 //! The load of one directory.
-ghost use Rattle.std.specs.Prelude.{◌≡◌, [], ◌∷◌, codes, true, IfOk, IfErr, None, Ok, option_map, if◌then◌else◌};
+ghost use Rattle.std.specs.Prelude.{◌≡◌, [], ◌∷◌, codes, true, IfOk, None, Ok, option_map, if◌then◌else◌};
 ghost use Rattle.ignore_base.specs.Paths.{join_of};
-ghost use Rattle.ignore_base.specs.Problem.{problem_of, memory};
+ghost use Rattle.ignore_base.specs.Problem.{problem_of};
 ghost use Rattle.ignore_files.specs.Shown.{Shows};
 ghost use Rattle.ignore_rules.specs.Matchers.{is_file_there};
 ghost use Rattle.ignore_dir.specs.Exclude.{exclude_place, exclude_by};
@@ -17,11 +17,11 @@ use crate::ground::Ground;
 use crate::rule_files::{is_there, rules_if, rules_of_file, rules_of_names};
 use crate::settings::Settings;
 use ignore_base::Error;
-use ignore_base::text::join;
-use ignore_files::internal::Shown;
-use ignore_files::{Files, Refusal};
+use ignore_base::internal::join;
+use ignore_files::Files;
+use ignore_files::internal::{Shown, answered};
 use ignore_rules::gitignore::Gitignore;
-use std::alloc::Global;
+use std::alloc::{AllocError, Global};
 
 /// What a directory holds for the rules, by these settings, and what is wrong with its files.
 ///
@@ -29,36 +29,28 @@ use std::alloc::Global;
 /// file system ends its rules and isn't reported. The other errors of each of the four lists are
 /// joined, and those of the lists are joined in the order custom, `.ignore`, `.gitignore`, exclude.
 /// The last is also the place of a fault on the way to the exclude file, where `.git` is a file.
-///
-/// # Errors
-/// `Error::Memory` alone.
 pub fn load_directory<F: Files>(
     ground: &Ground<'_, F>,
     dir: &str,
-) -> Result<(Dir, Option<Error>), Error>
+) -> Result<(Dir, Option<Error>), AllocError>
     ensures read { InTree F.Files ground.now (λ tree.
         IfOk result (λ r. Loads tree ground.now.settings.now dir.now r.0 (option_map problem_of r.1))) }
     ensures soft { IfOk result (λ r. IsSoft (option_map problem_of r.1)) }
-    ensures out_of_memory { IfErr result (λ e. problem_of e ≡ memory) }
 {
     load_shown(ground, dir, &Shown::nothing())
 }
 
 /// The same as `load_directory`, of a directory whose listing may have shown its names. What that
 /// lacks isn't asked for: a file of rules, `.git` with the exclude file in it, or `.jj`.
-///
-/// # Errors
-/// `Error::Memory` alone.
 /// For dependents.
 pub fn load_shown<F: Files>(
     ground: &Ground<'_, F>,
     dir: &str,
     shown: &Shown<'_>,
-) -> Result<(Dir, Option<Error>), Error>
+) -> Result<(Dir, Option<Error>), AllocError>
     ensures read { InTree F.Files ground.now (λ tree. Shows tree dir.now shown.now →
         IfOk result (λ r. Loads tree ground.now.settings.now dir.now r.0 (option_map problem_of r.1))) }
     ensures soft { IfOk result (λ r. IsSoft (option_map problem_of r.1)) }
-    ensures out_of_memory { IfErr result (λ e. problem_of e ≡ memory) }
 {
     let own = own_rules(ground, dir, shown)?;
     let git = git_rules(ground, dir, shown)?;
@@ -95,7 +87,7 @@ fn own_rules<F: Files>(
     ground: &Ground<'_, F>,
     dir: &str,
     shown: &Shown<'_>,
-) -> Result<OwnRules, Error>
+) -> Result<OwnRules, AllocError>
     ensures custom { InTree F.Files ground.now (λ tree. Shows tree dir.now shown.now →
         IfOk result (λ own. IsRules tree ground.now.settings.now dir.now (custom_paths ground.now.settings.now dir.now) own.custom (option_map problem_of own.of_custom))) }
     ensures ignore { InTree F.Files ground.now (λ tree. Shows tree dir.now shown.now →
@@ -107,7 +99,6 @@ fn own_rules<F: Files>(
     ensures soft_custom { IfOk result (λ own. IsSoft (option_map problem_of own.of_custom)) }
     ensures soft_ignore { IfOk result (λ own. IsSoft (option_map problem_of own.of_ignore)) }
     ensures soft_gitignore { IfOk result (λ own. IsSoft (option_map problem_of own.of_gitignore)) }
-    ensures out_of_memory { IfErr result (λ e. problem_of e ≡ memory) }
 {
     let names = ground.settings.custom.as_slice();
     let (custom, of_custom) = rules_of_names(ground, dir, shown, names)?;
@@ -138,14 +129,13 @@ fn git_rules<F: Files>(
     ground: &Ground<'_, F>,
     dir: &str,
     shown: &Shown<'_>,
-) -> Result<GitRules, Error>
+) -> Result<GitRules, AllocError>
     ensures mark { InTree F.Files ground.now (λ tree. Shows tree dir.now shown.now →
         IfOk result (λ git. git.mark ≡ is_marked tree ground.now.settings.now dir.now)) }
     ensures exclude { InTree F.Files ground.now (λ tree. Shows tree dir.now shown.now →
         IfOk result (λ git. IsExclude tree ground.now.settings.now dir.now (exclude_place tree ground.now.settings.now dir.now)
         git.exclude (option_map problem_of git.of_exclude))) }
     ensures soft { IfOk result (λ git. IsSoft (option_map problem_of git.of_exclude)) }
-    ensures out_of_memory { IfErr result (λ e. problem_of e ≡ memory) }
 {
     if shown.lacks(".git") {
         return Ok(GitRules {
@@ -177,13 +167,12 @@ fn repository_of<F: Files>(
     ground: &Ground<'_, F>,
     dir: &str,
     shown: &Shown<'_>,
-) -> Result<Repository, Error>
+) -> Result<Repository, AllocError>
     ensures mark { InTree F.Files ground.now (λ tree. Shows tree dir.now shown.now →
         IfOk result (λ r. r.mark ≡ is_marked tree ground.now.settings.now dir.now)) }
     ensures exclude { InTree F.Files ground.now (λ tree.
         IfOk result (λ r. place_of r.exclude ≡ exclude_place tree ground.now.settings.now dir.now)) }
     ensures soft { IfOk result (λ r. IsSoftPlace (place_of r.exclude)) }
-    ensures out_of_memory { IfErr result (λ e. problem_of e ≡ memory) }
 {
     if !ground.settings.git_exclude && !needs_marks(ground.settings) {
         return Ok(Repository {
@@ -214,22 +203,20 @@ struct Kind {
 }
 
 /// What a followed `stat` says of a path.
-fn kind_of<F: Files>(ground: &Ground<'_, F>, path: &str) -> Result<Kind, Error>
+fn kind_of<F: Files>(ground: &Ground<'_, F>, path: &str) -> Result<Kind, AllocError>
     ensures there { InTree F.Files ground.now (λ tree. IfOk result (λ k. k.is_there ≡ is_there tree path.now)) }
     ensures file { InTree F.Files ground.now (λ tree.
         IfOk result (λ k. k.is_file ≡ is_file_there (tree.stat path.now true))) }
-    ensures out_of_memory { IfErr result (λ e. problem_of e ≡ memory) }
 {
-    match ground.files.stat(ground.alloc, path, true) {
+    match answered(ground.files.stat(ground.alloc, path, true))? {
         Ok(metadata) => Ok(Kind {
             is_there: true,
             is_file: metadata.is_file(),
         }),
-        Err(Refusal::Fault(_)) => Ok(Kind {
+        Err(_) => Ok(Kind {
             is_there: false,
             is_file: false,
         }),
-        Err(Refusal::Memory) => Err(Error::Memory),
     }
 }
 
@@ -238,11 +225,10 @@ fn exclude_place<F: Files>(
     ground: &Ground<'_, F>,
     git: &str,
     is_file: bool,
-) -> Result<ExcludePlace, Error>
+) -> Result<ExcludePlace, AllocError>
     ensures value { InTree F.Files ground.now (λ tree. is_file ≡ is_file_there (tree.stat git.now true)
         → IfOk result (λ place. place_of place ≡ (if ground.now.settings.now.git_exclude then exclude_by tree git.now else Ok None))) }
     ensures soft { IfOk result (λ place. IsSoftPlace (place_of place)) }
-    ensures out_of_memory { IfErr result (λ e. problem_of e ≡ memory) }
 {
     if !ground.settings.git_exclude {
         return Ok(ExcludePlace::Nowhere);
@@ -260,10 +246,9 @@ fn is_marked<F: Files>(
     dir: &str,
     shown: &Shown<'_>,
     has_git: bool,
-) -> Result<bool, Error>
+) -> Result<bool, AllocError>
     ensures value { InTree F.Files ground.now (λ tree. Shows tree dir.now shown.now → has_git ≡ is_there tree (join_of dir.now (codes ".git"))
         → IfOk result (λ yes. yes ≡ is_marked tree ground.now.settings.now dir.now)) }
-    ensures out_of_memory { IfErr result (λ e. problem_of e ≡ memory) }
 {
     if !needs_marks(ground.settings) {
         return Ok(false);
@@ -283,11 +268,10 @@ fn exclude_rules<F: Files>(
     ground: &Ground<'_, F>,
     dir: &str,
     place: ExcludePlace,
-) -> Result<(Gitignore, Option<Error>), Error>
+) -> Result<(Gitignore, Option<Error>), AllocError>
     ensures read { InTree F.Files ground.now (λ tree.
         IfOk result (λ r. IsExclude tree ground.now.settings.now dir.now (place_of place) r.0 (option_map problem_of r.1))) }
     ensures soft { IsSoftPlace (place_of place) → IfOk result (λ r. IsSoft (option_map problem_of r.1)) }
-    ensures out_of_memory { IfErr result (λ e. problem_of e ≡ memory) }
 {
     match place {
         ExcludePlace::At(path) => rules_of_file(ground, dir, path.as_str()),
@@ -303,10 +287,9 @@ fn joined_four(
     second: Option<Error>,
     third: Option<Error>,
     fourth: Option<Error>,
-) -> Result<Option<Error>, Error>
+) -> Result<Option<Error>, AllocError>
     ensures value { IfOk result (λ error. option_map problem_of error ≡ joined_some (option_map problem_of first
         ∷ (option_map problem_of second ∷ (option_map problem_of third ∷ (option_map problem_of fourth ∷ []))))) }
-    ensures out_of_memory { IfErr result (λ e. problem_of e ≡ memory) }
 {
     let mut errors = Vec::new(alloc);
     for error in [first, second, third, fourth] {

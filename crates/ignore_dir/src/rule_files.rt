@@ -1,7 +1,7 @@
 //! The rules of files of one directory.
-ghost use Rattle.std.specs.Prelude.{◌≡◌, [], ◌∷◌, map, IfOk, IfErr, option_map};
+ghost use Rattle.std.specs.Prelude.{◌≡◌, [], ◌∷◌, map, IfOk, option_map};
 ghost use Rattle.ignore_base.specs.Paths.{join_of};
-ghost use Rattle.ignore_base.specs.Problem.{problem_of, memory};
+ghost use Rattle.ignore_base.specs.Problem.{problem_of};
 ghost use Rattle.ignore_files.specs.Shown.{Shows};
 ghost use Rattle.ignore_dir.specs.Ground.{InTree};
 ghost use Rattle.ignore_dir.specs.Soft.{IsSoft};
@@ -11,31 +11,25 @@ use crate::errors::push_some;
 use crate::ground::Ground;
 use crate::settings::Settings;
 use ignore_base::Error;
-use ignore_base::text::join;
-use ignore_files::internal::Shown;
-use ignore_files::{Files, Name, Refusal};
+use ignore_base::internal::join;
+use ignore_files::internal::{Shown, answered};
+use ignore_files::{Files, Name};
 use ignore_rules::gitignore::{Gitignore, GitignoreBuilder};
-use std::alloc::Global;
+use ignore_rules::internal::{add, begun};
+use std::alloc::{AllocError, Global};
 
 /// Whether a followed `stat` answers.
-pub(crate) fn is_there<F: Files>(ground: &Ground<'_, F>, path: &str) -> Result<bool, Error>
+pub(crate) fn is_there<F: Files>(ground: &Ground<'_, F>, path: &str) -> Result<bool, AllocError>
     ensures value { InTree F.Files ground.now (λ tree. IfOk result (λ yes. yes ≡ is_there tree path.now)) }
-    ensures out_of_memory { IfErr result (λ e. problem_of e ≡ memory) }
 {
-    match ground.files.stat(ground.alloc, path, true) {
-        Ok(_) => Ok(true),
-        Err(Refusal::Fault(_)) => Ok(false),
-        Err(Refusal::Memory) => Err(Error::Memory),
-    }
+    Ok(answered(ground.files.stat(ground.alloc, path, true))?.is_ok())
 }
 
 /// A builder for the rules of a directory.
-fn start(alloc: Global, settings: &Settings, dir: &str) -> Result<GitignoreBuilder, Error>
+fn start(alloc: Global, settings: &Settings, dir: &str) -> Result<GitignoreBuilder, AllocError>
     ensures value { IfOk result (λ b. b ≡ started settings.now dir.now) }
-    ensures out_of_memory { IfErr result (λ e. problem_of e ≡ memory) }
 {
-    let mut builder = GitignoreBuilder::new(alloc, dir)?;
-    builder.case_insensitive(settings.case_insensitive)?;
+    let mut builder = begun(alloc, dir, settings.case_insensitive)?;
     builder.git_trailing_spaces(settings.git_trailing_spaces);
     Ok(builder)
 }
@@ -45,16 +39,15 @@ fn add_present<F: Files>(
     ground: &Ground<'_, F>,
     path: &str,
     builder: &mut GitignoreBuilder,
-) -> Result<Option<Error>, Error>
+) -> Result<Option<Error>, AllocError>
     ensures added { InTree F.Files ground.now (λ tree.
         IfOk result (λ e. AddsPresent (is_there tree path.now) tree path.now builder.old builder.new (option_map problem_of e))) }
     ensures soft { IfOk result (λ e. IsSoft (option_map problem_of e)) }
-    ensures out_of_memory { IfErr result (λ e. problem_of e ≡ memory) }
 {
     if !is_there(ground, path)? {
         return Ok(None);
     }
-    let error = builder.add(ground.files, path)?;
+    let error = add(builder, ground.files, path)?;
     Ok(Error::without_fault(error))
 }
 
@@ -63,17 +56,16 @@ pub(crate) fn rules_of_file<F: Files>(
     ground: &Ground<'_, F>,
     dir: &str,
     path: &str,
-) -> Result<(Gitignore, Option<Error>), Error>
+) -> Result<(Gitignore, Option<Error>), AllocError>
     ensures read { InTree F.Files ground.now (λ tree.
         IfOk result (λ r. IsRules tree ground.now.settings.now dir.now (path.now ∷ []) r.0 (option_map problem_of r.1))) }
     ensures soft { IfOk result (λ r. IsSoft (option_map problem_of r.1)) }
-    ensures out_of_memory { IfErr result (λ e. problem_of e ≡ memory) }
 {
     if !is_there(ground, path)? {
         return Ok((Gitignore::empty(ground.alloc), None));
     }
     let mut builder = start(ground.alloc, ground.settings, dir)?;
-    let error = Error::without_fault(builder.add(ground.files, path)?);
+    let error = Error::without_fault(add(&mut builder, ground.files, path)?);
     Ok((builder.into_gitignore(), error))
 }
 
@@ -85,11 +77,10 @@ fn add_named<F: Files>(
     shown: &Shown<'_>,
     name: &str,
     builder: &mut GitignoreBuilder,
-) -> Result<Option<Error>, Error>
+) -> Result<Option<Error>, AllocError>
     ensures added { InTree F.Files ground.now (λ tree. Shows tree dir.now shown.now → IfOk result (λ e.
         AddsPresent (is_there tree (join_of dir.now name.now)) tree (join_of dir.now name.now) builder.old builder.new (option_map problem_of e))) }
     ensures soft { IfOk result (λ e. IsSoft (option_map problem_of e)) }
-    ensures out_of_memory { IfErr result (λ e. problem_of e ≡ memory) }
 {
     if shown.lacks(name) {
         return Ok(None);
@@ -106,11 +97,10 @@ pub(crate) fn rules_if<F: Files>(
     shown: &Shown<'_>,
     on: bool,
     name: &str,
-) -> Result<(Gitignore, Option<Error>), Error>
+) -> Result<(Gitignore, Option<Error>), AllocError>
     ensures read { InTree F.Files ground.now (λ tree. Shows tree dir.now shown.now →
         IfOk result (λ r. IsRules tree ground.now.settings.now dir.now (path_if on dir.now name.now) r.0 (option_map problem_of r.1))) }
     ensures soft { IfOk result (λ r. IsSoft (option_map problem_of r.1)) }
-    ensures out_of_memory { IfErr result (λ e. problem_of e ≡ memory) }
 {
     if !on {
         return Ok((Gitignore::empty(ground.alloc), None));
@@ -129,11 +119,10 @@ pub(crate) fn rules_of_names<F: Files>(
     dir: &str,
     shown: &Shown<'_>,
     names: &[Name],
-) -> Result<(Gitignore, Option<Error>), Error>
+) -> Result<(Gitignore, Option<Error>), AllocError>
     ensures read { InTree F.Files ground.now (λ tree. Shows tree dir.now shown.now →
         IfOk result (λ r. IsRules tree ground.now.settings.now dir.now (map (join_of dir.now) names.now) r.0 (option_map problem_of r.1))) }
     ensures soft { IfOk result (λ r. IsSoft (option_map problem_of r.1)) }
-    ensures out_of_memory { IfErr result (λ e. problem_of e ≡ memory) }
 {
     if names.is_empty() {
         return Ok((Gitignore::empty(ground.alloc), None));

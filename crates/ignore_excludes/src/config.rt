@@ -175,6 +175,21 @@ pub fn gitconfig_excludes_path<F: Files>(
     ensures answered { IfOk result (λ found. LeadsTo (FilesGive (F.contents_gives files.now)) env.now (option_map string_bytes found)) }
     ensures out_of_memory { IfErr result (λ error. problem_of error ≡ memory) }
 {
+    Ok(excludes_path(alloc, files, env)?)
+}
+
+/// As `gitconfig_excludes_path`, with the error of a failed allocation.
+pub fn excludes_path<F: Files>(
+    alloc: Global,
+    files: &F,
+    env: &Env,
+) -> Result<Option<String>, AllocError>
+    ensures found { (tree : Tree) → IsHonest F.Files files.now tree
+        → IfOk result (λ found. IsExcludesPath tree env.now (option_map string_bytes found)) }
+    ensures only { (tree : Tree) → IsHonest F.Files files.now tree
+        → IfOk result (λ found. (other : Option Path) → IsExcludesPath tree env.now other → option_map string_bytes found ≡ other) }
+    ensures answered { IfOk result (λ found. LeadsTo (FilesGive (F.contents_gives files.now)) env.now (option_map string_bytes found)) }
+{
     let home = known(&env.home);
     let user = below(alloc, home, ".gitconfig")?;
     let folder = xdg_folder(alloc, env)?;

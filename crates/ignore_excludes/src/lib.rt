@@ -4,5 +4,6 @@
 
 mod config;
 mod excludes;
+pub mod internal;
 
 pub use config::gitconfig_excludes_path;

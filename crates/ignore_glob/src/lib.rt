@@ -2,3 +2,4 @@
 #![tactic(auto)]
 
 pub mod glob;
+pub mod internal;

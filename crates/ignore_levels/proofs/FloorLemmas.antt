@@ -1,16 +1,17 @@
 -- The part of a chain that is not below a floor, and directories without rules.
 use Rattle.std.proofs.Common.{◌≡◌, ℕ, ◌<◌, ◌≤◌, ◌==◌, Bool, true, false, cond, not, ◌||◌, List, [], ◌∷◌, IsTrue, nat_lt, length, drop, refl, sym, ap, ◌∙◌, arith, eqb-true}
 use Rattle.std.proofs.lemmas.Bool.{lt-ltb, le-ltb, ltb-true, ltb-false}
-use Rattle.ignore_base.specs.Match.{match_or}
+use Rattle.ignore_base.specs.Match.{match_map, match_or}
 use Rattle.ignore_base.specs.Text.{Path}
 use Rattle.ignore_base.specs.declared.match_result.Match.TheVariants.{None}
 use Rattle.ignore_dir.specs.declared.dir.Dir.{Dir}
 use Rattle.ignore_dir.specs.declared.dir.Rank.{Rank}
 use Rattle.ignore_dir.specs.declared.dir.Rank.TheVariants.{Custom, Ignore, Gitignore, Exclude}
 use Rattle.ignore_dir.specs.Lists.{Asked, Placed, asked_in}
-use Rattle.ignore_dir.specs.Ranks.{cut, dir_answer, nearest}
+use Rattle.ignore_dir.specs.Ranks.{cut, dir_answer}
 use Rattle.ignore_levels.specs.Levels.{IsBelow, has_rules}
 use Rattle.ignore_levels.specs.Reasons.{down_to}
+use Rattle.ignore_levels.specs.Sites.{dir_sited, in_directory, nearest_sited, sited}
 use Rattle.ignore_levels.proofs.ChainLemmas.{Descends, from_ruled, marked}
 
 -- nothing of a chain below an offset is at a floor from there on
@@ -75,33 +76,36 @@ no_rules d h =
     parts (not (length d.custom.rules == 0)) (not (length d.ignore.rules == 0)) (not (length d.gitignore.rules == 0))
     (not (length d.exclude.rules == 0)) h
 
+no_answer : (rank : Rank) (is_dir : Bool) (l : Asked) → has_rules l.0 ≡ false → dir_answer rank is_dir l ≡ None
+no_answer Custom is_dir l h = rw (empty_is l.0.custom.rules (no_rules l.0 h).0) refl
+no_answer Ignore is_dir l h = rw (empty_is l.0.ignore.rules (no_rules l.0 h).1) refl
+no_answer Gitignore is_dir l h = rw (empty_is l.0.gitignore.rules (no_rules l.0 h).2) refl
+no_answer Exclude is_dir l h = rw (empty_is l.0.exclude.rules (no_rules l.0 h).3) refl
+
 -- no rules have no match
-pub unruled : (rank : Rank) (is_dir : Bool) (l : Asked) → has_rules l.0 ≡ false → dir_answer rank is_dir l ≡ None
-unruled Custom is_dir l h = rw (empty_is l.0.custom.rules (no_rules l.0 h).0) refl
-unruled Ignore is_dir l h = rw (empty_is l.0.ignore.rules (no_rules l.0 h).1) refl
-unruled Gitignore is_dir l h = rw (empty_is l.0.gitignore.rules (no_rules l.0 h).2) refl
-unruled Exclude is_dir l h = rw (empty_is l.0.exclude.rules (no_rules l.0 h).3) refl
+pub unruled : (rank : Rank) (is_dir : Bool) (l : Asked) → has_rules l.0 ≡ false → dir_sited rank is_dir l ≡ None
+unruled rank is_dir l h = ap (match_map (sited (in_directory rank l.1))) (no_answer rank is_dir l h)
 
 module _ (text : Path) (rank : Rank) (is_dir : Bool) (floor : ℕ) where
   floored : (p : Placed) (chain : List Placed) → IsBelow p.1 chain → has_rules p.0 ≡ false → (b : Bool) → nat_lt p.1 floor ≡ b
-      → nearest rank (asked_in text (cond b [] (p ∷ down_to floor chain))) is_dir ≡ nearest rank (asked_in text (down_to floor chain)) is_dir
+      → nearest_sited rank (asked_in text (cond b [] (p ∷ down_to floor chain))) is_dir ≡ nearest_sited rank (asked_in text (down_to floor chain)) is_dir
   floored p chain below none true less =
       let low : p.1 < floor = ltb-true p.1 floor less in
-      ap (λ (c : List Placed). nearest rank (asked_in text c) is_dir) (sym (none_below floor p.1 chain (omega arith) below))
+      ap (λ (c : List Placed). nearest_sited rank (asked_in text c) is_dir) (sym (none_below floor p.1 chain (omega arith) below))
   floored p chain below none false less =
-      ap (λ m. match_or m (nearest rank (asked_in text (down_to floor chain)) is_dir)) (unruled rank is_dir (p.0, drop p.1 text) none)
+      ap (λ m. match_or m (nearest_sited rank (asked_in text (down_to floor chain)) is_dir)) (unruled rank is_dir (p.0, drop p.1 text) none)
 
   ruled-step : (p : Placed) (chain : List Placed) → IsBelow p.1 chain
-      → nearest rank (asked_in text (down_to floor (from_ruled chain))) is_dir ≡ nearest rank (asked_in text (down_to floor chain)) is_dir
+      → nearest_sited rank (asked_in text (down_to floor (from_ruled chain))) is_dir ≡ nearest_sited rank (asked_in text (down_to floor chain)) is_dir
       → (b : Bool) → has_rules p.0 ≡ b
-      → nearest rank (asked_in text (down_to floor (cond b (p ∷ chain) (from_ruled chain)))) is_dir
-      ≡ nearest rank (asked_in text (down_to floor (p ∷ chain))) is_dir
+      → nearest_sited rank (asked_in text (down_to floor (cond b (p ∷ chain) (from_ruled chain)))) is_dir
+      ≡ nearest_sited rank (asked_in text (down_to floor (p ∷ chain))) is_dir
   ruled-step p chain below same true has = refl
   ruled-step p chain below same false has = same ∙ sym (floored p chain below has (nat_lt p.1 floor) refl)
 
   -- directories without rules at the front of a chain change no answer
   pub ruled-asked : (chain : List Placed) → Descends chain
-      → nearest rank (asked_in text (down_to floor (from_ruled chain))) is_dir ≡ nearest rank (asked_in text (down_to floor chain)) is_dir
+      → nearest_sited rank (asked_in text (down_to floor (from_ruled chain))) is_dir ≡ nearest_sited rank (asked_in text (down_to floor chain)) is_dir
   ruled-asked [] sorted = refl
   ruled-asked (p ∷ chain) sorted = ruled-step p chain sorted.0 (ruled-asked chain sorted.1) (has_rules p.0) refl
 

@@ -5,6 +5,7 @@ pub mod FloorLemmas
 pub mod RankLemmas
 pub mod RestLemmas
 pub mod ReasonLemmas
+pub mod SiteLemmas
 pub mod PassLemmas
 pub mod RisingLemmas
 pub mod WorkedLevels

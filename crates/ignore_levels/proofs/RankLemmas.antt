@@ -1,6 +1,6 @@
 -- Lists asked one at a time, from the front and from the back.
 use Rattle.std.proofs.Common.{◌≡◌, ℕ, zero, suc, ◌+◌, ◌<◌, Bool, true, false, List, [], ◌∷◌, ◌++◌, length, get_or, drop}
-use Rattle.std.proofs.Common.{map, reverse, refl, sym, ap, ◌∙◌, add-one}
+use Rattle.std.proofs.Common.{Bor, map, reverse, refl, sym, ap, ◌∙◌, add-one}
 use Rattle.std.proofs.Math.Seq.{drop-cons}
 use Rattle.std.proofs.lemmas.List.{map-append, reverse-append}
 use Rattle.ignore_base.specs.Match.{match_or, match_map, is_none}
@@ -9,16 +9,17 @@ use Rattle.ignore_base.specs.declared.match_result.Match.TheVariants.{None, Igno
 use Rattle.ignore_rules.specs.Parents.{first_match}
 use Rattle.ignore_rules.specs.Rules.{Rule, Ruleset}
 use Rattle.ignore_dir.specs.Ranks.{explicit_answer, rules_answer}
+use Rattle.ignore_levels.specs.Sites.{Site, sited}
 
 pub front_of : {A : Type 0} (xs : List A) (i : ℕ) (x : A) → i < length xs → x ≡ get_or xs i x → drop i xs ≡ x ∷ drop (i + 1) xs
 front_of xs i x lt is = rw add-one (drop-cons xs i x lt ∙ ap (λ y. y ∷ drop (suc i) xs) (sym is))
 
-match_or-assoc : (a b c : Match Rule) → match_or (match_or a b) c ≡ match_or a (match_or b c)
+match_or-assoc : {U : Type 0} (a b c : Match U) → match_or (match_or a b) c ≡ match_or a (match_or b c)
 match_or-assoc None b c = refl
 match_or-assoc (Ignore x) b c = refl
 match_or-assoc (Whitelist x) b c = refl
 
-pub match_or-none : (a : Match Rule) → match_or a None ≡ a
+pub match_or-none : {U : Type 0} (a : Match U) → match_or a None ≡ a
 match_or-none None = refl
 match_or-none (Ignore x) = refl
 match_or-none (Whitelist x) = refl
@@ -82,21 +83,28 @@ explicit_found f gs i g path is_dir m lt is none e some =
     sym (explicit_kept gs i path is_dir (match_map f m) (explicit_next gs i g path is_dir lt is none ∙ sym e) (same_none f m some))
 
 -- a match decides over what comes after it
-pub decides : {T : Type 0} (f : T → Rule) (a : Match T) (first rest : Match Rule) → match_map f a ≡ first → is_none a ≡ false
+pub decides : {T U : Type 0} (f : T → U) (a : Match T) (first rest : Match U) → match_map f a ≡ first → is_none a ≡ false
     → match_map f a ≡ match_or first rest
 decides f None first rest is some = absurd (cc (some))
 decides f (Ignore x) first rest is some = ap (λ m. match_or m rest) is
 decides f (Whitelist x) first rest is some = ap (λ m. match_or m rest) is
 
 -- no match leaves what comes after it
-pub passes : {T : Type 0} (f : T → Rule) (a : Match T) (first rest : Match Rule) → match_map f a ≡ first → is_none a ≡ true
+pub passes : {T U : Type 0} (f : T → U) (a : Match T) (first rest : Match U) → match_map f a ≡ first → is_none a ≡ true
     → match_or first rest ≡ rest
 passes f None first rest is none = ap (λ m. match_or m rest) (sym is)
 passes f (Ignore x) first rest is none = absurd (cc (none))
 passes f (Whitelist x) first rest is none = absurd (cc (none))
 
 -- no match of a list is no match
-pub none_of : {T : Type 0} (f : T → Rule) (a : Match T) (first : Match Rule) → match_map f a ≡ first → is_none a ≡ true → first ≡ None
+pub none_of : {T U : Type 0} (f : T → U) (a : Match T) (first : Match U) → match_map f a ≡ first → is_none a ≡ true → first ≡ None
 none_of f None first is none = sym is
 none_of f (Ignore x) first is none = absurd (cc (none))
 none_of f (Whitelist x) first is none = absurd (cc (none))
+
+-- the answer of rules with a site
+pub at_site : (site : Site) (a : Match (Bor Rule)) (answer : Match Rule) → match_map (λ (g : Bor Rule). g.now) a ≡ answer
+    → match_map (λ (g : Bor Rule). sited site g.now) a ≡ match_map (sited site) answer
+at_site site None answer is = ap (match_map (sited site)) is
+at_site site (Ignore x) answer is = ap (match_map (sited site)) is
+at_site site (Whitelist x) answer is = ap (match_map (sited site)) is

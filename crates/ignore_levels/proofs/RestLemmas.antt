@@ -7,16 +7,15 @@ use Rattle.ignore_base.specs.Match.{is_none, match_map, match_or}
 use Rattle.ignore_base.specs.Text.{Path}
 use Rattle.ignore_base.specs.declared.match_result.Match.{Match}
 use Rattle.ignore_base.specs.declared.match_result.Match.TheVariants as m
-use Rattle.ignore_rules.specs.Rules.{Rule}
 use Rattle.ignore_dir.specs.declared.dir.Rank.{Rank}
 use Rattle.ignore_dir.specs.Lists.{IsAfterSlash, Placed, asked_in}
-use Rattle.ignore_dir.specs.Ranks.{dir_answer, nearest}
 use Rattle.ignore_levels.specs.declared.list.Level.{Level}
 use Rattle.ignore_levels.specs.declared.list.Place.{Place}
 use Rattle.ignore_levels.specs.declared.list.Slot.{Slot}
 use Rattle.ignore_levels.specs.Levels.IsChain.{no_level, a_level}
 use Rattle.ignore_levels.specs.Levels.{IsBelow, IsChain, has_rules, level_at, ruled_at}
 use Rattle.ignore_levels.specs.Reasons.{down_to}
+use Rattle.ignore_levels.specs.Sites.{Sited, dir_sited, nearest_sited}
 use Rattle.ignore_levels.proofs.ChainLemmas.{Descends, chain-descends, chain-ruled, from_ruled, opened}
 use Rattle.ignore_levels.proofs.FloorLemmas.{ruled-asked}
 use Rattle.ignore_levels.proofs.RankLemmas.{decides}
@@ -74,7 +73,7 @@ pub record Rest (slots : List Slot) (rank : Rank) (text : Path) (is_dir : Bool) 
   pub is : IsChain slots at rest
   pub below : IsBelow (ceiling + 1) rest
   pub after : All (λ p. IsAfterSlash text p.1) rest
-  pub same : nearest rank (asked_in text (down_to floor chain)) is_dir ≡ nearest rank (asked_in text (down_to floor rest)) is_dir
+  pub same : nearest_sited rank (asked_in text (down_to floor chain)) is_dir ≡ nearest_sited rank (asked_in text (down_to floor rest)) is_dir
 
 module _ (slots : List Slot) (rank : Rank) (text : Path) (is_dir : Bool) (floor : ℕ) where
   -- at first all levels with rules are left
@@ -98,8 +97,8 @@ module _ (slots : List Slot) (rank : Rank) (text : Path) (is_dir : Bool) (floor 
     pub tail_after : All (λ p. IsAfterSlash text p.1) tail
     pub own : IsAfterSlash text level.offset
     pub within : level.offset ≤ ceiling
-    pub left : nearest rank (asked_in text (down_to floor chain)) is_dir
-        ≡ nearest rank (asked_in text (down_to floor ((level.dir, level.offset) ∷ tail))) is_dir
+    pub left : nearest_sited rank (asked_in text (down_to floor chain)) is_dir
+        ≡ nearest_sited rank (asked_in text (down_to floor ((level.dir, level.offset) ∷ tail))) is_dir
 
   pub next : (ceiling : ℕ) (here : Place) (level : Level) (chain : List Placed) → level_at slots here ≡ Some level
       → Rest slots rank text is_dir floor ceiling (Some here) chain → Next ceiling level chain
@@ -114,19 +113,19 @@ module _ (slots : List Slot) (rank : Rank) (text : Path) (is_dir : Bool) (floor 
         tail_after = All-tail (λ p. IsAfterSlash text p.1) (level.dir, level.offset) o.tail after;
         own = after 0 (level.dir, level.offset) (omega arith);
         within = omega arith;
-        left = r.same ∙ ap (λ (c : List Placed). nearest rank (asked_in text (down_to floor c)) is_dir) o.is;
+        left = r.same ∙ ap (λ (c : List Placed). nearest_sited rank (asked_in text (down_to floor c)) is_dir) o.is;
       }
 
   asked-next : (ceiling : ℕ) (level : Level) (chain : List Placed) → floor ≤ level.offset → (n : Next ceiling level chain)
-      → nearest rank (asked_in text (down_to floor chain)) is_dir
-      ≡ match_or (dir_answer rank is_dir (level.dir, drop level.offset text)) (nearest rank (asked_in text (down_to floor n.tail)) is_dir)
+      → nearest_sited rank (asked_in text (down_to floor chain)) is_dir
+      ≡ match_or (dir_sited rank is_dir (level.dir, drop level.offset text)) (nearest_sited rank (asked_in text (down_to floor n.tail)) is_dir)
   asked-next ceiling level chain high n =
-      n.left ∙ ap (λ (b : Bool). nearest rank (asked_in text (cond b [] ((level.dir, level.offset) ∷ down_to floor n.tail))) is_dir)
+      n.left ∙ ap (λ (b : Bool). nearest_sited rank (asked_in text (cond b [] ((level.dir, level.offset) ∷ down_to floor n.tail))) is_dir)
       (le-ltb level.offset floor high)
 
   -- a level without a match leaves what is above it
   pub missed : (ceiling : ℕ) (level : Level) (chain : List Placed) → floor ≤ level.offset → Next ceiling level chain
-      → dir_answer rank is_dir (level.dir, drop level.offset text) ≡ m.None
+      → dir_sited rank is_dir (level.dir, drop level.offset text) ≡ m.None
       → Rest slots rank text is_dir floor (level.offset - 1) (ruled_at slots level.parent) chain
   missed ceiling level chain high n none =
       let low : 0 < level.offset = n.own.0 in
@@ -137,24 +136,24 @@ module _ (slots : List Slot) (rank : Rank) (text : Path) (is_dir : Bool) (floor 
         below = subst (λ k. IsBelow k (from_ruled n.tail)) (sym up) (ruled-below level.offset n.tail (chain-descends n.parent) n.tail_below);
         after = All-ruled (λ p. IsAfterSlash text p.1) n.tail n.tail_after;
         same = asked-next ceiling level chain high n
-            ∙ (ap (λ a. match_or a (nearest rank (asked_in text (down_to floor n.tail)) is_dir)) none
+            ∙ (ap (λ a. match_or a (nearest_sited rank (asked_in text (down_to floor n.tail)) is_dir)) none
             ∙ sym (ruled-asked text rank is_dir floor n.tail (chain-descends n.parent)));
       }
 
   -- a level with a match decides
-  pub found : {T : Type 0} (f : T → Rule) (answer : Match T) (ceiling : ℕ) (level : Level) (chain : List Placed) → floor ≤ level.offset
-      → Next ceiling level chain → match_map f answer ≡ dir_answer rank is_dir (level.dir, drop level.offset text) → is_none answer ≡ false
-      → match_map f answer ≡ nearest rank (asked_in text (down_to floor chain)) is_dir
+  pub found : {T : Type 0} (f : T → Sited) (answer : Match T) (ceiling : ℕ) (level : Level) (chain : List Placed) → floor ≤ level.offset
+      → Next ceiling level chain → match_map f answer ≡ dir_sited rank is_dir (level.dir, drop level.offset text) → is_none answer ≡ false
+      → match_map f answer ≡ nearest_sited rank (asked_in text (down_to floor chain)) is_dir
   found f answer ceiling level chain high n is some = decides f answer _ _ is some ∙ sym (asked-next ceiling level chain high n)
 
   -- a level below the floor ends it
   pub floored : (ceiling : ℕ) (level : Level) (chain : List Placed) → level.offset < floor → Next ceiling level chain
-      → nearest rank (asked_in text (down_to floor chain)) is_dir ≡ m.None
+      → nearest_sited rank (asked_in text (down_to floor chain)) is_dir ≡ m.None
   floored ceiling level chain low n =
-      n.left ∙ ap (λ (b : Bool). nearest rank (asked_in text (cond b [] ((level.dir, level.offset) ∷ down_to floor n.tail))) is_dir)
+      n.left ∙ ap (λ (b : Bool). nearest_sited rank (asked_in text (cond b [] ((level.dir, level.offset) ∷ down_to floor n.tail))) is_dir)
       (lt-ltb level.offset floor low)
 
   -- nothing is left
   pub ended : (ceiling : ℕ) (chain : List Placed) → Rest slots rank text is_dir floor ceiling None chain
-      → nearest rank (asked_in text (down_to floor chain)) is_dir ≡ m.None
-  ended ceiling chain r = r.same ∙ ap (λ (c : List Placed). nearest rank (asked_in text (down_to floor c)) is_dir) (nothing r.is)
+      → nearest_sited rank (asked_in text (down_to floor chain)) is_dir ≡ m.None
+  ended ceiling chain r = r.same ∙ ap (λ (c : List Placed). nearest_sited rank (asked_in text (down_to floor c)) is_dir) (nothing r.is)

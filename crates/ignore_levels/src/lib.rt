@@ -1,6 +1,7 @@
 //! One growing list of directories, and which rule of theirs decides on a path.
 #![tactic(auto)]
 
+mod known;
 pub mod laws;
 mod list;
 mod ranks;

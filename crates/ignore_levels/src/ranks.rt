@@ -1,26 +1,30 @@
 //! What the ranks answer over the chain of a place, and with which rule.
-ghost use Rattle.std.specs.Prelude.{◌≡◌, ◌||◌, ◌<◌, ◌≤◌, ◌↔◌, not, is_some, IsTrue, IfOk, IfErr, drop};
+ghost use Rattle.std.specs.Prelude.{◌≡◌, false, ◌||◌, ◌<◌, ◌≤◌, ◌↔◌, not, is_some, IsTrue, IfOk, drop};
 ghost use Rattle.std.specs.Str.{IsCharBoundary, chars};
-ghost use Rattle.ignore_base.specs.Match.{match_map};
+ghost use Rattle.ignore_base.specs.Match.{is_none, match_map};
 ghost use Rattle.ignore_base.specs.Paths.{trim_of};
-ghost use Rattle.ignore_base.specs.Problem.{problem_of, memory};
 ghost use Rattle.ignore_rules.specs.Answer.{list_answer};
 ghost use Rattle.ignore_dir.specs.Lists.{asked_in, list_of};
-ghost use Rattle.ignore_dir.specs.Ranks.{nearest, explicit_answer, git_answer, git_ranks, ranks_answer};
-ghost use Rattle.ignore_levels.specs.Reasons.{OverChain, down_to, rule_of};
+ghost use Rattle.ignore_base.specs.Text.{Path};
+ghost use Rattle.ignore_dir.specs.Ranks.{explicit_answer};
+ghost use Rattle.ignore_levels.specs.Reasons.{IsAtBoundary, IsRulingInside, OverChain, down_to, site_of, sited_of};
+ghost use Rattle.ignore_levels.specs.Sites.{git_ranks_sited, git_sited, nearest_sited, ranks_sited, sited};
 
+use crate::known::matched;
 use crate::list::{Levels, Place};
+use ignore_base::Match;
 use ignore_base::text::trim_root;
-use ignore_base::{Error, Match};
 use ignore_dir::{Asked, Dir, Outside, Rank, Settings};
 use ignore_rules::gitignore::{Gitignore, Glob};
 use ignore_set::Haystack;
+use std::alloc::AllocError;
 
 /// Where a rule stands.
 #[derive(Clone, Copy, Debug, PartialEq, Eq)]
 pub enum Origin {
-    /// In a list of a directory.
-    Directory(Rank, Place),
+    /// In a list of a directory, by its rank and the offset in the text that was asked about at
+    /// which the path past the directory begins.
+    Directory(Rank, usize),
     /// In the global file of git's configuration.
     Global,
     /// In a file that was added by name.
@@ -50,7 +54,8 @@ fn list_of(dir: &Dir, rank: Rank) -> &Gitignore
 
 /// A match, with where its rule stands.
 fn ruled_by<'d>(origin: Origin, answer: Match<&'d Glob>) -> Match<Ruling<'d>>
-    ensures { match_map rule_of result ≡ match_map (λ g. g.now) answer.entry }
+    ensures ruled { (text : Path) → match_map (sited_of text) result ≡ match_map (λ g. sited (site_of text origin) g.now) answer.entry }
+    ensures inside { (text : Path) → IsAtBoundary text origin → IsRulingInside text result }
 {
     match answer {
         Match::None => Match::None,
@@ -84,13 +89,16 @@ fn list_answer<'d>(
     list: &'d Gitignore,
     sought: &mut Sought<'_>,
     offset: usize,
-) -> Result<Match<&'d Glob>, Error>
+) -> Result<Match<&'d Glob>, AllocError>
     ensures answered { IsCharBoundary sought.old.text offset → IfOk result (λ m. match_map (λ g. g.now) m
         ≡ list_answer list.now.rules (chars (drop offset sought.old.text)) sought.old.is_dir) }
+    ensures inside { IfOk result (λ m. is_none m ≡ false → IsCharBoundary sought.old.text offset) }
     ensures same { sought.new ≡ sought.old }
-    ensures out_of_memory { IfErr result (λ e. problem_of e ≡ memory) }
 {
     if list.is_empty() {
+        return Ok(Match::None);
+    }
+    if !sought.text.text().is_char_boundary(offset) {
         return Ok(Match::None);
     }
     list.answer_after(&mut sought.text, offset, sought.is_dir)
@@ -111,11 +119,11 @@ fn nearest<'d>(
     floor: usize,
     place: Option<Place>,
     sought: &mut Sought<'_>,
-) -> Result<Match<Ruling<'d>>, Error>
-    ensures answered { OverChain levels.now.slots.items place sought.old.text (λ chain. IfOk result (λ m. match_map rule_of m
-        ≡ nearest rank (asked_in sought.old.text (down_to floor chain)) sought.old.is_dir)) }
+) -> Result<Match<Ruling<'d>>, AllocError>
+    ensures answered { OverChain levels.now.slots.items place sought.old.text (λ chain. IfOk result (λ m. match_map (sited_of sought.old.text) m
+        ≡ nearest_sited rank (asked_in sought.old.text (down_to floor chain)) sought.old.is_dir)) }
+    ensures inside { IfOk result (λ m. IsRulingInside sought.old.text m) }
     ensures same { sought.new ≡ sought.old }
-    ensures out_of_memory { IfErr result (λ e. problem_of e ≡ memory) }
 {
     let mut at = levels.ruled(place);
     let mut ceiling = sought.text.text().len();
@@ -129,7 +137,7 @@ fn nearest<'d>(
         let list = list_of(&level.dir, rank);
         let answer = list_answer(list, sought, level.offset)?;
         if !answer.is_none() {
-            return Ok(ruled_by(Origin::Directory(rank, here), answer));
+            return Ok(ruled_by(Origin::Directory(rank, level.offset), answer));
         }
         ceiling = level.offset - 1;
         at = levels.ruled(level.parent);
@@ -142,12 +150,11 @@ fn explicit_answer<'d>(
     explicit: &'d [Gitignore],
     path: &str,
     is_dir: bool,
-) -> Result<Match<&'d Glob>, Error>
+) -> Result<Match<&'d Glob>, AllocError>
     ensures answered { IfOk result (λ m. match_map (λ g. g.now) m ≡ explicit_answer explicit.now path.now is_dir) }
-    ensures out_of_memory { IfErr result (λ e. problem_of e ≡ memory) }
 {
     for i in (0..explicit.len()).rev() {
-        let answer = explicit[i].matched(path, is_dir)?;
+        let answer = matched(&explicit[i], path, is_dir)?;
         if !answer.is_none() {
             return Ok(answer);
         }
@@ -162,10 +169,10 @@ fn git_answer<'d>(
     floor: usize,
     place: Option<Place>,
     sought: &mut Sought<'_>,
-) -> Result<Match<Ruling<'d>>, Error>
-    ensures answered { OverChain levels.now.slots.items place sought.old.text (λ chain. IfOk result (λ m. match_map rule_of m
-        ≡ git_answer global.now (asked_in sought.old.text (down_to floor chain)) (trim_of sought.old.path.now) sought.old.is_dir)) }
-    ensures out_of_memory { IfErr result (λ e. problem_of e ≡ memory) }
+) -> Result<Match<Ruling<'d>>, AllocError>
+    ensures answered { OverChain levels.now.slots.items place sought.old.text (λ chain. IfOk result (λ m. match_map (sited_of sought.old.text) m
+        ≡ git_sited global.now (asked_in sought.old.text (down_to floor chain)) (trim_of sought.old.path.now) sought.old.is_dir)) }
+    ensures inside { IfOk result (λ m. IsRulingInside sought.old.text m) }
 {
     let answer = nearest(levels, Rank::Gitignore, floor, place, sought)?;
     if !answer.is_none() {
@@ -175,7 +182,7 @@ fn git_answer<'d>(
     if !answer.is_none() {
         return Ok(answer);
     }
-    let answer = global.matched(trim_root(sought.path), sought.is_dir)?;
+    let answer = matched(global, trim_root(sought.path), sought.is_dir)?;
     Ok(ruled_by(Origin::Global, answer))
 }
 
@@ -194,10 +201,10 @@ fn git_ranks<'d>(
     levels: &'d Levels,
     place: Option<Place>,
     sought: &mut Sought<'_>,
-) -> Result<Match<Ruling<'d>>, Error>
-    ensures answered { OverChain levels.now.slots.items place sought.old.text (λ chain. IfOk result (λ m. match_map rule_of m
-        ≡ git_ranks settings.now global.now (asked_in sought.old.text chain) (trim_of sought.old.path.now) sought.old.is_dir)) }
-    ensures out_of_memory { IfErr result (λ e. problem_of e ≡ memory) }
+) -> Result<Match<Ruling<'d>>, AllocError>
+    ensures answered { OverChain levels.now.slots.items place sought.old.text (λ chain. IfOk result (λ m. match_map (sited_of sought.old.text) m
+        ≡ git_ranks_sited settings.now global.now (asked_in sought.old.text chain) (trim_of sought.old.path.now) sought.old.is_dir)) }
+    ensures inside { IfOk result (λ m. IsRulingInside sought.old.text m) }
 {
     let mark = levels.mark(place);
     if !has_git(settings, mark) {
@@ -216,10 +223,10 @@ pub(crate) fn ranks_answer<'d>(
     levels: &'d Levels,
     place: Option<Place>,
     asked: &Asked<'_>,
-) -> Result<Match<Ruling<'d>>, Error>
-    ensures answered { OverChain levels.now.slots.items place asked.now.text.now (λ chain. IfOk result (λ m. match_map rule_of m
-        ≡ ranks_answer settings.now outside.now (asked_in asked.now.text.now chain) asked.now.path.now asked.now.is_dir)) }
-    ensures out_of_memory { IfErr result (λ e. problem_of e ≡ memory) }
+) -> Result<Match<Ruling<'d>>, AllocError>
+    ensures answered { OverChain levels.now.slots.items place asked.now.text.now (λ chain. IfOk result (λ m. match_map (sited_of asked.now.text.now) m
+        ≡ ranks_sited settings.now outside.now (asked_in asked.now.text.now chain) asked.now.path.now asked.now.is_dir)) }
+    ensures inside { IfOk result (λ m. IsRulingInside asked.now.text.now m) }
 {
     let mut sought = Sought::of(asked);
     let answer = nearest(levels, Rank::Custom, 0, place, &mut sought)?;

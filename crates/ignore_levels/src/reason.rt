@@ -1,22 +1,24 @@
 //! What decides on a path, and what becomes of it.
-ghost use Rattle.std.specs.Prelude.{◌≡◌, ◌&&◌, IfOk, IfErr, if◌then◌else◌};
+ghost use Rattle.std.specs.Prelude.{◌≡◌, ◌&&◌, IfOk, if◌then◌else◌};
 ghost use Rattle.ignore_base.specs.Paths.{file_name_of};
-ghost use Rattle.ignore_base.specs.Problem.{problem_of, memory};
 ghost use Rattle.ignore_dir.specs.Lists.{asked_in};
 ghost use Rattle.ignore_dir.specs.Verdict.{placed_verdict, verdict_of, is_dotted};
 ghost use Rattle.ignore_base.specs.Match.{match_map};
 ghost use Rattle.ignore_base.specs.declared.match_result.Match.TheVariants as decided;
-ghost use Rattle.ignore_levels.specs.Reasons.{OverChain, file_reason, placed_why, rule_of, why_of};
+ghost use Rattle.ignore_base.specs.Text.{Path};
+ghost use Rattle.ignore_levels.specs.Reasons.{IsInside, IsRulingInside, OverChain, file_reason, placed_why, sited_of, why_of};
 ghost use Rattle.ignore_levels.specs.Reasons.Why.{by_override, by_rule, by_type, by_name};
 
+use crate::known::{overridden, typed};
 use crate::list::{Levels, Place};
 use crate::ranks::{Ruling, ranks_answer};
+use ignore_base::Match;
 use ignore_base::text::{is_hidden, trim_root};
-use ignore_base::{Error, Match};
 use ignore_dir::verdict::Verdict;
 use ignore_dir::{Asked, Outside, Settings};
 use ignore_rules::overrides;
 use ignore_types::types;
+use std::alloc::AllocError;
 
 /// What decides on a path.
 #[derive(Drop)]
@@ -32,7 +34,8 @@ pub enum Reason<'d> {
 }
 
 fn by_override<'d>(answer: Match<overrides::Glob<'d>>) -> Match<Reason<'d>>
-    ensures { match_map why_of result ≡ match_map by_override answer.entry }
+    ensures why { (text : Path) → match_map (why_of text) result ≡ match_map by_override answer.entry }
+    ensures inside { (text : Path) → IsInside text result }
 {
     match answer {
         Match::None => Match::None,
@@ -42,7 +45,8 @@ fn by_override<'d>(answer: Match<overrides::Glob<'d>>) -> Match<Reason<'d>>
 }
 
 fn by_rule<'d>(answer: Match<Ruling<'d>>) -> Match<Reason<'d>>
-    ensures { match_map why_of result ≡ match_map (λ r. by_rule (rule_of r)) answer.entry }
+    ensures why { (text : Path) → match_map (why_of text) result ≡ match_map (λ r. by_rule (sited_of text r)) answer.entry }
+    ensures inside { (text : Path) → IsRulingInside text answer.entry → IsInside text result }
 {
     match answer {
         Match::None => Match::None,
@@ -52,7 +56,8 @@ fn by_rule<'d>(answer: Match<Ruling<'d>>) -> Match<Reason<'d>>
 }
 
 fn by_type<'d>(answer: Match<types::Glob<'d>>) -> Match<Reason<'d>>
-    ensures { match_map why_of result ≡ match_map by_type answer.entry }
+    ensures why { (text : Path) → match_map (why_of text) result ≡ match_map by_type answer.entry }
+    ensures inside { (text : Path) → IsInside text result }
 {
     match answer {
         Match::None => Match::None,
@@ -70,7 +75,8 @@ fn is_dotted(path: &str) -> bool
 
 /// What a hidden name decides, where that filter is on.
 fn by_name<'d>(settings: &Settings, path: &str) -> Match<Reason<'d>>
-    ensures { match_map why_of result ≡ (if settings.now.hidden && is_dotted (file_name_of path.now) then decided.Ignore by_name else decided.None) }
+    ensures why { (text : Path) → match_map (why_of text) result ≡ (if settings.now.hidden && is_dotted (file_name_of path.now) then decided.Ignore by_name else decided.None) }
+    ensures inside { (text : Path) → IsInside text result }
 {
     if settings.hidden && is_dotted(path) {
         Match::Ignore(Reason::Hidden)
@@ -86,16 +92,16 @@ fn by_file<'d>(
     levels: &'d Levels,
     place: Option<Place>,
     asked: &Asked<'_>,
-) -> Result<Match<Reason<'d>>, Error>
-    ensures why { OverChain levels.now.slots.items place asked.now.text.now (λ chain. IfOk result (λ m. match_map why_of m
+) -> Result<Match<Reason<'d>>, AllocError>
+    ensures why { OverChain levels.now.slots.items place asked.now.text.now (λ chain. IfOk result (λ m. match_map (why_of asked.now.text.now) m
         ≡ file_reason settings.now outside.now (asked_in asked.now.text.now chain) asked.now.path.now asked.now.is_dir)) }
-    ensures out_of_memory { IfErr result (λ e. problem_of e ≡ memory) }
+    ensures inside { IfOk result (λ m. IsInside asked.now.text.now m) }
 {
     let ruled = ranks_answer(settings, outside, levels, place, asked)?;
     if ruled.is_ignore() {
         return Ok(by_rule(ruled));
     }
-    let typed = outside.types.matched(trim_root(asked.path), asked.is_dir)?;
+    let typed = typed(&outside.types, trim_root(asked.path), asked.is_dir)?;
     if !typed.is_none() {
         return Ok(by_type(typed));
     }
@@ -113,23 +119,21 @@ fn by_file<'d>(
 /// with braces, or with more than 62 positions, asks for.
 ///
 /// # Errors
-/// `Error::Memory` alone.
+/// Out of memory.
 pub fn judge<'d>(
     settings: &Settings,
     outside: &'d Outside,
     levels: &'d Levels,
     place: Option<Place>,
     asked: &Asked<'_>,
-) -> Result<Match<Reason<'d>>, Error>
-    ensures why { OverChain levels.now.slots.items place asked.now.text.now (λ chain. IfOk result (λ m. match_map why_of m
+) -> Result<Match<Reason<'d>>, AllocError>
+    ensures why { OverChain levels.now.slots.items place asked.now.text.now (λ chain. IfOk result (λ m. match_map (why_of asked.now.text.now) m
         ≡ placed_why settings.now outside.now chain asked.now.text.now asked.now.path.now asked.now.is_dir)) }
     ensures value { OverChain levels.now.slots.items place asked.now.text.now (λ chain. IfOk result (λ m. verdict_of m
         ≡ placed_verdict settings.now outside.now chain asked.now.text.now asked.now.path.now asked.now.is_dir)) }
-    ensures out_of_memory { IfErr result (λ e. problem_of e ≡ memory) }
+    ensures inside { IfOk result (λ m. IsInside asked.now.text.now m) }
 {
-    let overridden = outside
-        .overrides
-        .matched(trim_root(asked.path), asked.is_dir)?;
+    let overridden = overridden(&outside.overrides, trim_root(asked.path), asked.is_dir)?;
     if !overridden.is_none() {
         return Ok(by_override(overridden));
     }
@@ -150,17 +154,16 @@ fn verdict_of(answer: Match<Reason<'_>>) -> Verdict
 /// a place.
 ///
 /// # Errors
-/// `Error::Memory` alone.
+/// Out of memory.
 pub fn verdict(
     settings: &Settings,
     outside: &Outside,
     levels: &Levels,
     place: Option<Place>,
     asked: &Asked<'_>,
-) -> Result<Verdict, Error>
+) -> Result<Verdict, AllocError>
     ensures value { OverChain levels.now.slots.items place asked.now.text.now (λ chain. IfOk result (λ v. v
         ≡ placed_verdict settings.now outside.now chain asked.now.text.now asked.now.path.now asked.now.is_dir)) }
-    ensures out_of_memory { IfErr result (λ e. problem_of e ≡ memory) }
 {
     Ok(verdict_of(judge(settings, outside, levels, place, asked)?))
 }

@@ -11,6 +11,7 @@ pub mod ListLemmas
 pub mod GrowLemmas
 pub mod NeedLemmas
 pub mod WayLemmas
+pub mod WhyLemmas
 pub mod QueryLemmas
 pub mod FreshLemmas
 pub mod TurnLemmas

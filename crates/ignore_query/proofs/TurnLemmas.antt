@@ -10,6 +10,8 @@ use Rattle.ignore_query.specs.declared.kept.Cache.{Cache}
 use Rattle.ignore_query.specs.Agrees.{Agrees}
 use Rattle.ignore_query.specs.InTurn.{Leaves, Question, ReportInTurn}
 use Rattle.ignore_query.specs.Reports.{reported}
+use Rattle.ignore_why.specs.declared.explanation.Explanation.{Explanation}
+use Rattle.ignore_why.specs.QueryWhy.{QueryWhy, query_why, query_why_of}
 
 turn_next : (g : Scene) (qs : List Question) (ps : List (Option Problem)) (old c c' : Cache) (q : Question)
     → ReportInTurn g qs ps old c → Leaves g q c c' → ReportInTurn g (qs ++ q ∷ []) (ps ++ reported g c q.0 q.1 ∷ []) old c'
@@ -62,4 +64,58 @@ pub asked_so : (g : Scene) (qs qs' : List Question) (rs rs' : List Answer) (old 
 asked_so g qs qs' rs rs' old new e f asked =
     let P : List Question → Type 0 = λ x. AreAsked g x rs' old new in
     let Q : List Answer → Type 0 = λ x. AreAsked g qs x old new in
+    subst P (sym e) (subst Q (sym f) asked)
+
+-- The same of explanations.
+
+abbrev pub Explained : Type 0
+Explained = Explanation × Option Error
+
+abbrev pub why_by : Explained → QueryWhy
+why_by r = query_why_of r.0.reason
+
+abbrev pub answer_by : Explained → IncrementalMatch
+answer_by r = r.0.answer
+
+abbrev pub told_by : Explained → Option Problem
+told_by r = option_map problem_of r.1
+
+abbrev pub why_to : Scene → Question → QueryWhy
+why_to g q = query_why g q.0 q.1
+
+-- questions have these explanations, which report their problems in turn, and what is kept in the
+-- end agrees with the tree
+pub record AreExplained (g : Scene) (qs : List Question) (rs : List Explained) (old new : Cache) : Type 0 where
+  pub why : map why_by rs ≡ map (why_to g) qs
+  pub value : map answer_by rs ≡ map (match_to g) qs
+  pub turn : ReportInTurn g qs (map told_by rs) old new
+  pub agrees : Agrees g new
+
+-- one more question, and what is right of its explanation
+pub record IsExplained (g : Scene) (q : Question) (r : Explained) (old new : Cache) : Type 0 where
+  pub why : why_by r ≡ why_to g q
+  pub value : r.0.answer ≡ match_to g q
+  pub problem : told_by r ≡ reported g old q.0 q.1
+  pub leaves : Leaves g q old new
+  pub agrees : Agrees g new
+
+pub explained_next : (g : Scene) (qs : List Question) (rs : List Explained) (old c c' : Cache) (q : Question) (r : Explained)
+    → AreExplained g qs rs old c → IsExplained g q r c c' → AreExplained g (qs ++ q ∷ []) (rs ++ r ∷ []) old c'
+explained_next g qs rs old c c' q r before is = record {
+  why = map-append why_by rs (r ∷ []) ∙ (ap (λ l. l ++ why_by r ∷ []) before.why
+      ∙ (ap (λ x. map (why_to g) qs ++ x ∷ []) is.why ∙ sym (map-append (why_to g) qs (q ∷ []))));
+  value = map-append answer_by rs (r ∷ []) ∙ (ap (λ l. l ++ r.0.answer ∷ []) before.value
+      ∙ (ap (λ x. map (match_to g) qs ++ x ∷ []) is.value ∙ sym (map-append (match_to g) qs (q ∷ []))));
+  turn =
+      let P : List (Option Problem) → Type 0 = λ ps. ReportInTurn g (qs ++ q ∷ []) ps old c' in
+      subst P (sym (map-append told_by rs (r ∷ []) ∙ ap (λ x. map told_by rs ++ x ∷ []) is.problem))
+      (turn_next g qs (map told_by rs) old c c' q before.turn is.leaves);
+  agrees = is.agrees;
+}
+
+pub explained_so : (g : Scene) (qs qs' : List Question) (rs rs' : List Explained) (old new : Cache) → qs' ≡ qs → rs' ≡ rs
+    → AreExplained g qs rs old new → AreExplained g qs' rs' old new
+explained_so g qs qs' rs rs' old new e f asked =
+    let P : List Question → Type 0 = λ x. AreExplained g x rs' old new in
+    let Q : List Explained → Type 0 = λ x. AreExplained g qs x old new in
     subst P (sym e) (subst Q (sym f) asked)

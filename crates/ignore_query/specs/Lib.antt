@@ -8,4 +8,5 @@ pub mod Needs
 pub mod Plain
 pub mod Reached
 pub mod Reports
+pub mod Shut
 pub mod Where

@@ -175,7 +175,7 @@ impl IncrementalIgnore {
             asked: &self.asked,
         };
         if self.cache.has_rules(&call, path)? {
-            return self.answer_of_rules(files, path, is_dir);
+            return Ok(self.answer_of_rules(files, path, is_dir)?);
         }
         let answer = IncrementalMatch::limited(&self.asked.settings, depth, is_dir, Verdict::None);
         Ok((answer, None))
@@ -187,7 +187,7 @@ impl IncrementalIgnore {
         files: &F,
         path: &str,
         is_dir: bool,
-    ) -> Result<(IncrementalMatch, Option<Error>), Error>
+    ) -> Result<(IncrementalMatch, Option<Error>), AllocError>
         requires named { list_all is_proper (components path.now) ≡ true }
         ensures value { WhereDecided F.Files files.now self.old path.now (λ g.
             IfOk result (λ r. r.0 ≡ (queries.answer_of_rules g path.now is_dir).0)) }
@@ -205,7 +205,6 @@ impl IncrementalIgnore {
             Agrees g self.new.cache) }
         ensures soft { IfOk result (λ r. IsSoft (option_map problem_of r.1)) }
         ensures same { self.new.asked ≡ self.old.asked }
-        ensures out_of_memory { IfErr result (λ e. problem_of e ≡ memory) }
     {
         let (asked, cache) = (&self.asked, &mut self.cache);
         let call = Call { files, asked };

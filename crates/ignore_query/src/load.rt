@@ -1,12 +1,12 @@
 //! Directories that are looked up, or loaded and kept.
 ghost use Rattle.std.specs.Prelude.{◌≡◌, ◌≢◌, ◌++◌, ◌∷◌, [], ℕ, List, All, Some};
-ghost use Rattle.std.specs.Prelude.{IfOk, IfErr, IsOk, OnOk, Option, true, not, ◌||◌, map, option_map, is_some, string_bytes, if◌then◌else◌};
+ghost use Rattle.std.specs.Prelude.{IfOk, IsOk, OnOk, Option, true, not, ◌||◌, map, option_map, is_some, string_bytes, if◌then◌else◌};
 ghost use Rattle.std.specs.BTreeMap.{get_by_text};
 ghost use Rattle.std.specs.List.{filter_map, list_all, list_any};
 ghost use Rattle.std.specs.Option.{option_to_list};
 ghost use Rattle.std.specs.Str.{bytes_eq};
 ghost use Rattle.ignore_base.specs.Paths.{IsName, components, is_proper};
-ghost use Rattle.ignore_base.specs.Problem.{problem_of, memory};
+ghost use Rattle.ignore_base.specs.Problem.{problem_of};
 ghost use Rattle.ignore_dir.specs.Above.{path_along};
 ghost use Rattle.ignore_dir.specs.Chains.{slashed};
 ghost use Rattle.ignore_dir.specs.Load.{Loaded};
@@ -26,7 +26,8 @@ ghost use Rattle.ignore_query.specs.Where.{InCall, WhereKept, WhereNext, WhereRo
 use crate::asked::{Asked, Call};
 use crate::kept::{Cache, Kept};
 use ignore_base::Error;
-use ignore_base::text::{join, join_law};
+use ignore_base::internal::join;
+use ignore_base::text::join_law;
 use ignore_dir::Dir;
 use ignore_dir::errors::push_some;
 use ignore_dir::laws::{one_load, steps_are_whole};
@@ -35,10 +36,10 @@ use ignore_dir::names::components;
 use ignore_dir::verdict::Verdict;
 use ignore_files::Files;
 use ignore_levels::Place;
-use std::alloc::Global;
+use std::alloc::{AllocError, Global};
 
 /// The names of a directory below the root, joined, by its key.
-fn without_slash(key: &str) -> &str
+pub(crate) fn without_slash(key: &str) -> &str
     ensures root { key.now ≡ [] → result.now ≡ [] }
     ensures below { (path : List ℕ) → key.now ≡ path ++ 47 ∷ [] → result.now ≡ path }
 {
@@ -49,10 +50,9 @@ fn without_slash(key: &str) -> &str
 }
 
 /// The path of a directory, by its key.
-fn path_of(alloc: Global, root: &str, key: &str) -> Result<String, Error>
+fn path_of(alloc: Global, root: &str, key: &str) -> Result<String, AllocError>
     ensures value { (names : List (List ℕ)) → All IsName names → key.now ≡ slashed names
         → IfOk result (λ path. string_bytes path ≡ path_along root.now names) }
-    ensures out_of_memory { IfErr result (λ e. problem_of e ≡ memory) }
 {
     join_law();
     if key.is_empty() {
@@ -62,13 +62,12 @@ fn path_of(alloc: Global, root: &str, key: &str) -> Result<String, Error>
 }
 
 /// Loads a directory, by its key.
-fn load<F: Files>(call: &Call<'_, F>, key: &str, errors: &mut Vec<Error>) -> Result<Dir, Error>
+fn load<F: Files>(call: &Call<'_, F>, key: &str, errors: &mut Vec<Error>) -> Result<Dir, AllocError>
     ensures value { InCall F.Files call.now (λ g. (names : List (List ℕ)) → All IsName names → key.now ≡ slashed names
         → IfOk result (λ dir. dir ≡ (g.loads (path_along g.root names)).0)) }
     ensures problems { InCall F.Files call.now (λ g. (names : List (List ℕ)) → All IsName names → key.now ≡ slashed names
         → OnOk result (map problem_of errors.new.items ≡ map problem_of errors.old.items ++ option_to_list (problem_in g names))) }
     ensures soft { AllSoft (map problem_of errors.old.items) → OnOk result (AllSoft (map problem_of errors.new.items)) }
-    ensures out_of_memory { IfErr result (λ e. problem_of e ≡ memory) }
 {
     one_load();
     let path = path_of(call.alloc(), call.asked.root.as_str(), key)?;
@@ -80,11 +79,10 @@ fn load<F: Files>(call: &Call<'_, F>, key: &str, errors: &mut Vec<Error>) -> Res
 impl Cache {
     /// Whether the directory with this key, in one that stands at a place, is ignored. The root
     /// never is.
-    fn is_ignored(&self, asked: &Asked, place: Option<Place>, key: &str) -> Result<bool, Error>
+    fn is_ignored(&self, asked: &Asked, place: Option<Place>, key: &str) -> Result<bool, AllocError>
         ensures value { (tree : Tree) (loads : List ℕ → Loaded) (names : List (List ℕ)) → let g = scene_of asked.now tree loads in
             Agrees g self.now → All IsName names → key.now ≡ slashed names → IsNext self.now names place
             → IfOk result (λ yes. yes ≡ is_ignored g names) }
-        ensures out_of_memory { IfErr result (λ e. problem_of e ≡ memory) }
     {
         if key.is_empty() {
             return Ok(false);
@@ -101,7 +99,7 @@ impl Cache {
         place: Option<Place>,
         key: &str,
         errors: &mut Vec<Error>,
-    ) -> Result<Kept, Error>
+    ) -> Result<Kept, AllocError>
         ensures value { WhereNext F.Files call.now self.old place key.now (λ g names.
             IfOk result (λ k. IsRight g self.new names k)) }
         ensures problems { WhereNext F.Files call.now self.old place key.now (λ g names.
@@ -112,7 +110,6 @@ impl Cache {
         ensures above { (self.new.has_above ≡ self.old.has_above) × ((self.new.above ≡ self.old.above) × (self.new.base ≡ self.old.base)) }
         ensures dirs { self.new.dirs ≡ self.old.dirs }
         ensures soft { AllSoft (map problem_of errors.old.items) → OnOk result (AllSoft (map problem_of errors.new.items)) }
-        ensures out_of_memory { IfErr result (λ e. problem_of e ≡ memory) }
     {
         steps_are_whole();
         if self.is_ignored(call.asked, place, key)? {
@@ -132,7 +129,7 @@ impl Cache {
         place: Option<Place>,
         key: &str,
         errors: &mut Vec<Error>,
-    ) -> Result<Kept, Error>
+    ) -> Result<Kept, AllocError>
         requires named { IsKey key.now }
         ensures stays { Stays self.old self.new }
         ensures kept { OnOk result ((text : List ℕ) → is_some (get_by_text self.new.dirs.map text)
@@ -147,7 +144,6 @@ impl Cache {
             OnOk result (map problem_of errors.new.items ≡ map problem_of errors.old.items ++ problems_at g self.old names)) }
         ensures known { is_some (get_by_text self.old.dirs.map key.now) ≡ true → (self.new ≡ self.old) × ((errors.new ≡ errors.old) × IsOk result) }
         ensures soft { AllSoft (map problem_of errors.old.items) → OnOk result (AllSoft (map problem_of errors.new.items)) }
-        ensures out_of_memory { IfErr result (λ e. problem_of e ≡ memory) }
     {
         if let Some(kept) = self.dirs.map.get(key) {
             return Ok(*kept);
@@ -162,12 +158,12 @@ impl Cache {
 impl Cache {
     /// Keeps the proper ancestors of a path of these names, from the root down to the first ignored
     /// one. Returns what is kept of the last of them.
-    fn keep_way<F: Files>(
+    pub(crate) fn keep_way<F: Files>(
         &mut self,
         call: &Call<'_, F>,
         names: &[&str],
         errors: &mut Vec<Error>,
-    ) -> Result<Kept, Error>
+    ) -> Result<Kept, AllocError>
         requires named { All IsName (map (λ n. n.now) names.now) }
         ensures stays { Stays self.old self.new }
         ensures kept { WhereRooted F.Files call.now self.old (map (λ n. n.now) names.now) (λ g all.
@@ -187,7 +183,6 @@ impl Cache {
             × IfOk result (λ k. (is_loaded k ≡ not (list_any (is_ignored g) (ancestors all)))
             × ((place : Option Place) → k ≡ kept.Kept.Loaded place → IsNext self.old all place))) }
         ensures soft { AllSoft (map problem_of errors.old.items) → OnOk result (AllSoft (map problem_of errors.new.items)) }
-        ensures out_of_memory { IfErr result (λ e. problem_of e ≡ memory) }
     {
         let mut key = String::new(call.alloc());
         let mut place = self.above;
@@ -210,7 +205,7 @@ impl Cache {
         path: &str,
         is_dir: bool,
         errors: &mut Vec<Error>,
-    ) -> Result<Verdict, Error>
+    ) -> Result<Verdict, AllocError>
         requires named { list_all is_proper (components path.now) ≡ true }
         ensures stays { Stays self.old self.new }
         ensures kept { WhereKept F.Files call.now self.old path.now (λ g.
@@ -227,7 +222,6 @@ impl Cache {
             → is_known g self.old (components path.now) ≡ true → (self.new ≡ self.old) × ((errors.new ≡ errors.old)
             × IfOk result (λ v. v ≡ rules_verdict g (components path.now) is_dir)) }
         ensures soft { AllSoft (map problem_of errors.old.items) → OnOk result (AllSoft (map problem_of errors.new.items)) }
-        ensures out_of_memory { IfErr result (λ e. problem_of e ≡ memory) }
     {
         let names = components(call.alloc(), path)?;
         match self.keep_way(call, names.as_slice(), errors)? {

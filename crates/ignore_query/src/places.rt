@@ -1,7 +1,6 @@
 //! The verdict on a path by the place of the directory in which it is.
-ghost use Rattle.std.specs.Prelude.{◌≡◌, ◌++◌, ◌∷◌, [], ℕ, List, All, Some, IfOk, IfErr};
+ghost use Rattle.std.specs.Prelude.{◌≡◌, ◌++◌, ◌∷◌, [], ℕ, List, All, Some, IfOk};
 ghost use Rattle.ignore_base.specs.Paths.{IsName, joined};
-ghost use Rattle.ignore_base.specs.Problem.{problem_of, memory};
 ghost use Rattle.ignore_dir.specs.Load.{Loaded};
 ghost use Rattle.ignore_dir.specs.Scene.{path_verdict};
 ghost use Rattle.ignore_files.specs.Tree.{Tree};
@@ -11,12 +10,13 @@ ghost use Rattle.ignore_query.specs.Reached.{scene_of};
 
 use crate::asked::Asked;
 use crate::kept::Cache;
-use ignore_base::Error;
-use ignore_base::text::{join, join_law};
+use ignore_base::internal::join;
+use ignore_base::text::join_law;
 use ignore_dir::laws::steps_are_whole;
 use ignore_dir::verdict::Verdict;
 use ignore_levels::laws::what_counts_decides;
 use ignore_levels::{Place, verdict};
+use std::alloc::AllocError;
 
 impl Cache {
     /// The verdict on a path by the place of the directory in which it is.
@@ -26,12 +26,11 @@ impl Cache {
         place: Option<Place>,
         path: &str,
         is_dir: bool,
-    ) -> Result<Verdict, Error>
+    ) -> Result<Verdict, AllocError>
         ensures value { (tree : Tree) (loads : List ℕ → Loaded) (front : List (List ℕ)) (name : List ℕ)
             → let g = scene_of asked.now tree loads in
             Agrees g self.now → All IsName (front ++ name ∷ []) → kept_at self.now front ≡ Some (kept.Kept.Loaded place)
             → path.now ≡ joined (front ++ name ∷ []) → IfOk result (λ v. v ≡ path_verdict g (front ++ name ∷ []) is_dir) }
-        ensures out_of_memory { IfErr result (λ e. problem_of e ≡ memory) }
     {
         join_law();
         steps_are_whole();

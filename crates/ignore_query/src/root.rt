@@ -1,7 +1,7 @@
 //! What is above a root, and whether the root is a directory.
-ghost use Rattle.std.specs.Prelude.{◌≡◌, ◌≢◌, ◌++◌, ◌==◌, ℕ, List, IfOk, IfErr, OnOk, true, not, map, length, string_bytes};
+ghost use Rattle.std.specs.Prelude.{◌≡◌, ◌≢◌, ◌++◌, ◌==◌, ℕ, List, IfOk, OnOk, true, not, map, length, string_bytes};
 ghost use Rattle.std.specs.Option.{option_to_list};
-ghost use Rattle.ignore_base.specs.Problem.{problem_of, memory};
+ghost use Rattle.ignore_base.specs.Problem.{problem_of};
 ghost use Rattle.ignore_dir.specs.Load.{Loaded};
 ghost use Rattle.ignore_dir.specs.Query as queries;
 ghost use Rattle.ignore_dir.specs.Soft.{AllSoft};
@@ -18,31 +18,33 @@ use crate::kept::Cache;
 use ignore_base::Error;
 use ignore_dir::above::load_above;
 use ignore_dir::errors::{joined_some, push_some};
-use ignore_files::{Files, Refusal};
-use std::alloc::Global;
+use ignore_files::Files;
+use ignore_files::internal::answered;
+use std::alloc::{AllocError, Global};
 
 /// Whether a path leads to a directory.
-fn is_dir_there<F: Files>(alloc: Global, files: &F, path: &str) -> Result<bool, Error>
+fn is_dir_there<F: Files>(alloc: Global, files: &F, path: &str) -> Result<bool, AllocError>
     ensures value { (tree : Tree) → IsHonest F.Files files.now tree
         → IfOk result (λ yes. yes ≡ queries.is_dir_there (tree.stat path.now true)) }
-    ensures out_of_memory { IfErr result (λ e. problem_of e ≡ memory) }
 {
-    match files.stat(alloc, path, true) {
+    match answered(files.stat(alloc, path, true))? {
         Ok(metadata) => Ok(metadata.is_dir()),
-        Err(Refusal::Fault(_)) => Ok(false),
-        Err(Refusal::Memory) => Err(Error::Memory),
+        Err(_) => Ok(false),
     }
 }
 
 impl Cache {
     /// Whether the rules decide on a path: whether it has a name, and the root is a directory.
-    pub(crate) fn has_rules<F: Files>(&self, call: &Call<'_, F>, path: &str) -> Result<bool, Error>
+    pub(crate) fn has_rules<F: Files>(
+        &self,
+        call: &Call<'_, F>,
+        path: &str,
+    ) -> Result<bool, AllocError>
         ensures value { (tree : Tree) (loads : List ℕ → Loaded) → IsHonest F.Files call.now.files.now tree
             → Agrees (scene_of call.now.asked.now tree loads) self.now
             → IfOk result (λ yes. yes ≡ queries.has_rules tree (string_bytes call.now.asked.now.root) path.now) }
         ensures known { self.now.has_above ≡ true → IfOk result (λ yes. yes ≡ not (length path.now == 0)) }
         ensures named { IfOk result (λ yes. yes ≡ true → length path.now ≢ 0) }
-        ensures out_of_memory { IfErr result (λ e. problem_of e ≡ memory) }
     {
         if path.is_empty() {
             return Ok(false);
@@ -58,7 +60,7 @@ impl Cache {
         &mut self,
         call: &Call<'_, F>,
         errors: &mut Vec<Error>,
-    ) -> Result<(), Error>
+    ) -> Result<(), AllocError>
         ensures agrees { InCall F.Files call.now (λ g. queries.is_dir_there (g.tree.stat g.root true) ≡ true
             → Agrees g self.old → Agrees g self.new) }
         ensures stays { Stays self.old self.new }
@@ -68,7 +70,6 @@ impl Cache {
         ensures problems { InCall F.Files call.now (λ g. OnOk result (map problem_of errors.new.items ≡ map problem_of errors.old.items
             ++ option_to_list (new_above g self.old))) }
         ensures soft { AllSoft (map problem_of errors.old.items) → OnOk result (AllSoft (map problem_of errors.new.items)) }
-        ensures out_of_memory { IfErr result (λ e. problem_of e ≡ memory) }
     {
         if self.has_above {
             return Ok(());

@@ -1,23 +1,24 @@
 //! The verdict on a path by its size.
-ghost use Rattle.std.specs.Prelude.{◌≡◌, ◌++◌, None, IfOk, IfErr, OnOk, map, string_bytes};
+ghost use Rattle.std.specs.Prelude.{◌≡◌, ◌++◌, None, IfOk, OnOk, map, string_bytes};
 ghost use Rattle.std.specs.Option.{option_to_list};
 ghost use Rattle.ignore_files.specs.Gives.{IsHonest};
 ghost use Rattle.ignore_files.specs.Tree.{Tree};
 ghost use Rattle.ignore_base.specs.Paths.{join_of};
-ghost use Rattle.ignore_base.specs.Problem.{at_path, io, problem_of, memory};
+ghost use Rattle.ignore_base.specs.Problem.{at_path, io, problem_of};
 ghost use Rattle.ignore_dir.specs.Limits as limits;
 ghost use Rattle.ignore_dir.specs.Soft.{AllSoft};
 
 use crate::asked::Call;
-use ignore_base::text::join;
+use ignore_base::internal::join;
 use ignore_base::{Error, Fault};
 use ignore_dir::limits::size_limit;
 use ignore_dir::verdict::Verdict;
-use ignore_files::{Files, Refusal};
+use ignore_files::Files;
+use ignore_files::internal::answered;
 use std::alloc::{AllocError, Global};
 
 /// A fault at a path, as an error.
-fn fault_at(alloc: Global, path: &str, fault: Fault) -> Result<Error, AllocError>
+pub(crate) fn fault_at(alloc: Global, path: &str, fault: Fault) -> Result<Error, AllocError>
     ensures { IfOk result (λ e. problem_of e ≡ at_path path.now (io fault)) }
 {
     Error::Io(fault).with_path(alloc, path)
@@ -32,7 +33,7 @@ pub(crate) fn by_size<F: Files>(
     is_dir: bool,
     verdict: Verdict,
     errors: &mut Vec<Error>,
-) -> Result<Verdict, Error>
+) -> Result<Verdict, AllocError>
     ensures value { (tree : Tree) → IsHonest F.Files call.now.files.now tree → let s = call.now.asked.now.settings in IfOk result (λ v. v
         ≡ limits.sized (limits.size_limit s is_dir verdict)
         (tree.stat (join_of (string_bytes call.now.asked.now.root) path.now) s.follow_links) verdict) }
@@ -43,17 +44,16 @@ pub(crate) fn by_size<F: Files>(
     ensures unasked { limits.size_limit call.now.asked.now.settings is_dir verdict ≡ None
         → (errors.new ≡ errors.old) × IfOk result (λ v. v ≡ verdict) }
     ensures soft { AllSoft (map problem_of errors.old.items) → OnOk result (AllSoft (map problem_of errors.new.items)) }
-    ensures out_of_memory { IfErr result (λ e. problem_of e ≡ memory) }
 {
     let settings = &call.asked.settings;
     let Some(limit) = size_limit(settings, is_dir, verdict) else {
         return Ok(verdict);
     };
     let path = join(call.alloc(), call.asked.root.as_str(), path)?;
-    match call
+    let found = call
         .files
-        .stat(call.alloc(), path.as_str(), settings.follow_links)
-    {
+        .stat(call.alloc(), path.as_str(), settings.follow_links);
+    match answered(found)? {
         Ok(metadata) => {
             if limit < metadata.len() {
                 Ok(Verdict::Ignore)
@@ -61,10 +61,9 @@ pub(crate) fn by_size<F: Files>(
                 Ok(verdict)
             }
         }
-        Err(Refusal::Fault(fault)) => {
+        Err(fault) => {
             errors.push(fault_at(call.alloc(), path.as_str(), fault)?)?;
             Ok(verdict)
         }
-        Err(Refusal::Memory) => Err(Error::Memory),
     }
 }

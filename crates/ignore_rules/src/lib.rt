@@ -3,4 +3,5 @@
 #![tactic(auto)]
 
 pub mod gitignore;
+pub mod internal;
 pub mod overrides;

@@ -1,7 +1,6 @@
 //! An index over patterns that their owner keeps.
-ghost use Rattle.std.specs.Prelude.{◌≡◌, ◌+◌, ◌<◌, ◌≤◌, ◌^◌, ◌++◌, ◌∷◌, [], ℕ, IfOk, IfErr, IfSome, IsOk, List, Some, drop, length, map, slice_get};
+ghost use Rattle.std.specs.Prelude.{◌≡◌, ◌+◌, ◌<◌, ◌≤◌, ◌^◌, ◌++◌, ◌∷◌, [], ℕ, IfOk, IfSome, IsOk, List, Some, drop, length, map, slice_get};
 ghost use Rattle.std.specs.Str.{IsCharBoundary, chars};
-ghost use Rattle.ignore_base.specs.Problem.{problem_of, memory};
 ghost use Rattle.ignore_set.specs.Buckets.{AreBucketsOf, IsPast};
 ghost use Rattle.ignore_set.specs.Index.{IsIndexOf, IsExactOf};
 ghost use Rattle.ignore_set.specs.Others.{AreOthers, IndexedText, IsFoundFrom, IsMaskOver};
@@ -14,7 +13,6 @@ use crate::haystack::Haystack;
 use crate::needle::{Needle, put_needles};
 use crate::table::Table;
 use crate::text::Ending;
-use ignore_base::Error;
 use ignore_glob::glob::{Key, Pattern};
 use std::alloc::{AllocError, Global};
 
@@ -50,34 +48,27 @@ impl Index {
     }
 
     /// The index of the patterns of these values, in their order.
-    ///
-    /// # Errors
-    /// `Error::Memory` alone.
-    pub fn new<M: HasPattern>(alloc: Global, members: &[M]) -> Result<Index, Error>
+    pub fn new<M: HasPattern>(alloc: Global, members: &[M]) -> Result<Index, AllocError>
         ensures value { IfOk result (λ index. IsIndexOf index (map M.member members.now)) }
-        ensures out_of_memory { IfErr result (λ e. problem_of e ≡ memory) }
     {
-        match index_of(alloc, members) {
-            Ok(index) => Ok(index),
-            Err(_) => Err(Error::Memory),
-        }
+        let mut index = without_buckets(alloc, members)?;
+        index.buckets = Buckets::if_many(alloc, index.others.as_slice())?;
+        Ok(index)
     }
 
     /// The greatest index of a value whose pattern matches the text and allows its kind, among the
     /// values that this index was made of.
     ///
     /// # Errors
-    /// `Error::Memory` alone, and none where all are without braces and have at most 62 positions:
-    /// no memory is requested.
+    /// None where all are without braces and have at most 62 positions: no memory is requested.
     pub fn last_match<M: HasPattern>(
         &self,
         members: &[M],
         text: &str,
         is_dir: bool,
-    ) -> Result<Option<usize>, Error>
+    ) -> Result<Option<usize>, AllocError>
         requires { IsIndexOf self.now (map M.member members.now) }
         ensures value { IfOk result (λ last. IsLastMatch (chars text.now) is_dir (map M.member members.now) last) }
-        ensures out_of_memory { IfErr result (λ e. problem_of e ≡ memory) }
         ensures succeeds { AreShort (map M.member members.now) → IsOk result }
     {
         let (last, _) = self.last_match_counted(members, text, is_dir)?;
@@ -94,11 +85,10 @@ impl Index {
         members: &[M],
         text: &str,
         is_dir: bool,
-    ) -> Result<(Option<usize>, u64), Error>
+    ) -> Result<(Option<usize>, u64), AllocError>
         requires { IsIndexOf self.now (map M.member members.now) }
         ensures value { IfOk result (λ r. IsLastMatch (chars text.now) is_dir (map M.member members.now) r.0) }
         ensures count { IfOk result (λ r. r.1 ≤ pass_bound (map M.member members.now)) }
-        ensures out_of_memory { IfErr result (λ e. problem_of e ≡ memory) }
         ensures succeeds { AreShort (map M.member members.now) → IsOk result }
     {
         self.last_counted_after(members, &mut Haystack::new(text), 0, is_dir)
@@ -115,13 +105,12 @@ impl Index {
         haystack: &mut Haystack<'_>,
         offset: usize,
         is_dir: bool,
-    ) -> Result<Option<usize>, Error>
+    ) -> Result<Option<usize>, AllocError>
         requires { IsIndexOf self.now (map M.member members.now) }
         ensures value { IsCharBoundary haystack.old offset
             → IfOk result (λ last. IsLastMatch (chars (drop offset haystack.old)) is_dir (map M.member members.now) last) }
         ensures within { IfOk result (λ last. IfSome last (λ i. i < length members.now)) }
         ensures same { haystack.new ≡ haystack.old }
-        ensures out_of_memory { IfErr result (λ e. problem_of e ≡ memory) }
         ensures succeeds { AreShort (map M.member members.now) → IsOk result }
     {
         let (last, _) = self.last_counted_after(members, haystack, offset, is_dir)?;
@@ -134,14 +123,13 @@ impl Index {
         haystack: &mut Haystack<'_>,
         offset: usize,
         is_dir: bool,
-    ) -> Result<(Option<usize>, u64), Error>
+    ) -> Result<(Option<usize>, u64), AllocError>
         requires { IsIndexOf self.now (map M.member members.now) }
         ensures value { IsCharBoundary haystack.old offset
             → IfOk result (λ r. IsLastMatch (chars (drop offset haystack.old)) is_dir (map M.member members.now) r.0) }
         ensures within { IfOk result (λ r. IfSome r.0 (λ i. i < length members.now)) }
         ensures count { IfOk result (λ r. r.1 ≤ pass_bound (map M.member members.now)) }
         ensures same { haystack.new ≡ haystack.old }
-        ensures out_of_memory { IfErr result (λ e. problem_of e ≡ memory) }
         ensures succeeds { AreShort (map M.member members.now) → IsOk result }
     {
         let whole = haystack.text();
@@ -201,14 +189,6 @@ impl Index {
     }
 }
 
-fn index_of<M: HasPattern>(alloc: Global, members: &[M]) -> Result<Index, AllocError>
-    ensures { IfOk result (λ index. IsIndexOf index (map M.member members.now)) }
-{
-    let mut index = without_buckets(alloc, members)?;
-    index.buckets = Buckets::if_many(alloc, index.others.as_slice())?;
-    Ok(index)
-}
-
 fn without_buckets<M: HasPattern>(alloc: Global, members: &[M]) -> Result<Index, AllocError>
     ensures { IfOk result (λ index. IsIndexOf index (map M.member members.now)) }
 {
@@ -235,14 +215,13 @@ fn last_other<M: HasPattern>(
     best: usize,
     text: &str,
     is_dir: bool,
-) -> Result<(usize, u64), Error>
+) -> Result<(usize, u64), AllocError>
     requires others { AreOthers left.now.needles.now (map M.member members.now) }
     requires past { IsPast text.now left.now.needles.now left.now.end }
     requires within { left.now.end ≤ length left.now.needles.now }
     requires over { IsMaskOver text.now left.now.mask }
     ensures value { IfOk result (λ r. IsFoundFrom text.now is_dir (map M.member members.now) best r.0) }
     ensures count { IfOk result (λ r. r.1 ≤ pass_bound (map M.member members.now)) }
-    ensures out_of_memory { IfErr result (λ e. problem_of e ≡ memory) }
     ensures succeeds { AreShort (map M.member members.now) → IsOk result }
 {
     let others = left.needles;

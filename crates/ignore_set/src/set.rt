@@ -47,13 +47,9 @@ impl PatternSet {
         ensures out_of_memory { IfErr result (λ e. problem_of e ≡ memory) }
     {
         let alloc = *patterns.allocator();
-        match entries_of(patterns) {
-            Ok(entries) => {
-                let index = Index::new(alloc, &entries)?;
-                Ok(PatternSet { entries, index })
-            }
-            Err(_) => Err(Error::Memory),
-        }
+        let entries = entries_of(patterns)?;
+        let index = Index::new(alloc, &entries)?;
+        Ok(PatternSet { entries, index })
     }
 
     /// The greatest index of a pattern that matches the text and allows its kind.
@@ -66,7 +62,7 @@ impl PatternSet {
         ensures out_of_memory { IfErr result (λ e. problem_of e ≡ memory) }
         ensures succeeds { AreShort self.now → IsOk result }
     {
-        self.index.last_match(&self.entries, text, is_dir)
+        Ok(self.index.last_match(&self.entries, text, is_dir)?)
     }
 
     /// As `last_match`, with how many patterns this call tried by a pass over positions: at most
@@ -84,6 +80,6 @@ impl PatternSet {
         ensures out_of_memory { IfErr result (λ e. problem_of e ≡ memory) }
         ensures succeeds { AreShort self.now → IsOk result }
     {
-        self.index.last_match_counted(&self.entries, text, is_dir)
+        Ok(self.index.last_match_counted(&self.entries, text, is_dir)?)
     }
 }

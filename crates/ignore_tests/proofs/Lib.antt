@@ -1,1 +1,2 @@
+mod WorkedMasks
 mod WorkedSets

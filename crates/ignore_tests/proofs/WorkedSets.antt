@@ -1,6 +1,6 @@
 -- Worked examples of what a set of patterns promises of its work: the passes that each form may take,
 -- and which sets are short.
-use Rattle.std.proofs.Common.{◌≡◌, ℕ, Bool, true, false, List, [], ◌∷◌, replicate, codes, refl, arith}
+use Rattle.std.proofs.Common.{◌≡◌, ℕ, true, false, List, [], ◌∷◌, replicate, refl, arith}
 use Rattle.std.proofs.lemmas.List.Elements.{All-cons, All-nil}
 use Rattle.ignore_glob.specs.Glob.{Tokens, done, then, literal, any, start}
 use Rattle.ignore_glob.specs.Forms.{whole, name, ending, other}

@@ -17,6 +17,13 @@ map-same f [] (y ∷ ys) same = absurd same
 map-same f (x ∷ xs) [] same = absurd same
 map-same f (x ∷ xs) (y ∷ ys) same = λ i. same.0 i ∷ map-same f xs ys same.1 i
 
+-- the element in a place, as the function makes it
+pub map-at : {A B : Type 0} (f : A → B) (xs : List A) (i : ℕ) (x : A) (d : B) → i < length xs → x ≡ get_or xs i x
+    → f x ≡ get_or (map f xs) i d
+map-at f [] i x d within read = absurd (omega arith)
+map-at f (y ∷ ys) zero x d within read = ap f read
+map-at f (y ∷ ys) (suc i) x d within read = map-at f ys i x d (omega arith) read
+
 neighbours-map : {A B : Type 0} (lt : B → B → Bool) (f : A → B) (xs : List A)
     → ((k : ℕ) (d : A) → suc k < length xs → lt (f (get_or xs (suc k) d)) (f (get_or xs k d)) ≡ false)
     → (k : ℕ) (d : B) → suc k < length (map f xs) → lt (get_or (map f xs) (suc k) d) (get_or (map f xs) k d) ≡ false

@@ -2,9 +2,8 @@
 use Rattle.std.proofs.Common.{◌≡◌, ℕ, zero, suc, ◌+◌, ◌<◌, Bool, true, false, ◌||◌, List, [], ◌∷◌, length, get_or, map, drop, drop-cons}
 use Rattle.std.proofs.Common.{add-one, All, Decides, Option, refl, sym, ap, subst, ◌∙◌, inl, inr, ◌⊎◌, cond, arith}
 use Rattle.std.specs.Prelude as option
-use Rattle.std.specs.List.{list_any}
 use Rattle.std.specs.Str.{chars}
-use Rattle.std.specs.Option.{option_map, is_some}
+use Rattle.std.specs.Option.{option_map, option_map_or}
 use Rattle.std.proofs.lemmas.Bool.{false_from_ne_true, or_from, or_left, or_right}
 use Rattle.std.proofs.lemmas.List.{length-map}
 use Rattle.std.proofs.lemmas.Option.{slice_get-map, slice_get-get_or, slice_get_within}
@@ -16,24 +15,24 @@ use Rattle.ignore_base.specs.Match.{match_or}
 use Rattle.ignore_glob.specs.Reading.{Reading, Matches}
 use Rattle.ignore_set.specs.Sets.{Member, Applies, IsLastMatch}
 use Rattle.ignore_types.specs.TypeIndex.{name_member}
-use Rattle.ignore_types.specs.TypeMatch.{Chosen, does_choice_match, verdict_of, choice_answer, choices_answer, unmatched, type_answer}
-use Rattle.ignore_types.specs.TypeMatch.{SomeMatches, NoneMatches, IsDeciding, IsNameAnswer, AnswersByTheLastChoice}
-use Rattle.ignore_types.specs.Types.{Definition}
+use Rattle.ignore_types.specs.TypeMatch.{Chosen, TypeGlob, last_place, glob_at, verdict_of, choice_answer, choices_answer, unmatched}
+use Rattle.ignore_types.specs.TypeMatch.{SomeMatches, NoneMatches, IsLastGlob, IsDeciding, IsNameAnswer, AnswersByTheLastChoice, type_answer}
 
 some_one : {A : Type 0} (a b : A) → option.Some a ≡ option.Some b → a ≡ b
 some_one a b e = cc
 
-verdict-some : (c : Chosen) (flag : Bool) → cond flag (Ignore (option.Some c.definition)) (Whitelist (option.Some c.definition)) ≡ None → ⊥
-verdict-some c true e = cc
-verdict-some c false e = cc
+verdict-some : (c : Chosen) (i : ℕ) (flag : Bool)
+    → cond flag (Ignore (option.Some (glob_at c i))) (Whitelist (option.Some (glob_at c i))) ≡ None → ⊥
+verdict-some c i true e = cc
+verdict-some c i false e = cc
 
-verdict-or : (c : Chosen) (flag : Bool) (other : Match (Option Definition))
-    → match_or (cond flag (Ignore (option.Some c.definition)) (Whitelist (option.Some c.definition))) other
-    ≡ cond flag (Ignore (option.Some c.definition)) (Whitelist (option.Some c.definition))
-verdict-or c true other = refl
-verdict-or c false other = refl
+verdict-or : (c : Chosen) (i : ℕ) (flag : Bool) (other : Match (Option TypeGlob))
+    → match_or (cond flag (Ignore (option.Some (glob_at c i))) (Whitelist (option.Some (glob_at c i)))) other
+    ≡ cond flag (Ignore (option.Some (glob_at c i))) (Whitelist (option.Some (glob_at c i)))
+verdict-or c i true other = refl
+verdict-or c i false other = refl
 
-or_settled : (m other : Match (Option Definition)) → (m ≡ None → ⊥) → match_or m other ≡ m
+or_settled : (m other : Match (Option TypeGlob)) → (m ≡ None → ⊥) → match_or m other ≡ m
 or_settled None other some = absurd (some refl)
 or_settled (Ignore d) other some = refl
 or_settled (Whitelist d) other some = refl
@@ -54,71 +53,114 @@ settled (c ∷ cs) name (suc i) some =
     let later = settled cs name i some in
     or_settled (choices_answer cs name) (choice_answer name c) (λ e. some (sym later ∙ e)) ∙ later
 
--- a choice that matches decides
+-- a choice that has a match decides
 pub decided : (cs : List Chosen) (name : List ℕ) (i : ℕ) (c : Chosen) → i < length cs → c ≡ get_or cs i c
-    → choices_answer (drop (i + 1) cs) name ≡ None → does_choice_match name c ≡ true → choices_answer cs name ≡ verdict_of c
-decided cs name i c fits is none e =
-    let here : choices_answer (drop i cs) name ≡ verdict_of c = at_choice cs name i c fits is none
-    ∙ ap (λ b. cond b (verdict_of c) None) e in
-    settled cs name i (λ f. verdict-some c c.negated (sym here ∙ f)) ∙ here
+    → choices_answer (drop (i + 1) cs) name ≡ None → (choice_answer name c ≡ None → ⊥) → choices_answer cs name ≡ choice_answer name c
+decided cs name i c fits is none some =
+    let here = at_choice cs name i c fits is none in
+    settled cs name i (λ f. some (sym here ∙ f)) ∙ here
+
+abbrev shifted : Option ℕ → Bool → Option ℕ
+shifted later here = option_map_or (λ i. option.Some (suc i)) later (cond here (option.Some zero) option.None)
 
 -- The law that the test of matching decides matching is handed in.
 module _ (decides : (reading : Reading) (text : List ℕ) → Decides (does_match reading text) (Matches reading text)) where
-  some_decided : (name : List ℕ) (rs : List Reading) → Decides (list_any (λ r. does_match r name) rs) (SomeMatches name rs)
-  some_decided name [] = (λ e. cc, λ h. absurd h)
-  some_decided name (r ∷ rs) =
-      Decides-or (does_match r name) (list_any (λ q. does_match q name) rs) (decides r name) (some_decided name rs)
+  not_here : (name : List ℕ) (r : Reading) → (Matches r name → ⊥) → does_match r name ≡ false
+  not_here name r never = false_from_ne_true _ (λ e. never ((decides r name).0 e))
 
-  -- the last match of the globs of a choice, if there is one
-  pub some_found : (name : List ℕ) (rs : List Reading) (found : Option ℕ) → IsLastMatch name false (map name_member rs) found
-      → is_some found ≡ list_any (λ r. does_match r name) rs
-  some_found name rs option.None none = sym (no_match rs none)
+  none_last : (name : List ℕ) (rs : List Reading) → All (λ m. Applies name false m → ⊥) (map name_member rs)
+      → last_place name rs ≡ option.None
+  none_last name [] h = refl
+  none_last name (r ∷ rs) h =
+      ap (λ o. shifted o (does_match r name)) (none_last name rs (λ k d l. h (suc k) d (omega (arith, l))))
+      ∙ ap (λ b. shifted option.None b) (not_here name r (λ m. h zero (name_member r) (omega arith) (inl refl, m)))
+
+  -- the last match of the globs of a choice
+  pub last_found : (name : List ℕ) (rs : List Reading) (found : Option ℕ) → IsLastMatch name false (map name_member rs) found
+      → found ≡ last_place name rs
+  last_found name rs option.None none = sym (none_last name rs none)
+  last_found name [] (option.Some i) (m, here, applies, later) = cc
+  last_found name (r ∷ rs) (option.Some zero) (m, here, applies, later) =
+      let same : m ≡ name_member r = some_one _ _ (sym here) in
+      let matches : Matches r name = subst (λ (x : Member). Matches x.reading name) same applies.1 in
+      sym (ap (λ o. shifted o (does_match r name)) (none_last name rs later)
+      ∙ ap (λ b. shifted option.None b) ((decides r name).1 matches))
+  last_found name (r ∷ rs) (option.Some (suc i)) (m, here, applies, later) =
+      let next : suc i + 1 ≡ suc (i + 1) = omega arith in
+      let rest = subst (λ n. All (λ (k : Member). Applies name false k → ⊥) (drop n (map name_member (r ∷ rs)))) next later in
+      ap (λ o. shifted o (does_match r name)) (last_found name rs (option.Some i) (m, here, applies, rest))
+
+  -- the last of the globs that matches the name, or none
+  last_of_globs : (name : List ℕ) (rs : List Reading)
+      → ((i : ℕ) × IsLastGlob name rs i × (last_place name rs ≡ option.Some i))
+      ⊎ ((SomeMatches name rs → ⊥) × (last_place name rs ≡ option.None))
+  last_of_globs name [] = inr ((λ h. absurd h), refl)
+  last_of_globs name (r ∷ rs) = step (last_of_globs name rs) (does_match r name) refl
     where
-      no_match : (qs : List Reading) → All (λ m. Applies name false m → ⊥) (map name_member qs)
-          → list_any (λ r. does_match r name) qs ≡ false
-      no_match [] h = refl
-      no_match (r ∷ qs) h =
-          or_from (does_match r name) (list_any (λ q. does_match q name) qs)
-          (false_from_ne_true _ (λ e. h zero (name_member r) (omega arith) (inl refl, (decides r name).0 e)))
-          (no_match qs (λ k d l. h (suc k) d (omega (arith, l))))
-  some_found name rs (option.Some i) (m, here, applies, later) =
-      let fits : i < length rs = subst (λ n. i < n) (length-map rs name_member) (slice_get_within (map name_member rs) i m here) in
-      let same : m ≡ name_member (get_or rs i m.reading) = some_one _ _ (sym here ∙ slice_get-map name_member rs i
-      ∙ ap (option_map name_member) (slice_get-get_or rs i m.reading fits)) in
-      sym (any_at rs i m.reading fits (subst (λ (x : Member). Matches x.reading name) same applies.1))
-    where
-      any_at : (qs : List Reading) (k : ℕ) (d : Reading) → k < length qs → Matches (get_or qs k d) name
-          → list_any (λ r. does_match r name) qs ≡ true
-      any_at [] k d l h = absurd (omega (arith, l))
-      any_at (r ∷ qs) zero d l h = or_left (does_match r name) (list_any (λ q. does_match q name) qs) ((decides r name).1 h)
-      any_at (r ∷ qs) (suc k) d l h =
-          or_right (does_match r name) (list_any (λ q. does_match q name) qs) (any_at qs k d (omega (arith, l)) h)
+      step : ((i : ℕ) × IsLastGlob name rs i × (last_place name rs ≡ option.Some i))
+          ⊎ ((SomeMatches name rs → ⊥) × (last_place name rs ≡ option.None))
+          → (here : Bool) → does_match r name ≡ here
+          → ((i : ℕ) × IsLastGlob name (r ∷ rs) i × (last_place name (r ∷ rs) ≡ option.Some i))
+          ⊎ ((SomeMatches name (r ∷ rs) → ⊥) × (last_place name (r ∷ rs) ≡ option.None))
+      step (inl (i, h, e)) here f = inl (
+        suc i,
+        record {
+          before = r ∷ h.before;
+          reading = h.reading;
+          after = h.after;
+          split = ap (λ l. r ∷ l) h.split;
+          there = ap suc h.there;
+          matches = h.matches;
+          later = h.later;
+        },
+        ap (λ o. shifted o (does_match r name)) e,
+      )
+      step (inr (none, e)) true f = inl (
+        zero,
+        record {
+          before = [];
+          reading = r;
+          after = rs;
+          split = refl;
+          there = refl;
+          matches = (decides r name).0 f;
+          later = none;
+        },
+        ap (λ o. shifted o (does_match r name)) e ∙ ap (λ b. shifted option.None b) f,
+      )
+      step (inr (none, e)) false f = inr (
+        not_from_Decides _ (Decides-or (does_match r name) false (decides r name) ((λ g. cc), (λ h. absurd (none h)))) (or_from _ _ f refl),
+        ap (λ o. shifted o (does_match r name)) e ∙ ap (λ b. shifted option.None b) f,
+      )
 
   -- the last choice that matches, or none
   last_of : (cs : List Chosen) (name : List ℕ)
-      → ((c : Chosen) × IsDeciding name cs c × (choices_answer cs name ≡ verdict_of c))
+      → ((c : Chosen) × (i : ℕ) × IsDeciding name cs c i × (choices_answer cs name ≡ verdict_of c i))
       ⊎ (NoneMatches name cs × (choices_answer cs name ≡ None))
   last_of [] name = inr (tt, refl)
-  last_of (c ∷ cs) name = step (last_of cs name) (does_choice_match name c) refl
+  last_of (c ∷ cs) name = step (last_of cs name) (last_of_globs name c.readings)
     where
-      step : ((d : Chosen) × IsDeciding name cs d × (choices_answer cs name ≡ verdict_of d))
+      step : ((d : Chosen) × (i : ℕ) × IsDeciding name cs d i × (choices_answer cs name ≡ verdict_of d i))
           ⊎ (NoneMatches name cs × (choices_answer cs name ≡ None))
-          → (here : Bool) → does_choice_match name c ≡ here
-          → ((d : Chosen) × IsDeciding name (c ∷ cs) d × (choices_answer (c ∷ cs) name ≡ verdict_of d))
+          → ((i : ℕ) × IsLastGlob name c.readings i × (last_place name c.readings ≡ option.Some i))
+          ⊎ ((SomeMatches name c.readings → ⊥) × (last_place name c.readings ≡ option.None))
+          → ((d : Chosen) × (i : ℕ) × IsDeciding name (c ∷ cs) d i × (choices_answer (c ∷ cs) name ≡ verdict_of d i))
           ⊎ (NoneMatches name (c ∷ cs) × (choices_answer (c ∷ cs) name ≡ None))
-      step (inl (d, h, e)) here f = inl (
+      step (inl (d, i, h, e)) here = inl (
         d,
-        record { before = c ∷ h.before; after = h.after; split = ap (λ l. c ∷ l) h.split; matches = h.matches; later = h.later },
-        ap (λ m. match_or m (choice_answer name c)) e ∙ verdict-or d d.negated (choice_answer name c),
+        i,
+        record { before = c ∷ h.before; after = h.after; split = ap (λ l. c ∷ l) h.split; last = h.last; later = h.later },
+        ap (λ m. match_or m (choice_answer name c)) e ∙ verdict-or d i d.negated (choice_answer name c),
       )
-      step (inr (none, e)) true f = inl (
+      step (inr (none, e)) (inl (i, last, f)) = inl (
         c,
-        record { before = []; after = cs; split = refl; matches = (some_decided name c.readings).0 f; later = none },
-        ap (λ m. match_or m (choice_answer name c)) e ∙ ap (λ b. cond b (verdict_of c) None) f,
+        i,
+        record { before = []; after = cs; split = refl; last = last; later = none },
+        ap (λ m. match_or m (choice_answer name c)) e ∙ ap (λ o. option_map_or (verdict_of c) o None) f,
       )
-      step (inr (none, e)) false f = inr (
-        (not_from_Decides _ (some_decided name c.readings) f, none),
-        ap (λ m. match_or m (choice_answer name c)) e ∙ ap (λ b. cond b (verdict_of c) None) f,
+      step (inr (none, e)) (inr (never, f)) = inr (
+        (never, none),
+        ap (λ m. match_or m (choice_answer name c)) e ∙ ap (λ o. option_map_or (verdict_of c) o None) f,
       )
 
   pub answers_by_the_last_choice : AnswersByTheLastChoice
@@ -126,8 +168,9 @@ module _ (decides : (reading : Reading) (text : List ℕ) → Decides (does_matc
   answers_by_the_last_choice choices false option.None = refl
   answers_by_the_last_choice choices false (option.Some name) = go (last_of choices (chars name))
     where
-      go : ((c : Chosen) × IsDeciding (chars name) choices c × (choices_answer choices (chars name) ≡ verdict_of c))
+      go : ((c : Chosen) × (i : ℕ) × IsDeciding (chars name) choices c i × (choices_answer choices (chars name) ≡ verdict_of c i))
           ⊎ (NoneMatches (chars name) choices × (choices_answer choices (chars name) ≡ None))
           → IsNameAnswer choices (chars name) (match_or (choices_answer choices (chars name)) (unmatched choices))
-      go (inl (c, h, e)) = inl (c, h, ap (λ m. match_or m (unmatched choices)) e ∙ verdict-or c c.negated (unmatched choices))
+      go (inl (c, i, h, e)) =
+          inl (c, i, h, ap (λ m. match_or m (unmatched choices)) e ∙ verdict-or c i c.negated (unmatched choices))
       go (inr (none, e)) = inr (none, ap (λ m. match_or m (unmatched choices)) e)

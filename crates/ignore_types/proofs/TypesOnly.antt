@@ -1,6 +1,6 @@
 -- A path has one answer of types. A draft is built as one matcher, or is rejected with one problem;
 -- the text of a definition changes a draft in one way, or is rejected.
-use Rattle.std.proofs.Common.{◌≡◌, ◌⊎◌, ℕ, Bool, true, false, List, [], ◌∷◌, ◌++◌, map, Option, Some, None, refl, sym, ap, ◌∙◌, subst, inl}
+use Rattle.std.proofs.Common.{◌≡◌, ◌⊎◌, ℕ, suc, length, Bool, true, false, List, [], ◌∷◌, ◌++◌, map, Option, Some, None, refl, sym, ap, ◌∙◌, subst, inl}
 use Rattle.std.proofs.Common.{inr}
 use Rattle.std.specs.List.{AllZip}
 use Rattle.std.proofs.lemmas.List.Sorted.{sum_by-IsPermutation}
@@ -10,12 +10,12 @@ use Rattle.ignore_glob.specs.GlobFaults.{glob_fault_text}
 use Rattle.ignore_glob.specs.declared.glob.fault.GlobFault.{GlobFault}
 use Rattle.ignore_base.specs.declared.match_result.Match.{Match}
 use Rattle.ignore_base.specs.Problem.{Problem, problem_of, glob, invalid_definition, memory}
-use Rattle.ignore_glob.specs.Reading.{Reading}
+use Rattle.ignore_glob.specs.Reading.{Reading, Matches}
 use Rattle.ignore_glob.proofs.RowLemmas.{Reads-same, one_fault, never_both}
 use Rattle.ignore_base.specs.declared.error.Error.{Error}
 use Rattle.std.specs.declared.cmp.Ordering.TheVariants.{Less}
 use Rattle.ignore_types.specs.Types.{Definition, Choice, Draft, Becomes, IsSortedCopy, IsAscending, text_cmp, definition_of}
-use Rattle.ignore_types.specs.TypeMatch.{Chosen, Matcher, SomeMatches, NoneMatches, IsNameAnswer, IsTypeAnswer, verdict_of}
+use Rattle.ignore_types.specs.TypeMatch.{Chosen, Matcher, TypeGlob, SomeMatches, NoneMatches, IsLastGlob, IsNameAnswer, IsTypeAnswer, verdict_of}
 use Rattle.ignore_types.specs.Building.{plain, IsReadAs, IsChosen, IsBuilt, FirstBad, IsGlobProblem, IsChoiceProblem, IsRefusedWith}
 use Rattle.ignore_types.specs.Refusals.{IsRefusal}
 use Rattle.ignore_types.proofs.SortedTexts.{sorted_one}
@@ -38,19 +38,48 @@ one_choice name (b ∷ before) [] c d after rest e matches none others later =
 one_choice name (b ∷ before) (x ∷ front) c d after rest e matches none others later =
     let left : before ++ c ∷ after ≡ front ++ d ∷ rest = cc e in one_choice name before front c d after rest left matches none others later
 
-IsNameAnswer-one : (choices : List Chosen) (name : List ℕ) (m k : Match (Option Definition)) → IsNameAnswer choices name m
+some_at : (name : List ℕ) (before : List Reading) (r : Reading) (after : List Reading) → Matches r name
+    → SomeMatches name (before ++ r ∷ after)
+some_at name [] r after matches = inl matches
+some_at name (b ∷ before) r after matches = inr (some_at name before r after matches)
+
+one_matches : (name : List ℕ) (rs : List Reading) (i : ℕ) → IsLastGlob name rs i → SomeMatches name rs
+one_matches name rs i h = subst (SomeMatches name) (sym h.split) (some_at name h.before h.reading h.after h.matches)
+
+one_place : (name : List ℕ) (before front : List Reading) (r q : Reading) (after rest : List Reading)
+    → before ++ r ∷ after ≡ front ++ q ∷ rest → Matches r name → (SomeMatches name after → ⊥) → Matches q name
+    → (SomeMatches name rest → ⊥) → length before ≡ length front
+one_place name [] [] r q after rest e matches none others later = refl
+one_place name [] (x ∷ front) r q after rest e matches none others later =
+    let left : after ≡ front ++ q ∷ rest = cc e in
+    absurd (none (subst (SomeMatches name) (sym left) (some_at name front q rest others)))
+one_place name (b ∷ before) [] r q after rest e matches none others later =
+    let left : before ++ r ∷ after ≡ rest = cc e in absurd (later (subst (SomeMatches name) left (some_at name before r after matches)))
+one_place name (b ∷ before) (x ∷ front) r q after rest e matches none others later =
+    let left : before ++ r ∷ after ≡ front ++ q ∷ rest = cc e in
+    ap suc (one_place name before front r q after rest left matches none others later)
+
+IsLastGlob-one : (name : List ℕ) (rs : List Reading) (i j : ℕ) → IsLastGlob name rs i → IsLastGlob name rs j → i ≡ j
+IsLastGlob-one name rs i j h k =
+    sym h.there ∙ (one_place name h.before k.before h.reading k.reading h.after k.after (sym h.split ∙ k.split) h.matches h.later
+    k.matches k.later ∙ k.there)
+
+IsNameAnswer-one : (choices : List Chosen) (name : List ℕ) (m k : Match (Option TypeGlob)) → IsNameAnswer choices name m
     → IsNameAnswer choices name k → m ≡ k
-IsNameAnswer-one choices name m k (inl (c, here, e)) (inl (d, there, f)) =
-    e ∙ (ap (λ (x : Chosen). verdict_of x) (one_choice name here.before there.before c d here.after there.after
-    (sym here.split ∙ there.split) here.matches here.later there.matches there.later) ∙ sym f)
-IsNameAnswer-one choices name m k (inl (c, here, e)) (inr (none, f)) =
-    absurd (none_at name here.before c here.after (subst (NoneMatches name) here.split none) here.matches)
-IsNameAnswer-one choices name m k (inr (none, e)) (inl (d, there, f)) =
-    absurd (none_at name there.before d there.after (subst (NoneMatches name) there.split none) there.matches)
+IsNameAnswer-one choices name m k (inl (c, i, here, e)) (inl (d, j, there, f)) =
+    let same : c ≡ d = one_choice name here.before there.before c d here.after there.after (sym here.split ∙ there.split)
+    (one_matches name c.readings i here.last) here.later (one_matches name d.readings j there.last) there.later in
+    let place : i ≡ j = IsLastGlob-one name c.readings i j here.last
+    (subst (λ (x : Chosen). IsLastGlob name x.readings j) (sym same) there.last) in
+    e ∙ (ap (λ (x : Chosen). verdict_of x i) same ∙ (ap (λ n. verdict_of d n) place ∙ sym f))
+IsNameAnswer-one choices name m k (inl (c, i, here, e)) (inr (none, f)) =
+    absurd (none_at name here.before c here.after (subst (NoneMatches name) here.split none) (one_matches name c.readings i here.last))
+IsNameAnswer-one choices name m k (inr (none, e)) (inl (d, j, there, f)) =
+    absurd (none_at name there.before d there.after (subst (NoneMatches name) there.split none) (one_matches name d.readings j there.last))
 IsNameAnswer-one choices name m k (inr (none, e)) (inr (others, f)) = e ∙ sym f
 
 -- a path has one answer
-IsTypeAnswer-one : (choices : List Chosen) (is_dir : Bool) (name : Option (List ℕ)) (m k : Match (Option Definition))
+IsTypeAnswer-one : (choices : List Chosen) (is_dir : Bool) (name : Option (List ℕ)) (m k : Match (Option TypeGlob))
     → IsTypeAnswer choices is_dir name m → IsTypeAnswer choices is_dir name k → m ≡ k
 IsTypeAnswer-one choices true name m k h j = h ∙ sym j
 IsTypeAnswer-one choices false None m k h j = h ∙ sym j

@@ -4,6 +4,7 @@ mod chosen;
 mod definition;
 mod definitions;
 mod fields;
+mod glob;
 pub mod laws;
 mod matcher;
 mod name;
@@ -11,4 +12,5 @@ mod selection;
 
 pub use builder::TypesBuilder;
 pub use definition::FileTypeDef;
-pub use matcher::{Glob, Types};
+pub use glob::Glob;
+pub use matcher::Types;

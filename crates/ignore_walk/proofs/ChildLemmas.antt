@@ -17,6 +17,7 @@ use Rattle.ignore_walk.specs.declared.frame.Frame.{Frame}
 use Rattle.ignore_walk.specs.Branch.{Branch, path_of, entered}
 use Rattle.ignore_walk.specs.Child.{child, followed_link, found, identity_at, is_dir_kind, named, or_failed, same_among, unlooped, with_device, without_loop}
 use Rattle.ignore_walk.specs.Entry.{Entry, Item, fresh}
+use Rattle.ignore_walk.specs.Found.{tests}
 use Rattle.ignore_walk.specs.Scene.{Scene}
 
 pub fresh_err : (p : Problem) (r : Result Entry Problem) → Err p ≡ fresh r → r ≡ Err p
@@ -79,14 +80,19 @@ no_last (f ∷ fs) root b p h last =
     let some = slice_get-get_or (f ∷ fs) (length (f ∷ fs) - 1) f (omega arith) in
     absurd (cc (last, some))
 
+and_then-both : {A B C E : Type 0} (f : B → Result C E) (h : A → Result B E) (r : Result A E)
+    → and_then f (and_then h r) ≡ and_then (λ (a : A). and_then f (h a)) r
+and_then-both f h (Ok a) = refl
+and_then-both f h (Err e) = refl
+
 -- what a listed entry is, by the frames
 pub child_is : (g : Scene) (root : List ℕ) (b : Branch) (name : List ℕ) (kind : FileType) (fs : List Frame) (path : List ℕ) (depth : ℕ)
     → path ≡ join_of (path_of root b) name → depth ≡ length b + 1 → map (λ (f : Frame). f.path) (reverse fs) ≡ entered root b
-    → child g root b (thing.Entry name kind)
-    ≡ and_then (λ (e : Entry). with_device g (is_dir_kind e.kind) e)
-    (and_then (without_loop g.tree (map (λ (f : Frame). f.path) (reverse fs))) (found g path depth kind))
+    → child g root b (thing.Entry name kind) ≡ and_then (tests g (map (λ (f : Frame). f.path) (reverse fs))) (found g path depth kind)
 unfolding child
-child_is g root b name kind fs path depth at deep h = rw (at, deep, h) refl
+child_is g root b name kind fs path depth at deep h =
+    rw (at, deep, h) (and_then-both (λ (e : Entry). with_device g (is_dir_kind e.kind) e) (without_loop g.tree (entered root b))
+    (found g (join_of (path_of root b) name) (length b + 1) kind))
 
 pub fault_is : (g : Scene) (root : List ℕ) (b : Branch) (fault : Fault)
     → child g root b (thing.Fault fault) ≡ Err (at_depth (length b + 1) (io fault))

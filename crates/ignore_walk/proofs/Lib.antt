@@ -15,6 +15,7 @@ pub mod TextLemmas
 pub mod GroundLemmas
 pub mod RootLemmas
 pub mod AboveLemmas
+pub mod LastLemmas
 pub mod LeftLemmas
 pub mod PlaceNames
 pub mod CanonicalLemmas
@@ -30,3 +31,5 @@ pub mod KeptLemmas
 pub mod AgreeLemmas
 pub mod YieldLemmas
 pub mod RunLemmas
+pub mod PlacedLemmas
+pub mod EndLemmas

@@ -5,7 +5,8 @@ use Rattle.ignore_base.specs.Problem.{Problem, io, memory}
 use Rattle.ignore_base.specs.declared.fault.Fault.TheVariants.{StepLimit}
 use Rattle.ignore_files.specs.declared.files.Files.{Ghosts as Files}
 use Rattle.ignore_walk.specs.Entry.{Entry, Item}
-use Rattle.ignore_walk.specs.Nexts.{IsLast, IsOver, NextGives, Remaining}
+use Rattle.ignore_walk.specs.Finished.{IsEnd, IsFinished}
+use Rattle.ignore_walk.specs.Nexts.{EndsBy, IsLast, IsOver, NextGives, Remaining}
 use Rattle.ignore_walk.specs.Runs.{IsBegun, IsRun}
 use Rattle.ignore_walk.specs.Scene.{Scene}
 use Rattle.ignore_walk.specs.declared.callbacks.Callbacks.{Ghosts as Callbacks}
@@ -110,6 +111,21 @@ begins_and_next all items item left n enough within b =
       | inl (others, is) ↦ (others, b.begins ∙ ap (λ (o : List Item). all ++ o) is)
       | inr (inl m) ↦ absurd (enough m)
       | inr (inr (l, few)) ↦ absurd (within l)
+    ]
+
+-- of items that end no walk none ends it, so one that does is none of those that remained
+no_end_at : (all others : List Item) (item : Item) → IsFinished (all ++ item ∷ others) → ¬ IsEnd item
+no_end_at [] others item h = h.0
+no_end_at (x ∷ all) others item h = no_end_at all others item h.1
+
+pub ended_by : (all items : List Item) (item : Item) (left n : ℕ) → IsFinished items → IsEnd item → IsBegun all item items left n
+    → EndsBy item left n
+ended_by all items item left n finished end b =
+    elim b.next [
+      | inl (others, is) ↦
+          absurd (no_end_at all others item
+          (subst IsFinished (b.begins ∙ ap (λ (o : List Item). all ++ o) is) finished) end)
+      | inr e ↦ e
     ]
 
 -- after none, and at an early end

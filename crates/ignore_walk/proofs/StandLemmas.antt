@@ -52,6 +52,17 @@ levels_same g root place s s' seen frames levels on = rw (seen, frames, levels) 
 items_same : (s s' : Stack) → s'.frames ≡ s.frames → s'.frames.items ≡ s.frames.items
 items_same s s' same = rw same refl
 
+in_same : (g : Scene) (root : List ℕ) (place : Branch) (seen : List (List ℕ)) (s s' : Stack) → Same s s' → s'.frames ≡ s.frames
+    → s'.levels ≡ s.levels → IsIn g root place seen s → IsIn g root place seen s'
+in_same g root place seen s s' same frames levels is =
+    record {
+      kept = kept_same s s' seen same is.kept;
+      frames =
+          subst (λ (fs : List Frame). IsBelow g root place s' (reverse fs)) (sym (items_same s s' frames))
+          (below_same g root place s s' (reverse s.frames.items) same is.frames);
+      levels = levels_same g root place s s' same.seen frames levels is.levels;
+    }
+
 -- items were made
 pub stand_made : (g : Scene) (root : List ℕ) (place : Branch) (seen : List (List ℕ)) (s s' : Stack) (now : List Item) (items : List Item)
     (n : ℕ) → Same s s' → s'.frames ≡ s.frames → s'.levels ≡ s.levels → map item_of s'.made.items ≡ map item_of s.made.items ++ now
@@ -61,13 +72,7 @@ stand_made g root place seen s s' now items n same frames levels makes is r =
       root = root;
       place = place;
       seen = seen;
-      is = record {
-        kept = kept_same s s' seen same is.kept;
-        frames =
-            subst (λ (fs : List Frame). IsBelow g root place s' (reverse fs)) (sym (items_same s s' frames))
-            (below_same g root place s s' (reverse s.frames.items) same is.frames);
-        levels = levels_same g root place s s' same.seen frames levels is.levels;
-      };
+      is = in_same g root place seen s s' same frames levels is;
       remains = rw (makes, frames, same.roots) r;
     }
 
@@ -182,6 +187,22 @@ stand_taken g s s' f f' front x items n same made levels frames frames' path tex
       k = t.0;
       fewer = t.1;
       hand = rw (made, pushed, same.roots) t.2;
+    }
+
+-- a stack that differs in its text alone
+pub takes_same : (g : Scene) (s s' : Stack) (x : Listed) (items : List Item) (n : ℕ) → Same s s' → s'.made ≡ s.made → s'.frames ≡ s.frames
+    → s'.levels ≡ s.levels → Takes g s x items n → Takes g s' x items n
+takes_same g s s' x items n same made frames levels t =
+    record {
+      root = t.root;
+      place = t.place;
+      seen = t.seen;
+      is = in_same g t.root t.place t.seen s s' same frames levels t.is;
+      frames = rw frames t.frames;
+      at = at_same g t.root s s' same t.at;
+      k = t.k;
+      fewer = t.fewer;
+      hand = rw (made, frames, same.roots) t.hand;
     }
 
 -- no directory is entered

@@ -4,10 +4,12 @@ pub mod Branch
 pub mod Child
 pub mod Walked
 pub mod Whole
+pub mod Finished
 pub mod Visits
 pub mod Agreement
 pub mod Suits
 pub mod Frames
+pub mod Found
 pub mod Keyed
 pub mod Shared
 pub mod OnList

@@ -6,13 +6,14 @@ use Rattle.ignore_files.specs.declared.types.Listed.TheVariants as thing
 use Rattle.ignore_levels.specs.Levels.{IsChain, counting, slots_of}
 use Rattle.ignore_walk.specs.Branch.{Branch, path_of, placed_around, text_at}
 use Rattle.ignore_walk.specs.Child.{child, below}
-use Rattle.ignore_walk.specs.Entry.{Entry, Item, item_of}
+use Rattle.ignore_walk.specs.Entry.{Item, entry_of, item_of}
 use Rattle.ignore_walk.specs.Frames.{AreFrames, device_of}
 use Rattle.ignore_walk.specs.Left.{State, Remains, InHand}
 use Rattle.ignore_walk.specs.OnList.{AreOn, place_around}
 use Rattle.ignore_walk.specs.Scene.{Scene}
 use Rattle.ignore_walk.specs.Shared.{AreSeen, AreShared}
 use Rattle.ignore_walk.specs.Walked.{is_skipped, leads_in}
+use Rattle.ignore_walk.specs.declared.found.Found.{Found}
 use Rattle.ignore_walk.specs.declared.frame.Frame.{Frame}
 use Rattle.ignore_walk.specs.declared.stack.Stack.{Stack}
 
@@ -86,14 +87,15 @@ name_in (thing.Fault fault) = []
 abbrev pub text_below : Scene → Path → Branch → Listed → Bytes
 text_below g root b x = text_at g root b ++ name_in x
 
--- an entry at a place is one to be visited: it isn't skipped; and where it leads into a directory,
--- its path as the directories around it see it, these directories, and the device of the root, are
--- known
-pub record Visits (g : Scene) (root : Path) (b : Branch) (s : Stack) (e : Entry) (leads : Bool) (text : Bytes) : Type 0 where
-  pub path : e.path ≡ path_of root b
-  pub leads_there : leads ≡ leads_in g b e
-  pub kept : is_skipped g root b e ≡ false
+-- what was found at a place is to be visited: it isn't skipped; and where it leads into a directory,
+-- its path as the directories around it see it, these directories, its device and that of the root
+-- are known
+pub record Visits (g : Scene) (root : Path) (b : Branch) (s : Stack) (f : Found) (leads : Bool) (text : Bytes) : Type 0 where
+  pub path : (entry_of f.entry).path ≡ path_of root b
+  pub leads_there : leads ≡ leads_in g b (entry_of f.entry)
+  pub kept : is_skipped g root b (entry_of f.entry) ≡ false
   pub at : leads ≡ true → IsAt g root s
+  pub device : leads ≡ true → f.device ≡ device_of g (entry_of f.entry).path
   pub seen_as : leads ≡ true → text ≡ text_at g root b
   pub around : leads ≡ true → IsAround g root b s
 

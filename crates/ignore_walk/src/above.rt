@@ -14,8 +14,8 @@ ghost use Rattle.ignore_walk.specs.Suits.{IsGroundOf};
 
 use crate::callbacks::Callbacks;
 use crate::ground::Ground;
-use crate::memory::join;
 use ignore_base::Error;
+use ignore_base::internal::join;
 use ignore_base::text::join_law;
 use ignore_files::{Files, Name};
 use ignore_levels::{Levels, Place};

@@ -11,7 +11,7 @@ ghost use Rattle.ignore_walk.specs.Walked.{comes_before, IsArranged};
 ghost use Rattle.ignore_walk.specs.declared.callbacks.Order.TheVariants.{ByName, ByPath};
 
 use crate::callbacks::{Callbacks, Order};
-use crate::memory::join;
+use ignore_base::internal::join;
 use ignore_files::{Listed, Name};
 use std::alloc::{AllocError, Global};
 use std::cmp::Ordering;

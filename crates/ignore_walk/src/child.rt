@@ -1,25 +1,27 @@
 //! What one listed thing is.
-ghost use Rattle.std.specs.Prelude.{◌≡◌, ◌+◌, ◌&&◌, ℕ, List, Result, length, map, reverse, option_map, IfOk, IfErr};
-ghost use Rattle.std.specs.Prelude.{None, Ok, Err, string_bytes, true};
+ghost use Rattle.std.specs.Prelude.{◌≡◌, ◌+◌, ℕ, List, Result, length, map, reverse, option_map, IfOk, MatchResult};
+ghost use Rattle.std.specs.Prelude.{None, Some, Ok, Err, string_bytes, true, if◌then◌else◌};
 ghost use Rattle.std.specs.Option.{option_copied};
 ghost use Rattle.ignore_base.specs.Paths.{is_proper, has_slash};
 ghost use Rattle.ignore_base.specs.Problem.{Problem, problem_of, at_depth, io};
 ghost use Rattle.ignore_files.specs.Gives.{IsHonest};
 ghost use Rattle.ignore_files.specs.Memory.{and_then};
-ghost use Rattle.ignore_files.specs.Tree.{Tree, Answers};
+ghost use Rattle.ignore_files.specs.Tree.{Tree};
 ghost use Rattle.ignore_walk.specs.Branch.{Branch, path_of, entered};
 ghost use Rattle.ignore_walk.specs.Child.{child, found, followed_link, or_failed, is_dir_kind, is_same, identity_at, known, named};
-ghost use Rattle.ignore_walk.specs.Child.{same_among, unless, with_device, without_loop};
-ghost use Rattle.ignore_walk.specs.Entry.{Entry, entry_of, item_of, fresh, problem_in};
+ghost use Rattle.ignore_walk.specs.Child.{same_among, unless, unlooped, with_device};
+ghost use Rattle.ignore_walk.specs.Entry.{Entry, entry_of, item_of, fresh};
+ghost use Rattle.ignore_walk.specs.Found.{IsFound, IsTested, tests};
 ghost use Rattle.ignore_walk.specs.Scene.{Scene};
 
 use crate::entry::{DirEntry, Item, failed_at};
+use crate::found::Found;
 use crate::frame::Frame;
-use crate::memory::answered;
 use ignore_base::text::{has_slash, is_proper};
 use ignore_base::{Error, Fault};
 use ignore_dir::Ground;
-use ignore_files::{FileType, Files, Identity, Listed, Refusal};
+use ignore_files::internal::answered;
+use ignore_files::{FileType, Files, Identity, Listed};
 use std::alloc::{AllocError, Global};
 
 /// Whether the kind is that of a directory.
@@ -91,18 +93,18 @@ pub(crate) fn fault_at(alloc: Global, depth: usize, fault: Fault) -> Result<Erro
     Ok(Error::WithDepth { depth, err })
 }
 
-/// The identity of what a path leads to, links followed. It has to be known.
+/// The identity of what a path leads to, links followed, which has to be known; or the fault.
 pub(crate) fn identity_at<F: Files>(
     alloc: Global,
     files: &F,
     path: &str,
-) -> Result<Identity, Refusal>
-    ensures { (tree : Tree) → IsHonest F.Files files.now tree → Answers (identity_at tree path.now) result }
+) -> Result<Result<Identity, Fault>, AllocError>
+    ensures { (tree : Tree) → IsHonest F.Files files.now tree → IfOk result (λ id. identity_at tree path.now ≡ id) }
 {
-    match files.identity(alloc, path, true) {
-        Ok(Some(identity)) => Ok(identity),
-        Ok(None) => Err(Refusal::Fault(Fault::NoIdentity)),
-        Err(refusal) => Err(refusal),
+    match answered(files.identity(alloc, path, true))? {
+        Ok(Some(identity)) => Ok(Ok(identity)),
+        Ok(None) => Ok(Err(Fault::NoIdentity)),
+        Err(fault) => Ok(Err(fault)),
     }
 }
 
@@ -113,26 +115,30 @@ fn is_same(a: Identity, b: Identity) -> bool
     a.device == b.device && a.inode == b.inode
 }
 
-/// The path of the nearest of the entered directories with an identity.
+/// The path of the nearest of the entered directories with an identity, unless a fault is met
+/// before.
 fn same_among<'f, F: Files>(
     alloc: Global,
     files: &F,
     identity: Identity,
     frames: &'f [Frame],
-) -> Result<Option<&'f str>, Refusal>
-    ensures same { (tree : Tree) → IsHonest F.Files files.now tree
-        → IfOk result (λ p. same_among tree identity (map (λ f. f.path) (reverse frames.now)) ≡ Ok (option_copied p)) }
-    ensures refused { (tree : Tree) → IsHonest F.Files files.now tree
-        → IfErr result (λ r. Answers (same_among tree identity (map (λ f. f.path) (reverse frames.now))) (Err r)) }
+) -> Result<Result<Option<&'f str>, Fault>, AllocError>
+    ensures { (tree : Tree) → IsHonest F.Files files.now tree → IfOk result (λ found. MatchResult found
+        (λ p. same_among tree identity (map (λ f. f.path) (reverse frames.now)) ≡ Ok (option_copied p))
+        (λ fault. same_among tree identity (map (λ f. f.path) (reverse frames.now)) ≡ Err fault)) }
 {
     for i in (0..frames.len()).rev() {
         let path = frames[i].path.as_str();
-        let other = identity_at(alloc, files, path)?;
-        if is_same(identity, other) {
-            return Ok(Some(path));
+        match identity_at(alloc, files, path)? {
+            Ok(other) => {
+                if is_same(identity, other) {
+                    return Ok(Ok(Some(path)));
+                }
+            }
+            Err(fault) => return Ok(Err(fault)),
         }
     }
-    Ok(None)
+    Ok(Ok(None))
 }
 
 /// What is at a path where an entry of this kind was listed: a link is followed where that is set.
@@ -180,97 +186,82 @@ fn loop_at(alloc: Global, depth: usize, ancestor: &str, child: &str) -> Result<E
     Ok(Error::WithDepth { depth, err })
 }
 
-/// The error in the place of a followed link to a directory, where it leads to one of those that
-/// were entered, or that isn't known.
+/// The error in the place of a directory with an identity, where it is a followed link that leads to
+/// one of those that were entered, or where that isn't known.
 fn loop_of<F: Files>(
     alloc: Global,
     files: &F,
     frames: &[Frame],
+    identity: Identity,
     entry: &DirEntry,
 ) -> Result<Option<Error>, AllocError>
-    ensures value { (tree : Tree) → IsHonest F.Files files.now tree
-        → IfOk result (λ error. unless (entry_of entry.now) (option_map problem_of error)
-        ≡ or_failed (entry_of entry.now).path (entry_of entry.now).depth (Rattle.ignore_walk.specs.Child.unlooped (entry_of entry.now))
-        (and_then (λ id. same_among tree id (map (λ f. f.path) (reverse frames.now))) (identity_at tree (entry_of entry.now).path))) }
+    ensures value { (tree : Tree) → IsHonest F.Files files.now tree → IfOk result (λ error. unless (entry_of entry.now) (option_map problem_of error)
+        ≡ (if (entry_of entry.now).followed
+        then or_failed (entry_of entry.now).path (entry_of entry.now).depth (unlooped (entry_of entry.now))
+        (same_among tree identity (map (λ f. f.path) (reverse frames.now)))
+        else Ok (entry_of entry.now))) }
 {
-    let ancestor = match identity_at(alloc, files, entry.path()) {
-        Ok(identity) => same_among(alloc, files, identity, frames),
-        Err(refusal) => Err(refusal),
-    };
-    match answered(ancestor)? {
+    if !entry.is_followed() {
+        return Ok(None);
+    }
+    match same_among(alloc, files, identity, frames)? {
         Ok(None) => Ok(None),
         Ok(Some(ancestor)) => Ok(Some(loop_at(alloc, entry.depth(), ancestor, entry.path())?)),
         Err(fault) => Ok(Some(failed_at(alloc, entry.path(), entry.depth(), fault)?)),
     }
 }
 
-/// A followed link to a directory, unless it leads to one of those that were entered.
-fn unlooped<F: Files>(
-    alloc: Global,
-    files: &F,
-    frames: &[Frame],
-    entry: DirEntry,
-) -> Result<Item, AllocError>
-    ensures value { (tree : Tree) → IsHonest F.Files files.now tree → problem_in entry ≡ None → IfOk result (λ item. item_of item
-        ≡ fresh (or_failed (entry_of entry).path (entry_of entry).depth (Rattle.ignore_walk.specs.Child.unlooped (entry_of entry))
-        (and_then (λ id. same_among tree id (map (λ f. f.path) (reverse frames.now))) (identity_at tree (entry_of entry).path)))) }
+/// The device with an identity, where it matters.
+pub(crate) fn device_if(matters: bool, identity: Identity) -> Option<u64>
+    ensures { result ≡ (if matters then Some identity.device else None) }
 {
-    match loop_of(alloc, files, frames, &entry)? {
-        None => Ok(Ok(entry)),
-        Some(error) => Ok(Err(error)),
-    }
+    if matters { Some(identity.device) } else { None }
 }
 
-/// An entry, unless it is a followed link that leads to one of the directories that were entered.
-fn without_loop<F: Files>(
+/// The tests of an entry: that it is no followed link to a directory that was entered, and that the
+/// device of a directory is known where it matters. The result is that device, or the error in the
+/// place of the entry. The identity of the entry is asked once.
+fn tested<F: Files>(
     alloc: Global,
     files: &F,
+    same_file_system: bool,
     frames: &[Frame],
-    entry: DirEntry,
-) -> Result<Item, AllocError>
-    ensures value { (tree : Tree) → IsHonest F.Files files.now tree → problem_in entry ≡ None
-        → IfOk result (λ item. item_of item ≡ fresh (without_loop tree (map (λ f. f.path) (reverse frames.now)) (entry_of entry))) }
-{
-    if entry.is_followed() && is_dir_kind(entry.file_type()) {
-        return unlooped(alloc, files, frames, entry);
-    }
-    Ok(Ok(entry))
-}
-
-/// The error in the place of an entry whose identity has to be known and isn't.
-fn unknown_device<F: Files>(
-    alloc: Global,
-    files: &F,
     entry: &DirEntry,
-) -> Result<Option<Error>, AllocError>
-    ensures value { (tree : Tree) → IsHonest F.Files files.now tree
-        → IfOk result (λ error. unless (entry_of entry.now) (option_map problem_of error)
-        ≡ or_failed (entry_of entry.now).path (entry_of entry.now).depth (λ id. Ok (entry_of entry.now))
-        (identity_at tree (entry_of entry.now).path)) }
+) -> Result<Result<Option<u64>, Error>, AllocError>
+    ensures value { (g : Scene) → IsHonest F.Files files.now g.tree → g.same_file_system ≡ same_file_system
+        → IfOk result (λ r. IsTested g (tests g (map (λ f. f.path) (reverse frames.now)) (entry_of entry.now)) (is_dir_kind (entry_of entry.now).kind)
+        (entry_of entry.now) r) }
 {
-    match answered(identity_at(alloc, files, entry.path()))? {
-        Ok(_) => Ok(None),
-        Err(fault) => Ok(Some(failed_at(alloc, entry.path(), entry.depth(), fault)?)),
+    if !is_dir_kind(entry.file_type()) || !(same_file_system || entry.is_followed()) {
+        return Ok(Ok(None));
+    }
+    match identity_at(alloc, files, entry.path())? {
+        Ok(identity) => match loop_of(alloc, files, frames, identity, entry)? {
+            None => Ok(Ok(device_if(same_file_system, identity))),
+            Some(error) => Ok(Err(error)),
+        },
+        Err(fault) => Ok(Err(failed_at(alloc, entry.path(), entry.depth(), fault)?)),
     }
 }
 
-/// An entry, unless the identity of a directory has to be known and isn't.
-pub(crate) fn with_device<F: Files>(
+/// The device of a root, where it is a directory and that matters; or the error in its place, where
+/// that isn't known.
+pub(crate) fn device_at<F: Files>(
     alloc: Global,
     files: &F,
     same_file_system: bool,
     is_dir: bool,
-    entry: DirEntry,
-) -> Result<Item, AllocError>
-    ensures value { (g : Scene) → IsHonest F.Files files.now g.tree → g.same_file_system ≡ same_file_system → problem_in entry ≡ None
-        → IfOk result (λ item. item_of item ≡ fresh (with_device g is_dir (entry_of entry))) }
+    entry: &DirEntry,
+) -> Result<Result<Option<u64>, Error>, AllocError>
+    ensures value { (g : Scene) → IsHonest F.Files files.now g.tree → g.same_file_system ≡ same_file_system
+        → IfOk result (λ r. IsTested g (with_device g is_dir (entry_of entry.now)) is_dir (entry_of entry.now) r) }
 {
     if !same_file_system || !is_dir {
-        return Ok(Ok(entry));
+        return Ok(Ok(None));
     }
-    match unknown_device(alloc, files, &entry)? {
-        None => Ok(Ok(entry)),
-        Some(error) => Ok(Err(error)),
+    match identity_at(alloc, files, entry.path())? {
+        Ok(identity) => Ok(Ok(Some(identity.device))),
+        Err(fault) => Ok(Err(failed_at(alloc, entry.path(), entry.depth(), fault)?)),
     }
 }
 
@@ -292,44 +283,23 @@ pub(crate) fn last_path(frames: &[Frame]) -> &str
     }
 }
 
-/// The tests of what was found: of a loop, and of its device.
+/// What was found, after its tests.
 pub(crate) fn checked<F: Files>(
     alloc: Global,
     files: &F,
     same_file_system: bool,
     frames: &[Frame],
     item: Item,
-) -> Result<Item, AllocError>
+) -> Result<Result<Found, Error>, AllocError>
     ensures value { (g : Scene) (r : Result Entry Problem) → IsHonest F.Files files.now g.tree → g.same_file_system ≡ same_file_system
         → item_of item ≡ fresh r
-        → IfOk result (λ i. item_of i ≡ fresh (and_then (λ (e : Entry). with_device g (is_dir_kind e.kind) e)
-        (and_then (without_loop g.tree (map (λ f. f.path) (reverse frames.now))) r))) }
+        → IfOk result (λ found. IsFound g (λ e. is_dir_kind e.kind) found (and_then (tests g (map (λ f. f.path) (reverse frames.now))) r)) }
 {
     match item {
-        Ok(entry) => {
-            let unlooped = without_loop(alloc, files, frames, entry)?;
-            on_device(alloc, files, same_file_system, unlooped)
-        }
-        Err(error) => Ok(Err(error)),
-    }
-}
-
-/// The test of the device of what was found.
-fn on_device<F: Files>(
-    alloc: Global,
-    files: &F,
-    same_file_system: bool,
-    item: Item,
-) -> Result<Item, AllocError>
-    ensures value { (g : Scene) (r : Result Entry Problem) → IsHonest F.Files files.now g.tree → g.same_file_system ≡ same_file_system
-        → item_of item ≡ fresh r
-        → IfOk result (λ i. item_of i ≡ fresh (and_then (λ (e : Entry). with_device g (is_dir_kind e.kind) e) r)) }
-{
-    match item {
-        Ok(entry) => {
-            let is_dir = is_dir_kind(entry.file_type());
-            with_device(alloc, files, same_file_system, is_dir, entry)
-        }
+        Ok(entry) => match tested(alloc, files, same_file_system, frames, &entry)? {
+            Ok(device) => Ok(Ok(Found { entry, device })),
+            Err(error) => Ok(Err(error)),
+        },
         Err(error) => Ok(Err(error)),
     }
 }

@@ -9,7 +9,8 @@ ghost use Rattle.ignore_walk.specs.Entry.{inode_of};
 
 use ignore_base::text::file_name;
 use ignore_base::{Error, Fault};
-use ignore_files::{FileType, Files, Metadata, Refusal};
+use ignore_files::internal::answered;
+use ignore_files::{FileType, Files, Metadata};
 use std::alloc::{AllocError, Global};
 
 /// An entry of a walk: a file, a directory, a link or standard input.
@@ -148,12 +149,9 @@ impl DirEntry {
         if self.kind.is_none() {
             return Err(Error::Io(Fault::NoMetadata).with_path(alloc, "<stdin>")?);
         }
-        match files.stat(alloc, self.path.as_str(), self.followed) {
+        match answered(files.stat(alloc, self.path.as_str(), self.followed))? {
             Ok(metadata) => Ok(metadata),
-            Err(Refusal::Fault(fault)) => {
-                Err(failed_at(alloc, self.path.as_str(), self.depth, fault)?)
-            }
-            Err(Refusal::Memory) => Err(Error::Memory),
+            Err(fault) => Err(failed_at(alloc, self.path.as_str(), self.depth, fault)?),
         }
     }
 
@@ -170,11 +168,10 @@ impl DirEntry {
             return Ok(None);
         }
         let alloc = *self.path.allocator();
-        match files.identity(alloc, self.path.as_str(), self.followed) {
+        match answered(files.identity(alloc, self.path.as_str(), self.followed))? {
             Ok(Some(identity)) => Ok(Some(identity.inode)),
             Ok(None) => Ok(None),
-            Err(Refusal::Fault(_)) => Ok(None),
-            Err(Refusal::Memory) => Err(Error::Memory),
+            Err(_) => Ok(None),
         }
     }
 }

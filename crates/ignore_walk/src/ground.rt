@@ -1,15 +1,15 @@
 //! What stays the same in a walk, and what it makes of one entry.
 ghost use Rattle.std.specs.Prelude.{◌≡◌, ◌++◌, ◌∷◌, ◌||◌, ℕ, List, None, Ok, true, false, not, option_map, reverse, IfOk};
 ghost use Rattle.ignore_base.specs.Problem.{problem_of};
-ghost use Rattle.ignore_files.specs.Gives.{IsHonest};
 ghost use Rattle.ignore_dir.specs.Above.{canonical_names, kept_above, names_above};
 ghost use Rattle.ignore_dir.specs.Limits as limits;
 ghost use Rattle.ignore_dir.specs.Query as queries;
 ghost use Rattle.ignore_levels.specs.Levels.{IsChain, counting, slots_of};
 ghost use Rattle.ignore_walk.specs.Branch.{Branch, path_of, placed_to, text_at};
 ghost use Rattle.ignore_walk.specs.Child as children;
-ghost use Rattle.ignore_walk.specs.Entry.{entry_of, item_of, fresh, problem_in};
+ghost use Rattle.ignore_walk.specs.Entry.{entry_of, problem_in};
 ghost use Rattle.ignore_walk.specs.Fates.{fate_of, differ};
+ghost use Rattle.ignore_walk.specs.Found.{IsFound};
 ghost use Rattle.ignore_walk.specs.Frames.{AreFrames, device_of};
 ghost use Rattle.ignore_walk.specs.Opens.{Opens};
 ghost use Rattle.ignore_walk.specs.Scene.{Scene};
@@ -18,17 +18,19 @@ ghost use Rattle.ignore_walk.specs.Walked as walked;
 ghost use Rattle.ignore_walk.specs.Whole as wholes;
 
 use crate::callbacks::{Callbacks, Options};
-use crate::child::{checked, depth_below, fault_at, found, identity_at, last_path};
-use crate::entry::{DirEntry, Item};
+use crate::child::{checked, depth_below, fault_at, found, last_path};
+use crate::entry::DirEntry;
+use crate::found::Found;
 use crate::frame::Frame;
-use crate::memory::{answered, join};
 use crate::open::{Opened, loaded, open};
 use crate::root::{on_device, root_found};
 use crate::skip::{is_ignored, is_too_large};
 use ignore_base::Error;
+use ignore_base::internal::join;
 use ignore_dir::above::{kept_above, needs_above};
 use ignore_dir::limits::is_deepest;
 use ignore_dir::{Dir, Outside, Settings};
+use ignore_files::internal::answered;
 use ignore_files::{Files, Listed, Name};
 use ignore_levels::{Levels, Place};
 use std::alloc::{AllocError, Global};
@@ -82,25 +84,6 @@ fn differ(a: Option<u64>, b: Option<u64>) -> bool
     }
 }
 
-/// The device of what a path leads to, where it matters and is known.
-fn device_if<F: Files>(
-    alloc: Global,
-    files: &F,
-    matters: bool,
-    path: &str,
-) -> Result<Option<u64>, AllocError>
-    ensures value { (g : Scene) → IsHonest F.Files files.now g.tree → g.same_file_system ≡ matters
-        → IfOk result (λ d. d ≡ device_of g path.now) }
-{
-    if !matters {
-        return Ok(None);
-    }
-    match answered(identity_at(alloc, files, path))? {
-        Ok(identity) => Ok(Some(identity.device)),
-        Err(_) => Ok(None),
-    }
-}
-
 /// A copy of a path.
 fn named(alloc: Global, path: &str) -> Result<Name, AllocError>
     ensures { IfOk result (λ n. n ≡ path.now) }
@@ -123,42 +106,23 @@ impl<'a, F: Files, S: Callbacks> Ground<'a, F, S> {
         }
     }
 
-    /// What becomes of an entry that isn't skipped. `device` is that of its root.
-    pub(crate) fn fate(
-        &self,
-        device: Option<u64>,
-        entry: &DirEntry,
-        leads_in: bool,
-    ) -> Result<Fate, AllocError>
+    /// What becomes of what was found and isn't skipped. `device` is that of its root.
+    pub(crate) fn fate(&self, device: Option<u64>, found: &Found, leads_in: bool) -> Fate
         ensures value { (g : Scene) (root : List ℕ) (b : Branch)
             → IsGroundOf F.Files S.Callbacks self.now g
-            → (leads_in ≡ true → device ≡ device_of g root) → leads_in ≡ walked.leads_in g b (entry_of entry.now)
-            → walked.is_skipped g root b (entry_of entry.now) ≡ false
-            → IfOk result (λ f. walked.fate g root b (entry_of entry.now) ≡ fate_of f) }
+            → (leads_in ≡ true → device ≡ device_of g root)
+            → (leads_in ≡ true → found.now.device ≡ device_of g (entry_of found.now.entry).path)
+            → leads_in ≡ walked.leads_in g b (entry_of found.now.entry)
+            → walked.is_skipped g root b (entry_of found.now.entry) ≡ false
+            → walked.fate g root b (entry_of found.now.entry) ≡ fate_of result }
     {
-        if is_leaf(self.settings.max_depth, entry.depth(), leads_in) {
-            return Ok(Fate::Yield);
+        if is_leaf(self.settings.max_depth, found.entry.depth(), leads_in) {
+            return Fate::Yield;
         }
-        let own = device_if(
-            self.alloc,
-            self.files,
-            self.options.same_file_system,
-            entry.path(),
-        )?;
-        if differ(device, own) {
-            return Ok(Fate::Load);
+        if differ(device, found.device) {
+            return Fate::Load;
         }
-        Ok(Fate::Enter)
-    }
-
-    /// The device of a root, where it matters and is known.
-    pub(crate) fn device(&self, is_dir: bool, root: &str) -> Result<Option<u64>, AllocError>
-        ensures value { (g : Scene)
-            → IsGroundOf F.Files S.Callbacks self.now g
-            → is_dir ≡ true → IfOk result (λ d. d ≡ device_of g root.now) }
-    {
-        let matters = self.options.same_file_system && is_dir;
-        device_if(self.alloc, self.files, matters, root)
+        Fate::Enter
     }
 
     /// What is wrong with the files of rules of a directory.
@@ -208,10 +172,15 @@ impl<'a, F: Files, S: Callbacks> Ground<'a, F, S> {
     }
 
     /// What a listed thing is, in the directory that was entered last.
-    pub(crate) fn child(&self, frames: &[Frame], listed: Listed) -> Result<Item, AllocError>
+    pub(crate) fn child(
+        &self,
+        frames: &[Frame],
+        listed: Listed,
+    ) -> Result<Result<Found, Error>, AllocError>
         ensures value { (g : Scene) (root : List ℕ) (b : Branch)
             → IsGroundOf F.Files S.Callbacks self.now g
-            → AreFrames g root b (reverse frames.now) → IfOk result (λ item. item_of item ≡ fresh (children.child g root b listed)) }
+            → AreFrames g root b (reverse frames.now)
+            → IfOk result (λ found. IsFound g (λ e. children.is_dir_kind e.kind) found (children.child g root b listed)) }
     {
         let depth = depth_below(frames);
         match listed {
@@ -225,12 +194,16 @@ impl<'a, F: Files, S: Callbacks> Ground<'a, F, S> {
         }
     }
 
-    /// The entry of a root, or the error in its place.
-    pub(crate) fn root_entry(&self, is_dir: bool, root: &str) -> Result<Item, AllocError>
+    /// What is found at a root.
+    pub(crate) fn root_entry(
+        &self,
+        is_dir: bool,
+        root: &str,
+    ) -> Result<Result<Found, Error>, AllocError>
         ensures value { (g : Scene)
             → IsGroundOf F.Files S.Callbacks self.now g
             → is_dir ≡ queries.is_dir_there (g.tree.stat root.now true)
-            → IfOk result (λ item. item_of item ≡ fresh (wholes.root_entry g root.now)) }
+            → IfOk result (λ found. IsFound g (λ _. is_dir) found (wholes.root_entry g root.now)) }
     {
         let item = root_found(self.alloc, self.files, self.settings.follow_links, root)?;
         let same = self.options.same_file_system;

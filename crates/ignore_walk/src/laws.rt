@@ -1,9 +1,13 @@
 //! Laws of the definitions, as calls that do nothing: each contract is the law.
 ghost use Rattle.std.specs.Prelude.{◌≡◌, ◌⊎◌, ◌↔◌, [], ◌∷◌, ◌++◌, Ok, Option, true, false, codes, bytes_eq, Contains, ℕ, List, Result};
 ghost use Rattle.ignore_base.specs.Problem.{Problem};
+ghost use Rattle.ignore_dir.specs.Load.{AreLoads};
 ghost use Rattle.ignore_walk.specs.Agreement.{IsKeptBelow, IsOpen, Reachable, is_kept, is_within};
 ghost use Rattle.ignore_walk.specs.Branch.{Branch};
 ghost use Rattle.ignore_walk.specs.Entry.{Entry, Item, stdin_entry};
+ghost use Rattle.ignore_walk.specs.Finished.{IsEnd, IsFinished};
+ghost use Rattle.ignore_walk.specs.Nexts.{EndsBy};
+ghost use Rattle.ignore_walk.specs.Runs.{IsBegun};
 ghost use Rattle.ignore_walk.specs.Scene.{Scene};
 ghost use Rattle.ignore_walk.specs.Visits.{IsAfterParent, IsShown, IsShownBelow, IsYielded};
 ghost use Rattle.ignore_walk.specs.Walked.{WalkedOne, IsOrdered};
@@ -53,3 +57,16 @@ pub fn walk_agrees_with_queries()
     join_law();
     offset_law();
 }
+
+/// No item of a list is out of memory, or the limit of steps alone: an error in a list says at
+/// which path, line or depth it is, or is several errors, or a loop. So it is with what a root gives
+/// (`root`), and with all roots, whatever directories are above them (`whole`). So where a walk of
+/// such a list has yielded such an item, it was ended by it (`ended`).
+pub fn no_item_ends_a_walk()
+    ensures root { (g : Scene) (root : List ℕ) (items : List Item) (n : ℕ)
+        → WalkedOne g root [] (root_entry g root) items n → IsFinished items }
+    ensures whole { (g : Scene) (roots : List (List ℕ)) (items : List Item) (n : ℕ)
+        → AreLoads g.tree g.settings g.loads → Whole g roots items n → IsFinished items }
+    ensures ended { (all items : List Item) (item : Item) (left n : ℕ)
+        → IsFinished items → IsEnd item → IsBegun all item items left n → EndsBy item left n }
+{}

@@ -3,22 +3,19 @@ ghost use Rattle.std.specs.Prelude.{◌≡◌, ℕ, Bool, List, Option, IfOk, op
 ghost use Rattle.std.specs.Result.{result_err};
 ghost use Rattle.ignore_base.specs.Problem.{problem_of};
 ghost use Rattle.ignore_base.specs.Text.{Path};
-ghost use Rattle.ignore_files.specs.Gives.{IsHonest};
 ghost use Rattle.ignore_files.specs.Shown.{Shows};
-ghost use Rattle.ignore_files.specs.Tree.{Tree};
-ghost use Rattle.ignore_dir.specs.Ground.{InLoads};
+ghost use Rattle.ignore_dir.specs.Ground.{InLoads, InTree};
 ghost use Rattle.ignore_walk.specs.Suits.{IsOrderBy};
 ghost use Rattle.ignore_walk.specs.Walked.{IsArranged, listing_of};
 
 use crate::arrange::arranged;
 use crate::callbacks::{Callbacks, Order};
 use crate::child::all_named;
-use crate::memory::answered;
 use ignore_base::{Error, Fault};
 use ignore_dir::laws::one_load;
 use ignore_dir::load::load_shown;
 use ignore_dir::{Dir, Ground};
-use ignore_files::internal::Shown;
+use ignore_files::internal::{Shown, answered};
 use ignore_files::{Files, Listed, Listing, Name};
 use std::alloc::{AllocError, Global};
 use std::collections::VecDeque;
@@ -66,29 +63,25 @@ fn loaded_by<F: Files>(
         → IfOk result (λ r. option_map problem_of r.1 ≡ (loads path.now).1)) }
 {
     one_load();
-    match load_shown(ground, path, shown) {
-        Ok(found) => Ok(found),
-        Err(_) => Err(AllocError),
-    }
+    load_shown(ground, path, shown)
 }
 
 /// What a directory lists, or the fault in place of that.
 fn answer_of<F: Files>(
-    alloc: Global,
-    files: &F,
+    ground: &Ground<'_, F>,
     path: &str,
 ) -> Result<Result<Listing, Fault>, AllocError>
-    ensures { (tree : Tree) → IsHonest F.Files files.now tree → IfOk result (λ answer. tree.list path.now ≡ answer) }
+    ensures { InTree F.Files ground.now (λ tree. IfOk result (λ answer. tree.list path.now ≡ answer)) }
 {
-    answered(files.list(alloc, path))
+    answered(ground.files.list(ground.alloc, path))
 }
 
 /// What an answer of these files shows of the names in a directory.
-fn shown_by<'l, F: Files>(files: &F, answer: &'l Result<Listing, Fault>) -> Shown<'l>
-    ensures { (tree : Tree) (dir : Path) → IsHonest F.Files files.now tree → tree.list dir ≡ answer.now → Shows tree dir result }
+fn shown_by<'l, F: Files>(ground: &Ground<'_, F>, answer: &'l Result<Listing, Fault>) -> Shown<'l>
+    ensures { InTree F.Files ground.now (λ tree. (dir : Path) → tree.list dir ≡ answer.now → Shows tree dir result) }
 {
     match answer {
-        Ok(listing) => Shown::by(files, listing.as_slice()),
+        Ok(listing) => Shown::by(ground.files, listing.as_slice()),
         Err(_) => Shown::nothing(),
     }
 }
@@ -137,14 +130,14 @@ pub(crate) fn open<F: Files, S: Callbacks>(
     ensures text { IfOk result (λ o. o.directory.text ≡ text) }
     ensures dir { InLoads F.Files ground.now (λ tree loads. IfOk result (λ o. o.directory.dir ≡ (loads path).0)) }
     ensures problem { InLoads F.Files ground.now (λ tree loads. IfOk result (λ o. option_map problem_of o.error ≡ (loads path).1)) }
-    ensures rest { (tree : Tree) (chosen : Option (List ℕ → List ℕ → List ℕ → Bool)) → IsHonest F.Files ground.now.files.now tree
+    ensures rest { InTree F.Files ground.now (λ tree. (chosen : Option (List ℕ → List ℕ → List ℕ → Bool))
         → IsOrderBy order (S.compares owner.now) chosen
-        → IfOk result (λ o. IsArranged chosen path (listing_of (tree.list path)) o.directory.rest.items) }
-    ensures fault { (tree : Tree) → IsHonest F.Files ground.now.files.now tree → IfOk result (λ o. o.fault ≡ result_err (tree.list path)) }
+        → IfOk result (λ o. IsArranged chosen path (listing_of (tree.list path)) o.directory.rest.items)) }
+    ensures fault { InTree F.Files ground.now (λ tree. IfOk result (λ o. o.fault ≡ result_err (tree.list path))) }
 {
     let at = path.as_str();
-    let answer = answer_of(ground.alloc, ground.files, at)?;
-    let shown = shown_by(ground.files, &answer);
+    let answer = answer_of(ground, at)?;
+    let shown = shown_by(ground, &answer);
     let (dir, error) = loaded_by(ground, at, &shown)?;
     let (rest, fault) = listed(ground.alloc, owner, order, at, answer)?;
     let directory = Directory {

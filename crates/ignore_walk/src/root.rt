@@ -7,12 +7,15 @@ ghost use Rattle.ignore_files.specs.Tree.{Tree};
 ghost use Rattle.ignore_dir.specs.Query.{is_dir_there};
 ghost use Rattle.ignore_walk.specs.Child.{or_failed, with_device};
 ghost use Rattle.ignore_walk.specs.Entry.{Entry, entry_of, item_of, fresh, problem_in};
+ghost use Rattle.ignore_walk.specs.Found.{IsFound};
 ghost use Rattle.ignore_walk.specs.Scene.{Scene};
 ghost use Rattle.ignore_walk.specs.Whole.{root_by, root_of};
 
-use crate::child::with_device;
+use crate::child::device_at;
 use crate::entry::{DirEntry, Item, failed_at};
-use crate::memory::answered;
+use crate::found::Found;
+use ignore_base::Error;
+use ignore_files::internal::answered;
 use ignore_files::{FileType, Files, Metadata};
 use std::alloc::{AllocError, Global};
 
@@ -77,19 +80,23 @@ pub(crate) fn root_found<F: Files>(
     }
 }
 
-/// The test of the device of a root.
+/// What was found at a root, after the test of its device.
 pub(crate) fn on_device<F: Files>(
     alloc: Global,
     files: &F,
     same_file_system: bool,
     is_dir: bool,
     item: Item,
-) -> Result<Item, AllocError>
+) -> Result<Result<Found, Error>, AllocError>
     ensures value { (g : Scene) (r : Result Entry Problem) → IsHonest F.Files files.now g.tree → g.same_file_system ≡ same_file_system
-        → item_of item ≡ fresh r → IfOk result (λ i. item_of i ≡ fresh (and_then (with_device g is_dir) r)) }
+        → item_of item ≡ fresh r
+        → IfOk result (λ found. IsFound g (λ _. is_dir) found (and_then (with_device g is_dir) r)) }
 {
     match item {
-        Ok(entry) => with_device(alloc, files, same_file_system, is_dir, entry),
+        Ok(entry) => match device_at(alloc, files, same_file_system, is_dir, &entry)? {
+            Ok(device) => Ok(Ok(Found { entry, device })),
+            Err(error) => Ok(Err(error)),
+        },
         Err(error) => Ok(Err(error)),
     }
 }

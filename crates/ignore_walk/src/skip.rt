@@ -1,5 +1,5 @@
 //! Which entries a walk skips.
-ghost use Rattle.std.specs.Prelude.{◌≡◌, ◌++◌, ◌∷◌, ℕ, List, Ok, Some, IfOk};
+ghost use Rattle.std.specs.Prelude.{◌≡◌, ◌++◌, ◌∷◌, ℕ, List, Some, IfOk};
 ghost use Rattle.ignore_files.specs.Gives.{IsHonest};
 ghost use Rattle.ignore_files.specs.Tree.{Tree};
 ghost use Rattle.ignore_dir.specs.Limits.{is_larger};
@@ -12,25 +12,13 @@ ghost use Rattle.ignore_walk.specs.Walked.{ignores, is_too_large};
 
 use crate::child::is_dir_kind;
 use crate::entry::DirEntry;
-use crate::memory::answered;
-use ignore_base::Error;
 use ignore_dir::laws::steps_are_whole;
-use ignore_dir::verdict::Verdict;
 use ignore_dir::{Asked, Ground, Settings};
 use ignore_files::Files;
+use ignore_files::internal::answered;
 use ignore_levels::laws::what_counts_decides;
 use ignore_levels::{Levels, Place, verdict};
 use std::alloc::{AllocError, Global};
-
-/// A verdict that memory sufficed for.
-fn known(found: Result<Verdict, Error>) -> Result<Verdict, AllocError>
-    ensures known { IfOk result (λ v. found ≡ Ok v) }
-{
-    match found {
-        Ok(verdict) => Ok(verdict),
-        Err(_) => Err(AllocError),
-    }
-}
 
 /// Whether the rules ignore an entry below the root, by the place of the directories around it.
 /// `text` is its path as they see it.
@@ -54,8 +42,8 @@ pub(crate) fn is_ignored<F: Files>(
         path: entry.path(),
         is_dir: is_dir_kind(entry.file_type()),
     };
-    let found = verdict(ground.settings, ground.outside, levels, place, &asked);
-    Ok(known(found)?.is_ignore())
+    let found = verdict(ground.settings, ground.outside, levels, place, &asked)?;
+    Ok(found.is_ignore())
 }
 
 /// Whether an entry that is no directory is larger than the settings allow.

@@ -6,7 +6,8 @@ ghost use Rattle.ignore_base.specs.Problem.{problem_of};
 ghost use Rattle.ignore_dir.specs.Query.{is_dir_there};
 ghost use Rattle.ignore_levels.specs.Levels.{IsChain, counting, slots_of};
 ghost use Rattle.ignore_walk.specs.Branch.{Branch, path_of, text_at, placed_above};
-ghost use Rattle.ignore_walk.specs.Entry.{Item as Yielded, entry_of, item_of, problem_in};
+ghost use Rattle.ignore_walk.specs.Entry.{Item as Yielded, entry_of, item_of};
+ghost use Rattle.ignore_walk.specs.Found.{IsFoundAt};
 ghost use Rattle.ignore_walk.specs.Frames.{AreFrames};
 ghost use Rattle.ignore_walk.specs.Left.{Remains, InHand, IsNext};
 ghost use Rattle.ignore_walk.specs.OnList.{place_around};
@@ -21,6 +22,7 @@ use crate::above::{Seen, see, way_along};
 use crate::callbacks::Callbacks;
 use crate::child::is_dir_kind;
 use crate::entry::{DirEntry, Item};
+use crate::found::Found;
 use crate::frame::{Frame, frame_of, take_next};
 use crate::ground::{Fate, Ground};
 use crate::made::{make, make_error, make_fault};
@@ -51,27 +53,34 @@ pub struct Stack {
     pub frames: Vec<Frame>,
     /// The items that are to be handed out.
     pub made: VecDeque<Item>,
+    /// The path of what was taken last from a listing, as the directories around it see it. Its
+    /// memory serves all entries.
+    pub text: String,
 }
 
 impl Stack {
-    /// What an entry gives that isn't skipped: itself, and where it leads into a directory, what
-    /// is in it. `text` is its path as the directories around it see it, with a final slash.
+    /// What an entry gives that was found and isn't skipped: itself, and where it leads into a
+    /// directory, what is in it. `text` is its path as the directories around it see it, with a
+    /// final slash.
     fn visit<F: Files, S: Callbacks>(
         &mut self,
         ground: &Ground<'_, F, S>,
-        entry: DirEntry,
+        found: Found,
         leads_in: bool,
         text: Name,
     ) -> Result<(), AllocError>
         ensures visited { (g : Scene) (root : List ℕ) (place b : Branch) (seen : List (List ℕ)) (items : List Yielded) (n : ℕ)
             → IsGroundOf F.Files S.Callbacks ground.now g
-            → IsIn g root place seen self.old → Visits g root b self.old (entry_of entry) leads_in text
+            → IsIn g root place seen self.old → Visits g root b self.old found leads_in text
             → IsNext b place (state_of self.old root place seen).rests
-            → InHand g (state_of self.old root place seen) b (Ok (entry_of entry)) items n → OnOk result (Stands g self.new items n) }
+            → InHand g (state_of self.old root place seen) b (Ok (entry_of found.entry)) items n
+            → OnOk result (Stands g self.new items n) }
         ensures made { length self.new.made.items ≤ length self.old.made.items + 2 }
     {
         let settings = &ground.settings;
-        match ground.fate(self.device, &entry, leads_in)? {
+        let fate = ground.fate(self.device, &found, leads_in);
+        let entry = found.entry;
+        match fate {
             Fate::Yield => make(&mut self.made, settings, entry, None),
             Fate::Load => {
                 let error = ground.load_error(entry.path())?;
@@ -118,62 +127,56 @@ impl Stack {
             → 0 < length self.old.frames.items → Stands g self.old items n → OnOk result (Steps g self.new items n) }
         ensures made { length self.new.made.items ≤ length self.old.made.items + 2 }
     {
-        match self.take_listed()? {
+        match self.take_listed() {
             None => Ok(()),
             Some(listed) => {
-                let text = text_of(ground.alloc, self.frames.as_slice(), &listed)?;
+                set_text(&mut self.text, self.frames.as_slice(), &listed)?;
                 match ground.child(self.frames.as_slice(), listed)? {
                     Err(error) => make_error(&mut self.made, error),
-                    Ok(entry) => self.take(ground, entry, text),
+                    Ok(found) => self.take(ground, found),
                 }
             }
         }
     }
 
     /// What is listed next in the directory that was entered last; where nothing is, it is left.
-    fn take_listed(&mut self) -> Result<Option<Listed>, AllocError>
+    fn take_listed(&mut self) -> Option<Listed>
         ensures made { self.new.made ≡ self.old.made }
         ensures taken { (g : Scene) (items : List Yielded) (n : ℕ) → 0 < length self.old.frames.items → Stands g self.old items n
-            → IfOk result (λ next. MatchOption next (Steps g self.new items n) (λ x. Takes g self.new x items n)) }
+            → MatchOption result (Steps g self.new items n) (λ x. Takes g self.new x items n) }
     {
-        let Some(mut frame) = self.frames.pop() else {
-            return Ok(None);
+        let Some(frame) = self.frames.last_mut() else {
+            return None;
         };
-        match take_next(&mut frame.rest) {
-            None => {
-                self.levels.cut(frame.len);
-                Ok(None)
-            }
-            Some(listed) => {
-                self.frames.push(frame)?;
-                Ok(Some(listed))
-            }
+        if let Some(listed) = take_next(&mut frame.rest) {
+            return Some(listed);
         }
+        self.levels.cut(frame.len);
+        self.frames.pop();
+        None
     }
 
-    /// What an entry below a root gives. `text` is its path as the directories around it see it.
+    /// What an entry gives that was found below a root, where it was taken last.
     fn take<F: Files, S: Callbacks>(
         &mut self,
         ground: &Ground<'_, F, S>,
-        entry: DirEntry,
-        mut text: String,
+        found: Found,
     ) -> Result<(), AllocError>
         ensures taken { (g : Scene) (root : List ℕ) (place : Branch) (name : List ℕ) (seen : List (List ℕ)) (items : List Yielded) (n : ℕ)
             → IsGroundOf F.Files S.Callbacks ground.now g
             → IsIn g root place seen self.old → AreFrames g root place (reverse self.old.frames.items) → IsAt g root self.old
-            → string_bytes text ≡ text_at g root place ++ name → (entry_of entry).path ≡ path_of root (name ∷ place)
-            → problem_in entry ≡ None
-            → InHand g (state_of self.old root place seen) (name ∷ place) (Ok (entry_of entry)) items n
+            → string_bytes self.old.text ≡ text_at g root place ++ name → IsFoundAt g root (name ∷ place) found
+            → InHand g (state_of self.old root place seen) (name ∷ place) (Ok (entry_of found.entry)) items n
             → OnOk result (Stands g self.new items n) }
         ensures made { length self.new.made.items ≤ length self.old.made.items + 2 }
     {
         let around = place_around(self.above, self.frames.as_slice());
-        if ground.is_skipped(&self.levels, around, text.as_str(), &entry)? {
+        if ground.is_skipped(&self.levels, around, self.text.as_str(), &found.entry)? {
             return Ok(());
         }
-        let leads_in = is_dir_kind(entry.file_type());
-        text.push('/')?;
-        self.visit(ground, entry, leads_in, Name::new(text))
+        let leads_in = is_dir_kind(found.entry.file_type());
+        let text = text_inside(ground.alloc, leads_in, self.text.as_str())?;
+        self.visit(ground, found, leads_in, text)
     }
 
     /// Begins a root.
@@ -220,9 +223,9 @@ impl Stack {
     {
         match ground.root_entry(is_dir, root)? {
             Err(error) => make_error(&mut self.made, error),
-            Ok(entry) => {
-                self.device = ground.device(is_dir, root)?;
-                self.visit(ground, entry, is_dir, Name::new(base))
+            Ok(found) => {
+                self.device = found.device;
+                self.visit(ground, found, is_dir, Name::new(base))
             }
         }
     }
@@ -360,36 +363,33 @@ fn are_begun(roots: &VecDeque<Name>) -> bool
     }
 }
 
-/// The path of a listed thing as the directories around it see it.
-fn text_of(alloc: Global, frames: &[Frame], listed: &Listed) -> Result<String, AllocError>
+/// Makes a text the path of a listed thing as the directories around it see it.
+fn set_text(text: &mut String, frames: &[Frame], listed: &Listed) -> Result<(), AllocError>
     ensures { (g : Scene) (root : List ℕ) (place : Branch) → AreFrames g root place (reverse frames.now)
-        → IfOk result (λ text. string_bytes text ≡ text_below g root place listed.now) }
+        → OnOk result (string_bytes text.new ≡ text_below g root place listed.now) }
 {
     match frames.last() {
-        None => Ok(String::new(alloc)),
+        None => Ok(()),
         Some(frame) => {
-            let mut text = with_room(alloc, frame.text.as_str(), room_for(listed))?;
-            push_name(&mut text, listed)?;
-            Ok(text)
+            text.clear();
+            text.push_str(frame.text.as_str())?;
+            push_name(text, listed)
         }
     }
 }
 
-/// How many bytes the name of a listed thing takes, and a slash.
-fn room_for(listed: &Listed) -> usize {
-    match listed {
-        Listed::Fault(_) => 0,
-        Listed::Entry { name, .. } => name.as_str().len().saturating_add(1),
-    }
-}
-
-/// A text, with room for so many more bytes.
-fn with_room(alloc: Global, text: &str, room: usize) -> Result<String, AllocError>
-    ensures { IfOk result (λ copy. string_bytes copy ≡ text.now) }
+/// The text around what is in an entry: its own with a slash; nothing, where it leads into no
+/// directory.
+fn text_inside(alloc: Global, leads_in: bool, text: &str) -> Result<Name, AllocError>
+    ensures { leads_in ≡ true → IfOk result (λ inside. inside ≡ text.now ++ 47 ∷ []) }
 {
-    let mut copy = String::with_capacity(alloc, text.len().saturating_add(room))?;
-    copy.push_str(text)?;
-    Ok(copy)
+    if !leads_in {
+        return Ok(Name::new(String::new(alloc)));
+    }
+    let mut inside = String::with_capacity(alloc, text.len().saturating_add(1))?;
+    inside.push_str(text)?;
+    inside.push('/')?;
+    Ok(Name::new(inside))
 }
 
 /// Appends the name of a listed thing; a fault has none.

@@ -59,6 +59,7 @@ impl<'a, F: Files, S: Callbacks> Walk<'a, F, S> {
             device: None,
             frames: Vec::new(alloc),
             made: VecDeque::from_vec(Vec::new(alloc)),
+            text: String::new(alloc),
         };
         Walk {
             ground,

@@ -1,9 +1,9 @@
-//! Trees in memory, of which one call is refused.
+//! Trees in memory, of which one call is refused, and which count the others.
 
-use answers::fault_of;
+use answers::{Answer, Counting, fault_of};
 use ignore_base::Error;
 use ignore_files::{
-    Contents, Fault, Files, Identity, Listing, MemoryTree, Metadata, Name, Refusal,
+    Contents, Env, Fault, Files, Identity, Listing, MemoryTree, Metadata, Name, Refusal,
 };
 use serde_json::Value;
 use std::alloc::Global;
@@ -14,10 +14,10 @@ use vectors::{Trouble, item, text_at};
 /// `[3, "NotFound"]`, with a fault, or by `[3, "Memory"]`. Where it is missing none is.
 const REFUSE: &str = "refuse";
 
-/// A tree in memory, of which one call is refused.
+/// A tree in memory, of which one call is refused. The others are counted.
 #[derive(Drop)]
 pub struct Refusing<'t> {
-    tree: &'t MemoryTree,
+    tree: Counting<'t, MemoryTree>,
     refusal: Refusal,
     /// Which of the calls to come is refused, counted from 1, or 0 for none.
     turn: Cell<u64>,
@@ -25,16 +25,16 @@ pub struct Refusing<'t> {
 
 impl<'t> Refusing<'t> {
     /// The tree, as a vector says.
-    pub fn of(tree: &'t MemoryTree, input: &Value) -> Result<Refusing<'t>, Trouble> {
+    pub fn of(alloc: Global, tree: &'t MemoryTree, input: &Value) -> Result<Refusing<'t>, Trouble> {
         match input.get(REFUSE) {
-            None => Ok(Refusing::new(tree, Refusal::Fault(Fault::Other), 0)),
-            Some(refuse) => Ok(Refusing::new(tree, refusal(refuse)?, turn(refuse)?)),
+            None => Ok(Refusing::new(alloc, tree, Refusal::Fault(Fault::Other), 0)),
+            Some(refuse) => Ok(Refusing::new(alloc, tree, refusal(refuse)?, turn(refuse)?)),
         }
     }
 
-    fn new(tree: &'t MemoryTree, refusal: Refusal, turn: u64) -> Refusing<'t> {
+    fn new(alloc: Global, tree: &'t MemoryTree, refusal: Refusal, turn: u64) -> Refusing<'t> {
         Refusing {
-            tree,
+            tree: Counting::new(alloc, tree),
             refusal,
             turn: Cell::new(turn),
         }
@@ -44,6 +44,19 @@ impl<'t> Refusing<'t> {
         let turn = self.turn.get();
         self.turn.set(turn.saturating_sub(1));
         if turn == 1 { Err(self.refusal) } else { Ok(()) }
+    }
+
+    /// Forgets what was counted, before a call is made again.
+    pub fn forget(&self, alloc: Global) {
+        self.tree.forget(alloc);
+    }
+
+    /// Puts `calls` where a call of the files was made of a path too often: no file of rules has to be
+    /// asked twice.
+    pub fn put_excess(&self, answer: &mut Answer, alloc: Global, env: &Env) {
+        if let Some(excess) = self.tree.taken(alloc).excess_outside(env) {
+            answer.put("calls", excess);
+        }
     }
 
     /// The error of a call that was out of memory, where it was the tree that reported this.

@@ -21,6 +21,7 @@ impl Kinds for Library {
 
     fn answer(&self, alloc: Global, kind: &str, input: &Value) -> Option<Result<Value, Trouble>> {
         match kind {
+            "explain" => Some(answer(alloc, input, false)),
             "igwalk" => Some(igwalk::answer(alloc, input)),
             "normalize" => Some(normalize::answer(alloc, input)),
             "query" => Some(answer(alloc, input, false)),
@@ -89,7 +90,11 @@ fn answered(
         move |b: &mut WalkBuilder, choice: Choice| {
             match choice {
                 Choice::Filter(filter) => {
-                    b.filter_entry(Box::new(alloc, move |e: &DirEntry| filter.accepts(e))?);
+                    let shown = machine.shown.clone()?;
+                    b.filter_entry(Box::new(alloc, move |e: &DirEntry| {
+                        shown.note(alloc, e.path());
+                        filter.accepts(e)
+                    })?);
                 }
                 Choice::Names(by) => {
                     b.sort_by_file_name(Box::new(alloc, move |x: &str, y: &str| by.compare(x, y))?);
@@ -115,14 +120,16 @@ fn answered(
     if !is_walk {
         return query::asked(alloc, input, machine, &builder, added);
     }
-    walk::asked(
+    let added = added?;
+    let mut answer = walk::asked(
         alloc,
         input,
         &mut builder,
-        added,
         |b: &mut WalkBuilder, limit: u64| {
             b.limit(limit);
         },
         move |b: &WalkBuilder| walk::list_of(alloc, machine, by, b),
-    )
+    )?;
+    answer.put_value("added", added.value());
+    Ok(answer.value()?)
 }

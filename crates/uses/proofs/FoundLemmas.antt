@@ -5,13 +5,10 @@ use Rattle.std.proofs.lemmas.List.{append-nil, map-append}
 use Rattle.std.proofs.lemmas.Str.{IsUtf8-from_is_utf8, is_utf8-from_IsUtf8}
 use Rattle.std.specs.List.{flat_map}
 use Rattle.std.specs.Str.{IsUtf8, is_utf8}
-use Rattle.ignore_base.specs.declared.error.Error.{Error}
-use Rattle.ignore_base.specs.declared.fault.Fault.{Fault}
-use Rattle.ignore_base.specs.declared.fault.Fault.TheVariants.{InvalidData}
-use Rattle.ignore_walk.specs.declared.entry.DirEntry.{DirEntry}
 use Rattle.ignore.specs.FileWords.{Tree}
 use Rattle.ignore.specs.Finished.{IsEnd, IsFinished}
-use Rattle.ignore.specs.WalkWords.{Item, item_of}
+use Rattle.ignore.specs.WalkWords.{DirEntry, Item, item_of}
+use Rattle.ignore.specs.Words.{Error, Fault, InvalidData}
 use Rattle.uses.specs.Searched.{Adds, Finds, file_in, hits_at, hits_in_files, problems_of, text_by}
 use Rattle.uses.specs.declared.search.Found.{Found}
 

@@ -1,5 +1,6 @@
 mod FoundLemmas
 mod HitLemmas
 mod QueryLemmas
+mod StoredLemmas
 mod WatchLemmas
 mod WordLemmas

@@ -1,9 +1,8 @@
 -- What a matcher that keeps nothing finds, in the words of the bare tree.
 use Rattle.std.proofs.Common.{◌≡◌, ℕ, Bool, List, Option, Result, Ok, Err, IfOk, option_map, ap, sym, subst, ◌∙◌}
-use Rattle.ignore.specs.Words.{problem_of}
+use Rattle.ignore.specs.Words.{Error, problem_of}
 use Rattle.ignore.specs.FileWords.{Env, Tree}
 use Rattle.ignore.specs.WalkWords.{AreLoads, IncrementalIgnore, IncrementalMatch, Loaded, query, scene, scene_of}
-use Rattle.ignore_base.specs.declared.error.Error.{Error}
 use Rattle.uses.specs.Queries.{IsFound, IsMatcherBelow}
 
 pub found : (tree : Tree) (env : Env) (root path : List ℕ) (is_dir : Bool) (m : IncrementalIgnore)

@@ -6,13 +6,9 @@ use Rattle.std.specs.List.{enumerate_from, flat_map, starts_with}
 use Rattle.std.specs.Option.{option_to_list}
 use Rattle.std.specs.Str.{is_utf8}
 use Rattle.std.specs.Str.Lines.{lines}
-use Rattle.ignore_base.specs.declared.fault.Fault.{Fault}
-use Rattle.ignore_base.specs.declared.fault.Fault.TheVariants.{InvalidData}
-use Rattle.ignore_files.specs.Kinds.{is_file}
-use Rattle.ignore_files.specs.declared.types.FileType.{FileType}
-use Rattle.ignore.specs.FileWords.{Contents, Tree}
+use Rattle.ignore.specs.FileWords.{Contents, FileType, Tree, is_file}
 use Rattle.ignore.specs.WalkWords.{Item}
-use Rattle.ignore.specs.Words.{Bytes, Path, Problem, at_path, io, problem_of}
+use Rattle.ignore.specs.Words.{Bytes, Fault, InvalidData, Path, Problem, at_path, io, problem_of}
 use Rattle.uses.specs.declared.search.Found.{Found}
 use Rattle.uses.specs.declared.search.Hit.{Hit}
 

@@ -1,17 +1,26 @@
-//! A backup: it ends well only with the complete list of what it is to store.
-ghost use Rattle.std.specs.Prelude.{◌≡◌, Ok, Some, IfOk, map};
+//! A backup: it ends well only with the complete list of what it is to store. Whether it stores a
+//! path, a matcher answers without a walk.
+ghost use Rattle.std.specs.Prelude.{◌≡◌, ◌↔◌, IfErr, IfOk, List, Ok, Some, map, true};
 ghost use Rattle.ignore.specs.Closures.{order_of};
-ghost use Rattle.ignore.specs.FileWords.{Disk, IsTruthful, tree_on};
+ghost use Rattle.ignore.specs.FileWords.{Disk, IsHonest, IsTruthful, Tree, tree_on};
 ghost use Rattle.ignore.specs.Headline.{Headline, IsListIn};
-ghost use Rattle.ignore.specs.WalkWords.{item_of};
+ghost use Rattle.ignore.specs.WalkWords.{Agrees, AreLoads, AreMatchers, Entry, IncrementalIgnore, IsMatcherIn, IsOpen, IsYielded, Item};
+ghost use Rattle.ignore.specs.WalkWords.{Scene, item_of, keeps, scene_of};
+ghost use Rattle.ignore.specs.Words.{memory, problem_of};
+ghost use Rattle.uses.specs.Stored.{HoldsWhatTheyKeep, IsAbout};
 
 use ignore::files::{DiskFiles, Env, Files, Machine};
-use ignore::{Callbacks, DirEntry, Error, Item, Owner, WalkBuilder, collect_walk};
+use ignore::walk_laws::walk_agrees_with_matchers;
+use ignore::{
+    Callbacks, DirEntry, Error, IncrementalIgnore, IncrementalMatch, Item, Owner, WalkBuilder,
+    collect_walk,
+};
 use std::alloc::Global;
 
 /// Everything that a walk of the builder reaches and its rules keep, parents first. After `Ok`
 /// nothing is left out: the entries are the whole list of the definition, and no error stands in
-/// the place of one.
+/// the place of one. They are exactly those that one of the builder's matchers keeps, and standard
+/// input where that is a root, if the builder has no filter and enters other devices.
 ///
 /// # Errors
 /// The first error in the place of an entry; `Error::Memory`; and `Io(StepLimit)` where the walk
@@ -24,7 +33,11 @@ pub fn complete_entries<F: Files>(
 ) -> Result<Vec<DirEntry>, Error>
     ensures complete { IfOk result (λ entries. Headline F.Files ⟦<Owner<'static> as Callbacks>⟧ files.now (record { builder = Some builder.entry }) env.now
         builder.now.options (order_of (λ s. s.order) builder.now.sorter) (map (λ e. item_of (Ok e)) entries.items)) }
+    ensures agreed { (tree : Tree) (ms : List IncrementalIgnore) → IsHonest F.Files files.now tree → AreMatchers tree env.now builder.now.options ms
+        → IfOk result (λ entries. HoldsWhatTheyKeep ⟦<Owner<'static> as Callbacks>⟧ (record { builder = Some builder.entry }) env.now
+        builder.now.options (order_of (λ s. s.order) builder.now.sorter) tree ms (map (λ e. item_of (Ok e)) entries.items)) }
 {
+    walk_agrees_with_matchers::<Owner<'static>>();
     entries_of(alloc, collect_walk(builder, files, env)?)
 }
 
@@ -57,4 +70,34 @@ pub fn complete_entries_on_disk<R: Machine>(
     let files = DiskFiles::new(machine);
     files.is_honest();
     complete_entries(alloc, builder, &files, env)
+}
+
+/// Whether a walk yields what a matcher answers this about.
+fn keeps(answer: &IncrementalMatch) -> bool
+    ensures { result ≡ keeps answer.now }
+{
+    !answer.is_ignore() && answer.is_within_depth()
+}
+
+/// Whether a backup stores what is at a path below the root of a matcher, which is a directory
+/// where `is_dir` is set: the matcher is asked, and nothing is walked. Where the matcher goes by the
+/// settings and rules of a walk without a filter that enters other devices, the answer is whether
+/// the root gives the entry.
+///
+/// # Errors
+/// `Error::Memory` alone.
+pub fn is_stored<F: Files>(
+    matcher: &mut IncrementalIgnore,
+    files: &F,
+    path: &str,
+    is_dir: bool,
+) -> Result<bool, Error>
+    ensures stored { (g : Scene) (e : Entry) (items : List Item) → IsHonest F.Files files.now g.tree → AreLoads g.tree g.settings g.loads
+        → IsOpen g → IsMatcherIn g matcher.old → Agrees (scene_of matcher.old.asked g.tree g.loads) matcher.old.cache
+        → IsAbout g matcher.old path.now is_dir e items → IfOk result (λ yes. (yes ≡ true) ↔ IsYielded items e) }
+    ensures out_of_memory { IfErr result (λ e. problem_of e ≡ memory) }
+{
+    walk_agrees_with_matchers::<Owner<'static>>();
+    let answer = matcher.matched(files, path, is_dir)?;
+    Ok(keeps(&answer))
 }

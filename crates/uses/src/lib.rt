@@ -6,6 +6,7 @@ pub mod backup;
 pub mod buffer;
 pub mod checker;
 pub mod disk;
+pub mod explainer;
 pub mod global;
 pub mod lines;
 pub mod linter;

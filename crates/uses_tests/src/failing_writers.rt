@@ -31,8 +31,8 @@ fn run_words<W: Write, E: Write>(
 
 /// A writer of which some of its calls fail: all from one number on, or that one alone.
 #[derive(Drop)]
-struct Failing {
-    kept: Vec<u8>,
+pub(crate) struct Failing {
+    pub(crate) kept: Vec<u8>,
     /// How many calls succeed before the one that fails.
     calls: usize,
     /// Whether the calls after that one succeed again.
@@ -57,7 +57,7 @@ impl Write for Failing {
     }
 }
 
-fn writer_of(alloc: Global, calls: usize, recovers: bool) -> Failing {
+pub(crate) fn writer_of(alloc: Global, calls: usize, recovers: bool) -> Failing {
     Failing {
         kept: Vec::new(alloc),
         calls,

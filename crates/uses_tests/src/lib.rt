@@ -5,6 +5,10 @@
 #[cfg(test)]
 mod builders;
 #[cfg(test)]
+mod deep;
+#[cfg(test)]
+mod failing_lists;
+#[cfg(test)]
 mod failing_writers;
 #[cfg(test)]
 mod refused_builders;

@@ -25,7 +25,7 @@ const FOLDER: &[(&str, &[u8])] = &[
 ];
 
 /// That folder, whose directory `d` can't be listed.
-fn folder(alloc: Global) -> Result<MemoryTree, TreeError> {
+pub(crate) fn folder(alloc: Global) -> Result<MemoryTree, TreeError> {
     let mut tree = tree_of(alloc, FOLDER)?;
     tree.fault_list("/t/d", Fault::PermissionDenied)?;
     Ok(tree)
@@ -69,7 +69,7 @@ fn refused(
 }
 
 /// A list and a check, each of which reports what is wrong with rules.
-const RUNS: [&[&str]; 2] = [&["list", "/t"], &["check", "/t", "b.o", "c/x", "d"]];
+pub(crate) const RUNS: [&[&str]; 2] = [&["list", "/t"], &["check", "/t", "b.o", "c/x", "d"]];
 
 /// Each call that is made is refused in turn, and at last none is.
 #[test]

@@ -6,6 +6,7 @@ use ignore::{DirEntry, Error, IncrementalIgnore, WalkBuilder};
 use std::alloc::{AllocError, Global};
 use std::test::Fail;
 use uses::backup::{complete_entries, complete_entries_on_disk};
+use uses::explainer::left_out;
 use uses::search::{Found, search_below, show};
 use uses::single::{ask_once, matcher_below};
 use uses::watcher::ask_after_change;
@@ -28,6 +29,27 @@ fn is_hidden_ignored(alloc: Global, tree: &MemoryTree) -> Result<bool, Error> {
 fn a_tool_asks_about_one_path(rt: HostRuntime) -> Result<(), Fail> {
     let tree = tree_of(rt.alloc(), FOLDER)?;
     assert!(rt; is_hidden_ignored(rt.alloc(), &tree)?);
+    Ok(())
+}
+
+/// Whether the reason for which a file of the folder is left out is this one.
+fn is_left_out_by(
+    alloc: Global,
+    tree: &MemoryTree,
+    path: &str,
+    reason: &str,
+) -> Result<bool, Error> {
+    let mut matcher = matcher_below(alloc, tree, &UNKNOWN, "/p")?;
+    match left_out(alloc, &mut matcher, tree, path)? {
+        Some(text) => Ok(text.as_str() == reason),
+        None => Ok(false),
+    }
+}
+
+#[test]
+fn a_tool_says_why(rt: HostRuntime) -> Result<(), Fail> {
+    let tree = tree_of(rt.alloc(), FOLDER)?;
+    assert!(rt; is_left_out_by(rt.alloc(), &tree, "a.o", "/p/.ignore:1:*.o")?);
     Ok(())
 }
 

@@ -1,53 +1,15 @@
 //! A directory is listed when it is entered, and not before.
 ghost use Rattle.std.specs.Iterator.{IsFinite};
 
+use crate::noted::Noted;
 use crate::trees::tree_of;
 use crate::walks::{ground_of, options};
-use ignore_files::{Contents, Files, Identity, Listing, MemoryTree, Metadata, Name, Refusal};
+use ignore_files::Name;
 use ignore_walk::{Item, Walk};
 use std::alloc::Global;
-use std::cell::Cell;
-
-/// A tree in memory that notes whether this directory was listed.
-#[derive(Drop)]
-struct Watched<'t> {
-    tree: &'t MemoryTree,
-    dir: &'t str,
-    listed: Cell<bool>,
-}
-
-impl Files for Watched<'_> {
-    fn stat(&self, alloc: Global, path: &str, follow: bool) -> Result<Metadata, Refusal> {
-        self.tree.stat(alloc, path, follow)
-    }
-
-    fn list(&self, alloc: Global, path: &str) -> Result<Listing, Refusal> {
-        if path == self.dir {
-            self.listed.set(true);
-        }
-        self.tree.list(alloc, path)
-    }
-
-    fn contents(&self, alloc: Global, path: &str) -> Result<Contents, Refusal> {
-        self.tree.contents(alloc, path)
-    }
-
-    fn canonical(&self, alloc: Global, path: &str) -> Result<Name, Refusal> {
-        self.tree.canonical(alloc, path)
-    }
-
-    fn identity(
-        &self,
-        alloc: Global,
-        path: &str,
-        follow: bool,
-    ) -> Result<Option<Identity>, Refusal> {
-        self.tree.identity(alloc, path, follow)
-    }
-}
 
 /// Takes this many items of a walk of `/t`.
-fn take(alloc: Global, files: &Watched<'_>, items: u8) -> anyhow::Result<()> {
+fn take(alloc: Global, files: &Noted<'_>, items: u8) -> anyhow::Result<()> {
     let mut names = Vec::new(alloc);
     names.push(Name::new(String::from_str(alloc, "/t")?))?;
     let walk = Walk::new(ground_of(alloc, files, options()), names);
@@ -72,11 +34,7 @@ fn take_first<I: Iterator<Item = Item> + Drop>(walk: I, items: u8)
 fn is_listed(alloc: Global, dir: &str, items: u8) -> anyhow::Result<bool> {
     let lines = ["/t", "/t/a", "/t/a/x=", "/t/a/y=", "/t/b", "/t/b/z="];
     let tree = tree_of(alloc, &lines)?;
-    let files = Watched {
-        tree: &tree,
-        dir,
-        listed: Cell::new(false),
-    };
+    let files = Noted::listing(&tree, dir);
     take(alloc, &files, items)?;
     Ok(files.listed.get())
 }

@@ -16,6 +16,8 @@ mod loads;
 #[cfg(test)]
 mod matchers;
 #[cfg(test)]
+mod noted;
+#[cfg(test)]
 mod probes;
 #[cfg(test)]
 mod queries;

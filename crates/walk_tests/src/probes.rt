@@ -1,59 +1,12 @@
 //! What a listing has shown isn't asked for again.
 ghost use Rattle.std.specs.Iterator.{IsFinite};
 
+use crate::noted::Noted;
 use crate::trees::tree_of;
 use crate::walks::{ground_of, options};
-use ignore_files::{Contents, Files, Identity, Listing, MemoryTree, Metadata, Name, Refusal};
+use ignore_files::{MemoryTree, Name};
 use ignore_walk::{Item, Walk};
 use std::alloc::Global;
-use std::cell::Cell;
-
-/// A tree in memory that counts the followed `stat`s of what is in `/t`, and says that it
-/// is whole or doesn't.
-#[derive(Drop)]
-struct Counted<'t> {
-    tree: &'t MemoryTree,
-    is_whole: bool,
-    asked: Cell<u32>,
-}
-
-impl Files for Counted<'_> {
-    ghost stat_gives = { λ files path follow r. ⟦<MemoryTree as Files>⟧.stat_gives files.tree.now path follow r };
-
-    ghost list_gives = { λ files path r. ⟦<MemoryTree as Files>⟧.list_gives files.tree.now path r };
-
-    fn stat(&self, alloc: Global, path: &str, follow: bool) -> Result<Metadata, Refusal> {
-        if follow && path.starts_with("/t/") {
-            self.asked.set(self.asked.get().saturating_add(1));
-        }
-        self.tree.stat(alloc, path, follow)
-    }
-
-    fn list(&self, alloc: Global, path: &str) -> Result<Listing, Refusal> {
-        self.tree.list(alloc, path)
-    }
-
-    fn contents(&self, alloc: Global, path: &str) -> Result<Contents, Refusal> {
-        self.tree.contents(alloc, path)
-    }
-
-    fn canonical(&self, alloc: Global, path: &str) -> Result<Name, Refusal> {
-        self.tree.canonical(alloc, path)
-    }
-
-    fn identity(
-        &self,
-        alloc: Global,
-        path: &str,
-        follow: bool,
-    ) -> Result<Option<Identity>, Refusal> {
-        self.tree.identity(alloc, path, follow)
-    }
-
-    fn listings_are_whole(&self) -> bool {
-        self.is_whole && self.tree.listings_are_whole()
-    }
-}
 
 /// The one root `/t`.
 fn root(alloc: Global) -> anyhow::Result<Vec<Name>> {
@@ -62,8 +15,8 @@ fn root(alloc: Global) -> anyhow::Result<Vec<Name>> {
     Ok(names)
 }
 
-/// Takes all items of a walk of `/t`, with custom files of these names.
-fn walk(alloc: Global, files: &Counted<'_>, custom: &[&str]) -> anyhow::Result<()> {
+/// Walks `/t` to the end, with custom files of these names.
+fn walk(alloc: Global, files: &Noted<'_>, custom: &[&str]) -> anyhow::Result<()> {
     let root = root(alloc)?;
     let mut ground = ground_of(alloc, files, options());
     for name in custom {
@@ -73,7 +26,7 @@ fn walk(alloc: Global, files: &Counted<'_>, custom: &[&str]) -> anyhow::Result<(
     Ok(())
 }
 
-/// Takes all items.
+/// Goes through all items.
 fn take_all<I: Iterator<Item = Item> + Drop>(walk: I)
     requires ends { I.can_next walk × IsFinite (I.remaining walk) }
 {
@@ -87,12 +40,7 @@ fn asked_in(
     custom: &[&str],
     is_whole: bool,
 ) -> anyhow::Result<u32> {
-    let asked = Cell::new(0);
-    let files = Counted {
-        tree,
-        is_whole,
-        asked,
-    };
+    let files = Noted::asking(tree, is_whole);
     walk(alloc, &files, custom)?;
     Ok(files.asked.get())
 }

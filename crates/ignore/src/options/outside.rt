@@ -12,6 +12,8 @@ use ignore_base::Error;
 use ignore_dir::Outside;
 use ignore_files::{Env, Files};
 use ignore_rules::gitignore::{Gitignore, GitignoreBuilder};
+use ignore_rules::internal::{add, begun};
+use std::alloc::AllocError;
 
 impl WalkOptions {
     /// The rules of a file, relative to a directory, and its error.
@@ -20,16 +22,15 @@ impl WalkOptions {
         files: &F,
         dir: &str,
         path: &str,
-    ) -> Result<(Gitignore, Option<Error>), Error>
+    ) -> Result<(Gitignore, Option<Error>), AllocError>
         ensures read { (tree : Tree) → IsHonest F.Files files.now tree
             → IfOk result (λ r. IsFileOf tree path.now (explicit_start self.now dir.now) r.0 (option_map problem_of r.1)) }
         ensures answered { IfOk result (λ r. IsAnswerOf (F.contents_gives files.now path.now) path.now
             (explicit_start self.now dir.now) r.0 (option_map problem_of r.1)) }
-        ensures out_of_memory { IfErr result (λ e. problem_of e ≡ memory) }
     {
-        let mut builder = GitignoreBuilder::new(self.settings.allocator(), dir)?;
+        let mut builder = begun(self.settings.allocator(), dir, false)?;
         builder.git_trailing_spaces(self.settings.get().git_trailing_spaces);
-        let error = builder.add(files, path)?;
+        let error = add(&mut builder, files, path)?;
         Ok((builder.into_gitignore(), error))
     }
 
@@ -86,13 +87,11 @@ impl WalkOptions {
     }
 
     /// A builder for the rules of the global file, relative to a directory.
-    fn global_builder(&self, dir: &str) -> Result<GitignoreBuilder, Error>
+    fn global_builder(&self, dir: &str) -> Result<GitignoreBuilder, AllocError>
         ensures value { IfOk result (λ b. b ≡ started self.now.settings dir.now) }
-        ensures out_of_memory { IfErr result (λ e. problem_of e ≡ memory) }
     {
         let settings = self.settings.get();
-        let mut builder = GitignoreBuilder::new(self.settings.allocator(), dir)?;
-        builder.case_insensitive(settings.case_insensitive)?;
+        let mut builder = begun(self.settings.allocator(), dir, settings.case_insensitive)?;
         builder.git_trailing_spaces(settings.git_trailing_spaces);
         Ok(builder)
     }

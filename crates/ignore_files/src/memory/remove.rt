@@ -63,7 +63,7 @@ impl MemoryTree {
     ghost use Rattle.ignore_files.specs.Removed.{removed, file_written};
 
     /// Removes what is at a path, with all that is below it: nothing is there any more. A link is
-    /// removed and not what it leads to. What was removed takes memory until the tree is dropped,
+    /// removed and not what it leads to. What was removed needs memory until the tree is dropped,
     /// and its directories still count in `dir_count`.
     ///
     /// # Errors

@@ -6,6 +6,7 @@ ghost use Rattle.ignore_glob.specs.DoesMatch.{does_match};
 ghost use Rattle.ignore_glob.specs.Forms.{key_form, form_of};
 ghost use Rattle.ignore_glob.specs.Positions.{CountsMarks, positions};
 ghost use Rattle.ignore_glob.specs.Needles.{HasOneOf};
+ghost use Rattle.ignore_glob.specs.Matcher.{reading_of};
 ghost use Rattle.ignore_glob.specs.GlobFaults.{IfFault};
 ghost use Rattle.ignore_base.specs.Problem.{problem_of, memory};
 ghost use Rattle.ignore_glob.specs.Reading.{Matches};
@@ -19,6 +20,7 @@ use crate::glob::matcher::Matcher;
 use crate::glob::options::Options;
 use crate::glob::read::read;
 use crate::glob::token::Token;
+use crate::internal;
 use ignore_base::Error;
 use std::alloc::{AllocError, Global};
 use std::marker::Model;
@@ -84,7 +86,7 @@ impl Pattern {
         ensures decided { IfOk result (λ yes. yes ≡ does_match self.now (chars text.now)) }
         ensures succeeds { has_braces self.now.tokens ≡ false → positions self.now.tokens ≤ 62 → IsOk result }
     {
-        Ok(self.matcher.matches(text)?)
+        Ok(internal::matches(self, text)?)
     }
 
     /// As `matches`, with the number of marks: the pairs of a position of the glob and an offset in
@@ -105,6 +107,12 @@ impl Pattern {
         ensures succeeds { has_braces self.now.tokens ≡ false → positions self.now.tokens ≤ 62 → IsOk result }
     {
         Ok(self.matcher.matches_counted(text)?)
+    }
+
+    pub(crate) fn matcher(&self) -> &Matcher
+        ensures { reading_of result.now ≡ self.now }
+    {
+        &self.matcher
     }
 
     /// How many positions the glob has: one for each token, inside branches too, and a second one

@@ -53,16 +53,7 @@ impl GitignoreBuilder {
         ensures value { IfOk result (λ b. b ≡ begun root.now) }
         ensures out_of_memory { IfErr result (λ e. problem_of e ≡ memory) }
     {
-        let root = String::from_str(alloc, trim_root(root))?;
-        Ok(GitignoreBuilder {
-            root,
-            globs: Vec::new(alloc),
-            options: Options {
-                case_insensitive: false,
-                allow_unclosed_class: true,
-            },
-            git_trailing_spaces: false,
-        })
+        Ok(GitignoreBuilder::begun(alloc, root, false)?)
     }
 
     /// Adds one line, as in gitignore(5): a comment or a blank line adds nothing, any other line
@@ -191,6 +182,26 @@ fn shared(text: Option<String>) -> Result<Option<ArcStr>, AllocError>
 
 /// For the rest of the crate.
 impl GitignoreBuilder {
+    /// As `new`, where the globs of lines match both ASCII cases of a letter or don't.
+    pub(crate) fn begun(
+        alloc: Global,
+        root: &str,
+        case_insensitive: bool,
+    ) -> Result<GitignoreBuilder, AllocError>
+        ensures { IfOk result (λ b. b ≡ with_case_insensitive (begun root.now) case_insensitive) }
+    {
+        let root = String::from_str(alloc, trim_root(root))?;
+        Ok(GitignoreBuilder {
+            root,
+            globs: Vec::new(alloc),
+            options: Options {
+                case_insensitive,
+                allow_unclosed_class: true,
+            },
+            git_trailing_spaces: false,
+        })
+    }
+
     pub(crate) fn allocator(&self) -> Global {
         *self.root.allocator()
     }

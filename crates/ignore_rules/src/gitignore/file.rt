@@ -16,8 +16,8 @@ ghost use Rattle.ignore_rules.specs.RuleSteps.{IsOneSegment, IsLineRead, IsLastL
 
 use crate::gitignore::builder::GitignoreBuilder;
 use crate::gitignore::origin::Origin;
+use crate::internal;
 use ignore_base::Error;
-use ignore_files::internal::answered;
 use ignore_files::{Contents, Fault, Files};
 use memchr::memchr;
 use std::alloc::{AllocError, Global};
@@ -57,16 +57,14 @@ impl GitignoreBuilder {
         ensures out_of_memory { IfErr result (λ e. problem_of e ≡ memory) }
         ensures unchanged { OnErr result (self.new ≡ self.old) }
     {
-        match answered(files.contents(self.allocator(), path))? {
-            Ok(contents) => Ok(self.add_contents(path, &contents)?),
-            Err(fault) => {
-                let error = Error::from(fault).with_path(self.allocator(), path)?;
-                Ok(Some(error))
-            }
-        }
+        Ok(internal::add(self, files, path)?)
     }
 
-    fn add_contents(&mut self, path: &str, contents: &Contents) -> Result<Option<Error>, AllocError>
+    pub(crate) fn add_contents(
+        &mut self,
+        path: &str,
+        contents: &Contents,
+    ) -> Result<Option<Error>, AllocError>
         ensures added { IfOk result (λ problem. AddsContents path.now (Ok contents.now) self.old self.new (option_map problem_of problem)) }
         ensures unchanged { OnErr result (self.new ≡ self.old) }
     {

@@ -1,10 +1,9 @@
 //! One rule of a line, which the original calls a glob.
-ghost use Rattle.std.specs.Prelude.{◌≡◌, option_map, IfOk, IfErr, IsOk};
+ghost use Rattle.std.specs.Prelude.{◌≡◌, option_map, IfOk, IsOk};
 ghost use Rattle.std.specs.Arc.{arc_str_bytes};
 ghost use Rattle.std.specs.Option.{option_copied};
 ghost use Rattle.std.specs.Str.{chars};
 ghost use Rattle.ignore_base.specs.Match.{match_map};
-ghost use Rattle.ignore_base.specs.Problem.{problem_of, memory};
 ghost use Rattle.ignore_rules.specs.Answer.{does_apply, decision_of};
 ghost use Rattle.ignore_rules.specs.Rules.{read_rule};
 ghost use Rattle.ignore_glob.specs.DoesMatch.{does_match};
@@ -12,8 +11,9 @@ ghost use Rattle.ignore_set.specs.Sets.{IsShort};
 
 use crate::gitignore::line::ParsedLine;
 use crate::gitignore::origin::Origin;
-use ignore_base::{Error, Match};
+use ignore_base::Match;
 use ignore_glob::glob::Pattern;
+use ignore_glob::internal;
 use ignore_set::HasPattern;
 use std::alloc::AllocError;
 use std::marker::Model;
@@ -128,8 +128,7 @@ impl Glob {
         self.is_only_dir
     }
 
-    pub(crate) fn applies(&self, text: &str, is_dir: bool) -> Result<bool, Error>
-        ensures out_of_memory { IfErr result (λ e. problem_of e ≡ memory) }
+    pub(crate) fn applies(&self, text: &str, is_dir: bool) -> Result<bool, AllocError>
         ensures value { IfOk result (λ yes. yes ≡ does_apply (chars text.now) is_dir self.now) }
         ensures succeeds { IsShort self.now.reading → IsOk result }
     {
@@ -139,12 +138,11 @@ impl Glob {
         self.matches(text)
     }
 
-    fn matches(&self, text: &str) -> Result<bool, Error>
-        ensures out_of_memory { IfErr result (λ e. problem_of e ≡ memory) }
+    fn matches(&self, text: &str) -> Result<bool, AllocError>
         ensures value { IfOk result (λ yes. yes ≡ does_match self.now.reading (chars text.now)) }
         ensures succeeds { IsShort self.now.reading → IsOk result }
     {
-        self.pattern.matches(text)
+        internal::matches(&self.pattern, text)
     }
 
     pub(crate) fn decision(&self) -> Match<&Glob>

@@ -12,7 +12,7 @@ ghost use Rattle.ignore_rules.specs.Rules.{begun, empty};
 use crate::gitignore::builder::GitignoreBuilder;
 use crate::gitignore::matcher::Gitignore;
 use ignore_base::Error;
-use ignore_excludes::gitconfig_excludes_path;
+use ignore_excludes::internal::excludes_path;
 use ignore_files::internal::answered;
 use ignore_files::{Env, Fault, Files};
 use std::alloc::{AllocError, Global};
@@ -40,7 +40,7 @@ impl GitignoreBuilder {
         let alloc = self.allocator();
         match global_file(alloc, files, env)? {
             None => Ok((Gitignore::empty(alloc), None)),
-            Some(path) => self.build_file(files, path.as_str()),
+            Some(path) => Ok(self.build_file(files, path.as_str())?),
         }
     }
 }
@@ -79,13 +79,12 @@ impl Gitignore {
 }
 
 /// The path of the global file, if a file is there.
-fn global_file<F: Files>(alloc: Global, files: &F, env: &Env) -> Result<Option<String>, Error>
+fn global_file<F: Files>(alloc: Global, files: &F, env: &Env) -> Result<Option<String>, AllocError>
     ensures found { (tree : Tree) → IsHonest F.Files files.now tree
         → IfOk result (λ path. (found : Option Path) × IsExcludesPath tree env.now found
         × (option_map string_bytes path ≡ global_file tree found)) }
-    ensures out_of_memory { IfErr result (λ e. problem_of e ≡ memory) }
 {
-    match gitconfig_excludes_path(alloc, files, env)? {
+    match excludes_path(alloc, files, env)? {
         None => Ok(None),
         Some(path) => {
             if is_file(alloc, files, path.as_str())? {

@@ -1,8 +1,7 @@
 //! What a matcher keeps: its rules, and an index of them.
-ghost use Rattle.std.specs.Prelude.{◌≡◌, IfOk, IfErr, IsOk, drop, map, string_bytes};
+ghost use Rattle.std.specs.Prelude.{◌≡◌, IfOk, IsOk, drop, map, string_bytes};
 ghost use Rattle.std.specs.Str.{IsCharBoundary, chars};
 ghost use Rattle.ignore_base.specs.Match.{match_map};
-ghost use Rattle.ignore_base.specs.Problem.{problem_of, memory};
 ghost use Rattle.ignore_set.specs.Index.{IsIndexOf};
 ghost use Rattle.ignore_rules.specs.Answer.{list_answer};
 ghost use Rattle.ignore_rules.specs.Kept.{kept_rules};
@@ -10,7 +9,7 @@ ghost use Rattle.ignore_rules.specs.RuleIndex.{AreShortRules, rule_member};
 ghost use Rattle.ignore_rules.specs.Rules.{empty, ignore_count, whitelist_count};
 
 use crate::gitignore::glob::Glob;
-use ignore_base::{Error, Match};
+use ignore_base::Match;
 use ignore_glob::glob::laws::matching_is_decided;
 use ignore_set::{Haystack, Index};
 use std::alloc::{AllocError, Global};
@@ -156,8 +155,7 @@ impl IndexedRules {
         haystack: &mut Haystack<'_>,
         offset: usize,
         is_dir: bool,
-    ) -> Result<Match<&Glob>, Error>
-        ensures out_of_memory { IfErr result (λ e. problem_of e ≡ memory) }
+    ) -> Result<Match<&Glob>, AllocError>
         ensures answered { IsCharBoundary haystack.old offset → IfOk result (λ m. match_map (λ g. g.now) m
             ≡ list_answer self.now.rules (chars (drop offset haystack.old)) is_dir) }
         ensures same { haystack.new ≡ haystack.old }
@@ -205,8 +203,7 @@ impl Kept {
         haystack: &mut Haystack<'_>,
         offset: usize,
         is_dir: bool,
-    ) -> Result<Match<&Glob>, Error>
-        ensures out_of_memory { IfErr result (λ e. problem_of e ≡ memory) }
+    ) -> Result<Match<&Glob>, AllocError>
         ensures answered { IsCharBoundary haystack.old offset → IfOk result (λ m. match_map (λ g. g.now) m
             ≡ list_answer (kept_rules self.now).rules (chars (drop offset haystack.old)) is_dir) }
         ensures same { haystack.new ≡ haystack.old }
@@ -245,9 +242,8 @@ fn indexed_answer<'g>(
     haystack: &mut Haystack<'_>,
     offset: usize,
     is_dir: bool,
-) -> Result<Match<&'g Glob>, Error>
+) -> Result<Match<&'g Glob>, AllocError>
     requires { IsIndexOf index.now (map rule_member globs.now) }
-    ensures out_of_memory { IfErr result (λ e. problem_of e ≡ memory) }
     ensures answered { IsCharBoundary haystack.old offset
         → IfOk result (λ m. match_map (λ g. g.now) m ≡ list_answer globs.now (chars (drop offset haystack.old)) is_dir) }
     ensures same { haystack.new ≡ haystack.old }
@@ -266,8 +262,7 @@ fn answer_after<'g>(
     text: &str,
     offset: usize,
     is_dir: bool,
-) -> Result<Match<&'g Glob>, Error>
-    ensures out_of_memory { IfErr result (λ e. problem_of e ≡ memory) }
+) -> Result<Match<&'g Glob>, AllocError>
     ensures answered { IsCharBoundary text.now offset
         → IfOk result (λ m. match_map (λ g. g.now) m ≡ list_answer globs.now (chars (drop offset text.now)) is_dir) }
     ensures succeeds { AreShortRules globs.now → IsOk result }
@@ -279,8 +274,11 @@ fn answer_after<'g>(
 }
 
 /// The answer of the rules asked one by one, from the last.
-fn last_answer<'g>(globs: &'g [Glob], text: &str, is_dir: bool) -> Result<Match<&'g Glob>, Error>
-    ensures out_of_memory { IfErr result (λ e. problem_of e ≡ memory) }
+fn last_answer<'g>(
+    globs: &'g [Glob],
+    text: &str,
+    is_dir: bool,
+) -> Result<Match<&'g Glob>, AllocError>
     ensures answered { IfOk result (λ m. match_map (λ g. g.now) m ≡ list_answer globs.now (chars text.now) is_dir) }
     ensures succeeds { AreShortRules globs.now → IsOk result }
 {

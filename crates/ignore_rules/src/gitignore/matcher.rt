@@ -114,7 +114,7 @@ impl Gitignore {
         if self.is_empty() {
             return Ok(Match::None);
         }
-        self.answer(strip(self.path(), path), is_dir)
+        Ok(self.answer(strip(self.path(), path), is_dir)?)
     }
 
     /// For dependents: as `matched`, of what is left of a path below the root when the root is
@@ -122,10 +122,9 @@ impl Gitignore {
     /// below a directory begin (`text::offset_below`), asks about slices of one path.
     ///
     /// # Errors
-    /// As `matched`.
-    pub fn answer(&self, stripped: &str, is_dir: bool) -> Result<Match<&Glob>, Error>
+    /// None where `matched` has none.
+    pub fn answer(&self, stripped: &str, is_dir: bool) -> Result<Match<&Glob>, AllocError>
         ensures answered { IfOk result (λ m. match_map (λ g. g.now) m ≡ list_answer self.now.rules (chars stripped.now) is_dir) }
-        ensures out_of_memory { IfErr result (λ e. problem_of e ≡ memory) }
         ensures succeeds { AreShortRules self.now.rules → IsOk result }
     {
         self.kept.answer(&mut Haystack::new(stripped), 0, is_dir)
@@ -136,17 +135,16 @@ impl Gitignore {
     /// Where the offset is within a character, or beyond the path, there is no match.
     ///
     /// # Errors
-    /// As `matched`.
+    /// None where `matched` has none.
     pub fn answer_after(
         &self,
         path: &mut Haystack<'_>,
         offset: usize,
         is_dir: bool,
-    ) -> Result<Match<&Glob>, Error>
+    ) -> Result<Match<&Glob>, AllocError>
         ensures answered { IsCharBoundary path.old offset → IfOk result (λ m. match_map (λ g. g.now) m
             ≡ list_answer self.now.rules (chars (drop offset path.old)) is_dir) }
         ensures same { path.new ≡ path.old }
-        ensures out_of_memory { IfErr result (λ e. problem_of e ≡ memory) }
         ensures succeeds { AreShortRules self.now.rules → IsOk result }
     {
         self.kept.answer(path, offset, is_dir)

@@ -11,10 +11,11 @@ ghost use Rattle.ignore_rules.specs.Rules.{begun};
 
 use crate::gitignore::builder::GitignoreBuilder;
 use crate::gitignore::matcher::Gitignore;
+use crate::internal;
 use ignore_base::Error;
 use ignore_base::text::folder_of;
 use ignore_files::Files;
-use std::alloc::Global;
+use std::alloc::{AllocError, Global};
 
 impl Gitignore {
     /// The matcher of one file of rules, relative to the directory of the file, and the errors of
@@ -39,7 +40,7 @@ impl Gitignore {
         ensures out_of_memory { IfErr result (λ e. problem_of e ≡ memory) }
     {
         let builder = GitignoreBuilder::new(alloc, folder_of(path))?;
-        builder.build_file(files, path)
+        Ok(builder.build_file(files, path)?)
     }
 }
 
@@ -49,14 +50,13 @@ impl GitignoreBuilder {
         mut self,
         files: &F,
         path: &str,
-    ) -> Result<(Gitignore, Option<Error>), Error>
+    ) -> Result<(Gitignore, Option<Error>), AllocError>
         ensures read { (tree : Tree) → IsHonest F.Files files.now tree
             → IfOk result (λ r. BuildsFile tree path.now self r.0 (option_map problem_of r.1)) }
         ensures answered { IfOk result (λ r. (answer : Result Contents Refusal) × F.contents_gives files.now path.now answer
             × BuildsAnswer path.now answer self r.0 (option_map problem_of r.1)) }
-        ensures out_of_memory { IfErr result (λ e. problem_of e ≡ memory) }
     {
-        let error = self.add(files, path)?;
+        let error = internal::add(&mut self, files, path)?;
         Ok((self.into_gitignore(), Error::without_fault(error)))
     }
 }

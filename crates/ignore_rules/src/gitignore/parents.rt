@@ -11,6 +11,7 @@ use crate::gitignore::matcher::Gitignore;
 use ignore_base::text::strip;
 use ignore_base::{Error, Match};
 use memchr::memrchr;
+use std::alloc::AllocError;
 
 impl Gitignore {
     /// Whether a path can be matched together with its parents: there are no rules, or the path
@@ -44,7 +45,7 @@ impl Gitignore {
             return Ok(Match::None);
         }
         let path = strip(self.path(), path);
-        nearest_answer(self, path, is_dir)
+        Ok(nearest_answer(self, path, is_dir)?)
     }
 }
 
@@ -52,9 +53,8 @@ fn nearest_answer<'g>(
     matcher: &'g Gitignore,
     text: &str,
     is_dir: bool,
-) -> Result<Match<&'g Glob>, Error>
+) -> Result<Match<&'g Glob>, AllocError>
     requires { slice_index text.now 0 ≢ 47 }
-    ensures out_of_memory { IfErr result (λ e. problem_of e ≡ memory) }
     ensures answered { IfOk result (λ m. match_map (λ g. g.now) m ≡ nearest_answer matcher.now.rules (chars text.now) is_dir) }
     ensures succeeds { AreShortRules matcher.now.rules → IsOk result }
 {
@@ -66,9 +66,11 @@ fn nearest_answer<'g>(
     }
 }
 
-fn nearest_parent_answer<'g>(matcher: &'g Gitignore, text: &str) -> Result<Match<&'g Glob>, Error>
+fn nearest_parent_answer<'g>(
+    matcher: &'g Gitignore,
+    text: &str,
+) -> Result<Match<&'g Glob>, AllocError>
     requires { slice_index text.now 0 ≢ 47 }
-    ensures out_of_memory { IfErr result (λ e. problem_of e ≡ memory) }
     ensures answered { IfOk result (λ m. match_map (λ g. g.now) m ≡ directories_answer matcher.now.rules (parents (chars text.now))) }
     ensures succeeds { AreShortRules matcher.now.rules → IsOk result }
 {

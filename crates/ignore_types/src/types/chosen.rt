@@ -1,19 +1,19 @@
 //! A chosen type of a matcher.
-ghost use Rattle.std.specs.Prelude.{◌≡◌, ◌⊎◌, ℕ, IfOk, IfErr, MatchOption, map, not, string_bytes, Some};
+ghost use Rattle.std.specs.Prelude.{◌≡◌, ◌⊎◌, ◌<◌, ℕ, IfOk, IfErr, length, map, not, string_bytes, Some};
 ghost use Rattle.std.specs.List.{AllZip, list_any};
 ghost use Rattle.std.specs.Str.{chars};
 ghost use Rattle.ignore_base.specs.Problem.{problem_of, memory, glob as glob_problem};
 ghost use Rattle.ignore_glob.specs.GlobFaults.{glob_fault_text};
-ghost use Rattle.ignore_types.specs.TypeMatch.{choices_answer, does_choice_match, verdict_of};
-ghost use Rattle.ignore_base.specs.declared.match_result.Match.TheVariants.{None};
+ghost use Rattle.ignore_types.specs.TypeMatch.{choice_answer, choices_answer, glob_at, verdict_of};
 ghost use Rattle.ignore_types.specs.Building.{plain, IsReadAs, FirstBad, IsGlobProblem};
 
 use crate::types::definition::FileTypeDef;
-use ignore_base::Error;
+use crate::types::glob::Glob;
+use ignore_base::{Error, Match};
 use ignore_glob::glob::laws::matching_is_decided;
 use ignore_glob::glob::{GlobFault, Options, Pattern, PatternError};
 use ignore_set::{HasPattern, Index};
-use std::alloc::Global;
+use std::alloc::{AllocError, Global};
 use std::marker::Model;
 
 /// A parsed glob of a type, which is matched against the names of files.
@@ -64,13 +64,14 @@ impl Model for ChosenType {
 
     ghost coded = { chosen_code };
 
-    ghost use Rattle.std.specs.Prelude.{map};
+    ghost use Rattle.std.specs.Prelude.{◌≡◌, length, map};
     ghost use Rattle.ignore_set.specs.Index.{IsIndexOf};
     ghost use Rattle.ignore_types.specs.TypeIndex.{name_member};
 
     ghost view = { λ c. record { definition = c.definition; readings = c.globs.items; negated = c.negated } };
 
-    ghost invariant = { λ c. IsIndexOf c.index (map name_member c.globs.items) };
+    ghost invariant = { λ c. IsIndexOf c.index (map name_member c.globs.items)
+        × (length c.globs.items ≡ length c.definition.globs) };
 }
 
 impl ChosenType {
@@ -78,9 +79,9 @@ impl ChosenType {
         definition: FileTypeDef,
         globs: Vec<NameGlob>,
         negated: bool,
-    ) -> Result<ChosenType, Error>
-        ensures value { IfOk result (λ c. c ≡ record { definition = definition; readings = globs.items; negated = negated }) }
-        ensures out_of_memory { IfErr result (λ e. problem_of e ≡ memory) }
+    ) -> Result<ChosenType, AllocError>
+        requires { length globs.items ≡ length definition.globs }
+        ensures { IfOk result (λ c. c ≡ record { definition = definition; readings = globs.items; negated = negated }) }
     {
         let index = Index::new(*globs.allocator(), &globs)?;
         Ok(ChosenType {
@@ -91,44 +92,58 @@ impl ChosenType {
         })
     }
 
-    pub(super) fn definition(&self) -> &FileTypeDef
-        ensures { result.now ≡ self.now.definition }
-    {
-        &self.definition
-    }
-
     pub(super) fn is_negated(&self) -> bool
         ensures { result ≡ self.now.negated }
     {
         self.negated
     }
 
-    /// Whether some glob of the type matches the name.
-    pub(super) fn matches(&self, name: &str) -> Result<bool, Error>
-        ensures out_of_memory { IfErr result (λ e. problem_of e ≡ memory) }
-        ensures value { IfOk result (λ yes. yes ≡ does_choice_match (chars name.now) self.now) }
+    /// The answer of the type for a name: by the last of its globs that matches it.
+    fn matched(&self, name: &str) -> Result<Match<Glob<'_>>, AllocError>
+        ensures { IfOk result (λ m. m ≡ choice_answer (chars name.now) self.now) }
     {
         matching_is_decided();
-        Ok(self.index.last_match(&self.globs, name, false)?.is_some())
+        match self.index.last_match(&self.globs, name, false)? {
+            Some(place) => Ok(self.verdict(place)),
+            None => Ok(Match::None),
+        }
+    }
+
+    fn verdict(&self, place: usize) -> Match<Glob<'_>>
+        requires { place < length self.now.readings }
+        ensures { result ≡ verdict_of self.now place }
+    {
+        let glob = self.glob_at(place);
+        if self.negated {
+            Match::Ignore(glob)
+        } else {
+            Match::Whitelist(glob)
+        }
+    }
+
+    fn glob_at(&self, place: usize) -> Glob<'_>
+        requires { place < length self.now.readings }
+        ensures { result ≡ Some (glob_at self.now place) }
+    {
+        Glob::of(&self.definition, self.definition.globs()[place].as_str())
     }
 }
 
-/// The last choice that matches the name.
+/// The answer of the last choice that matches the name.
 pub(super) fn last_choice<'a>(
     choices: &'a [ChosenType],
     name: &str,
-) -> Result<Option<&'a ChosenType>, Error>
-    ensures out_of_memory { IfErr result (λ e. problem_of e ≡ memory) }
-    ensures value { IfOk result (λ found. MatchOption found (choices_answer choices.now (chars name.now) ≡ None)
-        (λ c. choices_answer choices.now (chars name.now) ≡ verdict_of c.now)) }
+) -> Result<Match<Glob<'a>>, AllocError>
+    ensures { IfOk result (λ m. m ≡ choices_answer choices.now (chars name.now)) }
 {
     for i in (0..choices.len()).rev() {
         let choice = &choices[i];
-        if choice.matches(name)? {
-            return Ok(Some(choice));
+        let answer = choice.matched(name)?;
+        if !answer.is_none() {
+            return Ok(answer);
         }
     }
-    Ok(None)
+    Ok(Match::None)
 }
 
 /// Whether some choice selects.

@@ -1,57 +1,19 @@
 //! Matching the names of files against chosen types.
 ghost use Rattle.std.specs.Prelude.{◌≡◌, ◌==◌, [], length, IfOk, IfErr};
-ghost use Rattle.std.specs.Option.{option_copied};
 ghost use Rattle.std.specs.Str.{chars};
 ghost use Rattle.ignore_base.specs.Match.{match_or};
 ghost use Rattle.ignore_base.specs.Problem.{problem_of, memory};
 ghost use Rattle.ignore_base.specs.Paths.{file_name_of};
-ghost use Rattle.ignore_types.specs.TypeMatch.{choices_answer, type_answer, unmatched, verdict_of};
+ghost use Rattle.ignore_types.specs.TypeMatch.{choices_answer, type_answer, unmatched};
 
 use crate::types::chosen::{ChosenType, last_choice, some_selected};
 use crate::types::definition::FileTypeDef;
+use crate::types::glob::Glob;
 use ignore_base::text::file_name;
 use ignore_base::{Error, Match};
 use std::alloc::{AllocError, Global};
 use std::marker::Model;
 use std::sync::Arc;
-
-/// What decided a match of file types.
-#[derive(Debug, Drop)]
-pub struct Glob<'a> {
-    definition: Option<&'a FileTypeDef>,
-}
-
-impl<'a> Model for Glob<'a> {
-    ghost use Rattle.std.specs.Prelude.{Option};
-    ghost use Rattle.std.specs.Option.{option_copied};
-    ghost use Rattle.ignore_types.specs.Types.{Definition};
-
-    ghost Value = { Option Definition };
-
-    ghost view = { λ g. option_copied g.definition };
-}
-
-impl<'a> Glob<'a> {
-    /// The type whose glob matched the file's name, with its globs in the order of adding. None
-    /// where no glob matched, and the file is ignored since other types were selected.
-    pub fn file_type_def(&self) -> Option<&FileTypeDef>
-        ensures { option_copied result ≡ self.now }
-    {
-        self.definition
-    }
-}
-
-impl<'a> Clone for Glob<'a> {
-    ghost use Rattle.std.specs.Prelude.{◌≡◌};
-
-    ghost is_clone = { λ g copy. copy ≡ g };
-
-    fn clone(&self) -> Result<Glob<'a>, AllocError> {
-        Ok(Glob {
-            definition: self.definition,
-        })
-    }
-}
 
 /// All types, and those that were chosen.
 #[derive(Debug, Drop)]
@@ -182,7 +144,7 @@ impl Types {
         }
         match file_name(path) {
             None => Ok(unmatched(self.choices())),
-            Some(name) => matched_name(self.choices(), name),
+            Some(name) => Ok(matched_name(self.choices(), name)?),
         }
     }
 }
@@ -202,34 +164,17 @@ impl Clone for Types {
     }
 }
 
-fn matched_name<'a>(choices: &'a [ChosenType], name: &str) -> Result<Match<Glob<'a>>, Error>
-    ensures out_of_memory { IfErr result (λ e. problem_of e ≡ memory) }
-    ensures answered { IfOk result (λ m. m ≡ match_or (choices_answer choices.now (chars name.now)) (unmatched choices.now)) }
+fn matched_name<'a>(choices: &'a [ChosenType], name: &str) -> Result<Match<Glob<'a>>, AllocError>
+    ensures { IfOk result (λ m. m ≡ match_or (choices_answer choices.now (chars name.now)) (unmatched choices.now)) }
 {
-    match last_choice(choices, name)? {
-        Some(choice) => Ok(verdict(choice)),
-        None => Ok(unmatched(choices)),
-    }
-}
-
-fn verdict(choice: &ChosenType) -> Match<Glob<'_>>
-    ensures { result ≡ verdict_of choice.now }
-{
-    let glob = Glob {
-        definition: Some(choice.definition()),
-    };
-    if choice.is_negated() {
-        Match::Ignore(glob)
-    } else {
-        Match::Whitelist(glob)
-    }
+    Ok(last_choice(choices, name)?.or(unmatched(choices)))
 }
 
 fn unmatched(choices: &[ChosenType]) -> Match<Glob<'_>>
     ensures { result ≡ unmatched choices.now }
 {
     if some_selected(choices) {
-        return Match::Ignore(Glob { definition: None });
+        return Match::Ignore(Glob::none());
     }
     Match::None
 }

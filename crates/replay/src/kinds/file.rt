@@ -4,7 +4,7 @@ use crate::refusing::Refusing;
 use crate::rules::{put_error, put_read};
 use answers::{Answer, CALLS, tree_of_calls};
 use ignore_base::Error;
-use ignore_files::MemoryTree;
+use ignore_files::{Env, MemoryTree};
 use ignore_rules::gitignore::Gitignore;
 use serde_json::Value;
 use std::alloc::Global;
@@ -19,18 +19,24 @@ pub fn answer(alloc: Global, input: &Value) -> Result<Value, Trouble> {
 }
 
 fn read(alloc: Global, input: &Value, tree: &MemoryTree, path: &str) -> Result<Value, Trouble> {
-    let files = Refusing::of(tree, input)?;
+    let files = Refusing::of(alloc, tree, input)?;
     match Gitignore::new(alloc, &files, path) {
-        Ok((matcher, error)) => reported(alloc, &matcher, &error),
+        Ok((matcher, error)) => reported(alloc, &files, &matcher, &error),
         Err(error) => failed(alloc, &files, &error),
     }
 }
 
-fn reported(alloc: Global, matcher: &Gitignore, error: &Option<Error>) -> Result<Value, Trouble> {
+fn reported(
+    alloc: Global,
+    files: &Refusing<'_>,
+    matcher: &Gitignore,
+    error: &Option<Error>,
+) -> Result<Value, Trouble> {
     let mut answer = Answer::new(alloc);
     put_read(&mut answer, alloc, matcher, error);
     answer.put("is_empty", matcher.is_empty());
     answer.put("len", matcher.len());
+    files.put_excess(&mut answer, alloc, &Env::empty());
     Ok(answer.value()?)
 }
 

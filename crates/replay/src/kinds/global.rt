@@ -27,8 +27,10 @@ pub fn answer(alloc: Global, input: &Value) -> Result<Value, Trouble> {
 
 fn reported(alloc: Global, input: &Value, tree: &MemoryTree, env: &Env) -> Result<Value, Trouble> {
     let mut answer = Answer::new(alloc);
-    put_path(&mut answer, alloc, &Refusing::of(tree, input)?, env)?;
-    put_matcher(&mut answer, alloc, input, &Refusing::of(tree, input)?, env)?;
+    put_path(&mut answer, alloc, &Refusing::of(alloc, tree, input)?, env)?;
+    let files = Refusing::of(alloc, tree, input)?;
+    put_matcher(&mut answer, alloc, input, &files, env)?;
+    files.put_excess(&mut answer, alloc, env);
     Ok(answer.value()?)
 }
 

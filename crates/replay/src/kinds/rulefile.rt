@@ -4,7 +4,7 @@ use crate::refusing::Refusing;
 use crate::rules::{builder_of_lines, rules_value};
 use answers::{Answer, but_for_memory, bytes_of, fault_of, problem, unrefused};
 use ignore_base::Error;
-use ignore_files::MemoryTree;
+use ignore_files::{Env, MemoryTree};
 use ignore_rules::gitignore::GitignoreBuilder;
 use serde_json::Value;
 use std::alloc::Global;
@@ -28,7 +28,7 @@ pub fn answer(alloc: Global, input: &Value) -> Result<Value, Trouble> {
 }
 
 fn asked_of(alloc: Global, input: &Value, tree: &MemoryTree, path: &str) -> Result<Value, Trouble> {
-    let files = Refusing::of(tree, input)?;
+    let files = Refusing::of(alloc, tree, input)?;
     let mut builder = builder_of_options(alloc, input)?;
     asked(alloc, &files, path, &mut builder)
 }
@@ -39,8 +39,8 @@ fn asked(
     path: &str,
     builder: &mut GitignoreBuilder,
 ) -> Result<Value, Trouble> {
-    let error = added(builder, files, path)?;
-    reported(alloc, builder, &error)
+    let error = added(alloc, builder, files, path)?;
+    reported(alloc, files, builder, &error)
 }
 
 /// A builder with the lines and then the options of a vector.
@@ -54,6 +54,7 @@ fn builder_of_options(alloc: Global, input: &Value) -> Result<GitignoreBuilder, 
 
 fn reported(
     alloc: Global,
+    files: &Refusing<'_>,
     builder: &GitignoreBuilder,
     error: &Option<Error>,
 ) -> Result<Value, Trouble> {
@@ -63,6 +64,7 @@ fn reported(
     answer.put("error", error.as_ref());
     answer.put("is_io", is_io(error));
     answer.put("is_partial", is_partial(error));
+    files.put_excess(&mut answer, alloc, &Env::empty());
     Ok(answer.value()?)
 }
 
@@ -82,6 +84,7 @@ fn is_partial(error: &Option<Error>) -> bool {
 
 /// Adds a file to a builder, and again where it is out of memory, but not where the files are.
 fn added(
+    alloc: Global,
     builder: &mut GitignoreBuilder,
     files: &Refusing<'_>,
     path: &str,
@@ -89,7 +92,10 @@ fn added(
     match builder.add(files, path) {
         Ok(error) => Ok(error),
         Err(error) if files.reported_memory() => Ok(Some(error)),
-        Err(_) => added_again(builder, files, path),
+        Err(_) => {
+            files.forget(alloc);
+            added_again(builder, files, path)
+        }
     }
 }
 

@@ -1,7 +1,8 @@
 //! Runs of the program `igwalk`, with writers in memory.
 
+use super::query::is_dir_there;
 use crate::settings::{Machine, machine_of};
-use answers::Answer;
+use answers::{Answer, Bounds, Calls, Counting, Questions};
 use commands::run::run;
 use serde_json::Value;
 use std::alloc::{AllocError, Global};
@@ -20,10 +21,12 @@ struct Outcome {
     status: u8,
     out: Vec<u8>,
     err: Vec<u8>,
+    /// What was too much of the calls of the files, if anything was.
+    excess: Option<&'static str>,
 }
 
 /// Answers `status`, and `stdout` and `stderr`, what was written: texts, or `null` for what is
-/// none.
+/// none; and `calls`, where the files were called more often than the bounds say.
 pub(crate) fn answer(alloc: Global, input: &Value) -> Result<Value, Trouble> {
     let words = words_of(alloc, list(input, WORDS)?)?;
     let left = left_by(alloc, input, words.as_slice())?;
@@ -33,7 +36,7 @@ pub(crate) fn answer(alloc: Global, input: &Value) -> Result<Value, Trouble> {
 /// What a run of these words leaves on the machine of a vector.
 fn left_by(alloc: Global, input: &Value, words: &[String]) -> Result<Outcome, Trouble> {
     let machine = machine_of(alloc, input)?;
-    Ok(repeated(alloc, &machine, words))
+    repeated(alloc, &machine, words)
 }
 
 fn shown(alloc: Global, left: &Outcome) -> Result<Value, AllocError> {
@@ -41,6 +44,9 @@ fn shown(alloc: Global, left: &Outcome) -> Result<Value, AllocError> {
     answer.put("status", left.status as u64);
     answer.put_value("stdout", text_of(alloc, left.out.as_slice()));
     answer.put_value("stderr", text_of(alloc, left.err.as_slice()));
+    if let Some(excess) = left.excess {
+        answer.put("calls", excess);
+    }
     answer.value()
 }
 
@@ -57,35 +63,71 @@ fn words_of(alloc: Global, items: &[Value]) -> Result<Vec<String>, Trouble> {
 
 /// What a run leaves. One that ended early may have been out of memory, so it is made again: what
 /// counts is then what the second leaves, if the output of the first is a beginning of its output.
-fn repeated(alloc: Global, machine: &Machine, words: &[String]) -> Outcome {
-    let first = left(alloc, machine, words);
+fn repeated(alloc: Global, machine: &Machine, words: &[String]) -> Result<Outcome, Trouble> {
+    let first = left(alloc, machine, words)?;
     if first.status != ENDED {
-        return first;
+        return Ok(first);
     }
-    let second = left(alloc, machine, words);
+    let second = left(alloc, machine, words)?;
     if second.out.starts_with(&first.out) {
-        second
+        Ok(second)
     } else {
-        first
+        Ok(first)
     }
 }
 
-fn left(alloc: Global, machine: &Machine, words: &[String]) -> Outcome {
+fn left(alloc: Global, machine: &Machine, words: &[String]) -> Result<Outcome, Trouble> {
     let mut out: Vec<u8> = Vec::new(alloc);
     let mut err: Vec<u8> = Vec::new(alloc);
-    let ran = run(
-        alloc,
-        &machine.tree,
-        &machine.env,
-        words,
-        &mut out,
-        &mut err,
-    );
-    Outcome {
+    let files = Counting::new(alloc, &machine.tree);
+    let ran = run(alloc, &files, &machine.env, words, &mut out, &mut err);
+    Ok(Outcome {
         status: ran.unwrap_or(ENDED),
         out,
         err,
+        excess: excess(alloc, machine, words, &files.taken(alloc))?,
+    })
+}
+
+/// What is too much of the calls of a run, if anything is: a list is a walk, a check asks about its
+/// paths, and any other run calls no files.
+fn excess(
+    alloc: Global,
+    machine: &Machine,
+    words: &[String],
+    calls: &Calls,
+) -> Result<Option<&'static str>, Trouble> {
+    let mut bounds = Bounds::new(alloc);
+    bounds.has_outside = true;
+    let roots = match words {
+        [command, roots @ ..] if command.as_str() == "list" => roots,
+        [command, root, paths @ ..] if command.as_str() == "check" => {
+            bounds.roots.push(root.as_str())?;
+            let asked = questions(alloc, machine, root.as_str(), paths)?;
+            return Ok(bounds.excess_of_questions(calls, &asked));
+        }
+        _ => &[],
+    };
+    for root in roots {
+        bounds.roots.push(root.as_str())?;
     }
+    Ok(bounds.excess_of_walk(calls))
+}
+
+/// The questions of a check.
+fn questions(
+    alloc: Global,
+    machine: &Machine,
+    root: &str,
+    paths: &[String],
+) -> Result<Questions, Trouble> {
+    let mut asked = Questions::new(alloc);
+    asked.is_dir = is_dir_there(alloc, &machine.tree, root)?;
+    asked.are_looked_up = true;
+    for path in paths {
+        asked.note(alloc, path.as_str())?;
+    }
+    Ok(asked)
 }
 
 /// The text of these bytes, or `null`.

@@ -1,13 +1,14 @@
 //! The text by which a matcher knows a path.
 
 use super::query::matcher;
-use crate::settings::Machine;
+use crate::settings::{Machine, Shown};
 use answers::{Answer, CALLS, but_for_memory, unrefused, variable};
 use ignore::files::{Env, MemoryTree, Name};
 use ignore::text::normalize;
 use ignore::{IncrementalIgnore, WalkBuilder};
 use serde_json::Value;
 use std::alloc::Global;
+use std::rc::Rc;
 use vectors::{Trouble, text};
 
 /// The name of the field with the working directory.
@@ -75,5 +76,6 @@ fn machine(alloc: Global, input: &Value) -> Result<Machine, Trouble> {
         git_config_global: None,
         git_config_system: None,
     };
-    Ok(Machine { tree, env })
+    let shown = Rc::new(alloc, Shown::new(alloc))?;
+    Ok(Machine { tree, env, shown })
 }

@@ -1,9 +1,10 @@
 //! The answers of a matcher for paths in turn.
 
-use crate::settings::{Machine, items_at};
-use answers::{Answer, Items, but_for_memory, tree_of_calls};
-use ignore::files::MemoryTree;
-use ignore::{Error, IncrementalIgnore, IncrementalMatch, WalkBuilder, check_paths};
+use crate::settings::{Machine, bounds_of, items_at};
+use answers::{Answer, Bounds, Calls, Counting, Items, Questions, but_for_memory, tree_of_calls};
+use ignore::files::{Files, MemoryTree, Refusal};
+use ignore::text::join;
+use ignore::{Error, Explanation, IncrementalIgnore, IncrementalMatch, WalkBuilder, check_paths};
 use serde_json::Value;
 use std::alloc::{AllocError, Global};
 use vectors::{Trouble, flag_at, list, text, text_at};
@@ -36,6 +37,9 @@ fn stepped(
 ) -> Result<Items, Trouble> {
     let mut subject = Subject {
         matcher: matcher(machine, builder)?,
+        other: matcher(machine, builder)?,
+        calls: Calls::new(alloc),
+        asked: Questions::new(alloc),
         later: None,
     };
     steps(alloc, input, machine, &mut subject)
@@ -48,16 +52,41 @@ fn steps(
     subject: &mut Subject,
 ) -> Result<Items, Trouble> {
     let mut items = Items::new(alloc);
+    let bounds = bounds_of(alloc, input)?;
     for step in list(input, STEPS)? {
         items.put_value(Ok(subject.take(alloc, input, machine, step)?));
+        if let Some(excess) = subject.excess(alloc, machine, &bounds, step)? {
+            items.put(excess);
+        }
     }
     Ok(items)
+}
+
+/// The paths that a step asks about.
+fn paths_in<'v>(alloc: Global, step: &'v Value) -> Result<Vec<&'v str>, Trouble> {
+    let mut paths = Vec::new(alloc);
+    match text_at(step, 0, STEPS)? {
+        "ask" | "matched" | "explain" => paths.push(text_at(step, 1, STEPS)?)?,
+        "check" => {
+            for item in items_at(step, 1, STEPS)? {
+                paths.push(text_at(item, 0, STEPS)?)?;
+            }
+        }
+        _ => {}
+    }
+    Ok(paths)
 }
 
 /// A matcher that is asked, and the tree that is there from a step `tree` on.
 #[derive(Drop)]
 struct Subject {
     matcher: IncrementalIgnore,
+    /// Another one, which says what is ignored on the way to a path.
+    other: IncrementalIgnore,
+    /// The calls of the files since the matcher kept nothing.
+    calls: Calls,
+    /// What it was asked since.
+    asked: Questions,
     later: Option<MemoryTree>,
 }
 
@@ -75,10 +104,81 @@ impl Subject {
             "tree" => self.later = Some(later_tree(alloc, input, step)?),
             _ => {
                 let tree = self.later.as_ref().unwrap_or(&machine.tree);
-                return done(alloc, tree, &mut self.matcher, step);
+                let files = Counting::new(alloc, tree);
+                let value = done(alloc, &files, &mut self.matcher, step)?;
+                self.calls.append(files.taken(alloc))?;
+                return Ok(value);
             }
         }
         Ok(Value::Null)
+    }
+
+    /// What is too much of the calls since the matcher kept nothing, if anything is: by the bounds,
+    /// or below a directory that is ignored. After a step that isn't a question it may keep less.
+    fn excess(
+        &mut self,
+        alloc: Global,
+        machine: &Machine,
+        bounds: &Bounds<'_>,
+        step: &Value,
+    ) -> Result<Option<&'static str>, Trouble> {
+        let paths = paths_in(alloc, step)?;
+        if paths.is_empty() {
+            self.calls = Calls::new(alloc);
+            self.asked = Questions::new(alloc);
+            return Ok(None);
+        }
+        let tree = self.later.as_ref().unwrap_or(&machine.tree);
+        self.asked.is_dir = is_dir_there(alloc, tree, self.matcher.root())?;
+        for path in &paths {
+            self.asked.note(alloc, *path)?;
+        }
+        if self.later.is_none() && self.is_below_ignored(alloc, machine, paths.as_slice())? {
+            return Ok(Some("a directory that is ignored is asked"));
+        }
+        Ok(bounds.excess_of_questions(&self.calls, &self.asked))
+    }
+
+    /// Whether something is asked below a directory that is ignored, on the way to one of these
+    /// paths.
+    fn is_below_ignored(
+        &mut self,
+        alloc: Global,
+        machine: &Machine,
+        paths: &[&str],
+    ) -> Result<bool, Trouble> {
+        for path in paths {
+            for (at, _) in path.match_indices('/') {
+                if self.is_asked_below(alloc, machine, &path[..at])? {
+                    return Ok(true);
+                }
+            }
+        }
+        Ok(false)
+    }
+
+    /// Whether a directory is ignored, and something below it is asked.
+    fn is_asked_below(
+        &mut self,
+        alloc: Global,
+        machine: &Machine,
+        dir: &str,
+    ) -> Result<bool, Trouble> {
+        let found = but_for_memory(self.other.matched(&machine.tree, dir, true))?;
+        if !found.is_ignore() {
+            return Ok(false);
+        }
+        let below = but_for_memory(join(alloc, self.other.root(), dir))?;
+        Ok(self.calls.has_below(below.as_str()))
+    }
+}
+
+/// Whether a path leads to a directory.
+pub(super) fn is_dir_there(alloc: Global, tree: &MemoryTree, path: &str) -> Result<bool, Trouble> {
+    match tree.stat(alloc, path, true) {
+        Ok(metadata) => Ok(metadata.is_dir()),
+        Err(Refusal::Fault(_)) => Ok(false),
+        Err(Refusal::Memory) => Err(Trouble::Memory),
     }
 }
 
@@ -99,11 +199,12 @@ pub(super) fn matcher(
     }
 }
 
-/// The answer of one step, as `["ask", "a/b", false]`, `["check", [["a", true], ["b", false]]]` or
-/// `["forget", "a"]`. A question that was out of memory is asked again, of the same matcher.
+/// The answer of one step, as `["ask", "a/b", false]`, `["explain", "a/b", false]`,
+/// `["check", [["a", true], ["b", false]]]` or `["forget", "a"]`. A question that was out of memory
+/// is asked again, of the same matcher.
 fn done(
     alloc: Global,
-    tree: &MemoryTree,
+    tree: &Counting<'_, MemoryTree>,
     matcher: &mut IncrementalIgnore,
     step: &Value,
 ) -> Result<Value, Trouble> {
@@ -111,9 +212,35 @@ fn done(
         "ask" => answer(alloc, tree, matcher, step),
         "matched" => plain_answer(alloc, tree, matcher, step),
         "check" => checked(alloc, tree, matcher, step),
+        "explain" => explained(alloc, tree, matcher, step),
         "forget" => forgotten(alloc, matcher, text_at(step, 1, STEPS)?),
         _ => Err(Trouble::Field(STEPS)),
     }
+}
+
+/// The text of the reason.
+fn explained(
+    alloc: Global,
+    tree: &Counting<'_, MemoryTree>,
+    matcher: &mut IncrementalIgnore,
+    step: &Value,
+) -> Result<Value, Trouble> {
+    let (path, is_dir) = (text_at(step, 1, STEPS)?, flag_at(step, 2, STEPS)?);
+    let explanation = explain(tree, matcher, path, is_dir)?;
+    Ok(Value::String(format!(in alloc; "{explanation}")?))
+}
+
+fn explain(
+    tree: &Counting<'_, MemoryTree>,
+    matcher: &mut IncrementalIgnore,
+    path: &str,
+    is_dir: bool,
+) -> Result<Explanation, Trouble> {
+    let (explanation, _) = match matcher.explain(tree, path, is_dir) {
+        Ok(answer) => answer,
+        Err(_) => but_for_memory(matcher.explain(tree, path, is_dir))?,
+    };
+    Ok(explanation)
 }
 
 /// How many directories were forgotten.
@@ -128,38 +255,45 @@ fn forgotten(alloc: Global, matcher: &mut IncrementalIgnore, dir: &str) -> Resul
 
 fn answer(
     alloc: Global,
-    tree: &MemoryTree,
+    tree: &Counting<'_, MemoryTree>,
     matcher: &mut IncrementalIgnore,
     step: &Value,
 ) -> Result<Value, Trouble> {
     let (path, is_dir) = (text_at(step, 1, STEPS)?, flag_at(step, 2, STEPS)?);
-    let (found, error) = matched(tree, matcher, path, is_dir)?;
+    let (found, error) = matched(alloc, tree, matcher, path, is_dir)?;
     Ok(shown(alloc, found, &error)?)
 }
 
 fn matched(
-    tree: &MemoryTree,
+    alloc: Global,
+    tree: &Counting<'_, MemoryTree>,
     matcher: &mut IncrementalIgnore,
     path: &str,
     is_dir: bool,
 ) -> Result<(IncrementalMatch, Option<Error>), Trouble> {
     match matcher.matched_with_errors(tree, path, is_dir) {
         Ok(answer) => Ok(answer),
-        Err(_) => but_for_memory(matcher.matched_with_errors(tree, path, is_dir)),
+        Err(_) => {
+            tree.forget(alloc);
+            but_for_memory(matcher.matched_with_errors(tree, path, is_dir))
+        }
     }
 }
 
 /// The answer of `matched`, which has no error.
 fn plain_answer(
     alloc: Global,
-    tree: &MemoryTree,
+    tree: &Counting<'_, MemoryTree>,
     matcher: &mut IncrementalIgnore,
     step: &Value,
 ) -> Result<Value, Trouble> {
     let (path, is_dir) = (text_at(step, 1, STEPS)?, flag_at(step, 2, STEPS)?);
     let found = match matcher.matched(tree, path, is_dir) {
         Ok(found) => Ok(found),
-        Err(_) => but_for_memory(matcher.matched(tree, path, is_dir)),
+        Err(_) => {
+            tree.forget(alloc);
+            but_for_memory(matcher.matched(tree, path, is_dir))
+        }
     };
     Ok(match_value(alloc, found?)?)
 }
@@ -167,23 +301,27 @@ fn plain_answer(
 /// The answers for several paths by one call.
 fn checked(
     alloc: Global,
-    tree: &MemoryTree,
+    tree: &Counting<'_, MemoryTree>,
     matcher: &mut IncrementalIgnore,
     step: &Value,
 ) -> Result<Value, Trouble> {
     let paths = paths_of(alloc, items_at(step, 1, STEPS)?)?;
-    let answers = checked_in(tree, matcher, paths.as_slice())?;
+    let answers = checked_in(alloc, tree, matcher, paths.as_slice())?;
     Ok(shown_all(alloc, answers.as_slice())?)
 }
 
 fn checked_in(
-    tree: &MemoryTree,
+    alloc: Global,
+    tree: &Counting<'_, MemoryTree>,
     matcher: &mut IncrementalIgnore,
     paths: &[(String, bool)],
 ) -> Result<Vec<(IncrementalMatch, Option<Error>)>, Trouble> {
     match check_paths(matcher, tree, paths) {
         Ok(answers) => Ok(answers),
-        Err(_) => but_for_memory(check_paths(matcher, tree, paths)),
+        Err(_) => {
+            tree.forget(alloc);
+            but_for_memory(check_paths(matcher, tree, paths))
+        }
     }
 }
 

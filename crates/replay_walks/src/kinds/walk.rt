@@ -1,7 +1,7 @@
 //! The items of a walk, and its steps.
 
-use crate::settings::{Machine, limit_of};
-use answers::{Answer, Items, but_for_memory};
+use crate::settings::{Machine, bounds_of, limit_of};
+use answers::{Answer, Bounds, Calls, Counting, but_for_memory};
 use ignore::files::MemoryTree;
 use ignore::{DirEntry, Error, Fault, Item, WalkBuilder, collect_walk};
 use serde_json::Value;
@@ -11,19 +11,22 @@ use vectors::{Trouble, is_equal, text};
 /// The name of the field that says which call is asked for the items. Where it is missing both are.
 const BY: &str = "by";
 
+/// The name of the field that asks for what the filter is shown, and of that.
+const SHOWN: &str = "shown";
+
 /// The most steps that are counted.
 const MOST: u64 = 1 << 12;
 
-/// Answers `added`, what was reported of each file that was added, `items`, and `steps`, how many
-/// the limit counts.
+/// Answers `items`, and `steps`, how many the limit counts; where the vector has a field `shown`, the
+/// paths of the entries that the filter was shown, in turn; and `calls`, where the files were called
+/// more often than the bounds say.
 pub(crate) fn asked<B, L, I>(
     alloc: Global,
     input: &Value,
     builder: &mut B,
-    added: Result<Items, Trouble>,
     set_limit: L,
     list: I,
-) -> Result<Value, Trouble>
+) -> Result<Answer, Trouble>
 where
     L: Fn(&mut B, u64),
     I: Fn(&B) -> Result<Listed, AllocError>,
@@ -31,14 +34,21 @@ where
     requires list { I.IsAlwaysCallable list }
 {
     let most = limit_of(input)?.min(MOST);
-    let added = added?;
     let all = list(builder)?;
+    let mut bounds = bounds_of(alloc, input)?;
+    bounds.has_outside = matches!(by_of(input)?, By::Collect);
+    let excess = all.excess(&bounds);
     let steps = steps(builder, most, all.items.as_slice(), set_limit, list)?;
     let mut answer = Answer::new(alloc);
-    answer.put_value("added", added.value());
     answer.put_value("items", Ok(Value::Array(all.items)));
     answer.put("steps", steps);
-    Ok(answer.value()?)
+    if input.get(SHOWN).is_some() {
+        answer.put(SHOWN, all.shown.as_slice());
+    }
+    if let Some(excess) = excess {
+        answer.put("calls", excess);
+    }
+    Ok(answer)
 }
 
 /// The least limit that doesn't end the walk, at most this one. There is none where a smaller one
@@ -86,9 +96,25 @@ enum End {
 pub(crate) struct Listed {
     items: Vec<Value>,
     end: End,
+    /// The paths of the entries that the filter was shown.
+    shown: Vec<String>,
+    /// Whether the files were called too often for the rules from outside.
+    is_outside_again: bool,
+    /// The calls after those.
+    walking: Calls,
+    /// How many there were of both.
+    calls: usize,
 }
 
 impl Listed {
+    /// What is too much of the calls, if anything is.
+    fn excess(&self, bounds: &Bounds<'_>) -> Option<&'static str> {
+        if self.is_outside_again {
+            return Some("what is outside is asked again");
+        }
+        bounds.excess_of_walk(&self.walking)
+    }
+
     /// Whether they are the first of these, where the error that ended the walk is left out; and
     /// all of them, where no error did.
     fn is_front_of(&self, all: &[Value]) -> bool {
@@ -152,11 +178,13 @@ pub(crate) fn list_of(
     }
 }
 
-/// The items that `next` gives, and then a `null` where `collect_walk` doesn't agree.
+/// The items that `next` gives, and then a `null` where `collect_walk` doesn't agree, calls the files
+/// more often, or shows the filter others.
 fn agreed(alloc: Global, machine: &Machine, builder: &WalkBuilder) -> Result<Listed, Trouble> {
     let mut given = given(alloc, machine, builder)?;
     let collected = collected(alloc, machine, builder)?;
-    if collected.end != given.end || !collected.is_front_of(given.items.as_slice()) {
+    let is_more = collected.calls > given.calls || collected.shown != given.shown;
+    if is_more || collected.end != given.end || !collected.is_front_of(given.items.as_slice()) {
         given.items.push(Value::Null)?;
     }
     Ok(given)
@@ -180,35 +208,60 @@ fn given(alloc: Global, machine: &Machine, builder: &WalkBuilder) -> Result<List
 fn walked(alloc: Global, machine: &Machine, builder: &WalkBuilder) -> Result<Listed, Trouble> {
     let mut items = Vec::new(alloc);
     let mut end = End::Whole;
-    let Ok(walk) = builder.build(&machine.tree, &machine.env) else {
+    let files = Counting::new(alloc, &machine.tree);
+    let Ok(walk) = builder.build(&files, &machine.env) else {
         return Err(Trouble::Memory);
     };
+    let building = files.taken(alloc);
+    let _ = machine.shown.taken(alloc);
     for item in walk {
         end = end_of(&item);
         items.push(shown(alloc, &machine.tree, item)?)?;
     }
-    Ok(Listed { items, end })
+    let walking = files.taken(alloc);
+    Ok(Listed {
+        items,
+        end,
+        shown: machine.shown.taken(alloc)?,
+        is_outside_again: building.excess_outside(&machine.env).is_some(),
+        calls: building.len().saturating_add(walking.len()),
+        walking,
+    })
 }
 
 /// The items that `collect_walk` returns, or the error of the limit alone.
 fn collected(alloc: Global, machine: &Machine, builder: &WalkBuilder) -> Result<Listed, Trouble> {
-    let items = match collect_walk(builder, &machine.tree, &machine.env) {
+    let files = Counting::new(alloc, &machine.tree);
+    let _ = machine.shown.taken(alloc);
+    let items = match collect_walk(builder, &files, &machine.env) {
         Ok(items) => items,
         Err(Error::Memory) => return Err(Trouble::Memory),
         Err(error) => vec![in alloc; Err(error)]?,
     };
-    cloned(alloc, &machine.tree, items.as_slice())
+    cloned(alloc, machine, items.as_slice(), files.taken(alloc))
 }
 
 /// A clone of each item is shown.
-fn cloned(alloc: Global, tree: &MemoryTree, items: &[Item]) -> Result<Listed, Trouble> {
+fn cloned(
+    alloc: Global,
+    machine: &Machine,
+    items: &[Item],
+    walking: Calls,
+) -> Result<Listed, Trouble> {
     let mut values = Vec::new(alloc);
     let mut end = End::Whole;
     for item in items {
         end = end_of(item);
-        values.push(shown(alloc, tree, item.clone()?)?)?;
+        values.push(shown(alloc, &machine.tree, item.clone()?)?)?;
     }
-    Ok(Listed { items: values, end })
+    Ok(Listed {
+        items: values,
+        end,
+        shown: machine.shown.taken(alloc)?,
+        is_outside_again: false,
+        calls: walking.len(),
+        walking,
+    })
 }
 
 /// How a list ends whose last item this is.

@@ -17,10 +17,10 @@ use vectors::{Trouble, flag_at, item, list, text, text_at};
 pub(crate) const SET: &str = "set";
 
 /// The name of the field with the root of a matcher.
-const ROOT: &str = "root";
+pub(super) const ROOT: &str = "root";
 
 /// The name of the field with the roots of a walk.
-const ROOTS: &str = "roots";
+pub(super) const ROOTS: &str = "roots";
 
 /// What is on or off.
 #[derive(Clone, Copy, Drop)]

@@ -1,10 +1,9 @@
-use Rattle.std.proofs.Common.{◌≡◌, ◌∙◌, ℕ, ◌||◌, ◌∷◌, ◌++◌, [], List, ap, cond, drop, map, refl, string_bytes, subst, sym, take}
-use Rattle.std.proofs.Common.{take-append-drop}
-use Rattle.std.proofs.lemmas.List.{map-append, take_all}
+use Rattle.std.proofs.Common.{◌≡◌, ◌∙◌, ℕ, ◌||◌, ◌∷◌, ◌++◌, [], IfSome, List, ap, cond, map, refl, string_bytes, subst, sym}
+use Rattle.std.proofs.lemmas.List.{take_all}
 use Rattle.std.proofs.lemmas.List.Elements.{All-nil, All-push}
+use Rattle.std.proofs.lemmas.Option.{IfSome_then}
 use Rattle.std.proofs.lemmas.Result.{err_from_is_err_and}
 use Rattle.std.specs.Io.KnownBytes.{Appends}
-use Rattle.std.specs.List.{flat_map}
 use Rattle.ignore_dir.specs.Load.{AreLoads, Loaded}
 use Rattle.ignore_files.specs.Gives.{IsHonest}
 use Rattle.ignore_files.specs.Tree.{Tree}
@@ -12,7 +11,7 @@ use Rattle.ignore_query.specs.Agrees.{Agrees}
 use Rattle.ignore_query.specs.Reached.{scene_of}
 use Rattle.ignore_query.specs.declared.asked.Asked.{Asked}
 use Rattle.commands.specs.Checking.{Checked, Checks, IsAnswer, IsReport, line_for, report_for}
-use Rattle.commands.proofs.CheckLemmas.{checks_more, checks_none, map-take-push, reports_more}
+use Rattle.commands.proofs.CheckLemmas.{answers_with, checks_more, checks_none, first_of, last_of, map-take-push, reports_more}
 use Rattle.commands.proofs.StopLemmas.{ends_after}
 use Rattle.commands.proofs.checking.check_paths.Goals as goal
 
@@ -76,25 +75,33 @@ returns-clause-checks g c =
       so.2,
     )
 
--- the paths before the one that ended it are answered
+-- the paths before the one that ended it are answered, and that one, unless out of memory
 pub returns-in_err-any-clause-ended : goal.returns-in_err-any-clause-ended
 returns-in_err-any-clause-ended g c =
     let l = c.loop-path in
+    let asked = c.args.matcher.now.asked in
     let so = l.invariant.checks in
-    let left = map string_bytes (drop l.path-index c.args.paths.now) in
+    let h = c.in_err-any.ensures.ended in
+    let path = string_bytes c.path-item.result in
+    let named = IfSome_then h.0 h.2 (λ one k. k.0 ∙ c.as_str.ensures.value) in
+    let right = subst
+    (λ (a : Asked). IfSome h.0 (λ one. (tree : Tree) (loads : List ℕ → Loaded) → IsHonest g.F.Files c.args.files.now tree
+    → AreLoads tree a.settings loads → Agrees (scene_of a tree loads) l.matcher.cache → IsAnswer (scene_of a tree loads) one
+    × IsReport (scene_of a tree loads) l.matcher.cache c.check_path.new.matcher.cache one.path one.problem)) l.invariant.same
+    (IfSome_then h.0 h.2 (λ one k. k.1)) in
     let p = err_from_is_err_and c.from_residual.result c.from_residual.ensures.1 in
     rw (p.1, p.2) (
       so.0,
-      l.matcher.cache,
-      (
-        left,
-        ap (map string_bytes) (sym (take-append-drop l.path-index c.args.paths.now))
-            ∙ (map-append string_bytes (take l.path-index c.args.paths.now) (drop l.path-index c.args.paths.now)
-            ∙ ap (λ ps. ps ++ left) (sym so.1.asked)),
-      ),
-      ends_after (flat_map line_for so.0) (flat_map report_for so.0)
+      h.0,
+      last_of h.0 l.matcher.cache c.check_path.new.matcher.cache,
+      first_of string_bytes c.args.paths.now l.path-index c.path-item.result so.0 h.0 c.loop-path-test.true c.path-item.is so.1.asked named,
+      ends_after line_for report_for so.0 h.0
           (g.W.Write.contents c.args.out.now) (g.W.Write.contents l.out) (g.W.Write.contents c.check_path.new.out)
           (g.E.Write.contents c.args.err.now) (g.E.Write.contents l.err) (g.E.Write.contents c.check_path.new.err)
-          c.in_err-any.field-0.0 so.1.answers so.1.reports c.in_err-any.ensures.ended,
-      so.2,
+          c.in_err-any.field-0.0 so.1.answers so.1.reports h.1,
+      λ tree loads honest are agrees.
+          let g = scene_of asked tree loads in
+          let before = so.2 tree loads honest are agrees in
+          answers_with g so.0 h.0 c.args.matcher.now.cache l.matcher.cache c.check_path.new.matcher.cache before.0 before.1
+          (IfSome_then h.0 right (λ one k. k tree loads honest are (l.invariant.agrees tree loads honest are agrees))),
     )

@@ -1,7 +1,6 @@
 use Rattle.std.proofs.Common.{◌≢◌, Err, map, refl, subst}
 use Rattle.std.proofs.lemmas.List.Elements.{All-nil}
 use Rattle.std.proofs.lemmas.Result.{err_from_is_err_and}
-use Rattle.std.specs.List.{flat_map}
 use Rattle.std.specs.Iterator.{Yields}
 use Rattle.ignore_base.specs.Problem.{memory}
 use Rattle.ignore_walk.specs.Entry.{Item, item_of}
@@ -40,8 +39,10 @@ returns-in_err-any-clause-ended g c =
       c.in-Some.item,
       c.next.new.self,
       (l.item-iterator, subst (λ t. Yields g.I.Iterator.next_gives t l.yielded l.item-iterator) c.into_iter-item-iterator.ensures.into_iter_gives l.yielded_by, subst (λ r. g.I.Iterator.next_gives l.item-iterator r c.next.new.self) c.in-Some.is c.next.ensures.steps),
-      ends_after (flat_map lines_of (map item_of l.yielded)) (flat_map reports_of (map item_of l.yielded))
+      c.in_err-any.ensures.ended.0,
+      c.in_err-any.ensures.ended.1,
+      ends_after lines_of reports_of (map item_of l.yielded) c.in_err-any.ensures.ended.0
           (g.W.Write.contents c.args.out.now) (g.W.Write.contents l.out) (g.W.Write.contents c.write_item.new.out)
           (g.E.Write.contents c.args.err.now) (g.E.Write.contents l.err) (g.E.Write.contents c.write_item.new.err)
-          c.in_err-any.field-0.0 l.invariant.lists l.invariant.reports c.in_err-any.ensures.ended,
+          c.in_err-any.field-0.0 l.invariant.lists l.invariant.reports c.in_err-any.ensures.ended.2,
     )

@@ -1,10 +1,9 @@
 use Rattle.std.proofs.Common.{inr}
 use Rattle.std.proofs.lemmas.Result.{IfErr-weaker, IfOk-weaker}
-use Rattle.std.specs.Prelude.{⊤}
 use Rattle.std.specs.Io.KnownBytes.{Appends}
 use Rattle.commands.specs.Words.{request_view}
-use Rattle.commands.specs.Stops.{Ends}
-use Rattle.commands.proofs.StopLemmas.{ends_anyhow, ends_reported}
+use Rattle.commands.specs.Stops.{EndsUnreported}
+use Rattle.commands.proofs.StopLemmas.{ends_reported, ends_unreported}
 use Rattle.commands.proofs.run.answer_or_report.Goals as goal
 use Rattle.std.proofs.Common.{subst, sym}
 
@@ -24,8 +23,11 @@ returns-in-Err-clause-prints g c =
 pub returns-in-Err-clause-unreported : goal.returns-in-Err-clause-unreported
 returns-in-Err-clause-unreported g c =
     let out = Appends (g.W.Write.contents c.args.out.now) (g.W.Write.contents c.answer.new.out) in
-    let reported = Appends (g.E.Write.contents c.args.err.now) (g.E.Write.contents c.answer.new.err) in
+    let before = g.E.Write.contents c.args.err.now in
+    let middle = g.E.Write.contents c.answer.new.err in
+    let after = g.E.Write.contents c.report_stop.new.err in
     IfErr-weaker c.report_stop.result _ _
-    (λ why h. subst (Ends (request_view c.args.request) out (λ reported. ⊤)) (sym h)
-    (ends_anyhow (request_view c.args.request) out reported c.in-Err.stop c.in-Err.ensures.ended))
+    (λ why h. subst (EndsUnreported (request_view c.args.request) out (Appends before after)) (sym h.0)
+    (ends_unreported (request_view c.args.request) out before middle after c.in-Err.stop c.in-Err.ensures.ended
+    h.1))
     c.report_stop.ensures.unreported

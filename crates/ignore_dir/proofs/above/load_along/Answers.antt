@@ -31,7 +31,7 @@ loop-name-preserved g c =
     let at : path ≡ path_along (codes "/") before = c.as_str.ensures.value ∙ inv.dir in
     let grown : string_bytes c.push.new.self.base ≡ base ++ (name ++ 47 ∷ []) = c.in_ok-push.ensures.base in
     record {
-      dir = c.in_ok-dir-2.ensures.joins
+      dir = c.in_ok-dir-2.ensures
           ∙ (ap (λ d. join_of d name) (c.as_str-in-loop-name.ensures.value ∙ inv.dir)
           ∙ (sym (path_along-more (codes "/") before name) ∙ ap (path_along (codes "/")) (sym more)));
       base = grown

@@ -1,4 +1,3 @@
-use Rattle.std.proofs.Common.{◌∙◌}
 use Rattle.ignore_base.specs.Paths.{join_of}
 use Rattle.ignore_dir.proofs.LoadLemmas.{rules_absent, rules_of_none}
 use Rattle.ignore_dir.proofs.rule_files.rules_if.Goals as goal

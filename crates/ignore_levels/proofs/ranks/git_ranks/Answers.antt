@@ -3,10 +3,10 @@ use Rattle.ignore_base.specs.Match.{match_map}
 use Rattle.ignore_base.specs.Paths.{trim_of}
 use Rattle.ignore_base.specs.declared.match_result.Match.{Match}
 use Rattle.ignore_base.specs.declared.match_result.Match.TheVariants.{None}
-use Rattle.ignore_rules.specs.Rules.{Rule}
 use Rattle.ignore_dir.specs.Lists.{Asked, asked_in}
-use Rattle.ignore_dir.specs.Ranks.{cut, git_answer}
-use Rattle.ignore_levels.specs.Reasons.{down_to, rule_of}
+use Rattle.ignore_dir.specs.Ranks.{cut}
+use Rattle.ignore_levels.specs.Reasons.{down_to, sited_of}
+use Rattle.ignore_levels.specs.Sites.{Sited, git_sited}
 use Rattle.ignore_levels.specs.Levels.{floor_at}
 use Rattle.ignore_levels.proofs.ChainLemmas.{chain-descends, chain-floor, chain-has_mark}
 use Rattle.ignore_levels.proofs.FloorLemmas.{cut-is}
@@ -19,7 +19,7 @@ returns-then-not-has_git-clause-answered c = λ chain is after.
     let text = c.args.sought.now.text in
     let has = c.has_git.ensures
     ∙ (ap (λ o. not require || is_some o) c.mark-mark.ensures ∙ ap (λ (b : Bool). not require || b) (chain-has_mark slots text is)) in
-    let all = git_answer c.args.global.now (cut (asked_in text chain)) (trim_of c.args.sought.now.path.now) c.args.sought.now.is_dir in
+    let all = git_sited c.args.global.now (cut (asked_in text chain)) (trim_of c.args.sought.now.path.now) c.args.sought.now.is_dir in
     sym (ap (λ (b : Bool). cond b all None) (sym has ∙ c.if-not-has_git.true))
 
 pub returns-clause-answered : goal.returns-clause-answered
@@ -34,8 +34,8 @@ returns-clause-answered c = λ chain is after.
     ∙ (ap (λ o. not require || is_some o) c.mark-mark.ensures ∙ ap (λ (b : Bool). not require || b) (chain-has_mark slots text is)) in
     let floor = c.floor-floor.ensures ∙ (ap (λ p. floor_at slots p) c.mark-mark.ensures ∙ chain-floor slots is) in
     let reached = ap (λ n. asked_in text (down_to n chain)) floor ∙ sym (cut-is text chain (chain-descends is)) in
-    let all = git_answer global (cut (asked_in text chain)) path is_dir in
-    subst (λ (m : Match Rule). IfOk c.git_answer.result (λ r. match_map rule_of r ≡ m))
-    (ap (λ (asked : List Asked). git_answer global asked path is_dir) reached
+    let all = git_sited global (cut (asked_in text chain)) path is_dir in
+    subst (λ (m : Match Sited). IfOk c.git_answer.result (λ r. match_map (sited_of text) r ≡ m))
+    (ap (λ (asked : List Asked). git_sited global asked path is_dir) reached
     ∙ sym (ap (λ (b : Bool). cond b all None) (sym has ∙ c.if-not-has_git.false)))
     (c.git_answer.ensures.answered chain is after)

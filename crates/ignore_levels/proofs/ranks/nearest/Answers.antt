@@ -10,7 +10,8 @@ use Rattle.ignore_levels.specs.declared.list.Place.{Place}
 use Rattle.ignore_levels.specs.declared.ranks.Sought.{Sought}
 use Rattle.ignore_levels.specs.Levels.{level_at}
 use Rattle.ignore_levels.proofs.FloorLemmas.{is_low}
-use Rattle.ignore_levels.proofs.RankLemmas.{none_of}
+use Rattle.ignore_levels.specs.Sites.{in_directory, sited}
+use Rattle.ignore_levels.proofs.RankLemmas.{at_site, none_of}
 use Rattle.ignore_levels.proofs.RestLemmas.{Rest, begin, boundary-after_slash, ended, floored, found, missed, next, no_level_left}
 use Rattle.ignore_levels.proofs.ranks.nearest.Goals as goal
 
@@ -67,9 +68,10 @@ returns-then-not-is_none-clause-answered c = λ chain is after.
     ≡ list_answer c.list_of-list.result.now.rules (chars (drop level.offset s.text)) s.is_dir) c.loop-at.invariant.same
     c.in_ok-answer.ensures.answered boundary
     ∙ ap (λ (l : Ruleset). list_answer l.rules (chars (drop level.offset asked.text)) asked.is_dir) c.list_of-list.ensures in
-    c.ruled_by.ensures
-    ∙ found slots c.args.rank asked.text asked.is_dir c.args.floor (λ (g : Bor Rule). g.now) c.in_ok-answer.answer c.loop-at.ceiling level chain
-    between.1 step answered some
+    let site = in_directory c.args.rank (drop level.offset asked.text) in
+    c.ruled_by.ensures.ruled asked.text
+    ∙ found slots c.args.rank asked.text asked.is_dir c.args.floor (λ (g : Bor Rule). sited site g.now) c.in_ok-answer.answer
+    c.loop-at.ceiling level chain between.1 step (at_site site c.in_ok-answer.answer _ answered) some
 
 pub loop-at-preserved : goal.loop-at-preserved
 loop-at-preserved c = record {
@@ -94,7 +96,8 @@ loop-at-preserved c = record {
       subst (λ (p : Option Place). Rest slots c.args.rank asked.text asked.is_dir c.args.floor (level.offset - 1) p chain)
       (sym c.ruled-at-in-Some.ensures)
       (missed slots c.args.rank asked.text asked.is_dir c.args.floor c.loop-at.ceiling level chain between.1 step
-      (none_of (λ (g : Bor Rule). g.now) c.in_ok-answer.answer _ answered none));
+      (none_of (λ (g : Bor Rule). sited (in_directory c.args.rank (drop level.offset asked.text)) g.now) c.in_ok-answer.answer _
+      (at_site (in_directory c.args.rank (drop level.offset asked.text)) c.in_ok-answer.answer _ answered) none));
 }
 
 pub returns-clause-answered : goal.returns-clause-answered
@@ -104,3 +107,9 @@ returns-clause-answered c = λ chain is after.
     let rest = subst (λ (p : Option Place). Rest slots c.args.rank asked.text asked.is_dir c.args.floor c.loop-at.ceiling p chain)
     c.in_default.is (c.loop-at.invariant.rest chain is after) in
     sym (ended slots c.args.rank asked.text asked.is_dir c.args.floor c.loop-at.ceiling chain rest)
+
+pub returns-then-not-is_none-clause-inside : goal.returns-then-not-is_none-clause-inside
+returns-then-not-is_none-clause-inside c =
+    let some : is_none c.in_ok-answer.answer ≡ false = search rules in
+    c.ruled_by.ensures.inside c.args.sought.now.text
+    (subst (λ (s : Sought). IsCharBoundary s.text c.in-Some-level.level.now.offset) c.loop-at.invariant.same (c.in_ok-answer.ensures.inside some))

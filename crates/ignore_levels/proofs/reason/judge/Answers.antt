@@ -17,7 +17,7 @@ returns-then-not-is_none-clause-why c = λ chain is after.
     let some : is_none overridden ≡ false = search rules in
     let same = c.in_ok-overridden.ensures.answered
     ∙ ap (λ p. override_answer c.args.outside.now.overrides p asked.is_dir) c.trim_root.ensures in
-    c.by_override.ensures
+    c.by_override.ensures.why asked.text.now
     ∙ l.overrides overridden _ (file_reason c.args.settings.now c.args.outside.now (asked_in asked.text.now chain) asked.path.now asked.is_dir) same
     some
 
@@ -32,7 +32,7 @@ returns-then-not-is_none-clause-value c = λ chain is after.
     let same = c.in_ok-overridden.ensures.answered
     ∙ ap (λ p. override_answer c.args.outside.now.overrides p asked.is_dir) c.trim_root.ensures in
     l.decided s o chain asked.text.now asked.path.now asked.is_dir c.by_override.result
-    (c.by_override.ensures
+    (c.by_override.ensures.why asked.text.now
     ∙ l.overrides overridden _ (file_reason s o (asked_in asked.text.now chain) asked.path.now asked.is_dir) same some)
 
 pub returns-clause-why : goal.returns-clause-why
@@ -43,7 +43,7 @@ returns-clause-why c = λ chain is after.
     let none : is_none overridden ≡ true = search rules in
     let same = c.in_ok-overridden.ensures.answered
     ∙ ap (λ p. override_answer c.args.outside.now.overrides p asked.is_dir) c.trim_root.ensures in
-    subst (λ (w : Match Why). IfOk c.by_file.result (λ r. match_map why_of r ≡ w)) (l.no_override overridden _ _ same none)
+    subst (λ (w : Match Why). IfOk c.by_file.result (λ r. match_map (why_of asked.text.now) r ≡ w)) (l.no_override overridden _ _ same none)
     (c.by_file.ensures.why chain is after)
 
 pub returns-clause-value : goal.returns-clause-value
@@ -56,8 +56,11 @@ returns-clause-value c = λ chain is after.
     let none : is_none overridden ≡ true = search rules in
     let same = c.in_ok-overridden.ensures.answered
     ∙ ap (λ p. override_answer c.args.outside.now.overrides p asked.is_dir) c.trim_root.ensures in
-    l.if_ok-map (λ (r : Match Reason). match_map why_of r ≡ placed_why s o chain asked.text.now asked.path.now asked.is_dir)
+    l.if_ok-map (λ (r : Match Reason). match_map (why_of asked.text.now) r ≡ placed_why s o chain asked.text.now asked.path.now asked.is_dir)
     (λ (r : Match Reason). verdict_of r ≡ placed_verdict s o chain asked.text.now asked.path.now asked.is_dir) c.by_file.result
     (λ r. l.decided s o chain asked.text.now asked.path.now asked.is_dir r)
-    (subst (λ (w : Match Why). IfOk c.by_file.result (λ r. match_map why_of r ≡ w)) (l.no_override overridden _ _ same none)
+    (subst (λ (w : Match Why). IfOk c.by_file.result (λ r. match_map (why_of asked.text.now) r ≡ w)) (l.no_override overridden _ _ same none)
     (c.by_file.ensures.why chain is after))
+
+pub returns-then-not-is_none-clause-inside : goal.returns-then-not-is_none-clause-inside
+returns-then-not-is_none-clause-inside c = c.by_override.ensures.inside c.args.asked.now.text.now

@@ -9,8 +9,10 @@ use Rattle.ignore_query.proofs.load.path_of.Goals as goal
 empty_key : (key : List ℕ) → key ≡ [] → (length key == 0) ≡ true
 empty_key key e = ap (λ (t : List ℕ). length t == 0) e
 
-pub returns-clause-value : goal.returns-clause-value
-returns-clause-value c = λ names clean key. cases names clean key (ends names)
+pub returns : goal.returns
+returns c = record {
+  value = λ names clean key. cases names clean key (ends names);
+}
   where
     cases : (names : List (List ℕ)) → All IsName names → c.args.key.now ≡ slashed names → Ends names
         → IfOk c.join.result (λ path. string_bytes path ≡ path_along c.args.root.now names)
@@ -23,4 +25,4 @@ returns-clause-value c = λ names clean key. cases names clean key (ends names)
         let there = ap (join_of c.args.root.now) cut
         ∙ (joined_along c.join_law.ensures.name c.args.root.now front name (subst (All IsName) e clean)
         ∙ ap (path_along c.args.root.now) (sym e)) in
-        subst (λ w. IfOk c.join.result (λ path. string_bytes path ≡ w)) there c.join.ensures.joins
+        subst (λ w. IfOk c.join.result (λ path. string_bytes path ≡ w)) there c.join.ensures

@@ -5,9 +5,9 @@ use Rattle.ignore_dir.specs.Soft.{AllSoft, holds_memory}
 use Rattle.ignore_dir.proofs.SoftLemmas.{more_soft}
 use Rattle.ignore_query.proofs.size.by_size.Goals as goal
 
-pub returns-in-Err-Fault-clause-soft : goal.returns-in-Err-Fault-clause-soft
-returns-in-Err-Fault-clause-soft g c = λ soft.
+pub returns-clause-soft : goal.returns-clause-soft
+returns-clause-soft g c = λ soft.
     let old = c.args.errors.now.items in
-    let error = c.in_ok-fault_at-in-Err-Fault.field-0 in
-    subst AllSoft (sym (ap (map problem_of) c.in_ok-push-in-Err-Fault.ensures.items ∙ map-append problem_of old (error ∷ [])))
-    (more_soft (map problem_of old) (Some (problem_of error)) soft (ap holds_memory c.in_ok-fault_at-in-Err-Fault.ensures))
+    let error = c.in_ok-fault_at-in-Err.field-0 in
+    subst AllSoft (sym (ap (map problem_of) c.in_ok-push-in-Err.ensures.items ∙ map-append problem_of old (error ∷ [])))
+    (more_soft (map problem_of old) (Some (problem_of error)) soft (ap holds_memory c.in_ok-fault_at-in-Err.ensures))

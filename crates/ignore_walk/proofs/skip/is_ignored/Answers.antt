@@ -1,7 +1,5 @@
-use Rattle.std.proofs.Common.{◌≡◌, ◌∙◌, Bool, IfOk, List, Result, ℕ, ap, subst}
-use Rattle.ignore_base.specs.declared.error.Error.{Error}
+use Rattle.std.proofs.Common.{◌≡◌, ◌∙◌, Bool, List, ℕ, ap}
 use Rattle.ignore_dir.specs.Verdict.{is_ignore, placed_verdict}
-use Rattle.ignore_dir.specs.declared.verdict.Verdict.{Verdict}
 use Rattle.ignore_levels.specs.Levels.{counting}
 use Rattle.ignore_walk.specs.Branch.{placed_to}
 use Rattle.ignore_walk.specs.Child.{is_dir_kind}
@@ -22,9 +20,8 @@ returns g c = record {
       let whole = placed_to s root b in
       let same = ignores-is s root (c.steps_are_whole.ensures.entered (queries s root)) (c.steps_are_whole.ensures.verdict (queries s root))
       b name e.path t (is_dir_kind e.kind) st o settings outside text path in
-      let found : c.in_ok-known.field-0 ≡ placed_verdict st o (counting whole) t c.path.result.now c.is_dir_kind.result =
-      subst (λ (r : Result Verdict Error). IfOk r (λ v. v ≡ placed_verdict st o (counting whole) t c.path.result.now c.is_dir_kind.result))
-      c.in_ok-known.ensures.known (c.verdict-found.ensures.value (counting whole) chain (after-to s root b name t text)) in
+      let found : c.in_ok-found.found ≡ placed_verdict st o (counting whole) t c.path.result.now c.is_dir_kind.result =
+      c.in_ok-found.ensures.value (counting whole) chain (after-to s root b name t text) in
       c.is_ignore.ensures
       ∙ (ap is_ignore
       (found

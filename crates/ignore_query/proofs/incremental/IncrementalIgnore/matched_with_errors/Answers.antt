@@ -1,16 +1,18 @@
-use Rattle.std.proofs.Common.{◌≡◌, Result, Ok, Err, Option, None, IfOk, refl, sym, ap, ◌∙◌, string_bytes}
-use Rattle.ignore_base.specs.declared.error.Error.{Error}
-use Rattle.ignore_dir.specs.declared.incremental.IncrementalMatch.{IncrementalMatch}
+use Rattle.std.proofs.Common.{refl, sym, ap, ◌∙◌, string_bytes, rules}
 use Rattle.ignore_dir.specs.declared.verdict.Verdict.TheVariants as v
 use Rattle.ignore_dir.specs.Query.{is_asked}
 use Rattle.ignore_query.specs.Reached.{scene_of}
 use Rattle.ignore_query.proofs.QueryLemmas.{kept_none, kept_rules, named_names, query_none, query_rules}
 use Rattle.ignore_query.proofs.incremental.IncrementalIgnore.matched_with_errors.Goals as goal
 
-same_answer : {A : Type 0} (a b : IncrementalMatch × A) (r : Result (IncrementalMatch × Option Error) Error) → a ≡ b
-    → IfOk r (λ x. (x.0 ≡ b.0) × (x.1 ≡ None)) → IfOk r (λ x. (x.0 ≡ a.0) × (x.1 ≡ None))
-same_answer a b (Ok x) e h = (h.0 ∙ ap (λ y. y.0) (sym e), h.1)
-same_answer a b (Err x) e h = tt
+pub returns-in_err-answer_of_rules-clause-from_kept : goal.returns-in_err-answer_of_rules-clause-from_kept
+returns-in_err-answer_of_rules-clause-from_kept g c = λ tree loads agrees known unasked.
+    let m = c.args.self.now in
+    let scene = scene_of m.asked tree loads in
+    let path = c.args.path.now in
+    let ruled = kept_rules scene m.cache path agrees (c.in_ok-has_rules.ensures.named c.if-branch.true) known in
+    let asked = ap (λ r. is_asked r path) (sym c.root.ensures) ∙ (sym c.is_asked.ensures ∙ c.if-not-is_asked.false) in
+    ((c.answer_of_rules.ensures.from_kept tree loads agrees asked ruled.1 known unasked).0, search rules)
 
 pub returns-then-branch-clause-from_kept : goal.returns-then-branch-clause-from_kept
 returns-then-branch-clause-from_kept g c = λ tree loads agrees known unasked.
@@ -21,8 +23,8 @@ returns-then-branch-clause-from_kept g c = λ tree loads agrees known unasked.
     let asked = ap (λ r. is_asked r path) (sym c.root.ensures) ∙ (sym c.is_asked.ensures ∙ c.if-not-is_asked.false) in
     let within = sym (c.depth_for-depth.ensures.beyond c.args.is_dir)
     ∙ (sym c.is_beyond.ensures ∙ c.if-is_beyond.false) in
-    let kept = c.answer_of_rules.ensures.from_kept tree loads agrees asked ruled.1 known unasked in
-    (kept.0, same_answer _ _ c.answer_of_rules.result (query_rules scene path c.args.is_dir asked within ruled.1) kept.1)
+    let kept = c.in_ok-answer_of_rules.ensures.from_kept tree loads agrees asked ruled.1 known unasked in
+    (kept.0, (kept.1.0 ∙ ap (λ y. y.0) (sym (query_rules scene path c.args.is_dir asked within ruled.1)), kept.1.1))
 
 pub returns-clause-from_kept : goal.returns-clause-from_kept
 returns-clause-from_kept g c = λ tree loads agrees known unasked.

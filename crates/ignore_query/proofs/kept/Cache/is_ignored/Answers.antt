@@ -9,12 +9,16 @@ use Rattle.ignore_query.proofs.ChainLemmas.{joined-slashed}
 use Rattle.ignore_query.proofs.KeepLemmas.{Ends, empty_key, ends, ignored_last, key_end, last, none, root_named, some_named}
 use Rattle.ignore_query.proofs.kept.Cache.is_ignored.Goals as goal
 
-pub returns-then-is_empty-clause-value : goal.returns-then-is_empty-clause-value
-returns-then-is_empty-clause-value c = λ tree loads names agrees clean key next.
-    root_named (scene_of c.args.asked.now tree loads) names (empty_key names c.args.key.now key (sym c.is_empty.ensures ∙ c.if-is_empty.true))
+pub returns-then-is_empty : goal.returns-then-is_empty
+returns-then-is_empty c = record {
+  value = λ tree loads names agrees clean key next.
+      root_named (scene_of c.args.asked.now tree loads) names (empty_key names c.args.key.now key (sym c.is_empty.ensures ∙ c.if-is_empty.true));
+}
 
-pub returns-clause-value : goal.returns-clause-value
-returns-clause-value c = λ tree loads names agrees clean key next. by names tree loads agrees clean key next (ends names)
+pub returns : goal.returns
+returns c = record {
+  value = λ tree loads names agrees clean key next. by names tree loads agrees clean key next (ends names);
+}
   where
     by : (names : List (List ℕ)) (tree : _) (loads : _) → Agrees (scene_of c.args.asked.now tree loads) c.args.self.now → All IsName names
         → c.args.key.now ≡ slashed names → IsNext c.args.self.now names c.args.place → Ends names

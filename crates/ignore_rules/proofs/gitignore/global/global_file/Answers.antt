@@ -11,22 +11,26 @@ chosen : (tree : Tree) (path text : List ℕ) (is_file : Bool) → text ≡ path
     → global_file tree (Some path) ≡ cond is_file (Some path) None
 chosen tree path text is_file same kind = ap (λ b. cond b (Some path) None) (sym (kind ∙ ap (λ p. is_file_there (tree.stat p true)) same))
 
-pub returns-then-branch-clause-found : goal.returns-then-branch-clause-found
-returns-then-branch-clause-found g c = λ tree honest.
-    let path = string_bytes c.in-Some.path in
-    let here = chosen tree path c.as_str.result.now _ c.as_str.ensures.value (c.in_ok-is_file-in-Some.ensures tree honest) in (
-      Some path,
-      subst (λ (found : Option (List ℕ)). IsExcludesPath tree c.args.env.now found) (ap (option_map string_bytes) c.in-Some.is)
-          (c.in_ok-gitconfig_excludes_path.ensures.found tree honest),
-      sym (here ∙ ap (λ b. cond b (Some path) None) c.if-branch.true),
-    )
+pub returns-then-branch : goal.returns-then-branch
+returns-then-branch g c = record {
+  found = λ tree honest.
+      let path = string_bytes c.in-Some.path in
+      let here = chosen tree path c.as_str.result.now _ c.as_str.ensures.value (c.in_ok-is_file-in-Some.ensures tree honest) in (
+        Some path,
+        subst (λ (found : Option (List ℕ)). IsExcludesPath tree c.args.env.now found) (ap (option_map string_bytes) c.in-Some.is)
+            (c.in_ok-excludes_path.ensures.found tree honest),
+        sym (here ∙ ap (λ b. cond b (Some path) None) c.if-branch.true),
+      );
+}
 
-pub returns-else-branch-clause-found : goal.returns-else-branch-clause-found
-returns-else-branch-clause-found g c = λ tree honest.
-    let path = string_bytes c.in-Some.path in
-    let here = chosen tree path c.as_str.result.now _ c.as_str.ensures.value (c.in_ok-is_file-in-Some.ensures tree honest) in (
-      Some path,
-      subst (λ (found : Option (List ℕ)). IsExcludesPath tree c.args.env.now found) (ap (option_map string_bytes) c.in-Some.is)
-          (c.in_ok-gitconfig_excludes_path.ensures.found tree honest),
-      sym (here ∙ ap (λ b. cond b (Some path) None) c.if-branch.false),
-    )
+pub returns-else-branch : goal.returns-else-branch
+returns-else-branch g c = record {
+  found = λ tree honest.
+      let path = string_bytes c.in-Some.path in
+      let here = chosen tree path c.as_str.result.now _ c.as_str.ensures.value (c.in_ok-is_file-in-Some.ensures tree honest) in (
+        Some path,
+        subst (λ (found : Option (List ℕ)). IsExcludesPath tree c.args.env.now found) (ap (option_map string_bytes) c.in-Some.is)
+            (c.in_ok-excludes_path.ensures.found tree honest),
+        sym (here ∙ ap (λ b. cond b (Some path) None) c.if-branch.false),
+      );
+}

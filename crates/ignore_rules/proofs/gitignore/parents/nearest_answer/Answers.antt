@@ -12,4 +12,4 @@ returns-then-is_none-clause-answered c =
 pub returns-else-is_none : goal.returns-else-is_none
 returns-else-is_none c =
     let found : is_none c.in_ok-answer.answer ≡ false = search rules in
-    record { out_of_memory = tt; answered = decides (λ g. g.now) c.in_ok-answer.answer _ _ _ c.in_ok-answer.ensures.answered found refl; succeeds = λ _. refl }
+    record { answered = decides (λ g. g.now) c.in_ok-answer.answer _ _ _ c.in_ok-answer.ensures.answered found refl; succeeds = λ _. refl }

@@ -12,7 +12,7 @@ returns c = record {
       let name = c.args.name.now in
       let next : Way = record { path = c.in_ok-self.field-0; text = c.push.new.self; place = w.place; added = w.added; errors = w.errors } in
       come-next g slots kept seen names name w next path text
-      (c.in_ok-self.ensures.joins ∙ ap (λ (p : List ℕ). join_of p name) c.as_str.ensures.value)
+      (c.in_ok-self.ensures ∙ ap (λ (p : List ℕ). join_of p name) c.as_str.ensures.value)
       (c.in_ok-push.ensures.bytes ∙ (ap (λ (t : List ℕ). t ++ 47 ∷ []) c.in_ok-push_str.ensures.bytes
       ∙ append_assoc (string_bytes w.text) name (47 ∷ []))) refl refl refl passed;
 }

@@ -14,7 +14,7 @@ returns-in_ok-item-in-Entry g c = record {
       let lent = c.lent.ensures s suits in
       let dir : c.last_path.result.now ≡ path_of root b = c.last_path.ensures root b h in
       let path : string_bytes c.in_ok-path-in-Entry.path ≡ join_of (path_of root b) c.in-Entry.name =
-      cc (c.in_ok-path-in-Entry.ensures.joins, dir, c.as_str.ensures) in
+      cc (c.in_ok-path-in-Entry.ensures, dir, c.as_str.ensures) in
       let deep = c.depth_below-depth.ensures root b h in
       rw (
         c.in-Entry.is,

@@ -10,6 +10,6 @@ returns g c = record {
       let are = suited-loads g.F.Files g.S.Callbacks lent.files.now self.owner lent.settings.now lent.outside.now self.options s suits in
       let done = c.in_ok-opened.ensures in
       opens s c.in_ok-path.path c.args.path.now c.args.text c.in_ok-opened.opened c.in_ok-path.ensures done.path done.text
-      (done.dir s.tree s.loads suits.honest are) (done.problem s.tree s.loads suits.honest are) (done.rest s.tree s.order suits.honest suits.order)
+      (done.dir s.tree s.loads suits.honest are) (done.problem s.tree s.loads suits.honest are) (done.rest s.tree suits.honest s.order suits.order)
       (done.fault s.tree suits.honest);
 }

@@ -1,12 +1,15 @@
 use Rattle.std.proofs.Common.{◌≡◌, ◌∷◌, [], ℕ, List, Ok, Err, Result, true, refl, sym, ◌∙◌, ap, subst}
 use Rattle.ignore_base.specs.Problem.{Problem, problem_of}
+use Rattle.ignore_base.specs.declared.error.Error.{Error}
 use Rattle.ignore_dir.specs.Query.{is_dir_there}
-use Rattle.ignore_walk.specs.Entry.{Entry, entry_of, item_of, fresh, problem_in}
+use Rattle.ignore_walk.specs.Entry.{Entry, entry_of, item_of}
+use Rattle.ignore_walk.specs.Found.{IsFound}
+use Rattle.ignore_walk.specs.Frames.{device_of}
 use Rattle.ignore_walk.specs.Left.{InHand}
 use Rattle.ignore_walk.specs.Stands.{state_of}
 use Rattle.ignore_walk.specs.Whole.{root_entry}
+use Rattle.ignore_walk.specs.declared.found.Found.{Found}
 use Rattle.ignore_walk.specs.declared.stack.Stack.{Stack}
-use Rattle.ignore_walk.proofs.ChildLemmas.{fresh_ok, fresh_err}
 use Rattle.ignore_walk.proofs.LeftLemmas.{make_failed}
 use Rattle.ignore_walk.proofs.VisitLemmas.{on_ok_map, root_path, root_kept}
 use Rattle.ignore_walk.proofs.StandLemmas.{stand_made, next_root, outside}
@@ -17,24 +20,24 @@ returns-in-Err-clause-begun g c = λ s seen items n suits empty kept is_dir abov
     let root = c.args.root.now in
     let p = problem_of c.in-Err.error in
     let state = state_of c.args.self.now root [] seen in
-    let same : Err p ≡ fresh (root_entry s root) = sym (ap item_of c.in-Err.is) ∙ c.in_ok-error.ensures.value s suits is_dir in
-    let hand' : InHand s state [] (Err p) items n =
-    subst (λ (r : Result Entry Problem). InHand s state [] r items n) (fresh_err p (root_entry s root) same) hand in
+    let failed : root_entry s root ≡ Err p =
+    subst (λ (r : Result Found Error). IsFound s (λ e. c.args.is_dir) r (root_entry s root)) c.in-Err.is (c.in_ok-error.ensures.value s suits is_dir) in
+    let hand' : InHand s state [] (Err p) items n = subst (λ (r : Result Entry Problem). InHand s state [] r items n) failed hand in
     on_ok_map c.make_error.result
     (λ makes. stand_made s root [] seen c.args.self.now _ (Err p ∷ []) items n
     (record { seen = refl; roots = refl; above = refl; device = refl }) refl refl makes (outside s root [] seen c.args.self.now empty kept)
     (make_failed s state [] p items n hand'))
     c.make_error.ensures.value
 
-pub returns-in_ok-self-in-Ok-clause-begun : goal.returns-in_ok-self-in-Ok-clause-begun
-returns-in_ok-self-in-Ok-clause-begun g c = λ s seen items n suits empty kept is_dir above base hand.
+pub returns-in-Ok-clause-begun : goal.returns-in-Ok-clause-begun
+returns-in-Ok-clause-begun g c = λ s seen items n suits empty kept is_dir above base hand.
     let root = c.args.root.now in
     let self = c.args.self.now in
-    let e = entry_of c.in-Ok.entry in
-    let o = problem_in c.in-Ok.entry in
+    let e = entry_of c.in-Ok.found.entry in
     let state = state_of c.args.self.now root [] seen in
-    let same : Ok (e, o) ≡ fresh (root_entry s root) = sym (ap item_of c.in-Ok.is) ∙ c.in_ok-error.ensures.value s suits is_dir in
-    let is : root_entry s root ≡ Ok e = fresh_ok e o (root_entry s root) same in
+    let found : IsFound s (λ e. c.args.is_dir) (Ok c.in-Ok.found) (root_entry s root) =
+    subst (λ (r : Result Found Error). IsFound s (λ e. c.args.is_dir) r (root_entry s root)) c.in-Ok.is (c.in_ok-error.ensures.value s suits is_dir) in
+    let is : root_entry s root ≡ Ok e = found.0 in
     let path : e.path ≡ root = root_path s root e is in
     let hand' : InHand s state [] (Ok e) items n = subst (λ (r : Result Entry Problem). InHand s state [] r items n) is hand in
     let next : Stack = record {
@@ -42,9 +45,10 @@ returns-in_ok-self-in-Ok-clause-begun g c = λ s seen items n suits empty kept i
       seen = self.seen;
       levels = self.levels;
       above = self.above;
-      device = c.in_ok-self-in-Ok.field-0;
+      device = c.in-Ok.found.device;
       frames = self.frames;
       made = self.made;
+      text = self.text;
     } in
     c.visit.ensures.visited s root [] [] seen items n suits
     (outside s root [] seen next empty (record { kept = kept.kept; places = kept.places }))
@@ -52,7 +56,8 @@ returns-in_ok-self-in-Ok-clause-begun g c = λ s seen items n suits empty kept i
       path = path;
       leads_there = is_dir ∙ ap (λ (p : List ℕ). is_dir_there (s.tree.stat p true)) (sym path);
       kept = root_kept s root e;
-      at = λ t. c.in_ok-self-in-Ok.ensures.value s suits t;
+      at = λ t. found.2 t ∙ ap (λ (p : List ℕ). device_of s p) path;
+      device = λ t. found.2 t;
       seen_as = λ t. c.new.ensures ∙ base t;
       around = λ t. above t;
     }) (next_root c.args.self.now [] empty) hand'

@@ -14,14 +14,14 @@ use Rattle.ignore_walk.proofs.VisitLemmas.{fate_skip, next_inside}
 use Rattle.ignore_walk.proofs.stack.Stack.take.Goals as goal
 
 pub returns-then-branch-clause-taken : goal.returns-then-branch-clause-taken
-returns-then-branch-clause-taken g c = λ s root place name seen items n suits is frames at text path fine hand.
-    let e = entry_of c.args.entry in
+returns-then-branch-clause-taken g c = λ s root place name seen items n suits is frames at text here hand.
+    let e = entry_of c.args.found.entry in
     let self = c.args.self.now in
     let around = on-around s root self.seen.items place self.above (reverse self.frames.items) (slots_of self.levels) frames is.levels in
     let nearest : c.place_around-around.result ≡ place_around self.above (reverse self.frames.items) =
     c.place_around-around.ensures ∙ ap (λ (fs : List Frame). place_around self.above (reverse fs)) c.as_slice.ensures.value in
     let chain = subst (λ (p : Option Place). IsChain (slots_of self.levels) p (counting (placed_to s root place))) (sym nearest) around in
-    let answer = c.in_ok-is_skipped.ensures.value s root place name suits chain (c.as_str.ensures.value ∙ text) path fine in
+    let answer = c.in_ok-is_skipped.ensures.value s root place name suits chain (c.as_str.ensures.value ∙ text) here.path here.sound in
     let skipped : is_skipped s root (name ∷ place) e ≡ true = sym answer ∙ c.if-branch.true in
     record {
       root = root;
@@ -33,24 +33,25 @@ returns-then-branch-clause-taken g c = λ s root place name seen items n suits i
     }
 
 pub returns-clause-taken : goal.returns-clause-taken
-unfolding lib.Utf8.encode
-returns-clause-taken g c = λ s root place name seen items n suits is frames at text path fine hand.
-    let e = entry_of c.args.entry in
+returns-clause-taken g c = λ s root place name seen items n suits is frames at text here hand.
+    let e = entry_of c.args.found.entry in
     let self = c.args.self.now in
     let around = on-around s root self.seen.items place self.above (reverse self.frames.items) (slots_of self.levels) frames is.levels in
     let nearest : c.place_around-around.result ≡ place_around self.above (reverse self.frames.items) =
     c.place_around-around.ensures ∙ ap (λ (fs : List Frame). place_around self.above (reverse fs)) c.as_slice.ensures.value in
     let chain = subst (λ (p : Option Place). IsChain (slots_of self.levels) p (counting (placed_to s root place))) (sym nearest) around in
-    let answer = c.in_ok-is_skipped.ensures.value s root place name suits chain (c.as_str.ensures.value ∙ text) path fine in
-    let full : c.new.result ≡ text_at s root (name ∷ place) =
-    c.new.ensures ∙ (c.in_ok-push.ensures.bytes ∙ (ap (λ (t : List ℕ). t ++ 47 ∷ []) text
-    ∙ append_assoc (text_at s root place) name (47 ∷ []))) in
-    let visits : Visits s root (name ∷ place) c.args.self.now e c.is_dir_kind-leads_in.result c.new.result = record {
-      path = path;
-      leads_there = c.is_dir_kind-leads_in.ensures ∙ ap is_dir_kind c.file_type.ensures;
+    let answer = c.in_ok-is_skipped.ensures.value s root place name suits chain (c.as_str.ensures.value ∙ text) here.path here.sound in
+    let full : c.is_dir_kind-leads_in.result ≡ true → c.in_ok-text.text ≡ text_at s root (name ∷ place) =
+    λ leads. c.in_ok-text.ensures leads ∙ (ap (λ (t : List ℕ). t ++ 47 ∷ []) (c.as_str-2.ensures.value ∙ text)
+    ∙ append_assoc (text_at s root place) name (47 ∷ [])) in
+    let leads : c.is_dir_kind-leads_in.result ≡ is_dir_kind e.kind = c.is_dir_kind-leads_in.ensures ∙ ap is_dir_kind c.file_type.ensures in
+    let visits : Visits s root (name ∷ place) c.args.self.now c.args.found c.is_dir_kind-leads_in.result c.in_ok-text.text = record {
+      path = here.path;
+      leads_there = leads;
       kept = sym answer ∙ c.if-branch.false;
       at = λ _. at;
-      seen_as = λ _. full;
+      device = λ t. here.device (sym leads ∙ t);
+      seen_as = full;
       around = λ _. around;
     } in
     c.visit.ensures.visited s root place (name ∷ place) seen items n suits is visits

@@ -1,14 +1,25 @@
-use Rattle.std.proofs.Common.{refl}
+use Rattle.std.proofs.Common.{◌≡◌, ◌-◌, suc, get_or, length, refl, take, arith}
+use Rattle.ignore_walk.proofs.LastLemmas.{last_popped, last_set, last_split}
 use Rattle.ignore_walk.proofs.StandLemmas.{stand_left, stand_taken}
 use Rattle.ignore_walk.proofs.stack.Stack.take_listed.Goals as goal
 
-pub returns-in-None-clause-taken : goal.returns-in-None-clause-taken
-returns-in-None-clause-taken c = λ s items n some r.
-    stand_left s c.args.self.now _ c.in-Some.frame items n (record { seen = refl; roots = refl; above = refl; device = refl }) refl
-    c.in-Some.ensures.items c.cut.ensures.cut c.in-None.ensures r
+pub returns-in-Some-take_next-clause-taken : goal.returns-in-Some-take_next-clause-taken
+returns-in-Some-take_next-clause-taken c = λ s items n some r.
+    let xs = c.args.self.now.frames.items in
+    let k = c.args.self.now.frames.len - 1 in
+    let f = c.in-Some.frame.now in
+    let size : length xs ≡ suc k = omega (some, c.args.self.now.frames.ok.0, arith) in
+    let is : f ≡ get_or xs k f = c.in-Some.ensures.value in
+    stand_taken s c.args.self.now _ f _ (take k xs) c.in-Some-take_next.listed items n
+    (record { seen = refl; roots = refl; above = refl; device = refl }) refl refl (last_split xs k f size is) (last_set xs k _ size)
+    refl refl refl refl c.in-Some-take_next.ensures r
 
-pub returns-in_ok-push-in-Some-take_next-clause-taken : goal.returns-in_ok-push-in-Some-take_next-clause-taken
-returns-in_ok-push-in-Some-take_next-clause-taken c = λ s items n some r.
-    stand_taken s c.args.self.now _ c.in-Some.frame _ c.pop.new.self.items c.in-Some-take_next.listed items n
-    (record { seen = refl; roots = refl; above = refl; device = refl }) refl refl c.in-Some.ensures.items
-    c.in_ok-push-in-Some-take_next.ensures.items refl refl refl refl c.in-Some-take_next.ensures r
+pub returns-clause-taken : goal.returns-clause-taken
+returns-clause-taken c = λ s items n some r.
+    let xs = c.args.self.now.frames.items in
+    let k = c.args.self.now.frames.len - 1 in
+    let f = c.in-Some.frame.now in
+    let size : length xs ≡ suc k = omega (some, c.args.self.now.frames.ok.0, arith) in
+    let is : f ≡ get_or xs k f = c.in-Some.ensures.value in
+    stand_left s c.args.self.now _ f items n (record { seen = refl; roots = refl; above = refl; device = refl }) refl
+    (last_popped xs c.pop.new.self.items k f _ size is c.pop.ensures.rest) c.cut.ensures.cut c.in_default-take_next.ensures r

@@ -14,10 +14,10 @@ use Rattle.ignore_walk.proofs.stack.Stack.visit.Goals as goal
 
 pub returns-in-Yield-clause-visited : goal.returns-in-Yield-clause-visited
 returns-in-Yield-clause-visited g c = λ s root place b seen items n suits is visits next hand.
-    let e = entry_of c.args.entry in
+    let e = entry_of c.args.found.entry in
     let made = map item_of c.args.self.now.made.items in
     let yields : fate s root b e ≡ yield =
-    c.in_ok-fate.ensures.value s root b suits (λ t. visits.at t) visits.leads_there visits.kept ∙ ap fate_of c.in-Yield.is in
+    c.fate-fate.ensures.value s root b suits (λ t. visits.at t) (λ t. visits.device t) visits.leads_there visits.kept ∙ ap fate_of c.in-Yield.is in
     on_ok_map c.make.result
     (λ makes. stand_made s root place seen c.args.self.now _ (yielded s.settings e None) items n
     (record { seen = refl; roots = refl; above = refl; device = refl }) refl refl
@@ -26,11 +26,11 @@ returns-in-Yield-clause-visited g c = λ s root place b seen items n suits is vi
 
 pub returns-in_ok-error-in-Load-clause-visited : goal.returns-in_ok-error-in-Load-clause-visited
 returns-in_ok-error-in-Load-clause-visited g c = λ s root place b seen items n suits is visits next hand.
-    let e = entry_of c.args.entry in
+    let e = entry_of c.args.found.entry in
     let made = map item_of c.args.self.now.made.items in
     let problem = option_map problem_of c.in_ok-error-in-Load.error in
     let loads : fate s root b e ≡ load =
-    c.in_ok-fate.ensures.value s root b suits (λ t. visits.at t) visits.leads_there visits.kept ∙ ap fate_of c.in-Load.is in
+    c.fate-fate.ensures.value s root b suits (λ t. visits.at t) (λ t. visits.device t) visits.leads_there visits.kept ∙ ap fate_of c.in-Load.is in
     let found : problem ≡ (s.loads e.path).1 =
     c.in_ok-error-in-Load.ensures.value s suits ∙ ap (λ (p : List ℕ). (s.loads p).1) c.path.ensures in
     on_ok_map c.make-in-Load.result
@@ -42,9 +42,9 @@ returns-in_ok-error-in-Load-clause-visited g c = λ s root place b seen items n 
 
 pub returns-in_ok-opened-in-Enter-clause-visited : goal.returns-in_ok-opened-in-Enter-clause-visited
 returns-in_ok-opened-in-Enter-clause-visited g c = λ s root place b seen items n suits is visits next hand.
-    let e = entry_of c.args.entry in
+    let e = entry_of c.args.found.entry in
     let enters : fate s root b e ≡ enter =
-    c.in_ok-fate.ensures.value s root b suits (λ t. visits.at t) visits.leads_there visits.kept ∙ ap fate_of c.in-Enter.is in
+    c.fate-fate.ensures.value s root b suits (λ t. visits.at t) (λ t. visits.device t) visits.leads_there visits.kept ∙ ap fate_of c.in-Enter.is in
     let leads : c.args.leads_in ≡ true = visits.leads_there ∙ enter_leads s root b e enters in
     let path : c.path-in-Enter.result.now ≡ path_of root b = c.path-in-Enter.ensures ∙ visits.path in
     let opens : Opens s (path_of root b) (text_at s root b) c.in_ok-opened-in-Enter.opened =

@@ -1,0 +1,20 @@
+use Rattle.std.proofs.Common.{ap, ◌∙◌, sym}
+use Rattle.ignore_dir.specs.Query.{depth_of}
+use Rattle.ignore_why.specs.QueryWhy.{answer_of, query_why_of}
+use Rattle.ignore_why.proofs.QueryWhyLemmas.{answers-by_reason}
+use Rattle.ignore_query.specs.Reached.{scene_of}
+use Rattle.ignore_query.specs.declared.asked.Asked.{Asked}
+use Rattle.ignore_query.proofs.WhyLemmas.{answer_at}
+use Rattle.ignore_query.proofs.incremental.IncrementalIgnore.explain.Goals as goal
+
+pub returns-clause-value : goal.returns-clause-value
+returns-clause-value g c = λ tree loads honest are agrees.
+    let scene = scene_of c.args.self.now.asked tree loads in
+    let path = c.args.path.now in
+    let is_dir = c.args.is_dir in
+    let why = query_why_of c.in_ok-reason.reason in
+    c.answer_of-answer.ensures
+    ∙ (answer_at c.reason.new.self.asked.settings c.depth_for.result (depth_of path) is_dir why (λ verdict. c.depth_for.ensures.limited is_dir verdict)
+    ∙ (ap (λ (a : Asked). answer_of a.settings (depth_of path) is_dir why) c.reason.ensures.same
+    ∙ (ap (answer_of scene.settings (depth_of path) is_dir) (c.in_ok-reason.ensures.why tree loads honest are agrees)
+    ∙ sym (answers-by_reason scene path is_dir))))

@@ -1,0 +1,62 @@
+use Rattle.std.proofs.Common.{◌++◌, List, Option, map, sym, ap, ◌∙◌, subst, string_bytes}
+use Rattle.std.specs.List.{filter_map}
+use Rattle.std.specs.Option.{option_to_list}
+use Rattle.ignore_base.specs.Paths.{components, join_of}
+use Rattle.ignore_base.specs.Problem.{Problem, joined, problem_of}
+use Rattle.ignore_dir.specs.Limits.{size_problem}
+use Rattle.ignore_dir.specs.Query.{limit_of, names_of, size_of}
+use Rattle.ignore_dir.specs.Soft.{AllSoft, IsSoft}
+use Rattle.ignore_dir.proofs.SoftLemmas.{joined-soft}
+use Rattle.ignore_query.specs.Needs.{KeepsNeeded, needed}
+use Rattle.ignore_query.specs.Reached.{scene_of}
+use Rattle.ignore_query.specs.Reports.{new_above, new_below, reported_by_rules}
+use Rattle.ignore_query.proofs.QueryLemmas.{asked_names, collected_three, names_are, root_dir}
+use Rattle.ignore_query.proofs.incremental.IncrementalIgnore.reason_of_rules.Goals as goal
+
+pub returns-in_err-reason-clause-agrees : goal.returns-in_err-reason-clause-agrees
+returns-in_err-reason-clause-agrees g c = λ tree loads honest are agrees asked ruled.
+    let root = string_bytes c.args.self.now.asked.root in
+    let path = c.args.path.now in
+    c.explain.ensures.agrees tree loads honest are (root_dir tree root path ruled) agrees (asked_names tree root path asked ruled)
+
+pub returns-clause-agrees : goal.returns-clause-agrees
+returns-clause-agrees g c = λ tree loads honest are agrees asked ruled.
+    let root = string_bytes c.args.self.now.asked.root in
+    let path = c.args.path.now in
+    c.explain.ensures.agrees tree loads honest are (root_dir tree root path ruled) agrees (asked_names tree root path asked ruled)
+
+pub returns-clause-kept : goal.returns-clause-kept
+returns-clause-kept g c = λ tree loads honest are agrees asked ruled.
+    let scene = scene_of c.args.self.now.asked tree loads in
+    let root = string_bytes c.args.self.now.asked.root in
+    let path = c.args.path.now in
+    subst (λ l. KeepsNeeded (needed scene l) c.args.self.now.cache c.explain.new.self) (names_are tree root path ruled)
+    (c.in_ok-reason.ensures.kept tree loads honest are (root_dir tree root path ruled) agrees (asked_names tree root path asked ruled))
+
+pub returns-clause-why : goal.returns-clause-why
+returns-clause-why g c = λ tree loads honest are agrees asked ruled.
+    let root = string_bytes c.args.self.now.asked.root in
+    let path = c.args.path.now in
+    c.in_ok-reason.ensures.why tree loads honest are (root_dir tree root path ruled) agrees (asked_names tree root path asked ruled)
+
+pub returns-clause-reports : goal.returns-clause-reports
+unfolding reported_by_rules
+returns-clause-reports g c = λ tree loads honest are agrees asked ruled.
+    let scene = scene_of c.args.self.now.asked tree loads in
+    let root = string_bytes c.args.self.now.asked.root in
+    let path = c.args.path.now in
+    let old = c.args.self.now.cache in
+    let first = option_to_list (new_above scene old) in
+    let below = new_below scene old (names_of path) in
+    let size : Option Problem = size_problem (join_of root path) (limit_of scene path c.args.is_dir) (size_of scene path) in
+    let said = c.in_ok-reason.ensures.problems tree loads honest are (root_dir tree root path ruled) agrees (asked_names tree root path asked ruled)
+    ∙ (ap (λ (l : List Problem). (l ++ (first ++ filter_map (λ p. p) (new_below scene old (components path)))) ++ option_to_list size)
+    (ap (map problem_of) c.new-errors.ensures.items)
+    ∙ (ap (λ l. (first ++ filter_map (λ p. p) (new_below scene old l)) ++ option_to_list size) (names_are tree root path ruled)
+    ∙ collected_three (new_above scene old) below size)) in
+    c.joined.ensures ∙ ap joined said
+
+pub returns-clause-soft : goal.returns-clause-soft
+returns-clause-soft g c =
+    let none = subst AllSoft (sym (ap (map problem_of) c.new-errors.ensures.items)) tt in
+    subst IsSoft (sym c.joined.ensures) (joined-soft _ (c.in_ok-reason.ensures.soft none))

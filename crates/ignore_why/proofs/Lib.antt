@@ -1,0 +1,4 @@
+pub mod TextLemmas
+pub mod DecidesLemmas
+pub mod QueryWhyLemmas
+pub mod WorkedWhy

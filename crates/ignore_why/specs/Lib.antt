@@ -1,0 +1,4 @@
+pub mod Cited
+pub mod Decides
+pub mod QueryWhy
+pub mod Texts
