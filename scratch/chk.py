@@ -5,7 +5,7 @@ that it stands on, is taken as the library built there; another one as SOURCE. (
 check covers their functions too: give --only PATH.) TOP: worktree; J: jobs (1)."""
 import os,sys,subprocess,filecmp
 top=os.environ.get('TOP') or subprocess.check_output(['git','rev-parse','--show-toplevel'],text=True).strip()
-bases=os.environ.get('BASE','/work/gate/b:/work/gate/a').split(':')
+bases=os.environ.get('BASE','/work/gate/a').split(':')
 def table(t):
     d={}
     for l in open(t+'/crates.txt'):

@@ -2,9 +2,15 @@
 while :; do
   for p in $(pgrep -f "rattle|antt-kernel|rt ci"); do
     d=$(readlink /proc/$p/cwd 2>/dev/null)
+    grep -q clang /proc/$p/comm 2>/dev/null && d=/work/gate/x/crates/ignore
     case "$d" in
-      /work/gate/b*|/work/gate/c*|/tmp/rt-copy*|/tmp/rt-edit*) n=-8;; /work/wt/fin*) n=-6;; /work/gate/a*|/tmp/tmp*|/tmp/first-minute*|/tmp/igwalk*) n=-7;; /work/wt/query*|/work/wt/walk*|/tmp/wm*) n=-4;; /tmp/mutants-*) n=-2;;
-      /work/wt/*) n=$(cat /work/wt/nice_rest 2>/dev/null || echo 8);;
+      /work/gate/*/crates/ignore_dir|/work/gate/*/crates/ignore_levels|/work/gate/*/crates/ignore_why|/work/gate/*/crates/ignore_query|/work/gate/*/crates/ignore_walk|/work/gate/*/crates/ignore|/work/gate/*/crates/commands|/work/gate/*/crates/replay_walks|/work/gate/*/crates/uses) n=-16;;
+      /work/gate/b/crates/*) n=-16;;
+      /work/gate/*|/tmp/rt-copy*|/tmp/rt-edit*) n=-12;;
+      /tmp/mutants-*) n=-13;;
+      /tmp/tmp*) n=-16;;
+      /work/wt/*) n=15;;
+      /tmp/*) n=0;;
       *) continue;;
     esac
     for t in /proc/$p/task/*; do
