@@ -1,0 +1,4 @@
+pub mod Settings
+pub mod Globs
+pub mod Choices
+pub mod Files
