@@ -4,20 +4,26 @@ use ignore_dir::Names;
 use ignore_walk::Order;
 use std::alloc::Global;
 
-/// The options of a list, as plain values. Each is false, none or empty where it isn't given.
+/// The options of a command, as plain values. Each is false, none or empty where it isn't given.
 #[derive(Drop)]
 pub struct Options {
     /// The roots, as they are given; `.` where there is none.
     pub roots: Vec<String>,
     /// Whether no root is given: paths are then written without the `./` of the root `.`.
     pub is_bare: bool,
+    /// The paths that `why` is asked about, as they are given.
+    pub paths: Names,
+    /// `--stdin` of `why`: the paths are those of standard input.
+    pub stdin: bool,
+    /// `-v` of `ignored`: each entry is written after its reason.
+    pub reasons: bool,
     /// `--files`: files are listed. Where no kind is chosen, all entries are.
     pub files: bool,
     /// `--dirs`: directories are listed.
     pub dirs: bool,
     /// `--links`: symbolic links that aren't followed are listed.
     pub links: bool,
-    /// `-0`: a path ends in NUL, and not in a newline.
+    /// `-0`, and `-z` of `why`: a path ends in NUL, and not in a newline.
     pub null: bool,
     /// `-q`: nothing is written to the output.
     pub quiet: bool,
@@ -77,6 +83,9 @@ impl Options {
         Options {
             roots: Vec::new(alloc),
             is_bare: false,
+            paths: Names::new(Vec::new(alloc)),
+            stdin: false,
+            reasons: false,
             files: false,
             dirs: false,
             links: false,

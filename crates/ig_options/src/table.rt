@@ -34,14 +34,10 @@ const RULES: &str = "Which rules count";
 
 const HOW: &str = "How files of rules are read";
 
-const WHERE: &str = "How far";
-
-const GLOBS: &str = "Globs and types";
-
 const PRINT: &str = "What is written";
 
-/// The options of `ig ls`.
-pub const LIST: [Row; 29] = [
+/// Which kinds of entries are listed.
+pub const KINDS: [Row; 3] = [
     (
         "files",
         None,
@@ -57,6 +53,10 @@ pub const LIST: [Row; 29] = [
         WHAT,
         "List symbolic links that aren't followed",
     ),
+];
+
+/// Which rules count, and how files of rules are read.
+pub const FILTERS: [Row; 12] = [
     (
         "hidden",
         Some('H'),
@@ -141,19 +141,16 @@ pub const LIST: [Row; 29] = [
         HOW,
         "Trailing spaces are read as git reads them",
     ),
+];
+
+/// How far a walk goes.
+pub const WALK: [Row; 3] = [
     (
         "follow",
         Some('L'),
         Takes::Nothing,
         WHAT,
         "Follow symbolic links",
-    ),
-    (
-        "max-depth",
-        Some('d'),
-        Takes::Depth,
-        WHAT,
-        "At most N names below a root",
     ),
     (
         "min-depth",
@@ -163,19 +160,38 @@ pub const LIST: [Row; 29] = [
         "At least N names below a root",
     ),
     (
-        "max-filesize",
-        None,
-        Takes::One("SIZE"),
-        WHAT,
-        "No file above SIZE bytes, or with K, M or G",
-    ),
-    (
         "one-file-system",
         None,
         Takes::Nothing,
         WHAT,
         "Stay on the device of each root",
     ),
+];
+
+/// How deep a list goes.
+pub const DEPTH: [Row; 1] = [
+    (
+        "max-depth",
+        Some('d'),
+        Takes::Depth,
+        WHAT,
+        "At most N names below a root",
+    ),
+];
+
+/// How large a file may be.
+pub const SIZE: [Row; 1] = [
+    (
+        "max-filesize",
+        None,
+        Takes::One("SIZE"),
+        WHAT,
+        "No file above SIZE bytes, or with K, M or G",
+    ),
+];
+
+/// Globs and types of the command line.
+pub const GLOBS: [Row; 5] = [
     (
         "glob",
         Some('g'),
@@ -211,27 +227,11 @@ pub const LIST: [Row; 29] = [
         WHAT,
         "Add a type, as web:*.css or web:include:js,html",
     ),
-    (
-        "null",
-        Some('0'),
-        Takes::Nothing,
-        PRINT,
-        "End each path in NUL, not in a newline",
-    ),
-    (
-        "sort",
-        None,
-        Takes::Word(&ORDERS),
-        PRINT,
-        "The order in a directory, name by default",
-    ),
-    (
-        "quiet",
-        Some('q'),
-        Takes::Nothing,
-        PRINT,
-        "Write no path: the status says whether there is one",
-    ),
+];
+
+/// How a list is written.
+pub const PRINTS: [Row; 2] = [
+    ("null",Some('0'),Takes::Nothing,PRINT,"End each path in NUL, not in a newline"),
     (
         "stats",
         None,
@@ -241,11 +241,62 @@ pub const LIST: [Row; 29] = [
     ),
 ];
 
+/// That nothing is written.
+pub const QUIET: [Row; 1] = [
+    (
+        "quiet",
+        Some('q'),
+        Takes::Nothing,
+        PRINT,
+        "Write nothing: the status says whether there is any",
+    ),
+];
+
+/// The order of a list.
+pub const ORDER: [Row; 1] = [
+    (
+        "sort",
+        None,
+        Takes::Word(&ORDERS),
+        PRINT,
+        "The order in a directory, name by default",
+    ),
+];
+
+/// The option of `ig ignored` alone.
+pub const REASONS: [Row; 1] = [
+    ("verbose",Some('v'),Takes::Nothing,PRINT,"Write the reason of each entry before it"),
+];
+
+/// The options of `ig why` alone.
+pub const WHY: [Row; 4] = [
+    ("stdin",None,Takes::Nothing,PRINT,"Read the paths from standard input, a line each"),
+    ("zero",Some('z'),Takes::Nothing,PRINT,"Read and write with NUL in place of line ends and tabs"),
+    ("verbose",Some('v'),Takes::Nothing,PRINT,"Taken for git's sake: each reason is written anyway"),
+    ("non-matching",Some('n'),Takes::Nothing,PRINT,"Taken for git's sake: each path is written anyway"),
+];
+
+/// The options of `ig ls`.
+pub const LIST: [&[Row]; 9] = [
+    &KINDS, &FILTERS, &WALK, &DEPTH, &SIZE, &GLOBS, &PRINTS, &QUIET, &ORDER,
+];
+
+/// The options of `ig ignored`.
+pub const IGNORED: [&[Row]; 8] = [
+    &KINDS, &FILTERS, &DEPTH, &SIZE, &GLOBS, &PRINTS, &QUIET, &REASONS,
+];
+
+/// The options of `ig why`.
+pub const ASKED: [&[Row]; 5] = [&FILTERS, &SIZE, &GLOBS, &WHY, &QUIET];
+
+/// The options of `ig unused`.
+pub const UNUSED: [&[Row]; 3] = [&FILTERS, &PRINTS, &QUIET];
+
 /// The options of `ig types`.
-pub const TYPES: [Row; 1] = [(
+pub const TYPES: [&[Row]; 1] = [&[(
     "type-add",
     None,
     Takes::Many("DEF"),
     WHAT,
     "Add a type, as web:*.css or web:include:js,html",
-)];
+)]];

@@ -2,7 +2,7 @@
 
 use crate::options::Options;
 use crate::sizes::size_of;
-use crate::table::{LIST, Row, TYPES, Takes};
+use crate::table::{ASKED, IGNORED, LIST, Row, TYPES, Takes, UNUSED};
 use clap::error::ErrorKind;
 use clap::{Arg, ArgAction, ArgMatches, Command, Error, value_parser};
 use ignore_dir::Names;
@@ -14,14 +14,28 @@ use std::alloc::{AllocError, Global};
 pub enum Task {
     /// `ls`: the entries that the rules keep.
     List,
+    /// `ignored`: the topmost entries that are ignored.
+    Ignored,
+    /// `why`: why paths are ignored or not.
+    Why,
+    /// `unused`: the rules that decide nothing.
+    Unused,
     /// `types`: the file types and their globs.
     Types,
 }
 
-/// The id of the roots.
+/// The id of the roots, and of the paths of `why`.
 const ROOTS: &str = "root";
 
-/// What the long help ends with.
+/// How the commands are used.
+const USAGE: &str = "\
+ig [ls] [OPTIONS] [ROOT]...
+       ig ignored [OPTIONS] [ROOT]...
+       ig why [OPTIONS] PATH...
+       ig unused [OPTIONS] [ROOT]
+       ig types [--type-add DEF]...";
+
+/// What the long help of a list ends with.
 const LONG_HELP: &str = "\
 --no-ignore leaves out .gitignore, .ignore, .git/info/exclude, git's global file,
 the files of directories above a root and those of --ignore-name; the files of
@@ -30,6 +44,17 @@ the files of directories above a root and those of --ignore-name; the files of
 Status: 0 where something was found, 1 where nothing was, 2 where something was
 reported. A closed pipe ends the program with status 0.
 A folder that is named like a command is written ./types.";
+
+/// What the long help of `why` ends with.
+const WHY_HELP: &str = "\
+Each path is written as by git check-ignore -v -n: SOURCE:LINE:PATTERN, a tab and
+the path; ::, a tab and the path where no rule decides; ::hidden, or another word,
+where something else than a rule does. Paths are below the nearest folder at or
+above the working directory with .git or .jj, else below the working directory,
+and sources are relative to it.
+
+Status: 0 where a path is ignored, 1 where none is, 2 where something was
+reported, as a path outside of that folder.";
 
 /// What is wrong with a size.
 const WRONG_SIZE: &str =
@@ -54,7 +79,23 @@ pub fn read_words(alloc: Global, words: &[String]) -> Result<(Task, Options), Er
             return Err(command.error(ErrorKind::ValueValidation, WRONG_SIZE)?);
         }
     }
+    if task == Task::Why {
+        options.paths = texts(alloc, &matches, ROOTS)?;
+        if let Some(text) = wrong_paths(&options) {
+            return Err(command.error(ErrorKind::ArgumentConflict, text)?);
+        }
+    }
     Ok((task, options))
+}
+
+/// What is wrong with the paths of `why`: they are either words or those of standard input.
+fn wrong_paths(options: &Options) -> Option<&'static str> {
+    let has_words = !options.paths.as_slice().is_empty();
+    match (options.stdin, has_words) {
+        (true, true) => Some("the argument '--stdin' cannot be used with '[PATH]...'"),
+        (false, false) => Some("a path is missing, or '--stdin'"),
+        _ => None,
+    }
 }
 
 /// The command that the first word names, and the words after it.
@@ -62,6 +103,9 @@ fn task_of(words: &[String]) -> (Task, &[String]) {
     if let Some((first, rest)) = words.split_first() {
         match first.as_str() {
             "ls" => return (Task::List, rest),
+            "ignored" => return (Task::Ignored, rest),
+            "why" => return (Task::Why, rest),
+            "unused" => return (Task::Unused, rest),
             "types" => return (Task::Types, rest),
             _ => {}
         }
@@ -73,25 +117,59 @@ fn task_of(words: &[String]) -> (Task, &[String]) {
 fn command_of<'a>(alloc: Global, task: Task) -> Result<Command<'a>, AllocError> {
     match task {
         Task::List => list_command(alloc),
+        Task::Ignored => ignored_command(alloc),
+        Task::Why => why_command(alloc),
+        Task::Unused => unused_command(alloc),
         Task::Types => types_command(alloc),
     }
 }
 
 /// The parser of `ig ls`.
 fn list_command<'a>(alloc: Global) -> Result<Command<'a>, AllocError> {
-    let roots = Arg::new(alloc, ROOTS)
-        .value_name("ROOT")
-        .action(ArgAction::Append)
-        .num_args(0..)
-        .hide_short_help(true)
-        .help("What is walked; the working directory, where none is given");
     let command = plain_command(alloc, "ig")?
         .about("Lists what the ignore rules of a tree keep.")
-        .override_usage("ig [ls] [OPTIONS] [ROOT]...\n       ig types [--type-add DEF]...")
+        .override_usage(USAGE)
         .after_help("ig --help has all options. A folder named like a command: ./types")
         .after_long_help(LONG_HELP)
-        .arg(roots)?;
-    with_rows(alloc, command, &LIST)
+        .arg(roots_of(alloc, "What is walked; the working directory, where none is given"))?;
+    with_groups(alloc, command, &LIST)
+}
+
+/// The parser of `ig ignored`.
+fn ignored_command<'a>(alloc: Global) -> Result<Command<'a>, AllocError> {
+    let command = plain_command(alloc, "ig ignored")?
+        .about("Lists what the ignore rules of a tree leave out, but nothing inside of that.")
+        .override_usage("ig ignored [OPTIONS] [ROOT]...")
+        .after_help("ig ignored --help has all options.")
+        .after_long_help(LONG_HELP)
+        .arg(roots_of(alloc, "Folders; the working directory, where none is given"))?;
+    with_groups(alloc, command, &IGNORED)
+}
+
+/// The parser of `ig why`.
+fn why_command<'a>(alloc: Global) -> Result<Command<'a>, AllocError> {
+    let command = plain_command(alloc, "ig why")?
+        .about("Says why paths are ignored or not.")
+        .override_usage("ig why [OPTIONS] PATH...\n       ig why [OPTIONS] --stdin")
+        .after_help("ig why --help has all options.")
+        .after_long_help(WHY_HELP)
+        .arg(roots_of(alloc, "A path").value_name("PATH"))?;
+    with_groups(alloc, command, &ASKED)
+}
+
+/// The parser of `ig unused`.
+fn unused_command<'a>(alloc: Global) -> Result<Command<'a>, AllocError> {
+    let root = Arg::new(alloc, ROOTS)
+        .value_name("ROOT")
+        .hide_short_help(true)
+        .help("A folder; the working directory, where none is given");
+    let command = plain_command(alloc, "ig unused")?
+        .about("Lists the rules below a folder that decide on no entry there.")
+        .override_usage("ig unused [OPTIONS] [ROOT]")
+        .after_help("ig unused --help has all options.")
+        .after_long_help(LONG_HELP)
+        .arg(root)?;
+    with_groups(alloc, command, &UNUSED)
 }
 
 /// The parser of `ig types`.
@@ -99,7 +177,17 @@ fn types_command<'a>(alloc: Global) -> Result<Command<'a>, AllocError> {
     let command = plain_command(alloc, "ig types")?
         .about("Lists the file types and their globs.")
         .override_usage("ig types [--type-add DEF]...");
-    with_rows(alloc, command, &TYPES)
+    with_groups(alloc, command, &TYPES)
+}
+
+/// The roots, or the paths.
+fn roots_of<'a>(alloc: Global, help: &'static str) -> Arg<'a> {
+    Arg::new(alloc, ROOTS)
+        .value_name("ROOT")
+        .action(ArgAction::Append)
+        .num_args(0..)
+        .hide_short_help(true)
+        .help(help)
 }
 
 /// A parser without options, of which the last use of an option counts.
@@ -111,6 +199,18 @@ fn plain_command<'a>(alloc: Global, name: &'static str) -> Result<Command<'a>, A
             .no_binary_name(true)
             .args_override_self(true),
     )
+}
+
+/// A parser with these groups of options as well.
+fn with_groups<'a>(
+    alloc: Global,
+    mut command: Command<'a>,
+    groups: &[&[Row]],
+) -> Result<Command<'a>, AllocError> {
+    for group in groups {
+        command = with_rows(alloc, command, group)?;
+    }
+    Ok(command)
 }
 
 /// A parser with these options as well.
@@ -190,7 +290,9 @@ fn read_kinds(options: &mut Options, matches: &ArgMatches<'_>) {
     options.files = matches.get_flag("files");
     options.dirs = matches.get_flag("dirs");
     options.links = matches.get_flag("links");
-    options.null = matches.get_flag("null");
+    options.null = matches.get_flag("null") || matches.get_flag("zero");
+    options.stdin = matches.get_flag("stdin");
+    options.reasons = matches.get_flag("verbose");
     options.quiet = matches.get_flag("quiet");
     options.stats = matches.get_flag("stats");
     options.order = match matches.get_str("sort") {

@@ -45,5 +45,6 @@ fn left(alloc: Global, machine: &Machine, words: &[String]) -> Outcome {
         status: ran.map_or(ENDED, |ran| ran.status),
         out,
         err,
+        excess: None,
     }
 }
