@@ -8,7 +8,7 @@ use Rattle.ignore_base.specs.Problem.{Problem}
 use Rattle.ignore_base.specs.Text.{Bytes, Path}
 use Rattle.ignore_base.specs.declared.fault.Fault.{Fault}
 use Rattle.ignore_dir.specs.Limits.{beyond, is_above, is_below, is_beyond, is_deepest, limited, no_match, sized}
-use Rattle.ignore_dir.specs.Query.{answer_of_rules, depth_of, has_rules, is_asked, limit_of, names_of, query, rules_verdict, size_of}
+use Rattle.ignore_dir.specs.Query.{answer_of_rules, depth_of, has_rules, is_asked, limit_of, names_of, problem_of_rules, query, rules_verdict, size_of}
 use Rattle.ignore_dir.specs.Scene as below
 use Rattle.ignore_dir.specs.Verdict.{is_ignore}
 use Rattle.ignore_dir.specs.declared.incremental.IncrementalMatch.{IncrementalMatch}
@@ -117,7 +117,7 @@ query-fair g path d h =
     choose (IsFair d) (is_asked g.root path) (is_beyond g.settings (depth_of path) d) (has_rules g.tree g.root path)
     (no_match d, None) (beyond, None) (answer_of_rules g path d) (limited g.settings (depth_of path) d v.None, None)
     (no_match-fair d) (λ out. absurd (let e = sym (not_beyond g.settings (depth_of path) d h) ∙ out in cc (e)))
-    (limited-fair g.settings (depth_of path) d (sized (limit_of g path d) (size_of g path) (rules_verdict g (names_of path) d)) _ h)
+    (limited-fair g.settings (depth_of path) d (sized (limit_of g path d) (size_of g path) (rules_verdict g (names_of path) d)) (problem_of_rules g path d) h)
     (limited-fair g.settings (depth_of path) d v.None None h)
 
 -- nothing ignores a root

@@ -143,17 +143,16 @@ next_waits g s t path kind e items is waits same h =
       };
     }
 
-pub next_is : (a b : Bool) (p q : Path) → b ≡ a → p ≡ q → (if b then Some p else None) ≡ (if a then Some q else None)
-next_is a b p q is same =
-    ap (λ (x : Bool). if x then Some p else None) is ∙ ap (λ (x : Path). if a then Some x else None) same
-
 -- what was listed, by what it is
 pub finds_as : (g : Scene) (s : Stack) (f h : Result (String Global × FileType) Error) (items : List Item) → f ≡ h
     → Finds g s (found_of f) items → Finds g s (found_of h) items
 finds_as g s f h items is finds = subst (λ (x : Result (String Global × FileType) Error). Finds g s (found_of x) items) is finds
 
 -- at first the root waits, where it is surveyed
-pub stand_whole : (g : Scene) (s : Stack) (items : List Item) → s.waiting ≡ (if is_open g then Some [] else None)
+abbrev pub waits_if : Bool → Option Path
+waits_if goes = if goes then Some [] else None
+
+pub stand_whole : (g : Scene) (s : Stack) (items : List Item) → s.waiting ≡ waits_if (is_open g)
     → s.frames.items ≡ [] → IsSurvey g items → Stands g s items
 stand_whole g s items waits empty survey =
     record {
@@ -164,8 +163,8 @@ stand_whole g s items waits empty survey =
       are = sym (append-nil items);
     }
   where
-    waits_at : (b : Bool) → is_open g ≡ b → s.waiting ≡ (if b then Some [] else None)
-    waits_at b is = waits ∙ ap (λ (x : Bool). if x then Some [] else None) is
+    waits_at : (b : Bool) → is_open g ≡ b → s.waiting ≡ waits_if b
+    waits_at b is = waits ∙ ap waits_if is
 
     by : (all : List Item) → IsSurvey g all → Waits g s.waiting all
     by all (closed shut) = subst (λ (w : Option Path). Waits g w []) (sym (waits_at false shut)) refl

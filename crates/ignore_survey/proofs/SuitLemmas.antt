@@ -1,5 +1,5 @@
 -- What a matcher ensures holds of each scene that suits it.
-use Rattle.std.proofs.Common.{◌≡◌, Bool, sym, ◌∙◌, ap, subst}
+use Rattle.std.proofs.Common.{◌≡◌, Bool, true, false, not, ◌&&◌, [], codes, bytes_eq, sym, ◌∙◌, ap, subst}
 use Rattle.ignore_base.specs.Text.{Path}
 use Rattle.ignore_dir.specs.Load.{AreLoads}
 use Rattle.ignore_dir.specs.Query.{query}
@@ -14,7 +14,7 @@ use Rattle.ignore_query.specs.Where.{WhereAgrees}
 use Rattle.ignore_query.specs.declared.asked.Asked.{Asked}
 use Rattle.ignore_query.specs.declared.incremental.IncrementalIgnore.{IncrementalIgnore}
 use Rattle.ignore_survey.specs.Suits.{Suits}
-use Rattle.ignore_survey.specs.Survey.{Entry, entry_at}
+use Rattle.ignore_survey.specs.Survey.{Entry, entry_at, is_open}
 use Rattle.ignore_why.specs.QueryWhy.{QueryWhy, query_why}
 
 module _ {F : Type 0} (files : Files F) (f : F) (m : IncrementalIgnore) (g : Scene) where
@@ -45,3 +45,19 @@ entry_is g path p kind d a why same dir is because =
     let with_answer : IncrementalMatch → Entry = λ x. record { path = path; kind = kind; answer = x; why = why } in
     let with_reason : QueryWhy → Entry = λ w. record { path = path; kind = kind; answer = (query g path (is_dir kind)).0; why = w } in
     ap with_answer answer ∙ ap with_reason reason
+
+-- standard input isn't surveyed
+pub stdin_is_shut : (g : Scene) (root : Path) (stdin : Bool) → g.root ≡ root → stdin ≡ bytes_eq root (codes "-") → stdin ≡ true
+    → false ≡ is_open g
+stdin_is_shut g root stdin at is shut =
+    let there : bytes_eq g.root (codes "-") ≡ true = ap (λ (p : Path). bytes_eq p (codes "-")) at ∙ (sym is ∙ shut) in
+    sym (ap (λ (b : Bool). not b && (query g [] true).0.descends) there)
+
+-- another root is surveyed where the query says so
+pub opens_as : (g : Scene) (root : Path) (stdin goes : Bool) (a : IncrementalMatch) → g.root ≡ root
+    → stdin ≡ bytes_eq root (codes "-") → stdin ≡ false → goes ≡ a.descends → a ≡ (query g [] true).0 → goes ≡ is_open g
+opens_as g root stdin goes a at is other descends answer =
+    let elsewhere : bytes_eq g.root (codes "-") ≡ false = ap (λ (p : Path). bytes_eq p (codes "-")) at ∙ (sym is ∙ other) in
+    descends
+    ∙ (ap (λ (x : IncrementalMatch). x.descends) answer
+    ∙ sym (ap (λ (b : Bool). not b && (query g [] true).0.descends) elsewhere))

@@ -48,21 +48,25 @@ fn next_dir(alloc: Global, goes_on: bool, path: &str) -> Result<Option<Name>, Al
     Ok(Some(Name::from_str(alloc, path)?))
 }
 
-/// The root, where it is surveyed.
-fn first<F: Files>(
-    alloc: Global,
-    files: &F,
-    matcher: &mut IncrementalIgnore,
-) -> Result<Option<Name>, Error>
-    ensures first { (g : Scene) → Suits F.Files files.now matcher.old g → IfOk result (λ dir. dir ≡ (if is_open g then Some [] else None)) }
+/// What is to be listed next after an entry: its path, where the survey goes on below it.
+fn next_after(alloc: Global, entry: &Surveyed) -> Result<Option<Name>, AllocError>
+    ensures { IfOk result (λ dir. dir ≡ (if entry.now.explanation.answer.descends then Some (string_bytes entry.now.path) else None)) }
+{
+    let goes_on = entry.explanation.answer.should_descend();
+    Ok(next_dir(alloc, goes_on, entry.path.as_str())?)
+}
+
+/// Whether the root is surveyed.
+fn is_open<F: Files>(files: &F, matcher: &mut IncrementalIgnore) -> Result<bool, Error>
+    ensures open { (g : Scene) → Suits F.Files files.now matcher.old g → IfOk result (λ open. open ≡ is_open g) }
     ensures suits { (g : Scene) → Suits F.Files files.now matcher.old g → Suits F.Files files.now matcher.new g }
     ensures out_of_memory { IfErr result (λ e. problem_of e ≡ memory) }
 {
     if matcher.root() == "-" {
-        return Ok(None);
+        return Ok(false);
     }
-    let (explanation, _) = matcher.explain(files, "", true)?;
-    Ok(next_dir(alloc, explanation.answer.should_descend(), "")?)
+    let answer = matcher.matched(files, "", true)?;
+    Ok(answer.should_descend())
 }
 
 /// The error of a survey that may yield no item more.
@@ -89,7 +93,8 @@ impl<'a, F: Files> Survey<'a, F> {
         ensures goes_on { IfOk result (λ s. s.ended ≡ false) }
         ensures out_of_memory { IfErr result (λ e. problem_of e ≡ memory) }
     {
-        let waiting = first(alloc, files, &mut matcher)?;
+        let goes_on = is_open(files, &mut matcher)?;
+        let waiting = next_dir(alloc, goes_on, "")?;
         let stack = Stack {
             waiting,
             frames: VecDeque::new(alloc),
@@ -132,8 +137,7 @@ impl<'a, F: Files> Survey<'a, F> {
         ensures out_of_memory { IfErr result (λ e. problem_of e ≡ memory) }
     {
         let entry = explained(self.files, &mut self.matcher, path, file_type)?;
-        let goes_on = entry.explanation.answer.should_descend();
-        self.stack.waiting = next_dir(self.alloc, goes_on, entry.path.as_str())?;
+        self.stack.waiting = next_after(self.alloc, &entry)?;
         Ok(entry)
     }
 

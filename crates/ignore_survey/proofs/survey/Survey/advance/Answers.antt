@@ -17,15 +17,16 @@ returns-in-Ok-None-clause-given g c = λ s items r. rw c.in-Ok-None.field-0-is a
 pub returns-then-self-eq0-clause-given : goal.returns-then-self-eq0-clause-given
 returns-then-self-eq0-clause-given g c = λ s items r.
     let h = rw c.in-Ok-Some.field-0-is at (c.in-Ok-Some.ensures.given s items r.suits r.stands) in
-    subst (λ (o : Option Item). Nexts g.F.Files s c.args.self.now o c.end.new.self items) (sym c.end.ensures.item)
-    (inr (inr (ap Err c.step_limit.ensures, c.if-self-eq0.true, λ none. let e = sym h.are ∙ none in cc (e)), c.end.ensures.ended))
+    let empty : c.args.self.now.left ≡ 0 = omega (c.step.ensures.left, c.if-self-eq0.true, arith) in
+    subst (λ (o : Option Item). Nexts g.F.Files s c.args.self.now o c.end-then-self-eq0.new.self items) (sym c.end-then-self-eq0.ensures.item)
+    (inr (inr (ap Err c.step_limit.ensures, empty, λ none. let e = sym h.are ∙ none in cc (e)), c.end-then-self-eq0.ensures.ended))
 
-pub returns-clause-given : goal.returns-clause-given
-returns-clause-given g c = λ s items r.
+pub returns-else-self-eq0-clause-given : goal.returns-else-self-eq0-clause-given
+returns-else-self-eq0-clause-given g c = λ s items r.
     let h = rw c.in-Ok-Some.field-0-is at (c.in-Ok-Some.ensures.given s items r.suits r.stands) in
     inl (record {
       others = h.others;
       are = h.are;
       rest = record { suits = c.step.ensures.suits s r.suits; goes_on = c.step.ensures.ended ∙ r.goes_on; stands = h.rest };
-      left = omega (c.if-self-eq0.false, arith);
+      left = omega (c.step.ensures.left, c.if-self-eq0.false, arith);
     })

@@ -4,6 +4,6 @@ use Rattle.ignore_survey.proofs.survey.Survey.item.Goals as goal
 pub returns-in-Err-clause-hands : goal.returns-in-Err-clause-hands
 returns-in-Err-clause-hands g c = λ s items suits finds. finds_as s c.args.self.now.stack c.args.found _ items c.in-Err.is finds
 
-pub returns-clause-hands : goal.returns-clause-hands
-returns-clause-hands g c = λ s items suits finds.
-    c.in_ok-visit.ensures.hands s items suits (finds_as s c.args.self.now.stack c.args.found _ items c.in-Ok.is finds)
+pub returns-in_ok-visit-in-Ok-clause-hands : goal.returns-in_ok-visit-in-Ok-clause-hands
+returns-in_ok-visit-in-Ok-clause-hands g c = λ s items suits finds.
+    c.in_ok-visit-in-Ok.ensures.hands s items suits (finds_as s c.args.self.now.stack c.args.found _ items c.in-Ok.is finds)
