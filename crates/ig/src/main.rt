@@ -1,9 +1,9 @@
-//! The program `ig`: lists what the ignore rules of a tree keep.
+//! The program `ig`: what the ignore rules of a tree keep, what they ignore, and why.
 #![tactic(auto)]
 
 use ig_commands::{Stop, World, report_stop, run};
 use ignore_files::{DiskFiles, Env};
-use std::io::{BufWriter, Write};
+use std::io::{BufReader, BufWriter, Write};
 use std::process::ExitCode;
 use std::rt::Env as _;
 use std::time::Instant;
@@ -35,6 +35,9 @@ fn run_buffered(rt: &HostRuntime, words: &[String], env: &Env) -> Result<u8, Sto
     let Ok(mut out) = BufWriter::with_capacity(rt.alloc(), CAPACITY, rt.stdout()) else {
         return report_stop(&mut err, Stop::Memory);
     };
+    let Ok(input) = BufReader::with_capacity(rt.alloc(), CAPACITY, rt.stdin()) else {
+        return report_stop(&mut err, Stop::Memory);
+    };
     let files = DiskFiles::new(rt);
     let world = World {
         alloc: rt.alloc(),
@@ -42,7 +45,7 @@ fn run_buffered(rt: &HostRuntime, words: &[String], env: &Env) -> Result<u8, Sto
         env,
     };
     let begun = Instant::now(rt);
-    let ran = run(&world, words, &mut out, &mut err)?;
+    let ran = run(&world, words, input, &mut out, &mut err)?;
     if ran.is_timed {
         report_time(rt, begun)?;
     }

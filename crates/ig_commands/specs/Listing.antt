@@ -1,8 +1,7 @@
 -- What a list writes: the items of the walk that its options ask for.
-use Rattle.std.specs.Prelude.{◌≡◌, ◌≢◌, ◌⊎◌, ℕ, ◌+◌, ◌==◌, Bool, true, ◌∷◌, ◌++◌, [], List, All, Option, Err, codes, map, string_bytes}
-use Rattle.std.specs.Prelude.{if◌then◌else◌, unwrap_or}
+use Rattle.std.specs.Prelude.{◌≡◌, ◌≢◌, ◌⊎◌, ℕ, ◌+◌, true, ◌++◌, [], List, All, Option, Err, map, string_bytes}
+use Rattle.std.specs.Prelude.{unwrap_or}
 use Rattle.std.specs.Cmp.Lexicographic.{slice_cmp}
-use Rattle.std.specs.Fmt.{decimal}
 use Rattle.std.specs.List.{AllZip, flat_map}
 use Rattle.std.specs.Ordering.{nat_cmp}
 use Rattle.ignore_base.specs.Text.{Bytes, Path}
@@ -30,7 +29,7 @@ use Rattle.ig_options.specs.Files.{AddsFiles}
 use Rattle.ig_options.specs.Globs.{AreGlobs, RefusesOneOf}
 use Rattle.ig_options.specs.Settings.{walk_options}
 use Rattle.ig_options.specs.declared.options.Options.{Options}
-use Rattle.ig_commands.specs.Counts.{capped, counted}
+use Rattle.ig_commands.specs.Counts.{capped, counted, stats_line, status_of}
 use Rattle.ig_commands.specs.Reports.{is_known, is_reported, report_line, report_of, reports_after}
 use Rattle.ig_commands.specs.Stops.{EndsAfter}
 use Rattle.ig_commands.specs.declared.stop.Stop.{Stop}
@@ -119,17 +118,6 @@ all_reports problems items = flat_map report_of problems ++ reports_after [] ite
 -- the number of all that is reported
 abbrev pub all_reported : List (Option Problem) → List Item → ℕ
 all_reported problems items = capped (reported_in items + counted 0 (map is_known problems))
-
--- the line of the counts, where it is asked for
-abbrev pub stats_line : Bool → ℕ → ℕ → Bytes
-stats_line asked reported found =
-    if asked then codes "ig: " ++ (decimal found ++ (codes " found, " ++ (decimal reported ++ (codes " reported" ++ 10 ∷ []))))
-    else []
-
--- the status: 2 where something was reported, else 0 where something was found, and 1 where nothing
--- was
-abbrev pub status_of : ℕ → ℕ → ℕ
-status_of reported found = if reported == 0 then (if found == 0 then 1 else 0) else 2
 
 -- the same with the problems of the files that are named before the others, the counts after them,
 -- where they are asked for, and the status

@@ -15,17 +15,17 @@ ghost use Rattle.ignore_walk.specs.Nexts.{Remaining};
 ghost use Rattle.ignore_walk.specs.Whole.{Whole};
 ghost use Rattle.ignore_walk.specs.declared.entry.DirEntry.{DirEntry};
 ghost use Rattle.ig_options.specs.Settings.{most_steps};
-ghost use Rattle.ig_commands.specs.Listing.{AreBegun, AreFirst, AreListed, EndsAsked, GoesBy, Lists, ListsAsked, Writes, all_reports, listing, stats_line, status_of};
+ghost use Rattle.ig_commands.specs.Listing.{AreBegun, AreFirst, AreListed, EndsAsked, GoesBy, Lists, ListsAsked, Writes, all_reports, listing};
 ghost use Rattle.ig_commands.specs.Reports.{Notes, is_known, is_reported, last_in, report_of, reports_after, reports_of};
-ghost use Rattle.ig_commands.specs.Counts.{counted, one_more};
 ghost use Rattle.ig_commands.specs.Stops.{EndsAfter};
-ghost use Rattle.ig_commands.specs.Writing.{is_chosen, is_found, is_listed, lines_of};
+ghost use Rattle.ig_commands.specs.Writing.{is_found, is_listed, lines_of};
 
 use crate::asking::{Asked, asked};
-use crate::reports::{Folders, report_fault};
+use crate::counts::{Counts, Seen, report_counts, status_of};
+use crate::reports::{Folders, report_all, report_fault, report_some};
 use crate::stop::Stop;
 use crate::world::World;
-use crate::writing::{refuse, report, write_path};
+use crate::writing::{is_listed, refuse, write_path};
 use commands::internal::{ByName, trimmed_roots};
 use ig_options::Options;
 use ignore::{WalkBuilder, WalkOptions};
@@ -39,35 +39,6 @@ use std::io::Write;
 
 /// How many steps a walk may take.
 const MOST_STEPS: u64 = 1_000_000_000;
-
-/// What became of an item: whether something was reported, and whether it is an entry that is
-/// listed.
-#[derive(Clone, Copy)]
-struct Seen {
-    reported: bool,
-    found: bool,
-}
-
-/// How many times something was reported, and how many entries were found that are listed. Each
-/// number stops at the greatest one.
-#[derive(Clone, Copy)]
-struct Counts {
-    reported: u64,
-    found: u64,
-}
-
-impl Counts {
-    /// The counts with an item more.
-    fn with(self, seen: Seen) -> Counts
-        ensures reported { result.reported ≡ one_more self.entry.reported seen.reported }
-        ensures found { result.found ≡ one_more self.entry.found seen.found }
-    {
-        Counts {
-            reported: self.reported.saturating_add(u64::from(seen.reported)),
-            found: self.found.saturating_add(u64::from(seen.found)),
-        }
-    }
-}
 
 /// Writes the paths of the entries of the walk that the options ask for. `first` has the file types
 /// that exist without `--type-add`. What is wrong with an entry, or stands in its place, is reported
@@ -96,19 +67,6 @@ pub fn list<F: Files, W: Write, E: Write>(
     }
 }
 
-/// The status.
-fn status_of(counts: Counts) -> u8
-    ensures { result ≡ status_of counts.reported counts.found }
-{
-    if counts.reported > 0 {
-        2
-    } else if counts.found > 0 {
-        0
-    } else {
-        1
-    }
-}
-
 /// Reports what is wrong with the files that are named, lists, and reports the counts.
 fn report_and_walk<F: Files, W: Write, E: Write>(
     world: &World<'_, F>,
@@ -132,50 +90,6 @@ fn report_and_walk<F: Files, W: Write, E: Write>(
     };
     report_counts(options, counts, err)?;
     Ok(status_of(counts))
-}
-
-/// Reports the counts, where that is asked for.
-fn report_counts<E: Write>(options: &Options, counts: Counts, err: &mut E) -> Result<(), Stop>
-    ensures reports { OnOk result (Appends (E.contents err.old) (E.contents err.new)
-        (stats_line options.now.stats counts.reported counts.found)) }
-    ensures ended { IfErr result (λ stop. stop ≡ Stop.Silence) }
-{
-    if !options.stats {
-        return Ok(());
-    }
-    let (found, reported) = (counts.found, counts.reported);
-    match writeln!(err, "ig: {found} found, {reported} reported") {
-        Ok(()) => Ok(()),
-        Err(_) => Err(Stop::Silence),
-    }
-}
-
-/// Reports each error, and returns how many there are.
-fn report_all<E: Write>(errors: &[Option<Error>], err: &mut E) -> Result<u64, Stop>
-    ensures reports { IfOk result (λ count. (count ≡ counted 0 (map is_known (map (option_map problem_of) errors.now)))
-        × Appends (E.contents err.old) (E.contents err.new) (flat_map report_of (map (option_map problem_of) errors.now))) }
-    ensures ended { IfErr result (λ stop. stop ≡ Stop.Silence) }
-{
-    let mut count = 0u64;
-    for error in errors {
-        count = count.saturating_add(u64::from(report_some(error.as_ref(), err)?));
-    }
-    Ok(count)
-}
-
-/// Reports an error, if there is one. It returns whether there is.
-fn report_some<E: Write>(error: Option<&Error>, err: &mut E) -> Result<bool, Stop>
-    ensures reports { IfOk result (λ any. (any ≡ is_known (option_map (λ e. problem_of e.now) error))
-        × Appends (E.contents err.old) (E.contents err.new) (report_of (option_map (λ e. problem_of e.now) error))) }
-    ensures ended { IfErr result (λ stop. stop ≡ Stop.Silence) }
-{
-    match error {
-        None => Ok(false),
-        Some(error) => {
-            report(error, err)?;
-            Ok(true)
-        }
-    }
 }
 
 /// Walks and writes.
@@ -249,10 +163,7 @@ fn write_items<I: Iterator<Item = Item>, W: Write, E: Write>(
         × EndsAfter (flat_map (lines_of options.now) (map item_of all)) (reports_after [] (map item_of all)) (Appends (W.contents out.old) (W.contents out.new)) (Appends (E.contents err.old) (E.contents err.new)) stop) }
 {
     let mut folders = BTreeMap::new(alloc);
-    let mut counts = Counts {
-        reported: 0,
-        found: 0,
-    };
+    let mut counts = Counts::begun(0);
     for item in items {
         let one = write_item(item, options, &mut folders, out, err)?;
         counts = counts.with(one);
@@ -331,25 +242,4 @@ fn write_entry<W: Write, E: Write>(
     }
     let reported = report_some(entry.error(), err)?;
     Ok(Seen { reported, found })
-}
-
-/// Whether entries of this kind are listed.
-fn is_listed(options: &Options, kind: Option<FileType>) -> bool
-    ensures { result ≡ is_listed options.now kind }
-{
-    let all = !(options.files || options.dirs || options.links);
-    all || is_chosen(options, kind)
-}
-
-/// Whether this kind is chosen.
-fn is_chosen(options: &Options, kind: Option<FileType>) -> bool
-    ensures { result ≡ is_chosen options.now kind }
-{
-    match kind {
-        None => false,
-        Some(FileType::File) => options.files,
-        Some(FileType::Dir) => options.dirs,
-        Some(FileType::Symlink) => options.links,
-        Some(FileType::Other) => false,
-    }
 }

@@ -1,8 +1,10 @@
 //! Reports of what is wrong in a walk: a problem that has no path is reported with its folder.
-ghost use Rattle.std.specs.Prelude.{◌≡◌, OnOk, IfErr, option_map};
+ghost use Rattle.std.specs.Prelude.{◌≡◌, OnOk, IfOk, IfErr, map, option_map};
 ghost use Rattle.std.specs.Io.KnownBytes.{Appends};
+ghost use Rattle.std.specs.List.{flat_map};
 ghost use Rattle.ignore_base.specs.Problem.{problem_of};
-ghost use Rattle.ig_commands.specs.Reports.{bare_depth, fault_line, folder_above, last_in, path_of};
+ghost use Rattle.ig_commands.specs.Counts.{counted};
+ghost use Rattle.ig_commands.specs.Reports.{bare_depth, fault_line, folder_above, is_known, last_in, path_of, report_of};
 
 use crate::stop::Stop;
 use crate::writing::report;
@@ -58,5 +60,33 @@ pub(crate) fn report_fault<E: Write>(
     match written {
         Ok(()) => Ok(()),
         Err(_) => Err(Stop::Silence),
+    }
+}
+
+/// Reports each error, and returns how many there are.
+pub(crate) fn report_all<E: Write>(errors: &[Option<Error>], err: &mut E) -> Result<u64, Stop>
+    ensures reports { IfOk result (λ count. (count ≡ counted 0 (map is_known (map (option_map problem_of) errors.now)))
+        × Appends (E.contents err.old) (E.contents err.new) (flat_map report_of (map (option_map problem_of) errors.now))) }
+    ensures ended { IfErr result (λ stop. stop ≡ Stop.Silence) }
+{
+    let mut count = 0u64;
+    for error in errors {
+        count = count.saturating_add(u64::from(report_some(error.as_ref(), err)?));
+    }
+    Ok(count)
+}
+
+/// Reports an error, if there is one. It returns whether there is.
+pub(crate) fn report_some<E: Write>(error: Option<&Error>, err: &mut E) -> Result<bool, Stop>
+    ensures reports { IfOk result (λ any. (any ≡ is_known (option_map (λ e. problem_of e.now) error))
+        × Appends (E.contents err.old) (E.contents err.new) (report_of (option_map (λ e. problem_of e.now) error))) }
+    ensures ended { IfErr result (λ stop. stop ≡ Stop.Silence) }
+{
+    match error {
+        None => Ok(false),
+        Some(error) => {
+            report(error, err)?;
+            Ok(true)
+        }
     }
 }

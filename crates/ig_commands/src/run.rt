@@ -4,9 +4,13 @@ ghost use Rattle.std.specs.Prelude.{◌≡◌, ◌≢◌, ◌⊎◌, Ok, Err, []
 ghost use Rattle.std.specs.Io.KnownBytes.{Appends};
 ghost use Rattle.ig_commands.specs.Stops.{reason, stop_status};
 
+use crate::ignored::list_ignored;
+use crate::input::read_paths;
 use crate::listing::list;
 use crate::stop::{Stop, report_stop};
 use crate::types::list_types;
+use crate::unused::list_unused;
+use crate::why::why;
 use crate::world::World;
 use crate::writing::write_stop;
 use clap::error::ErrorKind;
@@ -15,7 +19,7 @@ use ignore_base::Error;
 use ignore_files::Files;
 use ignore_types::types::TypesBuilder;
 use std::alloc::Global;
-use std::io::Write;
+use std::io::{BufRead, Write};
 
 /// How a run ended: its status, and whether its time is asked for.
 #[derive(Clone, Copy)]
@@ -26,20 +30,25 @@ pub struct Ran {
     pub is_timed: bool,
 }
 
-/// Runs the command in the words after the program's name: lists what the rules keep, or the file
-/// types. It returns the status.
+/// Runs the command in the words after the program's name: lists what the rules keep, what they
+/// ignore, why, rules that decide on nothing, or the file types. `input` is read where the paths of
+/// `why` are to come from there. It returns the status.
 ///
 /// # Errors
 /// Why the run ended, where that can't be written to `err`.
-pub fn run<F: Files, W: Write, E: Write>(
+pub fn run<F: Files, R: BufRead + Drop, W: Write, E: Write>(
     world: &World<'_, F>,
     words: &[String],
+    input: R,
     out: &mut W,
     err: &mut E,
 ) -> Result<Ran, Stop> {
     match read_words(world.alloc, words) {
-        Ok((task, options)) => {
-            let ended = run_task(world, task, &options, out, err);
+        Ok((task, mut options)) => {
+            let ended = match read_paths(world.alloc, input, &mut options) {
+                Ok(()) => run_task(world, task, &options, out, err),
+                Err(stop) => Err(stop),
+            };
             Ok(Ran {
                 status: finish(ended, out, err)?,
                 is_timed: options.stats,
@@ -103,6 +112,9 @@ fn run_task<F: Files, W: Write, E: Write>(
     };
     match task {
         Task::List => list(world, options, first, out, err),
+        Task::Ignored => list_ignored(world, options, first, out, err),
+        Task::Why => why(world, options, first, out, err),
+        Task::Unused => list_unused(world, options, first, out, err),
         Task::Types => list_types(first, options, out, err),
     }
 }

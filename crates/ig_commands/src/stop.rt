@@ -10,6 +10,8 @@ use std::io::Write;
 pub enum Stop {
     /// Out of memory.
     Memory,
+    /// Standard input can't be read.
+    Read,
     /// The output can't be written.
     Write,
     /// Nobody reads the output any more: the pipe that it goes to is closed.
@@ -30,6 +32,7 @@ pub fn report_stop<E: Write>(err: &mut E, stop: Stop) -> Result<u8, Stop>
 {
     let reported = match stop {
         Stop::Memory => writeln!(err, "ig: out of memory"),
+        Stop::Read => writeln!(err, "ig: cannot read standard input"),
         Stop::Write => writeln!(err, "ig: cannot write"),
         Stop::Closed => return Ok(0),
         Stop::Silence => return Err(stop),

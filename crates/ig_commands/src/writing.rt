@@ -3,12 +3,13 @@ ghost use Rattle.std.specs.Prelude.{◌≡◌, ◌⊎◌, OnOk, IfOk, IfErr, Non
 ghost use Rattle.std.specs.Io.KnownBytes.{Appends};
 ghost use Rattle.ignore_base.specs.Problem.{problem_of};
 ghost use Rattle.ig_commands.specs.Reports.{report_line};
-ghost use Rattle.ig_commands.specs.Writing.{record_of, shown};
+ghost use Rattle.ig_commands.specs.Writing.{is_chosen, is_listed, record_of, shown};
 
 use crate::stop::Stop;
 use ig_options::Options;
 use ignore_base::Error;
 use ignore_base::text::trim_root;
+use ignore_files::FileType;
 use std::io;
 use std::io::Write;
 
@@ -71,4 +72,25 @@ pub(crate) fn refuse<E: Write>(error: &Error, err: &mut E) -> Result<u8, Stop>
 {
     report(error, err)?;
     Ok(2)
+}
+
+/// Whether entries of this kind are listed.
+pub(crate) fn is_listed(options: &Options, kind: Option<FileType>) -> bool
+    ensures { result ≡ is_listed options.now kind }
+{
+    let all = !(options.files || options.dirs || options.links);
+    all || is_chosen(options, kind)
+}
+
+/// Whether this kind is chosen.
+fn is_chosen(options: &Options, kind: Option<FileType>) -> bool
+    ensures { result ≡ is_chosen options.now kind }
+{
+    match kind {
+        None => false,
+        Some(FileType::File) => options.files,
+        Some(FileType::Dir) => options.dirs,
+        Some(FileType::Symlink) => options.links,
+        Some(FileType::Other) => false,
+    }
 }

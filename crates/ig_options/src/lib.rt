@@ -4,8 +4,10 @@
 
 mod choices;
 mod files;
+mod given;
 mod globs;
 mod options;
+pub mod quotes;
 mod settings;
 mod sizes;
 pub mod table;
@@ -13,6 +15,7 @@ mod words;
 
 pub use choices::{defined_types, types_of};
 pub use files::add_files;
+pub use given::{Given, given_by};
 pub use globs::globs_of;
 pub use options::Options;
 pub use settings::walk_options;

@@ -1,5 +1,6 @@
 //! What the words of the program ask for.
 
+use crate::given::Given;
 use ignore_dir::Names;
 use ignore_walk::Order;
 use std::alloc::Global;
@@ -12,7 +13,7 @@ pub struct Options {
     /// Whether no root is given: paths are then written without the `./` of the root `.`.
     pub is_bare: bool,
     /// The paths that `why` is asked about, as they are given.
-    pub paths: Names,
+    pub paths: Vec<Given>,
     /// `--stdin` of `why`: the paths are those of standard input.
     pub stdin: bool,
     /// `-v` of `ignored`: each entry is written after its reason.
@@ -83,7 +84,7 @@ impl Options {
         Options {
             roots: Vec::new(alloc),
             is_bare: false,
-            paths: Names::new(Vec::new(alloc)),
+            paths: Vec::new(alloc),
             stdin: false,
             reasons: false,
             files: false,

@@ -1,5 +1,6 @@
 //! Reading the words after the program's name. What the parser does isn't stated.
 
+use crate::given::given_words;
 use crate::options::Options;
 use crate::sizes::size_of;
 use crate::table::{ASKED, IGNORED, LIST, Row, TYPES, Takes, UNUSED};
@@ -80,7 +81,7 @@ pub fn read_words(alloc: Global, words: &[String]) -> Result<(Task, Options), Er
         }
     }
     if task == Task::Why {
-        options.paths = texts(alloc, &matches, ROOTS)?;
+        options.paths = given_words(alloc, matches.get_strs(ROOTS).unwrap_or(&[]))?;
         if let Some(text) = wrong_paths(&options) {
             return Err(command.error(ErrorKind::ArgumentConflict, text)?);
         }
@@ -90,7 +91,7 @@ pub fn read_words(alloc: Global, words: &[String]) -> Result<(Task, Options), Er
 
 /// What is wrong with the paths of `why`: they are either words or those of standard input.
 fn wrong_paths(options: &Options) -> Option<&'static str> {
-    let has_words = !options.paths.as_slice().is_empty();
+    let has_words = !options.paths.is_empty();
     match (options.stdin, has_words) {
         (true, true) => Some("the argument '--stdin' cannot be used with '[PATH]...'"),
         (false, false) => Some("a path is missing, or '--stdin'"),
