@@ -4,3 +4,8 @@ pub mod Writing
 pub mod Reports
 pub mod Types
 pub mod Listing
+pub mod Form
+pub mod Root
+pub mod Why
+pub mod Ignored
+pub mod Unused

@@ -69,7 +69,11 @@ pub(crate) fn status_of(counts: Counts) -> u8
 }
 
 /// Reports the counts, where that is asked for.
-pub(crate) fn report_counts<E: Write>(options: &Options, counts: Counts, err: &mut E) -> Result<(), Stop>
+pub(crate) fn report_counts<E: Write>(
+    options: &Options,
+    counts: Counts,
+    err: &mut E,
+) -> Result<(), Stop>
     ensures reports { OnOk result (Appends (E.contents err.old) (E.contents err.new)
         (stats_line options.now.stats counts.reported counts.found)) }
     ensures ended { IfErr result (λ stop. stop ≡ Stop.Silence) }
@@ -83,4 +87,3 @@ pub(crate) fn report_counts<E: Write>(options: &Options, counts: Counts, err: &m
         Err(_) => Err(Stop::Silence),
     }
 }
-

@@ -1,17 +1,26 @@
 //! How reasons and rules are written: as `git check-ignore -v -n` writes them.
+ghost use Rattle.std.specs.Prelude.{◌≡◌, ◌⊎◌, OnOk, IfErr, option_map, unwrap_or, string_bytes, []};
+ghost use Rattle.std.specs.Io.KnownBytes.{Appends};
+ghost use Rattle.std.specs.Option.{option_copied};
+ghost use Rattle.ignore_base.specs.Match.{match_map};
+ghost use Rattle.ignore_why.specs.Cited.{cited_of, named_of};
+ghost use Rattle.ignore_why.specs.QueryWhy.{query_why_of};
+ghost use Rattle.ig_options.specs.Quotes.{quoted_byte};
+ghost use Rattle.ig_commands.specs.Form.{between, field, is_decided, number_text, reasoned, relative, rule_fields, rule_in, rule_of, word_fields};
 
 use crate::stop::Stop;
 use crate::writing::{write_bytes, write_stop};
 use ig_options::quotes::{is_quoted, letter_of};
 use ignore_base::Match;
+use ignore_base::text::strip;
 use ignore_why::{Cause, Explanation, NamedRule, Reason};
 use std::io::Write;
 
 /// How fields are written.
 #[derive(Clone, Copy)]
 pub(crate) struct Form<'a> {
-    /// The directory that sources are relative to; empty where they are written as they are.
-    pub(crate) base: &'a str,
+    /// The directory that sources are relative to; without one they are written as they are.
+    pub(crate) base: Option<&'a str>,
     /// Whether each field ends in NUL, and nothing is quoted.
     pub(crate) null: bool,
 }
@@ -28,7 +37,9 @@ pub(crate) struct Origin<'a> {
 }
 
 /// The rule that decides, if one does.
-pub(crate) fn rule_of(reason: &Reason) -> Option<&NamedRule> {
+pub(crate) fn rule_of(reason: &Reason) -> Option<&NamedRule> 
+    ensures { option_map (λ r. named_of r.now) result ≡ rule_of (query_why_of reason.now) }
+{
     match reason {
         Reason::Decided(said) => rule_in(said),
         Reason::Inside { cause, .. } => rule_in(cause),
@@ -37,7 +48,9 @@ pub(crate) fn rule_of(reason: &Reason) -> Option<&NamedRule> {
 }
 
 /// The rule that is a cause, if one is.
-fn rule_in(said: &Match<Cause>) -> Option<&NamedRule> {
+fn rule_in(said: &Match<Cause>) -> Option<&NamedRule> 
+    ensures { option_map (λ r. named_of r.now) result ≡ rule_in (match_map cited_of said.now) }
+{
     match said {
         Match::Ignore(Cause::Rule(rule)) => Some(rule),
         Match::Whitelist(Cause::Rule(rule)) => Some(rule),
@@ -46,20 +59,27 @@ fn rule_in(said: &Match<Cause>) -> Option<&NamedRule> {
 }
 
 /// Whether anything decides.
-fn is_decided(reason: &Reason) -> bool {
+fn is_decided(reason: &Reason) -> bool 
+    ensures { result ≡ is_decided (query_why_of reason.now) }
+{
     match reason {
         Reason::Unasked => false,
         Reason::Unruled => false,
         Reason::Decided(Match::None) => false,
         Reason::Inside {
-            cause: Match::None, ..
+            cause: Match::None,
+            ..
         } => false,
         _ => true,
     }
 }
 
 /// Where a named rule was read.
-pub(crate) fn origin_of(rule: &NamedRule) -> Origin<'_> {
+pub(crate) fn origin_of(rule: &NamedRule) -> Origin<'_> 
+    ensures source { result.source.now ≡ unwrap_or (named_of rule.now).from [] }
+    ensures line { result.line ≡ (named_of rule.now).line }
+    ensures pattern { result.pattern.now ≡ (named_of rule.now).original }
+{
     Origin {
         source: match &rule.source {
             Some(source) => source.as_str(),
@@ -76,7 +96,10 @@ pub(crate) fn write_reasoned<W: Write>(
     explanation: &Explanation,
     path: &str,
     out: &mut W,
-) -> Result<(), Stop> {
+) -> Result<(), Stop> 
+    ensures writes { OnOk result (Appends (W.contents out.old) (W.contents out.new) (reasoned (option_copied form.base) form.null (query_why_of explanation.now.reason) path.now)) }
+    ensures ended { IfErr result (λ stop. (stop ≡ Stop.Write) ⊎ (stop ≡ Stop.Closed)) }
+{
     match rule_of(&explanation.reason) {
         Some(rule) => write_rule(form, &origin_of(rule), out)?,
         None => write_word(form, &explanation.reason, out)?,
@@ -91,8 +114,11 @@ pub(crate) fn write_rule<W: Write>(
     form: Form<'_>,
     origin: &Origin<'_>,
     out: &mut W,
-) -> Result<(), Stop> {
-    write_text(form, below(form.base, origin.source), out)?;
+) -> Result<(), Stop> 
+    ensures writes { OnOk result (Appends (W.contents out.old) (W.contents out.new) (rule_fields (option_copied form.base) form.null origin.now.source.now origin.now.line origin.now.pattern.now)) }
+    ensures ended { IfErr result (λ stop. (stop ≡ Stop.Write) ⊎ (stop ≡ Stop.Closed)) }
+{
+    write_text(form, relative(form.base, origin.source), out)?;
     write_between(form, out)?;
     write_number(origin.line, out)?;
     write_between(form, out)?;
@@ -101,7 +127,10 @@ pub(crate) fn write_rule<W: Write>(
 
 /// Writes three fields, of which the last is the word for a reason that is no rule; it is empty
 /// where nothing decides.
-fn write_word<W: Write>(form: Form<'_>, reason: &Reason, out: &mut W) -> Result<(), Stop> {
+fn write_word<W: Write>(form: Form<'_>, reason: &Reason, out: &mut W) -> Result<(), Stop> 
+    ensures writes { OnOk result (Appends (W.contents out.old) (W.contents out.new) (word_fields form.null (query_why_of reason.now))) }
+    ensures ended { IfErr result (λ stop. (stop ≡ Stop.Write) ⊎ (stop ≡ Stop.Closed)) }
+{
     write_between(form, out)?;
     write_between(form, out)?;
     if !is_decided(reason) {
@@ -114,12 +143,18 @@ fn write_word<W: Write>(form: Form<'_>, reason: &Reason, out: &mut W) -> Result<
 }
 
 /// Writes what separates the three fields of a rule.
-fn write_between<W: Write>(form: Form<'_>, out: &mut W) -> Result<(), Stop> {
+fn write_between<W: Write>(form: Form<'_>, out: &mut W) -> Result<(), Stop> 
+    ensures writes { OnOk result (Appends (W.contents out.old) (W.contents out.new) (between form.null)) }
+    ensures ended { IfErr result (λ stop. (stop ≡ Stop.Write) ⊎ (stop ≡ Stop.Closed)) }
+{
     write_bytes(if form.null { b"\0" } else { b":" }, out)
 }
 
 /// Writes the number of a line, if there is one.
-fn write_number<W: Write>(line: Option<u64>, out: &mut W) -> Result<(), Stop> {
+fn write_number<W: Write>(line: Option<u64>, out: &mut W) -> Result<(), Stop> 
+    ensures writes { OnOk result (Appends (W.contents out.old) (W.contents out.new) (number_text line)) }
+    ensures ended { IfErr result (λ stop. (stop ≡ Stop.Write) ⊎ (stop ≡ Stop.Closed)) }
+{
     let Some(line) = line else {
         return Ok(());
     };
@@ -129,20 +164,21 @@ fn write_number<W: Write>(line: Option<u64>, out: &mut W) -> Result<(), Stop> {
     }
 }
 
-/// A path relative to a directory, where it is below that.
-fn below<'a>(base: &str, path: &'a str) -> &'a str {
-    if base.is_empty() {
-        return path;
-    }
-    match path.strip_prefix(base) {
-        Some(rest) if base.ends_with('/') => rest,
-        Some(rest) => rest.strip_prefix('/').unwrap_or(path),
-        None => path,
+/// A source relative to a directory, where one is given.
+fn relative<'a>(base: Option<&str>, source: &'a str) -> &'a str
+    ensures { result.now ≡ relative (option_copied base) source.now }
+{
+    match base {
+        Some(base) => strip(base, source),
+        None => source,
     }
 }
 
 /// Writes a path: as it is where fields end in NUL, else quoted as git quotes it, where it must be.
-pub(crate) fn write_text<W: Write>(form: Form<'_>, text: &str, out: &mut W) -> Result<(), Stop> {
+pub(crate) fn write_text<W: Write>(form: Form<'_>, text: &str, out: &mut W) -> Result<(), Stop> 
+    ensures writes { OnOk result (Appends (W.contents out.old) (W.contents out.new) (field form.null text.now)) }
+    ensures ended { IfErr result (λ stop. (stop ≡ Stop.Write) ⊎ (stop ≡ Stop.Closed)) }
+{
     let bytes = text.as_bytes();
     if form.null || !bytes.iter().any(|byte| is_quoted(*byte)) {
         return write_bytes(bytes, out);
@@ -155,7 +191,10 @@ pub(crate) fn write_text<W: Write>(form: Form<'_>, text: &str, out: &mut W) -> R
 }
 
 /// Writes a byte between quotes.
-fn write_byte<W: Write>(byte: u8, out: &mut W) -> Result<(), Stop> {
+fn write_byte<W: Write>(byte: u8, out: &mut W) -> Result<(), Stop> 
+    ensures writes { OnOk result (Appends (W.contents out.old) (W.contents out.new) (quoted_byte byte)) }
+    ensures ended { IfErr result (λ stop. (stop ≡ Stop.Write) ⊎ (stop ≡ Stop.Closed)) }
+{
     if !is_quoted(byte) {
         return write_bytes(&[byte], out);
     }

@@ -1,4 +1,7 @@
 //! The command `ignored`: the topmost entries that are ignored.
+ghost use Rattle.std.specs.Prelude.{IfOk};
+ghost use Rattle.std.specs.Io.KnownBytes.{Appends};
+ghost use Rattle.ig_commands.specs.Ignored.{IgnoredAsked};
 ghost use Rattle.std.specs.Iterator.{IsFinite};
 
 use crate::asking::{Asked, asked};
@@ -32,7 +35,10 @@ pub fn list_ignored<F: Files, W: Write, E: Write>(
     first: TypesBuilder,
     out: &mut W,
     err: &mut E,
-) -> Result<u8, Stop> {
+) -> Result<u8, Stop>
+    ensures lists { IfOk result (λ status. IgnoredAsked F.Files world.now.files.now world.now.env.now options.now first.entry status
+        (Appends (W.contents out.old) (W.contents out.new)) (Appends (E.contents err.old) (E.contents err.new))) }
+{
     match asked(world, options, first) {
         Ok(asked) => report_and_survey(world, options, asked, out, err),
         Err(Error::Memory) => Err(Stop::Memory),
@@ -166,7 +172,7 @@ fn write_ignored<W: Write>(entry: &Surveyed, place: &Place<'_>, out: &mut W) -> 
         return write_path(options, path.as_str(), out);
     }
     let form = Form {
-        base: if options.is_bare { "." } else { "" },
+        base: if options.is_bare { Some(".") } else { None },
         null: options.null,
     };
     let path = if options.is_bare {

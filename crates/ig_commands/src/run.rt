@@ -122,7 +122,7 @@ fn run_task<F: Files, W: Write, E: Write>(
 /// The file types that exist without `--type-add`.
 fn default_types(alloc: Global) -> Result<TypesBuilder, Error> {
     let mut builder = TypesBuilder::new(alloc);
-    builder.push_defaults()?;
+    builder.push_all_defaults()?;
     Ok(builder)
 }
 

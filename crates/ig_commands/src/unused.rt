@@ -1,4 +1,7 @@
 //! The command `unused`: the rules below a folder that decide on no entry there.
+ghost use Rattle.std.specs.Prelude.{IfOk};
+ghost use Rattle.std.specs.Io.KnownBytes.{Appends};
+ghost use Rattle.ig_commands.specs.Unused.{UnusedAsked};
 ghost use Rattle.std.specs.Iterator.{IsFinite};
 
 use crate::asking::{Asked, asked};
@@ -35,7 +38,10 @@ pub fn list_unused<F: Files, W: Write, E: Write>(
     first: TypesBuilder,
     out: &mut W,
     err: &mut E,
-) -> Result<u8, Stop> {
+) -> Result<u8, Stop>
+    ensures lists { IfOk result (λ status. UnusedAsked F.Files world.now.files.now world.now.env.now options.now first.entry status
+        (Appends (W.contents out.old) (W.contents out.new)) (Appends (E.contents err.old) (E.contents err.new))) }
+{
     match asked(world, options, first) {
         Ok(asked) => report_and_find(world, options, asked, out, err),
         Err(Error::Memory) => Err(Stop::Memory),
@@ -55,7 +61,7 @@ fn report_and_find<F: Files, W: Write, E: Write>(
     let mut rules = Rules::new(world.alloc);
     let more = read_all(world, options, asked.walk, &mut rules, err)?;
     let form = Form {
-        base: if options.is_bare { "." } else { "" },
+        base: if options.is_bare { Some(".") } else { None },
         null: options.null,
     };
     let counts = Counts {

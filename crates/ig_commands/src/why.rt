@@ -1,4 +1,7 @@
 //! The command `why`: why paths are ignored or not.
+ghost use Rattle.std.specs.Prelude.{IfOk, IfErr};
+ghost use Rattle.std.specs.Io.KnownBytes.{Appends};
+ghost use Rattle.ig_commands.specs.Why.{WhyAsked, WhyEnds};
 
 use crate::asking::{Asked, asked};
 use crate::counts::{Counts, Seen, status_of};
@@ -39,7 +42,12 @@ pub fn why<F: Files, W: Write, E: Write>(
     first: TypesBuilder,
     out: &mut W,
     err: &mut E,
-) -> Result<u8, Stop> {
+) -> Result<u8, Stop>
+    ensures answers { IfOk result (λ status. WhyAsked F.Files world.now.files.now world.now.env.now options.now first.entry status
+        (Appends (W.contents out.old) (W.contents out.new)) (Appends (E.contents err.old) (E.contents err.new))) }
+    ensures ended { IfErr result (WhyEnds F.Files world.now.files.now world.now.env.now options.now first.entry
+        (Appends (W.contents out.old) (W.contents out.new)) (Appends (E.contents err.old) (E.contents err.new))) }
+{
     match asked(world, options, first) {
         Ok(asked) => report_and_ask(world, options, asked, out, err),
         Err(Error::Memory) => Err(Stop::Memory),
@@ -149,7 +157,7 @@ fn write_answer<W: Write, E: Write>(
         Answer::Below(explanation, error) => {
             if !options.quiet {
                 let form = Form {
-                    base: root,
+                    base: Some(root),
                     null: options.null,
                 };
                 write_reasoned(form, explanation, path, out)?;

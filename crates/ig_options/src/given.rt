@@ -1,4 +1,6 @@
 //! The paths that `why` is asked about.
+ghost use Rattle.std.specs.Prelude.{◌≡◌, IfOk, map};
+ghost use Rattle.ig_options.specs.Given.{Gives, IsText, is_opened};
 
 use crate::quotes::unquoted;
 use ignore_files::Name;
@@ -21,7 +23,9 @@ pub enum Given {
 ///
 /// # Errors
 /// Out of memory.
-pub fn given_by(record: Vec<u8>, number: u64, has_nul: bool) -> Result<Given, AllocError> {
+pub fn given_by(record: Vec<u8>, number: u64, has_nul: bool) -> Result<Given, AllocError>
+    ensures given { IfOk result (Gives (is_opened has_nul record.items) record.items number) }
+{
     if has_nul || record.first() != Some(&b'"') {
         return Ok(text_of(record, number));
     }
@@ -33,7 +37,9 @@ pub fn given_by(record: Vec<u8>, number: u64, has_nul: bool) -> Result<Given, Al
 }
 
 /// The path of these bytes.
-fn text_of(bytes: Vec<u8>, number: u64) -> Given {
+fn text_of(bytes: Vec<u8>, number: u64) -> Given
+    ensures given { IsText bytes.items number result }
+{
     match String::from_utf8(bytes) {
         Ok(text) => Given::Path(Name::new(text)),
         Err(_) => Given::NotText(number),

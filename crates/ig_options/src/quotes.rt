@@ -1,10 +1,14 @@
 //! Quotes of paths, as git writes them: a byte as its letter or as three octal digits after a
 //! backslash.
+ghost use Rattle.std.specs.Prelude.{◌≡◌, ¬, IfOk, List, ℕ, MatchOption, true};
+ghost use Rattle.ig_options.specs.Quotes.{IsQuoteOf, is_quoted, letter_of};
 
 use std::alloc::{AllocError, Global};
 
 /// The letter after a backslash that stands for a byte, if there is one.
-pub fn letter_of(byte: u8) -> Option<u8> {
+pub fn letter_of(byte: u8) -> Option<u8>
+    ensures { result ≡ letter_of byte }
+{
     match byte {
         7 => Some(b'a'),
         8 => Some(b'b'),
@@ -21,7 +25,9 @@ pub fn letter_of(byte: u8) -> Option<u8> {
 
 /// Whether a byte is written after a backslash: control characters, quotes, backslashes, and all that
 /// isn't ASCII.
-pub fn is_quoted(byte: u8) -> bool {
+pub fn is_quoted(byte: u8) -> bool
+    ensures { result ≡ is_quoted byte }
+{
     byte < 32 || byte >= 127 || byte == b'"' || byte == b'\\'
 }
 
@@ -62,7 +68,9 @@ fn first_of(text: &[u8]) -> Option<(u8, &[u8])> {
 }
 
 /// The bytes of a text between quotes. None where it isn't one.
-pub(crate) fn unquoted(alloc: Global, text: &[u8]) -> Result<Option<Vec<u8>>, AllocError> {
+pub(crate) fn unquoted(alloc: Global, text: &[u8]) -> Result<Option<Vec<u8>>, AllocError>
+    ensures value { IfOk result (λ r. MatchOption r ((bytes : List ℕ) → ¬ IsQuoteOf text.now bytes) (λ bytes. IsQuoteOf text.now bytes.items)) }
+{
     let Some((b'"', mut rest)) = text.split_first() else {
         return Ok(None);
     };

@@ -169,26 +169,22 @@ pub const WALK: [Row; 3] = [
 ];
 
 /// How deep a list goes.
-pub const DEPTH: [Row; 1] = [
-    (
-        "max-depth",
-        Some('d'),
-        Takes::Depth,
-        WHAT,
-        "At most N names below a root",
-    ),
-];
+pub const DEPTH: [Row; 1] = [(
+    "max-depth",
+    Some('d'),
+    Takes::Depth,
+    WHAT,
+    "At most N names below a root",
+)];
 
 /// How large a file may be.
-pub const SIZE: [Row; 1] = [
-    (
-        "max-filesize",
-        None,
-        Takes::One("SIZE"),
-        WHAT,
-        "No file above SIZE bytes, or with K, M or G",
-    ),
-];
+pub const SIZE: [Row; 1] = [(
+    "max-filesize",
+    None,
+    Takes::One("SIZE"),
+    WHAT,
+    "No file above SIZE bytes, or with K, M or G",
+)];
 
 /// Globs and types of the command line.
 pub const GLOBS: [Row; 5] = [
@@ -231,7 +227,13 @@ pub const GLOBS: [Row; 5] = [
 
 /// How a list is written.
 pub const PRINTS: [Row; 2] = [
-    ("null",Some('0'),Takes::Nothing,PRINT,"End each path in NUL, not in a newline"),
+    (
+        "null",
+        Some('0'),
+        Takes::Nothing,
+        PRINT,
+        "End each path in NUL, not in a newline",
+    ),
     (
         "stats",
         None,
@@ -242,38 +244,62 @@ pub const PRINTS: [Row; 2] = [
 ];
 
 /// That nothing is written.
-pub const QUIET: [Row; 1] = [
-    (
-        "quiet",
-        Some('q'),
-        Takes::Nothing,
-        PRINT,
-        "Write nothing: the status says whether there is any",
-    ),
-];
+pub const QUIET: [Row; 1] = [(
+    "quiet",
+    Some('q'),
+    Takes::Nothing,
+    PRINT,
+    "Write nothing: the status says whether there is any",
+)];
 
 /// The order of a list.
-pub const ORDER: [Row; 1] = [
-    (
-        "sort",
-        None,
-        Takes::Word(&ORDERS),
-        PRINT,
-        "The order in a directory, name by default",
-    ),
-];
+pub const ORDER: [Row; 1] = [(
+    "sort",
+    None,
+    Takes::Word(&ORDERS),
+    PRINT,
+    "The order in a directory, name by default",
+)];
 
 /// The option of `ig ignored` alone.
-pub const REASONS: [Row; 1] = [
-    ("verbose",Some('v'),Takes::Nothing,PRINT,"Write the reason of each entry before it"),
-];
+pub const REASONS: [Row; 1] = [(
+    "verbose",
+    Some('v'),
+    Takes::Nothing,
+    PRINT,
+    "Write the reason of each entry before it",
+)];
 
 /// The options of `ig why` alone.
 pub const WHY: [Row; 4] = [
-    ("stdin",None,Takes::Nothing,PRINT,"Read the paths from standard input, a line each"),
-    ("zero",Some('z'),Takes::Nothing,PRINT,"Read and write with NUL in place of line ends and tabs"),
-    ("verbose",Some('v'),Takes::Nothing,PRINT,"Taken for git's sake: each reason is written anyway"),
-    ("non-matching",Some('n'),Takes::Nothing,PRINT,"Taken for git's sake: each path is written anyway"),
+    (
+        "stdin",
+        None,
+        Takes::Nothing,
+        PRINT,
+        "Read the paths from standard input, a line each",
+    ),
+    (
+        "zero",
+        Some('z'),
+        Takes::Nothing,
+        PRINT,
+        "Read and write with NUL in place of line ends and tabs",
+    ),
+    (
+        "verbose",
+        Some('v'),
+        Takes::Nothing,
+        PRINT,
+        "Taken for git's sake: each reason is written anyway",
+    ),
+    (
+        "non-matching",
+        Some('n'),
+        Takes::Nothing,
+        PRINT,
+        "Taken for git's sake: each path is written anyway",
+    ),
 ];
 
 /// The options of `ig ls`.

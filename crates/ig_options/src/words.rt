@@ -31,16 +31,13 @@ const ROOTS: &str = "root";
 /// How the commands are used.
 const USAGE: &str = "\
 ig [ls] [OPTIONS] [ROOT]...
-       ig ignored [OPTIONS] [ROOT]...
-       ig why [OPTIONS] PATH...
-       ig unused [OPTIONS] [ROOT]
-       ig types [--type-add DEF]...";
+       ig ignored|why|unused|types [OPTIONS] ... (see their --help)";
 
 /// What the long help of a list ends with.
 const LONG_HELP: &str = "\
---no-ignore leaves out .gitignore, .ignore, .git/info/exclude, git's global file,
-the files of directories above a root and those of --ignore-name; the files of
---ignore-file count with it. Hidden entries stay hidden without -H.
+--no-ignore leaves out .gitignore, .ignore, .git/info/exclude, git's global
+file, the files of directories above a root and those of --ignore-name; the
+files of --ignore-file count with it. Hidden entries stay hidden without -H.
 
 Status: 0 where something was found, 1 where nothing was, 2 where something was
 reported. A closed pipe ends the program with status 0.
@@ -48,11 +45,12 @@ A folder that is named like a command is written ./types.";
 
 /// What the long help of `why` ends with.
 const WHY_HELP: &str = "\
-Each path is written as by git check-ignore -v -n: SOURCE:LINE:PATTERN, a tab and
-the path; ::, a tab and the path where no rule decides; ::hidden, or another word,
-where something else than a rule does. Paths are below the nearest folder at or
-above the working directory with .git or .jj, else below the working directory,
-and sources are relative to it.
+Each path is written as by git check-ignore -v -n: SOURCE:LINE:PATTERN, a tab,
+and the path; with :: before the tab where no rule decides, and ::hidden, or
+another word, where something else than a rule does. Paths are below the nearest
+folder at or above the working directory that has .git or .jj, else below the
+working directory; sources are relative to it. Standard input is read as a whole
+before the first path is answered.
 
 Status: 0 where a path is ignored, 1 where none is, 2 where something was
 reported, as a path outside of that folder.";
@@ -132,7 +130,10 @@ fn list_command<'a>(alloc: Global) -> Result<Command<'a>, AllocError> {
         .override_usage(USAGE)
         .after_help("ig --help has all options. A folder named like a command: ./types")
         .after_long_help(LONG_HELP)
-        .arg(roots_of(alloc, "What is walked; the working directory, where none is given"))?;
+        .arg(roots_of(
+            alloc,
+            "What is walked; the working directory, where none is given",
+        ))?;
     with_groups(alloc, command, &LIST)
 }
 

@@ -12,7 +12,10 @@ use vectors::{Trouble, list};
 pub(crate) fn answer(alloc: Global, input: &Value) -> Result<Value, Trouble> {
     let words = words_of(alloc, list(input, "words")?)?;
     let machine = machine_of(alloc, input)?;
-    let given = input.get("stdin").and_then(|value| value.as_str()).unwrap_or("");
+    let given = input
+        .get("stdin")
+        .and_then(|value| value.as_str())
+        .unwrap_or("");
     let left = repeated(alloc, &machine, words.as_slice(), given.as_bytes());
     Ok(shown(alloc, &left)?)
 }
