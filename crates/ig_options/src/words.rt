@@ -60,7 +60,7 @@ const WRONG_SIZE: &str =
     "invalid value for '--max-filesize <SIZE>': a size is a number, with K, M or G after it or not";
 
 /// The version of the program.
-const VERSION: &str = "1.1.0";
+const VERSION: &str = "1.0.0";
 
 /// The command of the words, and its options. A first word that is the name of a command is the
 /// command, else it is `ls`.

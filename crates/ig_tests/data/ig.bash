@@ -8,7 +8,8 @@ _ig() {
         --ignore-file-case-insensitive --git-trailing-spaces -L --follow -d
         --max-depth --min-depth --max-filesize --one-file-system -g --glob
         --iglob -t --type -T --type-not --type-add -0 --null --sort -q --quiet
-        --stats -h --help -V --version
+        --stats --stdin -z --zero -v --verbose -n --non-matching -h --help -V
+        --version
     "
     case $before in
         --sort) COMPREPLY=($(compgen -W "name path none" -- "$word")) ;;
@@ -21,7 +22,7 @@ _ig() {
                 -*) COMPREPLY=($(compgen -W "$options" -- "$word")) ;;
                 *)
                     COMPREPLY=($(compgen -f -- "$word"))
-                    [ "$COMP_CWORD" -ne 1 ] || COMPREPLY+=($(compgen -W "ls types" -- "$word"))
+                    [ "$COMP_CWORD" -ne 1 ] || COMPREPLY+=($(compgen -W "ls ignored why unused types" -- "$word"))
                     ;;
             esac
             ;;

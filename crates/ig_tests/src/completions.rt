@@ -1,15 +1,25 @@
-use ig_options::table::LIST;
+use ig_options::table::{ASKED, IGNORED, LIST, Row, UNUSED};
 use std::fs;
 use std::test::Fail;
 
-/// Whether a text has each option by its long name.
-fn has_all(text: &str) -> bool {
-    for (long, _, _, _, _) in &LIST {
-        if !text.contains(long) {
-            return false;
+/// Whether a text has each option of these by its long name.
+fn has_groups(text: &str, groups: &[&[Row]]) -> bool {
+    for group in groups {
+        for (long, _, _, _, _) in *group {
+            if !text.contains(long) {
+                return false;
+            }
         }
     }
     true
+}
+
+/// Whether a text has each option of each command.
+fn has_all(text: &str) -> bool {
+    has_groups(text, &LIST)
+        && has_groups(text, &IGNORED)
+        && has_groups(text, &ASKED)
+        && has_groups(text, &UNUSED)
 }
 
 #[test]
