@@ -37,7 +37,7 @@ pub(crate) struct Origin<'a> {
 }
 
 /// The rule that decides, if one does.
-pub(crate) fn rule_of(reason: &Reason) -> Option<&NamedRule> 
+pub(crate) fn rule_of(reason: &Reason) -> Option<&NamedRule>
     ensures { option_map (λ r. named_of r.now) result ≡ rule_of (query_why_of reason.now) }
 {
     match reason {
@@ -48,7 +48,7 @@ pub(crate) fn rule_of(reason: &Reason) -> Option<&NamedRule>
 }
 
 /// The rule that is a cause, if one is.
-fn rule_in(said: &Match<Cause>) -> Option<&NamedRule> 
+fn rule_in(said: &Match<Cause>) -> Option<&NamedRule>
     ensures { option_map (λ r. named_of r.now) result ≡ rule_in (match_map cited_of said.now) }
 {
     match said {
@@ -59,7 +59,7 @@ fn rule_in(said: &Match<Cause>) -> Option<&NamedRule>
 }
 
 /// Whether anything decides.
-fn is_decided(reason: &Reason) -> bool 
+fn is_decided(reason: &Reason) -> bool
     ensures { result ≡ is_decided (query_why_of reason.now) }
 {
     match reason {
@@ -75,7 +75,7 @@ fn is_decided(reason: &Reason) -> bool
 }
 
 /// Where a named rule was read.
-pub(crate) fn origin_of(rule: &NamedRule) -> Origin<'_> 
+pub(crate) fn origin_of(rule: &NamedRule) -> Origin<'_>
     ensures source { result.source.now ≡ unwrap_or (named_of rule.now).from [] }
     ensures line { result.line ≡ (named_of rule.now).line }
     ensures pattern { result.pattern.now ≡ (named_of rule.now).original }
@@ -96,7 +96,7 @@ pub(crate) fn write_reasoned<W: Write>(
     explanation: &Explanation,
     path: &str,
     out: &mut W,
-) -> Result<(), Stop> 
+) -> Result<(), Stop>
     ensures writes { OnOk result (Appends (W.contents out.old) (W.contents out.new) (reasoned (option_copied form.base) form.null (query_why_of explanation.now.reason) path.now)) }
     ensures ended { IfErr result (λ stop. (stop ≡ Stop.Write) ⊎ (stop ≡ Stop.Closed)) }
 {
@@ -114,7 +114,7 @@ pub(crate) fn write_rule<W: Write>(
     form: Form<'_>,
     origin: &Origin<'_>,
     out: &mut W,
-) -> Result<(), Stop> 
+) -> Result<(), Stop>
     ensures writes { OnOk result (Appends (W.contents out.old) (W.contents out.new) (rule_fields (option_copied form.base) form.null origin.now.source.now origin.now.line origin.now.pattern.now)) }
     ensures ended { IfErr result (λ stop. (stop ≡ Stop.Write) ⊎ (stop ≡ Stop.Closed)) }
 {
@@ -127,7 +127,7 @@ pub(crate) fn write_rule<W: Write>(
 
 /// Writes three fields, of which the last is the word for a reason that is no rule; it is empty
 /// where nothing decides.
-fn write_word<W: Write>(form: Form<'_>, reason: &Reason, out: &mut W) -> Result<(), Stop> 
+fn write_word<W: Write>(form: Form<'_>, reason: &Reason, out: &mut W) -> Result<(), Stop>
     ensures writes { OnOk result (Appends (W.contents out.old) (W.contents out.new) (word_fields form.null (query_why_of reason.now))) }
     ensures ended { IfErr result (λ stop. (stop ≡ Stop.Write) ⊎ (stop ≡ Stop.Closed)) }
 {
@@ -143,7 +143,7 @@ fn write_word<W: Write>(form: Form<'_>, reason: &Reason, out: &mut W) -> Result<
 }
 
 /// Writes what separates the three fields of a rule.
-fn write_between<W: Write>(form: Form<'_>, out: &mut W) -> Result<(), Stop> 
+fn write_between<W: Write>(form: Form<'_>, out: &mut W) -> Result<(), Stop>
     ensures writes { OnOk result (Appends (W.contents out.old) (W.contents out.new) (between form.null)) }
     ensures ended { IfErr result (λ stop. (stop ≡ Stop.Write) ⊎ (stop ≡ Stop.Closed)) }
 {
@@ -151,7 +151,7 @@ fn write_between<W: Write>(form: Form<'_>, out: &mut W) -> Result<(), Stop>
 }
 
 /// Writes the number of a line, if there is one.
-fn write_number<W: Write>(line: Option<u64>, out: &mut W) -> Result<(), Stop> 
+fn write_number<W: Write>(line: Option<u64>, out: &mut W) -> Result<(), Stop>
     ensures writes { OnOk result (Appends (W.contents out.old) (W.contents out.new) (number_text line)) }
     ensures ended { IfErr result (λ stop. (stop ≡ Stop.Write) ⊎ (stop ≡ Stop.Closed)) }
 {
@@ -175,7 +175,7 @@ fn relative<'a>(base: Option<&str>, source: &'a str) -> &'a str
 }
 
 /// Writes a path: as it is where fields end in NUL, else quoted as git quotes it, where it must be.
-pub(crate) fn write_text<W: Write>(form: Form<'_>, text: &str, out: &mut W) -> Result<(), Stop> 
+pub(crate) fn write_text<W: Write>(form: Form<'_>, text: &str, out: &mut W) -> Result<(), Stop>
     ensures writes { OnOk result (Appends (W.contents out.old) (W.contents out.new) (field form.null text.now)) }
     ensures ended { IfErr result (λ stop. (stop ≡ Stop.Write) ⊎ (stop ≡ Stop.Closed)) }
 {
@@ -191,7 +191,7 @@ pub(crate) fn write_text<W: Write>(form: Form<'_>, text: &str, out: &mut W) -> R
 }
 
 /// Writes a byte between quotes.
-fn write_byte<W: Write>(byte: u8, out: &mut W) -> Result<(), Stop> 
+fn write_byte<W: Write>(byte: u8, out: &mut W) -> Result<(), Stop>
     ensures writes { OnOk result (Appends (W.contents out.old) (W.contents out.new) (quoted_byte byte)) }
     ensures ended { IfErr result (λ stop. (stop ≡ Stop.Write) ⊎ (stop ≡ Stop.Closed)) }
 {

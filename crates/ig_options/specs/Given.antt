@@ -14,12 +14,12 @@ IsText bytes number (BadlyQuoted n) = ⊥
 
 -- a record is unquoted: records don't end in NUL, and it begins with a quote
 abbrev pub is_opened : Bool → Bytes → Bool
-is_opened has_nul record = not has_nul && slice_index record 0 == 34
+is_opened has_nul text = not has_nul && slice_index text 0 == 34
 
 -- a record with this number gives a path as it stands; or, where it is unquoted, as what it stands
 -- for, and none where it isn't quoted as git quotes a path
 abbrev pub Gives : Bool → Bytes → ℕ → Given → Type 0
-Gives false record number given = IsText record number given
-Gives true record number given =
-    ((bytes : Bytes) × IsQuoteOf record bytes × IsText bytes number given)
-    ⊎ (((bytes : Bytes) → ¬ IsQuoteOf record bytes) × (given ≡ BadlyQuoted number))
+Gives false text number given = IsText text number given
+Gives true text number given =
+    ((bytes : Bytes) × IsQuoteOf text bytes × IsText bytes number given)
+    ⊎ (((bytes : Bytes) → ¬ IsQuoteOf text bytes) × (given ≡ BadlyQuoted number))
