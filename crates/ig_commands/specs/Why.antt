@@ -1,10 +1,10 @@
 -- What `why` writes of paths.
-use Rattle.std.specs.Prelude.{◌≡◌, ◌⊎◌, ℕ, ◌+◌, Bool, true, false, ◌||◌, List, [], ◌∷◌, ◌++◌, codes, map, Option, None, Some, if◌then◌else◌}
+use Rattle.std.specs.Prelude.{◌≡◌, ◌⊎◌, ℕ, ◌+◌, Bool, true, false, ◌||◌, List, [], ◌∷◌, ◌++◌, codes, map, Option, None, Some, option_map, string_bytes, if◌then◌else◌}
 use Rattle.std.specs.Fmt.{decimal}
 use Rattle.std.specs.List.{flat_map}
 use Rattle.ignore_base.specs.Normalize.{normalize_of}
 use Rattle.ignore_base.specs.Paths.{ends_with_slash, join_of}
-use Rattle.ignore_base.specs.Problem.{Problem}
+use Rattle.ignore_base.specs.Problem.{Problem, problem_of}
 use Rattle.ignore_base.specs.Text.{Bytes, Path}
 use Rattle.ignore_dir.specs.Load.{AreLoads, Loaded}
 use Rattle.ignore_dir.specs.Query.{is_dir_there, query}
@@ -18,11 +18,13 @@ use Rattle.ignore_files.specs.declared.files.Files.{Ghosts as Files}
 use Rattle.ignore_query.specs.Fresh.{KeepsNothing}
 use Rattle.ignore_query.specs.InTurn.{Leaves}
 use Rattle.ignore_query.specs.Reports.{reported}
+use Rattle.ignore_query.specs.declared.incremental.IncrementalIgnore.{IncrementalIgnore}
 use Rattle.ignore_query.specs.declared.kept.Cache.{Cache}
 use Rattle.ignore_types.specs.Types.{Draft}
-use Rattle.ignore_why.specs.QueryWhy.{QueryWhy, query_why}
+use Rattle.ignore_why.specs.QueryWhy.{QueryWhy, query_why, query_why_of}
 use Rattle.ignore.specs.Asked.{IsOutside}
 use Rattle.ignore.specs.Builder.{with_root}
+use Rattle.ignore.specs.Matchers.{asked_by}
 use Rattle.ignore.specs.declared.options.WalkOptions.{WalkOptions}
 use Rattle.ig_options.specs.declared.given.Given.{Given}
 use Rattle.ig_options.specs.declared.given.Given.TheVariants as given
@@ -34,6 +36,8 @@ use Rattle.ig_commands.specs.Reports.{is_known, report_line, report_of}
 use Rattle.ig_commands.specs.Root.{IsRoot}
 use Rattle.ig_commands.specs.Stops.{EndsAfter}
 use Rattle.ig_commands.specs.declared.stop.Stop.{Stop}
+use Rattle.ig_commands.specs.declared.why.Said.{Said as Code}
+use Rattle.ig_commands.specs.declared.why.Said.TheVariants as code
 
 -- a path, why it is ignored or not, whether it is ignored, and what was reported of the files of
 -- rules that were read for it
@@ -50,6 +54,19 @@ pub data Said : Type 0 where
   badly_quoted : ℕ → Said
   outside : Path → Said
   told : Told → Said
+
+-- the same of a value of the code
+abbrev pub said_of : Code → Said
+said_of (code.NotText number) = not_text number
+said_of (code.BadlyQuoted number) = badly_quoted number
+said_of (code.Outside path) = outside path.now
+said_of (code.Told path e error) =
+    told (record {
+      path = path.now;
+      why = query_why_of e.reason;
+      is_ignored = is_ignore e.answer.verdict;
+      problem = option_map problem_of error;
+    })
 
 -- what is written of it: a path after its reason
 abbrev pub written : Options → Path → Said → Bytes
@@ -114,6 +131,13 @@ AreSaid g dir [] old new (said ∷ more) = ⊥
 AreSaid g dir (given ∷ rest) old new [] = ⊥
 AreSaid g dir (given ∷ rest) old new (said ∷ more) =
     (between : Cache) × IsSaid g dir given old between said × AreSaid g dir rest between new more
+
+-- a matcher of the paths below the root of a working directory, by the settings of a walk and the
+-- rules from outside as they were read
+abbrev pub IsMatcherOf : Tree → Env → WalkOptions → IncrementalIgnore → Type 0
+IsMatcherOf tree env b m =
+    (o : Outside) × (root : Path) × IsRoot tree env.current_dir root × IsOutside tree env (with_root b root) o
+    × (asked_by m ≡ (b.settings, o, root, env.current_dir))
 
 -- these are said of the first of what is given, by the settings of a walk: in the root of the working
 -- directory, by the rules from outside as they were read, where nothing is kept at first
