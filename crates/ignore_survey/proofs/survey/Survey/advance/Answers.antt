@@ -1,4 +1,4 @@
-use Rattle.std.proofs.Common.{◌≡◌, [], Err, List, Option, None, inl, inr, sym, ap, subst, arith, ◌∙◌}
+use Rattle.std.proofs.Common.{◌≡◌, Err, Option, inl, inr, sym, ap, subst, arith, ◌∙◌}
 use Rattle.ignore_survey.specs.Nexts.{Nexts}
 use Rattle.ignore_survey.specs.Survey.{Item}
 use Rattle.ignore_survey.proofs.survey.Survey.advance.Goals as goal
