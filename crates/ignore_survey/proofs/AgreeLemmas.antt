@@ -1,12 +1,11 @@
 -- A survey and the walk of its root yield the same entries, those that a survey finds ignored left out.
-use Rattle.std.proofs.Common.{◌≡◌, ℕ, zero, suc, ◌+◌, ◌<◌, ◌==◌, Bool, true, false, cond, not, ◌&&◌, ◌||◌, List, [], ◌∷◌, ◌++◌, length, map, reverse, codes, bytes_eq, Contains, Option, None, Some, Result, Ok, Err, refl, sym, ◌∙◌, ap, subst, arith, add-one, inl, inr}
+use Rattle.std.proofs.Common.{◌≡◌, ℕ, ◌+◌, ◌==◌, Bool, true, false, cond, not, ◌&&◌, ◌||◌, List, [], ◌∷◌, length, reverse, Option, None, Some, Ok, refl, sym, ◌∙◌, ap}
 use Rattle.std.proofs.lemmas.Bool.{both_ways}
 use Rattle.std.proofs.lemmas.List.{length-reverse}
 use Rattle.ignore_base.proofs.JoinLemmas.{join_of-nil}
 use Rattle.ignore_base.specs.Paths.{JoinsName, components, directory_of, join_of, joined}
 use Rattle.ignore_base.specs.Problem.{Problem}
 use Rattle.ignore_base.specs.Text.{Bytes, Path}
-use Rattle.ignore_base.specs.declared.fault.Fault.{Fault}
 use Rattle.ignore_dir.specs.Limits.{beyond, is_above, is_below, is_beyond, is_deepest, limited, no_match, sized}
 use Rattle.ignore_dir.specs.Query.{answer_of_rules, depth_of, has_rules, is_asked, limit_of, names_of, problem_of_rules, query, rules_verdict, size_of}
 use Rattle.ignore_dir.specs.Scene as below
@@ -15,15 +14,12 @@ use Rattle.ignore_dir.specs.declared.incremental.IncrementalMatch.{IncrementalMa
 use Rattle.ignore_dir.specs.declared.settings.Settings.{Settings}
 use Rattle.ignore_dir.specs.declared.verdict.Verdict.{Verdict}
 use Rattle.ignore_dir.specs.declared.verdict.Verdict.TheVariants as v
-use Rattle.ignore_files.specs.Kinds.{is_dir}
 use Rattle.ignore_files.specs.declared.types.FileType.{FileType}
-use Rattle.ignore_files.specs.declared.types.Listed.{Listed}
 use Rattle.ignore_files.specs.declared.types.Listed.TheVariants as thing
 use Rattle.ignore_walk.proofs.PlaceNames.{AreNames, all_names, components-joined, filled, name_from, names-reverse, reverse-cons}
 use Rattle.ignore_walk.proofs.ReachLemmas.{path-is}
 use Rattle.ignore_walk.specs.Branch.{Branch, path_of}
 use Rattle.ignore_walk.specs.Child.{child}
-use Rattle.ignore_walk.specs.Entry.{Entry as Walked}
 use Rattle.ignore_walk.specs.Scene.{Scene}
 use Rattle.ignore_survey.specs.Survey.{place}
 

@@ -1,5 +1,5 @@
 -- Which entries a survey yields: those that listings lead to through directories below which it goes on.
-use Rattle.std.proofs.Common.{◌≡◌, ℕ, zero, suc, ◌+◌, ◌<◌, Bool, true, false, not, ◌&&◌, List, [], ◌∷◌, ◌++◌, length, map, reverse, Contains, None, Some, Result, Ok, Err, inl, inr, refl, sym, ◌∙◌, ap, subst, arith, add-one}
+use Rattle.std.proofs.Common.{◌≡◌, ℕ, zero, suc, ◌+◌, true, false, not, List, [], ◌∷◌, ◌++◌, length, map, reverse, Contains, Some, Result, Ok, Err, inl, inr, refl, sym, ◌∙◌, ap, subst, arith, add-one}
 use Rattle.std.proofs.lemmas.List.Elements.{Contains-append_left, Contains-append_right, Contains-append_cases}
 use Rattle.std.proofs.lemmas.List.Sorted.{Contains-permutation}
 use Rattle.ignore_base.specs.Paths.{JoinsName, join_of, joined}
@@ -19,12 +19,12 @@ use Rattle.ignore_walk.proofs.ShownLemmas.{as_listed, one_more, the_first}
 use Rattle.ignore_walk.specs.Agreement.{Reachable}
 use Rattle.ignore_walk.specs.Agreement.{listed as reach_listed}
 use Rattle.ignore_walk.specs.Branch.{Branch, path_of}
-use Rattle.ignore_walk.specs.Child.{child, named}
+use Rattle.ignore_walk.specs.Child.{named}
 use Rattle.ignore_walk.specs.Entry.{Entry as Walked}
 use Rattle.ignore_walk.specs.Scene.{Scene, queries}
 use Rattle.ignore_walk.specs.Walked.{leads_in, listing_of}
 use Rattle.ignore_survey.specs.Agreement.{IsPlain, walked}
-use Rattle.ignore_survey.specs.Survey.{Below, Each, Entry, Item, Lists, by_name, entry_at, goes_on, place, unlisted}
+use Rattle.ignore_survey.specs.Survey.{Below, Each, Entry, Item, by_name, entry_at, goes_on, place}
 use Rattle.ignore_survey.specs.Survey.{fails, lists, none, fault, leaf, inner}
 use Rattle.ignore_survey.proofs.AgreeLemmas.{child-plain, depth-at, descends_dir, joined-push, place-at, query-fair}
 

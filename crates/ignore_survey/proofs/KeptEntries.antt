@@ -1,8 +1,7 @@
 -- The entries of a survey that aren't ignored are those of the walk.
-use Rattle.std.proofs.Common.{◌≡◌, ℕ, suc, ◌+◌, ◌<◌, Bool, true, false, not, ◌&&◌, List, [], ◌∷◌, length, reverse, codes, bytes_eq, Contains, Option, None, Some, Ok, refl, sym, ◌∙◌, ap, subst, arith}
+use Rattle.std.proofs.Common.{◌≡◌, ℕ, ◌<◌, Bool, true, false, not, ◌&&◌, List, [], ◌∷◌, length, reverse, codes, bytes_eq, Contains, Option, Some, Ok, refl, sym, ◌∙◌, ap, subst, arith}
 use Rattle.std.specs.Prelude.{◌↔◌}
 use Rattle.ignore_base.specs.Paths.{JoinsName, join_of, joined}
-use Rattle.ignore_base.specs.Problem.{Problem}
 use Rattle.ignore_base.specs.Text.{Bytes, Path}
 use Rattle.ignore_dir.specs.Limits.{is_below}
 use Rattle.ignore_dir.specs.Query.{query}

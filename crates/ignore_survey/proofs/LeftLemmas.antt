@@ -6,19 +6,19 @@ use Rattle.std.specs.declared.alloc.Global.{Global}
 use Rattle.std.specs.declared.string.String.{String}
 use Rattle.ignore_base.specs.Paths.{join_of}
 use Rattle.ignore_base.specs.Problem.{Problem, at_path, io, problem_of}
-use Rattle.ignore_base.specs.Text.{Bytes, Path}
+use Rattle.ignore_base.specs.Text.{Path}
 use Rattle.ignore_base.specs.declared.error.Error.{Error}
 use Rattle.ignore_base.specs.declared.fault.Fault.{Fault}
 use Rattle.ignore_dir.specs.Scene.{Scene}
 use Rattle.ignore_files.specs.declared.types.FileType.{FileType}
 use Rattle.ignore_files.specs.declared.types.Listed.{Listed}
 use Rattle.ignore_files.specs.declared.types.Listed.TheVariants as thing
-use Rattle.ignore_survey.specs.Stands.{Enters, Finds, Hands, InTurn, Left, Stands, Takes, Waits, found_at, found_of, next_dir}
-use Rattle.ignore_survey.specs.Survey.{Below, Each, Entry, IsSurvey, Item, Lists, entry_at, goes_on, is_open, place, unlisted}
+use Rattle.ignore_survey.specs.Stands.{Enters, Finds, Hands, Left, Stands, Takes, Waits, found_at, found_of, next_dir}
+use Rattle.ignore_survey.specs.Survey.{Below, Each, Entry, IsSurvey, Item, Lists, entry_at, goes_on, is_open, place}
 use Rattle.ignore_survey.specs.Survey.IsSurvey.{closed, of_root}
 use Rattle.ignore_survey.specs.declared.stack.Frame.{Frame}
 use Rattle.ignore_survey.specs.declared.stack.Stack.{Stack}
-use Rattle.ignore_survey.proofs.SurveyLemmas.{AnEntry, below_failed, below_listed, each_entry, each_fault, each_none}
+use Rattle.ignore_survey.proofs.SurveyLemmas.{below_failed, below_listed, each_entry, each_fault, each_none}
 
 -- the innermost directory of which nothing is left is left
 pub leave : (g : Scene) (f : Frame) (fs : List Frame) (items : List Item) → f.rest.items ≡ [] → Left g (f ∷ fs) items → Left g fs items

@@ -1,10 +1,10 @@
 -- A survey gives one list.
-use Rattle.std.proofs.Common.{◌≡◌, Bool, true, false, List, [], ◌∷◌, ◌++◌, Ok, refl, sym, ◌∙◌, ap}
+use Rattle.std.proofs.Common.{◌≡◌, List, [], ◌∷◌, ◌++◌, Ok, refl, sym, ◌∙◌, ap}
 use Rattle.ignore_base.specs.Paths.{join_of}
 use Rattle.ignore_base.specs.Text.{Path}
 use Rattle.ignore_dir.specs.Scene.{Scene}
 use Rattle.ignore_files.specs.declared.types.Listed.{Listed}
-use Rattle.ignore_survey.specs.Survey.{Below, Each, Item, IsSurvey, entry_at, is_open, unlisted}
+use Rattle.ignore_survey.specs.Survey.{Below, Each, Item, IsSurvey, entry_at, unlisted}
 use Rattle.ignore_survey.specs.Survey.{fails, lists, none, fault, leaf, inner, closed, of_root}
 use Rattle.ignore_survey.proofs.SurveyLemmas.{below_failed, below_listed, each_entry, each_fault, each_none}
 

@@ -1,9 +1,9 @@
 -- What a survey still gives, and what its `next` answers.
-use Rattle.std.specs.Prelude.{◌≡◌, ◌≢◌, ◌⊎◌, ⊤, ℕ, suc, ◌+◌, true, false, List, [], ◌∷◌, Option, None, Some, option_map, Result, Ok, Err}
+use Rattle.std.specs.Prelude.{◌≡◌, ◌≢◌, ◌⊎◌, ⊤, ℕ, suc, ◌+◌, true, false, List, [], ◌∷◌, Option, None, Some, option_map, Result, Err}
 use Rattle.std.specs.Prelude.{if◌then◌else◌}
 use Rattle.ignore_base.specs.declared.error.Error.{Error}
 use Rattle.ignore_base.specs.declared.fault.Fault.TheVariants.{StepLimit}
-use Rattle.ignore_base.specs.Problem.{problem_of, io, memory}
+use Rattle.ignore_base.specs.Problem.{io, memory}
 use Rattle.ignore_dir.specs.Scene.{Scene}
 use Rattle.ignore_files.specs.declared.files.Files.{Ghosts as Files}
 use Rattle.ignore_survey.specs.Stands.{Stands}

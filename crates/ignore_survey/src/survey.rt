@@ -58,7 +58,7 @@ fn next_after(alloc: Global, entry: &Surveyed) -> Result<Option<Name>, AllocErro
 
 /// Whether the root is surveyed.
 fn is_open<F: Files>(files: &F, matcher: &mut IncrementalIgnore) -> Result<bool, Error>
-    ensures open { (g : Scene) → Suits F.Files files.now matcher.old g → IfOk result (λ open. open ≡ is_open g) }
+    ensures value { (g : Scene) → Suits F.Files files.now matcher.old g → IfOk result (λ goes_on. goes_on ≡ is_open g) }
     ensures suits { (g : Scene) → Suits F.Files files.now matcher.old g → Suits F.Files files.now matcher.new g }
     ensures out_of_memory { IfErr result (λ e. problem_of e ≡ memory) }
 {

@@ -1,4 +1,4 @@
-use Rattle.std.proofs.Common.{ℕ, List, length}
+use Rattle.std.proofs.Common.{List, length}
 use Rattle.ignore_dir.specs.Scene.{Scene}
 use Rattle.ignore_survey.specs.Stands.{Left}
 use Rattle.ignore_survey.specs.Survey.{Item}

@@ -17,12 +17,12 @@ returns-clause-suits g c = λ s suits.
     suits_still g.F.Files c.args.files.now m s c.matched.new.self suits c.matched.ensures.same
     (where_suits g.F.Files c.args.files.now m s (λ x. Agrees x c.matched.new.self.cache) suits c.matched.ensures.agrees)
 
-pub returns-then-eq-clause-open : goal.returns-then-eq-clause-open
-returns-then-eq-clause-open g c = λ s suits.
+pub returns-then-eq-clause-value : goal.returns-then-eq-clause-value
+returns-then-eq-clause-value g c = λ s suits.
     stdin_is_shut s c.root.result.now c.eq.result (ap (λ (x : Scene). x.root) suits.scene ∙ sym c.root.ensures) c.eq.ensures c.if-eq.true
 
-pub returns-clause-open : goal.returns-clause-open
-returns-clause-open g c = λ s suits.
+pub returns-clause-value : goal.returns-clause-value
+returns-clause-value g c = λ s suits.
     let a = c.in_ok-answer.answer in
     opens_as s c.root.result.now c.eq.result c.should_descend.result a (ap (λ (x : Scene). x.root) suits.scene ∙ sym c.root.ensures)
     c.eq.ensures c.if-eq.false c.should_descend.ensures

@@ -1,4 +1,4 @@
-use Rattle.std.proofs.Common.{◌≡◌, [], Err, List, Option, None, inl, inr, sym, ap, subst, arith, ◌∙◌}
+use Rattle.std.proofs.Common.{◌≡◌, Err, Option, inl, inr, sym, ap, subst, arith, ◌∙◌}
 use Rattle.ignore_survey.specs.Nexts.{Nexts}
 use Rattle.ignore_survey.specs.Survey.{Item}
 use Rattle.ignore_survey.proofs.survey.Survey.advance.Goals as goal
@@ -19,7 +19,7 @@ returns-then-self-eq0-clause-given g c = λ s items r.
     let h = rw c.in-Ok-Some.field-0-is at (c.in-Ok-Some.ensures.given s items r.suits r.stands) in
     let empty : c.args.self.now.left ≡ 0 = omega (c.step.ensures.left, c.if-self-eq0.true, arith) in
     subst (λ (o : Option Item). Nexts g.F.Files s c.args.self.now o c.end-then-self-eq0.new.self items) (sym c.end-then-self-eq0.ensures.item)
-    (inr (inr (ap Err c.step_limit.ensures, empty, λ none. let e = sym h.are ∙ none in cc (e)), c.end-then-self-eq0.ensures.ended))
+    (inr (inr (ap Err c.step_limit.ensures, (empty, λ none. let e = sym h.are ∙ none in cc (e))), c.end-then-self-eq0.ensures.ended))
 
 pub returns-else-self-eq0-clause-given : goal.returns-else-self-eq0-clause-given
 returns-else-self-eq0-clause-given g c = λ s items r.

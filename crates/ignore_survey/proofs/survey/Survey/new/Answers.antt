@@ -9,5 +9,5 @@ returns-clause-whole g c = λ s items suits whole.
     record {
       suits = c.is_open.ensures.suits s suits;
       goes_on = refl;
-      stands = stand_whole s t items (c.in_ok-waiting.ensures ∙ ap waits_if (c.in_ok-goes_on.ensures.open s suits)) c.new.ensures.items whole;
+      stands = stand_whole s t items (c.in_ok-waiting.ensures ∙ ap waits_if (c.in_ok-goes_on.ensures.value s suits)) c.new.ensures.items whole;
     }
