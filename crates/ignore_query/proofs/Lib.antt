@@ -18,3 +18,4 @@ pub mod TurnLemmas
 pub mod TurnsOnly
 pub mod CopiesOnly
 pub mod WorkedKept
+pub mod WorkedRules
