@@ -103,3 +103,20 @@ IgnoredAsked files f env o first status out err =
     ((b : WalkOptions) × (problems : List (Option Problem)) × (all : List OfRoot) × Writes o problems all status out err
     × ((tree : Tree) → IsHonest files f tree → IsAsked tree env o first b problems × AreSurveys tree env o b all))
     ⊎ ((problem : Problem) × RefusesOptions env o first problem × (status ≡ 2) × out [] × err (report_line problem))
+
+-- the items of all roots, each with its root
+abbrev pub tagged : List OfRoot → List (Path × Seen)
+tagged all = flat_map (λ r. map (λ s. (r.0, s)) r.1) all
+
+-- these are a beginning of the items of the surveys of the roots
+abbrev pub AreBegun : Tree → Env → Options → WalkOptions → List OfRoot → Type 0
+AreBegun tree env o b all =
+    (whole : List OfRoot) × (rest : List (Path × Seen)) × AreSurveys tree env o b whole × (tagged whole ≡ tagged all ++ rest)
+
+-- it ended early, after it wrote and reported a beginning of that; or before it began
+abbrev pub IgnoredEnds : {F : Type 0} → Files F → F → Env → Options → Draft → (Bytes → Type 0) → (Bytes → Type 0) → Stop → Type 0
+IgnoredEnds files f env o first out err stop =
+    ((b : WalkOptions) × (problems : List (Option Problem)) × (all : List OfRoot)
+    × EndsAfter (all_written o all) (flat_map report_of problems ++ flat_map reports (all_seen all)) out err stop
+    × ((tree : Tree) → IsHonest files f tree → IsAsked tree env o first b problems × AreBegun tree env o b all))
+    ⊎ EndsAfter [] [] out err stop

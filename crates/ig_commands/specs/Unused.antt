@@ -21,9 +21,11 @@ use Rattle.ignore.specs.declared.options.WalkOptions.{WalkOptions}
 use Rattle.ig_options.specs.declared.options.Options.{Options}
 use Rattle.ig_commands.specs.Counts.{capped, stats_line, status_of}
 use Rattle.ig_commands.specs.Form.{at_end, rule_fields, rule_of}
-use Rattle.ig_commands.specs.Ignored.{AreSurveys, OfRoot, Seen, all_seen, reports, wrong_in}
+use Rattle.ig_commands.specs.Ignored.{AreBegun, AreSurveys, OfRoot, Seen, all_seen, reports, wrong_in}
 use Rattle.ig_commands.specs.Listing.{IsAsked, RefusesOptions}
 use Rattle.ig_commands.specs.Reports.{report_line, report_of}
+use Rattle.ig_commands.specs.Stops.{EndsAfter}
+use Rattle.ig_commands.specs.declared.stop.Stop.{Stop}
 
 -- a rule of a file: the path of the file, the number of its line, and the rule
 pub record FileRule : Type 0 where
@@ -110,3 +112,16 @@ UnusedAsked files f env o first status out err =
     × ((loads : Path → Loaded) → AreLoads tree b.settings loads
     → AreUnused (λ root. scene tree loads b.settings s.outside root) all unused)))
     ⊎ ((problem : Problem) × RefusesOptions env o first problem × (status ≡ 2) × out [] × err (report_line problem))
+
+-- it ended early: before all items of the surveys were met, and then nothing was written; or after
+-- that, and then a beginning of the rules was; or before it began
+abbrev pub UnusedEnds : {F : Type 0} → Files F → F → Env → Options → Draft → (Bytes → Type 0) → (Bytes → Type 0) → Stop → Type 0
+UnusedEnds files f env o first out err stop =
+    ((b : WalkOptions) × (problems : List (Option Problem)) × (all : List OfRoot) × (unused rest : List FileRule)
+    × EndsAfter (flat_map (written o) unused) (flat_map report_of problems ++ flat_map reports (all_seen all)) out err stop
+    × ((tree : Tree) → IsHonest files f tree → IsAsked tree env o first b problems
+    × ((AreBegun tree env o b all × (unused ≡ []))
+    ⊎ ((s : AreSurveys tree env o b all)
+    × ((loads : Path → Loaded) → AreLoads tree b.settings loads
+    → AreUnused (λ root. scene tree loads b.settings s.outside root) all (unused ++ rest))))))
+    ⊎ EndsAfter [] [] out err stop

@@ -1,7 +1,7 @@
 //! The command `ignored`: the topmost entries that are ignored.
-ghost use Rattle.std.specs.Prelude.{IfOk};
+ghost use Rattle.std.specs.Prelude.{IfErr, IfOk};
 ghost use Rattle.std.specs.Io.KnownBytes.{Appends};
-ghost use Rattle.ig_commands.specs.Ignored.{IgnoredAsked};
+ghost use Rattle.ig_commands.specs.Ignored.{IgnoredAsked, IgnoredEnds};
 ghost use Rattle.std.specs.Iterator.{IsFinite};
 
 use crate::asking::{Asked, asked};
@@ -37,6 +37,8 @@ pub fn list_ignored<F: Files, W: Write, E: Write>(
     err: &mut E,
 ) -> Result<u8, Stop>
     ensures lists { IfOk result (λ status. IgnoredAsked F.Files world.now.files.now world.now.env.now options.now first.entry status
+        (Appends (W.contents out.old) (W.contents out.new)) (Appends (E.contents err.old) (E.contents err.new))) }
+    ensures ended { IfErr result (IgnoredEnds F.Files world.now.files.now world.now.env.now options.now first.entry
         (Appends (W.contents out.old) (W.contents out.new)) (Appends (E.contents err.old) (E.contents err.new))) }
 {
     match asked(world, options, first) {

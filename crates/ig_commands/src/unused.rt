@@ -1,23 +1,20 @@
 //! The command `unused`: the rules below a folder that decide on no entry there.
-ghost use Rattle.std.specs.Prelude.{IfOk};
+ghost use Rattle.std.specs.Prelude.{IfErr, IfOk};
 ghost use Rattle.std.specs.Io.KnownBytes.{Appends};
-ghost use Rattle.ig_commands.specs.Unused.{UnusedAsked};
-ghost use Rattle.std.specs.Iterator.{IsFinite};
+ghost use Rattle.ig_commands.specs.Unused.{UnusedAsked, UnusedEnds};
 
 use crate::asking::{Asked, asked};
 use crate::counts::{Counts, report_counts, status_of};
-use crate::form::Form;
+use crate::form::{Form, rule_of};
 use crate::ignored::{matchers_of, report_item};
 use crate::reports::{report_all, report_some};
-use crate::rules::Rules;
+use crate::rules::FileRules;
 use crate::stop::Stop;
 use crate::world::World;
 use crate::writing::refuse;
-use ig_options::{Options, walk_options};
-use ignore::{IncrementalIgnore, WalkOptions, text};
+use ig_options::Options;
+use ignore::{IncrementalIgnore, WalkOptions};
 use ignore_base::Error;
-use ignore_dir::load::load_directory;
-use ignore_dir::{Ground, Outside, Settings};
 use ignore_files::Files;
 use ignore_survey::{Item, Survey, Surveyed};
 use ignore_types::types::TypesBuilder;
@@ -41,11 +38,46 @@ pub fn list_unused<F: Files, W: Write, E: Write>(
 ) -> Result<u8, Stop>
     ensures lists { IfOk result (λ status. UnusedAsked F.Files world.now.files.now world.now.env.now options.now first.entry status
         (Appends (W.contents out.old) (W.contents out.new)) (Appends (E.contents err.old) (E.contents err.new))) }
+    ensures ended { IfErr result (UnusedEnds F.Files world.now.files.now world.now.env.now options.now first.entry
+        (Appends (W.contents out.old) (W.contents out.new)) (Appends (E.contents err.old) (E.contents err.new))) }
 {
     match asked(world, options, first) {
         Ok(asked) => report_and_find(world, options, asked, out, err),
         Err(Error::Memory) => Err(Stop::Memory),
         Err(error) => refuse(&error, err),
+    }
+}
+
+/// The rules that were read, and those that decided on an entry.
+#[derive(Drop)]
+struct Found {
+    read: FileRules,
+    used: FileRules,
+}
+
+impl Found {
+    /// No rules.
+    fn new(alloc: Global) -> Found {
+        Found {
+            read: FileRules::new(alloc),
+            used: FileRules::new(alloc),
+        }
+    }
+
+    /// Notes the rule that decided on an entry, if one did.
+    fn note_used(&mut self, entry: &Surveyed) -> Result<(), AllocError> {
+        match rule_of(&entry.explanation.reason) {
+            Some(rule) => self.used.add(rule),
+            None => Ok(()),
+        }
+    }
+
+    /// Notes the rules of the directories that a matcher keeps.
+    fn note_read(&mut self, matcher: &IncrementalIgnore) -> Result<(), Error> {
+        for rule in matcher.rules()? {
+            self.read.add(&rule)?;
+        }
+        Ok(())
     }
 }
 
@@ -58,129 +90,74 @@ fn report_and_find<F: Files, W: Write, E: Write>(
     err: &mut E,
 ) -> Result<u8, Stop> {
     let reported = report_all(&asked.errors, err)?;
-    let mut rules = Rules::new(world.alloc);
-    let more = read_all(world, options, asked.walk, &mut rules, err)?;
+    let mut found = Found::new(world.alloc);
+    let more = find_all(world, options, asked.walk, &mut found, err)?;
     let form = Form {
         base: if options.is_bare { Some(".") } else { None },
         null: options.null,
     };
+    let unused = found
+        .read
+        .write_without(&found.used, form, !options.quiet, out)?;
     let counts = Counts {
         reported: reported.saturating_add(more),
-        found: rules.write_unused(form, !options.quiet, out)?,
+        found: unused,
     };
     report_counts(options, counts, err)?;
     Ok(status_of(counts))
 }
 
-/// Reads the rules of the files below each root, and notes those that decide on an entry. It returns
-/// how many times something was reported.
-fn read_all<F: Files, E: Write>(
+/// Finds the rules below each root. It returns how many times something was reported.
+fn find_all<F: Files, E: Write>(
     world: &World<'_, F>,
     options: &Options,
     walk: WalkOptions,
-    rules: &mut Rules,
+    found: &mut Found,
     err: &mut E,
 ) -> Result<u64, Stop> {
-    let (Ok(settings), Ok(matchers)) = (
-        settings_of(world.alloc, options),
-        matchers_of(world, options, walk),
-    ) else {
+    let Ok(matchers) = matchers_of(world, options, walk) else {
         return Err(Stop::Memory);
     };
     let mut reported = 0u64;
     for matcher in matchers {
-        let more = read_below(world, &settings, matcher, rules, err)?;
+        let more = find_below(world, matcher, found, err)?;
         reported = reported.saturating_add(more);
     }
     Ok(reported)
 }
 
-/// The settings by which the files of a directory are read.
-fn settings_of(alloc: Global, options: &Options) -> Result<Settings, Error> {
-    let builder = ignore::WalkBuilder::from_options(walk_options(alloc, options)?);
-    Ok(builder.settings().clone()?)
-}
-
-/// Reads the rules of the files at and below the root of a matcher, and notes those that decide on
-/// an entry. It returns how many times something was reported.
-fn read_below<F: Files, E: Write>(
+/// Finds the rules at and below the root of a matcher, and those that decide on an entry there. It
+/// returns how many times something was reported.
+fn find_below<F: Files, E: Write>(
     world: &World<'_, F>,
-    settings: &Settings,
     matcher: IncrementalIgnore,
-    rules: &mut Rules,
+    found: &mut Found,
     err: &mut E,
 ) -> Result<u64, Stop> {
-    let Ok(root) = String::from_str(world.alloc, matcher.root()) else {
+    let Ok(mut survey) = Survey::new(world.alloc, world.files, matcher) else {
         return Err(Stop::Memory);
     };
-    let Ok(survey) = Survey::new(world.alloc, world.files, matcher) else {
-        return Err(Stop::Memory);
-    };
-    let place = Place {
-        world,
-        settings,
-        root: root.as_str(),
-    };
-    if place.read_rules(root.as_str(), rules).is_err() {
-        return Err(Stop::Memory);
-    }
-    read_items(survey, &place, rules, err)
-}
-
-/// Where the rules are read.
-#[derive(Drop)]
-struct Place<'a, F: Files> {
-    world: &'a World<'a, F>,
-    settings: &'a Settings,
-    root: &'a str,
-}
-
-impl<'a, F: Files> Place<'a, F> {
-    /// Adds the rules of a directory's files.
-    fn read_rules(&self, dir: &str, rules: &mut Rules) -> Result<(), AllocError> {
-        let outside = Outside::empty(self.world.alloc);
-        let ground = Ground {
-            alloc: self.world.alloc,
-            files: self.world.files,
-            settings: self.settings,
-            outside: &outside,
-        };
-        let (loaded, _) = load_directory(&ground, dir)?;
-        rules.add_dir(&loaded)
-    }
-
-    /// Notes what decided on an entry, and reads the rules of its files, if it has any that count.
-    fn read_entry(&self, entry: &Surveyed, rules: &mut Rules) -> Result<(), Error> {
-        rules.use_rule(&entry.explanation.reason);
-        if !entry.explanation.answer.should_descend() {
-            return Ok(());
-        }
-        let path = text::join(self.world.alloc, self.root, entry.path.as_str())?;
-        Ok(self.read_rules(path.as_str(), rules)?)
-    }
-}
-
-/// Goes through the items of a survey. It returns how many times something was reported.
-fn read_items<I: Iterator<Item = Item> + Drop, F: Files, E: Write>(
-    items: I,
-    place: &Place<'_, F>,
-    rules: &mut Rules,
-    err: &mut E,
-) -> Result<u64, Stop>
-    requires ends { I.can_next items × IsFinite (I.remaining items) }
-{
     let mut reported = 0u64;
-    for item in items {
-        let seen = match item {
-            Ok(entry) => {
-                if place.read_entry(&entry, rules).is_err() {
-                    return Err(Stop::Memory);
-                }
-                report_some(entry.error.as_ref(), err)?
-            }
-            Err(error) => report_item(&error, err)?.reported,
-        };
-        reported = reported.saturating_add(u64::from(seen));
+    while let Some(item) = survey.next() {
+        let more = find_by(item, found, err)?;
+        reported = reported.saturating_add(u64::from(more));
     }
-    Ok(reported)
+    match found.note_read(&survey.into_matcher()) {
+        Ok(()) => Ok(reported),
+        Err(_) => Err(Stop::Memory),
+    }
+}
+
+/// Notes the rule that decided on an entry, and reports what is wrong. It returns whether anything
+/// is.
+fn find_by<E: Write>(item: Item, found: &mut Found, err: &mut E) -> Result<bool, Stop> {
+    match item {
+        Ok(entry) => {
+            if found.note_used(&entry).is_err() {
+                return Err(Stop::Memory);
+            }
+            report_some(entry.error.as_ref(), err)
+        }
+        Err(error) => Ok(report_item(&error, err)?.reported),
+    }
 }
