@@ -47,6 +47,7 @@ impl<'a, F: Files, S: Callbacks> Walk<'a, F, S> {
         ensures whole { (g : Scene) (items : List Yielded) (n : ℕ)
             → IsGroundOf F.Files S.Callbacks ground.entry g → Whole g roots.items items n
             → Remaining F.Files S.Callbacks g result items n }
+        ensures ground { result.ground ≡ ground.entry }
         ensures limit { result.left ≡ ground.entry.options.limit }
         ensures goes_on { result.ended ≡ false }
     {

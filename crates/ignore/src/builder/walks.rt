@@ -3,6 +3,7 @@ ghost use Rattle.std.specs.Prelude.{◌≡◌, false, List, None, Some, map, IfO
 ghost use Rattle.std.specs.Iterator.{Drains, IsFinite};
 ghost use Rattle.ignore_base.specs.Problem.{problem_of, memory};
 ghost use Rattle.ignore_walk.specs.declared.callbacks.Order.TheVariants.{Listed};
+ghost use Rattle.ignore.specs.Asked.{IsOutsideBy};
 ghost use Rattle.ignore.specs.Builder.{unset, with_root, with_roots};
 ghost use Rattle.ignore.specs.Closures.{options_of, order_of};
 ghost use Rattle.ignore.specs.Walks.{IsWalkBy};
@@ -23,13 +24,14 @@ impl WalkBuilder {
     ///
     /// Over files that are consistent with a tree its items are those of the definition, by the
     /// rules from outside as they were read, and by the filter and the comparison that the closures
-    /// answer by.
+    /// answer by. Over any files its rules from outside are by answers that the files gave.
     ///
     /// # Errors
     /// `Error::Memory` alone.
     pub fn build<'a, F: Files>(&'a self, files: &'a F, env: &Env) -> Result<Walk<'a, F>, Error>
         ensures whole { IfOk result (λ w. IsWalkBy F.Files ⟦<Owner<'a> as Callbacks>⟧ files.now (record { builder = Some self.entry }) env.now self.now.options
             (order_of (λ s. s.order) self.now.sorter) w.inner) }
+        ensures answered { IfOk result (λ w. IsOutsideBy (F.contents_gives files.now) env.now self.now.options w.inner.ground.outside) }
         ensures limit { IfOk result (λ w. w.inner.left ≡ self.now.options.limit) }
         ensures goes_on { IfOk result (λ w. w.inner.ended ≡ false) }
         ensures out_of_memory { IfErr result (λ e. problem_of e ≡ memory) }
@@ -66,6 +68,7 @@ impl WalkOptions {
         order: Order,
     ) -> Result<Walk<'a, F>, Error>
         ensures whole { IfOk result (λ w. IsWalkBy F.Files ⟦<Owner<'a> as Callbacks>⟧ files.now owner.entry env.now self.now order w.inner) }
+        ensures answered { IfOk result (λ w. IsOutsideBy (F.contents_gives files.now) env.now self.now w.inner.ground.outside) }
         ensures limit { IfOk result (λ w. w.inner.left ≡ self.now.limit) }
         ensures goes_on { IfOk result (λ w. w.inner.ended ≡ false) }
         ensures out_of_memory { IfErr result (λ e. problem_of e ≡ memory) }
