@@ -2,6 +2,8 @@
 ghost use Rattle.std.specs.Prelude.{◌≡◌, false, List, None, Some, map, IfOk, IfErr};
 ghost use Rattle.std.specs.Iterator.{Drains, IsFinite};
 ghost use Rattle.ignore_base.specs.Problem.{problem_of, memory};
+ghost use Rattle.ignore_walk.specs.GoesOn.{HasNoEnd};
+ghost use Rattle.ignore_walk.specs.Paces.{work_at, work_of};
 ghost use Rattle.ignore_walk.specs.declared.callbacks.Order.TheVariants.{Listed};
 ghost use Rattle.ignore.specs.Builder.{unset, with_root, with_roots};
 ghost use Rattle.ignore.specs.Closures.{options_of, order_of};
@@ -32,6 +34,9 @@ impl WalkBuilder {
             (order_of (λ s. s.order) self.now.sorter) w.inner) }
         ensures limit { IfOk result (λ w. w.inner.left ≡ self.now.options.limit) }
         ensures goes_on { IfOk result (λ w. w.inner.ended ≡ false) }
+        ensures no_end { IfOk result (λ w. HasNoEnd w.inner.stack) }
+        ensures begins { IfOk result (λ w. work_of w.inner.stack ≡ work_at self.now.options.roots) }
+        ensures files { IfOk result (λ w. w.inner.ground.files.now ≡ files.now) }
         ensures out_of_memory { IfErr result (λ e. problem_of e ≡ memory) }
     {
         self.options.walk(
@@ -68,6 +73,9 @@ impl WalkOptions {
         ensures whole { IfOk result (λ w. IsWalkBy F.Files ⟦<Owner<'a> as Callbacks>⟧ files.now owner.entry env.now self.now order w.inner) }
         ensures limit { IfOk result (λ w. w.inner.left ≡ self.now.limit) }
         ensures goes_on { IfOk result (λ w. w.inner.ended ≡ false) }
+        ensures no_end { IfOk result (λ w. HasNoEnd w.inner.stack) }
+        ensures begins { IfOk result (λ w. work_of w.inner.stack ≡ work_at self.now.roots) }
+        ensures files { IfOk result (λ w. w.inner.ground.files.now ≡ files.now) }
         ensures out_of_memory { IfErr result (λ e. problem_of e ≡ memory) }
     {
         let roots = self.root_names()?;
@@ -108,6 +116,7 @@ impl<'a, F: Files> Walk<'a, F> {
             (with_root unset path.now) Listed w.inner) }
         ensures limit { IfOk result (λ w. w.inner.left ≡ unset.limit) }
         ensures goes_on { IfOk result (λ w. w.inner.ended ≡ false) }
+        ensures no_end { IfOk result (λ w. HasNoEnd w.inner.stack) }
         ensures out_of_memory { IfErr result (λ e. problem_of e ≡ memory) }
     {
         let builder = WalkBuilder::new(alloc, path)?;
@@ -132,6 +141,7 @@ impl<'a, F: Files> Walk<'a, F> {
             env.now (with_roots unset (map P.text all)) Listed w.inner) }
         ensures limit { IfOk result (λ w. w.inner.left ≡ unset.limit) }
         ensures goes_on { IfOk result (λ w. w.inner.ended ≡ false) }
+        ensures no_end { IfOk result (λ w. HasNoEnd w.inner.stack) }
         ensures out_of_memory { IfErr result (λ e. problem_of e ≡ memory) }
     {
         let builder = WalkBuilder::from_iter(alloc, paths)?;
