@@ -1,5 +1,5 @@
 -- What calls for one entry return, by the answer of the files.
-use Rattle.std.proofs.Common.{◌≡◌, ℕ, true, false, codes, is_none, List, Option, None, Some, Result, Ok, Err, MatchResult, refl, subst}
+use Rattle.std.proofs.Common.{◌≡◌, ℕ, true, false, codes, is_some, List, Option, None, Some, Result, Ok, Err, MatchResult, refl, subst}
 use Rattle.ignore_base.specs.Problem.{Problem, at_path, io}
 use Rattle.ignore_base.specs.declared.fault.Fault.{Fault}
 use Rattle.ignore_base.specs.declared.fault.Fault.TheVariants.{NoMetadata}
@@ -20,7 +20,7 @@ is_answer given (Err fault) h = h
 
 -- the metadata of an entry that isn't standard input
 pub metadata_by_answer : {F : Type 0} (files : Files F) (f : F) (e : Entry) (kind : Option FileType) (path : List ℕ)
-    (given : Result Metadata Refusal) (found : Result Metadata Fault) → is_none kind ≡ false → path ≡ e.path
+    (given : Result Metadata Refusal) (found : Result Metadata Fault) → is_some kind ≡ true → path ≡ e.path
     → files.stat_gives f path e.followed given → given ≡ as_answer found → IsMetadata files f e kind (metadata_or_problem e found)
 metadata_by_answer files f e None path given found some at answers is = absurd (cc (some))
 metadata_by_answer files f e (Some kind) path given found some at answers is = (
@@ -31,14 +31,14 @@ metadata_by_answer files f e (Some kind) path given found some at answers is = (
 )
 
 -- that of standard input
-pub no_metadata : {F : Type 0} (files : Files F) (f : F) (e : Entry) (kind : Option FileType) (p : Problem) → is_none kind ≡ true
+pub no_metadata : {F : Type 0} (files : Files F) (f : F) (e : Entry) (kind : Option FileType) (p : Problem) → is_some kind ≡ false
     → p ≡ at_path (codes "<stdin>") (io NoMetadata) → IsMetadata files f e kind (Err p)
 no_metadata files f e None p none is = cc (is)
 no_metadata files f e (Some kind) p none is = absurd (cc (none))
 
 -- the inode of an entry that isn't standard input
 pub inode_by_answer : {F : Type 0} (files : Files F) (f : F) (e : Entry) (kind : Option FileType) (path : List ℕ)
-    (given : Result (Option Identity) Refusal) (found : Result (Option Identity) Fault) → is_none kind ≡ false → path ≡ e.path
+    (given : Result (Option Identity) Refusal) (found : Result (Option Identity) Fault) → is_some kind ≡ true → path ≡ e.path
     → files.identity_gives f path e.followed given → given ≡ as_answer found → IsInode files f e kind (known_inode found)
 inode_by_answer files f e None path given found some at answers is = absurd (cc (some))
 inode_by_answer files f e (Some kind) path given found some at answers is = (
@@ -48,6 +48,6 @@ inode_by_answer files f e (Some kind) path given found some at answers is = (
   refl,
 )
 
-pub no_inode : {F : Type 0} (files : Files F) (f : F) (e : Entry) (kind : Option FileType) → is_none kind ≡ true → IsInode files f e kind None
+pub no_inode : {F : Type 0} (files : Files F) (f : F) (e : Entry) (kind : Option FileType) → is_some kind ≡ false → IsInode files f e kind None
 no_inode files f e None none = refl
 no_inode files f e (Some kind) none = absurd (cc (none))

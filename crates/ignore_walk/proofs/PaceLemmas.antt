@@ -83,3 +83,8 @@ both_steps lists j k m a b d sum s (more {k = i} {b = c} t step) =
 pub on_any_ok : {A E : Type 0} {P : Type 0} (r : Result A E) → P → OnOk r P
 on_any_ok (Ok a) p = p
 on_any_ok (Err e) p = tt
+
+-- what was listed, by the files under another name
+pub listed_by : {F : Type 0} (files : Files F) (a b : F) (path : Path) (things : List Listed) → a ≡ b
+    → IsListed (files.list_gives a) path things → IsListed (files.list_gives b) path things
+listed_by {F = F} files a b path things same listed = subst (λ (f : F). IsListed (files.list_gives f) path things) same listed

@@ -97,9 +97,10 @@ fn named(alloc: Global, path: &str) -> Result<Name, AllocError>
 impl<'a, F: Files, S: Callbacks> Ground<'a, F, S> {
     /// What directories are loaded and paths are judged by.
     fn lent(&self) -> ignore_dir::Ground<'_, F>
-        ensures { (g : Scene)
+        ensures suits { (g : Scene)
             → IsGroundOf F.Files S.Callbacks self.now g
             → Suits F.Files S.Callbacks result.files.now self.now.owner result.settings.now result.outside.now self.now.options g }
+        ensures files { result.files.now ≡ self.now.files.now }
     {
         ignore_dir::Ground {
             alloc: self.alloc,

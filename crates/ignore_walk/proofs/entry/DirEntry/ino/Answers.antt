@@ -1,4 +1,4 @@
-use Rattle.std.proofs.Common.{None, Some, Ok, Err, ap, sym, ◌∙◌}
+use Rattle.std.proofs.Common.{None, Some, Ok, Err, ap, not, ◌∙◌}
 use Rattle.ignore_walk.specs.Answered.{as_answer}
 use Rattle.ignore_walk.specs.Entry.{entry_of}
 use Rattle.ignore_walk.proofs.AnsweredLemmas.{inode_by_answer, is_answer, no_inode}
@@ -6,4 +6,4 @@ use Rattle.ignore_walk.proofs.entry.DirEntry.ino.Goals as goal
 
 pub returns-then-is_none-clause-answered : goal.returns-then-is_none-clause-answered
 returns-then-is_none-clause-answered g c =
-    let e = entry_of c.args.self.now in no_inode g.F.Files c.args.files.now e e.kind (sym c.is_none.ensures ∙ c.if-is_none.true)
+    let e = entry_of c.args.self.now in no_inode g.F.Files c.args.files.now e e.kind (c.is_none.ensures ∙ ap not c.if-is_none.true)

@@ -11,7 +11,7 @@ use Rattle.ignore_walk.proofs.ground.Ground.child.Goals as goal
 pub returns-in_ok-item-in-Entry-clause-value : goal.returns-in_ok-item-in-Entry-clause-value
 returns-in_ok-item-in-Entry-clause-value g c = λ s root b suits frames.
     let h = frames-paths s root b (reverse c.args.frames.now) frames in
-    let lent = c.lent.ensures s suits in
+    let lent = c.lent.ensures.suits s suits in
     let dir : c.last_path.result.now ≡ path_of root b = c.last_path.ensures root b h in
     let path : string_bytes c.in_ok-path-in-Entry.path ≡ join_of (path_of root b) c.in-Entry.name =
     cc (c.in_ok-path-in-Entry.ensures, dir, c.as_str.ensures) in

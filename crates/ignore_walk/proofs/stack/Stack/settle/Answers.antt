@@ -54,7 +54,7 @@ returns-clause-entered c = λ s root place b seen items n ordered settings is at
 
 pub returns-clause-enters : goal.returns-clause-enters
 returns-clause-enters c =
-    (c.in_ok-entered.entered, c.in_ok-entered.ensures.path, ap (λ r. r.items) c.in_ok-entered.ensures.rest, c.in_ok-push.ensures.items)
+    (c.in_ok-entered.entered, c.in_ok-entered.ensures.path, c.in_ok-entered.ensures.rest, c.in_ok-push.ensures.items)
 
 pub returns-clause-no_end : goal.returns-clause-no_end
 returns-clause-no_end c = λ soft h.
