@@ -3,8 +3,11 @@ use Rattle.std.proofs.Common.{◌≡◌, ℕ, ◌||◌, Bool, true, false, cond,
 use Rattle.std.specs.Option.{option_to_list}
 use Rattle.std.specs.Prelude.{⊤}
 use Rattle.std.specs.Result.{result_err}
-use Rattle.ignore_base.specs.Problem.{Problem, at_depth, at_line, at_path, glob, invalid_definition, io, loop, memory, problem_of, several, unrecognized}
-use Rattle.ignore_base.specs.declared.error.Error.{Error}
+use Rattle.ignore_base.specs.Problem.{Problem, at_depth, at_line, at_path, glob, invalid_definition, io, loop, memory, problem_of, problem_step, several, unrecognized}
+use Rattle.ignore_base.specs.declared.error.Error.{Error, Io, Memory}
+use Rattle.ignore_base.specs.declared.error.Error.TheFolds.{fold-roll-Error}
+use Rattle.ignore_base.specs.declared.error.Error.TheOpen as open_error
+use Rattle.ignore_base.specs.declared.error.Error.TheVariants.{rolls-Io, rolls-Memory}
 use Rattle.ignore_base.specs.declared.fault.Fault.{Fault}
 use Rattle.ignore_files.specs.declared.types.Listed.{Listed}
 use Rattle.ignore_dir.specs.Above.{problems_of_loads}
@@ -50,7 +53,7 @@ unlisted_go_on e (Ok xs) = tt
 unlisted_go_on e (Err fault) = (refl, tt)
 
 -- the answer that has a fault, or none
-pub answer_by : Option Fault → Result (List Listed) Fault
+abbrev pub answer_by : Option Fault → Result (List Listed) Fault
 answer_by None = Ok []
 answer_by (Some fault) = Err fault
 
@@ -105,3 +108,11 @@ some_no_limit_at error e is h = subst (λ (o : Option Error). MatchOption (optio
 pub some_soft_at : (error : Option Error) (e : Error) → error ≡ Some e → IsSoft (option_map problem_of error)
     → holds_memory (problem_of e) ≡ false
 some_soft_at error e is h = subst (λ (o : Option Error). IsSoft (option_map problem_of o)) is h
+
+-- what errors report that hold no other
+
+pub problem_of-Io : (fault : Fault) → problem_of (Io fault) ≡ io fault
+problem_of-Io fault = ap problem_of (sym (rolls-Io fault)) ∙ fold-roll-Error Problem problem_step (open_error.Io fault)
+
+pub problem_of-Memory : problem_of Memory ≡ memory
+problem_of-Memory = ap problem_of (sym rolls-Memory) ∙ fold-roll-Error Problem problem_step open_error.Memory

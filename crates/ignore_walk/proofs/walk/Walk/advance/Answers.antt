@@ -1,7 +1,7 @@
 use Rattle.std.proofs.Common.{◌<◌, Option, inl, inr, refl, sym, ◌∙◌, ap, subst, arith, Err}
 use Rattle.ignore_walk.specs.Entry.{Item}
 use Rattle.ignore_walk.specs.Nexts.{EndsOrGoesOn, Nexts}
-use Rattle.ignore_walk.proofs.NoEndLemmas.{none_go_on}
+use Rattle.ignore_walk.proofs.NoEndLemmas.{none_go_on, problem_of-Memory}
 use Rattle.ignore_walk.proofs.PaceLemmas.{all_steps, from_same, no_step, one_more_step, same_step}
 use Rattle.ignore_walk.proofs.walk.Walk.advance.Goals as goal
 
@@ -148,7 +148,7 @@ returns-then-self-eq0-clause-ends g c = λ h. (
 pub returns-in-Err-clause-ends : goal.returns-in-Err-clause-ends
 returns-in-Err-clause-ends g c = λ h. (
   none_go_on c.end-in-Err.new.self.stack.made.items c.end-in-Err.ensures.over.1,
-  subst (λ (o : Option Item). EndsOrGoesOn o c.end-in-Err.new.self) (sym c.end-in-Err.ensures.item) (inr (inl refl, c.end-in-Err.ensures.over)),
+  subst (λ (o : Option Item). EndsOrGoesOn o c.end-in-Err.new.self) (sym c.end-in-Err.ensures.item) (inr (inl (ap Err problem_of-Memory), c.end-in-Err.ensures.over)),
 )
 
 pub returns-in-Some-take_made-clause-ends : goal.returns-in-Some-take_made-clause-ends
