@@ -61,4 +61,5 @@ returns-clause-no_end c = λ soft h.
     let e : Entry = record { path = c.as_str-path.result.now; depth = c.depth-depth.result; kind = None; followed = false } in
     let lists = answer_by c.args.opened.fault in
     made_go_on _ _ _ (c.in_ok-make_fault.ensures.value e lists refl refl (answer_by-fault c.args.opened.fault))
-    (made_go_on _ _ _ c.in_ok-make.ensures.value h (yielded_go_on _ _ _ soft)) (unlisted_go_on e lists)
+    (made_go_on _ _ _ c.in_ok-make.ensures.value h
+    (yielded_go_on c.args.settings.now (entry_of c.args.entry) (option_map problem_of c.args.opened.error) soft)) (unlisted_go_on e lists)

@@ -96,7 +96,7 @@ returns-in-Ok-clause-paced g c = λ some.
     c.take.ensures.enters
 
 pub returns-in-None-clause-no_end : goal.returns-in-None-clause-no_end
-returns-in-None-clause-no_end g c = λ h. same_no_end c.args.self.now _ c.take_listed.ensures.made h
+returns-in-None-clause-no_end g c = λ h. same_no_end c.args.self.now c.take_listed.new.self c.take_listed.ensures.made h
 
 pub returns-in-Err-clause-no_end : goal.returns-in-Err-clause-no_end
 returns-in-Err-clause-no_end g c = λ h.

@@ -70,11 +70,14 @@ returns-in_ok-opened-in-Enter-clause-enters g c =
 
 pub returns-in-Yield-clause-no_end : goal.returns-in-Yield-clause-no_end
 returns-in-Yield-clause-no_end g c = λ h.
-    on_ok_map c.make.result (λ makes. made_go_on _ _ _ makes h (yielded_go_on _ _ None tt)) c.make.ensures.value
+    on_ok_map c.make.result (λ makes. made_go_on _ _ _ makes h (yielded_go_on c.args.ground.now.settings (entry_of c.args.found.entry) None tt)) c.make.ensures.value
 
 pub returns-in_ok-error-in-Load-clause-no_end : goal.returns-in_ok-error-in-Load-clause-no_end
 returns-in_ok-error-in-Load-clause-no_end g c = λ h.
-    on_ok_map c.make-in-Load.result (λ makes. made_go_on _ _ _ makes h (yielded_go_on _ _ _ c.in_ok-error-in-Load.ensures.soft))
+    let problem = option_map problem_of c.in_ok-error-in-Load.error in
+    let soft = c.in_ok-error-in-Load.ensures.soft in
+    on_ok_map c.make-in-Load.result
+    (λ makes. made_go_on _ _ _ makes h (yielded_go_on c.args.ground.now.settings (entry_of c.args.found.entry) problem soft))
     c.make-in-Load.ensures.value
 
 pub returns-in_ok-opened-in-Enter-clause-no_end : goal.returns-in_ok-opened-in-Enter-clause-no_end
