@@ -9,6 +9,7 @@ use Rattle.ignore_base.specs.declared.error.Error.TheFolds.{fold-roll-Error}
 use Rattle.ignore_base.specs.declared.error.Error.TheOpen as open_error
 use Rattle.ignore_base.specs.declared.error.Error.TheVariants.{rolls-Io, rolls-Memory}
 use Rattle.ignore_base.specs.declared.fault.Fault.{Fault}
+use Rattle.ignore_base.specs.declared.fault.Fault.TheVariants.{StepLimit}
 use Rattle.ignore_files.specs.declared.types.Listed.{Listed}
 use Rattle.ignore_dir.specs.Above.{problems_of_loads}
 use Rattle.ignore_dir.specs.Load.{AreLoads, joined_some}
@@ -116,3 +117,6 @@ problem_of-Io fault = ap problem_of (sym (rolls-Io fault)) ∙ fold-roll-Error P
 
 pub problem_of-Memory : problem_of Memory ≡ memory
 problem_of-Memory = ap problem_of (sym rolls-Memory) ∙ fold-roll-Error Problem problem_step open_error.Memory
+
+pub memory_no_limit : (answer : Option Item) → answer ≡ Some (Err (problem_of Memory)) → answer ≡ Some (Err (io StepLimit)) → ⊥
+memory_no_limit answer m l = cc (m, l, problem_of-Memory)

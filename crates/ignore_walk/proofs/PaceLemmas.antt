@@ -1,17 +1,20 @@
 -- Steps that were taken, one after the other.
-use Rattle.std.proofs.Common.{◌≡◌, ◌⊎◌, inl, inr, ℕ, suc, ◌+◌, ◌<◌, true, false, List, [], ◌∷◌, ◌++◌, length, Option, None, OnOk, Some, Ok, Err, Result, refl, sym, ◌∙◌, ap, subst, arith}
+use Rattle.std.proofs.Common.{◌≡◌, ◌⊎◌, inl, inr, ℕ, suc, ◌+◌, ◌<◌, Bool, true, false, List, [], ◌∷◌, ◌++◌, length, Option, None, OnOk, Some, Ok, Err, Result, refl, sym, ◌∙◌, ap, subst, arith}
+use Rattle.std.proofs.lemmas.Bool.{false≢true}
 use Rattle.ignore_base.specs.Text.{Path}
 use Rattle.ignore_files.specs.declared.files.Files.{Ghosts as Files}
 use Rattle.ignore_files.specs.declared.types.Listed.{Listed}
-use Rattle.ignore_walk.specs.Paces.{Begins, Enters, HasWork, IsListed, IsStep, Leaves, Lists, MayEnter, Takes, TakesOne, TookSteps, Work, more, none, work_at, work_of}
+use Rattle.ignore_walk.specs.Paces.{Begins, Enters, HasWork, IsListed, IsStep, Leaves, Lists, MayEnter, Takes, TakesOne, TookSteps, Work, more, none, work_at}
 use Rattle.ignore_walk.specs.declared.frame.Frame.{Frame}
 use Rattle.ignore_walk.specs.declared.ground.Ground.{Ground}
 use Rattle.ignore_walk.specs.declared.open.Directory.{Directory}
-use Rattle.ignore_walk.specs.declared.stack.Stack.{Stack}
+
+abbrev pub work : List Path → List Frame → Work
+work roots frames = record { roots = roots; frames = frames }
 
 -- nothing was begun
-pub work_first : (s : Stack) (roots : List Path) → s.roots.items ≡ roots → s.frames.items ≡ [] → work_of s ≡ work_at roots
-work_first s roots h k = cc (h, k)
+pub work_first : (own roots : List Path) (frames : List Frame) → own ≡ roots → frames ≡ [] → work own frames ≡ work_at roots
+work_first own roots frames h k = cc (h, k)
 
 -- a directory was entered that was listed
 pub entered : (lists : Lists) (directory : Directory) (old new : List Frame) → IsListed lists directory.path directory.rest.items
@@ -88,3 +91,7 @@ on_any_ok (Err e) p = tt
 pub listed_by : {F : Type 0} (files : Files F) (a b : F) (path : Path) (things : List Listed) → a ≡ b
     → IsListed (files.list_gives a) path things → IsListed (files.list_gives b) path things
 listed_by {F = F} files a b path things same listed = subst (λ (f : F). IsListed (files.list_gives f) path things) same listed
+
+-- a walk wasn't both ended and not
+pub not_both : (ended : Bool) → ended ≡ true → ended ≡ false → ⊥
+not_both ended h k = false≢true (sym k ∙ h)

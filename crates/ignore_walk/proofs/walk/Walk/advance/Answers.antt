@@ -1,8 +1,8 @@
 use Rattle.std.proofs.Common.{◌<◌, Option, inl, inr, refl, sym, ◌∙◌, ap, subst, arith, Err}
 use Rattle.ignore_walk.specs.Entry.{Item}
 use Rattle.ignore_walk.specs.Nexts.{EndsOrGoesOn, Nexts}
-use Rattle.ignore_walk.proofs.NoEndLemmas.{none_go_on, problem_of-Memory}
-use Rattle.ignore_walk.proofs.PaceLemmas.{all_steps, from_same, no_step, one_more_step, same_step}
+use Rattle.ignore_walk.proofs.NoEndLemmas.{memory_no_limit, none_go_on, problem_of-Memory}
+use Rattle.ignore_walk.proofs.PaceLemmas.{all_steps, from_same, no_step, not_both, one_more_step, same_step}
 use Rattle.ignore_walk.proofs.walk.Walk.advance.Goals as goal
 
 pub returns-in-Some-clause-given : goal.returns-in-Some-clause-given
@@ -89,7 +89,7 @@ pub returns-in-Some-clause-paced : goal.returns-in-Some-clause-paced
 returns-in-Some-clause-paced g c = record {
   ground = refl;
   paced = λ same. (0, omega arith, no_step _ _ _ c.in-Some.ensures.same);
-  limited = λ on over is. absurd (let e = sym on ∙ over in cc (e));
+  limited = λ on over is. absurd (not_both _ over on);
 }
 
 pub returns-then-self-eq0-clause-paced : goal.returns-then-self-eq0-clause-paced
@@ -97,7 +97,7 @@ returns-then-self-eq0-clause-paced g c =
     let on = c.is_done.ensures.goes_on c.loop-self-test.true in
     record {
       ground = c.end.ensures.ground ∙ c.loop-self.invariant.ground;
-      paced = λ same. absurd (let e = sym c.end.ensures.over.0 ∙ (same ∙ (sym c.loop-self.invariant.ended ∙ on)) in cc (e));
+      paced = λ same. absurd (not_both _ c.end.ensures.over.0 (same ∙ (sym c.loop-self.invariant.ended ∙ on)));
       limited = λ over done is. (
         _,
         all_steps _ c.args.self.now.left c.loop-self.self.left _ _ c.if-self-eq0.true
@@ -110,8 +110,8 @@ returns-in-Err-clause-paced g c =
     let on = c.is_done.ensures.goes_on c.loop-self-test.true in
     record {
       ground = c.end-in-Err.ensures.ground ∙ c.loop-self.invariant.ground;
-      paced = λ same. absurd (let e = sym c.end-in-Err.ensures.over.0 ∙ (same ∙ (sym c.loop-self.invariant.ended ∙ on)) in cc (e));
-      limited = λ over done is. absurd (let e = sym c.end-in-Err.ensures.item ∙ is in cc (e));
+      paced = λ same. absurd (not_both _ c.end-in-Err.ensures.over.0 (same ∙ (sym c.loop-self.invariant.ended ∙ on)));
+      limited = λ over done is. absurd (memory_no_limit _ c.end-in-Err.ensures.item is);
     }
 
 pub returns-in-Some-take_made-clause-paced : goal.returns-in-Some-take_made-clause-paced
@@ -124,7 +124,7 @@ returns-in-Some-take_made-clause-paced g c =
           one_more_step _ c.args.self.now.left c.loop-self.self.left _ _ _ _ (omega (c.if-self-eq0.false, arith))
           (from_same _ _ _ _ _ _ c.in_default.ensures.same c.loop-self.invariant.paced) step c.in-Some-take_made.ensures.same _
           (omega (c.if-self-eq0.false, arith));
-      limited = λ on over is. absurd (let e = sym on ∙ (sym c.loop-self.invariant.ended ∙ over) in cc (e));
+      limited = λ on over is. absurd (not_both _ over (c.loop-self.invariant.ended ∙ on));
     }
 
 pub returns-clause-paced : goal.returns-clause-paced

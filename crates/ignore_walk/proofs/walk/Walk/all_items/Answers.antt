@@ -35,12 +35,12 @@ returns-then-self-clause-over g c = λ over.
 pub loop-item-init : goal.loop-item-init
 loop-item-init g c = record {
   remaining = λ s items n r.
-      (items, n, sym (ap (λ (l : List (Result DirEntry Error)). map item_of l ++ items) c.new.ensures.items), refl, r);
+      (items, n, sym (ap (λ (l : List (Result DirEntry Error)). map item_of l ++ items) c.new-all.ensures.items), refl, r);
   ground = refl;
   goes_on = λ on. on;
-  over = λ over. (over, c.new.ensures.items);
+  over = λ over. (over, c.new-all.ensures.items);
   paced = λ on. (0, omega arith, no_step _ _ _ refl);
-  no_end = λ h. (h, subst (λ (l : List (Result DirEntry Error)). AllGoOn (map item_of l)) (sym c.new.ensures.items) tt);
+  no_end = λ h. (h, subst (λ (l : List (Result DirEntry Error)). AllGoOn (map item_of l)) (sym c.new-all.ensures.items) tt);
 }
 
 pub loop-item-preserved : goal.loop-item-preserved

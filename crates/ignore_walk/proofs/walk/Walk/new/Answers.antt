@@ -14,7 +14,7 @@ returns-clause-whole g c = λ s items n suits whole. record {
 }
 
 pub returns-clause-begins : goal.returns-clause-begins
-returns-clause-begins g c = work_first _ _ c.from_vec.ensures.items c.new-3.ensures.items
+returns-clause-begins g c = work_first _ _ _ c.from_vec.ensures.items c.new-3.ensures.items
 
 pub returns-clause-no_end : goal.returns-clause-no_end
 returns-clause-no_end g c = none_go_on _ (ap length (c.from_vec-2.ensures.items ∙ c.new-4.ensures.items))
