@@ -1,10 +1,10 @@
 -- Steps that were taken, one after the other.
-use Rattle.std.proofs.Common.{◌≡◌, ◌⊎◌, inl, inr, ℕ, suc, ◌+◌, ◌<◌, Bool, true, false, List, [], ◌∷◌, ◌++◌, length, Option, None, OnOk, Some, Ok, Err, Result, refl, sym, ◌∙◌, ap, subst, arith}
+use Rattle.std.proofs.Common.{◌≡◌, inl, inr, ℕ, suc, ◌+◌, ◌<◌, Bool, true, false, List, [], ◌∷◌, OnOk, Ok, Err, Result, refl, sym, ◌∙◌, ap, subst, arith}
 use Rattle.std.proofs.lemmas.Bool.{false≢true}
 use Rattle.ignore_base.specs.Text.{Path}
 use Rattle.ignore_files.specs.declared.files.Files.{Ghosts as Files}
 use Rattle.ignore_files.specs.declared.types.Listed.{Listed}
-use Rattle.ignore_walk.specs.Paces.{Begins, Enters, HasWork, IsListed, IsStep, Leaves, Lists, MayEnter, Takes, TakesOne, TookSteps, Work, more, none, work_at}
+use Rattle.ignore_walk.specs.Paces.{Enters, IsListed, IsStep, Lists, MayEnter, TakesOne, TookSteps, Work, more, none, work_at}
 use Rattle.ignore_walk.specs.declared.frame.Frame.{Frame}
 use Rattle.ignore_walk.specs.declared.ground.Ground.{Ground}
 use Rattle.ignore_walk.specs.declared.open.Directory.{Directory}

@@ -1,5 +1,5 @@
 -- The steps of a walk, whatever the files answer.
-use Rattle.std.specs.Prelude.{◌≡◌, ◌⊎◌, ◌+◌, ◌<◌, ℕ, suc, true, false, List, [], ◌∷◌, ◌++◌, Option, None, Some, Result, Err, IsPermutation, length}
+use Rattle.std.specs.Prelude.{◌≡◌, ◌⊎◌, ◌+◌, ◌<◌, ℕ, suc, true, false, List, [], ◌∷◌, ◌++◌, Option, Some, Result, Err, IsPermutation, length}
 use Rattle.ignore_base.specs.Text.{Path}
 use Rattle.ignore_base.specs.Problem.{io}
 use Rattle.ignore_base.specs.declared.fault.Fault.{Fault}

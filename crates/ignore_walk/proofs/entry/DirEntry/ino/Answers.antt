@@ -1,7 +1,6 @@
-use Rattle.std.proofs.Common.{None, Some, Ok, Err, ap, not, ◌∙◌}
-use Rattle.ignore_walk.specs.Answered.{as_answer}
+use Rattle.std.proofs.Common.{ap, not, ◌∙◌}
 use Rattle.ignore_walk.specs.Entry.{entry_of}
-use Rattle.ignore_walk.proofs.AnsweredLemmas.{inode_by_answer, is_answer, no_inode}
+use Rattle.ignore_walk.proofs.AnsweredLemmas.{no_inode}
 use Rattle.ignore_walk.proofs.entry.DirEntry.ino.Goals as goal
 
 pub returns-then-is_none-clause-answered : goal.returns-then-is_none-clause-answered

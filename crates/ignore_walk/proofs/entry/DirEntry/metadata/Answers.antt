@@ -1,9 +1,7 @@
-use Rattle.std.proofs.Common.{codes, ℕ, List, Ok, Err, MatchResult, Result, inr, ap, not, subst, sym, ◌∙◌, ◌≡◌}
+use Rattle.std.proofs.Common.{codes, ℕ, List, Ok, Err, Result, inr, ap, not, subst, sym, ◌∙◌}
 use Rattle.ignore_base.specs.Problem.{Problem, at_path}
-use Rattle.ignore_base.specs.declared.fault.Fault.{Fault}
 use Rattle.ignore_base.specs.declared.fault.Fault.TheVariants.{NoMetadata}
 use Rattle.ignore_files.specs.declared.types.Metadata.{Metadata}
-use Rattle.ignore_files.specs.declared.types.Refusal.TheVariants.{Fault as Refused}
 use Rattle.ignore_walk.specs.Answered.{IsMetadata, as_answer}
 use Rattle.ignore_walk.specs.Entry.{entry_of, failed_at}
 use Rattle.ignore_walk.proofs.AnsweredLemmas.{is_answer, metadata_by_answer, no_metadata}

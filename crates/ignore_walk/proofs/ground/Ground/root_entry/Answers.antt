@@ -1,4 +1,4 @@
-use Rattle.std.proofs.Common.{◌≡◌, false, IfOk, Result, ap, subst}
+use Rattle.std.proofs.Common.{false, IfOk, Result, ap, subst}
 use Rattle.ignore_base.specs.Problem.{Problem}
 use Rattle.ignore_dir.specs.declared.settings.Settings.{Settings}
 use Rattle.ignore_walk.specs.Child.{or_failed}

@@ -2,7 +2,7 @@ use Rattle.std.proofs.Common.{◌≡◌, ◌∷◌, [], ℕ, List, Ok, Err, Resu
 use Rattle.ignore_base.specs.Problem.{Problem, problem_of}
 use Rattle.ignore_base.specs.declared.error.Error.{Error}
 use Rattle.ignore_dir.specs.Query.{is_dir_there}
-use Rattle.ignore_walk.specs.Entry.{Entry, entry_of, item_of}
+use Rattle.ignore_walk.specs.Entry.{Entry, entry_of}
 use Rattle.ignore_walk.specs.Found.{IsFound}
 use Rattle.ignore_walk.specs.Frames.{device_of}
 use Rattle.ignore_walk.specs.Left.{InHand}

@@ -1,7 +1,6 @@
-use Rattle.std.proofs.Common.{◌≡◌, ◌++◌, ◌∷◌, [], List, Option, Some, Err, ap, false, map, option_map, option_to_list, refl, subst, sym, ◌∙◌}
+use Rattle.std.proofs.Common.{◌++◌, ◌∷◌, [], Option, Err, ap, map, option_map, option_to_list, sym, ◌∙◌}
 use Rattle.ignore_base.specs.Problem.{Problem, problem_of}
 use Rattle.ignore_base.specs.declared.error.Error.{Error}
-use Rattle.ignore_dir.specs.Soft.{IsSoft, holds_memory}
 use Rattle.ignore_walk.specs.Entry.{Item, item_of}
 use Rattle.ignore_walk.proofs.NoEndLemmas.{made_go_on, some_no_limit_at, some_soft_at}
 use Rattle.ignore_walk.proofs.VisitLemmas.{on_ok_map}

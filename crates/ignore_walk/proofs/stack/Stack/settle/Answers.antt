@@ -1,4 +1,4 @@
-use Rattle.std.proofs.Common.{◌≡◌, ◌++◌, ℕ, List, Option, inr, option_map, length, map, refl, reverse, subst, sym, ◌∙◌, ap, append_assoc, None, false}
+use Rattle.std.proofs.Common.{◌≡◌, ◌++◌, ℕ, List, Option, option_map, length, map, refl, reverse, subst, sym, ◌∙◌, ap, append_assoc, None, false}
 use Rattle.ignore_dir.specs.Lists.{Placed}
 use Rattle.ignore_files.specs.declared.types.Listed.{Listed}
 use Rattle.ignore_levels.specs.declared.list.Place.{Place}

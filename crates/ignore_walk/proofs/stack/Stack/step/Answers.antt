@@ -1,4 +1,4 @@
-use Rattle.std.proofs.Common.{◌≡◌, ◌++◌, ◌∷◌, [], ℕ, List, None, Ok, Err, Result, inl, inr, reverse, refl, sym, ◌∙◌, ap, subst, false, IfErr}
+use Rattle.std.proofs.Common.{◌≡◌, ◌++◌, ◌∷◌, [], ℕ, List, Ok, Err, Result, inl, inr, reverse, refl, sym, ◌∙◌, ap, subst, false, IfErr}
 use Rattle.ignore_base.specs.Problem.{Problem, problem_of}
 use Rattle.ignore_base.specs.declared.error.Error.{Error}
 use Rattle.ignore_walk.specs.Branch.{Branch, text_at}
