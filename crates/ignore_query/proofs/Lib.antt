@@ -4,6 +4,7 @@ pub mod EntryLemmas
 pub mod ForgetLemmas
 pub mod KeepLemmas
 pub mod KeyLemmas
+pub mod CountLemmas
 pub mod PlainLemmas
 pub mod WorkedPlain
 pub mod KnownLemmas
