@@ -1,17 +1,17 @@
 -- The directories that are kept, by their names, and how many of them are at or below one.
 use lib.Pointwise.{pointwise}
-use Rattle.std.proofs.Common.{◌≡◌, ◌≢◌, ℕ, ◌+◌, Bool, true, false, cond, not, All, List, [], ◌∷◌, String, Global, filter, length, map, string_bytes}
+use Rattle.std.proofs.Common.{◌≡◌, ◌≢◌, ℕ, ◌+◌, Bool, true, false, cond, not, All, List, [], ◌∷◌, filter, length, map, string_bytes}
 use Rattle.std.proofs.Common.{refl, sym, ◌∙◌, ap, subst, arith, zero, suc, ◌&&◌, ◌||◌, Option, Some, is_some, take, ◌-◌}
 use Rattle.std.proofs.Math.Logic.{∥∥₁_elim}
-use Rattle.std.proofs.lemmas.List.Elements.{All-head, All-tail, All-weaker}
+use Rattle.std.proofs.lemmas.List.Elements.{All-head, All-map, All-tail, All-weaker}
 use Rattle.std.proofs.lemmas.List.Filters.{length-filter_both}
 use Rattle.std.proofs.lemmas.Map.Keys.{IsDistinct-from_sorted}
 use Rattle.std.proofs.lemmas.Map.Text.{is_eq-slice_cmp}
 use Rattle.std.proofs.lemmas.Map.Views.{All-found}
 use Rattle.std.proofs.lemmas.Slice.Eq.{bytes_eq-Decides, slice_eq-Decides}
-use Rattle.std.specs.BTreeMap.{BTreeMap, IsOrdered, btree_map_len, get}
+use Rattle.std.specs.BTreeMap.{IsOrdered, btree_map_len, get}
 use Rattle.std.specs.Cmp.Lexicographic.{slice_cmp}
-use Rattle.std.specs.List.{AllByRecursion, IsDistinct, IsDistinct-prop, list_all, list_any}
+use Rattle.std.specs.List.{AllByRecursion, IsDistinct, list_all, list_any}
 use Rattle.std.specs.Map.{keys_of, lookup}
 use Rattle.std.specs.Ordering.{eq_by_cmp, is_eq, nat_cmp}
 use Rattle.std.specs.Str.{bytes_eq}
@@ -24,7 +24,7 @@ use Rattle.ignore_dir.specs.Chains.{slashed}
 use Rattle.ignore_dir.specs.Query.{is_clean, names_of}
 use Rattle.ignore_query.specs.declared.kept.Cache.{Cache}
 use Rattle.ignore_query.specs.declared.kept.Kept.{Kept}
-use Rattle.ignore_query.specs.Forget.{ListsKept, is_at_or_below, is_key_in, kept_dirs}
+use Rattle.ignore_query.specs.Forget.{ListsKept, is_at_or_below, is_key_in}
 use Rattle.ignore_query.specs.Keys.{AreKeys, IsKey, dirs_in, names_in}
 use Rattle.ignore_query.proofs.EntryLemmas.{Entry, at_text}
 use Rattle.ignore_query.proofs.ForgetLemmas.{joined-all, key_by_names}
@@ -95,7 +95,7 @@ both_ways true false f h = sym (f refl)
 both_ways false true f h = h refl
 both_ways false false f h = refl
 
-names_are : (key : List ℕ) (k : IsKey key) → names_in key ≡ k.0
+pub names_are : (key : List ℕ) (k : IsKey key) → names_in key ≡ k.0
 names_are key k = ap names_in k.2 ∙ names_key k.0 k.1
 
 key_back : (key : List ℕ) → IsKey key → slashed (names_in key) ≡ key
@@ -155,33 +155,57 @@ and_parts false b h = absurd (cc)
 proper : Entry → Bool
 proper e = list_all is_proper (names_in (string_bytes e.0))
 
-proper_all : (es : List Entry) → All (λ e. IsKey (string_bytes e.0)) es → list_all proper es ≡ true
+proper_one : (e : Entry) → IsKey (string_bytes e.0) → proper e ≡ true
 unfolding proper
-proper_all [] all = refl
-proper_all (e ∷ es) all =
-    let P : Entry → Type 0 = λ x. IsKey (string_bytes x.0) in
-    let k = All-head P e es all in
-    and_from (list_all is_proper (names_in (string_bytes e.0))) (list_all proper es)
-    (ap (list_all is_proper) (names_are (string_bytes e.0) k) ∙ proper_each k.0 k.1) (proper_all es (All-tail P e es all))
+proper_one e k = ap (list_all is_proper) (names_are (string_bytes e.0) k) ∙ proper_each k.0 k.1
 
 named_of : (path : List ℕ) → list_all is_proper (names_of path) ≡ true → All IsName (names_of path)
 named_of [] h = λ k d l. absurd (omega (arith, l))
 named_of (b ∷ bs) h = names-components (b ∷ bs) h
 
-named_all : (es : List Entry) → list_all proper es ≡ true → All (All IsName) (map (λ e. names_in (string_bytes e.0)) es)
+proper_names : (e : Entry) → proper e ≡ true → All IsName (names_in (string_bytes e.0))
 unfolding proper
-named_all [] h k d l = absurd (omega (arith, l))
-named_all (e ∷ es) h zero d l =
+proper_names e h = let key = string_bytes e.0 in named_of (take (length key - 1) key) h
+
+-- whether a key is that of a directory, by a test
+is_key : Entry → Bool
+is_key e = proper e && bytes_eq (slashed (names_in (string_bytes e.0))) (string_bytes e.0)
+
+keys_test : (es : List Entry) → All (λ e. IsKey (string_bytes e.0)) es → list_all is_key es ≡ true
+unfolding is_key
+keys_test [] all = refl
+keys_test (e ∷ es) all =
+    let P : Entry → Type 0 = λ x. IsKey (string_bytes x.0) in
+    let k = All-head P e es all in
     let key = string_bytes e.0 in
-    named_of (take (length key - 1) key) (and_parts (list_all is_proper (names_in key)) (list_all proper es) h).0
-named_all (e ∷ es) h (suc k) d l =
-    named_all es (and_parts (list_all is_proper (names_in (string_bytes e.0))) (list_all proper es) h).1 k d (omega (arith, l))
+    and_from (is_key e) (list_all is_key es) (and_from (proper e) (bytes_eq (slashed (names_in key)) key) (proper_one e k)
+    ((bytes_eq-Decides (slashed (names_in key)) key).1 (key_back key k))) (keys_test es (All-tail P e es all))
+
+keys_from : (es : List Entry) → list_all is_key es ≡ true → All (λ e. IsKey (string_bytes e.0)) es
+unfolding is_key
+keys_from [] h k d l = absurd (omega (arith, l))
+keys_from (e ∷ es) h zero d l =
+    let key = string_bytes e.0 in
+    let both = and_parts (proper e) (bytes_eq (slashed (names_in key)) key) (and_parts (is_key e) (list_all is_key es) h).0 in
+    (names_in key, proper_names e both.0, sym ((bytes_eq-Decides (slashed (names_in key)) key).0 both.1))
+keys_from (e ∷ es) h (suc k) d l = keys_from es (and_parts (is_key e) (list_all is_key es) h).1 k d (omega (arith, l))
+
+pub keys_sure : (c : Cache) → IsOrdered string_cmp c.dirs.map → All (λ e. IsKey (string_bytes e.0)) c.dirs.map.entries
+keys_sure c ordered =
+    let es = c.dirs.map.entries in
+    keys_from es (∥∥₁_elim c.dirs.keys (Bool-set _ _) (λ are. keys_test es (keys_all c.dirs.map ordered are)))
+
+named_all : (es : List Entry) → All (λ e. IsKey (string_bytes e.0)) es → All (All IsName) (map (λ e. names_in (string_bytes e.0)) es)
+named_all es all =
+    let name : Entry → List (List ℕ) = λ e. names_in (string_bytes e.0) in
+    All-map (All IsName) name es
+    (All-weaker (λ e. IsKey (string_bytes e.0)) (λ e. All IsName (name e)) (λ e k. subst (All IsName) (sym (names_are (string_bytes e.0) k)) k.1) es all)
 
 pub lists_kept : (c : Cache) → IsOrdered string_cmp c.dirs.map → ListsKept c
 lists_kept c ordered =
-    let es = c.dirs.map.entries in record {
-      once = ∥∥₁_elim c.dirs.keys (IsDistinct-prop (pointwise bytes_eq) (kept_dirs c))
-          (λ are. distinct es (keys_all c.dirs.map ordered are) (IsDistinct-from_sorted string_cmp (keys_of es) ordered));
-      each = λ names named. ∥∥₁_elim c.dirs.keys (Bool-set _ _) (λ are. listed names es named (keys_all c.dirs.map ordered are));
-      named = named_all es (∥∥₁_elim c.dirs.keys (Bool-set _ _) (λ are. proper_all es (keys_all c.dirs.map ordered are)));
+    let es = c.dirs.map.entries in
+    let keys = keys_sure c ordered in record {
+      once = distinct es keys (IsDistinct-from_sorted string_cmp (keys_of es) ordered);
+      each = λ names named. listed names es named keys;
+      named = named_all es keys;
     }

@@ -20,3 +20,4 @@ pub mod TurnsOnly
 pub mod CopiesOnly
 pub mod WorkedKept
 pub mod WorkedRules
+pub mod LoadedLemmas

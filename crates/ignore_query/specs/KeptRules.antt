@@ -1,9 +1,13 @@
 -- The rules of the directories that a matcher keeps.
-use Rattle.std.specs.Prelude.{ℕ, ◌+◌, ◌==◌, List, [], ◌++◌, Option, None, Some, map, length, string_bytes, if◌then◌else◌}
+use Rattle.std.specs.Prelude.{ℕ, ◌+◌, ◌==◌, List, [], ◌∷◌, ◌++◌, Option, None, Some, map, length, string_bytes, if◌then◌else◌}
 use Rattle.std.specs.List.{flat_map}
-use Rattle.ignore_base.specs.Text.{Path}
+use Rattle.ignore_base.specs.Text.{Bytes, Path}
 use Rattle.ignore_rules.specs.Rules.{Rule}
 use Rattle.ignore_dir.specs.declared.dir.Dir.{Dir}
+use Rattle.ignore_dir.specs.Above.{path_along}
+use Rattle.ignore_dir.specs.Chains.{slashed}
+use Rattle.ignore_dir.specs.Query.{is_ignored}
+use Rattle.ignore_dir.specs.Scene.{Scene, names_to}
 use Rattle.ignore_levels.specs.Levels.{level_at, slots_of}
 use Rattle.ignore_levels.specs.declared.list.Level.{Level}
 use Rattle.ignore_query.specs.declared.kept.Cache.{Cache}
@@ -32,6 +36,11 @@ rules_in path dir =
     map (named_in path Custom) dir.custom.rules
     ++ (map (named_in path Ignore) dir.ignore.rules
     ++ (map (named_in path Gitignore) dir.gitignore.rules ++ map (named_in path Exclude) dir.exclude.rules))
+
+-- the rules of a directory by the tree: those of its load, and none where it is ignored. Its path
+-- has the names from the top
+abbrev pub rules_of : Scene → List Bytes → List Named
+rules_of g names = if is_ignored g names then [] else rules_in (47 ∷ slashed (names_to g names)) (g.loads (path_along g.root names)).0
 
 -- a level, where its offset is this one
 abbrev pub level_from : ℕ → Option Level → Option Level

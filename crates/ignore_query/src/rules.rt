@@ -8,6 +8,7 @@ use crate::incremental::IncrementalIgnore;
 use crate::kept::{Cache, Kept};
 use ignore_base::Error;
 use ignore_dir::Dir;
+use ignore_dir::laws::steps_are_whole;
 use ignore_levels::Level;
 use ignore_rules::gitignore::Glob;
 use ignore_why::{NamedRule, RuleRank};
@@ -63,6 +64,8 @@ fn push_dir(rules: &mut Vec<NamedRule>, path: &str, dir: &Dir) -> Result<(), All
 impl Cache {
     ghost use Rattle.std.specs.Prelude.{◌+◌, length, string_bytes};
     ghost use Rattle.std.specs.Option.{option_copied};
+    ghost use Rattle.std.specs.BTreeMap.{IsOrdered};
+    ghost use Rattle.std.specs.String.{string_cmp};
     ghost use Rattle.ignore_query.specs.KeptRules.{own_level};
 
     /// The level of the directory with this key, where it has one of its own.
@@ -96,28 +99,49 @@ impl Cache {
         path.push_str(key)?;
         push_dir(rules, path.as_str(), &level.dir)
     }
+
+    /// The rules of all directories that are kept below the root, and of the root.
+    fn rules(&self, alloc: Global) -> Result<Vec<NamedRule>, AllocError>
+        ensures rules { IfOk result (λ rules. map named_of rules.items ≡ kept_rules self.now) }
+        ensures ordered { IsOrdered string_cmp self.now.dirs.map }
+    {
+        let mut rules = Vec::new(alloc);
+        for (key, kept) in self.dirs.map.iter() {
+            self.push_rules(&mut rules, key.as_str(), *kept)?;
+        }
+        Ok(rules)
+    }
 }
 
 impl IncrementalIgnore {
+    ghost use Rattle.std.specs.Prelude.{ℕ, List};
+    ghost use Rattle.std.specs.List.{flat_map};
+    ghost use Rattle.ignore_dir.specs.Load.{Loaded};
+    ghost use Rattle.ignore_files.specs.Tree.{Tree};
+    ghost use Rattle.ignore_query.specs.Agrees.{Agrees};
+    ghost use Rattle.ignore_query.specs.Forget.{kept_dirs};
+    ghost use Rattle.ignore_query.specs.KeptRules.{rules_of};
+    ghost use Rattle.ignore_query.specs.Reached.{scene_of};
+
     /// The rules of the directories that are kept: of the root, and of the directories below it
     /// that questions came through. A directory comes before those below it, and its rules in the
     /// order in which its lists decide: custom files, `.ignore`, `.gitignore`, the exclude file;
     /// those of a list in the order of their lines, of which the last one that matches decides.
     ///
-    /// No rule is read for it: where nothing was asked yet, there is none. The rules of the
+    /// No file is read for it: where nothing was asked yet, there is none. The rules of the
     /// directories above the root aren't among them, nor are the global file's and those of files
     /// that were added by name.
     ///
     /// # Errors
     /// `Error::Memory` alone.
     pub fn rules(&self) -> Result<Vec<NamedRule>, Error>
+        ensures loaded { (tree : Tree) (loads : List ℕ → Loaded) → let g = scene_of self.now.asked tree loads in
+            Agrees g self.now.cache
+            → IfOk result (λ rules. map named_of rules.items ≡ flat_map (rules_of g) (kept_dirs self.now.cache)) }
         ensures rules { IfOk result (λ rules. map named_of rules.items ≡ kept_rules self.now.cache) }
         ensures out_of_memory { IfErr result (λ e. problem_of e ≡ memory) }
     {
-        let mut rules = Vec::new(*self.asked.root.allocator());
-        for (key, kept) in self.cache.dirs.map.iter() {
-            self.cache.push_rules(&mut rules, key.as_str(), *kept)?;
-        }
-        Ok(rules)
+        steps_are_whole();
+        Ok(self.cache.rules(*self.asked.root.allocator())?)
     }
 }

@@ -86,7 +86,10 @@ fn surveyed(alloc: Global, root: &str, limit: u64) -> anyhow::Result<String> {
 #[test]
 fn parents_come_first(rt: HostRuntime) -> anyhow::Result<()> {
     let text = surveyed(rt.alloc(), "/t", 100)?;
-    assert_eq!(rt; text.as_str(), ".ignore: hidden; a: no rule; a/.ignore: hidden; a/x.o: /t/a/.ignore:1:!x.o; b: /t/.ignore:1:b; c: no rule; l: no rule; ");
+    assert_eq!(rt;
+        text.as_str(),
+        ".ignore: hidden; a: no rule; a/.ignore: hidden; a/x.o: /t/a/.ignore:1:!x.o; b: /t/.ignore:1:b; c: no rule; l: no rule; "
+    );
     Ok(())
 }
 
@@ -100,7 +103,10 @@ fn one_item_too_few(rt: HostRuntime) -> anyhow::Result<()> {
 #[test]
 fn items_enough(rt: HostRuntime) -> anyhow::Result<()> {
     let text = surveyed(rt.alloc(), "/t/a", 2)?;
-    assert_eq!(rt; text.as_str(), ".ignore: hidden; x.o: /t/a/.ignore:1:!x.o; ");
+    assert_eq!(rt;
+        text.as_str(),
+        ".ignore: hidden; x.o: /t/a/.ignore:1:!x.o; "
+    );
     Ok(())
 }
 
