@@ -9,3 +9,4 @@ pub mod Root
 pub mod Why
 pub mod Ignored
 pub mod Unused
+pub mod Input

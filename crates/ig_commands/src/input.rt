@@ -1,4 +1,7 @@
 //! Paths from standard input.
+ghost use Rattle.std.specs.Prelude.{◌≡◌, ◌++◌, false, true, IfSome, List, OnOk};
+ghost use Rattle.ig_commands.specs.Input.{AreGiven};
+ghost use Rattle.ig_options.specs.declared.given.Given.{Given};
 
 use crate::stop::Stop;
 use ig_options::{Options, given_by};
@@ -12,7 +15,11 @@ pub(crate) fn read_paths<R: BufRead + Drop>(
     alloc: Global,
     input: R,
     options: &mut Options,
-) -> Result<(), Stop> {
+) -> Result<(), Stop>
+    ensures given { options.old.stdin ≡ true → OnOk result (IfSome (R.remaining input) (λ bytes. (all : List Given) × AreGiven options.old bytes all
+        × (options.new ≡ record options.old { paths = options.new.paths }) × (options.new.paths.items ≡ options.old.paths.items ++ all))) }
+    ensures unasked { options.old.stdin ≡ false → OnOk result (options.new ≡ options.old) }
+{
     if !options.stdin {
         return Ok(());
     }
