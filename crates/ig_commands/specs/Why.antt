@@ -27,7 +27,7 @@ use Rattle.ignore.specs.Builder.{with_root}
 use Rattle.ignore.specs.Matchers.{asked_by}
 use Rattle.ignore.specs.declared.options.WalkOptions.{WalkOptions}
 use Rattle.ig_options.specs.declared.given.Given.{Given}
-use Rattle.ig_options.specs.declared.given.Given.TheVariants as given
+use Rattle.ig_options.specs.declared.given.Given.TheVariants as place
 use Rattle.ig_options.specs.declared.options.Options.{Options}
 use Rattle.ig_commands.specs.Counts.{capped, counted, status_of}
 use Rattle.ig_commands.specs.Form.{reasoned}
@@ -50,16 +50,16 @@ pub record Told : Type 0 where
 -- what becomes of what is given in the place of a path: a record of standard input that is no path,
 -- with its number; a path that isn't below the root; or a path that is
 pub data Said : Type 0 where
-  not_text : ℕ → Said
-  badly_quoted : ℕ → Said
-  outside : Path → Said
+  no_text : ℕ → Said
+  ill_quoted : ℕ → Said
+  not_below : Path → Said
   told : Told → Said
 
 -- the same of a value of the code
 abbrev pub said_of : Code → Said
-said_of (code.NotText number) = not_text number
-said_of (code.BadlyQuoted number) = badly_quoted number
-said_of (code.Outside path) = outside path.now
+said_of (code.NotText number) = no_text number
+said_of (code.BadlyQuoted number) = ill_quoted number
+said_of (code.Outside path) = not_below path.now
 said_of (code.Told path e error) =
     told (record {
       path = path.now;
@@ -70,9 +70,9 @@ said_of (code.Told path e error) =
 
 -- what is written of it: a path after its reason
 abbrev pub written : Options → Path → Said → Bytes
-written o root (not_text number) = []
-written o root (badly_quoted number) = []
-written o root (outside path) = []
+written o root (no_text number) = []
+written o root (ill_quoted number) = []
+written o root (not_below path) = []
 written o root (told t) = if o.quiet then [] else reasoned (Some root) o.null t.why t.path
 
 -- the report of a record of standard input
@@ -81,23 +81,23 @@ record_line number what = codes "ig: path " ++ (decimal number ++ (codes " of st
 
 -- what is reported of it
 abbrev pub reports : Path → Said → Bytes
-reports root (not_text number) = record_line number (codes "is not UTF-8")
-reports root (badly_quoted number) = record_line number (codes "is badly quoted")
-reports root (outside path) = codes "ig: " ++ (path ++ (codes ": outside of " ++ (root ++ 10 ∷ [])))
+reports root (no_text number) = record_line number (codes "is not UTF-8")
+reports root (ill_quoted number) = record_line number (codes "is badly quoted")
+reports root (not_below path) = codes "ig: " ++ (path ++ (codes ": outside of " ++ (root ++ 10 ∷ [])))
 reports root (told t) = report_of t.problem
 
 -- something is reported of it
 abbrev pub is_wrong : Said → Bool
-is_wrong (not_text number) = true
-is_wrong (badly_quoted number) = true
-is_wrong (outside path) = true
+is_wrong (no_text number) = true
+is_wrong (ill_quoted number) = true
+is_wrong (not_below path) = true
 is_wrong (told t) = is_known t.problem
 
 -- it is a path that is ignored
 abbrev pub is_found : Said → Bool
-is_found (not_text number) = false
-is_found (badly_quoted number) = false
-is_found (outside path) = false
+is_found (no_text number) = false
+is_found (ill_quoted number) = false
+is_found (not_below path) = false
 is_found (told t) = t.is_ignored
 
 -- a path that is asked about is a directory: one is there that isn't a link, or it ends with a slash
@@ -113,16 +113,16 @@ pub record IsTold (g : Scene) (text : Path) (old new : Cache) (t : Told) : Type 
 
 -- what becomes of a path, by the text by which it is known below the root, if there is one
 abbrev pub IsSaidOf : Scene → Option Path → Path → Cache → Cache → Said → Type 0
-IsSaidOf g known path old new (not_text number) = ⊥
-IsSaidOf g known path old new (badly_quoted number) = ⊥
-IsSaidOf g known path old new (outside p) = (p ≡ path) × (known ≡ None) × (new ≡ old)
+IsSaidOf g known path old new (no_text number) = ⊥
+IsSaidOf g known path old new (ill_quoted number) = ⊥
+IsSaidOf g known path old new (not_below p) = (p ≡ path) × (known ≡ None) × (new ≡ old)
 IsSaidOf g known path old new (told t) = (t.path ≡ path) × (text : Path) × (known ≡ Some text) × IsTold g text old new t
 
 -- what becomes of what is given, in a working directory
 abbrev pub IsSaid : Scene → Option Path → Given → Cache → Cache → Said → Type 0
-IsSaid g dir (given.Path path) old new said = IsSaidOf g (normalize_of dir g.root path) path old new said
-IsSaid g dir (given.NotText number) old new said = (said ≡ not_text number) × (new ≡ old)
-IsSaid g dir (given.BadlyQuoted number) old new said = (said ≡ badly_quoted number) × (new ≡ old)
+IsSaid g dir (place.Path path) old new said = IsSaidOf g (normalize_of dir g.root path) path old new said
+IsSaid g dir (place.NotText number) old new said = (said ≡ no_text number) × (new ≡ old)
+IsSaid g dir (place.BadlyQuoted number) old new said = (said ≡ ill_quoted number) × (new ≡ old)
 
 -- the same of each in turn: what is kept before it is what those before it left
 abbrev pub AreSaid : Scene → Option Path → List Given → Cache → Cache → List Said → Type 0
