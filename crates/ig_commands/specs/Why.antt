@@ -41,7 +41,7 @@ use Rattle.ig_commands.specs.declared.why.Said.TheVariants as code
 
 -- a path, why it is ignored or not, whether it is ignored, and what was reported of the files of
 -- rules that were read for it
-pub record Told : Type 0 where
+pub record Answered : Type 0 where
   pub path : Path
   pub why : QueryWhy
   pub is_ignored : Bool
@@ -53,14 +53,14 @@ pub data Said : Type 0 where
   no_text : ℕ → Said
   ill_quoted : ℕ → Said
   not_below : Path → Said
-  told : Told → Said
+  told : Answered → Said
 
 -- the same of a value of the code
 abbrev pub said_of : Code → Said
 said_of (code.NotText number) = no_text number
 said_of (code.BadlyQuoted number) = ill_quoted number
 said_of (code.Outside path) = not_below path.now
-said_of (code.Told path e error) =
+said_of (code.Answered path e error) =
     told (record {
       path = path.now;
       why = query_why_of e.reason;
@@ -105,7 +105,7 @@ abbrev pub is_dir_at : Scene → Path → Path → Bool
 is_dir_at g given text = is_dir_there (g.tree.stat (join_of g.root text) false) || ends_with_slash given
 
 -- a path below the root is asked about where `old` is kept, and `new` after it
-pub record IsTold (g : Scene) (text : Path) (old new : Cache) (t : Told) : Type 0 where
+pub record IsAnswered (g : Scene) (text : Path) (old new : Cache) (t : Answered) : Type 0 where
   pub why : t.why ≡ query_why g text (is_dir_at g t.path text)
   pub is_ignored : t.is_ignored ≡ is_ignore (query g text (is_dir_at g t.path text)).0.verdict
   pub leaves : Leaves g (text, is_dir_at g t.path text) old new
@@ -116,7 +116,7 @@ abbrev pub IsSaidOf : Scene → Option Path → Path → Cache → Cache → Sai
 IsSaidOf g known path old new (no_text number) = ⊥
 IsSaidOf g known path old new (ill_quoted number) = ⊥
 IsSaidOf g known path old new (not_below p) = (p ≡ path) × (known ≡ None) × (new ≡ old)
-IsSaidOf g known path old new (told t) = (t.path ≡ path) × (text : Path) × (known ≡ Some text) × IsTold g text old new t
+IsSaidOf g known path old new (told t) = (t.path ≡ path) × (text : Path) × (known ≡ Some text) × IsAnswered g text old new t
 
 -- what becomes of what is given, in a working directory
 abbrev pub IsSaid : Scene → Option Path → Given → Cache → Cache → Said → Type 0

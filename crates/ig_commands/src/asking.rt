@@ -20,7 +20,7 @@ pub(crate) struct Asked {
 }
 
 /// What the options ask for. `first` has the file types that exist without `--type-add`.
-pub(crate) fn asked<F: Files>(
+pub(crate) fn asked_for<F: Files>(
     world: &World<'_, F>,
     options: &Options,
     first: TypesBuilder,

@@ -4,7 +4,7 @@ ghost use Rattle.std.specs.Io.KnownBytes.{Appends};
 ghost use Rattle.ig_commands.specs.Ignored.{IgnoredAsked, IgnoredEnds};
 ghost use Rattle.std.specs.Iterator.{IsFinite};
 
-use crate::asking::{Asked, asked};
+use crate::asking::{Asked, asked_for};
 use crate::counts::{Counts, Seen, report_counts, status_of};
 use crate::form::{Form, write_reasoned};
 use crate::reports::{report_all, report_some};
@@ -41,7 +41,7 @@ pub fn list_ignored<F: Files, W: Write, E: Write>(
     ensures ended { IfErr result (IgnoredEnds F.Files world.now.files.now world.now.env.now options.now first.entry
         (Appends (W.contents out.old) (W.contents out.new)) (Appends (E.contents err.old) (E.contents err.new))) }
 {
-    match asked(world, options, first) {
+    match asked_for(world, options, first) {
         Ok(asked) => report_and_survey(world, options, asked, out, err),
         Err(Error::Memory) => Err(Stop::Memory),
         Err(error) => refuse(&error, err),

@@ -20,7 +20,7 @@ ghost use Rattle.ig_commands.specs.Reports.{Notes, is_known, is_reported, last_i
 ghost use Rattle.ig_commands.specs.Stops.{EndsAfter};
 ghost use Rattle.ig_commands.specs.Writing.{is_found, is_listed, lines_of};
 
-use crate::asking::{Asked, asked};
+use crate::asking::{Asked, asked_for};
 use crate::counts::{Counts, Seen, report_counts, status_of};
 use crate::reports::{Folders, report_all, report_fault, report_some};
 use crate::stop::Stop;
@@ -60,7 +60,7 @@ pub fn list<F: Files, W: Write, E: Write>(
     ensures ended { IfErr result (EndsAsked F.Files world.now.files.now world.now.env.now options.now first.entry
         (Appends (W.contents out.old) (W.contents out.new)) (Appends (E.contents err.old) (E.contents err.new))) }
 {
-    match asked(world, options, first) {
+    match asked_for(world, options, first) {
         Ok(asked) => report_and_walk(world, options, asked, out, err),
         Err(Error::Memory) => Err(Stop::Memory),
         Err(error) => refuse(&error, err),

@@ -3,7 +3,7 @@ ghost use Rattle.std.specs.Prelude.{IfErr, IfOk};
 ghost use Rattle.std.specs.Io.KnownBytes.{Appends};
 ghost use Rattle.ig_commands.specs.Unused.{UnusedAsked, UnusedEnds};
 
-use crate::asking::{Asked, asked};
+use crate::asking::{Asked, asked_for};
 use crate::counts::{Counts, report_counts, status_of};
 use crate::form::{Form, rule_of};
 use crate::ignored::{matchers_of, report_item};
@@ -41,7 +41,7 @@ pub fn list_unused<F: Files, W: Write, E: Write>(
     ensures ended { IfErr result (UnusedEnds F.Files world.now.files.now world.now.env.now options.now first.entry
         (Appends (W.contents out.old) (W.contents out.new)) (Appends (E.contents err.old) (E.contents err.new))) }
 {
-    match asked(world, options, first) {
+    match asked_for(world, options, first) {
         Ok(asked) => report_and_find(world, options, asked, out, err),
         Err(Error::Memory) => Err(Stop::Memory),
         Err(error) => refuse(&error, err),

@@ -16,7 +16,7 @@ ghost use Rattle.ig_commands.specs.Stops.{EndsAfter};
 ghost use Rattle.ig_commands.specs.Why.{AreAll, AreFirst, AreSaid, IsMatcherOf, IsSaid, WhyAsked, WhyEnds, Writes, is_found, is_wrong, reports, said_of, written};
 ghost use Rattle.ig_commands.specs.Why.Said as plain;
 
-use crate::asking::{Asked, asked};
+use crate::asking::{Asked, asked_for};
 use crate::counts::{Counts, Seen, status_of};
 use crate::form::{Form, write_reasoned};
 use crate::reports::{report_all, report_some};
@@ -66,7 +66,7 @@ pub fn why<F: Files, W: Write, E: Write>(
     ensures ended { IfErr result (WhyEnds F.Files world.now.files.now world.now.env.now options.now first.entry
         (Appends (W.contents out.old) (W.contents out.new)) (Appends (E.contents err.old) (E.contents err.new))) }
 {
-    match asked(world, options, first) {
+    match asked_for(world, options, first) {
         Ok(asked) => report_and_ask(world, options, asked, out, err),
         Err(Error::Memory) => Err(Stop::Memory),
         Err(error) => refuse(&error, err),
