@@ -7,10 +7,12 @@ use Rattle.ignore_files.specs.Gives.{IsHonest}
 use Rattle.ignore_files.specs.Tree.{Tree}
 use Rattle.ignore_files.specs.declared.env.Env.{Env}
 use Rattle.ignore_base.specs.declared.fault.Fault.TheVariants.{StepLimit}
-use Rattle.ignore_base.specs.Problem.{Problem, io, memory}
+use Rattle.ignore_base.specs.Problem.{Problem, io, memory, problem_of}
+use Rattle.ignore_base.specs.declared.error.Error.{Error}
 use Rattle.ignore_walk.specs.declared.walk.Walk.{Walk}
 use Rattle.ignore_walk.specs.Entry.{Item}
 use Rattle.ignore_walk.specs.Nexts.{EndsBy, Remaining}
+use Rattle.ignore_walk.specs.Paces.{TookSteps, Work}
 use Rattle.ignore_walk.specs.Runs.{IsRun}
 use Rattle.ignore_walk.specs.Scene.{Scene}
 use Rattle.ignore_walk.specs.Suits.{Suits}
@@ -111,3 +113,12 @@ ended_of files calls f owner env b order w problem (Err e) by limit ended (inr l
             ],
       ),
 )
+
+-- a walk that was ended by the limit: the files, the limit and the roots under other names
+pub limited_by : {F A : Type 0} (files : Files F) (f h : F) (l m : ℕ) (a b : Work) (r : Result A Error) → h ≡ f → l ≡ m → a ≡ b
+    → IfErr r (λ e. problem_of e ≡ io StepLimit → (w : Work) × TookSteps (files.list_gives h) l a w)
+    → IfErr r (λ e. problem_of e ≡ io StepLimit → (w : Work) × TookSteps (files.list_gives f) m b w)
+limited_by {F = F} files f h l m a b r same limit roots t =
+    subst (λ (x : F). IfErr r (λ e. problem_of e ≡ io StepLimit → (w : Work) × TookSteps (files.list_gives x) m b w)) same
+    (subst (λ (n : ℕ). IfErr r (λ e. problem_of e ≡ io StepLimit → (w : Work) × TookSteps (files.list_gives h) n b w)) limit
+    (subst (λ (x : Work). IfErr r (λ e. problem_of e ≡ io StepLimit → (w : Work) × TookSteps (files.list_gives h) l x w)) roots t))

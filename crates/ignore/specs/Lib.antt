@@ -10,3 +10,4 @@ pub mod Agreement
 pub mod Words
 pub mod FileWords
 pub mod WalkWords
+pub mod SurveyWords

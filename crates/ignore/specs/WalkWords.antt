@@ -12,9 +12,10 @@ pub use Rattle.ignore_dir.specs.declared.incremental.IncrementalMatch.{Increment
 pub use Rattle.ignore_dir.specs.declared.outside.Outside.{Outside}
 pub use Rattle.ignore_dir.specs.declared.settings.Settings.{Settings}
 pub use Rattle.ignore_query.specs.Agrees.{Agrees, kept_at}
-pub use Rattle.ignore_query.specs.Forget.{IsSameKept, is_at_or_below}
+pub use Rattle.ignore_query.specs.Forget.{IsSameKept, ListsKept, is_at_or_below, kept_dirs, kept_from}
 pub use Rattle.ignore_query.specs.Fresh.{KeepsNothing}
 pub use Rattle.ignore_query.specs.InTurn.{Leaves, Question, ReportInTurn}
+pub use Rattle.ignore_query.specs.KeptRules.{kept_rules, rules_in, rules_of}
 pub use Rattle.ignore_query.specs.Needs.{KeepsNeeded, Stays, needed}
 pub use Rattle.ignore_query.specs.Reached.{dir_of, scene_of}
 pub use Rattle.ignore_query.specs.Reports.{reported}
@@ -23,15 +24,19 @@ pub use Rattle.ignore_query.specs.declared.asked.Asked.{Asked}
 pub use Rattle.ignore_query.specs.declared.incremental.IncrementalIgnore.{IncrementalIgnore}
 pub use Rattle.ignore_query.specs.declared.kept.Cache.{Cache}
 pub use Rattle.ignore_query.specs.declared.kept.Kept.{Kept}
+pub use Rattle.ignore_why.specs.Cited.{Named, named_of}
 pub use Rattle.ignore_why.specs.Texts.{query_why_text}
 pub use Rattle.ignore_why.specs.QueryWhy.{query_why, query_why_of}
 pub use Rattle.ignore_walk.specs.Agreement.{IsKeptBelow, IsOpen, Reachable, is_kept, is_within, keeps}
+pub use Rattle.ignore_walk.specs.Answered.{IsInode, IsMetadata}
 pub use Rattle.ignore_walk.specs.Branch.{Branch, entered}
 pub use Rattle.ignore_walk.specs.Child.{is_dir_kind}
 pub use Rattle.ignore_walk.specs.Entry.{Entry, Item, entry_of, item_of, named_or, problem_in, stdin_entry}
 pub use Rattle.ignore_walk.specs.Finished.{IsEnd, IsFinished}
-pub use Rattle.ignore_walk.specs.Nexts.{EndsBy, NextGives, Nexts, Remaining}
-pub use Rattle.ignore_walk.specs.Runs.{EndsEarly, IsBegun, IsRun}
+pub use Rattle.ignore_walk.specs.GoesOn.{AllGoOn, GoesOn, HasNoEnd}
+pub use Rattle.ignore_walk.specs.Nexts.{EndsBy, EndsOrGoesOn, NextGives, Nexts, Remaining}
+pub use Rattle.ignore_walk.specs.Paces.{IsStep, TookSteps, Work, work_at, work_of}
+pub use Rattle.ignore_walk.specs.Runs.{EndsEarly, EndsLast, IsBegun, IsRun}
 pub use Rattle.ignore_walk.specs.Scene.{Scene, queries}
 pub use Rattle.ignore_walk.specs.Suits.{Suits, order_by}
 pub use Rattle.ignore_walk.specs.Visits.{IsAfterParent, IsShown, IsShownBelow, IsYielded}

@@ -7,6 +7,8 @@ ghost use Rattle.ignore.specs.Walks.{IsWalkBy};
 ghost use Rattle.ignore_base.specs.declared.fault.Fault.TheVariants.{StepLimit};
 ghost use Rattle.ignore_base.specs.Problem.{problem_of, io, memory};
 ghost use Rattle.ignore_walk.specs.Entry.{item_of};
+ghost use Rattle.ignore_walk.specs.GoesOn.{AllGoOn, HasNoEnd};
+ghost use Rattle.ignore_walk.specs.Paces.{TookSteps, Work, work_at, work_of};
 ghost use Rattle.ignore.specs.Closures.{order_of};
 ghost use Rattle.ignore.specs.Headline.{Headline, IsAboveLimit};
 
@@ -32,6 +34,9 @@ pub fn collect_walk<F: Files>(
     ensures ended { IfErr result (λ e. (problem_of e ≡ memory) ⊎ ((problem_of e ≡ io StepLimit)
         × IsAboveLimit F.Files ⟦<Owner<'static> as Callbacks>⟧ files.now (record { builder = Some builder.entry }) env.now builder.now.options
         (order_of (λ s. s.order) builder.now.sorter))) }
+    ensures no_end { IfOk result (λ all. AllGoOn (map item_of all.items)) }
+    ensures limited { IfErr result (λ e. problem_of e ≡ io StepLimit
+        → (w : Work) × TookSteps (F.list_gives files.now) builder.now.options.limit (work_at builder.now.options.roots) w) }
 {
     builder.build(files, env)?.all_items()
 }
@@ -50,6 +55,9 @@ impl<'a, F: Files, S: Callbacks> Walk<'a, F, S> {
             → self.entry.inner.ended ≡ false
             → IfErr result (λ e. (problem_of e ≡ memory) ⊎ ((problem_of e ≡ io StepLimit)
             × IsAboveLimit F.Files S.Callbacks f owner env b order)) }
+        ensures no_end { HasNoEnd self.entry.inner.stack → IfOk result (λ all. AllGoOn (map item_of all.items)) }
+        ensures limited { self.entry.inner.ended ≡ false → IfErr result (λ e. problem_of e ≡ io StepLimit
+            → (w : Work) × TookSteps (F.list_gives self.entry.inner.ground.files.now) self.entry.inner.left (work_of self.entry.inner.stack) w) }
     {
         self.inner.all_items()
     }

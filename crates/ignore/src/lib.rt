@@ -21,6 +21,7 @@ pub use ignore_query::{
     RuleRank, check_paths, explain_paths, laws as query_laws,
 };
 pub use ignore_rules::{gitignore, overrides};
+pub use ignore_survey::{Survey, Surveyed, laws as survey_laws};
 pub use ignore_types::{default_types, types};
 pub use ignore_walk::{Callbacks, DirEntry, Item, Order, branch_bound};
 pub use ignore_why::laws as why_laws;

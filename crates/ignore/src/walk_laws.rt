@@ -16,8 +16,9 @@ ghost use Rattle.ignore_query.specs.declared.incremental.IncrementalIgnore.{Incr
 ghost use Rattle.ignore_walk.specs.Agreement.{IsOpen, keeps};
 ghost use Rattle.ignore_walk.specs.Branch.{Branch};
 ghost use Rattle.ignore_walk.specs.Entry.{Entry, Item, entry_of, item_of, problem_in, stdin_entry};
+ghost use Rattle.ignore_walk.specs.GoesOn.{HasNoEnd};
 ghost use Rattle.ignore_walk.specs.Nexts.{NextGives, Remaining};
-ghost use Rattle.ignore_walk.specs.Runs.{IsBegun, IsRun};
+ghost use Rattle.ignore_walk.specs.Runs.{EndsLast, IsBegun, IsRun};
 ghost use Rattle.ignore_walk.specs.Scene.{Scene};
 ghost use Rattle.ignore_walk.specs.Suits.{order_by};
 ghost use Rattle.ignore_walk.specs.Visits.{IsYielded};
@@ -75,6 +76,17 @@ pub fn none_is_the_end<F: Files, S: Callbacks>()
         → answer ≡ None }
 {
     runs::none_is_the_end::<F, S>();
+}
+
+/// A walk that is asked until it answers none has yielded out of memory, or the limit of steps
+/// alone, at most as its last item, and out of memory nowhere inside an error, whatever the files
+/// answer. So it is with each walk of a builder (`WalkBuilder::build`, clause `no_end`).
+pub fn only_the_last_item_ends<F: Files, S: Callbacks>()
+    ensures { (w : Walk F S) (all : List (Result DirEntry Error))
+        → Drains (λ a answer b. NextGives F.Files S.Callbacks a.inner (option_map item_of answer) b.inner) w all
+        → HasNoEnd w.inner.stack → EndsLast (map item_of all) }
+{
+    runs::only_the_last_item_ends::<F, S>();
 }
 
 /// The headline, item by item: a walk of a builder (`WalkBuilder::build`) that is asked until it

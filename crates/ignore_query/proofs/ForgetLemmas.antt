@@ -104,7 +104,7 @@ names_first (n ∷ ns) (f ∷ fs) p q =
     first_names n f (slashed ns) (slashed fs) (head_whole n ns p) (head_whole f fs q)
     ∙ ap (λ b. bytes_eq f n && b) (names_first ns fs (tail_names n ns p) (tail_names f fs q))
 
-joined-all : (name : List ℕ) (names : List (List ℕ)) → slashed (name ∷ names) ≡ joined (name ∷ names) ++ 47 ∷ []
+pub joined-all : (name : List ℕ) (names : List (List ℕ)) → slashed (name ∷ names) ≡ joined (name ∷ names) ++ 47 ∷ []
 joined-all name [] = refl
 joined-all name (m ∷ ms) = ap (λ t. name ++ 47 ∷ t) (joined-all m ms) ∙ sym (append_assoc name (47 ∷ joined (m ∷ ms)) (47 ∷ []))
 

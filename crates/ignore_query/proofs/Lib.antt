@@ -4,6 +4,7 @@ pub mod EntryLemmas
 pub mod ForgetLemmas
 pub mod KeepLemmas
 pub mod KeyLemmas
+pub mod CountLemmas
 pub mod PlainLemmas
 pub mod WorkedPlain
 pub mod KnownLemmas
@@ -18,3 +19,5 @@ pub mod TurnLemmas
 pub mod TurnsOnly
 pub mod CopiesOnly
 pub mod WorkedKept
+pub mod WorkedRules
+pub mod LoadedLemmas

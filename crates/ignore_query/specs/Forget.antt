@@ -1,7 +1,8 @@
 -- What is forgotten, and for which other trees the rest is right.
-use Rattle.std.specs.Prelude.{◌≡◌, ℕ, ◌+◌, ◌≤◌, true, Bool, nat_eq, All, List, [], ◌∷◌, ◌++◌, Option, Some, length, string_bytes}
+use lib.Pointwise.{pointwise}
+use Rattle.std.specs.Prelude.{◌≡◌, ℕ, ◌+◌, ◌≤◌, true, Bool, nat_eq, All, List, [], ◌∷◌, ◌++◌, Option, Some, filter, length, string_bytes}
 use Rattle.std.specs.BTreeMap.{get_by_text}
-use Rattle.std.specs.List.{starts_with}
+use Rattle.std.specs.List.{IsDistinct, starts_with}
 use Rattle.std.specs.Str.{bytes_eq}
 use Rattle.ignore_base.specs.Text.{Bytes, Path}
 use Rattle.ignore_base.specs.Paths.{IsName}
@@ -14,12 +15,28 @@ use Rattle.ignore_levels.specs.declared.list.Slot.{Slot}
 use Rattle.ignore_query.specs.declared.kept.Cache.{Cache}
 use Rattle.ignore_query.specs.declared.kept.Kept.{Kept}
 use Rattle.ignore_query.specs.declared.kept.Kept.TheVariants.{Loaded}
+use Rattle.ignore_query.specs.Keys.{dirs_in}
 use Rattle.ignore_query.specs.Listed.{kept_at}
+use Rattle.ignore_query.specs.Needs.{is_among, is_kept}
 
 -- the directory with some names is that with the names `front`, or is below it. `a`, `b` is at or
 -- below `a`, and `ab` isn't
 abbrev pub is_at_or_below : List Bytes → List Bytes → Bool
 is_at_or_below front names = starts_with bytes_eq names front
+
+-- the directories that are kept, each by its names
+abbrev pub kept_dirs : Cache → List (List Bytes)
+kept_dirs c = dirs_in c.dirs.map
+
+-- those of them that are at or below the one with some names
+abbrev pub kept_from : Cache → List Bytes → List (List Bytes)
+kept_from c front = filter (is_at_or_below front) (kept_dirs c)
+
+-- each directory that is kept is listed, and once; and nothing else is
+pub record ListsKept (c : Cache) : Type 0 where
+  pub once : IsDistinct (pointwise bytes_eq) (kept_dirs c)
+  pub each : (names : List Bytes) → All IsName names → is_among (kept_dirs c) names ≡ is_kept c names
+  pub named : All (All IsName) (kept_dirs c)
 
 -- the key of the directory at a clean path
 abbrev pub key_of : Path → Path

@@ -17,11 +17,12 @@ pub struct Dirs {
 }
 
 impl Dirs {
-    ghost use Rattle.std.specs.Prelude.{◌+◌, ℕ, List, IfOk, IfErr, None, Some, string_bytes, if◌then◌else◌};
+    ghost use Rattle.std.specs.Prelude.{◌+◌, ◌≤◌, ℕ, List, IfOk, IfErr, None, Some, true, filter, length, string_bytes, if◌then◌else◌};
     ghost use Rattle.std.specs.BTreeMap.{btree_map_len, get_by_text};
     ghost use Rattle.std.specs.Str.{bytes_eq};
-    ghost use Rattle.ignore_query.specs.Forget.{is_key_in};
-    ghost use Rattle.ignore_query.specs.Keys.{IsKey};
+    ghost use Rattle.ignore_dir.specs.Query.{is_clean, names_of};
+    ghost use Rattle.ignore_query.specs.Forget.{is_at_or_below, is_key_in};
+    ghost use Rattle.ignore_query.specs.Keys.{IsKey, dirs_in};
 
     /// Nothing is kept. It allocates nothing.
     pub(crate) fn new(alloc: Global) -> Dirs
@@ -43,15 +44,27 @@ impl Dirs {
         Ok(())
     }
 
+    /// Drops what is kept of the directory at a clean path and of those below it.
+    fn drop_from(&mut self, dir: &str)
+        ensures looked { (text : List ℕ) → get_by_text self.new.map text
+            ≡ (if is_key_in dir.now text then None else get_by_text self.old.map text) }
+        ensures fewer { is_clean dir.now ≡ true → length (filter (is_at_or_below (names_of dir.now)) (dirs_in self.old.map))
+            + btree_map_len self.new.map ≡ btree_map_len self.old.map }
+        ensures bound { btree_map_len self.new.map ≤ btree_map_len self.old.map }
+    {
+        self.map.retain(|key: &String, _kept: &mut Kept| !is_key_in(dir, key.as_str()));
+    }
+
     /// Drops what is kept of the directory at a clean path and of those below it, and returns how
     /// many there were.
     pub(crate) fn forget(&mut self, dir: &str) -> usize
         ensures looked { (text : List ℕ) → get_by_text self.new.map text
             ≡ (if is_key_in dir.now text then None else get_by_text self.old.map text) }
-        ensures counted { result + btree_map_len self.new.map ≡ btree_map_len self.old.map }
+        ensures counted { is_clean dir.now ≡ true → result ≡ length (filter (is_at_or_below (names_of dir.now)) (dirs_in self.old.map)) }
+        ensures left { result + btree_map_len self.new.map ≡ btree_map_len self.old.map }
     {
         let before = self.map.len();
-        self.map.retain(|key: &String, _kept: &mut Kept| !is_key_in(dir, key.as_str()));
+        self.drop_from(dir);
         before - self.map.len()
     }
 }

@@ -4,11 +4,11 @@ ghost use Rattle.std.specs.BTreeMap.{btree_map_len, get_by_text};
 ghost use Rattle.ignore_base.specs.Paths.{IsName};
 ghost use Rattle.ignore_dir.specs.Lists.{Placed};
 ghost use Rattle.ignore_dir.specs.Load.{Loaded};
-ghost use Rattle.ignore_dir.specs.Query.{is_asked, names_of};
+ghost use Rattle.ignore_dir.specs.Query.{is_asked, is_clean, names_of};
 ghost use Rattle.ignore_files.specs.Tree.{Tree};
 ghost use Rattle.ignore_levels.specs.Levels.{IsChain, Keeps, Passes, level_at, slots_of};
 ghost use Rattle.ignore_query.specs.Agrees.{Agrees};
-ghost use Rattle.ignore_query.specs.Forget.{IsFreed, IsOwn, IsSameKept, is_at_or_below, is_key_in, key_of};
+ghost use Rattle.ignore_query.specs.Forget.{IsFreed, IsOwn, IsSameKept, is_at_or_below, is_key_in, kept_from, key_of};
 ghost use Rattle.ignore_query.specs.Listed.{kept_at};
 ghost use Rattle.ignore_query.specs.Reached.{scene_of};
 
@@ -79,7 +79,8 @@ impl Cache {
     pub(crate) fn forget(&mut self, dir: &str) -> usize
         ensures looked { (text : List ℕ) → get_by_text self.new.dirs.map text
             ≡ (if is_key_in dir.now text then None else get_by_text self.old.dirs.map text) }
-        ensures counted { result + btree_map_len self.new.dirs.map ≡ btree_map_len self.old.dirs.map }
+        ensures counted { is_clean dir.now ≡ true → result ≡ length (kept_from self.old (names_of dir.now)) }
+        ensures left { result + btree_map_len self.new.dirs.map ≡ btree_map_len self.old.dirs.map }
         ensures above { (self.new.has_above ≡ self.old.has_above) × ((self.new.above ≡ self.old.above) × (self.new.base ≡ self.old.base)) }
         ensures levels { Keeps (slots_of self.new.levels) (slots_of self.old.levels) }
         ensures chains { (place : Option Place) (chain : List Placed) → IsChain (slots_of self.old.levels) place chain
@@ -110,7 +111,9 @@ impl IncrementalIgnore {
         ensures forgotten { (names : List (List ℕ)) → All IsName names → is_asked (string_bytes self.old.asked.root) dir.now ≡ true
             → kept_at self.new.cache names ≡ (if is_at_or_below (names_of dir.now) names then None else kept_at self.old.cache names) }
         ensures unchanged { is_asked (string_bytes self.old.asked.root) dir.now ≢ true → self.new.cache ≡ self.old.cache }
-        ensures counted { result + btree_map_len self.new.cache.dirs.map ≡ btree_map_len self.old.cache.dirs.map }
+        ensures counted { is_asked (string_bytes self.old.asked.root) dir.now ≡ true
+            → result ≡ length (kept_from self.old.cache (names_of dir.now)) }
+        ensures left { result + btree_map_len self.new.cache.dirs.map ≡ btree_map_len self.old.cache.dirs.map }
         ensures freed { (key : List ℕ) (at : Place) → is_asked (string_bytes self.old.asked.root) dir.now ≡ true
             → is_key_in dir.now key ≡ true → IsOwn self.old.cache dir.now key at
             → level_at (slots_of self.new.cache.levels) at ≡ None }

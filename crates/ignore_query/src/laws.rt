@@ -1,5 +1,8 @@
 //! Laws of the definitions, as calls that do nothing: each contract is the law.
+ghost use Rattle.ignore_query.specs.Forget.{ListsKept};
 ghost use Rattle.ignore_query.specs.Fresh.{NothingAgrees, NothingReportsAll};
+
+use crate::incremental::IncrementalIgnore;
 
 /// What keeps nothing agrees with each tree (`agrees`), and where nothing is kept a query reports
 /// what one on the bare tree does (`reports`). So the first query of a fresh matcher is that of the
@@ -8,3 +11,11 @@ pub fn nothing_kept()
     ensures agrees { NothingAgrees }
     ensures reports { NothingReportsAll }
 {}
+
+/// The names by which the directories are listed that a matcher keeps (`kept_dirs`), and that
+/// `forget` counts, are those of each directory of which something is kept, once, and of no other.
+pub fn each_kept_once(matcher: &IncrementalIgnore)
+    ensures { ListsKept matcher.now.cache }
+{
+    matcher.cache.dirs.map.len();
+}

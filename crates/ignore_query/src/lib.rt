@@ -16,6 +16,7 @@ mod paths;
 mod places;
 mod reasons;
 mod root;
+mod rules;
 mod size;
 
 pub use asked::Asked;

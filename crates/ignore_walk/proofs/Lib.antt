@@ -33,3 +33,6 @@ pub mod YieldLemmas
 pub mod RunLemmas
 pub mod PlacedLemmas
 pub mod EndLemmas
+pub mod PaceLemmas
+pub mod NoEndLemmas
+pub mod AnsweredLemmas

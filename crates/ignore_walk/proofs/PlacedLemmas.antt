@@ -15,7 +15,7 @@ use Rattle.ignore_rules.specs.RuleFile.{AddsContents, AddsLines, added, at_line_
 use Rattle.ignore_rules.specs.Rules.{Building, Ruleset}
 use Rattle.ignore_dir.specs.Above.{problems_of_loads}
 use Rattle.ignore_dir.specs.Exclude.{Place, by_commondir, by_git_file, by_gitdir, by_line, common_folder, exclude_by, exclude_place, excludes_in}
-use Rattle.ignore_dir.specs.Load.{AddsFiles, AddsPresent, AreLoads, IsExclude, IsRules, Loaded, Loads, custom_paths, is_there, joined_some, path_if}
+use Rattle.ignore_dir.specs.Load.{AddsFiles, AddsPresent, AreLoads, IsExclude, IsRules, Loaded, Loads, is_there, joined_some}
 use Rattle.ignore_dir.specs.declared.dir.Dir.{Dir}
 use Rattle.ignore_dir.specs.declared.settings.Settings.{Settings}
 

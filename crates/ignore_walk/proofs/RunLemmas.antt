@@ -6,8 +6,9 @@ use Rattle.ignore_base.specs.declared.fault.Fault.TheVariants.{StepLimit}
 use Rattle.ignore_files.specs.declared.files.Files.{Ghosts as Files}
 use Rattle.ignore_walk.specs.Entry.{Entry, Item}
 use Rattle.ignore_walk.specs.Finished.{IsEnd, IsFinished}
+use Rattle.ignore_walk.specs.GoesOn.{HasNoEnd}
 use Rattle.ignore_walk.specs.Nexts.{EndsBy, IsLast, IsOver, NextGives, Remaining}
-use Rattle.ignore_walk.specs.Runs.{IsBegun, IsRun}
+use Rattle.ignore_walk.specs.Runs.{EndsLast, IsBegun, IsRun}
 use Rattle.ignore_walk.specs.Scene.{Scene}
 use Rattle.ignore_walk.specs.declared.callbacks.Callbacks.{Ghosts as Callbacks}
 use Rattle.ignore_walk.specs.declared.walk.Walk.{Walk}
@@ -148,3 +149,19 @@ limit_ends left (inr l) = l.1
 pub no_entry_ends : (e : Entry × Option Problem) (left : ℕ) → IsLast (Some (Ok e)) left → ⊥
 no_entry_ends e left (inl m) = cc (m)
 no_entry_ends e left (inr l) = let o = l.0 in cc (o)
+
+-- no item but the last ends a walk
+pub ends_last : {F S A : Type 0} (files : Files F) (calls : Callbacks S) (item : A → Item) (a : Walk F S) (xs : List A)
+    → Drains (Step files calls item) a xs → HasNoEnd a.stack → EndsLast (map item xs)
+ends_last files calls item a [] d h = tt
+ends_last files calls item a (x ∷ []) (u, (t, (j, s, y), e)) h =
+    elim (s.ends h).1 [
+      | inl goes_on ↦ inl goes_on
+      | inr end ↦ inr end.0
+    ]
+ends_last files calls item a (x ∷ (z ∷ xs)) (u, (t, (j, s, y), e)) h =
+    let now = s.ends h in
+    elim now.1 [
+      | inl goes_on ↦ (goes_on, ends_last files calls item j (z ∷ xs) (u, (t, y, e)) now.0)
+      | inr end ↦ absurd (let none = none_more files calls item j t (z ∷ xs) end.1 y in cc (none))
+    ]

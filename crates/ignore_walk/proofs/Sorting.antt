@@ -19,6 +19,11 @@ use Rattle.ignore_walk.specs.Walked.{comes_before, IsArranged}
 pub order_of : {X Y : Type 0} (lt : Y → Y → Bool) (f : X → Y) → IsStrictWeakOrder lt → IsStrictWeakOrder (λ a b. lt (f a) (f b))
 order_of lt f o = record { one_way = λ x y. o.one_way (f x) (f y); chain = λ x y z. o.chain (f x) (f y) (f z) }
 
+-- things with their paths, without these
+things : (dir : List ℕ) (xs : List Listed) → map (λ (p : PathListed). p.listed) (map (key_of dir) xs) ≡ xs
+things dir [] = refl
+things dir (x ∷ xs) = ap (λ (l : List Listed). x ∷ l) (things dir xs)
+
 module _ (cmp : List ℕ → List ℕ → Ordering) (dir : List ℕ) where
   abbrev by_path : List ℕ → List ℕ → Bool
   by_path a b = is_lt (cmp (join_of dir a) (join_of dir b))
@@ -32,10 +37,6 @@ module _ (cmp : List ℕ → List ℕ → Ordering) (dir : List ℕ) where
 
   ties-before : (x y : Listed) → ties (comes_first cmp) (key_of dir x) (key_of dir y) ≡ ties (comes_before by_path) x y
   ties-before x y = rw (first-before x y, first-before y x) refl
-
-  things : (xs : List Listed) → map (λ (p : PathListed). p.listed) (map (key_of dir) xs) ≡ xs
-  things [] = refl
-  things (x ∷ xs) = ap (λ (l : List Listed). x ∷ l) (things xs)
 
   -- each has its path
   abbrev Keyed : PathListed → Type 0
@@ -80,8 +81,8 @@ module _ (cmp : List ℕ → List ℕ → Ordering) (dir : List ℕ) where
       → IsStableBy (comes_before by_path) xs ys
   stable-things xs ys h x =
       let t = ties (comes_before by_path) x in
-      sym (things (filter t ys))
-      ∙ (ap (map (λ (p : PathListed). p.listed)) (sym (filter-keyed x ys) ∙ (h (key_of dir x) ∙ filter-keyed x xs)) ∙ things (filter t xs))
+      sym (things dir (filter t ys))
+      ∙ (ap (map (λ (p : PathListed). p.listed)) (sym (filter-keyed x ys) ∙ (h (key_of dir x) ∙ filter-keyed x xs)) ∙ things dir (filter t xs))
 
   pub arranged-by_path : (xs zs : List Listed) (ks ps : List PathListed) → ks ≡ map (key_of dir) xs → zs ≡ map (λ (p : PathListed). p.listed) ps
       → IsPermutation ks ps × IsSortedBy (comes_first cmp) ps × IsStableBy (comes_first cmp) ks ps
@@ -89,7 +90,7 @@ module _ (cmp : List ℕ → List ℕ → Ordering) (dir : List ℕ) where
   arranged-by_path xs zs ks ps keys are h =
       let all : All Keyed ps = All-permutation Keyed ks ps h.0 (subst (All Keyed) (sym keys) (all_keyed xs)) in
       let again : ps ≡ map (key_of dir) zs = keys-again ps all ∙ ap (map (key_of dir)) (sym are) in
-      let first : map (λ (p : PathListed). p.listed) ks ≡ xs = ap (map (λ (p : PathListed). p.listed)) keys ∙ things xs in
+      let first : map (λ (p : PathListed). p.listed) ks ≡ xs = ap (map (λ (p : PathListed). p.listed)) keys ∙ things dir xs in
       let shuffled : IsPermutation xs (map (λ (p : PathListed). p.listed) ps) =
       subst (λ (l : List Listed). IsPermutation l (map (λ (p : PathListed). p.listed) ps)) first (IsPermutation-map (λ (p : PathListed). p.listed) ks ps h.0) in (
         subst (λ (l : List Listed). IsPermutation xs l) (sym are) shuffled,
@@ -97,3 +98,11 @@ module _ (cmp : List ℕ → List ℕ → Ordering) (dir : List ℕ) where
         stable-things xs zs (subst (λ (l : List PathListed). IsStableBy (comes_first cmp) l (map (key_of dir) zs)) keys
             (subst (IsStableBy (comes_first cmp) ks) again h.2)),
       )
+
+-- by any comparison
+pub permuted-by_path : (dir : List ℕ) (xs zs : List Listed) (ks ps : List PathListed) → ks ≡ map (key_of dir) xs
+    → zs ≡ map (λ (p : PathListed). p.listed) ps → IsPermutation ks ps → IsPermutation xs zs
+permuted-by_path dir xs zs ks ps keys are h =
+    let first : map (λ (p : PathListed). p.listed) ks ≡ xs = ap (map (λ (p : PathListed). p.listed)) keys ∙ things dir xs in
+    subst (λ (l : List Listed). IsPermutation xs l) (sym are)
+    (subst (λ (l : List Listed). IsPermutation l (map (λ (p : PathListed). p.listed) ps)) first (IsPermutation-map (λ (p : PathListed). p.listed) ks ps h))

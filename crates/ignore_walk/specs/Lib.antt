@@ -1,10 +1,12 @@
 pub mod Entry
+pub mod Answered
 pub mod Scene
 pub mod Branch
 pub mod Child
 pub mod Walked
 pub mod Whole
 pub mod Finished
+pub mod GoesOn
 pub mod Visits
 pub mod Agreement
 pub mod Suits
@@ -17,5 +19,6 @@ pub mod Opens
 pub mod Fates
 pub mod Left
 pub mod Stands
+pub mod Paces
 pub mod Nexts
 pub mod Runs

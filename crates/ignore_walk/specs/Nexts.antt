@@ -5,6 +5,9 @@ use Rattle.ignore_base.specs.declared.fault.Fault.TheVariants.{StepLimit}
 use Rattle.ignore_base.specs.Problem.{io, memory}
 use Rattle.ignore_files.specs.declared.files.Files.{Ghosts as Files}
 use Rattle.ignore_walk.specs.Entry.{Item}
+use Rattle.ignore_walk.specs.Finished.{IsEnd}
+use Rattle.ignore_walk.specs.GoesOn.{GoesOn, HasNoEnd}
+use Rattle.ignore_walk.specs.Paces.{Paces}
 use Rattle.ignore_walk.specs.Scene.{Scene}
 use Rattle.ignore_walk.specs.Stands.{Stands}
 use Rattle.ignore_walk.specs.Suits.{IsGroundOf}
@@ -55,12 +58,22 @@ abbrev pub IsLast : Option Item → ℕ → Type 0
 IsLast None left = ⊤
 IsLast (Some item) left = (item ≡ Err memory) ⊎ ((item ≡ Err (io StepLimit)) × (left ≡ 0))
 
+-- a `next` handed out an item after which the walk goes on; or one that ends a walk, and then it is
+-- over; or none
+abbrev pub EndsOrGoesOn : {F S : Type 0} → Option Item → Walk F S → Type 0
+EndsOrGoesOn None b = ⊤
+EndsOrGoesOn (Some item) b = GoesOn item ⊎ (IsEnd item × IsOver b)
+
 -- what one `next` of a walk answers, and what it makes of the walk. For files that are consistent
 -- with a tree it is an item of what remains. For all files: a walk that is over answers none; after
--- none it is over; and where it wasn't ended and now is, it is over, and that was its last answer
+-- none it is over; where it wasn't ended and now is, it is over, and that was its last answer; the
+-- steps that are left are fewer by exactly those that it took; and where no item in hand ends a
+-- walk, as at first, none does from then on but the last one that is handed out
 pub record NextGives {F S : Type 0} (files : Files F) (calls : Callbacks S) (a : Walk F S) (answer : Option Item) (b : Walk F S)
     : Type 0 where
   pub given : (g : Scene) (items : List Item) (n : ℕ) → Remaining files calls g a items n → Nexts files calls g a answer b items n
   pub over : IsOver a → answer ≡ None
   pub none : answer ≡ None → IsOver b
   pub last : a.ended ≡ false → b.ended ≡ true → IsOver b × IsLast answer b.left
+  pub paced : Paces files a answer b
+  pub ends : HasNoEnd a.stack → HasNoEnd b.stack × EndsOrGoesOn answer b

@@ -1,6 +1,8 @@
 -- What a walk has yielded when it answers none, and before.
-use Rattle.std.specs.Prelude.{◌≡◌, ◌≤◌, ◌⊎◌, ℕ, List, [], ◌∷◌, ◌++◌}
+use Rattle.std.specs.Prelude.{◌≡◌, ◌≤◌, ◌⊎◌, ⊤, ℕ, List, [], ◌∷◌, ◌++◌}
 use Rattle.ignore_walk.specs.Entry.{Item}
+use Rattle.ignore_walk.specs.Finished.{IsEnd}
+use Rattle.ignore_walk.specs.GoesOn.{GoesOn}
 use Rattle.ignore_walk.specs.Nexts.{EndsBy}
 
 -- these are a beginning of the items that remained, and then what ended the walk
@@ -24,3 +26,9 @@ pub record IsBegun (all : List Item) (item : Item) (items : List Item) (left n :
   pub rest : List Item
   pub begins : items ≡ all ++ rest
   pub next : ((others : List Item) × (rest ≡ item ∷ others)) ⊎ EndsBy item left n
+
+-- a walk goes on after each of these items, but for the last, which may have ended it
+abbrev pub EndsLast : List Item → Type 0
+EndsLast [] = ⊤
+EndsLast (item ∷ []) = GoesOn item ⊎ IsEnd item
+EndsLast (item ∷ (next ∷ items)) = GoesOn item × EndsLast (next ∷ items)

@@ -6,6 +6,7 @@ ghost use Rattle.ignore_base.specs.Problem.{problem_of};
 ghost use Rattle.ignore_dir.specs.Above.{canonical_names, path_along};
 ghost use Rattle.ignore_dir.specs.Chains.{slashed};
 ghost use Rattle.ignore_dir.specs.Lists.{Placed};
+ghost use Rattle.ignore_dir.specs.Soft.{AllSoft};
 ghost use Rattle.ignore_levels.specs.Levels.{IsChain, counting, slots_of};
 ghost use Rattle.ignore_levels.specs.declared.list.Slot.{Slot};
 ghost use Rattle.ignore_walk.specs.Scene.{Scene};
@@ -78,6 +79,7 @@ impl Way {
     fn new(alloc: Global) -> Result<Way, AllocError>
         ensures begins { (g : Scene) (slots : List Slot) (kept : List Seen) (seen : List (List ℕ)) → AreSeen kept seen
             → IfOk result (λ w. HasCome g slots kept seen [] w) }
+        ensures soft { IfOk result (λ w. AllSoft (map problem_of w.errors.items)) }
     {
         Ok(Way {
             path: String::from_str(alloc, "/")?,
@@ -105,6 +107,7 @@ impl Way {
             → AreSeen seen.now paths → AreShared g (slots_of levels.old) seen.now
             → HasCome g (slots_of levels.old) seen.now paths names self.old
             → OnOk result (HasPassed g (slots_of levels.new) seen.now paths (names ++ name ∷ []) self.new) }
+        ensures soft { AllSoft (map problem_of self.old.errors.items) → OnOk result (AllSoft (map problem_of self.new.errors.items)) }
     {
         if let Some(place) = find(seen, self.path.as_str()) {
             self.place = place;
@@ -125,6 +128,7 @@ impl Way {
             → string_bytes self.old.path ≡ path_along (codes "/") names → string_bytes self.old.text ≡ 47 ∷ slashed names
             → HasPassed g slots kept seen (names ++ name.now ∷ []) self.old
             → OnOk result (HasCome g slots kept seen (names ++ name.now ∷ []) self.new) }
+        ensures errors { self.new.errors ≡ self.old.errors }
     {
         self.path = join(alloc, self.path.as_str(), name)?;
         self.text.push_str(name)?;
@@ -146,6 +150,7 @@ pub(crate) fn way_along<F: Files, S: Callbacks>(
     ensures come { (g : Scene) (paths : List (List ℕ)) (path : List ℕ) → map (λ n. n.now) names.now ≡ canonical_names (Ok path)
         → IsGroundOf F.Files S.Callbacks ground.now g → AreSeen seen.now paths → AreShared g (slots_of levels.old) seen.now
         → IfOk result (λ w. HasCome g (slots_of levels.new) seen.now paths (map (λ n. n.now) names.now) w) }
+    ensures soft { IfOk result (λ w. AllSoft (map problem_of w.errors.items)) }
 {
     join_law();
     let mut way = Way::new(ground.alloc)?;

@@ -37,6 +37,7 @@ fn compare<S: Callbacks>(owner: &S, a: &Listed, b: &Listed) -> Ordering
 fn sort_by_name<S: Callbacks>(owner: &S, listing: &mut Vec<Listed>) -> Result<(), AllocError>
     ensures arranged { (cmp : Path → Path → Ordering) (dir : List ℕ) → S.compares owner.now cmp → IsStrictWeakOrder (λ a b. is_lt (cmp a b))
         → OnOk result (IsArranged (order_by ByName cmp) dir listing.old.items listing.new.items) }
+    ensures permuted { OnOk result (IsPermutation listing.old.items listing.new.items) }
 {
     listing.sort_by(
         |a: &Listed, b: &Listed| -> Ordering
@@ -96,6 +97,7 @@ fn sort_by_path<S: Callbacks>(owner: &S, all: &mut Vec<PathListed>) -> Result<()
     ensures sorted { (cmp : Path → Path → Ordering) → S.compares owner.now cmp → IsStrictWeakOrder (λ a b. is_lt (cmp a b))
         → OnOk result (IsPermutation all.old.items all.new.items × IsSortedBy (comes_first cmp) all.new.items
         × IsStableBy (comes_first cmp) all.old.items all.new.items) }
+    ensures permuted { OnOk result (IsPermutation all.old.items all.new.items) }
 {
     all.sort_by(
         |a: &PathListed, b: &PathListed| -> Ordering
@@ -124,6 +126,7 @@ fn sorted_by_path<S: Callbacks>(
 ) -> Result<Vec<Listed>, AllocError>
     ensures arranged { (cmp : Path → Path → Ordering) → S.compares owner.now cmp → IsStrictWeakOrder (λ a b. is_lt (cmp a b))
         → IfOk result (λ sorted. IsArranged (order_by ByPath cmp) dir.now listing.items sorted.items) }
+    ensures permuted { IfOk result (λ sorted. IsPermutation listing.items sorted.items) }
 {
     let mut all = keyed(alloc, dir, listing)?;
     sort_by_path(owner, &mut all)?;
@@ -140,6 +143,7 @@ pub(crate) fn arranged<S: Callbacks>(
 ) -> Result<Vec<Listed>, AllocError>
     ensures arranged { (chosen : Option (List ℕ → List ℕ → List ℕ → Bool)) → IsOrderBy order (S.compares owner.now) chosen
         → IfOk result (λ sorted. IsArranged chosen dir.now listing.items sorted.items) }
+    ensures permuted { IfOk result (λ sorted. IsPermutation listing.items sorted.items) }
 {
     match order {
         Order::Listed => Ok(listing),

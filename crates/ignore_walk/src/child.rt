@@ -1,6 +1,6 @@
 //! What one listed thing is.
-ghost use Rattle.std.specs.Prelude.{◌≡◌, ◌+◌, ℕ, List, Result, length, map, reverse, option_map, IfOk, MatchResult};
-ghost use Rattle.std.specs.Prelude.{None, Some, Ok, Err, string_bytes, true, if◌then◌else◌};
+ghost use Rattle.std.specs.Prelude.{◌≡◌, ◌+◌, ℕ, List, Result, length, map, reverse, option_map, IfErr, IfOk, IfSome, MatchResult};
+ghost use Rattle.std.specs.Prelude.{None, Some, Ok, Err, string_bytes, true, false, if◌then◌else◌};
 ghost use Rattle.std.specs.Option.{option_copied};
 ghost use Rattle.ignore_base.specs.Paths.{is_proper, has_slash};
 ghost use Rattle.ignore_base.specs.Problem.{Problem, problem_of, at_depth, io};
@@ -12,6 +12,7 @@ ghost use Rattle.ignore_walk.specs.Child.{child, found, followed_link, or_failed
 ghost use Rattle.ignore_walk.specs.Child.{same_among, unless, unlooped, with_device};
 ghost use Rattle.ignore_walk.specs.Entry.{Entry, entry_of, item_of, fresh};
 ghost use Rattle.ignore_walk.specs.Found.{IsFound, IsTested, tests};
+ghost use Rattle.ignore_walk.specs.GoesOn.{is_fatal};
 ghost use Rattle.ignore_walk.specs.Scene.{Scene};
 
 use crate::entry::{DirEntry, Item, failed_at};
@@ -151,6 +152,7 @@ pub(crate) fn found<F: Files>(
     ensures value { (g : Scene) → IsHonest F.Files ground.now.files.now g.tree
         → g.settings.follow_links ≡ ground.now.settings.now.follow_links
         → IfOk result (λ item. item_of item ≡ fresh (found g (string_bytes path) depth kind)) }
+    ensures no_end { IfOk result (λ item. IfErr item (λ e. is_fatal (problem_of e) ≡ false)) }
 {
     if !ground.settings.follow_links || !kind.is_symlink() {
         return Ok(Ok(DirEntry::new(path, depth, kind, false)));
@@ -168,6 +170,7 @@ fn followed<F: Files>(
     ensures value { (tree : Tree) → IsHonest F.Files files.now tree
         → IfOk result (λ item. item_of item
         ≡ fresh (or_failed (string_bytes path) depth (followed_link (string_bytes path) depth) (tree.stat (string_bytes path) true))) }
+    ensures no_end { IfOk result (λ item. IfErr item (λ e. is_fatal (problem_of e) ≡ false)) }
 {
     match answered(files.stat(alloc, path.as_str(), true))? {
         Ok(metadata) => Ok(Ok(DirEntry::new(path, depth, metadata.file_type, true))),
@@ -200,6 +203,7 @@ fn loop_of<F: Files>(
         then or_failed (entry_of entry.now).path (entry_of entry.now).depth (unlooped (entry_of entry.now))
         (same_among tree identity (map (λ f. f.path) (reverse frames.now)))
         else Ok (entry_of entry.now))) }
+    ensures no_end { IfOk result (λ error. IfSome error (λ e. is_fatal (problem_of e) ≡ false)) }
 {
     if !entry.is_followed() {
         return Ok(None);
@@ -231,6 +235,7 @@ fn tested<F: Files>(
     ensures value { (g : Scene) → IsHonest F.Files files.now g.tree → g.same_file_system ≡ same_file_system
         → IfOk result (λ r. IsTested g (tests g (map (λ f. f.path) (reverse frames.now)) (entry_of entry.now)) (is_dir_kind (entry_of entry.now).kind)
         (entry_of entry.now) r) }
+    ensures no_end { IfOk result (λ r. IfErr r (λ e. is_fatal (problem_of e) ≡ false)) }
 {
     if !is_dir_kind(entry.file_type()) || !(same_file_system || entry.is_followed()) {
         return Ok(Ok(None));
@@ -255,6 +260,7 @@ pub(crate) fn device_at<F: Files>(
 ) -> Result<Result<Option<u64>, Error>, AllocError>
     ensures value { (g : Scene) → IsHonest F.Files files.now g.tree → g.same_file_system ≡ same_file_system
         → IfOk result (λ r. IsTested g (with_device g is_dir (entry_of entry.now)) is_dir (entry_of entry.now) r) }
+    ensures no_end { IfOk result (λ r. IfErr r (λ e. is_fatal (problem_of e) ≡ false)) }
 {
     if !same_file_system || !is_dir {
         return Ok(Ok(None));
@@ -294,6 +300,7 @@ pub(crate) fn checked<F: Files>(
     ensures value { (g : Scene) (r : Result Entry Problem) → IsHonest F.Files files.now g.tree → g.same_file_system ≡ same_file_system
         → item_of item ≡ fresh r
         → IfOk result (λ found. IsFound g (λ e. is_dir_kind e.kind) found (and_then (tests g (map (λ f. f.path) (reverse frames.now))) r)) }
+    ensures no_end { IfErr item (λ e. is_fatal (problem_of e) ≡ false) → IfOk result (λ found. IfErr found (λ e. is_fatal (problem_of e) ≡ false)) }
 {
     match item {
         Ok(entry) => match tested(alloc, files, same_file_system, frames, &entry)? {

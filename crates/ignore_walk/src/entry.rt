@@ -4,6 +4,7 @@ ghost use Rattle.ignore_base.specs.Paths.{file_name_of};
 ghost use Rattle.ignore_base.specs.Problem.{problem_of, memory};
 ghost use Rattle.ignore_files.specs.Gives.{IsHonest};
 ghost use Rattle.ignore_files.specs.Tree.{Tree};
+ghost use Rattle.ignore_walk.specs.Answered.{IsInode, IsMetadata};
 ghost use Rattle.ignore_walk.specs.Entry.{entry_of, problem_in, stdin_entry, named_or, is_link, leads_by_link, failed_at, metadata_of};
 ghost use Rattle.ignore_walk.specs.Entry.{inode_of};
 
@@ -144,6 +145,9 @@ impl DirEntry {
             → IfOk result (λ m. metadata_of tree (entry_of self.now) ≡ Ok m) }
         ensures refused { (tree : Tree) → IsHonest F.Files files.now tree
             → IfErr result (λ e. (problem_of e ≡ memory) ⊎ (metadata_of tree (entry_of self.now) ≡ Err (problem_of e))) }
+        ensures answered { IfOk result (λ m. IsMetadata F.Files files.now (entry_of self.now) (entry_of self.now).kind (Ok m)) }
+        ensures failed { IfErr result (λ e. (problem_of e ≡ memory)
+            ⊎ IsMetadata F.Files files.now (entry_of self.now) (entry_of self.now).kind (Err (problem_of e))) }
     {
         let alloc = *self.path.allocator();
         if self.kind.is_none() {
@@ -162,6 +166,7 @@ impl DirEntry {
     /// `Error::Memory` alone.
     pub fn ino<F: Files>(&self, files: &F) -> Result<Option<u64>, Error>
         ensures value { (tree : Tree) → IsHonest F.Files files.now tree → IfOk result (λ n. n ≡ inode_of tree (entry_of self.now)) }
+        ensures answered { IfOk result (λ n. IsInode F.Files files.now (entry_of self.now) (entry_of self.now).kind n) }
         ensures out_of_memory { IfErr result (λ e. problem_of e ≡ memory) }
     {
         if self.kind.is_none() {

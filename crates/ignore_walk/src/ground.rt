@@ -1,9 +1,10 @@
 //! What stays the same in a walk, and what it makes of one entry.
-ghost use Rattle.std.specs.Prelude.{◌≡◌, ◌++◌, ◌∷◌, ◌||◌, ℕ, List, None, Ok, true, false, not, option_map, reverse, IfOk};
+ghost use Rattle.std.specs.Prelude.{◌≡◌, ◌++◌, ◌∷◌, ◌||◌, ℕ, List, None, Ok, true, false, not, option_map, reverse, IfErr, IfOk};
 ghost use Rattle.ignore_base.specs.Problem.{problem_of};
 ghost use Rattle.ignore_dir.specs.Above.{canonical_names, kept_above, names_above};
 ghost use Rattle.ignore_dir.specs.Limits as limits;
 ghost use Rattle.ignore_dir.specs.Query as queries;
+ghost use Rattle.ignore_dir.specs.Soft.{IsSoft};
 ghost use Rattle.ignore_levels.specs.Levels.{IsChain, counting, slots_of};
 ghost use Rattle.ignore_walk.specs.Branch.{Branch, path_of, placed_to, text_at};
 ghost use Rattle.ignore_walk.specs.Child as children;
@@ -11,7 +12,9 @@ ghost use Rattle.ignore_walk.specs.Entry.{entry_of, problem_in};
 ghost use Rattle.ignore_walk.specs.Fates.{fate_of, differ};
 ghost use Rattle.ignore_walk.specs.Found.{IsFound};
 ghost use Rattle.ignore_walk.specs.Frames.{AreFrames, device_of};
+ghost use Rattle.ignore_walk.specs.GoesOn.{is_fatal};
 ghost use Rattle.ignore_walk.specs.Opens.{Opens};
+ghost use Rattle.ignore_walk.specs.Paces.{IsListed};
 ghost use Rattle.ignore_walk.specs.Scene.{Scene};
 ghost use Rattle.ignore_walk.specs.Suits.{IsGroundOf, Suits};
 ghost use Rattle.ignore_walk.specs.Walked as walked;
@@ -94,9 +97,10 @@ fn named(alloc: Global, path: &str) -> Result<Name, AllocError>
 impl<'a, F: Files, S: Callbacks> Ground<'a, F, S> {
     /// What directories are loaded and paths are judged by.
     fn lent(&self) -> ignore_dir::Ground<'_, F>
-        ensures { (g : Scene)
+        ensures suits { (g : Scene)
             → IsGroundOf F.Files S.Callbacks self.now g
             → Suits F.Files S.Callbacks result.files.now self.now.owner result.settings.now result.outside.now self.now.options g }
+        ensures files { result.files.now ≡ self.now.files.now }
     {
         ignore_dir::Ground {
             alloc: self.alloc,
@@ -130,6 +134,7 @@ impl<'a, F: Files, S: Callbacks> Ground<'a, F, S> {
         ensures value { (g : Scene)
             → IsGroundOf F.Files S.Callbacks self.now g
             → IfOk result (λ e. option_map problem_of e ≡ (g.loads path.now).1) }
+        ensures soft { IfOk result (λ e. IsSoft (option_map problem_of e)) }
     {
         let (_, error) = loaded(&self.lent(), path)?;
         Ok(error)
@@ -140,6 +145,8 @@ impl<'a, F: Files, S: Callbacks> Ground<'a, F, S> {
         ensures value { (g : Scene)
             → IsGroundOf F.Files S.Callbacks self.now g
             → IfOk result (λ o. Opens g path.now text o) }
+        ensures soft { IfOk result (λ o. IsSoft (option_map problem_of o.error)) }
+        ensures listed { IfOk result (λ o. IsListed (F.list_gives self.now.files.now) o.directory.path o.directory.rest.items) }
     {
         let path = named(self.alloc, path)?;
         let order = self.options.order;
@@ -181,6 +188,7 @@ impl<'a, F: Files, S: Callbacks> Ground<'a, F, S> {
             → IsGroundOf F.Files S.Callbacks self.now g
             → AreFrames g root b (reverse frames.now)
             → IfOk result (λ found. IsFound g (λ e. children.is_dir_kind e.kind) found (children.child g root b listed)) }
+        ensures no_end { IfOk result (λ found. IfErr found (λ e. is_fatal (problem_of e) ≡ false)) }
     {
         let depth = depth_below(frames);
         match listed {
@@ -204,6 +212,7 @@ impl<'a, F: Files, S: Callbacks> Ground<'a, F, S> {
             → IsGroundOf F.Files S.Callbacks self.now g
             → is_dir ≡ queries.is_dir_there (g.tree.stat root.now true)
             → IfOk result (λ found. IsFound g (λ _. is_dir) found (wholes.root_entry g root.now)) }
+        ensures no_end { IfOk result (λ found. IfErr found (λ e. is_fatal (problem_of e) ≡ false)) }
     {
         let item = root_found(self.alloc, self.files, self.settings.follow_links, root)?;
         let same = self.options.same_file_system;
@@ -234,6 +243,7 @@ impl<'a, F: Files, S: Callbacks> Ground<'a, F, S> {
         ensures problem { (g : Scene)
             → IsGroundOf F.Files S.Callbacks self.now g
             → IfOk result (λ r. option_map problem_of r.1 ≡ (g.loads path.now).1) }
+        ensures soft { IfOk result (λ r. IsSoft (option_map problem_of r.1)) }
     {
         let (dir, error) = loaded(&self.lent(), path)?;
         Ok((kept_above(self.alloc, &self.settings, dir), error))

@@ -1,10 +1,13 @@
 //! A directory that is entered: its load and its listing.
-ghost use Rattle.std.specs.Prelude.{◌≡◌, ℕ, Bool, List, Option, IfOk, option_map};
+ghost use Rattle.std.specs.Prelude.{◌≡◌, ℕ, Bool, List, Option, IfOk, IsPermutation, option_map};
 ghost use Rattle.std.specs.Result.{result_err};
 ghost use Rattle.ignore_base.specs.Problem.{problem_of};
 ghost use Rattle.ignore_base.specs.Text.{Path};
 ghost use Rattle.ignore_files.specs.Shown.{Shows};
 ghost use Rattle.ignore_dir.specs.Ground.{InLoads, InTree};
+ghost use Rattle.ignore_dir.specs.Soft.{IsSoft};
+ghost use Rattle.ignore_walk.specs.Answered.{as_answer};
+ghost use Rattle.ignore_walk.specs.Paces.{IsListed};
 ghost use Rattle.ignore_walk.specs.Suits.{IsOrderBy};
 ghost use Rattle.ignore_walk.specs.Walked.{IsArranged, listing_of};
 
@@ -48,6 +51,7 @@ pub(crate) fn loaded<F: Files>(
 ) -> Result<(Dir, Option<Error>), AllocError>
     ensures dir { InLoads F.Files ground.now (λ tree loads. IfOk result (λ r. r.0 ≡ (loads path.now).0)) }
     ensures problem { InLoads F.Files ground.now (λ tree loads. IfOk result (λ r. option_map problem_of r.1 ≡ (loads path.now).1)) }
+    ensures soft { IfOk result (λ r. IsSoft (option_map problem_of r.1)) }
 {
     loaded_by(ground, path, &Shown::nothing())
 }
@@ -61,6 +65,7 @@ fn loaded_by<F: Files>(
     ensures dir { InLoads F.Files ground.now (λ tree loads. Shows tree path.now shown.now → IfOk result (λ r. r.0 ≡ (loads path.now).0)) }
     ensures problem { InLoads F.Files ground.now (λ tree loads. Shows tree path.now shown.now
         → IfOk result (λ r. option_map problem_of r.1 ≡ (loads path.now).1)) }
+    ensures soft { IfOk result (λ r. IsSoft (option_map problem_of r.1)) }
 {
     one_load();
     load_shown(ground, path, shown)
@@ -71,7 +76,8 @@ fn answer_of<F: Files>(
     ground: &Ground<'_, F>,
     path: &str,
 ) -> Result<Result<Listing, Fault>, AllocError>
-    ensures { InTree F.Files ground.now (λ tree. IfOk result (λ answer. tree.list path.now ≡ answer)) }
+    ensures value { InTree F.Files ground.now (λ tree. IfOk result (λ answer. tree.list path.now ≡ answer)) }
+    ensures answered { IfOk result (λ answer. F.list_gives ground.now.files.now path.now (as_answer answer)) }
 {
     answered(ground.files.list(ground.alloc, path))
 }
@@ -110,6 +116,7 @@ fn listed<S: Callbacks>(
 ) -> Result<(VecDeque<Listed>, Option<Fault>), AllocError>
     ensures rest { (chosen : Option (List ℕ → List ℕ → List ℕ → Bool)) → IsOrderBy order (S.compares owner.now) chosen
         → IfOk result (λ r. IsArranged chosen path.now (listing_of answer) r.0.items) }
+    ensures permuted { IfOk result (λ r. IsPermutation (listing_of answer) r.0.items) }
     ensures fault { IfOk result (λ r. r.1 ≡ result_err answer) }
 {
     let (listing, fault) = listing_of(alloc, answer)?;
@@ -130,10 +137,12 @@ pub(crate) fn open<F: Files, S: Callbacks>(
     ensures text { IfOk result (λ o. o.directory.text ≡ text) }
     ensures dir { InLoads F.Files ground.now (λ tree loads. IfOk result (λ o. o.directory.dir ≡ (loads path).0)) }
     ensures problem { InLoads F.Files ground.now (λ tree loads. IfOk result (λ o. option_map problem_of o.error ≡ (loads path).1)) }
+    ensures soft { IfOk result (λ o. IsSoft (option_map problem_of o.error)) }
     ensures rest { InTree F.Files ground.now (λ tree. (chosen : Option (List ℕ → List ℕ → List ℕ → Bool))
         → IsOrderBy order (S.compares owner.now) chosen
         → IfOk result (λ o. IsArranged chosen path (listing_of (tree.list path)) o.directory.rest.items)) }
     ensures fault { InTree F.Files ground.now (λ tree. IfOk result (λ o. o.fault ≡ result_err (tree.list path))) }
+    ensures listed { IfOk result (λ o. IsListed (F.list_gives ground.now.files.now) o.directory.path o.directory.rest.items) }
 {
     let at = path.as_str();
     let answer = answer_of(ground, at)?;

@@ -1,6 +1,6 @@
 //! How a walk begins a root.
-ghost use Rattle.std.specs.Prelude.{◌≡◌, true, false, Result, IfOk, None, string_bytes};
-ghost use Rattle.ignore_base.specs.Problem.{Problem};
+ghost use Rattle.std.specs.Prelude.{◌≡◌, true, false, Result, IfErr, IfOk, None, string_bytes};
+ghost use Rattle.ignore_base.specs.Problem.{Problem, problem_of};
 ghost use Rattle.ignore_files.specs.Gives.{IsHonest};
 ghost use Rattle.ignore_files.specs.Memory.{and_then};
 ghost use Rattle.ignore_files.specs.Tree.{Tree};
@@ -8,6 +8,7 @@ ghost use Rattle.ignore_dir.specs.Query.{is_dir_there};
 ghost use Rattle.ignore_walk.specs.Child.{or_failed, with_device};
 ghost use Rattle.ignore_walk.specs.Entry.{Entry, entry_of, item_of, fresh, problem_in};
 ghost use Rattle.ignore_walk.specs.Found.{IsFound};
+ghost use Rattle.ignore_walk.specs.GoesOn.{is_fatal};
 ghost use Rattle.ignore_walk.specs.Scene.{Scene};
 ghost use Rattle.ignore_walk.specs.Whole.{root_by, root_of};
 
@@ -54,6 +55,7 @@ fn root_of<F: Files>(
 ) -> Result<Item, AllocError>
     ensures value { (g : Scene) → IsHonest F.Files files.now g.tree → g.settings.follow_links ≡ follow_links
         → IfOk result (λ item. item_of item ≡ fresh (root_of g root.now own)) }
+    ensures no_end { IfOk result (λ item. IfErr item (λ e. is_fatal (problem_of e) ≡ false)) }
 {
     match answered(files.stat(alloc, root, true))? {
         Ok(metadata) => {
@@ -73,6 +75,7 @@ pub(crate) fn root_found<F: Files>(
 ) -> Result<Item, AllocError>
     ensures value { (g : Scene) → IsHonest F.Files files.now g.tree → g.settings.follow_links ≡ follow_links
         → IfOk result (λ item. item_of item ≡ fresh (or_failed root.now 0 (root_of g root.now) (g.tree.stat root.now false))) }
+    ensures no_end { IfOk result (λ item. IfErr item (λ e. is_fatal (problem_of e) ≡ false)) }
 {
     match answered(files.stat(alloc, root, false))? {
         Ok(own) => root_of(alloc, files, follow_links, root, own),
@@ -91,6 +94,7 @@ pub(crate) fn on_device<F: Files>(
     ensures value { (g : Scene) (r : Result Entry Problem) → IsHonest F.Files files.now g.tree → g.same_file_system ≡ same_file_system
         → item_of item ≡ fresh r
         → IfOk result (λ found. IsFound g (λ _. is_dir) found (and_then (with_device g is_dir) r)) }
+    ensures no_end { IfErr item (λ e. is_fatal (problem_of e) ≡ false) → IfOk result (λ found. IfErr found (λ e. is_fatal (problem_of e) ≡ false)) }
 {
     match item {
         Ok(entry) => match device_at(alloc, files, same_file_system, is_dir, &entry)? {

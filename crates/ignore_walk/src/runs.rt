@@ -4,8 +4,9 @@ ghost use Rattle.std.specs.Prelude.{◌≡◌, ℕ, List, Option, None, Some, Re
 ghost use Rattle.std.specs.Iterator.{Drains, YieldsThen};
 ghost use Rattle.ignore_base.specs.declared.error.Error.{Error};
 ghost use Rattle.ignore_walk.specs.Entry.{Item, item_of};
+ghost use Rattle.ignore_walk.specs.GoesOn.{HasNoEnd};
 ghost use Rattle.ignore_walk.specs.Nexts.{NextGives, Remaining};
-ghost use Rattle.ignore_walk.specs.Runs.{IsBegun, IsRun};
+ghost use Rattle.ignore_walk.specs.Runs.{EndsLast, IsBegun, IsRun};
 ghost use Rattle.ignore_walk.specs.Scene.{Scene};
 ghost use Rattle.ignore_walk.specs.declared.entry.DirEntry.{DirEntry};
 ghost use Rattle.ignore_walk.specs.declared.walk.Walk.{Walk};
@@ -35,4 +36,13 @@ pub fn a_run_begins_the_list<F: Files, S: Callbacks>()
 pub fn none_is_the_end<F: Files, S: Callbacks>()
     ensures { (a b c : Walk F S) (answer : Option (Result DirEntry Error))
         → NextGives F.Files S.Callbacks a None b → NextGives F.Files S.Callbacks b (option_map item_of answer) c → answer ≡ None }
+{}
+
+/// A walk that is asked until it answers none has yielded out of memory, or the limit of steps
+/// alone, at most as its last item, and out of memory nowhere inside an error, whatever the files
+/// answer. So it is with each walk that has no such item in hand, as a new one.
+pub fn only_the_last_item_ends<F: Files, S: Callbacks>()
+    ensures { (w : Walk F S) (all : List (Result DirEntry Error))
+        → Drains (λ a answer b. NextGives F.Files S.Callbacks a (option_map item_of answer) b) w all
+        → HasNoEnd w.stack → EndsLast (map item_of all) }
 {}

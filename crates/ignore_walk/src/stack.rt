@@ -1,17 +1,20 @@
 //! What a walk has in hand: directories whose listings are half read, roots, and items.
-ghost use Rattle.std.specs.Prelude.{◌≡◌, ◌+◌, ◌≤◌, ◌<◌, ◌++◌, ◌∷◌, [], ℕ, suc, List, true, false, None, Ok, Err, IfOk, OnOk};
+ghost use Rattle.std.specs.Prelude.{◌≡◌, ◌+◌, ◌≤◌, ◌<◌, ◌++◌, ◌∷◌, [], ℕ, suc, ⊤, List, true, false, None, Ok, Err, IfOk, OnOk};
 ghost use Rattle.std.specs.Prelude.{MatchOption, length, map, reverse, option_map, string_bytes};
 ghost use Rattle.std.specs.Option.{option_to_list};
 ghost use Rattle.ignore_base.specs.Problem.{problem_of};
 ghost use Rattle.ignore_dir.specs.Query.{is_dir_there};
+ghost use Rattle.ignore_dir.specs.Soft.{IsSoft, holds_memory};
 ghost use Rattle.ignore_levels.specs.Levels.{IsChain, counting, slots_of};
 ghost use Rattle.ignore_walk.specs.Branch.{Branch, path_of, text_at, placed_above};
 ghost use Rattle.ignore_walk.specs.Entry.{Item as Yielded, entry_of, item_of};
 ghost use Rattle.ignore_walk.specs.Found.{IsFoundAt};
 ghost use Rattle.ignore_walk.specs.Frames.{AreFrames};
+ghost use Rattle.ignore_walk.specs.GoesOn.{GoesOn, HasNoEnd, is_fatal, is_limit, is_step_limit};
 ghost use Rattle.ignore_walk.specs.Left.{Remains, InHand, IsNext};
 ghost use Rattle.ignore_walk.specs.OnList.{place_around};
 ghost use Rattle.ignore_walk.specs.Opens.{Opens};
+ghost use Rattle.ignore_walk.specs.Paces.{Enters, HasWork, IsStep, Leaves, MayEnter, TakesOne, work_of};
 ghost use Rattle.ignore_walk.specs.Scene.{Scene};
 ghost use Rattle.ignore_walk.specs.Stands.{state_of, before_root, name_in, text_below, IsAround, IsAt, IsIn, IsKept, Stands, Steps, Takes, Visits, Hands};
 ghost use Rattle.ignore_walk.specs.Suits.{IsGroundOf};
@@ -20,7 +23,7 @@ ghost use Rattle.ignore_walk.specs.Whole.{root_entry, above_root, reported_befor
 
 use crate::above::{Seen, see, way_along};
 use crate::callbacks::Callbacks;
-use crate::child::is_dir_kind;
+use crate::child::{fault_at, is_dir_kind};
 use crate::entry::{DirEntry, Item};
 use crate::found::Found;
 use crate::frame::{Frame, frame_of, take_next};
@@ -28,7 +31,7 @@ use crate::ground::{Fate, Ground};
 use crate::made::{make, make_error, make_fault};
 use crate::open::Opened;
 use crate::root::is_dir_found;
-use ignore_base::Error;
+use ignore_base::{Error, Fault};
 use ignore_dir::Settings;
 use ignore_dir::above::canonical_names;
 use ignore_files::{Files, Listed, Name};
@@ -75,7 +78,10 @@ impl Stack {
             → IsNext b place (state_of self.old root place seen).rests
             → InHand g (state_of self.old root place seen) b (Ok (entry_of found.entry)) items n
             → OnOk result (Stands g self.new items n) }
+        ensures roots { self.new.roots ≡ self.old.roots }
+        ensures enters { OnOk result (MayEnter (F.list_gives ground.now.files.now) self.old.frames.items self.new.frames.items) }
         ensures made { length self.new.made.items ≤ length self.old.made.items + 2 }
+        ensures no_end { HasNoEnd self.old → OnOk result (HasNoEnd self.new) }
     {
         let settings = &ground.settings;
         let fate = ground.fate(self.device, &found, leads_in);
@@ -107,7 +113,10 @@ impl Stack {
             → (entry_of entry).path ≡ path_of root b → Opens g (path_of root b) (text_at g root b) opened
             → fate g root b (entry_of entry) ≡ enter → IsNext b place (state_of self.old root place seen).rests
             → InHand g (state_of self.old root place seen) b (Ok (entry_of entry)) items n → OnOk result (Stands g self.new items n) }
+        ensures roots { self.new.roots ≡ self.old.roots }
+        ensures enters { OnOk result (Enters opened.directory self.old.frames.items self.new.frames.items) }
         ensures made { length self.new.made.items ≤ length self.old.made.items + 2 }
+        ensures no_end { IsSoft (option_map problem_of opened.error) → HasNoEnd self.old → OnOk result (HasNoEnd self.new) }
     {
         let depth = entry.depth();
         make(&mut self.made, settings, entry, opened.error)?;
@@ -125,7 +134,9 @@ impl Stack {
         ensures stepped { (g : Scene) (items : List Yielded) (n : ℕ)
             → IsGroundOf F.Files S.Callbacks ground.now g
             → 0 < length self.old.frames.items → Stands g self.old items n → OnOk result (Steps g self.new items n) }
+        ensures paced { 0 < length self.old.frames.items → OnOk result (IsStep (F.list_gives ground.now.files.now) (work_of self.old) (work_of self.new)) }
         ensures made { length self.new.made.items ≤ length self.old.made.items + 2 }
+        ensures no_end { HasNoEnd self.old → OnOk result (HasNoEnd self.new) }
     {
         match self.take_listed() {
             None => Ok(()),
@@ -142,6 +153,8 @@ impl Stack {
     /// What is listed next in the directory that was entered last; where nothing is, it is left.
     fn take_listed(&mut self) -> Option<Listed>
         ensures made { self.new.made ≡ self.old.made }
+        ensures next { 0 < length self.old.frames.items → MatchOption result (Leaves (work_of self.old) (work_of self.new))
+            (λ x. TakesOne (work_of self.old) x (work_of self.new)) }
         ensures taken { (g : Scene) (items : List Yielded) (n : ℕ) → 0 < length self.old.frames.items → Stands g self.old items n
             → MatchOption result (Steps g self.new items n) (λ x. Takes g self.new x items n) }
     {
@@ -168,7 +181,10 @@ impl Stack {
             → string_bytes self.old.text ≡ text_at g root place ++ name → IsFoundAt g root (name ∷ place) found
             → InHand g (state_of self.old root place seen) (name ∷ place) (Ok (entry_of found.entry)) items n
             → OnOk result (Stands g self.new items n) }
+        ensures roots { self.new.roots ≡ self.old.roots }
+        ensures enters { OnOk result (MayEnter (F.list_gives ground.now.files.now) self.old.frames.items self.new.frames.items) }
         ensures made { length self.new.made.items ≤ length self.old.made.items + 2 }
+        ensures no_end { HasNoEnd self.old → OnOk result (HasNoEnd self.new) }
     {
         let around = place_around(self.above, self.frames.as_slice());
         if ground.is_skipped(&self.levels, around, self.text.as_str(), &found.entry)? {
@@ -190,7 +206,10 @@ impl Stack {
             → self.old.frames.items ≡ [] → IsKept g seen self.old
             → Remains g (before_root self.old last place seen root.now) items n
             → OnOk result (Steps g self.new items n) }
+        ensures roots { self.new.roots ≡ self.old.roots }
+        ensures enters { self.old.frames.items ≡ [] → OnOk result (MayEnter (F.list_gives ground.now.files.now) [] self.new.frames.items) }
         ensures made { length self.new.made.items ≤ length self.old.made.items + 3 }
+        ensures no_end { HasNoEnd self.old → OnOk result (HasNoEnd self.new) }
     {
         if root == "-" {
             self.made.push_back(Ok(DirEntry::stdin(ground.alloc)?))?;
@@ -219,7 +238,10 @@ impl Stack {
             → (is_dir ≡ true → string_bytes base ≡ text_at g root.now [])
             → InHand g (state_of self.old root.now [] seen) [] (root_entry g root.now) items n
             → OnOk result (Stands g self.new items n) }
+        ensures roots { self.new.roots ≡ self.old.roots }
+        ensures enters { OnOk result (MayEnter (F.list_gives ground.now.files.now) self.old.frames.items self.new.frames.items) }
         ensures made { length self.new.made.items ≤ length self.old.made.items + 2 }
+        ensures no_end { HasNoEnd self.old → OnOk result (HasNoEnd self.new) }
     {
         match ground.root_entry(is_dir, root)? {
             Err(error) => make_error(&mut self.made, error),
@@ -254,6 +276,7 @@ impl Stack {
             → IsGroundOf F.Files S.Callbacks ground.now g → IsKept g seen self.old
             → IfOk result (λ base. string_bytes base ≡ text_at g root.now []) }
         ensures made { length self.new.made.items ≤ length self.old.made.items + 1 }
+        ensures no_end { HasNoEnd self.old → OnOk result (HasNoEnd self.new) }
     {
         let path = ground.canonical(root)?;
         let names = canonical_names(ground.alloc, path.as_str())?;
@@ -261,13 +284,13 @@ impl Stack {
         let way = way_along(ground, &mut self.levels, seen, names.as_slice())?;
         self.above = way.place;
         see(&mut self.seen, way.added)?;
-        self.report(Error::joined(way.errors))?;
+        self.report(ground.alloc, Error::joined(way.errors))?;
         Ok(way.text)
     }
 
-    /// Makes the item of an error, if there is one.
-    fn report(&mut self, error: Option<Error>) -> Result<(), AllocError>
-        ensures value { OnOk result (map item_of self.new.made.items
+    /// Makes the item of an error above a root, if there is one.
+    fn report(&mut self, alloc: Global, error: Option<Error>) -> Result<(), AllocError>
+        ensures value { MatchOption (option_map problem_of error) ⊤ (λ p. is_limit p ≡ false) → OnOk result (map item_of self.new.made.items
             ≡ map item_of self.old.made.items ++ map Err (option_to_list (option_map problem_of error))) }
         ensures frames { self.new.frames ≡ self.old.frames }
         ensures roots { self.new.roots ≡ self.old.roots }
@@ -275,10 +298,11 @@ impl Stack {
         ensures above { self.new.above ≡ self.old.above }
         ensures levels { self.new.levels ≡ self.old.levels }
         ensures made { length self.new.made.items ≤ length self.old.made.items + 1 }
+        ensures no_end { IsSoft (option_map problem_of error) → HasNoEnd self.old → OnOk result (HasNoEnd self.new) }
     {
         match error {
             None => Ok(()),
-            Some(error) => make_error(&mut self.made, error),
+            Some(error) => make_error(&mut self.made, below_limit(alloc, error)?),
         }
     }
 
@@ -290,7 +314,9 @@ impl Stack {
         ensures advanced { (g : Scene) (items : List Yielded) (n : ℕ)
             → IsGroundOf F.Files S.Callbacks ground.now g
             → Stands g self.old items n → 0 < n → OnOk result (Steps g self.new items n) }
+        ensures paced { HasWork (work_of self.old) → OnOk result (IsStep (F.list_gives ground.now.files.now) (work_of self.old) (work_of self.new)) }
         ensures made { length self.new.made.items ≤ length self.old.made.items + 3 }
+        ensures no_end { HasNoEnd self.old → OnOk result (HasNoEnd self.new) }
     {
         if !is_outside(self.frames.as_slice()) {
             return self.step(ground);
@@ -303,6 +329,7 @@ impl Stack {
 
     /// Whether no step is left.
     pub(crate) fn is_done(&self) -> bool
+        ensures work { result ≡ false → HasWork (work_of self.now) }
         ensures more { result ≡ false → (g : Scene) (items : List Yielded) (n : ℕ) → Stands g self.now items n → 0 < n }
         ensures none { result ≡ true → (g : Scene) (items : List Yielded) (n : ℕ) → self.now.made.items ≡ [] → Stands g self.now items n
             → (items ≡ []) × (n ≡ 0) }
@@ -312,8 +339,10 @@ impl Stack {
 
     /// The item that was made first.
     pub(crate) fn take_made(&mut self) -> Option<Item>
+        ensures same { work_of self.new ≡ work_of self.old }
         ensures length { MatchOption result ((length self.old.made.items ≡ 0) × (self.new.made.items ≡ []))
             (λ _. length self.old.made.items ≡ suc (length self.new.made.items)) }
+        ensures no_end { HasNoEnd self.old → HasNoEnd self.new × MatchOption result ⊤ (λ item. GoesOn (item_of item)) }
         ensures handed { (g : Scene) (items : List Yielded) (n : ℕ) → Stands g self.old items n
             → MatchOption result (Stands g self.new items n) (λ item. Hands g self.new (item_of item) items n) }
     {
@@ -361,6 +390,38 @@ fn are_begun(roots: &VecDeque<Name>) -> bool
         None => true,
         Some(_) => false,
     }
+}
+
+/// Whether a fault is that of the limit of steps.
+fn is_step_limit(fault: Fault) -> bool
+    ensures { result ≡ is_step_limit fault }
+{
+    match fault {
+        Fault::StepLimit => true,
+        _ => false,
+    }
+}
+
+/// Whether an error is the limit of steps alone.
+fn is_limit(error: &Error) -> bool
+    ensures { result ≡ is_limit (problem_of error.now) }
+{
+    match error {
+        Error::Io(fault) => is_step_limit(*fault),
+        _ => false,
+    }
+}
+
+/// An error above a root, as it is reported. The limit of steps alone would be the end of the walk:
+/// so that one stands at the depth of the root.
+fn below_limit(alloc: Global, error: Error) -> Result<Error, AllocError>
+    ensures same { is_limit (problem_of error) ≡ false → IfOk result (λ e. problem_of e ≡ problem_of error) }
+    ensures no_end { holds_memory (problem_of error) ≡ false → IfOk result (λ e. is_fatal (problem_of e) ≡ false) }
+{
+    if is_limit(&error) {
+        return fault_at(alloc, 0, Fault::StepLimit);
+    }
+    Ok(error)
 }
 
 /// Makes a text the path of a listed thing as the directories around it see it.

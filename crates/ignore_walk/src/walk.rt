@@ -3,6 +3,8 @@ ghost use Rattle.std.specs.Prelude.{◌≡◌, ◌<◌, ◌≤◌, ◌⊎◌, []
 ghost use Rattle.ignore_base.specs.declared.fault.Fault.TheVariants.{StepLimit};
 ghost use Rattle.ignore_base.specs.Problem.{Problem, problem_of, io, memory};
 ghost use Rattle.ignore_walk.specs.Entry.{Item as Yielded, item_of};
+ghost use Rattle.ignore_walk.specs.GoesOn.{AllGoOn, HasNoEnd};
+ghost use Rattle.ignore_walk.specs.Paces.{HasWork, Paces, TookSteps, Work, work_at, work_of};
 ghost use Rattle.ignore_walk.specs.Scene.{Scene};
 ghost use Rattle.ignore_walk.specs.Stands.{Stands};
 ghost use Rattle.ignore_walk.specs.Suits.{IsGroundOf};
@@ -39,7 +41,7 @@ fn step_limit() -> Error
 }
 
 impl<'a, F: Files, S: Callbacks> Walk<'a, F, S> {
-    ghost use Rattle.ignore_walk.specs.Nexts.{Remaining, Nexts, IsOver, IsLast, items_at_most};
+    ghost use Rattle.ignore_walk.specs.Nexts.{Remaining, Nexts, IsOver, IsLast, EndsOrGoesOn, items_at_most};
 
     /// A walk of these roots, by what stays the same in it. It allocates nothing.
     /// For dependents.
@@ -47,8 +49,12 @@ impl<'a, F: Files, S: Callbacks> Walk<'a, F, S> {
         ensures whole { (g : Scene) (items : List Yielded) (n : ℕ)
             → IsGroundOf F.Files S.Callbacks ground.entry g → Whole g roots.items items n
             → Remaining F.Files S.Callbacks g result items n }
+        ensures ground { result.ground ≡ ground.entry }
         ensures limit { result.left ≡ ground.entry.options.limit }
         ensures goes_on { result.ended ≡ false }
+        ensures begins { work_of result.stack ≡ work_at roots.items }
+        ensures files { result.ground ≡ ground.entry }
+        ensures no_end { HasNoEnd result.stack }
     {
         let (alloc, left) = (ground.alloc, ground.options.limit);
         let stack = Stack {
@@ -85,6 +91,7 @@ impl<'a, F: Files, S: Callbacks> Walk<'a, F, S> {
     fn is_done(&self) -> bool
         ensures goes_on { result ≡ false → self.now.ended ≡ false }
         ensures ended { self.now.ended ≡ true → result ≡ true }
+        ensures work { result ≡ false → HasWork (work_of self.now.stack) }
         ensures more { result ≡ false → (g : Scene) (items : List Yielded) (n : ℕ) → Stands g self.now.stack items n → 0 < n }
         ensures none { result ≡ true → self.now.ended ≡ false → (g : Scene) (items : List Yielded) (n : ℕ)
             → self.now.stack.made.items ≡ [] → Stands g self.now.stack items n → (items ≡ []) × (n ≡ 0) }
@@ -101,6 +108,8 @@ impl<'a, F: Files, S: Callbacks> Walk<'a, F, S> {
         ensures none { result ≡ None → IsOver self.new }
         ensures last { self.old.ended ≡ false → self.new.ended ≡ true
             → IsOver self.new × IsLast (option_map item_of result) self.new.left }
+        ensures paced { Paces F.Files self.old (option_map item_of result) self.new }
+        ensures ends { HasNoEnd self.old.stack → HasNoEnd self.new.stack × EndsOrGoesOn (option_map item_of result) self.new }
     {
         if let Some(item) = self.stack.take_made() {
             return Some(item);
@@ -170,6 +179,9 @@ impl<'a, F: Files, S: Callbacks> Walk<'a, F, S> {
         ensures ended { (g : Scene) (items : List Yielded) (n : ℕ) → Remaining F.Files S.Callbacks g self.entry items n
             → IfErr result (λ e. (problem_of e ≡ memory) ⊎ ((problem_of e ≡ io StepLimit) × (self.entry.left < n))) }
         ensures errors { self.entry.ended ≡ false → IfErr result (λ e. (problem_of e ≡ memory) ⊎ (problem_of e ≡ io StepLimit)) }
+        ensures limited { self.entry.ended ≡ false → IfErr result (λ e. problem_of e ≡ io StepLimit
+            → (w : Work) × TookSteps (F.list_gives self.entry.ground.files.now) self.entry.left (work_of self.entry.stack) w) }
+        ensures no_end { HasNoEnd self.entry.stack → IfOk result (λ all. AllGoOn (map item_of all.items)) }
         ensures over { IsOver self.entry → IsOkAnd result (λ all. all.items ≡ []) }
     {
         let mut all = Vec::new(self.ground.alloc);

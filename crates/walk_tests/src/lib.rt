@@ -26,6 +26,8 @@ mod refused_matchers;
 #[cfg(test)]
 mod refusing;
 #[cfg(test)]
+mod surveys;
+#[cfg(test)]
 mod trees;
 #[cfg(test)]
 mod walks;

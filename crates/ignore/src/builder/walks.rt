@@ -2,7 +2,10 @@
 ghost use Rattle.std.specs.Prelude.{◌≡◌, false, List, None, Some, map, IfOk, IfErr};
 ghost use Rattle.std.specs.Iterator.{Drains, IsFinite};
 ghost use Rattle.ignore_base.specs.Problem.{problem_of, memory};
+ghost use Rattle.ignore_walk.specs.GoesOn.{HasNoEnd};
+ghost use Rattle.ignore_walk.specs.Paces.{work_at, work_of};
 ghost use Rattle.ignore_walk.specs.declared.callbacks.Order.TheVariants.{Listed};
+ghost use Rattle.ignore.specs.Asked.{IsOutsideBy};
 ghost use Rattle.ignore.specs.Builder.{unset, with_root, with_roots};
 ghost use Rattle.ignore.specs.Closures.{options_of, order_of};
 ghost use Rattle.ignore.specs.Walks.{IsWalkBy};
@@ -23,15 +26,19 @@ impl WalkBuilder {
     ///
     /// Over files that are consistent with a tree its items are those of the definition, by the
     /// rules from outside as they were read, and by the filter and the comparison that the closures
-    /// answer by.
+    /// answer by. Over any files its rules from outside are by answers that the files gave.
     ///
     /// # Errors
     /// `Error::Memory` alone.
     pub fn build<'a, F: Files>(&'a self, files: &'a F, env: &Env) -> Result<Walk<'a, F>, Error>
         ensures whole { IfOk result (λ w. IsWalkBy F.Files ⟦<Owner<'a> as Callbacks>⟧ files.now (record { builder = Some self.entry }) env.now self.now.options
             (order_of (λ s. s.order) self.now.sorter) w.inner) }
+        ensures answered { IfOk result (λ w. IsOutsideBy (F.contents_gives files.now) env.now self.now.options w.inner.ground.outside) }
         ensures limit { IfOk result (λ w. w.inner.left ≡ self.now.options.limit) }
         ensures goes_on { IfOk result (λ w. w.inner.ended ≡ false) }
+        ensures no_end { IfOk result (λ w. HasNoEnd w.inner.stack) }
+        ensures begins { IfOk result (λ w. work_of w.inner.stack ≡ work_at self.now.options.roots) }
+        ensures files { IfOk result (λ w. w.inner.ground.files.now ≡ files.now) }
         ensures out_of_memory { IfErr result (λ e. problem_of e ≡ memory) }
     {
         self.options.walk(
@@ -66,8 +73,12 @@ impl WalkOptions {
         order: Order,
     ) -> Result<Walk<'a, F>, Error>
         ensures whole { IfOk result (λ w. IsWalkBy F.Files ⟦<Owner<'a> as Callbacks>⟧ files.now owner.entry env.now self.now order w.inner) }
+        ensures answered { IfOk result (λ w. IsOutsideBy (F.contents_gives files.now) env.now self.now w.inner.ground.outside) }
         ensures limit { IfOk result (λ w. w.inner.left ≡ self.now.limit) }
         ensures goes_on { IfOk result (λ w. w.inner.ended ≡ false) }
+        ensures no_end { IfOk result (λ w. HasNoEnd w.inner.stack) }
+        ensures begins { IfOk result (λ w. work_of w.inner.stack ≡ work_at self.now.roots) }
+        ensures files { IfOk result (λ w. w.inner.ground.files.now ≡ files.now) }
         ensures out_of_memory { IfErr result (λ e. problem_of e ≡ memory) }
     {
         let roots = self.root_names()?;
@@ -108,6 +119,7 @@ impl<'a, F: Files> Walk<'a, F> {
             (with_root unset path.now) Listed w.inner) }
         ensures limit { IfOk result (λ w. w.inner.left ≡ unset.limit) }
         ensures goes_on { IfOk result (λ w. w.inner.ended ≡ false) }
+        ensures no_end { IfOk result (λ w. HasNoEnd w.inner.stack) }
         ensures out_of_memory { IfErr result (λ e. problem_of e ≡ memory) }
     {
         let builder = WalkBuilder::new(alloc, path)?;
@@ -132,6 +144,7 @@ impl<'a, F: Files> Walk<'a, F> {
             env.now (with_roots unset (map P.text all)) Listed w.inner) }
         ensures limit { IfOk result (λ w. w.inner.left ≡ unset.limit) }
         ensures goes_on { IfOk result (λ w. w.inner.ended ≡ false) }
+        ensures no_end { IfOk result (λ w. HasNoEnd w.inner.stack) }
         ensures out_of_memory { IfErr result (λ e. problem_of e ≡ memory) }
     {
         let builder = WalkBuilder::from_iter(alloc, paths)?;

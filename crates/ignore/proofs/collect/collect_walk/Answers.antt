@@ -1,4 +1,5 @@
 use Rattle.std.proofs.Common.{Some}
+use Rattle.ignore.proofs.HeadlineLemmas.{limited_by}
 use Rattle.ignore.proofs.collect.collect_walk.Goals as goal
 
 pub returns-clause-headline : goal.returns-clause-headline
@@ -10,3 +11,11 @@ pub returns-clause-ended : goal.returns-clause-ended
 returns-clause-ended g c =
     c.all_items.ensures.ended c.args.files.now (record { builder = Some c.args.builder }) c.args.env.now c.args.builder.now.options _ c.in_ok-build.ensures.whole
     c.in_ok-build.ensures.limit c.in_ok-build.ensures.goes_on
+
+pub returns-clause-no_end : goal.returns-clause-no_end
+returns-clause-no_end g c = c.all_items.ensures.no_end c.in_ok-build.ensures.no_end
+
+pub returns-clause-limited : goal.returns-clause-limited
+returns-clause-limited g c =
+    limited_by g.F.Files c.args.files.now _ _ _ _ _ c.all_items.result c.in_ok-build.ensures.files c.in_ok-build.ensures.limit
+    c.in_ok-build.ensures.begins (c.all_items.ensures.limited c.in_ok-build.ensures.goes_on)

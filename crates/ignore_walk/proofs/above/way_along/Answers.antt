@@ -1,11 +1,23 @@
 use Rattle.std.proofs.Common.{◌≡◌, ◌+◌, ◌++◌, ◌∷◌, [], ℕ, Bor, List, Ok, ap, codes, get_or, map, string_bytes, subst, sym, take, ◌∙◌}
 use Rattle.std.proofs.lemmas.List.{map_more, take-map, take_all}
+use Rattle.std.specs.declared.alloc.Global.{Global}
+use Rattle.std.specs.declared.vec.Vec.{Vec}
+use Rattle.ignore_base.specs.Problem.{problem_of}
+use Rattle.ignore_base.specs.declared.error.Error.{Error}
 use Rattle.ignore_dir.specs.Above.{canonical_names, path_along}
+use Rattle.ignore_dir.specs.Soft.{AllSoft}
 use Rattle.ignore_levels.specs.Levels.{slots_of}
 use Rattle.ignore_walk.specs.Shared.{HasCome}
 use Rattle.ignore_walk.proofs.CanonicalLemmas.{canonical-take}
 use Rattle.ignore_walk.proofs.SharedLemmas.{shared-kept}
 use Rattle.ignore_walk.proofs.above.way_along.Goals as goal
+
+pub loop-name-init : goal.loop-name-init
+loop-name-init g c = record {
+  kept = λ place chain h. h;
+  soft = c.in_ok-way.ensures.soft;
+  come = λ s paths path is suits are shared. c.in_ok-way.ensures.begins s (slots_of c.args.levels.now) c.args.seen.now paths are;
+}
 
 pub loop-name-preserved : goal.loop-name-preserved
 loop-name-preserved g c =
@@ -21,6 +33,7 @@ loop-name-preserved g c =
     let after = slots_of c.pass.new.levels in
     record {
       kept = λ place chain h. c.in_ok-pass.ensures.kept place chain (inv.kept place chain h);
+      soft = subst (λ (es : Vec Error Global). AllSoft (map problem_of es.items)) (sym c.in_ok-go.ensures.errors) (c.in_ok-pass.ensures.soft inv.soft);
       come = λ s paths path is suits are shared.
           let come = inv.come s paths path is suits are shared in
           let shared' = shared-kept s seen (slots_of c.args.levels.now) before inv.kept shared in

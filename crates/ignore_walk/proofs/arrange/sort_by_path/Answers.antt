@@ -23,4 +23,5 @@ returns g c =
             c.sort_by.ensures.stable lt order (always_returns_same _ _ _ (λ a r f' k. search rules)),
           ))
           c.sort_by.ensures.sorted;
+      permuted = on_ok_weaker c.sort_by.result (λ h. c.sort_by.ensures.permutation) c.sort_by.ensures.sorted;
     }

@@ -1,4 +1,4 @@
-use Rattle.std.proofs.Common.{◌≡◌, ◌+◌, ◌++◌, ◌∷◌, ℕ, List, Ok, Option, ap, arith, codes, length, map, option_map, refl, sym, ◌∙◌}
+use Rattle.std.proofs.Common.{◌≡◌, ◌+◌, ◌++◌, ◌∷◌, ℕ, List, Ok, Option, ap, arith, codes, length, map, option_map, refl, subst, sym, ◌∙◌}
 use Rattle.std.specs.Option.{option_to_list}
 use Rattle.ignore_base.specs.Problem.{Problem, problem_of}
 use Rattle.ignore_dir.specs.Above.{canonical_names, kept_above, path_along}
@@ -9,6 +9,8 @@ use Rattle.ignore_walk.specs.declared.above.Seen.{Seen}
 use Rattle.ignore_walk.specs.declared.above.Way.{Way}
 use Rattle.ignore_walk.proofs.RiseLemmas.{below-down}
 use Rattle.ignore_walk.proofs.SharedLemmas.{pass-known, pass-new}
+use Rattle.ignore_dir.specs.Soft.{AllSoft}
+use Rattle.ignore_dir.proofs.SoftLemmas.{more_soft}
 use Rattle.ignore_walk.proofs.above.Way.pass.Goals as goal
 
 pub returns-in-Some-clause-passed : goal.returns-in-Some-clause-passed
@@ -50,3 +52,11 @@ returns-clause-passed g c = λ s paths names name suits canon are shared come.
     let chain = c.in_ok-self.ensures.chain (counting (placed_down s names)) come.passed.place (below-down s names offset is_offset) in
     pass-new s c.args.seen.now paths names name path old new w next own dir offset c.in_ok-self.ensures.kept c.in_ok-push.ensures.items own_path refl
     errors is_dir is_offset chain c.in_default.ensures.found at canon' are come
+
+pub returns-in-Some-clause-soft : goal.returns-in-Some-clause-soft
+returns-in-Some-clause-soft g c = λ soft. soft
+
+pub returns-clause-soft : goal.returns-clause-soft
+returns-clause-soft g c = λ soft.
+    subst AllSoft (sym c.in_ok-push_some.ensures.added)
+    (more_soft (map problem_of c.args.self.now.errors.items) (option_map problem_of c.in_ok-dir.error) soft c.in_ok-dir.ensures.soft)

@@ -6,7 +6,7 @@ use Rattle.ignore_walk.proofs.ground.Ground.above.Goals as goal
 
 pub returns-clause-dir : goal.returns-clause-dir
 returns-clause-dir g c = λ s given.
-    let suits = c.lent.ensures s given in
+    let suits = c.lent.ensures.suits s given in
     let lent = c.lent.result in
     let self = c.args.self.now in
     let are = suited-loads g.F.Files g.S.Callbacks lent.files.now self.owner lent.settings.now lent.outside.now self.options s suits in
@@ -17,7 +17,7 @@ returns-clause-dir g c = λ s given.
 
 pub returns-clause-problem : goal.returns-clause-problem
 returns-clause-problem g c = λ s given.
-    let suits = c.lent.ensures s given in
+    let suits = c.lent.ensures.suits s given in
     let lent = c.lent.result in
     let self = c.args.self.now in
     c.in_ok-dir.ensures.problem s.tree s.loads suits.honest

@@ -6,7 +6,7 @@ use Rattle.ignore_walk.proofs.ground.Ground.is_skipped.Goals as goal
 pub returns-then-branch : goal.returns-then-branch
 returns-then-branch g c = record {
   value = λ s root b name suits chain text path sound.
-      let lent = c.lent.ensures s suits in
+      let lent = c.lent.ensures.suits s suits in
       let e = entry_of c.args.entry.now in
       let rules = c.in_ok-is_ignored.ensures.value s root b name lent.settings lent.outside chain text path in
       sym (skipped-ignored s root b name e (sym rules ∙ c.if-branch.true));
@@ -15,7 +15,7 @@ returns-then-branch g c = record {
 pub returns-then-branch-2 : goal.returns-then-branch-2
 returns-then-branch-2 g c = record {
   value = λ s root b name suits chain text path sound.
-      let lent = c.lent.ensures s suits in
+      let lent = c.lent.ensures.suits s suits in
       let e = entry_of c.args.entry.now in
       let rules = c.in_ok-is_ignored.ensures.value s root b name lent.settings lent.outside chain text path in
       let size = c.in_ok-is_too_large.ensures.value s suits.honest suits.settings in
@@ -25,7 +25,7 @@ returns-then-branch-2 g c = record {
 pub returns : goal.returns
 returns g c = record {
   value = λ s root b name suits chain text path sound.
-      let lent = c.lent.ensures s suits in
+      let lent = c.lent.ensures.suits s suits in
       let e = entry_of c.args.entry.now in
       let rules = c.in_ok-is_ignored.ensures.value s root b name lent.settings lent.outside chain text path in
       let size = c.in_ok-is_too_large.ensures.value s suits.honest suits.settings in

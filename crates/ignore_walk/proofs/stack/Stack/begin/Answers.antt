@@ -1,4 +1,4 @@
-use Rattle.std.proofs.Common.{◌≡◌, ◌++◌, ◌∷◌, [], ℕ, List, Option, None, Ok, map, refl, reverse, sym, ◌∙◌, ap, subst}
+use Rattle.std.proofs.Common.{◌≡◌, ◌++◌, ◌∷◌, [], ℕ, List, Option, None, Ok, inl, map, refl, reverse, sym, ◌∙◌, ap, subst}
 use Rattle.std.proofs.lemmas.List.{append-nil, map-append}
 use Rattle.ignore_base.specs.Problem.{Problem}
 use Rattle.ignore_files.specs.declared.types.Listed.{Listed}
@@ -7,12 +7,14 @@ use Rattle.ignore_walk.specs.Branch.{placed_above}
 use Rattle.ignore_walk.specs.Entry.{Entry, Item, item_of, problem_in, stdin_entry}
 use Rattle.ignore_walk.specs.Left.{Remains, InHand}
 use Rattle.ignore_walk.specs.OnList.{place_around}
+use Rattle.ignore_walk.specs.Paces.{MayEnter}
 use Rattle.ignore_walk.specs.Stands.{IsAround, state_of}
 use Rattle.ignore_walk.specs.declared.frame.Frame.{Frame}
 use Rattle.ignore_walk.specs.Whole.{root_entry, above_root, reported_before}
 use Rattle.ignore_walk.proofs.LeftLemmas.{begin_stdin, begin_root, state}
 use Rattle.ignore_walk.proofs.VisitLemmas.{on_ok_map, plain_root, plain_report}
 use Rattle.ignore_walk.proofs.StandLemmas.{stand_made, rests_none, outside}
+use Rattle.ignore_walk.proofs.NoEndLemmas.{made_go_on}
 use Rattle.ignore_walk.proofs.stack.Stack.begin.Goals as goal
 
 abbrev ok : Entry × Option Problem → Item
@@ -77,3 +79,35 @@ returns-clause-begun g c = λ s last place seen items n suits empty kept r.
     t.2)) in
     on_ok_map c.begin_at-2.result (λ stands. (t.0, t.1, stands))
     (c.begin_at-2.ensures.begun s seen items t.0 suits empty kept is_dir (λ t. absurd (cc (t))) (λ t. absurd (cc (t))) hand)
+
+pub returns-then-eq-clause-enters : goal.returns-then-eq-clause-enters
+returns-then-eq-clause-enters g c = λ empty. inl empty
+
+pub returns-then-branch-clause-enters : goal.returns-then-branch-clause-enters
+returns-then-branch-clause-enters g c = λ empty.
+    on_ok_map c.begin_at.result
+    (λ enters. subst (λ (fs : List Frame). MayEnter (g.F.Files.list_gives c.args.ground.now.files.now) fs c.begin_at.new.self.frames.items)
+    (ap (λ fs. fs.items) c.in_ok-base.ensures.frames ∙ empty) enters) c.begin_at.ensures.enters
+
+pub returns-clause-enters : goal.returns-clause-enters
+returns-clause-enters g c = λ empty.
+    on_ok_map c.begin_at-2.result
+    (λ enters. subst (λ (fs : List Frame). MayEnter (g.F.Files.list_gives c.args.ground.now.files.now) fs c.begin_at-2.new.self.frames.items) empty enters) c.begin_at-2.ensures.enters
+
+pub returns-then-eq-clause-no_end : goal.returns-then-eq-clause-no_end
+returns-then-eq-clause-no_end g c = λ h.
+    let made = map item_of c.args.self.now.made.items in
+    let own = c.in_ok-stdin.field-0 in
+    let is : item_of (Ok own) ≡ Ok (stdin_entry, None) =
+    ap (λ (e : Entry). ok (e, problem_in own)) c.in_ok-stdin.ensures.entry ∙ ap (λ (o : Option Problem). ok
+    (stdin_entry, o)) c.in_ok-stdin.ensures.no_error in
+    let makes : map item_of c.push_back.new.self.items ≡ made ++ Ok (stdin_entry, None) ∷ [] =
+    ap (map item_of) c.in_ok-push_back.ensures.items ∙ (map-append item_of c.args.self.now.made.items (Ok own ∷ [])
+    ∙ ap (λ (i : Item). made ++ i ∷ []) is) in
+    made_go_on made _ _ makes h (tt, tt)
+
+pub returns-then-branch-clause-no_end : goal.returns-then-branch-clause-no_end
+returns-then-branch-clause-no_end g c = λ h. c.begin_at.ensures.no_end (c.in_ok-base.ensures.no_end h)
+
+pub returns-clause-no_end : goal.returns-clause-no_end
+returns-clause-no_end g c = λ h. c.begin_at-2.ensures.no_end h

@@ -1,8 +1,8 @@
-use Rattle.std.proofs.Common.{◌≡◌, ◌∷◌, [], ℕ, List, Ok, Err, Result, true, refl, sym, ◌∙◌, ap, subst}
+use Rattle.std.proofs.Common.{◌≡◌, ◌∷◌, [], ℕ, List, Ok, Err, Result, inl, true, refl, sym, ◌∙◌, ap, subst, false, IfErr}
 use Rattle.ignore_base.specs.Problem.{Problem, problem_of}
 use Rattle.ignore_base.specs.declared.error.Error.{Error}
 use Rattle.ignore_dir.specs.Query.{is_dir_there}
-use Rattle.ignore_walk.specs.Entry.{Entry, entry_of, item_of}
+use Rattle.ignore_walk.specs.Entry.{Entry, entry_of}
 use Rattle.ignore_walk.specs.Found.{IsFound}
 use Rattle.ignore_walk.specs.Frames.{device_of}
 use Rattle.ignore_walk.specs.Left.{InHand}
@@ -11,8 +11,11 @@ use Rattle.ignore_walk.specs.Whole.{root_entry}
 use Rattle.ignore_walk.specs.declared.found.Found.{Found}
 use Rattle.ignore_walk.specs.declared.stack.Stack.{Stack}
 use Rattle.ignore_walk.proofs.LeftLemmas.{make_failed}
+use Rattle.ignore_walk.proofs.PaceLemmas.{on_any_ok}
 use Rattle.ignore_walk.proofs.VisitLemmas.{on_ok_map, root_path, root_kept}
 use Rattle.ignore_walk.proofs.StandLemmas.{stand_made, next_root, outside}
+use Rattle.ignore_walk.proofs.NoEndLemmas.{made_go_on}
+use Rattle.ignore_walk.specs.GoesOn.{is_fatal}
 use Rattle.ignore_walk.proofs.stack.Stack.begin_at.Goals as goal
 
 pub returns-in-Err-clause-begun : goal.returns-in-Err-clause-begun
@@ -61,3 +64,18 @@ returns-in-Ok-clause-begun g c = λ s seen items n suits empty kept is_dir above
       seen_as = λ t. c.new.ensures ∙ base t;
       around = λ t. above t;
     }) (next_root c.args.self.now [] empty) hand'
+
+pub returns-in-Err-clause-enters : goal.returns-in-Err-clause-enters
+returns-in-Err-clause-enters g c = on_any_ok c.make_error.result (inl refl)
+
+pub returns-in-Ok-clause-enters : goal.returns-in-Ok-clause-enters
+returns-in-Ok-clause-enters g c = c.visit.ensures.enters
+
+pub returns-in-Err-clause-no_end : goal.returns-in-Err-clause-no_end
+returns-in-Err-clause-no_end g c = λ h.
+    let goes_on : is_fatal (problem_of c.in-Err.error) ≡ false =
+    subst (λ (r : Result Found Error). IfErr r (λ e. is_fatal (problem_of e) ≡ false)) c.in-Err.is c.in_ok-error.ensures.no_end in
+    on_ok_map c.make_error.result (λ makes. made_go_on _ _ _ makes h (goes_on, tt)) c.make_error.ensures.value
+
+pub returns-in-Ok-clause-no_end : goal.returns-in-Ok-clause-no_end
+returns-in-Ok-clause-no_end g c = λ h. c.visit.ensures.no_end h

@@ -1,6 +1,6 @@
 use Rattle.std.proofs.Common.{◌≡◌, ◌++◌, ℕ, List, Ok, Option, ap, map, option_map, refl, subst, sym, ◌∙◌}
 use Rattle.ignore_base.specs.Problem.{Problem, joined, problem_of}
-use Rattle.ignore_dir.specs.Above.{canonical_names, names_above, paths_above}
+use Rattle.ignore_dir.specs.Above.{canonical_names, names_above, paths_above, problems_of_loads}
 use Rattle.ignore_levels.specs.declared.list.Levels.{Levels}
 use Rattle.ignore_levels.specs.declared.list.Place.{Place}
 use Rattle.ignore_levels.specs.Levels.{IsChain, counting, slots_of}
@@ -10,6 +10,11 @@ use Rattle.ignore_walk.specs.Shared.{AreSeen, AreShared, HasCome}
 use Rattle.ignore_walk.specs.declared.above.Seen.{Seen}
 use Rattle.ignore_walk.proofs.AboveLemmas.{reported-is}
 use Rattle.ignore_walk.proofs.StandLemmas.{kept-more}
+use Rattle.ignore_walk.proofs.NoEndLemmas.{reported_no_limit}
+use Rattle.ignore_dir.specs.Soft.{IsSoft}
+use Rattle.ignore_dir.proofs.SoftLemmas.{joined-soft}
+use Rattle.ignore_dir.specs.Load.{joined_some}
+use Rattle.ignore_walk.specs.Whole.{unseen}
 use Rattle.ignore_walk.proofs.stack.Stack.look_above.Goals as goal
 
 pub returns-clause-reported : goal.returns-clause-reported
@@ -29,10 +34,12 @@ returns-clause-reported g c = λ s seen suits kept found.
     subst (λ (l : List Seen). HasCome s (slots_of levels) l seen (names_above s.tree s.settings root) way) same
     (subst (λ (l : List (List ℕ)). HasCome s (slots_of levels) c.as_slice-seen.result.now seen l way) names
     (c.in_ok-way.ensures.come s seen c.in_ok-path.path is suits known shared)) in
-    c.in_ok-report.ensures.value
+    let above = paths_above s.tree s.settings root in
+    let problem : option_map problem_of c.joined.result ≡ joined_some (problems_of_loads s.loads (unseen seen above)) =
+    c.joined.ensures ∙ ap (λ (l : List Problem). joined l) come.passed.errors in
+    c.in_ok-report.ensures.value (reported_no_limit s (unseen seen above) _ suits.loads problem)
     ∙ ap (λ (l : List Item). map item_of self.made.items ++ l)
-    (reported-is s root seen (paths_above s.tree s.settings root) (option_map problem_of c.joined.result) found refl
-    (c.joined.ensures ∙ ap (λ (l : List Problem). joined l) come.passed.errors))
+    (reported-is s root seen above (option_map problem_of c.joined.result) found refl problem)
 
 pub returns-clause-seen : goal.returns-clause-seen
 returns-clause-seen g c = λ s seen suits kept found.
@@ -97,3 +104,7 @@ returns-clause-base g c = λ s seen suits kept.
     (subst (λ (l : List (List ℕ)). HasCome s (slots_of levels) c.as_slice-seen.result.now seen l way) names
     (c.in_ok-way.ensures.come s seen c.in_ok-path.path is suits known shared)) in
     come.text
+
+pub returns-clause-no_end : goal.returns-clause-no_end
+returns-clause-no_end g c = λ h.
+    c.in_ok-report.ensures.no_end (subst IsSoft (sym c.joined.ensures) (joined-soft _ c.in_ok-way.ensures.soft)) h

@@ -1,4 +1,4 @@
-use Rattle.std.proofs.Common.{◌≡◌, ◌++◌, ℕ, List, Option, option_map, length, map, refl, reverse, subst, sym, ◌∙◌, ap, append_assoc}
+use Rattle.std.proofs.Common.{◌≡◌, ◌++◌, ℕ, List, Option, option_map, length, map, refl, reverse, subst, sym, ◌∙◌, ap, append_assoc, None, false}
 use Rattle.ignore_dir.specs.Lists.{Placed}
 use Rattle.ignore_files.specs.declared.types.Listed.{Listed}
 use Rattle.ignore_levels.specs.declared.list.Place.{Place}
@@ -7,7 +7,7 @@ use Rattle.ignore_walk.specs.Branch.{placed_around, text_at}
 use Rattle.ignore_walk.specs.Frames.{IsFrame}
 use Rattle.ignore_walk.specs.OnList.{place_around}
 use Rattle.ignore_walk.specs.declared.frame.Frame.{Frame}
-use Rattle.ignore_walk.specs.Entry.{Item, entry_of, item_of}
+use Rattle.ignore_walk.specs.Entry.{Item, entry_of, item_of, Entry}
 use Rattle.ignore_base.specs.Problem.{Problem, problem_of}
 use Rattle.ignore_dir.specs.declared.settings.Settings.{Settings}
 use Rattle.std.specs.Result.{result_err}
@@ -15,6 +15,7 @@ use Rattle.ignore_walk.specs.Walked.{IsArranged, listing_of, yielded, loaded, un
 use Rattle.ignore_walk.proofs.ListLemmas.{on-entered}
 use Rattle.ignore_walk.proofs.RiseLemmas.{below-around, counted-is}
 use Rattle.ignore_walk.proofs.StandLemmas.{stand_entered}
+use Rattle.ignore_walk.proofs.NoEndLemmas.{answer_by, answer_by-fault, made_go_on, unlisted_go_on, yielded_go_on}
 use Rattle.ignore_walk.proofs.stack.Stack.settle.Goals as goal
 
 pub returns-clause-entered : goal.returns-clause-entered
@@ -50,3 +51,15 @@ returns-clause-entered c = λ s root place b seen items n ordered settings is at
     (record { seen = refl; roots = refl; above = refl; device = refl }) c.in_ok-push.ensures.items
     (faults ∙ (ap (λ (t : List Item). t ++ unlisted e lists) yields ∙ append_assoc made (loaded s e) (unlisted e lists)))
     is at ordered is_frame on arranged enters next hand
+
+pub returns-clause-enters : goal.returns-clause-enters
+returns-clause-enters c =
+    (c.in_ok-entered.entered, c.in_ok-entered.ensures.path, c.in_ok-entered.ensures.rest, c.in_ok-push.ensures.items)
+
+pub returns-clause-no_end : goal.returns-clause-no_end
+returns-clause-no_end c = λ soft h.
+    let e : Entry = record { path = c.as_str-path.result.now; depth = c.depth-depth.result; kind = None; followed = false } in
+    let lists = answer_by c.args.opened.fault in
+    made_go_on _ _ _ (c.in_ok-make_fault.ensures.value e lists refl refl (answer_by-fault c.args.opened.fault))
+    (made_go_on _ _ _ c.in_ok-make.ensures.value h
+    (yielded_go_on c.args.settings.now (entry_of c.args.entry) (option_map problem_of c.args.opened.error) soft)) (unlisted_go_on e lists)

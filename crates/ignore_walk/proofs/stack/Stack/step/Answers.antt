@@ -1,4 +1,4 @@
-use Rattle.std.proofs.Common.{◌≡◌, ◌++◌, ◌∷◌, [], ℕ, List, None, Ok, Err, Result, reverse, refl, sym, ◌∙◌, ap, subst}
+use Rattle.std.proofs.Common.{◌≡◌, ◌++◌, ◌∷◌, [], ℕ, List, Ok, Err, Result, inl, inr, reverse, refl, sym, ◌∙◌, ap, subst, false, IfErr}
 use Rattle.ignore_base.specs.Problem.{Problem, problem_of}
 use Rattle.ignore_base.specs.declared.error.Error.{Error}
 use Rattle.ignore_walk.specs.Branch.{Branch, text_at}
@@ -7,13 +7,17 @@ use Rattle.ignore_walk.specs.Entry.{Entry, entry_of}
 use Rattle.ignore_walk.specs.Found.{IsFound}
 use Rattle.ignore_walk.specs.Frames.{AreFrames}
 use Rattle.ignore_walk.specs.Left.{InHand}
+use Rattle.ignore_walk.specs.Paces.{work_of}
 use Rattle.ignore_walk.specs.Stands.{state_of}
 use Rattle.ignore_walk.specs.declared.found.Found.{Found}
 use Rattle.ignore_walk.specs.declared.frame.Frame.{Frame}
 use Rattle.ignore_walk.specs.declared.stack.Stack.{Stack}
 use Rattle.ignore_walk.proofs.LeftLemmas.{make_failed}
 use Rattle.ignore_walk.proofs.VisitLemmas.{on_ok_map, when_none, when_some, child_place}
+use Rattle.ignore_walk.proofs.PaceLemmas.{on_any_ok, taken}
 use Rattle.ignore_walk.proofs.StandLemmas.{stand_made, takes_same}
+use Rattle.ignore_walk.proofs.NoEndLemmas.{made_go_on, same_no_end}
+use Rattle.ignore_walk.specs.GoesOn.{is_fatal}
 use Rattle.ignore_walk.proofs.stack.Stack.step.Goals as goal
 
 pub returns-in-None-clause-stepped : goal.returns-in-None-clause-stepped
@@ -71,3 +75,37 @@ returns-in-Ok-clause-stepped g c = λ s items n suits some r.
     on_ok_map c.take.result (λ stands. (t.k, t.fewer, stands))
     (c.take.ensures.taken s t.root t.place at.0 t.seen items t.k suits t.is t.frames t.at text
     (record { path = at.3; sound = found.1; device = found.2 }) hand)
+
+pub returns-in-None-clause-paced : goal.returns-in-None-clause-paced
+returns-in-None-clause-paced g c = λ some.
+    inr (inr (when_none _ _ c.take_listed.result c.in-None.is (c.take_listed.ensures.next some)))
+
+pub returns-in-Err-clause-paced : goal.returns-in-Err-clause-paced
+returns-in-Err-clause-paced g c = λ some.
+    let x = c.in-Some.listed in
+    let one = when_some _ _ c.take_listed.result x c.in-Some.is (c.take_listed.ensures.next some) in
+    on_any_ok c.make_error.result (taken (g.F.Files.list_gives c.args.ground.now.files.now) (work_of c.args.self.now) (work_of c.take_listed.new.self) _ x one (inl refl) refl)
+
+pub returns-in-Ok-clause-paced : goal.returns-in-Ok-clause-paced
+returns-in-Ok-clause-paced g c = λ some.
+    let x = c.in-Some.listed in
+    let one = when_some _ _ c.take_listed.result x c.in-Some.is (c.take_listed.ensures.next some) in
+    on_ok_map c.take.result
+    (λ enters. taken (g.F.Files.list_gives c.args.ground.now.files.now) (work_of c.args.self.now) (work_of c.take_listed.new.self) (work_of c.take.new.self) x one enters
+    (ap (λ r. r.items) c.take.ensures.roots))
+    c.take.ensures.enters
+
+pub returns-in-None-clause-no_end : goal.returns-in-None-clause-no_end
+returns-in-None-clause-no_end g c = λ h. same_no_end c.args.self.now c.take_listed.new.self c.take_listed.ensures.made h
+
+pub returns-in-Err-clause-no_end : goal.returns-in-Err-clause-no_end
+returns-in-Err-clause-no_end g c = λ h.
+    let goes_on : is_fatal (problem_of c.in-Err.error) ≡ false =
+    subst (λ (r : Result Found Error). IfErr r (λ e. is_fatal (problem_of e) ≡ false)) c.in-Err.is c.in_ok-error-in-Some.ensures.no_end in
+    on_ok_map c.make_error.result
+    (λ makes. made_go_on _ _ _ makes (same_no_end c.args.self.now c.take_listed.new.self c.take_listed.ensures.made h) (goes_on, tt))
+    c.make_error.ensures.value
+
+pub returns-in-Ok-clause-no_end : goal.returns-in-Ok-clause-no_end
+returns-in-Ok-clause-no_end g c = λ h.
+    c.take.ensures.no_end (same_no_end c.args.self.now c.take_listed.new.self c.take_listed.ensures.made h)

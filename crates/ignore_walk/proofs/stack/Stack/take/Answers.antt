@@ -1,4 +1,4 @@
-use Rattle.std.proofs.Common.{◌≡◌, ◌++◌, ◌∷◌, [], ℕ, List, Option, true, reverse, sym, ◌∙◌, ap, subst, append_assoc}
+use Rattle.std.proofs.Common.{◌≡◌, ◌++◌, ◌∷◌, [], ℕ, List, Option, inl, true, refl, reverse, sym, ◌∙◌, ap, subst, append_assoc}
 use Rattle.ignore_levels.specs.declared.list.Place.{Place}
 use Rattle.ignore_levels.specs.Levels.{IsChain, counting, slots_of}
 use Rattle.ignore_walk.specs.Branch.{placed_to, text_at}
@@ -56,3 +56,15 @@ returns-clause-taken g c = λ s root place name seen items n suits is frames at 
     } in
     c.visit.ensures.visited s root place (name ∷ place) seen items n suits is visits
     (next_inside s root place (reverse c.args.self.now.frames.items) name frames) hand
+
+pub returns-then-branch-clause-enters : goal.returns-then-branch-clause-enters
+returns-then-branch-clause-enters g c = inl refl
+
+pub returns-clause-enters : goal.returns-clause-enters
+returns-clause-enters g c = c.visit.ensures.enters
+
+pub returns-then-branch-clause-no_end : goal.returns-then-branch-clause-no_end
+returns-then-branch-clause-no_end g c = λ h. h
+
+pub returns-clause-no_end : goal.returns-clause-no_end
+returns-clause-no_end g c = c.visit.ensures.no_end

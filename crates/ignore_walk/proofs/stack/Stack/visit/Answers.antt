@@ -1,4 +1,4 @@
-use Rattle.std.proofs.Common.{◌≡◌, ◌++◌, ℕ, List, Option, None, map, option_map, refl, sym, ◌∙◌, ap, subst, true}
+use Rattle.std.proofs.Common.{◌≡◌, ◌++◌, ℕ, List, Option, None, inl, map, option_map, refl, sym, ◌∙◌, ap, subst, true}
 use Rattle.ignore_base.specs.Problem.{Problem, problem_of}
 use Rattle.ignore_dir.specs.declared.settings.Settings.{Settings}
 use Rattle.ignore_walk.specs.Branch.{path_of, text_at}
@@ -9,7 +9,9 @@ use Rattle.ignore_walk.specs.Stands.{state_of}
 use Rattle.ignore_walk.specs.Walked.{yield, load, enter, fate, yielded, loaded}
 use Rattle.ignore_walk.proofs.LeftLemmas.{make_leaf, make_closed}
 use Rattle.ignore_walk.proofs.VisitLemmas.{on_ok_map, enter_leads, chosen_ordered}
+use Rattle.ignore_walk.proofs.PaceLemmas.{entered, on_any_ok}
 use Rattle.ignore_walk.proofs.StandLemmas.{stand_made}
+use Rattle.ignore_walk.proofs.NoEndLemmas.{made_go_on, yielded_go_on}
 use Rattle.ignore_walk.proofs.stack.Stack.visit.Goals as goal
 
 pub returns-in-Yield-clause-visited : goal.returns-in-Yield-clause-visited
@@ -52,3 +54,31 @@ returns-in_ok-opened-in-Enter-clause-visited g c = λ s root place b seen items 
     (subst (λ (p : List ℕ). Opens s p c.args.text c.in_ok-opened-in-Enter.opened) path (c.in_ok-opened-in-Enter.ensures.value s suits)) in
     c.settle.ensures.entered s root place b seen items n (chosen_ordered _ _ s.order suits.order) suits.settings is (visits.at leads)
     (visits.around leads) visits.path opens enters next hand
+
+pub returns-in-Yield-clause-enters : goal.returns-in-Yield-clause-enters
+returns-in-Yield-clause-enters g c = on_any_ok c.make.result (inl refl)
+
+pub returns-in_ok-error-in-Load-clause-enters : goal.returns-in_ok-error-in-Load-clause-enters
+returns-in_ok-error-in-Load-clause-enters g c = on_any_ok c.make-in-Load.result (inl refl)
+
+pub returns-in_ok-opened-in-Enter-clause-enters : goal.returns-in_ok-opened-in-Enter-clause-enters
+returns-in_ok-opened-in-Enter-clause-enters g c =
+    on_ok_map c.settle.result
+    (entered (g.F.Files.list_gives c.args.ground.now.files.now) c.in_ok-opened-in-Enter.opened.directory c.args.self.now.frames.items c.settle.new.self.frames.items
+    c.in_ok-opened-in-Enter.ensures.listed)
+    c.settle.ensures.enters
+
+pub returns-in-Yield-clause-no_end : goal.returns-in-Yield-clause-no_end
+returns-in-Yield-clause-no_end g c = λ h.
+    on_ok_map c.make.result (λ makes. made_go_on _ _ _ makes h (yielded_go_on c.args.ground.now.settings (entry_of c.args.found.entry) None tt)) c.make.ensures.value
+
+pub returns-in_ok-error-in-Load-clause-no_end : goal.returns-in_ok-error-in-Load-clause-no_end
+returns-in_ok-error-in-Load-clause-no_end g c = λ h.
+    let problem = option_map problem_of c.in_ok-error-in-Load.error in
+    let soft = c.in_ok-error-in-Load.ensures.soft in
+    on_ok_map c.make-in-Load.result
+    (λ makes. made_go_on _ _ _ makes h (yielded_go_on c.args.ground.now.settings (entry_of c.args.found.entry) problem soft))
+    c.make-in-Load.ensures.value
+
+pub returns-in_ok-opened-in-Enter-clause-no_end : goal.returns-in_ok-opened-in-Enter-clause-no_end
+returns-in_ok-opened-in-Enter-clause-no_end g c = λ h. c.settle.ensures.no_end c.in_ok-opened-in-Enter.ensures.soft h

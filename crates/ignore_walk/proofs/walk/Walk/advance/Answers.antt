@@ -1,6 +1,8 @@
-use Rattle.std.proofs.Common.{◌<◌, Option, inl, inr, refl, sym, ap, subst, arith, Err}
+use Rattle.std.proofs.Common.{◌<◌, Option, inl, inr, refl, sym, ◌∙◌, ap, subst, arith, Err}
 use Rattle.ignore_walk.specs.Entry.{Item}
-use Rattle.ignore_walk.specs.Nexts.{Nexts}
+use Rattle.ignore_walk.specs.Nexts.{EndsOrGoesOn, Nexts}
+use Rattle.ignore_walk.proofs.NoEndLemmas.{memory_no_limit, none_go_on, problem_of-Memory}
+use Rattle.ignore_walk.proofs.PaceLemmas.{all_steps, from_same, no_step, not_both, one_more_step, same_step}
 use Rattle.ignore_walk.proofs.walk.Walk.advance.Goals as goal
 
 pub returns-in-Some-clause-given : goal.returns-in-Some-clause-given
@@ -38,12 +40,28 @@ returns-in-Some-take_made-clause-given g c = λ s items n r.
       taken = omega (i.1, step.1, c.if-self-eq0.false, arith);
     })
 
+pub loop-self-init : goal.loop-self-init
+loop-self-init g c = record {
+  made = c.in_default.ensures.length.1;
+  fewer = omega arith;
+  ground = refl;
+  ended = refl;
+  no_end = λ h. h;
+  paced = (0, omega arith, no_step _ _ _ refl);
+  remaining = λ s items n r. (n, refl, r);
+}
+
 pub loop-self-preserved : goal.loop-self-preserved
 loop-self-preserved g c = record {
   made = c.in_default-take_made.ensures.length.1;
   fewer = omega (c.loop-self.invariant.fewer, arith);
   ground = c.loop-self.invariant.ground;
   ended = c.loop-self.invariant.ended;
+  no_end = λ h. (c.in_default-take_made.ensures.no_end (c.in-Ok.ensures.no_end (c.loop-self.invariant.no_end h))).0;
+  paced = one_more_step _ _ c.loop-self.self.left _ _ _ _ (omega (c.if-self-eq0.false, arith)) c.loop-self.invariant.paced
+      (same_step g.F.Files c.args.self.now.ground c.loop-self.self.ground _ _ c.loop-self.invariant.ground
+      (c.in-Ok.ensures.paced (c.is_done.ensures.work c.loop-self-test.true)))
+      c.in_default-take_made.ensures.same _ (omega (c.if-self-eq0.false, arith));
   remaining = λ s items n r.
       let i = c.loop-self.invariant.remaining s items n r in
       let more : 0 < i.0 = c.is_done.ensures.more c.loop-self-test.true s items i.0 i.2.stands in
@@ -64,3 +82,80 @@ returns-clause-given g c = λ s items n r.
     (record { suits = r.suits; goes_on = r.goes_on; stands = c.in_default.ensures.handed s items n r.stands }) in
     let done = c.is_done.ensures.none c.loop-self-test.false i.2.goes_on s items i.0 c.loop-self.invariant.made i.2.stands in
     (done.0, omega (i.1, done.1, arith))
+
+-- the steps that were taken
+
+pub returns-in-Some-clause-paced : goal.returns-in-Some-clause-paced
+returns-in-Some-clause-paced g c = record {
+  ground = refl;
+  paced = λ same. (0, omega arith, no_step _ _ _ c.in-Some.ensures.same);
+  limited = λ on over is. absurd (not_both _ over on);
+}
+
+pub returns-then-self-eq0-clause-paced : goal.returns-then-self-eq0-clause-paced
+returns-then-self-eq0-clause-paced g c =
+    let on = c.is_done.ensures.goes_on c.loop-self-test.true in
+    record {
+      ground = c.end.ensures.ground ∙ c.loop-self.invariant.ground;
+      paced = λ same. absurd (not_both _ c.end.ensures.over.0 (same ∙ (sym c.loop-self.invariant.ended ∙ on)));
+      limited = λ over done is. (
+        _,
+        all_steps _ c.args.self.now.left c.loop-self.self.left _ _ c.if-self-eq0.true
+            (from_same _ _ _ _ _ _ c.in_default.ensures.same c.loop-self.invariant.paced),
+      );
+    }
+
+pub returns-in-Err-clause-paced : goal.returns-in-Err-clause-paced
+returns-in-Err-clause-paced g c =
+    let on = c.is_done.ensures.goes_on c.loop-self-test.true in
+    record {
+      ground = c.end-in-Err.ensures.ground ∙ c.loop-self.invariant.ground;
+      paced = λ same. absurd (not_both _ c.end-in-Err.ensures.over.0 (same ∙ (sym c.loop-self.invariant.ended ∙ on)));
+      limited = λ over done is. absurd (memory_no_limit _ c.end-in-Err.ensures.item is);
+    }
+
+pub returns-in-Some-take_made-clause-paced : goal.returns-in-Some-take_made-clause-paced
+returns-in-Some-take_made-clause-paced g c =
+    let step = same_step g.F.Files c.args.self.now.ground c.loop-self.self.ground _ _ c.loop-self.invariant.ground
+    (c.in-Ok.ensures.paced (c.is_done.ensures.work c.loop-self-test.true)) in
+    record {
+      ground = c.loop-self.invariant.ground;
+      paced = λ same.
+          one_more_step _ c.args.self.now.left c.loop-self.self.left _ _ _ _ (omega (c.if-self-eq0.false, arith))
+          (from_same _ _ _ _ _ _ c.in_default.ensures.same c.loop-self.invariant.paced) step c.in-Some-take_made.ensures.same _
+          (omega (c.if-self-eq0.false, arith));
+      limited = λ on over is. absurd (not_both _ over (c.loop-self.invariant.ended ∙ on));
+    }
+
+pub returns-clause-paced : goal.returns-clause-paced
+returns-clause-paced g c = record {
+  ground = c.loop-self.invariant.ground;
+  paced = λ same. from_same _ _ _ _ _ _ c.in_default.ensures.same c.loop-self.invariant.paced;
+  limited = λ on over is. absurd (cc (is));
+}
+
+-- items that end a walk
+
+pub returns-in-Some-clause-ends : goal.returns-in-Some-clause-ends
+returns-in-Some-clause-ends g c = λ h. let t = c.in-Some.ensures.no_end h in (t.0, inl t.1)
+
+pub returns-then-self-eq0-clause-ends : goal.returns-then-self-eq0-clause-ends
+returns-then-self-eq0-clause-ends g c = λ h. (
+  none_go_on c.end.new.self.stack.made.items c.end.ensures.over.1,
+  subst (λ (o : Option Item). EndsOrGoesOn o c.end.new.self) (sym c.end.ensures.item) (inr (inr (ap Err c.step_limit.ensures), c.end.ensures.over)),
+)
+
+pub returns-in-Err-clause-ends : goal.returns-in-Err-clause-ends
+returns-in-Err-clause-ends g c = λ h. (
+  none_go_on c.end-in-Err.new.self.stack.made.items c.end-in-Err.ensures.over.1,
+  subst (λ (o : Option Item). EndsOrGoesOn o c.end-in-Err.new.self) (sym c.end-in-Err.ensures.item) (inr (inl (ap Err problem_of-Memory), c.end-in-Err.ensures.over)),
+)
+
+pub returns-in-Some-take_made-clause-ends : goal.returns-in-Some-take_made-clause-ends
+returns-in-Some-take_made-clause-ends g c = λ h.
+    let before = c.loop-self.invariant.no_end (c.in_default.ensures.no_end h).0 in
+    let t = c.in-Some-take_made.ensures.no_end (c.in-Ok.ensures.no_end before) in
+    (t.0, inl t.1)
+
+pub returns-clause-ends : goal.returns-clause-ends
+returns-clause-ends g c = λ h. (c.loop-self.invariant.no_end (c.in_default.ensures.no_end h).0, tt)

@@ -1,11 +1,14 @@
 use Rattle.std.proofs.Common.{◌≡◌, ◌≤◌, ◌+◌, ◌*◌, [], ℕ, List, length, if◌then◌else◌}
 use Rattle.ignore_walk.specs.Entry.{Item}
+use Rattle.ignore_walk.specs.GoesOn.{HasNoEnd}
 use Rattle.ignore_walk.specs.Nexts.{Remaining}
+use Rattle.ignore_walk.specs.Paces.{TookSteps, work_of}
 use Rattle.ignore_walk.specs.Scene.{Scene}
 use Rattle.ignore_walk.proofs.walk.Walk.advance.Given as goal
 
--- no item is in hand, and no step was given back; the walk is ended where it was; what remained
--- still remains
+-- the steps that are left are fewer by those that were taken; no item is in hand, and no step was
+-- given back; the walk is ended where it was; where no item in hand ended a walk none does; what
+-- remained still remains
 abbrev pub invariant-loop-self : goal.invariant-loop-self
 invariant-loop-self g l = record {
   made : l.self.stack.made.items ≡ [];
@@ -13,6 +16,8 @@ invariant-loop-self g l = record {
       ≤ 4 * l.initial.self.left + (length l.initial.self.stack.made.items + (if l.initial.self.ended then 0 else 1));
   ground : l.self.ground ≡ l.initial.self.ground;
   ended : l.self.ended ≡ l.initial.self.ended;
+  no_end : HasNoEnd l.initial.self.stack → HasNoEnd l.self.stack;
+  paced : (k : ℕ) × (l.self.left + k ≡ l.initial.self.left) × TookSteps (g.F.Files.list_gives l.initial.self.ground.files.now) k (work_of l.initial.self.stack) (work_of l.self.stack);
   remaining : (s : Scene) (items : List Item) (n : ℕ) → Remaining g.F.Files g.S.Callbacks s l.initial.self items n
       → (k : ℕ) × (n + l.self.left ≡ k + l.initial.self.left) × Remaining g.F.Files g.S.Callbacks s l.self items k;
 }

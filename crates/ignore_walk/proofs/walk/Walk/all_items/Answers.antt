@@ -1,8 +1,13 @@
-use Rattle.std.proofs.Common.{◌≡◌, ◌++◌, ◌∷◌, [], List, inl, inr, map, sym, ◌∙◌, ap, append_assoc, arith}
+use Rattle.std.proofs.Common.{◌≡◌, ◌+◌, ◌++◌, ◌∷◌, [], List, Result, Some, inl, inr, map, refl, subst, sym, ◌∙◌, ap, append_assoc, arith}
 use Rattle.std.proofs.lemmas.List.{append-nil, map-append}
 use Rattle.ignore_base.specs.declared.fault.Fault.TheVariants.{StepLimit}
 use Rattle.ignore_base.specs.Problem.{io, memory}
 use Rattle.ignore_walk.specs.Entry.{Item, item_of}
+use Rattle.ignore_base.specs.declared.error.Error.{Error}
+use Rattle.ignore_walk.specs.GoesOn.{AllGoOn}
+use Rattle.ignore_walk.specs.declared.entry.DirEntry.{DirEntry}
+use Rattle.ignore_walk.proofs.NoEndLemmas.{more_go_on}
+use Rattle.ignore_walk.proofs.PaceLemmas.{both_steps, no_step, same_steps}
 use Rattle.ignore_walk.proofs.walk.Walk.all_items.Goals as goal
 
 pub returns-then-self-clause-ended : goal.returns-then-self-clause-ended
@@ -27,10 +32,38 @@ pub returns-then-self-clause-over : goal.returns-then-self-clause-over
 returns-then-self-clause-over g c = λ over.
     absurd (let e = c.in-Some.ensures.over (c.loop-item.invariant.over over).0 in cc (e))
 
+pub loop-item-init : goal.loop-item-init
+loop-item-init g c = record {
+  remaining = λ s items n r.
+      (items, n, sym (ap (λ (l : List (Result DirEntry Error)). map item_of l ++ items) c.new-all.ensures.items), refl, r);
+  ground = refl;
+  goes_on = λ on. on;
+  over = λ over. (over, c.new-all.ensures.items);
+  paced = λ on. (0, omega arith, no_step _ _ _ refl);
+  no_end = λ h. (h, subst (λ (l : List (Result DirEntry Error)). AllGoOn (map item_of l)) (sym c.new-all.ensures.items) tt);
+}
+
 pub loop-item-preserved : goal.loop-item-preserved
 loop-item-preserved g c = record {
   goes_on = λ on. c.if-self.false;
   over = λ over. absurd (let e = c.in-Some.ensures.over (c.loop-item.invariant.over over).0 in cc (e));
+  ground = c.in-Some.ensures.paced.ground ∙ c.loop-item.invariant.ground;
+  paced = λ on.
+      let before = c.loop-item.invariant.paced on in
+      let now = c.in-Some.ensures.paced.paced (c.if-self.false ∙ sym (c.loop-item.invariant.goes_on on)) in
+      let steps = same_steps g.F.Files _ _ now.0 _ _ c.loop-item.invariant.ground now.2 in
+      let was = before.1 in
+      let are = now.1 in
+      (before.0 + now.0, omega (was, are, arith), both_steps _ before.0 now.0 _ _ _ _ refl before.2 steps);
+  no_end = λ h.
+      let before = c.loop-item.invariant.no_end h in
+      let now = c.in-Some.ensures.ends before.0 in
+      let pushed : map item_of c.push.new.self.items ≡ map item_of c.loop-item.all.items ++ item_of c.in-Some.item ∷ [] =
+      ap (map item_of) c.in_ok-push.ensures.items ∙ map-append item_of c.loop-item.all.items (c.in-Some.item ∷ []) in
+      elim now.1 [
+        | inl goes_on ↦ (now.0, subst AllGoOn (sym pushed) (more_go_on _ _ before.1 goes_on))
+        | inr over ↦ absurd (let e = sym c.if-self.false ∙ over.1.0 in cc (e))
+      ];
   remaining = λ s items n r.
       let i = c.loop-item.invariant.remaining s items n r in
       let all = map item_of c.loop-item.all.items in
@@ -62,3 +95,19 @@ returns-clause-within g c = λ s items n r.
     let i = c.loop-item.invariant.remaining s items n r in
     let d = c.in_default.ensures.given s i.0 i.1 i.4 in
     omega (i.3, d.1, arith)
+
+pub returns-then-self-clause-limited : goal.returns-then-self-clause-limited
+returns-then-self-clause-limited g c = λ on is.
+    let before = c.loop-item.invariant.paced on in
+    let goes_on = c.loop-item.invariant.goes_on on in
+    elim (c.in-Some.ensures.last goes_on c.if-self.true).1 [
+      | inl m ↦ absurd (let e = sym (c.error_of.ensures memory m) ∙ is in cc (e))
+      | inr l ↦
+          let all = c.in-Some.ensures.paced.limited goes_on c.if-self.true (ap Some l.0) in
+          let steps = same_steps g.F.Files _ _ _ _ _ c.loop-item.invariant.ground all.1 in
+          let sum = before.1 in
+          (all.0, both_steps _ before.0 c.loop-item.self.left _ _ _ _ (omega (sum, arith)) before.2 steps)
+    ]
+
+pub returns-clause-no_end : goal.returns-clause-no_end
+returns-clause-no_end g c = λ h. (c.loop-item.invariant.no_end h).1

@@ -1,18 +1,25 @@
 use Rattle.std.proofs.Common.{◌≡◌, ◌+◌, ◌*◌, ◌++◌, [], ℕ, List, false, length, map, if◌then◌else◌}
 use Rattle.ignore_walk.specs.Entry.{Item, item_of}
+use Rattle.ignore_walk.specs.GoesOn.{AllGoOn, HasNoEnd}
 use Rattle.ignore_walk.specs.Nexts.{IsOver, Remaining}
+use Rattle.ignore_walk.specs.Paces.{TookSteps, work_of}
 use Rattle.ignore_walk.specs.Scene.{Scene}
 use Rattle.ignore_walk.proofs.walk.Walk.all_items.Given as goal
 
--- what was collected, and then what remains, is what remained; a walk that went on goes on, and of
--- one that was over nothing was collected
+-- what was collected, and then what remains, is what remained; the files are the same; a walk that went on goes on, and of
+-- one that was over nothing was collected; the steps that are left are fewer by those that were
+-- taken; and no item ended the walk
 abbrev pub invariant-loop-item : goal.invariant-loop-item
 invariant-loop-item g l = record {
   remaining : (s : Scene) (items : List Item) (n : ℕ) → Remaining g.F.Files g.S.Callbacks s l.fn.self items n
       → (others : List Item) × (k : ℕ) × (items ≡ map item_of l.all.items ++ others)
       × (n + l.self.left ≡ k + l.fn.self.left) × Remaining g.F.Files g.S.Callbacks s l.self others k;
+  ground : l.self.ground ≡ l.fn.self.ground;
   goes_on : l.fn.self.ended ≡ false → l.self.ended ≡ false;
   over : IsOver l.fn.self → IsOver l.self × (l.all.items ≡ []);
+  paced : l.fn.self.ended ≡ false
+      → (k : ℕ) × (l.self.left + k ≡ l.fn.self.left) × TookSteps (g.F.Files.list_gives l.fn.self.ground.files.now) k (work_of l.fn.self.stack) (work_of l.self.stack);
+  no_end : HasNoEnd l.fn.self.stack → HasNoEnd l.self.stack × AllGoOn (map item_of l.all.items);
 }
 
 abbrev pub decreases-loop-item : goal.decreases-loop-item

@@ -1,6 +1,8 @@
-use Rattle.std.proofs.Common.{ℕ, List, [], refl, sym, ◌∙◌, subst}
+use Rattle.std.proofs.Common.{ℕ, List, [], length, refl, sym, ◌∙◌, ap, subst}
 use Rattle.ignore_walk.specs.Whole.{WalkedRoots}
 use Rattle.ignore_walk.proofs.StandLemmas.{stand_whole}
+use Rattle.ignore_walk.proofs.NoEndLemmas.{none_go_on}
+use Rattle.ignore_walk.proofs.PaceLemmas.{work_first}
 use Rattle.ignore_walk.proofs.walk.Walk.new.Goals as goal
 
 pub returns-clause-whole : goal.returns-clause-whole
@@ -10,3 +12,9 @@ returns-clause-whole g c = λ s items n suits whole. record {
   stands = stand_whole s _ items n (c.from_vec-2.ensures.items ∙ c.new-4.ensures.items) c.new-3.ensures.items c.new.ensures.items
       (subst (λ (roots : List (List ℕ)). WalkedRoots s [] roots items n) (sym c.from_vec.ensures.items) whole);
 }
+
+pub returns-clause-begins : goal.returns-clause-begins
+returns-clause-begins g c = work_first _ _ _ c.from_vec.ensures.items c.new-3.ensures.items
+
+pub returns-clause-no_end : goal.returns-clause-no_end
+returns-clause-no_end g c = none_go_on _ (ap length (c.from_vec-2.ensures.items ∙ c.new-4.ensures.items))

@@ -1,0 +1,13 @@
+use Rattle.std.proofs.Common.{◌≡◌, sym, ◌∙◌, ap, subst}
+use Rattle.ignore_base.specs.Text.{Path}
+use Rattle.ignore_survey.specs.Survey.{Lists, place}
+use Rattle.ignore_survey.proofs.SurveyLemmas.{below_listed}
+use Rattle.ignore_survey.proofs.stack.enter.Goals as goal
+
+pub returns-in-Ok : goal.returns-in-Ok
+returns-in-Ok g c = λ s honest root items below.
+    let there : c.as_str-2.result.now ≡ place s.root c.args.path =
+    c.as_str-2.ensures.value ∙ (c.in_ok-place.ensures ∙ (ap (λ (p : Path). place c.args.root.now p) c.as_str.ensures
+    ∙ ap (λ (r : Path). place r c.args.path) (sym root))) in
+    let lists = rw c.in-Ok.is at (c.in_ok-rest.ensures s.tree honest) in
+    below_listed s c.args.path items c.in-Ok.rest.items (subst (λ (p : Path). Lists s.tree p c.in-Ok.rest.items) there lists) below

@@ -1,0 +1,32 @@
+use Rattle.std.proofs.Common.{◌≡◌, Err, Option, inl, inr, sym, ap, subst, arith, ◌∙◌}
+use Rattle.ignore_survey.specs.Nexts.{Nexts}
+use Rattle.ignore_survey.specs.Survey.{Item}
+use Rattle.ignore_survey.proofs.survey.Survey.advance.Goals as goal
+
+pub returns-then-self-clause-given : goal.returns-then-self-clause-given
+returns-then-self-clause-given g c = λ s items r. absurd (let e = sym r.goes_on ∙ c.if-self.true in cc (e))
+
+pub returns-in-Err-clause-given : goal.returns-in-Err-clause-given
+returns-in-Err-clause-given g c = λ s items r.
+    subst (λ (o : Option Item). Nexts g.F.Files s c.args.self.now o c.end.new.self items) (sym c.end.ensures.item)
+    (inr (inl (ap Err c.in-Err.ensures.out_of_memory), c.end.ensures.ended))
+
+pub returns-in-Ok-None-clause-given : goal.returns-in-Ok-None-clause-given
+returns-in-Ok-None-clause-given g c = λ s items r. rw c.in-Ok-None.field-0-is at (c.in-Ok-None.ensures.given s items r.suits r.stands)
+
+pub returns-then-self-eq0-clause-given : goal.returns-then-self-eq0-clause-given
+returns-then-self-eq0-clause-given g c = λ s items r.
+    let h = rw c.in-Ok-Some.field-0-is at (c.in-Ok-Some.ensures.given s items r.suits r.stands) in
+    let empty : c.args.self.now.left ≡ 0 = omega (c.step.ensures.left, c.if-self-eq0.true, arith) in
+    subst (λ (o : Option Item). Nexts g.F.Files s c.args.self.now o c.end-then-self-eq0.new.self items) (sym c.end-then-self-eq0.ensures.item)
+    (inr (inr (ap Err c.step_limit.ensures, (empty, λ none. let e = sym h.are ∙ none in cc (e))), c.end-then-self-eq0.ensures.ended))
+
+pub returns-else-self-eq0-clause-given : goal.returns-else-self-eq0-clause-given
+returns-else-self-eq0-clause-given g c = λ s items r.
+    let h = rw c.in-Ok-Some.field-0-is at (c.in-Ok-Some.ensures.given s items r.suits r.stands) in
+    inl (record {
+      others = h.others;
+      are = h.are;
+      rest = record { suits = c.step.ensures.suits s r.suits; goes_on = c.step.ensures.ended ∙ r.goes_on; stands = h.rest };
+      left = omega (c.step.ensures.left, c.if-self-eq0.false, arith);
+    })

@@ -1,0 +1,41 @@
+use Rattle.std.proofs.Common.{◌≡◌, option_map, string_bytes, ◌∙◌, ap}
+use Rattle.ignore_base.specs.Problem.{problem_of}
+use Rattle.ignore_base.specs.Text.{Path}
+use Rattle.ignore_dir.specs.Query.{query}
+use Rattle.ignore_query.specs.Agrees.{Agrees}
+use Rattle.ignore_query.specs.Reports.{reported}
+use Rattle.ignore_why.specs.QueryWhy.{query_why, query_why_of}
+use Rattle.ignore_survey.proofs.SuitLemmas.{entry_is, suits_still, where_suits}
+use Rattle.ignore_survey.proofs.surveyed.explained.Goals as goal
+
+pub returns-in_err-explanation-clause-suits : goal.returns-in_err-explanation-clause-suits
+returns-in_err-explanation-clause-suits g c = λ s suits.
+    let m = c.args.matcher.now in
+    suits_still g.F.Files c.args.files.now m s c.explain.new.self suits c.explain.ensures.same
+    (where_suits g.F.Files c.args.files.now m s (λ x. Agrees x c.explain.new.self.cache) suits c.explain.ensures.agrees)
+
+pub returns-clause-suits : goal.returns-clause-suits
+returns-clause-suits g c = λ s suits.
+    let m = c.args.matcher.now in
+    suits_still g.F.Files c.args.files.now m s c.explain.new.self suits c.explain.ensures.same
+    (where_suits g.F.Files c.args.files.now m s (λ x. Agrees x c.explain.new.self.cache) suits c.explain.ensures.agrees)
+
+pub returns-clause-entry : goal.returns-clause-entry
+returns-clause-entry g c = λ s suits.
+    let m = c.args.matcher.now in
+    let p = c.as_str.result.now in
+    let d = c.is_dir.result in
+    let e = c.in_ok-explanation.explanation in
+    entry_is s (string_bytes c.args.path) p c.args.file_type d e.answer (query_why_of e.reason) c.as_str.ensures.value c.is_dir.ensures
+    (where_suits g.F.Files c.args.files.now m s (λ x. e.answer ≡ (query x p d).0) suits c.in_ok-explanation.ensures.value)
+    (where_suits g.F.Files c.args.files.now m s (λ x. query_why_of e.reason ≡ query_why x p d) suits c.in_ok-explanation.ensures.why)
+
+pub returns-clause-reports : goal.returns-clause-reports
+returns-clause-reports g c = λ s suits.
+    let m = c.args.matcher.now in
+    let p = c.as_str.result.now in
+    let d = c.is_dir.result in
+    where_suits g.F.Files c.args.files.now m s
+    (λ x. option_map problem_of c.in_ok-explanation.error ≡ reported x m.cache p d) suits c.in_ok-explanation.ensures.reports
+    ∙ (ap (λ (x : Path). reported s m.cache x d) c.as_str.ensures.value
+    ∙ ap (λ b. reported s m.cache (string_bytes c.args.path) b) c.is_dir.ensures)
