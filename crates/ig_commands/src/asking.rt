@@ -26,9 +26,9 @@ pub(crate) fn asked_for<F: Files>(
     first: TypesBuilder,
 ) -> Result<Asked, Error>
     ensures read { (tree : Tree) → IsHonest F.Files world.now.files.now tree
-        → IfOk result (λ a. IsAsked tree world.now.env.now options.now first.entry a.walk (map (option_map problem_of) a.errors.items)) }
+        → IfOk result (λ a. IsAsked tree world.now.env.now options.now first a.walk (map (option_map problem_of) a.errors.items)) }
     ensures refused { IfErr result (λ e. (problem_of e ≡ memory)
-        ⊎ RefusesOptions world.now.env.now options.now first.entry (problem_of e)) }
+        ⊎ RefusesOptions world.now.env.now options.now first (problem_of e)) }
 {
     let globs = globs_of(world.alloc, options, base_dir(world.env))?;
     let types = types_of(first, options)?;

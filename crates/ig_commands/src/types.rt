@@ -24,7 +24,7 @@ pub fn list_types<W: Write, E: Write>(
     out: &mut W,
     err: &mut E,
 ) -> Result<u8, Stop>
-    ensures lists { IfOk result (λ status. ListsTypes options.now.type_add first.entry status (Appends (W.contents out.old) (W.contents out.new)) (Appends (E.contents err.old) (E.contents err.new))) }
+    ensures lists { IfOk result (λ status. ListsTypes options.now.type_add first status (Appends (W.contents out.old) (W.contents out.new)) (Appends (E.contents err.old) (E.contents err.new))) }
     ensures ended { IfErr result (λ stop. (stop ≡ Stop.Memory → EndsAfter [] [] (Appends (W.contents out.old) (W.contents out.new)) (Appends (E.contents err.old) (E.contents err.new)) Stop.Memory)) }
 {
     match defined_types(first, options) {

@@ -36,9 +36,9 @@ pub fn list_unused<F: Files, W: Write, E: Write>(
     out: &mut W,
     err: &mut E,
 ) -> Result<u8, Stop>
-    ensures lists { IfOk result (λ status. UnusedAsked F.Files world.now.files.now world.now.env.now options.now first.entry status
+    ensures lists { IfOk result (λ status. UnusedAsked F.Files world.now.files.now world.now.env.now options.now first status
         (Appends (W.contents out.old) (W.contents out.new)) (Appends (E.contents err.old) (E.contents err.new))) }
-    ensures ended { IfErr result (UnusedEnds F.Files world.now.files.now world.now.env.now options.now first.entry
+    ensures ended { IfErr result (UnusedEnds F.Files world.now.files.now world.now.env.now options.now first
         (Appends (W.contents out.old) (W.contents out.new)) (Appends (E.contents err.old) (E.contents err.new))) }
 {
     match asked_for(world, options, first) {

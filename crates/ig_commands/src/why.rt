@@ -61,9 +61,9 @@ pub fn why<F: Files, W: Write, E: Write>(
     out: &mut W,
     err: &mut E,
 ) -> Result<u8, Stop>
-    ensures answers { IfOk result (λ status. WhyAsked F.Files world.now.files.now world.now.env.now options.now first.entry status
+    ensures answers { IfOk result (λ status. WhyAsked F.Files world.now.files.now world.now.env.now options.now first status
         (Appends (W.contents out.old) (W.contents out.new)) (Appends (E.contents err.old) (E.contents err.new))) }
-    ensures ended { IfErr result (WhyEnds F.Files world.now.files.now world.now.env.now options.now first.entry
+    ensures ended { IfErr result (WhyEnds F.Files world.now.files.now world.now.env.now options.now first
         (Appends (W.contents out.old) (W.contents out.new)) (Appends (E.contents err.old) (E.contents err.new))) }
 {
     match asked_for(world, options, first) {

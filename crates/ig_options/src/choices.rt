@@ -19,8 +19,8 @@ use ignore_types::types::{FileTypeDef, Types, TypesBuilder};
 /// first choice that names no type, or `Glob` for the first invalid glob of a chosen type;
 /// `Memory`.
 pub fn types_of(mut first: TypesBuilder, options: &Options) -> Result<Types, Error>
-    ensures value { IfOk result (λ types. (draft : Draft) × IsDraft options.now first.entry draft × IsBuilt draft types) }
-    ensures refused { IfErr result (λ e. (problem_of e ≡ memory) ⊎ RefusesTypes options.now first.entry (problem_of e)) }
+    ensures value { IfOk result (λ types. (draft : Draft) × IsDraft options.now first draft × IsBuilt draft types) }
+    ensures refused { IfErr result (λ e. (problem_of e ≡ memory) ⊎ RefusesTypes options.now first (problem_of e)) }
 {
     push_definitions(&mut first, &options.type_add)?;
     push_choices(&mut first, &options.types, false)?;
@@ -34,10 +34,10 @@ pub fn types_of(mut first: TypesBuilder, options: &Options) -> Result<Types, Err
 /// # Errors
 /// `InvalidDefinition` for the first definition that isn't valid; `Memory`.
 pub fn defined_types(mut first: TypesBuilder, options: &Options) -> Result<Vec<FileTypeDef>, Error>
-    ensures copies { IfOk result (λ ds. (draft : Draft) × AddsTypes options.now.type_add first.entry draft
+    ensures copies { IfOk result (λ ds. (draft : Draft) × AddsTypes options.now.type_add first draft
         × AllZip IsSortedCopy draft.definitions ds.items) }
     ensures by_name { IfOk result (λ ds. IsAscending ds.items) }
-    ensures refused { IfErr result (λ e. (problem_of e ≡ memory) ⊎ RefusesDefinitions options.now.type_add first.entry (problem_of e)) }
+    ensures refused { IfErr result (λ e. (problem_of e ≡ memory) ⊎ RefusesDefinitions options.now.type_add first (problem_of e)) }
 {
     push_definitions(&mut first, &options.type_add)?;
     first.definitions()
