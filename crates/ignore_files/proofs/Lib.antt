@@ -16,5 +16,6 @@ mod GrownLemmas
 mod RemovedLemmas
 mod Honest
 mod Truthful
+mod WorkedTable
 mod ChangesOnly
 mod AnswersOnly
