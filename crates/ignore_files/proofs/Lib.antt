@@ -3,6 +3,7 @@ pub mod Places
 pub mod Walks
 pub mod EntryLemmas
 pub mod NodeLemmas
+pub mod Present
 mod DiskLemmas
 mod Heard
 mod Ranks

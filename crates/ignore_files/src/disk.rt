@@ -237,6 +237,11 @@ impl<'r, R: Machine> Files for DiskFiles<'r, R> {
     fn listings_are_whole(&self) -> bool {
         self.rt.listings_are_whole()
     }
+
+    /// They do: a file is opened after its `stat`.
+    fn reads_what_is_there(&self) -> bool {
+        true
+    }
 }
 
 impl<'r, R: Machine> DiskFiles<'r, R> {
