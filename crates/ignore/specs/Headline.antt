@@ -44,6 +44,14 @@ IsListIn calls owner env b order tree all =
 abbrev pub Headline : {F S : Type 0} → Files F → Callbacks S → F → S → Env → WalkOptions → Order → List Item → Type 0
 Headline files calls f owner env b order all = (tree : Tree) → IsHonest files f tree → IsListIn calls owner env b order tree all
 
+-- the list of the definition exists, and is these items: in each tree that the files are consistent
+-- with there are rules from outside, as they were read, by which the roots give them in each scene of
+-- the walk; and the limit of steps allows them
+abbrev pub IsGiven : {F S : Type 0} → Files F → Callbacks S → F → S → Env → WalkOptions → Order → List Item → Type 0
+IsGiven files calls f owner env b order all =
+    (tree : Tree) → IsHonest files f tree → (o : Outside) × IsOutside tree env b o
+    × ((g : Scene) → IsSceneOf calls owner b order tree o g → (n : ℕ) × (n ≤ b.limit) × Whole g b.roots all n)
+
 -- the limit of steps is too low for the list of the definition, in each tree that the files are
 -- consistent with
 abbrev pub IsAboveLimit : {F S : Type 0} → Files F → Callbacks S → F → S → Env → WalkOptions → Order → Type 0

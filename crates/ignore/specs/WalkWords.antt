@@ -34,7 +34,7 @@ pub use Rattle.ignore_walk.specs.Child.{is_dir_kind}
 pub use Rattle.ignore_walk.specs.Entry.{Entry, Item, entry_of, item_of, named_or, problem_in, stdin_entry}
 pub use Rattle.ignore_walk.specs.Finished.{IsEnd, IsFinished}
 pub use Rattle.ignore_walk.specs.GoesOn.{AllGoOn, GoesOn, HasNoEnd}
-pub use Rattle.ignore_walk.specs.Nexts.{EndsBy, EndsOrGoesOn, NextGives, Nexts, Remaining}
+pub use Rattle.ignore_walk.specs.Nexts.{EndsBy, EndsOrGoesOn, NextGives, Nexts, Remaining, Shows, Starts}
 pub use Rattle.ignore_walk.specs.Paces.{IsStep, TookSteps, Work, work_at, work_of}
 pub use Rattle.ignore_walk.specs.Runs.{EndsEarly, EndsLast, IsBegun, IsRun}
 pub use Rattle.ignore_walk.specs.Scene.{Scene, queries}

@@ -6,7 +6,7 @@ use Rattle.ignore_files.specs.declared.files.Files.{Ghosts as Files}
 use Rattle.ignore_files.specs.Gives.{IsHonest}
 use Rattle.ignore_files.specs.Tree.{Tree}
 use Rattle.ignore_walk.specs.Entry.{Item}
-use Rattle.ignore_walk.specs.Nexts.{Remaining}
+use Rattle.ignore_walk.specs.Nexts.{Remaining, Starts}
 use Rattle.ignore_walk.specs.Scene.{Scene}
 use Rattle.ignore_walk.specs.Suits.{Suits}
 use Rattle.ignore_walk.specs.Whole.{Whole}
@@ -25,3 +25,11 @@ IsWalkBy files calls f owner env b order w =
     (tree : Tree) → IsHonest files f tree → (o : Outside) × IsOutside tree env b o
     × ((g : Scene) (items : List Item) (n : ℕ) → Suits files calls f owner b.settings o (options_of b order) g
     → Whole g b.roots items n → Remaining files calls g w items n)
+
+-- a walk is a new one by these options, over files and in an environment, with this order and an
+-- owner of the filter and the comparison: for each tree that the files are consistent with there are
+-- rules from outside, as they were read, by which what remains of the walk is what the roots give
+abbrev pub IsNewWalkBy : {F S : Type 0} → Files F → Callbacks S → F → S → Env → WalkOptions → Order → Walk F S → Type 0
+IsNewWalkBy files calls f owner env b order w =
+    (tree : Tree) → IsHonest files f tree → (o : Outside) × IsOutside tree env b o
+    × ((g : Scene) → Suits files calls f owner b.settings o (options_of b order) g → Starts files calls g w b.roots)
