@@ -4,7 +4,7 @@ pub use Rattle.ignore_base.specs.Paths.{IsName, joined}
 pub use Rattle.ignore_dir.specs.Above.{dirs_above, path_along, paths_above}
 pub use Rattle.ignore_dir.specs.Load.{AreLoads, Loaded, Loads}
 pub use Rattle.ignore_dir.specs.Query.{is_asked, is_dir_there, names_of, query}
-pub use Rattle.ignore_dir.specs.Scene.{Scene as QueryScene, scene}
+pub use Rattle.ignore_dir.specs.Scene.{QueryScene, scene}
 pub use Rattle.ignore_dir.specs.Standard.{standard}
 pub use Rattle.ignore_dir.specs.Verdict.{is_ignore as does_ignore}
 pub use Rattle.ignore_dir.specs.declared.dir.Dir.{Dir}

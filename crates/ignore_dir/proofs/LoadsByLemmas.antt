@@ -8,7 +8,7 @@ use Rattle.ignore_base.specs.declared.fault.Fault.{Fault}
 use Rattle.ignore_base.specs.declared.fault.Fault.TheVariants.{NotFound}
 use Rattle.ignore_base.specs.Errors.{without_fault}
 use Rattle.ignore_base.specs.Paths.{join_of}
-use Rattle.ignore_base.specs.Problem.{Problem, joined}
+use Rattle.ignore_base.specs.Problem.{Problem, joined_problems}
 use Rattle.ignore_files.specs.declared.files.Files.{Ghosts as Files}
 use Rattle.ignore_files.specs.declared.shown.Shown.{Shown}
 use Rattle.ignore_files.specs.Tree.{Tree}
@@ -56,7 +56,7 @@ pub adds_read : (Stat : Stats) (Read : Reads) (path : List ℕ) (old new : Build
 adds_read Stat Read path old new found read problem reported gives e reads adds same =
     (found, gives, subst (λ (b : Bool). AddsFound Read path b old new reported) (sym e) (read, problem, reads, adds, same))
 
-joined_one : (reported : Option Problem) → reported ≡ joined (option_to_list reported ++ [])
+joined_one : (reported : Option Problem) → reported ≡ joined_problems (option_to_list reported ++ [])
 joined_one None = refl
 joined_one (Some problem) = refl
 

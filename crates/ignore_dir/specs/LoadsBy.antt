@@ -8,7 +8,7 @@ use Rattle.ignore_base.specs.Text.{Bytes, Path}
 use Rattle.ignore_base.specs.declared.fault.Fault.{Fault}
 use Rattle.ignore_base.specs.Errors.{without_fault}
 use Rattle.ignore_base.specs.Paths.{join_of}
-use Rattle.ignore_base.specs.Problem.{Problem, joined}
+use Rattle.ignore_base.specs.Problem.{Problem, joined_problems}
 use Rattle.ignore_files.specs.Shown.{Shows}
 use Rattle.ignore_files.specs.Tree.{Tree}
 use Rattle.ignore_files.specs.declared.files.Files.{Ghosts as Files}
@@ -22,7 +22,7 @@ use Rattle.ignore_rules.specs.RuleFile.{AddsContents, first_line}
 use Rattle.ignore_rules.specs.Rules.{Building, Ruleset, built, empty}
 use Rattle.ignore_dir.specs.declared.dir.Dir.{Dir}
 use Rattle.ignore_dir.specs.declared.settings.Settings.{Settings}
-use Rattle.ignore_dir.specs.Exclude.{Place, by_commondir, excludes_in, failed_at}
+use Rattle.ignore_dir.specs.Exclude.{Place, by_commondir, excludes_in, stopped_at}
 use Rattle.ignore_dir.specs.Load.{custom_paths, is_there, joined_some, needs_marks, path_if, started}
 
 -- which answers there are to a followed `stat` of a path: what it leads to, or a fault
@@ -80,7 +80,7 @@ pub record AreRulesBy (Stat : Stats) (Read : Reads) (s : Settings) (dir : Path) 
   pub problems : List Problem
   pub adds : AddAllBy Stat Read paths (started s dir) filled problems
   pub builds : rules ≡ built filled
-  pub reports : reported ≡ joined problems
+  pub reports : reported ≡ joined_problems problems
 
 -- the rules of the exclude file, if there is one; a problem on the way to it is reported
 abbrev pub AreExcludesBy : Stats → Reads → Settings → Path → Place → Ruleset → Option Problem → Type 0
@@ -102,12 +102,12 @@ abbrev pub FirstLineLeads : Reads → Path → Result (Option Bytes) Fault → P
 FirstLineLeads Read git (Ok None) place = place ≡ Ok None
 FirstLineLeads Read git (Ok (Some line)) place =
     LineLeads Read (starts_with nat_eq line (codes "gitdir: ")) (drop (length (codes "gitdir: ")) line) place
-FirstLineLeads Read git (Err fault) place = place ≡ failed_at git fault
+FirstLineLeads Read git (Err fault) place = place ≡ stopped_at git fault
 
 -- what was read of it does
 abbrev pub ContentsLead : Reads → Path → Result Contents Fault → Place → Type 0
 ContentsLead Read git (Ok contents) place = FirstLineLeads Read git (first_line contents) place
-ContentsLead Read git (Err fault) place = place ≡ failed_at git fault
+ContentsLead Read git (Err fault) place = place ≡ stopped_at git fault
 
 -- a `.git` that is a file, or isn't, leads to the place of the exclude file
 abbrev pub GitLeads : Reads → Bool → Path → Place → Type 0

@@ -2,7 +2,7 @@
 ghost use Rattle.std.specs.Prelude.{◌≡◌, drop, length, nat_eq, true, IfOk, MatchResult, string_bytes, codes};
 ghost use Rattle.std.specs.List.{starts_with};
 ghost use Rattle.ignore_base.specs.Paths.{join_of};
-ghost use Rattle.ignore_dir.specs.Exclude.{common_folder, excludes_in, by_commondir, by_gitdir, by_git_file, failed_at};
+ghost use Rattle.ignore_dir.specs.Exclude.{common_folder, excludes_in, by_commondir, by_gitdir, by_git_file, stopped_at};
 ghost use Rattle.ignore_dir.specs.Ground.{InTree};
 ghost use Rattle.ignore_dir.specs.LoadsBy.{ContentsLead, FolderLeads, GitLeads, LineLeads, reads_of};
 ghost use Rattle.ignore_dir.specs.Places.{place_of};
@@ -29,7 +29,7 @@ pub enum ExcludePlace {
 
 /// The way ended with a fault at a path.
 fn failed_at(alloc: Global, path: &str, fault: Fault) -> Result<ExcludePlace, AllocError>
-    ensures value { IfOk result (λ place. place_of place ≡ failed_at path.now fault) }
+    ensures value { IfOk result (λ place. place_of place ≡ stopped_at path.now fault) }
     ensures soft { IfOk result (λ place. IsSoftPlace (place_of place)) }
 {
     let error = Error::Io(fault).with_path(alloc, path)?;

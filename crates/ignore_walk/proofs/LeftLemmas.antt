@@ -4,7 +4,7 @@ use Rattle.std.proofs.lemmas.List.{append-nil}
 use Rattle.ignore_base.specs.Problem.{Problem}
 use Rattle.ignore_files.specs.declared.types.Listed.{Listed}
 use Rattle.ignore_walk.specs.Branch.{Branch}
-use Rattle.ignore_walk.specs.Child.{child, below}
+use Rattle.ignore_walk.specs.Child.{child, branch_below}
 use Rattle.ignore_walk.specs.Entry.{Entry, Item, stdin_entry}
 use Rattle.ignore_walk.specs.Left.{State, Left, outermost, inside, LeftInRoot, RemainsAfter, Remains, InHand, IsNext}
 use Rattle.ignore_walk.specs.Moves.{with_entered, with_made}
@@ -96,7 +96,7 @@ leave g s b items n next r =
 
 pub take : (g : Scene) (made : List Item) (root : List ℕ) (b : Branch) (x : Listed) (xs : List Listed) (rests : List (List Listed))
     (seen roots : List (List ℕ)) (items : List Item) (n : ℕ) → Remains g (state made root b ((x ∷ xs) ∷ rests) seen roots) items n
-    → (k : ℕ) × (n ≡ suc k) × InHand g (state made root b (xs ∷ rests) seen roots) (below b x) (child g root b x) items k
+    → (k : ℕ) × (n ≡ suc k) × InHand g (state made root b (xs ∷ rests) seen roots) (branch_below b x) (child g root b x) items k
 take g made root b x xs rests seen roots items n r =
     let i = innermost g root b (x ∷ xs) rests r.inner r.p r.within in
     let t = each_more g root b x xs i.own i.m i.each in (

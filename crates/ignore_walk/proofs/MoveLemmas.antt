@@ -3,7 +3,7 @@ use Rattle.std.proofs.Common.{◌≡◌, ℕ, suc, ◌+◌, List, [], ◌∷◌,
 use Rattle.std.proofs.lemmas.List.{append-nil}
 use Rattle.ignore_base.specs.Problem.{Problem}
 use Rattle.ignore_walk.specs.Branch.{Branch}
-use Rattle.ignore_walk.specs.Child.{below, child}
+use Rattle.ignore_walk.specs.Child.{branch_below, child}
 use Rattle.ignore_walk.specs.Entry.{Entry, Item, stdin_entry}
 use Rattle.ignore_walk.specs.Left.{InHand, Left, Remains, State}
 use Rattle.ignore_walk.specs.Moves.{Gives, IsAfter, IsOfRoots, Moves, Precedes, begins, between, closes, enters, fails, leaves, skips, stdin, takes, with_entered, with_first, with_made, yields}
@@ -28,7 +28,7 @@ pub moves_on : (g : Scene) (s t : State) (items : List Item) (n : ℕ) → IsOrd
 moves_on g s t items n o (leaves {b = b} next) r = leave g t b items n next r
 moves_on g s t items n o (takes u {b = b} {x = x} {xs = xs} gives) r =
     let h = take g u.made u.root b x xs u.rests u.seen u.roots items n r in
-    (h.0, h.1, gives_on g (with_entered u b xs) t (below b x) (child g u.root b x) items h.0 o gives h.2)
+    (h.0, h.1, gives_on g (with_entered u b xs) t (branch_below b x) (child g u.root b x) items h.0 o gives h.2)
 moves_on g s t items n o (stdin {made = made} {last = last} {place = place} {seen = seen} {roots = roots}) r =
     begin_stdin g made last place seen roots (codes "-") items n refl r
 moves_on g s t items n o (begins {made = made} {last = last} {root = root} {place = place} {seen = seen} {roots = roots} is gives) r =
@@ -106,7 +106,7 @@ moves_back g s t items n (leaves {b = b} next) r =
       count = omega (r.count, arith);
     }
 moves_back g s t items n (takes u {b = b} {x = x} {xs = xs} gives) r =
-    let h = gives_back g (with_entered u b xs) t (below b x) (child g u.root b x) items n gives r in
+    let h = gives_back g (with_entered u b xs) t (branch_below b x) (child g u.root b x) items n gives r in
     let d = h.rest in
     let i = innermost g u.root b xs u.rests d.inner d.p d.within in
     record {

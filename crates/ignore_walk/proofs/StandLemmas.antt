@@ -8,7 +8,7 @@ use Rattle.ignore_dir.specs.Query.{is_dir_there}
 use Rattle.ignore_levels.specs.declared.list.Slot.{Slot}
 use Rattle.ignore_levels.specs.Levels.{slots_of}
 use Rattle.ignore_walk.specs.Branch.{Branch, around}
-use Rattle.ignore_walk.specs.Child.{below, child}
+use Rattle.ignore_walk.specs.Child.{branch_below, child}
 use Rattle.ignore_walk.specs.Entry.{Entry, Item, item_of}
 use Rattle.ignore_walk.specs.Frames.{IsFrame, AreFrames, outermost, inside}
 use Rattle.ignore_walk.specs.Left.{IsNext, Remains, State}
@@ -96,10 +96,10 @@ stands_on g s s' items n o r b =
 
 frames_entered : (g : Scene) (root : List ℕ) (b place : Branch) (s : Stack) (f : Frame) (fs : List Frame) → IsFrame g root b f
     → IsNext b place (map (λ (f : Frame). f.rest.items) fs) → IsBelow g root place s fs → AreFrames g root b (f ∷ fs)
-frames_entered g root b place s f [] is next below =
+frames_entered g root b place s f [] is next branch_below =
     rw next (outermost (subst (λ (b : Branch). IsFrame g root b f) next is))
-frames_entered g root b place s f (f' ∷ fs) is next below =
-    rw next.1 (inside (subst (λ (b : Branch). IsFrame g root b f) next.1 is) below.0)
+frames_entered g root b place s f (f' ∷ fs) is next branch_below =
+    rw next.1 (inside (subst (λ (b : Branch). IsFrame g root b f) next.1 is) branch_below.0)
 
 -- a directory was entered
 pub stand_entered : (g : Scene) (root : List ℕ) (place b : Branch) (seen : List (List ℕ)) (s s' : Stack) (e : Entry) (f : Frame)
@@ -150,21 +150,21 @@ stand_left g root place seen s s' f same made frames cut done is =
     let fs = reverse s'.frames.items in
     let rests' = map (λ (f : Frame). f.rest.items) fs in
     let popped : reverse s.frames.items ≡ f ∷ fs = ap reverse frames ∙ reverse-append s'.frames.items (f ∷ []) in
-    let below : IsBelow g root place s (f ∷ fs) = subst (λ (fs : List Frame). IsBelow g root place s fs) popped is.frames in
+    let branch_below : IsBelow g root place s (f ∷ fs) = subst (λ (fs : List Frame). IsBelow g root place s fs) popped is.frames in
     let rests : map (λ (f : Frame). f.rest.items) (reverse s.frames.items) ≡ [] ∷ rests' =
     ap (map (λ (f : Frame). f.rest.items)) popped ∙ ap (λ (xs : List Listed). xs ∷ rests') done in
     let on : AreOn g root s.seen.items place (slots_of s.levels) (f ∷ fs) =
     subst (λ (l : List Frame). AreOn g root s.seen.items place (slots_of s.levels) l) popped is.levels in
     let made' = map item_of s.made.items in
     let next : State = state made' root (around place) rests' seen s.roots.items in
-    let step : Moves g (state made' root place ([] ∷ rests') seen s.roots.items) next = leaves (next_around g root place f fs below.0) in
+    let step : Moves g (state made' root place ([] ∷ rests') seen s.roots.items) next = leaves (next_around g root place f fs branch_below.0) in
     record {
       root = root;
       place = around place;
       seen = seen;
       is = record {
         kept = kept_same s s' seen same is.kept;
-        frames = below_same g root (around place) s s' fs same (below_left g root place s f fs below.0 below.1);
+        frames = below_same g root (around place) s s' fs same (below_left g root place s f fs branch_below.0 branch_below.1);
         levels = rw same.seen (subst (λ (l : List Slot). AreOn g root s.seen.items (around place) l fs) (sym cut) on.1);
       };
       by = rw (made, same.roots)
@@ -204,8 +204,8 @@ stand_taken g root place seen s s' f f' front x same made levels frames frames' 
       frames = rw pushed all;
       at = at;
       step = λ t gives.
-          let gives' : Gives g (with_entered outer place f'.rest.items) (below place x) (child g root place x) t =
-          subst (λ (rests : List (List Listed)). Gives g (state made' root place rests seen s'.roots.items) (below place x)
+          let gives' : Gives g (with_entered outer place f'.rest.items) (branch_below place x) (child g root place x) t =
+          subst (λ (rests : List (List Listed)). Gives g (state made' root place rests seen s'.roots.items) (branch_below place x)
           (child g root place x) t) now gives in
           rw (was, sym made, sym same.roots) (takes outer gives');
     }

@@ -4,7 +4,7 @@ use Rattle.ignore_base.specs.Text.{Path}
 use Rattle.ignore_base.specs.Problem.{Problem}
 use Rattle.ignore_files.specs.declared.types.Listed.{Listed}
 use Rattle.ignore_walk.specs.Branch.{Branch}
-use Rattle.ignore_walk.specs.Child.{below, child}
+use Rattle.ignore_walk.specs.Child.{branch_below, child}
 use Rattle.ignore_walk.specs.Entry.{Entry, Item, stdin_entry}
 use Rattle.ignore_walk.specs.Left.{IsNext, Remains, State}
 use Rattle.ignore_walk.specs.Scene.{Scene}
@@ -48,7 +48,7 @@ pub data Gives (g : Scene) (s : State) : Branch → Result Entry Problem → Sta
 pub data Moves (g : Scene) : State → State → Type 0 where
   leaves : {s : State} {b : Branch} → IsNext b s.place s.rests → Moves g (with_entered s b []) s
   takes : (s : State) {t : State} {b : Branch} {x : Listed} {xs : List Listed}
-      → Gives g (with_entered s b xs) (below b x) (child g s.root b x) t → Moves g (with_entered s b (x ∷ xs)) t
+      → Gives g (with_entered s b xs) (branch_below b x) (child g s.root b x) t → Moves g (with_entered s b (x ∷ xs)) t
   stdin : {made : List Item} {last : Path} {place : Branch} {seen roots : List Path}
       → Moves g (between made last place seen (codes "-" ∷ roots)) (between (made ++ Ok (stdin_entry, None) ∷ []) last place seen roots)
   begins : {made : List Item} {last root : Path} {place : Branch} {seen roots : List Path} {t : State} → bytes_eq root (codes "-") ≡ false

@@ -5,7 +5,7 @@ use Rattle.ignore_files.specs.declared.types.Listed.{Listed}
 use Rattle.ignore_files.specs.declared.types.Listed.TheVariants as thing
 use Rattle.ignore_levels.specs.Levels.{IsChain, counting, slots_of}
 use Rattle.ignore_walk.specs.Branch.{Branch, path_of, placed_around, text_at}
-use Rattle.ignore_walk.specs.Child.{child, below}
+use Rattle.ignore_walk.specs.Child.{child, branch_below}
 use Rattle.ignore_walk.specs.Entry.{Item, entry_of, item_of}
 use Rattle.ignore_walk.specs.Frames.{AreFrames, device_of}
 use Rattle.ignore_walk.specs.Left.{State, Remains}
@@ -80,7 +80,7 @@ pub record Takes (g : Scene) (root : Path) (place : Branch) (seen : List Path) (
   pub is : IsIn g root place seen s
   pub frames : AreFrames g root place (reverse s.frames.items)
   pub at : IsAt g root s
-  pub step : (t : State) → Gives g (state_of s root place seen) (below place x) (child g root place x) t
+  pub step : (t : State) → Gives g (state_of s root place seen) (branch_below place x) (child g root place x) t
       → Moves g (state_of old root place seen) t
 
 -- the name of a listed thing; a fault has none

@@ -2,7 +2,7 @@ use Rattle.std.proofs.Common.{◌≡◌, ◌++◌, ◌∷◌, [], ℕ, List, Ok,
 use Rattle.ignore_base.specs.Problem.{Problem, problem_of}
 use Rattle.ignore_base.specs.declared.error.Error.{Error}
 use Rattle.ignore_walk.specs.Branch.{Branch, text_at}
-use Rattle.ignore_walk.specs.Child.{child, below, is_dir_kind}
+use Rattle.ignore_walk.specs.Child.{child, branch_below, is_dir_kind}
 use Rattle.ignore_walk.specs.Entry.{Entry, entry_of}
 use Rattle.ignore_walk.specs.Found.{IsFound}
 use Rattle.ignore_walk.specs.Frames.{AreFrames}
@@ -37,8 +37,8 @@ returns-in-Err-clause-stepped g c = λ s root place seen suits some is.
     let failed : child s root place x ≡ Err p =
     subst (λ (r : Result Found Error). IsFound s (λ e. is_dir_kind e.kind) r (child s root place x)) c.in-Err.is
     (c.in_ok-error-in-Some.ensures.value s root place suits frames) in
-    let gives : Gives s state (below place x) (child s root place x) (with_made state (Err p ∷ [])) =
-    subst (λ (r : Result Entry Problem). Gives s state (below place x) r (with_made state (Err p ∷ []))) (sym failed) fails in
+    let gives : Gives s state (branch_below place x) (child s root place x) (with_made state (Err p ∷ [])) =
+    subst (λ (r : Result Entry Problem). Gives s state (branch_below place x) r (with_made state (Err p ∷ []))) (sym failed) fails in
     on_ok_map c.make_error.result
     (λ makes. stand_made s root place seen stack _ (Err p ∷ []) (Moves s (state_of c.args.self.now root place seen))
     (record { seen = refl; roots = refl; above = refl; device = refl }) refl refl makes t.is (t.step _ gives))
