@@ -7,7 +7,7 @@ use Rattle.ignore_base.specs.Paths.{join_of}
 use Rattle.ignore_base.specs.Problem.{Problem}
 use Rattle.ignore_base.specs.Text.{Bytes, Path}
 use Rattle.ignore_dir.specs.Load.{AreLoads, Loaded}
-use Rattle.ignore_dir.specs.Scene.{Scene, scene}
+use Rattle.ignore_dir.specs.Scene.{QueryScene, scene}
 use Rattle.ignore_dir.specs.declared.dir.Dir.{Dir}
 use Rattle.ignore_files.specs.Gives.{IsHonest}
 use Rattle.ignore_files.specs.Tree.{Tree}
@@ -46,15 +46,15 @@ StandsIn dir r =
     × (Contains dir.custom.rules rule ⊎ (Contains dir.ignore.rules rule ⊎ (Contains dir.gitignore.rules rule ⊎ Contains dir.exclude.rules rule)))
 
 -- the directories whose files are read: the root, and each entry that a survey goes on below
-abbrev pub IsOpened : Scene → List Item → Path → Type 0
+abbrev pub IsOpened : QueryScene → List Item → Path → Type 0
 IsOpened g items path = (path ≡ []) ⊎ ((e : Entry) × Contains items (Ok e) × (e.answer.descends ≡ true) × (path ≡ e.path))
 
 -- a rule is one of a file of rules that is read at or below a root
-abbrev pub IsReadBelow : Scene → List Item → FileRule → Type 0
+abbrev pub IsReadBelow : QueryScene → List Item → FileRule → Type 0
 IsReadBelow g items r = (path : Path) × IsOpened g items path × StandsIn (g.loads (place g.root path)).0 r
 
 -- a rule is one of a file of rules that is read at or below one of some roots, each with its scene
-abbrev pub IsRead : (Path → Scene) → List OfRoot → FileRule → Type 0
+abbrev pub IsRead : (Path → QueryScene) → List OfRoot → FileRule → Type 0
 IsRead at all r = (x : OfRoot) × Contains all x × IsReadBelow (at x.0) (map (λ s. s.0) x.1) r
 
 -- a rule decides on an entry
@@ -65,7 +65,7 @@ pub record Decides (e : Entry) (r : FileRule) : Type 0 where
   pub line : rule.line ≡ Some r.line
 
 -- a rule that was read decides on no entry met
-pub record IsUnused (at : Path → Scene) (all : List OfRoot) (r : FileRule) : Type 0 where
+pub record IsUnused (at : Path → QueryScene) (all : List OfRoot) (r : FileRule) : Type 0 where
   pub read : IsRead at all r
   pub decides_nothing : (e : Entry) (problem : Option Problem) → Contains (all_seen all) (Ok e, problem) → ¬ Decides e r
 
@@ -81,7 +81,7 @@ AreInOrder (a ∷ []) = Unit {0}
 AreInOrder (a ∷ (b ∷ rest)) = ComesBefore a b × AreInOrder (b ∷ rest)
 
 -- these are the rules that decide on no entry met
-pub record AreUnused (at : Path → Scene) (all : List OfRoot) (unused : List FileRule) : Type 0 where
+pub record AreUnused (at : Path → QueryScene) (all : List OfRoot) (unused : List FileRule) : Type 0 where
   pub are : (r : FileRule) → Contains unused r ↔ IsUnused at all r
   pub in_order : AreInOrder unused
 

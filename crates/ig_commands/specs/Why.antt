@@ -8,7 +8,7 @@ use Rattle.ignore_base.specs.Problem.{Problem, problem_of}
 use Rattle.ignore_base.specs.Text.{Bytes, Path}
 use Rattle.ignore_dir.specs.Load.{AreLoads, Loaded}
 use Rattle.ignore_dir.specs.Query.{is_dir_there, query}
-use Rattle.ignore_dir.specs.Scene.{Scene, scene}
+use Rattle.ignore_dir.specs.Scene.{QueryScene, scene}
 use Rattle.ignore_dir.specs.Verdict.{is_ignore}
 use Rattle.ignore_dir.specs.declared.outside.Outside.{Outside}
 use Rattle.ignore_files.specs.Gives.{IsHonest}
@@ -101,31 +101,31 @@ is_found (not_below path) = false
 is_found (told t) = t.is_ignored
 
 -- a path that is asked about is a directory: one is there that isn't a link, or it ends with a slash
-abbrev pub is_dir_at : Scene → Path → Path → Bool
+abbrev pub is_dir_at : QueryScene → Path → Path → Bool
 is_dir_at g given text = is_dir_there (g.tree.stat (join_of g.root text) false) || ends_with_slash given
 
 -- a path below the root is asked about where `old` is kept, and `new` after it
-pub record IsAnswered (g : Scene) (text : Path) (old new : Cache) (t : Answered) : Type 0 where
+pub record IsAnswered (g : QueryScene) (text : Path) (old new : Cache) (t : Answered) : Type 0 where
   pub why : t.why ≡ query_why g text (is_dir_at g t.path text)
   pub is_ignored : t.is_ignored ≡ is_ignore (query g text (is_dir_at g t.path text)).0.verdict
   pub leaves : Leaves g (text, is_dir_at g t.path text) old new
   pub reports : t.problem ≡ reported g old text (is_dir_at g t.path text)
 
 -- what becomes of a path, by the text by which it is known below the root, if there is one
-abbrev pub IsSaidOf : Scene → Option Path → Path → Cache → Cache → Said → Type 0
+abbrev pub IsSaidOf : QueryScene → Option Path → Path → Cache → Cache → Said → Type 0
 IsSaidOf g known path old new (no_text number) = ⊥
 IsSaidOf g known path old new (ill_quoted number) = ⊥
 IsSaidOf g known path old new (not_below p) = (p ≡ path) × (known ≡ None) × (new ≡ old)
 IsSaidOf g known path old new (told t) = (t.path ≡ path) × (text : Path) × (known ≡ Some text) × IsAnswered g text old new t
 
 -- what becomes of what is given, in a working directory
-abbrev pub IsSaid : Scene → Option Path → Given → Cache → Cache → Said → Type 0
+abbrev pub IsSaid : QueryScene → Option Path → Given → Cache → Cache → Said → Type 0
 IsSaid g dir (place.Path path) old new said = IsSaidOf g (normalize_of dir g.root path) path old new said
 IsSaid g dir (place.NotText number) old new said = (said ≡ no_text number) × (new ≡ old)
 IsSaid g dir (place.BadlyQuoted number) old new said = (said ≡ ill_quoted number) × (new ≡ old)
 
 -- the same of each in turn: what is kept before it is what those before it left
-abbrev pub AreSaid : Scene → Option Path → List Given → Cache → Cache → List Said → Type 0
+abbrev pub AreSaid : QueryScene → Option Path → List Given → Cache → Cache → List Said → Type 0
 AreSaid g dir [] old new [] = new ≡ old
 AreSaid g dir [] old new (said ∷ more) = ⊥
 AreSaid g dir (given ∷ rest) old new [] = ⊥
