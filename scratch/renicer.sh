@@ -4,12 +4,12 @@ while :; do
     d=$(readlink /proc/$p/cwd 2>/dev/null)
     grep -q clang /proc/$p/comm 2>/dev/null && d=/work/gate/x/crates/ignore
     case "$d" in
-      /work/gate/*/crates/ignore_dir|/work/gate/*/crates/ignore_levels|/work/gate/*/crates/ignore_why|/work/gate/*/crates/ignore_query|/work/gate/*/crates/ignore_walk|/work/gate/*/crates/ignore|/work/gate/*/crates/commands|/work/gate/*/crates/replay_walks|/work/gate/*/crates/uses) n=-16;;
+      /work/gate/a/crates/*|/work/gate/a|/tmp/rt-copy*) n=-2;;
       /work/gate/b/crates/*) n=-16;;
       /work/gate/*|/tmp/rt-copy*|/tmp/rt-edit*) n=-12;;
       /tmp/mutants-*) n=-13;;
       /tmp/tmp*) n=-16;;
-      /work/wt/*) n=15;;
+      /work/wt/batch*|/work/wt/exists*) n=-4;; /work/wt/*) n=12;;
       /tmp/*) n=0;;
       *) continue;;
     esac
