@@ -44,6 +44,7 @@ def ghost_spans(t):
                     if d==0: break
                 i+=1
             e=i+1
+        if m.group(0).rstrip().endswith('{') and re.match(r'\s*(ensures|requires|invariant|decreases|assert)',m.group(0)): s=m.end()-1
         out.append((s,e))
     return out
 def sub(f,rx,new):
