@@ -1,6 +1,5 @@
 -- Adding the rows of a table of default types.
-use Rattle.std.specs.Borrow.{Bor}
-use Rattle.std.specs.Prelude.{List, [], ◌∷◌, map}
+use Rattle.std.specs.Prelude.{List, [], ◌∷◌}
 use Rattle.ignore_base.specs.Text.{Bytes}
 use Rattle.ignore_types.specs.Types.{Definition, Draft, with_names}
 
@@ -16,11 +15,3 @@ with_rows (row ∷ rows) ds = with_rows rows (with_names row.0 row.1 ds)
 -- the draft with the globs of each row, in turn, for each of its names
 abbrev pub with_defaults : List Row → Draft → Draft
 with_defaults rows draft = record { definitions = with_rows rows draft.definitions; choices = draft.choices }
-
--- a row as its names and its globs
-abbrev pub row_of : Bor (List (Bor Bytes)) × Bor (List (Bor Bytes)) → Row
-row_of row = (map (λ name. name.now) row.0.now, map (λ glob. glob.now) row.1.now)
-
--- the draft with the globs of each row of a table, in turn, for each of its names
-unfoldable pub with_table : List (Bor (List (Bor Bytes)) × Bor (List (Bor Bytes))) → Draft → Draft
-with_table table draft = with_defaults (map row_of table) draft
