@@ -1,4 +1,5 @@
 pub mod Above
+pub mod AboveBy
 pub mod Chains
 pub mod Exclude
 pub mod Ground
@@ -6,6 +7,7 @@ pub mod Limits
 pub mod Lists
 pub mod Places
 pub mod Load
+pub mod LoadsBy
 pub mod Query
 pub mod Scene
 pub mod Soft

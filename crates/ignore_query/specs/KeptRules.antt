@@ -7,27 +7,19 @@ use Rattle.ignore_dir.specs.declared.dir.Dir.{Dir}
 use Rattle.ignore_dir.specs.Above.{path_along}
 use Rattle.ignore_dir.specs.Chains.{slashed}
 use Rattle.ignore_dir.specs.Query.{is_ignored}
-use Rattle.ignore_dir.specs.Scene.{Scene, names_to}
+use Rattle.ignore_dir.specs.Scene.{QueryScene, names_to}
 use Rattle.ignore_levels.specs.Levels.{level_at, slots_of}
 use Rattle.ignore_levels.specs.declared.list.Level.{Level}
 use Rattle.ignore_query.specs.declared.kept.Cache.{Cache}
 use Rattle.ignore_query.specs.declared.kept.Kept.{Kept}
 use Rattle.ignore_query.specs.declared.kept.Kept.TheVariants.{Ignored, Loaded}
-use Rattle.ignore_why.specs.Cited.{Named}
+use Rattle.ignore_why.specs.Cited.{Named, named_rule}
 use Rattle.ignore_why.specs.declared.cause.RuleRank.{RuleRank}
 use Rattle.ignore_why.specs.declared.cause.RuleRank.TheVariants.{Custom, Ignore, Gitignore, Exclude}
 
 -- a rule of the list of a rank in a directory, by name
 abbrev pub named_in : Path → RuleRank → Rule → Named
-named_in dir rank rule =
-    record {
-      rank = rank;
-      directory = Some dir;
-      from = rule.from;
-      line = rule.line;
-      original = rule.original;
-      is_whitelist = rule.is_whitelist;
-    }
+named_in dir rank rule = named_rule rank (Some dir) rule
 
 -- the rules that a directory holds: the lists in the order of their ranks, each in the order of its
 -- lines
@@ -39,7 +31,7 @@ rules_in path dir =
 
 -- the rules of a directory by the tree: those of its load, and none where it is ignored. Its path
 -- has the names from the top
-abbrev pub rules_of : Scene → List Bytes → List Named
+abbrev pub rules_of : QueryScene → List Bytes → List Named
 rules_of g names = if is_ignored g names then [] else rules_in (47 ∷ slashed (names_to g names)) (g.loads (path_along g.root names)).0
 
 -- a level, where its offset is this one

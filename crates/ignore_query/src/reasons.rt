@@ -11,13 +11,14 @@ ghost use Rattle.ignore_dir.specs.Limits as limits;
 ghost use Rattle.ignore_dir.specs.Load.{Loaded};
 ghost use Rattle.ignore_dir.specs.Query.{ancestors, is_ignored};
 ghost use Rattle.ignore_dir.specs.Query as queries;
-ghost use Rattle.ignore_dir.specs.Scene.{Scene};
+ghost use Rattle.ignore_dir.specs.Scene.{QueryScene};
 ghost use Rattle.ignore_dir.specs.Soft.{AllSoft};
 ghost use Rattle.ignore_dir.specs.Verdict as verdicts;
 ghost use Rattle.ignore_files.specs.Gives.{IsHonest};
 ghost use Rattle.ignore_files.specs.Tree.{Tree};
 ghost use Rattle.ignore_query.specs.declared.kept.Kept as kept;
 ghost use Rattle.ignore_query.specs.Agrees.{Agrees, kept_at};
+ghost use Rattle.ignore_query.specs.KeptLoads.{KeepsLoads};
 ghost use Rattle.ignore_query.specs.Needs.{KeepsNeeded, Stays, is_known, needed};
 ghost use Rattle.ignore_query.specs.Reached.{scene_of};
 ghost use Rattle.ignore_query.specs.Reports.{new_above, new_below};
@@ -154,7 +155,7 @@ impl Cache {
 
     /// The key of the first proper ancestor of a path of these names that is kept as ignored.
     fn first_shut(&self, alloc: Global, names: &[&str]) -> Result<Option<String>, AllocError>
-        ensures value { (g : Scene) → let all = map (λ n. n.now) names.now in
+        ensures value { (g : QueryScene) → let all = map (λ n. n.now) names.now in
             Agrees g self.now → All IsName all → is_known g self.now all ≡ true
             → IfOk result (λ key. option_map string_bytes key ≡ option_map slashed (first_ignored g (ancestors all))) }
         ensures shut { IfOk result (λ key. IfSome key (λ k. is_shut (get_by_text self.now.dirs.map (string_bytes k)) ≡ true)) }
@@ -218,6 +219,7 @@ impl Cache {
         ensures why { WhereAsked F.Files call.now self.old path.now (λ g.
             IfOk result (λ r. query_why_of r ≡ why_by_rules g path.now is_dir)) }
         ensures stays { Stays self.old self.new }
+        ensures loaded { KeepsLoads F.Files call.now.files.now call.now.asked.now self.old self.new }
         ensures kept { WhereAsked F.Files call.now self.old path.now (λ g.
             OnOk result (KeepsNeeded (needed g (components path.now)) self.old self.new)) }
         ensures agrees { WhereAsked F.Files call.now self.old path.now (λ g.

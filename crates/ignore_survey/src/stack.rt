@@ -1,15 +1,16 @@
 //! What a survey has in hand: directories whose listings are half read, and one that is to be listed.
 ghost use Rattle.std.specs.Prelude.{◌≡◌, [], Err, IfOk, List, MatchOption, None};
 ghost use Rattle.ignore_base.specs.Problem.{problem_of};
-ghost use Rattle.ignore_dir.specs.Scene.{Scene};
+ghost use Rattle.ignore_dir.specs.Scene.{QueryScene};
 ghost use Rattle.ignore_files.specs.Gives.{IsHonest};
 ghost use Rattle.ignore_survey.specs.Stands.{Enters, Finds, Hands, Left, Stands, Takes, found_at, found_of};
 ghost use Rattle.ignore_survey.specs.Survey.{Item as Yielded};
 
-use crate::listing::{listed, place, unlisted};
+use crate::listing::{in_order, place, unlisted};
 use ignore_base::Error;
 use ignore_base::internal::join;
 use ignore_files::{FileType, Files, Listed, Name};
+use ignore_walk::internal::answer_of;
 use std::alloc::{AllocError, Global};
 use std::collections::VecDeque;
 
@@ -37,7 +38,7 @@ pub struct Stack {
 /// What is listed next, with its directory, which is taken from the frames. Directories of which
 /// nothing is left are left.
 fn take_listed(frames: &mut VecDeque<Frame>) -> Option<(Frame, Listed)>
-    ensures { (g : Scene) (items : List Yielded) → Left g frames.old.items items
+    ensures { (g : QueryScene) (items : List Yielded) → Left g frames.old.items items
         → MatchOption result (items ≡ []) (λ r. Takes g r.0 r.1 frames.new.items items) }
 {
     while let Some(mut frame) = frames.pop_front() {
@@ -55,12 +56,15 @@ fn enter<F: Files>(
     root: &str,
     path: Name,
 ) -> Result<Result<Frame, Error>, AllocError>
-    ensures { (g : Scene) → IsHonest F.Files files.now g.tree → g.root ≡ root.now → IfOk result (Enters g path) }
+    ensures { (g : QueryScene) → IsHonest F.Files files.now g.tree → g.root ≡ root.now → IfOk result (Enters g path) }
 {
     let place = place(alloc, root, path.as_str())?;
-    match listed(alloc, files, place.as_str())? {
-        Ok(rest) => Ok(Ok(Frame { path, rest })),
-        Err(fault) => Ok(Err(Error::Io(fault).with_path(alloc, place.as_str())?)),
+    match answer_of(alloc, files, place.as_str())? {
+        Ok(listing) => {
+            let rest = in_order(alloc, listing)?;
+            Ok(Ok(Frame { path, rest }))
+        }
+        Err(fault) => Ok(Err(unlisted(alloc, root, path.as_str(), fault)?)),
     }
 }
 
@@ -72,7 +76,7 @@ impl Stack {
         files: &F,
         root: &str,
     ) -> Result<Option<Found>, AllocError>
-        ensures { (g : Scene) (items : List Yielded) → IsHonest F.Files files.now g.tree → g.root ≡ root.now → Stands g self.old items
+        ensures { (g : QueryScene) (items : List Yielded) → IsHonest F.Files files.now g.tree → g.root ≡ root.now → Stands g self.old items
             → IfOk result (λ r. MatchOption r (items ≡ []) (λ found. Finds g self.new (found_of found) items)) }
     {
         if let Some(error) = self.open(alloc, files, root)? {
@@ -89,7 +93,7 @@ impl Stack {
         files: &F,
         root: &str,
     ) -> Result<Option<Error>, AllocError>
-        ensures { (g : Scene) (items : List Yielded) → IsHonest F.Files files.now g.tree → g.root ≡ root.now → Stands g self.old items
+        ensures { (g : QueryScene) (items : List Yielded) → IsHonest F.Files files.now g.tree → g.root ≡ root.now → Stands g self.old items
             → IfOk result (λ r. MatchOption r
             ((self.new.waiting ≡ None) × Left g self.new.frames.items items)
             (λ e. Hands g self.new (Err (problem_of e)) items)) }
@@ -108,7 +112,7 @@ impl Stack {
 
     /// What is listed next in the directories that were entered.
     fn take(&mut self, alloc: Global, root: &str) -> Result<Option<Found>, AllocError>
-        ensures { (g : Scene) (items : List Yielded) → g.root ≡ root.now → self.old.waiting ≡ None → Left g self.old.frames.items items
+        ensures { (g : QueryScene) (items : List Yielded) → g.root ≡ root.now → self.old.waiting ≡ None → Left g self.old.frames.items items
             → IfOk result (λ r. MatchOption r (items ≡ []) (λ found. Finds g self.new (found_of found) items)) }
     {
         let Some((frame, listed)) = take_listed(&mut self.frames) else {
