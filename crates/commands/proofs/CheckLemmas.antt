@@ -8,7 +8,7 @@ use Rattle.std.proofs.lemmas.List.Folds.{list_any-append}
 use Rattle.std.specs.Io.KnownBytes.{Appends}
 use Rattle.std.specs.List.{flat_map, list_any}
 use Rattle.ignore_dir.specs.Load.{AreLoads, Loaded}
-use Rattle.ignore_dir.specs.Scene.{Scene, scene}
+use Rattle.ignore_dir.specs.Scene.{QueryScene, scene}
 use Rattle.ignore_dir.specs.declared.outside.Outside.{Outside}
 use Rattle.ignore_dir.specs.declared.settings.Settings.{Settings}
 use Rattle.ignore_files.specs.Tree.{Tree}
@@ -71,7 +71,7 @@ checks_more paths path all one any more a b c x y z h is line report wrong = rec
 }
 
 -- one question more is asked in turn
-turn_more : (g : Scene) (qs : List Asked) (ps : List (Option Problem)) (q : Asked) (p : Option Problem) (old middle new : Cache)
+turn_more : (g : QueryScene) (qs : List Asked) (ps : List (Option Problem)) (q : Asked) (p : Option Problem) (old middle new : Cache)
     → ReportInTurn g qs ps old middle → Leaves g q middle new → p ≡ reported g middle q.0 q.1
     → ReportInTurn g (qs ++ q ∷ []) (ps ++ p ∷ []) old new
 turn_more g [] ps q p old middle new (none, same) leaves is = (
@@ -90,7 +90,7 @@ turn_more g (r ∷ qs) ps q p old middle new (between, rest, left, first, after)
 )
 
 -- one path more is asked in turn
-pub reports_more : (g : Scene) (all : List Checked) (one : Checked) (old middle new : Cache) → ReportsInTurn g all old middle
+pub reports_more : (g : QueryScene) (all : List Checked) (one : Checked) (old middle new : Cache) → ReportsInTurn g all old middle
     → IsReport g middle new one.path one.problem → ReportsInTurn g (all ++ one ∷ []) old new
 reports_more g all one old middle new h k =
     let asked : Checked → Asked = λ c. question_at g c.path in
@@ -145,7 +145,7 @@ last_of None middle new = middle
 last_of (Some c) middle new = new
 
 -- the next path, if there is one, is answered as those before it
-pub answers_with : (g : Scene) (all : List Checked) (next : Option Checked) (old middle new : Cache) → All (IsAnswer g) all
+pub answers_with : (g : QueryScene) (all : List Checked) (next : Option Checked) (old middle new : Cache) → All (IsAnswer g) all
     → ReportsInTurn g all old middle → IfSome next (λ c. IsAnswer g c × IsReport g middle new c.path c.problem)
     → All (IsAnswer g) (with_next all next) × ReportsInTurn g (with_next all next) old (last_of next middle new)
 unfolding last_of

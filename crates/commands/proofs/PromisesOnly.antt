@@ -5,7 +5,7 @@ use Rattle.ignore_base.specs.declared.fault.Fault.TheVariants.{StepLimit}
 use Rattle.ignore_base.specs.Problem.{Problem, io, memory}
 use Rattle.ignore_base.specs.Text.{Path}
 use Rattle.ignore_dir.specs.Query.{query}
-use Rattle.ignore_dir.specs.Scene.{Scene as QueryScene}
+use Rattle.ignore_dir.specs.Scene.{QueryScene}
 use Rattle.ignore_files.specs.Gives.{IsHonest}
 use Rattle.ignore_files.specs.Tree.{Tree}
 use Rattle.ignore_files.specs.declared.env.Env.{Env}

@@ -6,7 +6,7 @@ use Rattle.ignore_base.specs.Paths.{join_of}
 use Rattle.ignore_base.specs.Problem.{Problem}
 use Rattle.ignore_dir.specs.Load.{AreLoads, Loaded}
 use Rattle.ignore_dir.specs.Query.{is_dir_there, query}
-use Rattle.ignore_dir.specs.Scene.{Scene, scene}
+use Rattle.ignore_dir.specs.Scene.{QueryScene, scene}
 use Rattle.ignore_dir.specs.Standard.{standard}
 use Rattle.ignore_dir.specs.declared.incremental.IncrementalMatch.{IncrementalMatch}
 use Rattle.ignore_dir.specs.declared.outside.Outside.{Outside}
@@ -67,24 +67,24 @@ pub record Checks (paths : List Path) (all : List Checked) (status : ℕ) (out e
   pub ends : status ≡ (if list_any is_wrong all then 1 else 0)
 
 -- the question about a path: as a directory where there is one at it, and not a link to one
-abbrev pub question_at : Scene → Path → Asked
+abbrev pub question_at : QueryScene → Path → Asked
 question_at g path = (path, is_dir_there (g.tree.stat (join_of g.root path) false))
 
 -- what becomes of a path in the bare tree
-abbrev pub answer_at : Scene → Path → IncrementalMatch
+abbrev pub answer_at : QueryScene → Path → IncrementalMatch
 answer_at g path = (query g path (question_at g path).1).0
 
 -- an answer is that of the bare tree
-abbrev pub IsAnswer : Scene → Checked → Type 0
+abbrev pub IsAnswer : QueryScene → Checked → Type 0
 IsAnswer g c = c.found ≡ answer_at g c.path
 
 -- a path is asked where `old` is kept, and `new` after it; its problem is that of what this loads
-abbrev pub IsReport : Scene → Cache → Cache → Path → Option Problem → Type 0
+abbrev pub IsReport : QueryScene → Cache → Cache → Path → Option Problem → Type 0
 IsReport g old new path problem =
     Leaves g (question_at g path) old new × (problem ≡ reported g old path (question_at g path).1)
 
 -- the problems are those of what each path in turn loads, by what the paths before it left kept
-abbrev pub ReportsInTurn : Scene → List Checked → Cache → Cache → Type 0
+abbrev pub ReportsInTurn : QueryScene → List Checked → Cache → Cache → Type 0
 ReportsInTurn g all old new =
     ReportInTurn g (map (λ c. question_at g c.path) all) (map (λ c. c.problem) all) old new
 

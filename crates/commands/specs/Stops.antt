@@ -22,16 +22,8 @@ reason Silence = []
 -- what ends a run at a line with this problem: an invalid glob can't be reported, and the only
 -- other problem is out of memory
 abbrev pub line_stop : Problem → Stop
-line_stop (several ps) = Memory
-line_stop (at_line line p) = Memory
-line_stop (at_path path p) = Memory
-line_stop (at_depth depth p) = Memory
-line_stop (loop ancestor child) = Memory
-line_stop (io fault) = Memory
 line_stop (glob pattern err) = Silence
-line_stop (unrecognized name) = Memory
-line_stop invalid_definition = Memory
-line_stop memory = Memory
+line_stop _ = Memory
 
 -- one line ended the run: out of memory, with nothing reported of it, or it is rejected and can't
 -- be reported

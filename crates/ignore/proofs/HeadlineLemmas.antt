@@ -11,18 +11,19 @@ use Rattle.ignore_base.specs.Problem.{Problem, io, memory, problem_of}
 use Rattle.ignore_base.specs.declared.error.Error.{Error}
 use Rattle.ignore_walk.specs.declared.walk.Walk.{Walk}
 use Rattle.ignore_walk.specs.Entry.{Item}
-use Rattle.ignore_walk.specs.Nexts.{EndsBy, Remaining}
+use Rattle.ignore_walk.specs.Nexts.{EndsBy, Remaining, Starts}
 use Rattle.ignore_walk.specs.Paces.{TookSteps, Work}
 use Rattle.ignore_walk.specs.Runs.{IsRun}
 use Rattle.ignore_walk.specs.Scene.{Scene}
 use Rattle.ignore_walk.specs.Suits.{Suits}
+use Rattle.ignore_walk.specs.Whole.{Whole}
 use Rattle.ignore_walk.specs.declared.callbacks.Callbacks.{Ghosts as Callbacks}
 use Rattle.ignore_walk.specs.declared.callbacks.Order.{Order}
 use Rattle.ignore.specs.declared.options.WalkOptions.{WalkOptions}
 use Rattle.ignore.specs.Closures.{options_of}
 use Rattle.ignore.specs.Finished.{IsEnd, IsFinished}
-use Rattle.ignore.specs.Headline.{Headline, IsAboveLimit, IsSceneOf}
-use Rattle.ignore.specs.Walks.{IsWalkBy}
+use Rattle.ignore.specs.Headline.{Headline, IsAboveLimit, IsGiven, IsSceneOf}
+use Rattle.ignore.specs.Walks.{IsNewWalkBy, IsWalkBy}
 
 -- a scene of a walk is one that its owner suits
 pub scene_suits : {F S : Type 0} (files : Files F) (calls : Callbacks S) (f : F) (owner : S) (b : WalkOptions) (order : Order)
@@ -89,6 +90,21 @@ headline_of files calls f owner env b order w view (Ok v) by limit complete with
           (complete s items n r, subst (λ (left : ℕ). n ≤ left) limit (within s items n r)),
     )
 headline_of files calls f owner env b order w view (Err e) by limit complete within = tt
+
+pub given_of : {F S V E : Type 0} (files : Files F) (calls : Callbacks S) (f : F) (owner : S) (env : Env) (b : WalkOptions)
+    (order : Order) (w : Walk F S) (view : V → List Item) (r : Result V E) → IsNewWalkBy files calls f owner env b order w
+    → w.left ≡ b.limit
+    → ((g : Scene) (roots : List (List ℕ)) → Starts files calls g w roots → IfOk r (λ v. (n : ℕ) × (n ≤ w.left) × Whole g roots (view v) n))
+    → IfOk r (λ v. IsGiven files calls f owner env b order (view v))
+given_of files calls f owner env b order w view (Ok v) by limit exists = λ tree honest.
+    let o = by tree honest in (
+      o.0,
+      o.1,
+      λ s scene.
+          let l = exists s b.roots (o.2 s (scene_suits files calls f owner b order tree o.0 s honest scene)) in
+          (l.0, subst (λ (left : ℕ). l.0 ≤ left) limit l.1, l.2),
+    )
+given_of files calls f owner env b order w view (Err e) by limit exists = tt
 
 pub ended_of : {F S V E : Type 0} (files : Files F) (calls : Callbacks S) (f : F) (owner : S) (env : Env) (b : WalkOptions)
     (order : Order) (w : Walk F S) (problem : E → Problem) (r : Result V E) → IsWalkBy files calls f owner env b order w

@@ -14,6 +14,7 @@ use Rattle.ignore_walk.specs.declared.callbacks.Callbacks.{Ghosts as Callbacks}
 use Rattle.ignore_walk.specs.declared.callbacks.Order.{Order}
 use Rattle.ignore.specs.declared.options.WalkOptions.{WalkOptions}
 use Rattle.ignore.specs.Asked.{IsOutside}
+use Rattle.ignore.specs.ItsList.{ForItsList, InItsScenes}
 
 -- a scene is one of a walk in a tree, by options, by rules from outside, and by an order and a
 -- filter that `owner` keeps: it has the tree and the loads of its directories, the settings, these
@@ -35,21 +36,27 @@ pub record IsSceneOf {S : Type 0} (calls : Callbacks S) (owner : S) (b : WalkOpt
 -- their places. And the limit of steps allows the list
 abbrev pub IsListIn : {S : Type 0} → Callbacks S → S → Env → WalkOptions → Order → Tree → List Item → Type 0
 IsListIn calls owner env b order tree all =
-    (o : Outside) × IsOutside tree env b o
-    × ((g : Scene) (items : List Item) (n : ℕ) → IsSceneOf calls owner b order tree o g → Whole g b.roots items n
-    → (all ≡ items) × (n ≤ b.limit))
+    ForItsList (IsSceneOf calls owner b order tree) env b tree (λ g items n. (all ≡ items) × (n ≤ b.limit))
 
 -- the headline: a finished walk has yielded exactly the list of the definition, in each tree that
 -- the files are consistent with
 abbrev pub Headline : {F S : Type 0} → Files F → Callbacks S → F → S → Env → WalkOptions → Order → List Item → Type 0
 Headline files calls f owner env b order all = (tree : Tree) → IsHonest files f tree → IsListIn calls owner env b order tree all
 
+-- the list of the definition exists, and is these items: in each tree that the files are consistent
+-- with there are rules from outside, as they were read, by which the roots give them in each scene of
+-- the walk; and the limit of steps allows them
+abbrev pub IsGiven : {F S : Type 0} → Files F → Callbacks S → F → S → Env → WalkOptions → Order → List Item → Type 0
+IsGiven files calls f owner env b order all =
+    (tree : Tree) → IsHonest files f tree
+    → InItsScenes (IsSceneOf calls owner b order tree) env b tree (λ g. (n : ℕ) × (n ≤ b.limit) × Whole g b.roots all n)
+
 -- the limit of steps is too low for the list of the definition, in each tree that the files are
 -- consistent with
 abbrev pub IsAboveLimit : {F S : Type 0} → Files F → Callbacks S → F → S → Env → WalkOptions → Order → Type 0
 IsAboveLimit files calls f owner env b order =
-    (tree : Tree) → IsHonest files f tree → (o : Outside) × IsOutside tree env b o
-    × ((g : Scene) (items : List Item) (n : ℕ) → IsSceneOf calls owner b order tree o g → Whole g b.roots items n → b.limit < n)
+    (tree : Tree) → IsHonest files f tree
+    → ForItsList (IsSceneOf calls owner b order tree) env b tree (λ g items n. b.limit < n)
 
 -- these items are the one list of the definition in a tree: the rules from outside are as they were
 -- read, there is a scene of the walk, its roots give these items, and the limit of steps allows

@@ -3,6 +3,7 @@ pub mod Builder
 pub mod Asked
 pub mod Matchers
 pub mod Closures
+pub mod ItsList
 pub mod Walks
 pub mod Headline
 pub mod Finished

@@ -4,7 +4,7 @@ pub use Rattle.ignore_base.specs.Paths.{IsName, joined}
 pub use Rattle.ignore_dir.specs.Above.{dirs_above, path_along, paths_above}
 pub use Rattle.ignore_dir.specs.Load.{AreLoads, Loaded, Loads}
 pub use Rattle.ignore_dir.specs.Query.{is_asked, is_dir_there, names_of, query}
-pub use Rattle.ignore_dir.specs.Scene.{Scene as QueryScene, scene}
+pub use Rattle.ignore_dir.specs.Scene.{QueryScene, scene}
 pub use Rattle.ignore_dir.specs.Standard.{standard}
 pub use Rattle.ignore_dir.specs.Verdict.{is_ignore as does_ignore}
 pub use Rattle.ignore_dir.specs.declared.dir.Dir.{Dir}
@@ -34,7 +34,7 @@ pub use Rattle.ignore_walk.specs.Child.{is_dir_kind}
 pub use Rattle.ignore_walk.specs.Entry.{Entry, Item, entry_of, item_of, named_or, problem_in, stdin_entry}
 pub use Rattle.ignore_walk.specs.Finished.{IsEnd, IsFinished}
 pub use Rattle.ignore_walk.specs.GoesOn.{AllGoOn, GoesOn, HasNoEnd}
-pub use Rattle.ignore_walk.specs.Nexts.{EndsBy, EndsOrGoesOn, NextGives, Nexts, Remaining}
+pub use Rattle.ignore_walk.specs.Nexts.{EndsBy, EndsOrGoesOn, NextGives, Nexts, Remaining, Shows, Starts}
 pub use Rattle.ignore_walk.specs.Paces.{IsStep, TookSteps, Work, work_at, work_of}
 pub use Rattle.ignore_walk.specs.Runs.{EndsEarly, EndsLast, IsBegun, IsRun}
 pub use Rattle.ignore_walk.specs.Scene.{Scene, queries}

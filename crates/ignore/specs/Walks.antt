@@ -1,20 +1,15 @@
 -- What a walk of a builder is a walk of.
-use Rattle.std.specs.Prelude.{ℕ, List}
-use Rattle.ignore_dir.specs.declared.outside.Outside.{Outside}
 use Rattle.ignore_files.specs.declared.env.Env.{Env}
 use Rattle.ignore_files.specs.declared.files.Files.{Ghosts as Files}
 use Rattle.ignore_files.specs.Gives.{IsHonest}
 use Rattle.ignore_files.specs.Tree.{Tree}
-use Rattle.ignore_walk.specs.Entry.{Item}
-use Rattle.ignore_walk.specs.Nexts.{Remaining}
-use Rattle.ignore_walk.specs.Scene.{Scene}
+use Rattle.ignore_walk.specs.Nexts.{Remaining, Starts}
 use Rattle.ignore_walk.specs.Suits.{Suits}
-use Rattle.ignore_walk.specs.Whole.{Whole}
 use Rattle.ignore_walk.specs.declared.callbacks.Callbacks.{Ghosts as Callbacks}
 use Rattle.ignore_walk.specs.declared.callbacks.Order.{Order}
 use Rattle.ignore_walk.specs.declared.walk.Walk.{Walk}
 use Rattle.ignore.specs.declared.options.WalkOptions.{WalkOptions}
-use Rattle.ignore.specs.Asked.{IsOutside}
+use Rattle.ignore.specs.ItsList.{ForItsList, InItsScenes}
 use Rattle.ignore.specs.Closures.{options_of}
 
 -- a walk is one by these options, over files and in an environment, with this order and an owner of
@@ -22,6 +17,13 @@ use Rattle.ignore.specs.Closures.{options_of}
 -- from outside, as they were read, by which the list of the definition remains of the walk
 abbrev pub IsWalkBy : {F S : Type 0} → Files F → Callbacks S → F → S → Env → WalkOptions → Order → Walk F S → Type 0
 IsWalkBy files calls f owner env b order w =
-    (tree : Tree) → IsHonest files f tree → (o : Outside) × IsOutside tree env b o
-    × ((g : Scene) (items : List Item) (n : ℕ) → Suits files calls f owner b.settings o (options_of b order) g
-    → Whole g b.roots items n → Remaining files calls g w items n)
+    (tree : Tree) → IsHonest files f tree
+    → ForItsList (λ o. Suits files calls f owner b.settings o (options_of b order)) env b tree (λ g. Remaining files calls g w)
+
+-- a walk is a new one by these options, over files and in an environment, with this order and an
+-- owner of the filter and the comparison: for each tree that the files are consistent with there are
+-- rules from outside, as they were read, by which what remains of the walk is what the roots give
+abbrev pub IsNewWalkBy : {F S : Type 0} → Files F → Callbacks S → F → S → Env → WalkOptions → Order → Walk F S → Type 0
+IsNewWalkBy files calls f owner env b order w =
+    (tree : Tree) → IsHonest files f tree
+    → InItsScenes (λ o. Suits files calls f owner b.settings o (options_of b order)) env b tree (λ g. Starts files calls g w b.roots)

@@ -3,14 +3,14 @@ ghost use Rattle.std.specs.Prelude.{◌≡◌, ◌⊎◌, Some, false, IfOk, IfE
 ghost use Rattle.ignore_files.specs.declared.env.Env.{Env};
 ghost use Rattle.ignore_walk.specs.declared.callbacks.Order.{Order};
 ghost use Rattle.ignore.specs.declared.options.WalkOptions.{WalkOptions};
-ghost use Rattle.ignore.specs.Walks.{IsWalkBy};
+ghost use Rattle.ignore.specs.Walks.{IsNewWalkBy, IsWalkBy};
 ghost use Rattle.ignore_base.specs.declared.fault.Fault.TheVariants.{StepLimit};
 ghost use Rattle.ignore_base.specs.Problem.{problem_of, io, memory};
 ghost use Rattle.ignore_walk.specs.Entry.{item_of};
 ghost use Rattle.ignore_walk.specs.GoesOn.{AllGoOn, HasNoEnd};
 ghost use Rattle.ignore_walk.specs.Paces.{TookSteps, Work, work_at, work_of};
 ghost use Rattle.ignore.specs.Closures.{order_of};
-ghost use Rattle.ignore.specs.Headline.{Headline, IsAboveLimit};
+ghost use Rattle.ignore.specs.Headline.{Headline, IsAboveLimit, IsGiven};
 
 use crate::builder::WalkBuilder;
 use crate::walk::{Owner, Walk};
@@ -19,7 +19,8 @@ use ignore_files::{Env, Files};
 use ignore_walk::{Callbacks, Item};
 
 /// All items of a walk of the builder, in their order: `Ok` is the whole list and never a part of
-/// it. Errors in the places of entries are items of the list.
+/// it. Errors in the places of entries are items of the list. That there is such a list need not be
+/// known: `Ok` shows it.
 ///
 /// # Errors
 /// `Error::Memory`; and `Io(StepLimit)` where the walk takes more steps than the builder's limit,
@@ -30,6 +31,8 @@ pub fn collect_walk<F: Files>(
     env: &Env,
 ) -> Result<Vec<Item>, Error>
     ensures headline { IfOk result (λ all. Headline F.Files ⟦<Owner<'static> as Callbacks>⟧ files.now (record { builder = Some builder.entry }) env.now
+        builder.now.options (order_of (λ s. s.order) builder.now.sorter) (map item_of all.items)) }
+    ensures exists { IfOk result (λ all. IsGiven F.Files ⟦<Owner<'static> as Callbacks>⟧ files.now (record { builder = Some builder.entry }) env.now
         builder.now.options (order_of (λ s. s.order) builder.now.sorter) (map item_of all.items)) }
     ensures ended { IfErr result (λ e. (problem_of e ≡ memory) ⊎ ((problem_of e ≡ io StepLimit)
         × IsAboveLimit F.Files ⟦<Owner<'static> as Callbacks>⟧ files.now (record { builder = Some builder.entry }) env.now builder.now.options
@@ -50,6 +53,9 @@ impl<'a, F: Files, S: Callbacks> Walk<'a, F, S> {
         ensures headline { (f : F) (owner : S) (env : Env) (b : WalkOptions) (order : Order)
             → IsWalkBy F.Files S.Callbacks f owner env b order self.entry.inner → self.entry.inner.left ≡ b.limit
             → IfOk result (λ all. Headline F.Files S.Callbacks f owner env b order (map item_of all.items)) }
+        ensures exists { (f : F) (owner : S) (env : Env) (b : WalkOptions) (order : Order)
+            → IsNewWalkBy F.Files S.Callbacks f owner env b order self.entry.inner → self.entry.inner.left ≡ b.limit
+            → IfOk result (λ all. IsGiven F.Files S.Callbacks f owner env b order (map item_of all.items)) }
         ensures ended { (f : F) (owner : S) (env : Env) (b : WalkOptions) (order : Order)
             → IsWalkBy F.Files S.Callbacks f owner env b order self.entry.inner → self.entry.inner.left ≡ b.limit
             → self.entry.inner.ended ≡ false

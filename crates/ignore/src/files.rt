@@ -3,5 +3,5 @@
 
 pub use ignore_files::{
     Bytes, Contents, DiskFiles, Env, FileType, Files, Identity, Listed, Listing, Machine,
-    MemoryTree, Metadata, Name, Refusal, Row, Stat, TableMachine, TreeError,
+    MemoryTree, Metadata, Name, Refusal, Row, RowEntry, RowKind, Stat, TableMachine, TreeError,
 };

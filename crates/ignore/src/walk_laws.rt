@@ -1,5 +1,5 @@
 //! Laws of walks, as calls that do nothing: each contract is the law.
-ghost use Rattle.std.specs.Prelude.{◌≡◌, ◌⊎◌, ◌↔◌, ℕ, Bool, List, [], Contains, MatchOption, None, Option, Result, Some, codes, map, option_map, true};
+ghost use Rattle.std.specs.Prelude.{◌≡◌, ◌≤◌, ◌⊎◌, ◌↔◌, ℕ, Bool, List, [], Contains, MatchOption, None, Option, Result, Some, codes, map, option_map, true};
 ghost use Rattle.std.specs.Cmp.{IsStrictWeakOrder};
 ghost use Rattle.std.specs.Iterator.{Drains, YieldsThen};
 ghost use Rattle.std.specs.Ordering.{is_lt};
@@ -10,6 +10,7 @@ ghost use Rattle.ignore_base.specs.Text.{Path};
 ghost use Rattle.ignore_base.specs.declared.error.Error.{Error};
 ghost use Rattle.ignore_dir.specs.declared.outside.Outside.{Outside};
 ghost use Rattle.ignore_files.specs.Answers.{tree_of};
+ghost use Rattle.ignore_files.specs.Gives.{IsHonest};
 ghost use Rattle.ignore_files.specs.Tree.{Tree};
 ghost use Rattle.ignore_files.specs.declared.env.Env.{Env};
 ghost use Rattle.ignore_query.specs.declared.incremental.IncrementalIgnore.{IncrementalIgnore};
@@ -17,7 +18,7 @@ ghost use Rattle.ignore_walk.specs.Agreement.{IsOpen, keeps};
 ghost use Rattle.ignore_walk.specs.Branch.{Branch};
 ghost use Rattle.ignore_walk.specs.Entry.{Entry, Item, entry_of, item_of, problem_in, stdin_entry};
 ghost use Rattle.ignore_walk.specs.GoesOn.{HasNoEnd};
-ghost use Rattle.ignore_walk.specs.Nexts.{NextGives, Remaining};
+ghost use Rattle.ignore_walk.specs.Nexts.{NextGives, Remaining, Starts};
 ghost use Rattle.ignore_walk.specs.Runs.{EndsLast, IsBegun, IsRun};
 ghost use Rattle.ignore_walk.specs.Scene.{Scene};
 ghost use Rattle.ignore_walk.specs.Suits.{order_by};
@@ -30,9 +31,9 @@ ghost use Rattle.ignore.specs.Agreement.{IsKeptByOne, IsMatcherIn, IsReached, an
 ghost use Rattle.ignore.specs.Asked.{IsOutside};
 ghost use Rattle.ignore.specs.Closures.{order_of};
 ghost use Rattle.ignore.specs.Finished.{IsFinished};
-ghost use Rattle.ignore.specs.Headline.{Headline, IsSceneOf, IsTheList};
+ghost use Rattle.ignore.specs.Headline.{Headline, IsGiven, IsSceneOf, IsTheList};
 ghost use Rattle.ignore.specs.Matchers.{AreMatchers};
-ghost use Rattle.ignore.specs.Walks.{IsWalkBy};
+ghost use Rattle.ignore.specs.Walks.{IsNewWalkBy, IsWalkBy};
 ghost use Rattle.ignore.specs.declared.options.WalkOptions.{WalkOptions};
 ghost use Rattle.ignore.specs.declared.walk.Walk.{Walk};
 
@@ -100,6 +101,32 @@ pub fn a_finished_walk_is_the_headline<F: Files, S: Callbacks>()
     a_run_yields_the_list::<F, S>();
 }
 
+/// A walk that is asked until it answers none, and that no item ended, shows that there is a list: in
+/// each scene that it suits, where what remains of it is what some roots give (as for a new walk),
+/// these roots give just the items that it has yielded, and in no more steps than it might take.
+pub fn a_finished_run_is_a_list<F: Files, S: Callbacks>()
+    ensures { (g : Scene) (roots : List Path) (w : Walk F S) (all : List (Result DirEntry Error))
+        → Drains (λ a answer b. NextGives F.Files S.Callbacks a.inner (option_map item_of answer) b.inner) w all
+        → Starts F.Files S.Callbacks g w.inner roots → IsFinished (map item_of all)
+        → (n : ℕ) × (n ≤ w.inner.left) × Whole g roots (map item_of all) n }
+{
+    runs::a_finished_run_is_a_list::<F, S>();
+}
+
+/// The list of the definition exists, where a walk of a builder (`WalkBuilder::build`, clause
+/// `starts`) is asked until it answers none, and no item ended it. In each tree that the files are
+/// consistent with, the roots give just what it has yielded, in each scene of the walk, and in no
+/// more steps than the limit. Nothing more is asked of the tree: it may have links without end, and
+/// no number of directories need be known.
+pub fn a_finished_walk_has_its_list<F: Files, S: Callbacks>()
+    ensures { (f : F) (owner : S) (env : Env) (b : WalkOptions) (order : Order) (w : Walk F S) (all : List (Result DirEntry Error))
+        → IsNewWalkBy F.Files S.Callbacks f owner env b order w.inner → w.inner.left ≡ b.limit
+        → Drains (λ a answer b. NextGives F.Files S.Callbacks a.inner (option_map item_of answer) b.inner) w all
+        → IsFinished (map item_of all) → IsGiven F.Files S.Callbacks f owner env b order (map item_of all) }
+{
+    a_finished_run_is_a_list::<F, S>();
+}
+
 /// The premises of the headline are met: a builder without closures has a scene in each tree, by
 /// any rules from outside.
 pub fn a_scene_without_closures(builder: &WalkBuilder)
@@ -154,6 +181,19 @@ pub fn walk_agrees_with_matchers<S: Callbacks>()
 pub fn one_outside()
     ensures { (tree : Tree) (env : Env) (b : WalkOptions) (o p : Outside) → IsOutside tree env b o → IsOutside tree env b p → o ≡ p }
 {}
+
+/// Over any files: what has the headline, and is given (as `Ok` of `collect_walk`, or the
+/// items of a walk of a builder that was finished), is the one list of the definition in each tree
+/// that the files are consistent with, wherever there is a scene of the walk, as
+/// `a_scene_without_closures` and `a_scene_with_closures` say.
+pub fn the_one_list<F: Files, S: Callbacks>()
+    ensures { (f : F) (owner : S) (env : Env) (b : WalkOptions) (order : Order) (tree : Tree) (o : Outside) (g : Scene) (all : List Item)
+        → IsHonest F.Files f tree → IsOutside tree env b o → IsSceneOf S.Callbacks owner b order tree o g
+        → Headline F.Files S.Callbacks f owner env b order all → IsGiven F.Files S.Callbacks f owner env b order all
+        → IsTheList S.Callbacks owner env b order tree all }
+{
+    one_outside();
+}
 
 /// The headline over a tree in memory, with no premise on the walk left: a finished walk has
 /// yielded the one list of the definition, where the builder has no order and no filter (`plain`);

@@ -14,12 +14,7 @@ is_partial (several ps) = true
 is_partial (at_line line p) = is_partial p
 is_partial (at_path path p) = is_partial p
 is_partial (at_depth depth p) = is_partial p
-is_partial (loop ancestor child) = false
-is_partial (io fault) = false
-is_partial (glob pattern err) = false
-is_partial (unrecognized name) = false
-is_partial invalid_definition = false
-is_partial memory = false
+is_partial _ = false
 
 abbrev mutual
   -- the fault of a problem: its own, maybe at a line, a path or a depth, or that of its only member
@@ -48,16 +43,9 @@ without_fault (Some p) = if is_some (io_fault p) then None else Some p
 
 -- the depth of a problem, maybe at a path
 abbrev pub depth_of : Problem → Option ℕ
-depth_of (several ps) = None
-depth_of (at_line line p) = None
 depth_of (at_path path p) = depth_of p
 depth_of (at_depth depth p) = Some depth
-depth_of (loop ancestor child) = None
-depth_of (io fault) = None
-depth_of (glob pattern err) = None
-depth_of (unrecognized name) = None
-depth_of invalid_definition = None
-depth_of memory = None
+depth_of _ = None
 
 -- what is wrong with a glob, after the glob itself where it is known
 abbrev pub glob_text : Option Bytes → Bytes → Bytes

@@ -53,7 +53,7 @@ problem_of = fold-Error Problem problem_step
 
 -- none for no problem, the problem itself for one, else several, with all of them in order: a
 -- member that is several itself stays one member
-abbrev pub joined : List Problem → Option Problem
-joined [] = None
-joined (one ∷ []) = Some one
-joined (one ∷ (two ∷ more)) = Some (several (problems_of (one ∷ (two ∷ more))))
+abbrev pub joined_problems : List Problem → Option Problem
+joined_problems [] = None
+joined_problems (one ∷ []) = Some one
+joined_problems (one ∷ (two ∷ more)) = Some (several (problems_of (one ∷ (two ∷ more))))

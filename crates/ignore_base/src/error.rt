@@ -2,7 +2,7 @@
 ghost use Rattle.std.specs.Prelude.{◌≡◌, IfOk, is_some, map, option_map};
 ghost use Rattle.std.specs.Option.{option_copied};
 ghost use Rattle.ignore_base.specs.Errors.{is_partial, io_fault, depth_of, without_fault};
-ghost use Rattle.ignore_base.specs.Problem.{problem_of, at_path, joined};
+ghost use Rattle.ignore_base.specs.Problem.{problem_of, at_path, joined_problems};
 
 mod clone;
 mod display;
@@ -137,7 +137,7 @@ impl Error {
     ///
     /// For dependents; no part of the surface of `ignore`.
     pub fn joined(mut errors: Vec<Error>) -> Option<Error>
-        ensures { option_map problem_of result ≡ joined (map problem_of errors.items) }
+        ensures { option_map problem_of result ≡ joined_problems (map problem_of errors.items) }
     {
         if errors.len() < 2 {
             return errors.pop();

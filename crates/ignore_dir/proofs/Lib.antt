@@ -1,10 +1,13 @@
 pub mod AboveLemmas
 pub mod ChainLemmas
 pub mod LoadLemmas
+pub mod LoadsByLemmas
+pub mod LoadsByTree
 pub mod LoadsOnly
 pub mod PathLemmas
 pub mod SlashLemmas
 pub mod SoftLemmas
 pub mod WholeLemmas
+pub mod WorkedLoads
 pub mod WorkedProblems
 pub mod WorkedQueries

@@ -7,7 +7,7 @@ use Rattle.std.specs.Option.{option_to_list}
 use Rattle.std.specs.Prelude.{codes, ◌&&◌, ◌||◌, Result, Ok, Err, is_ok, cond}
 use Rattle.ignore_base.specs.declared.fault.Fault.{Fault}
 use Rattle.ignore_base.specs.Paths.{join_of}
-use Rattle.ignore_base.specs.Problem.{Problem, joined}
+use Rattle.ignore_base.specs.Problem.{Problem, joined_problems}
 use Rattle.ignore_files.specs.Tree.{Tree}
 use Rattle.ignore_files.specs.Whole.{IsAbsent, is_found}
 use Rattle.ignore_files.specs.declared.types.Metadata.{Metadata}
@@ -20,7 +20,7 @@ use Rattle.ignore_dir.specs.Exclude.{Place, excludes_in, by_git_file, exclude_by
 use Rattle.ignore_dir.specs.Load.{is_there, AddsPresent, AddsFiles, started, IsRules, IsExclude}
 
 -- one problem at most, as one
-joined_one : (reported : Option Problem) → reported ≡ joined (option_to_list reported ++ [])
+joined_one : (reported : Option Problem) → reported ≡ joined_problems (option_to_list reported ++ [])
 joined_one None = refl
 joined_one (Some problem) = refl
 

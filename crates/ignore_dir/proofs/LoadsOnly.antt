@@ -3,7 +3,7 @@
 use Rattle.std.proofs.Common.{◌≡◌, ℕ, Bool, true, false, List, [], ◌∷◌, ◌++◌, Option, Some, None, Ok, Err, refl, sym, ap, ◌∙◌, subst, codes}
 use Rattle.std.specs.Option.{option_to_list}
 use Rattle.ignore_base.specs.Errors.{without_fault}
-use Rattle.ignore_base.specs.Problem.{Problem, joined}
+use Rattle.ignore_base.specs.Problem.{Problem, joined_problems}
 use Rattle.ignore_files.specs.Tree.{Tree}
 use Rattle.ignore_rules.specs.RuleFile.{AddsOneThing, AddsSomething}
 use Rattle.ignore_rules.specs.Rules.{Building, Ruleset, built, empty}
@@ -40,7 +40,7 @@ IsRules-one law tree s dir paths a b p q h k =
     let same = AddsFiles-one law tree paths (started s dir) h.filled k.filled h.problems k.problems h.adds k.adds in (
       h.builds ∙ (ap (λ (x : Building). built x) same.0 ∙ sym k.builds),
       h.reports
-          ∙ (ap (λ (x : List Problem). joined x) same.1 ∙ sym k.reports),
+          ∙ (ap (λ (x : List Problem). joined_problems x) same.1 ∙ sym k.reports),
     )
 
 IsExclude-one : AddsOneThing → (tree : Tree) (s : Settings) (dir : List ℕ) (place : Place) (a b : Ruleset)
@@ -124,7 +124,7 @@ IsRules-some : AddsSomething → (tree : Tree) (s : Settings) (dir : List ℕ) (
     → (rules : Ruleset) × (reported : Option Problem) × IsRules tree s dir paths rules reported
 IsRules-some law tree s dir paths =
     let all = AddsFiles-some law tree paths (started s dir) in
-    (built all.0, joined all.1, record { filled = all.0; problems = all.1; adds = all.2; builds = refl; reports = refl })
+    (built all.0, joined_problems all.1, record { filled = all.0; problems = all.1; adds = all.2; builds = refl; reports = refl })
 
 IsExclude-some : AddsSomething → (tree : Tree) (s : Settings) (dir : List ℕ) (place : Place)
     → (rules : Ruleset) × (reported : Option Problem) × IsExclude tree s dir place rules reported

@@ -5,7 +5,7 @@ use Rattle.std.proofs.lemmas.List.Elements.{All-head, All-tail}
 use Rattle.std.specs.List.{filter_map}
 use Rattle.std.specs.Option.{option_to_list, is_some}
 use Rattle.ignore_base.specs.Errors.{io_fault}
-use Rattle.ignore_base.specs.Problem.{Problem, joined, problems_of, io}
+use Rattle.ignore_base.specs.Problem.{Problem, joined_problems, problems_of, io}
 use Rattle.ignore_files.specs.declared.types.Contents.{Contents}
 use Rattle.ignore_files.specs.declared.types.Refusal.{Refusal}
 use Rattle.ignore_files.specs.declared.types.Refusal.TheVariants.{Memory}
@@ -42,7 +42,7 @@ any_soft : (ps : List Problem) → AllSoft ps → some_holds (problems_of ps) �
 any_soft [] h = refl
 any_soft (p ∷ ps) h = ap (λ b. b || some_holds (problems_of ps)) h.0 ∙ any_soft ps h.1
 
-pub joined-soft : (ps : List Problem) → AllSoft ps → IsSoft (joined ps)
+pub joined-soft : (ps : List Problem) → AllSoft ps → IsSoft (joined_problems ps)
 joined-soft [] h = tt
 joined-soft (p ∷ []) h = h.0
 joined-soft (p ∷ (q ∷ ps)) h = any_soft (p ∷ (q ∷ ps)) h

@@ -14,7 +14,7 @@ use Rattle.ignore_dir.specs.Above.{directories_along, dirs_above, kept_above, na
 use Rattle.ignore_dir.specs.Chains.{placed_along, slashed}
 use Rattle.ignore_dir.specs.Lists.{Asked, Placed, asked_in}
 use Rattle.ignore_dir.specs.Query.{ancestors, is_ignored, problems_below, rules_verdict}
-use Rattle.ignore_dir.specs.Scene.{Scene, asked_along, chain, dirs_at, dirs_to, path_verdict}
+use Rattle.ignore_dir.specs.Scene.{QueryScene, asked_along, chain, dirs_at, dirs_to, path_verdict}
 use Rattle.ignore_dir.specs.Steps.{Reached, entered, entry, problems_from, reached_in, verdict_at, verdict_from}
 use Rattle.ignore_dir.specs.Verdict.{is_ignore, placed_verdict, verdict}
 use Rattle.ignore_dir.proofs.AboveLemmas.{directories_along-more, length-directories, path_along-more}
@@ -148,22 +148,22 @@ chain-more dirs names name dir e =
 
 -- What is reached in a directory below a root.
 
-abbrev above_of : Scene → List Dir
+abbrev above_of : QueryScene → List Dir
 above_of g = dirs_above g.loads g.settings (paths_above g.tree g.settings g.root)
 
-abbrev base_of : Scene → List (List ℕ)
+abbrev base_of : QueryScene → List (List ℕ)
 base_of g = names_above g.tree g.settings g.root
 
 -- the directories from `/` to the one with these names, that one included
-abbrev dirs_in : Scene → List (List ℕ) → List Dir
+abbrev dirs_in : QueryScene → List (List ℕ) → List Dir
 dirs_in g front = above_of g ++ dirs_at g.loads (directories_along g.root front ++ path_along g.root front ∷ [])
 
-length-above : (g : Scene) → length (above_of g) ≡ length (base_of g)
+length-above : (g : QueryScene) → length (above_of g) ≡ length (base_of g)
 length-above g =
     length-map (paths_above g.tree g.settings g.root) (λ path. kept_above g.settings (g.loads path).0)
     ∙ length-directories (47 ∷ []) (base_of g)
 
-length-in : (g : Scene) (front : List (List ℕ)) → length (dirs_in g front) ≡ length (base_of g ++ front) + 1
+length-in : (g : QueryScene) (front : List (List ℕ)) → length (dirs_in g front) ≡ length (base_of g ++ front) + 1
 length-in g front =
     let paths = directories_along g.root front ++ path_along g.root front ∷ [] in
     let a : length (dirs_in g front) ≡ length (above_of g) + length (dirs_at g.loads paths) =
@@ -176,10 +176,10 @@ length-in g front =
     let h = length-above g in
     omega arith
 
-dirs_in-to : (g : Scene) (front : List (List ℕ)) (n : List ℕ) → dirs_in g front ≡ dirs_to g (front ++ n ∷ [])
+dirs_in-to : (g : QueryScene) (front : List (List ℕ)) (n : List ℕ) → dirs_in g front ≡ dirs_to g (front ++ n ∷ [])
 dirs_in-to g front n = ap (λ (paths : List (List ℕ)). above_of g ++ dirs_at g.loads paths) (sym (directories_along-more g.root front n))
 
-dirs_in-more : (g : Scene) (front : List (List ℕ)) (n : List ℕ)
+dirs_in-more : (g : QueryScene) (front : List (List ℕ)) (n : List ℕ)
     → dirs_in g (front ++ n ∷ []) ≡ dirs_in g front ++ (g.loads (path_along g.root (front ++ n ∷ []))).0 ∷ []
 dirs_in-more g front n =
     let path = path_along g.root (front ++ n ∷ []) in
@@ -194,7 +194,7 @@ same_reached : (a b : List Placed) (t u p q : List ℕ) → a ≡ b → t ≡ u 
 same_reached a b t u p q d e f = rw (d, e, f) refl
 
 -- the directory that is entered by a name
-pub entered-in : (g : Scene) (front : List (List ℕ)) (n : List ℕ)
+pub entered-in : (g : QueryScene) (front : List (List ℕ)) (n : List ℕ)
     → entered g.loads (entry (reached_in g front) n) ≡ reached_in g (front ++ n ∷ [])
 entered-in g front n =
     let names = base_of g ++ front in
@@ -216,7 +216,7 @@ entered-in g front n =
     same_reached _ _ _ _ _ _ chain (grown ∙ ap (λ (l : List (List ℕ)). 47 ∷ slashed l) (sym more)) at
 
 -- the chain of an entry, asked about its text, is its whole chain
-pub chain-in : (g : Scene) (front : List (List ℕ)) (n : List ℕ)
+pub chain-in : (g : QueryScene) (front : List (List ℕ)) (n : List ℕ)
     → asked_in ((reached_in g front).text ++ n) (reached_in g front).chain ≡ chain g (front ++ n ∷ [])
 chain-in g front n =
     let names = base_of g ++ front in
@@ -225,14 +225,14 @@ chain-in g front n =
     ∙ ap (λ (l : List (List ℕ)). reverse (asked_along (dirs_to g (front ++ n ∷ [])) l)) (append_assoc (base_of g) front (n ∷ [])))
 
 -- the verdict on an entry is that over its whole chain
-pub verdict-in : (g : Scene) (front : List (List ℕ)) (n : List ℕ) (is_dir : Bool)
+pub verdict-in : (g : QueryScene) (front : List (List ℕ)) (n : List ℕ) (is_dir : Bool)
     → verdict_at g.settings g.outside (entry (reached_in g front) n) is_dir ≡ path_verdict g (front ++ n ∷ []) is_dir
 unfolding placed_verdict path_verdict
 verdict-in g front n is_dir =
     ap (λ (l : List Asked). verdict g.settings g.outside l (join_of (path_along g.root front) n) is_dir) (chain-in g front n)
     ∙ ap (λ p. verdict g.settings g.outside (chain g (front ++ n ∷ [])) p is_dir) (sym (path_along-more g.root front n))
 
-ignored-in : (g : Scene) (front : List (List ℕ)) (n : List ℕ)
+ignored-in : (g : QueryScene) (front : List (List ℕ)) (n : List ℕ)
     → is_ignore (verdict_at g.settings g.outside (entry (reached_in g front) n) true) ≡ is_ignored g (front ++ n ∷ [])
 unfolding is_ignored
 ignored-in g [] n = ap is_ignore (verdict-in g [] n true)
@@ -244,7 +244,7 @@ pick false x i y z h = h
 
 -- The whole answer.
 
-verdict-from : (g : Scene) (is_dir : Bool) (front : List (List ℕ)) (n : List ℕ) (ns : List (List ℕ))
+verdict-from : (g : QueryScene) (is_dir : Bool) (front : List (List ℕ)) (n : List ℕ) (ns : List (List ℕ))
     → cond (list_any (λ q. is_ignored g (front ++ n ∷ q)) (ancestors ns)) Ignore (path_verdict g (front ++ n ∷ ns) is_dir)
     ≡ verdict_from g.loads g.settings g.outside is_dir (reached_in g front) (n ∷ ns)
 unfolding verdict_from
@@ -269,7 +269,7 @@ verdict-from g is_dir front n (m ∷ ms) =
     ∙ ap (λ b. cond b Ignore rest) (sym (ignored-in g front n))
 
 -- what the rules say of a path is what they say one name at a time
-pub rules_verdict-is : (g : Scene) (is_dir : Bool) (n : List ℕ) (ns : List (List ℕ))
+pub rules_verdict-is : (g : QueryScene) (is_dir : Bool) (n : List ℕ) (ns : List (List ℕ))
     → rules_verdict g (n ∷ ns) is_dir ≡ verdict_from g.loads g.settings g.outside is_dir (reached_in g []) (n ∷ ns)
 unfolding rules_verdict is_ignored
 rules_verdict-is g is_dir n ns =
@@ -277,7 +277,7 @@ rules_verdict-is g is_dir n ns =
     ∙ verdict-from g is_dir [] n ns
 
 -- the problem of the load of the directory with these names
-abbrev problem_in : Scene → List (List ℕ) → Option Problem
+abbrev problem_in : QueryScene → List (List ℕ) → Option Problem
 problem_in g front = (g.loads (path_along g.root front)).1
 
 one_more : (b : Bool) (x : List (List ℕ)) (xs : List (List (List ℕ))) (f : List (List ℕ)
@@ -286,7 +286,7 @@ one_more : (b : Bool) (x : List (List ℕ)) (xs : List (List (List ℕ))) (f : L
 one_more true x xs f y ys h k = refl
 one_more false x xs f y ys h k = ap (λ z. z ∷ map f xs) h ∙ ap (λ l. y ∷ l) k
 
-problems-from : (g : Scene) (front : List (List ℕ)) (n : List ℕ) (ns : List (List ℕ))
+problems-from : (g : QueryScene) (front : List (List ℕ)) (n : List ℕ) (ns : List (List ℕ))
     → map (λ q. problem_in g (front ++ n ∷ q)) (take_while (λ q. not (is_ignored g (front ++ n ∷ q))) (ancestors ns))
     ≡ problems_from g.loads g.settings g.outside (reached_in g front) (n ∷ ns)
 unfolding problems_from
@@ -315,7 +315,7 @@ problems-from g front n (m ∷ ms) =
     (sym (ignored-in g front n)))
 
 -- the problems on the way are those one name at a time
-pub problems_below-is : (g : Scene) (n : List ℕ) (ns : List (List ℕ))
+pub problems_below-is : (g : QueryScene) (n : List ℕ) (ns : List (List ℕ))
     → problems_below g (n ∷ ns) ≡ (g.loads g.root).1 ∷ problems_from g.loads g.settings g.outside (reached_in g []) (n ∷ ns)
 unfolding problems_below is_ignored
 problems_below-is g n ns =
@@ -326,7 +326,7 @@ problems_below-is g n ns =
     (map-map (problem_in g) (λ q. n ∷ q) (take_while (λ q. p (n ∷ q)) (ancestors ns)) ∙ problems-from g [] n ns)
 
 -- what is reached at the root, where the directories above it were placed
-pub root-reached : (g : Scene) (dirs : List Placed) (text path : List ℕ)
+pub root-reached : (g : QueryScene) (dirs : List Placed) (text path : List ℕ)
     → dirs ≡ placed_along 1 (above_of g) (base_of g) ++ ((g.loads g.root).0, length text) ∷ []
     → text ≡ 47 ∷ slashed (base_of g) → path ≡ g.root
     → let at : Reached = record { chain = reverse dirs; text = text; path = path } in

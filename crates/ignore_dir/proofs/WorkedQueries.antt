@@ -3,7 +3,7 @@ use Rattle.std.proofs.Common.{◌≡◌, true, false, List, [], ◌∷◌, codes
 use Rattle.ignore_dir.specs.declared.dir.Dir.{Dir}
 use Rattle.ignore_dir.specs.Limits.{is_above, is_below, is_deepest}
 use Rattle.ignore_dir.specs.Lists.{Asked}
-use Rattle.ignore_dir.specs.Query.{ancestors, depth_of, is_asked}
+use Rattle.ignore_dir.specs.Query.{ancestors, depth_of_path, is_asked}
 use Rattle.ignore_dir.specs.Scene.{asked_along}
 
 -- the proper ancestors of `a/b` are the root and `a`
@@ -22,8 +22,8 @@ pub not_asked : (is_asked (codes "/t") (codes "./foo") ≡ false) × (is_asked (
 not_asked = (refl, refl, refl, refl, refl)
 
 -- `a/b/c` and the empty path are, at the depths 3 and 0
-pub asked_at : (is_asked (codes "/t") (codes "a/b/c") ≡ true) × (depth_of (codes "a/b/c") ≡ 3)
-    × (is_asked (codes "/t") [] ≡ true) × (depth_of [] ≡ 0)
+pub asked_at : (is_asked (codes "/t") (codes "a/b/c") ≡ true) × (depth_of_path (codes "a/b/c") ≡ 3)
+    × (is_asked (codes "/t") [] ≡ true) × (depth_of_path [] ≡ 0)
 asked_at = (refl, refl, refl, refl)
 
 -- between the depths 2 and 3: 1 is above them, 3 the greatest, and 4 below

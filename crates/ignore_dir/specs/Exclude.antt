@@ -16,14 +16,14 @@ abbrev pub Place : Type 0
 Place = Result (Option Path) Problem
 
 -- a fault on the way, reported at a path
-abbrev pub failed_at : Path → Fault → Place
-failed_at path fault = Err (at_path path (io fault))
+abbrev pub stopped_at : Path → Fault → Place
+stopped_at path fault = Err (at_path path (io fault))
 
 -- the first line of a file leads on; where the file has no line, the way leads nowhere
 abbrev pub by_line : Path → (Bytes → Place) → Result (Option Bytes) Fault → Place
 by_line path next (Ok None) = Ok None
 by_line path next (Ok (Some line)) = next line
-by_line path next (Err fault) = failed_at path fault
+by_line path next (Err fault) = stopped_at path fault
 
 -- the exclude file in the folder of a repository
 abbrev pub excludes_in : Path → Place
@@ -50,7 +50,7 @@ by_gitdir tree line =
 -- the contents of a `.git` file lead to a folder
 abbrev pub by_git_file : Tree → Path → Result Contents Fault → Place
 by_git_file tree git (Ok contents) = by_line git (by_gitdir tree) (first_line contents)
-by_git_file tree git (Err fault) = failed_at git fault
+by_git_file tree git (Err fault) = stopped_at git fault
 
 -- the exclude file of the repository with this `.git`: inside it, unless it is a file, which says
 -- where the repository is. With `.git` the file of one line `gitdir: /g/w`, and `/g/w/commondir` of

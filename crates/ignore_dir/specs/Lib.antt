@@ -6,6 +6,7 @@ pub mod Limits
 pub mod Lists
 pub mod Places
 pub mod Load
+pub mod LoadsBy
 pub mod Query
 pub mod Scene
 pub mod Soft

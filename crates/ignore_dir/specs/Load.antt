@@ -7,7 +7,7 @@ use Rattle.std.specs.Option.{option_to_list}
 use Rattle.ignore_base.specs.Text.{Path}
 use Rattle.ignore_base.specs.Errors.{without_fault}
 use Rattle.ignore_base.specs.Paths.{join_of}
-use Rattle.ignore_base.specs.Problem.{Problem, joined}
+use Rattle.ignore_base.specs.Problem.{Problem, joined_problems}
 use Rattle.ignore_files.specs.Tree.{Tree}
 use Rattle.ignore_rules.specs.RuleFile.{AddsFile}
 use Rattle.ignore_rules.specs.Rules.{Building, Ruleset, begun, built, empty, with_case_insensitive, with_git_trailing_spaces}
@@ -45,7 +45,7 @@ pub record IsRules (tree : Tree) (s : Settings) (dir : Path) (paths : List Path)
   pub problems : List Problem
   pub adds : AddsFiles tree paths (started s dir) filled problems
   pub builds : rules ≡ built filled
-  pub reports : reported ≡ joined problems
+  pub reports : reported ≡ joined_problems problems
 
 -- the rules of the exclude file, if there is one; a problem on the way to it is reported
 abbrev pub IsExclude : Tree → Settings → Path → Place → Ruleset → Option Problem → Type 0
@@ -73,7 +73,7 @@ is_marked tree s dir =
 
 -- the problems that there are, as one
 abbrev pub joined_some : List (Option Problem) → Option Problem
-joined_some problems = joined (filter_map (λ problem. problem) problems)
+joined_some problems = joined_problems (filter_map (λ problem. problem) problems)
 
 -- a directory was loaded: each rule list is that of its files, the mark is right, and the problems
 -- of the four lists are joined in their order

@@ -16,7 +16,7 @@ use Rattle.ignore_dir.specs.declared.verdict.Verdict.TheVariants as v
 use Rattle.ignore_dir.specs.Above.{path_along, paths_above, problems_of_loads}
 use Rattle.ignore_dir.specs.Limits.{beyond, is_beyond, limited, no_match, size_limit, size_problem, sized}
 use Rattle.ignore_dir.specs.Load.{joined_some}
-use Rattle.ignore_dir.specs.Scene.{Scene, path_verdict}
+use Rattle.ignore_dir.specs.Scene.{QueryScene, path_verdict}
 use Rattle.ignore_dir.specs.Verdict.{is_ignore}
 
 -- the path is clean: it is empty, or each of its components is a name
@@ -33,8 +33,8 @@ names_of [] = []
 names_of (b ∷ bs) = components (b ∷ bs)
 
 -- how many names a clean path has
-abbrev pub depth_of : Path → ℕ
-depth_of path = length (names_of path)
+abbrev pub depth_of_path : Path → ℕ
+depth_of_path path = length (names_of path)
 
 -- the metadata is that of a directory
 abbrev pub is_dir_there : Result Metadata Fault → Bool
@@ -52,48 +52,48 @@ ancestors [] = []
 ancestors (name ∷ names) = [] ∷ map (λ front. name ∷ front) (ancestors names)
 
 -- the directory with these names is ignored; the root never is
-unfoldable pub is_ignored : Scene → List Bytes → Bool
+unfoldable pub is_ignored : QueryScene → List Bytes → Bool
 is_ignored g [] = false
 is_ignored g (name ∷ names) = is_ignore (path_verdict g (name ∷ names) true)
 
 -- what the rules say of a path of these names: it is ignored below an ignored directory; else its
 -- own verdict decides
-unfoldable pub rules_verdict : Scene → List Bytes → Bool → Verdict
+unfoldable pub rules_verdict : QueryScene → List Bytes → Bool → Verdict
 rules_verdict g names is_dir = if list_any (is_ignored g) (ancestors names) then v.Ignore else path_verdict g names is_dir
 
 -- the directories from the root down that are loaded for a path: its proper ancestors up to the
 -- first ignored one, that one left out
-abbrev pub loaded_for : Scene → List Bytes → List (List Bytes)
+abbrev pub loaded_for : QueryScene → List Bytes → List (List Bytes)
 loaded_for g names = take_while (λ front. not (is_ignored g front)) (ancestors names)
 
 -- the problem of the load of each of them, if any
-unfoldable pub problems_below : Scene → List Bytes → List (Option Problem)
+unfoldable pub problems_below : QueryScene → List Bytes → List (Option Problem)
 problems_below g names = map (λ front. (g.loads (path_along g.root front)).1) (loaded_for g names)
 
 -- the problem of loading what is above the root: those of its directories from `/` down, as one
-abbrev pub problem_above : Scene → Option Problem
+abbrev pub problem_above : QueryScene → Option Problem
 problem_above g = joined_some (problems_of_loads g.loads (paths_above g.tree g.settings g.root))
 
 -- the greatest size of a path by what the rules say of it, if it has one
-abbrev pub limit_of : Scene → Path → Bool → Option ℕ
+abbrev pub limit_of : QueryScene → Path → Bool → Option ℕ
 limit_of g path is_dir = size_limit g.settings is_dir (rules_verdict g (names_of path) is_dir)
 
 -- the metadata by which the size of a path is judged
-abbrev pub size_of : Scene → Path → Result Metadata Fault
+abbrev pub size_of : QueryScene → Path → Result Metadata Fault
 size_of g path = g.tree.stat (join_of g.root path) g.settings.follow_links
 
 -- the problem of a query that the rules decide: that of what is above the root, those of the
 -- directories that are loaded from the root down, and that of the size
-unfoldable pub problem_of_rules : Scene → Path → Bool → Option Problem
+unfoldable pub problem_of_rules : QueryScene → Path → Bool → Option Problem
 problem_of_rules g path is_dir =
     joined_some
     (problem_above g
     ∷ (problems_below g (names_of path) ++ size_problem (join_of g.root path) (limit_of g path is_dir) (size_of g path) ∷ []))
 
 -- the answer that the rules give, with its problem, if any
-unfoldable pub answer_of_rules : Scene → Path → Bool → IncrementalMatch × Option Problem
+unfoldable pub answer_of_rules : QueryScene → Path → Bool → IncrementalMatch × Option Problem
 answer_of_rules g path is_dir = (
-  limited g.settings (depth_of path) is_dir
+  limited g.settings (depth_of_path path) is_dir
       (sized (limit_of g path is_dir) (size_of g path) (rules_verdict g (names_of path) is_dir)),
   problem_of_rules g path is_dir,
 )
@@ -101,9 +101,9 @@ answer_of_rules g path is_dir = (
 -- the answer of a query, with its problem, if any: for the root `-` and paths that aren't clean no
 -- match; then what is beyond the limits on depth; then no match for the root itself, and for all
 -- paths where the root is no directory; else the rules decide
-unfoldable pub query : Scene → Path → Bool → IncrementalMatch × Option Problem
+unfoldable pub query : QueryScene → Path → Bool → IncrementalMatch × Option Problem
 query g path is_dir =
     if not (is_asked g.root path) then (no_match is_dir, None)
-    else if is_beyond g.settings (depth_of path) is_dir then (beyond, None)
+    else if is_beyond g.settings (depth_of_path path) is_dir then (beyond, None)
     else if has_rules g.tree g.root path then answer_of_rules g path is_dir
-    else (limited g.settings (depth_of path) is_dir v.None, None)
+    else (limited g.settings (depth_of_path path) is_dir v.None, None)

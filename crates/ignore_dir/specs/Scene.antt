@@ -14,7 +14,7 @@ use Rattle.ignore_dir.specs.Verdict.{verdict}
 
 -- what stays the same for all queries below a root: the tree, the loads of its directories, the
 -- settings, the rules from outside, and the root
-pub record Scene : Type 0 where
+pub record QueryScene : Type 0 where
   pub tree : Tree
   pub loads : Path → Loaded
   pub settings : Settings
@@ -22,7 +22,7 @@ pub record Scene : Type 0 where
   pub root : Path
 
 -- a scene of these
-abbrev pub scene : Tree → (Path → Loaded) → Settings → Outside → Path → Scene
+abbrev pub scene : Tree → (Path → Loaded) → Settings → Outside → Path → QueryScene
 scene tree loads s outside root = record { tree = tree; loads = loads; settings = s; outside = outside; root = root }
 
 -- what the directories at these paths hold
@@ -38,19 +38,19 @@ asked_along (dir ∷ dirs) (name ∷ names) = (dir, joined (name ∷ names)) ∷
 
 -- what counts of the directories on the way to a path of these names: those above the root from `/`
 -- down, then the root and those below it
-abbrev pub dirs_to : Scene → List Bytes → List Dir
+abbrev pub dirs_to : QueryScene → List Bytes → List Dir
 dirs_to g names =
     dirs_above g.loads g.settings (paths_above g.tree g.settings g.root) ++ dirs_at g.loads (directories_along g.root names)
 
 -- the names on that way: to the root from `/`, as far as they are known, and then those of the path
-abbrev pub names_to : Scene → List Bytes → List Bytes
+abbrev pub names_to : QueryScene → List Bytes → List Bytes
 names_to g names = names_above g.tree g.settings g.root ++ names
 
 -- the chain of a path of these names: the directories on the way to it, the nearest first, each
 -- asked about the names past it
-abbrev pub chain : Scene → List Bytes → List Asked
+abbrev pub chain : QueryScene → List Bytes → List Asked
 chain g names = reverse (asked_along (dirs_to g names) (names_to g names))
 
 -- the verdict on a path of these names
-unfoldable pub path_verdict : Scene → List Bytes → Bool → Verdict
+unfoldable pub path_verdict : QueryScene → List Bytes → Bool → Verdict
 path_verdict g names is_dir = verdict g.settings g.outside (chain g names) (path_along g.root names) is_dir

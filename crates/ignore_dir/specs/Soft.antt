@@ -12,12 +12,8 @@ abbrev mutual
   holds_memory (at_line line p) = holds_memory p
   holds_memory (at_path path p) = holds_memory p
   holds_memory (at_depth depth p) = holds_memory p
-  holds_memory (loop ancestor child) = false
-  holds_memory (io fault) = false
-  holds_memory (glob pattern err) = false
-  holds_memory (unrecognized name) = false
-  holds_memory invalid_definition = false
   holds_memory memory = true
+  holds_memory _ = false
 
   -- one of the problems is out of memory, or one inside it is
   pub some_holds : Problems → Bool

@@ -11,7 +11,7 @@ use Rattle.ignore_dir.specs.Above.{directories_along, dirs_above, path_along, pa
 use Rattle.ignore_dir.specs.Chains.{placed_along, slashed}
 use Rattle.ignore_dir.specs.Lists.{Placed}
 use Rattle.ignore_dir.specs.Load.{Loaded}
-use Rattle.ignore_dir.specs.Scene.{Scene, dirs_at, names_to}
+use Rattle.ignore_dir.specs.Scene.{QueryScene, dirs_at, names_to}
 use Rattle.ignore_dir.specs.Verdict.{is_ignore, placed_verdict}
 
 -- how far a query has come: the chain of directories, the text that they are asked about, and the
@@ -22,7 +22,7 @@ pub record Reached : Type 0 where
   pub path : Path
 
 -- what is reached in the directory with these names below the root, with all on the way loaded
-abbrev pub reached_in : Scene → List Bytes → Reached
+abbrev pub reached_in : QueryScene → List Bytes → Reached
 reached_in g front =
     let above = dirs_above g.loads g.settings (paths_above g.tree g.settings g.root) in
     let below = dirs_at g.loads (directories_along g.root front ++ path_along g.root front ∷ []) in

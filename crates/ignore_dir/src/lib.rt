@@ -3,6 +3,7 @@
 #![tactic(auto)]
 
 pub mod above;
+mod answers;
 mod dir;
 pub mod errors;
 pub mod exclude;

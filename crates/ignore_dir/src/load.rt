@@ -1,15 +1,19 @@
 //! The load of one directory.
-ghost use Rattle.std.specs.Prelude.{◌≡◌, [], ◌∷◌, codes, true, IfOk, None, Ok, option_map, if◌then◌else◌};
+ghost use Rattle.std.specs.Prelude.{◌≡◌, ◌||◌, [], ◌∷◌, codes, true, IfOk, None, Ok, Result, is_ok, option_map, if◌then◌else◌};
 ghost use Rattle.ignore_base.specs.Paths.{join_of};
 ghost use Rattle.ignore_base.specs.Problem.{problem_of};
+ghost use Rattle.ignore_base.specs.declared.fault.Fault.{Fault};
 ghost use Rattle.ignore_files.specs.Shown.{Shows};
+ghost use Rattle.ignore_files.specs.declared.types.Metadata.{Metadata};
 ghost use Rattle.ignore_rules.specs.Matchers.{is_file_there};
-ghost use Rattle.ignore_dir.specs.Exclude.{exclude_place, exclude_by};
+ghost use Rattle.ignore_dir.specs.Exclude.{Place, exclude_place, exclude_by};
 ghost use Rattle.ignore_dir.specs.Ground.{InTree};
 ghost use Rattle.ignore_dir.specs.Load.{Loads, IsExclude, IsRules, custom_paths, path_if, is_marked, is_there, joined_some, needs_marks};
+ghost use Rattle.ignore_dir.specs.LoadsBy.{AreExcludesBy, AreRulesBy, IsGitBy, IsMarkBy, LeadsIf, LoadsBy, reads_of, stats_of, stats_shown};
 ghost use Rattle.ignore_dir.specs.Places.{place_of};
 ghost use Rattle.ignore_dir.specs.Soft.{IsSoft, IsSoftPlace};
 
+use crate::answers::stat_of;
 use crate::dir::Dir;
 use crate::errors::push_some;
 use crate::exclude::{ExcludePlace, by_git_file, excludes_in};
@@ -19,7 +23,7 @@ use crate::settings::Settings;
 use ignore_base::Error;
 use ignore_base::internal::join;
 use ignore_files::Files;
-use ignore_files::internal::{Shown, answered};
+use ignore_files::internal::Shown;
 use ignore_rules::gitignore::Gitignore;
 use std::alloc::{AllocError, Global};
 
@@ -35,6 +39,8 @@ pub fn load_directory<F: Files>(
 ) -> Result<(Dir, Option<Error>), AllocError>
     ensures read { InTree F.Files ground.now (λ tree.
         IfOk result (λ r. Loads tree ground.now.settings.now dir.now r.0 (option_map problem_of r.1))) }
+    ensures answered { IfOk result (λ r. LoadsBy (stats_of F.Files ground.now.files.now) (reads_of F.Files ground.now.files.now)
+        ground.now.settings.now dir.now r.0 (option_map problem_of r.1)) }
     ensures soft { IfOk result (λ r. IsSoft (option_map problem_of r.1)) }
 {
     load_shown(ground, dir, &Shown::nothing())
@@ -50,6 +56,8 @@ pub fn load_shown<F: Files>(
 ) -> Result<(Dir, Option<Error>), AllocError>
     ensures read { InTree F.Files ground.now (λ tree. Shows tree dir.now shown.now →
         IfOk result (λ r. Loads tree ground.now.settings.now dir.now r.0 (option_map problem_of r.1))) }
+    ensures answered { IfOk result (λ r. LoadsBy (stats_shown F.Files ground.now.files.now dir.now shown.now) (reads_of F.Files ground.now.files.now)
+        ground.now.settings.now dir.now r.0 (option_map problem_of r.1)) }
     ensures soft { IfOk result (λ r. IsSoft (option_map problem_of r.1)) }
 {
     let own = own_rules(ground, dir, shown)?;
@@ -96,6 +104,13 @@ fn own_rules<F: Files>(
     ensures gitignore { InTree F.Files ground.now (λ tree. Shows tree dir.now shown.now →
         IfOk result (λ own. IsRules tree ground.now.settings.now dir.now (path_if ground.now.settings.now.git_ignore dir.now (codes ".gitignore"))
         own.gitignore (option_map problem_of own.of_gitignore))) }
+    ensures custom_answered { IfOk result (λ own. AreRulesBy (stats_shown F.Files ground.now.files.now dir.now shown.now) (reads_of F.Files ground.now.files.now)
+        ground.now.settings.now dir.now (custom_paths ground.now.settings.now dir.now) own.custom (option_map problem_of own.of_custom)) }
+    ensures ignore_answered { IfOk result (λ own. AreRulesBy (stats_shown F.Files ground.now.files.now dir.now shown.now) (reads_of F.Files ground.now.files.now)
+        ground.now.settings.now dir.now (path_if ground.now.settings.now.ignore dir.now (codes ".ignore")) own.ignore (option_map problem_of own.of_ignore)) }
+    ensures gitignore_answered { IfOk result (λ own. AreRulesBy (stats_shown F.Files ground.now.files.now dir.now shown.now) (reads_of F.Files ground.now.files.now)
+        ground.now.settings.now dir.now (path_if ground.now.settings.now.git_ignore dir.now (codes ".gitignore"))
+        own.gitignore (option_map problem_of own.of_gitignore)) }
     ensures soft_custom { IfOk result (λ own. IsSoft (option_map problem_of own.of_custom)) }
     ensures soft_ignore { IfOk result (λ own. IsSoft (option_map problem_of own.of_ignore)) }
     ensures soft_gitignore { IfOk result (λ own. IsSoft (option_map problem_of own.of_gitignore)) }
@@ -135,6 +150,10 @@ fn git_rules<F: Files>(
     ensures exclude { InTree F.Files ground.now (λ tree. Shows tree dir.now shown.now →
         IfOk result (λ git. IsExclude tree ground.now.settings.now dir.now (exclude_place tree ground.now.settings.now dir.now)
         git.exclude (option_map problem_of git.of_exclude))) }
+    ensures answered { IfOk result (λ git. (place : Place)
+        × IsGitBy (stats_shown F.Files ground.now.files.now dir.now shown.now) (reads_of F.Files ground.now.files.now) ground.now.settings.now dir.now git.mark place
+        × AreExcludesBy (stats_shown F.Files ground.now.files.now dir.now shown.now) (reads_of F.Files ground.now.files.now) ground.now.settings.now dir.now place
+        git.exclude (option_map problem_of git.of_exclude)) }
     ensures soft { IfOk result (λ git. IsSoft (option_map problem_of git.of_exclude)) }
 {
     if shown.lacks(".git") {
@@ -172,9 +191,11 @@ fn repository_of<F: Files>(
         IfOk result (λ r. r.mark ≡ is_marked tree ground.now.settings.now dir.now)) }
     ensures exclude { InTree F.Files ground.now (λ tree.
         IfOk result (λ r. place_of r.exclude ≡ exclude_place tree ground.now.settings.now dir.now)) }
+    ensures answered { IfOk result (λ r. IsGitBy (stats_shown F.Files ground.now.files.now dir.now shown.now) (reads_of F.Files ground.now.files.now)
+        ground.now.settings.now dir.now r.mark (place_of r.exclude)) }
     ensures soft { IfOk result (λ r. IsSoftPlace (place_of r.exclude)) }
 {
-    if !ground.settings.git_exclude && !needs_marks(ground.settings) {
+    if !needs_git(ground.settings) {
         return Ok(Repository {
             mark: false,
             exclude: ExcludePlace::Nowhere,
@@ -195,6 +216,13 @@ fn needs_marks(settings: &Settings) -> bool
     settings.require_git && (settings.git_ignore || settings.git_exclude)
 }
 
+/// Whether the `.git` of a directory is asked for.
+fn needs_git(settings: &Settings) -> bool
+    ensures { result ≡ settings.now.git_exclude || needs_marks settings.now }
+{
+    settings.git_exclude || needs_marks(settings)
+}
+
 /// What a followed `stat` says of a path.
 #[derive(Clone, Copy)]
 struct Kind {
@@ -207,8 +235,10 @@ fn kind_of<F: Files>(ground: &Ground<'_, F>, path: &str) -> Result<Kind, AllocEr
     ensures there { InTree F.Files ground.now (λ tree. IfOk result (λ k. k.is_there ≡ is_there tree path.now)) }
     ensures file { InTree F.Files ground.now (λ tree.
         IfOk result (λ k. k.is_file ≡ is_file_there (tree.stat path.now true))) }
+    ensures answered { IfOk result (λ k. (found : Result Metadata Fault) × stats_of F.Files ground.now.files.now path.now found
+        × (k.is_there ≡ is_ok found) × (k.is_file ≡ is_file_there found)) }
 {
-    match answered(ground.files.stat(ground.alloc, path, true))? {
+    match stat_of(ground, path)? {
         Ok(metadata) => Ok(Kind {
             is_there: true,
             is_file: metadata.is_file(),
@@ -228,6 +258,7 @@ fn exclude_place<F: Files>(
 ) -> Result<ExcludePlace, AllocError>
     ensures value { InTree F.Files ground.now (λ tree. is_file ≡ is_file_there (tree.stat git.now true)
         → IfOk result (λ place. place_of place ≡ (if ground.now.settings.now.git_exclude then exclude_by tree git.now else Ok None))) }
+    ensures answered { IfOk result (λ place. LeadsIf ground.now.settings.now.git_exclude (reads_of F.Files ground.now.files.now) is_file git.now (place_of place)) }
     ensures soft { IfOk result (λ place. IsSoftPlace (place_of place)) }
 {
     if !ground.settings.git_exclude {
@@ -249,6 +280,8 @@ fn is_marked<F: Files>(
 ) -> Result<bool, AllocError>
     ensures value { InTree F.Files ground.now (λ tree. Shows tree dir.now shown.now → has_git ≡ is_there tree (join_of dir.now (codes ".git"))
         → IfOk result (λ yes. yes ≡ is_marked tree ground.now.settings.now dir.now)) }
+    ensures answered { IfOk result (λ yes. IsMarkBy (needs_marks ground.now.settings.now) (stats_shown F.Files ground.now.files.now dir.now shown.now)
+        has_git (join_of dir.now (codes ".jj")) yes) }
 {
     if !needs_marks(ground.settings) {
         return Ok(false);
@@ -271,6 +304,8 @@ fn exclude_rules<F: Files>(
 ) -> Result<(Gitignore, Option<Error>), AllocError>
     ensures read { InTree F.Files ground.now (λ tree.
         IfOk result (λ r. IsExclude tree ground.now.settings.now dir.now (place_of place) r.0 (option_map problem_of r.1))) }
+    ensures answered { IfOk result (λ r. AreExcludesBy (stats_of F.Files ground.now.files.now) (reads_of F.Files ground.now.files.now)
+        ground.now.settings.now dir.now (place_of place) r.0 (option_map problem_of r.1)) }
     ensures soft { IsSoftPlace (place_of place) → IfOk result (λ r. IsSoft (option_map problem_of r.1)) }
 {
     match place {

@@ -1,18 +1,22 @@
 //! The rules of files of one directory.
-ghost use Rattle.std.specs.Prelude.{◌≡◌, [], ◌∷◌, map, IfOk, option_map};
+ghost use Rattle.std.specs.Prelude.{◌≡◌, [], ◌∷◌, map, IfOk, Result, is_ok, option_map};
 ghost use Rattle.ignore_base.specs.Paths.{join_of};
 ghost use Rattle.ignore_base.specs.Problem.{problem_of};
+ghost use Rattle.ignore_base.specs.declared.fault.Fault.{Fault};
 ghost use Rattle.ignore_files.specs.Shown.{Shows};
+ghost use Rattle.ignore_files.specs.declared.types.Metadata.{Metadata};
 ghost use Rattle.ignore_dir.specs.Ground.{InTree};
 ghost use Rattle.ignore_dir.specs.Soft.{IsSoft};
 ghost use Rattle.ignore_dir.specs.Load.{is_there, started, AddsPresent, IsRules, path_if};
+ghost use Rattle.ignore_dir.specs.LoadsBy.{AddsBy, AreRulesBy, reads_of, stats_of, stats_shown};
 
+use crate::answers::stat_of;
 use crate::errors::push_some;
 use crate::ground::Ground;
 use crate::settings::Settings;
 use ignore_base::Error;
 use ignore_base::internal::join;
-use ignore_files::internal::{Shown, answered};
+use ignore_files::internal::Shown;
 use ignore_files::{Files, Name};
 use ignore_rules::gitignore::{Gitignore, GitignoreBuilder};
 use ignore_rules::internal::{add, begun};
@@ -21,8 +25,10 @@ use std::alloc::{AllocError, Global};
 /// Whether a followed `stat` answers.
 pub(crate) fn is_there<F: Files>(ground: &Ground<'_, F>, path: &str) -> Result<bool, AllocError>
     ensures value { InTree F.Files ground.now (λ tree. IfOk result (λ yes. yes ≡ is_there tree path.now)) }
+    ensures answered { IfOk result (λ yes. (found : Result Metadata Fault)
+        × stats_of F.Files ground.now.files.now path.now found × (yes ≡ is_ok found)) }
 {
-    Ok(answered(ground.files.stat(ground.alloc, path, true))?.is_ok())
+    Ok(stat_of(ground, path)?.is_ok())
 }
 
 /// A builder for the rules of a directory.
@@ -42,6 +48,8 @@ fn add_present<F: Files>(
 ) -> Result<Option<Error>, AllocError>
     ensures added { InTree F.Files ground.now (λ tree.
         IfOk result (λ e. AddsPresent (is_there tree path.now) tree path.now builder.old builder.new (option_map problem_of e))) }
+    ensures answered { IfOk result (λ e. AddsBy (stats_of F.Files ground.now.files.now) (reads_of F.Files ground.now.files.now)
+        path.now builder.old builder.new (option_map problem_of e)) }
     ensures soft { IfOk result (λ e. IsSoft (option_map problem_of e)) }
 {
     if !is_there(ground, path)? {
@@ -59,6 +67,8 @@ pub(crate) fn rules_of_file<F: Files>(
 ) -> Result<(Gitignore, Option<Error>), AllocError>
     ensures read { InTree F.Files ground.now (λ tree.
         IfOk result (λ r. IsRules tree ground.now.settings.now dir.now (path.now ∷ []) r.0 (option_map problem_of r.1))) }
+    ensures answered { IfOk result (λ r. AreRulesBy (stats_of F.Files ground.now.files.now) (reads_of F.Files ground.now.files.now)
+        ground.now.settings.now dir.now (path.now ∷ []) r.0 (option_map problem_of r.1)) }
     ensures soft { IfOk result (λ r. IsSoft (option_map problem_of r.1)) }
 {
     if !is_there(ground, path)? {
@@ -80,6 +90,8 @@ fn add_named<F: Files>(
 ) -> Result<Option<Error>, AllocError>
     ensures added { InTree F.Files ground.now (λ tree. Shows tree dir.now shown.now → IfOk result (λ e.
         AddsPresent (is_there tree (join_of dir.now name.now)) tree (join_of dir.now name.now) builder.old builder.new (option_map problem_of e))) }
+    ensures answered { IfOk result (λ e. AddsBy (stats_shown F.Files ground.now.files.now dir.now shown.now) (reads_of F.Files ground.now.files.now)
+        (join_of dir.now name.now) builder.old builder.new (option_map problem_of e)) }
     ensures soft { IfOk result (λ e. IsSoft (option_map problem_of e)) }
 {
     if shown.lacks(name) {
@@ -100,6 +112,8 @@ pub(crate) fn rules_if<F: Files>(
 ) -> Result<(Gitignore, Option<Error>), AllocError>
     ensures read { InTree F.Files ground.now (λ tree. Shows tree dir.now shown.now →
         IfOk result (λ r. IsRules tree ground.now.settings.now dir.now (path_if on dir.now name.now) r.0 (option_map problem_of r.1))) }
+    ensures answered { IfOk result (λ r. AreRulesBy (stats_shown F.Files ground.now.files.now dir.now shown.now) (reads_of F.Files ground.now.files.now)
+        ground.now.settings.now dir.now (path_if on dir.now name.now) r.0 (option_map problem_of r.1)) }
     ensures soft { IfOk result (λ r. IsSoft (option_map problem_of r.1)) }
 {
     if !on {
@@ -122,6 +136,8 @@ pub(crate) fn rules_of_names<F: Files>(
 ) -> Result<(Gitignore, Option<Error>), AllocError>
     ensures read { InTree F.Files ground.now (λ tree. Shows tree dir.now shown.now →
         IfOk result (λ r. IsRules tree ground.now.settings.now dir.now (map (join_of dir.now) names.now) r.0 (option_map problem_of r.1))) }
+    ensures answered { IfOk result (λ r. AreRulesBy (stats_shown F.Files ground.now.files.now dir.now shown.now) (reads_of F.Files ground.now.files.now)
+        ground.now.settings.now dir.now (map (join_of dir.now) names.now) r.0 (option_map problem_of r.1)) }
     ensures soft { IfOk result (λ r. IsSoft (option_map problem_of r.1)) }
 {
     if names.is_empty() {

@@ -6,7 +6,7 @@ use Rattle.std.proofs.lemmas.List.{append_assoc, append_cancel_right, nil_from_l
 use Rattle.std.proofs.lemmas.List.{length-take-le, get_or-take}
 use Rattle.std.proofs.lemmas.Bool.{eqb-true, eq-eqb}
 use Rattle.memchr.specs.Find.{IsFirstByte, is_byte}
-use Rattle.ignore_excludes.specs.Excludes.{IsBlank, IsLineStart, SetsKey, Reads, IsPreferred, IsChosen, trimmed_start}
+use Rattle.ignore_excludes.specs.Excludes.{IsBlank, IsLineStart, SetsKey, ReadsAt, IsPreferred, IsChosen, trimmed_start}
 use Rattle.ignore_excludes.proofs.ExcludesBlanks.{StartsSolid, StartsSolid-trimmed_start, trimmed_start-append, trimmed_start-solid}
 use Rattle.ignore_excludes.proofs.ExcludesBlanks.{prefix_of}
 use Rattle.ignore_excludes.proofs.ExcludesKeys.{IsPreferred-iff, SetsKey-solid}
@@ -24,8 +24,8 @@ line_start prefix start (inr (lines, e)) = inr (
       ∙ sym (append_assoc prefix (10 ∷ lines) (10 ∷ [])),
 )
 
-Reads-shift : (prefix next : List ℕ) (place : ℕ) (q : Bool) (v : List ℕ) → Reads next place q v
-    → Reads (prefix ++ 10 ∷ next) (length prefix + 1 + place) q v
+Reads-shift : (prefix next : List ℕ) (place : ℕ) (q : Bool) (v : List ℕ) → ReadsAt next place q v
+    → ReadsAt (prefix ++ 10 ∷ next) (length prefix + 1 + place) q v
 Reads-shift prefix next place q v (before, rest, e, len, (start, indent, d, starts, blank), key) = (
   prefix ++ 10 ∷ before,
   rest,
@@ -67,9 +67,9 @@ IsBlank-back [] b h = h
 IsBlank-back (x ∷ a) b h = IsBlank-back a b h.1
 
 -- a parse is that of the key after the first white space, or lies after a newline
-Reads-cases : (w u : List ℕ) (place : ℕ) (q : Bool) (v : List ℕ) → IsBlank w → StartsSolid u → Reads (w ++ u) place q v
+Reads-cases : (w u : List ℕ) (place : ℕ) (q : Bool) (v : List ℕ) → IsBlank w → StartsSolid u → ReadsAt (w ++ u) place q v
     → ((place ≡ length w) × SetsKey q v u)
-    ⊎ ((line next : List ℕ) × (k : ℕ) × (u ≡ line ++ 10 ∷ next) × (place ≡ length w + length line + 1 + k) × Reads next k q v)
+    ⊎ ((line next : List ℕ) × (k : ℕ) × (u ≡ line ++ 10 ∷ next) × (place ≡ length w + length line + 1 + k) × ReadsAt next k q v)
 Reads-cases w u place q v white solid (before, rest, e, len, (start, indent, d, starts, blank), key) =
     let whole : start ++ (indent ++ rest) ≡ w ++ u = sym (append_assoc start indent rest) ∙ (ap (λ t. t ++ rest) (sym d) ∙ sym e) in
     elim (two_splits start (indent ++ rest) w u whole) [
@@ -127,8 +127,8 @@ no_earlier (a ∷ line) next (b ∷ first) rest e one =
     ]
 
 Reads-next : (w u line next : List ℕ) (place : ℕ) (q : Bool) (v : List ℕ) → IsBlank w → StartsSolid u → u ≡ line ++ 10 ∷ next
-    → IsOneLine line → IsPreferred (λ (q : Bool) (v : List ℕ). SetsKey q v u) None → Reads (w ++ u) place q v → (k : ℕ)
-    × (place ≡ length w + length line + 1 + k) × Reads next k q v
+    → IsOneLine line → IsPreferred (λ (q : Bool) (v : List ℕ). SetsKey q v u) None → ReadsAt (w ++ u) place q v → (k : ℕ)
+    × (place ≡ length w + length line + 1 + k) × ReadsAt next k q v
 Reads-next w u line next place q v white solid e one never r = elim (Reads-cases w u place q v white solid r) [
   | inl h ↦ absurd (never q v h.1)
   | inr h ↦ (
@@ -136,13 +136,13 @@ Reads-next w u line next place q v white solid e one never r = elim (Reads-cases
       let rest = h.1 in
       let whole : other ++ 10 ∷ rest ≡ line ++ 10 ∷ next = sym h.3 ∙ e in
       elim (no_earlier other rest line next whole one) [
-        | inl k ↦ (let len = ap length k.0 in (h.2, (let far = h.4 in omega arith), subst (λ (t : List ℕ). Reads t h.2 q v) k.1 h.5))
+        | inl k ↦ (let len = ap length k.0 in (h.2, (let far = h.4 in omega arith), subst (λ (t : List ℕ). ReadsAt t h.2 q v) k.1 h.5))
         | inr k ↦ (
             let mid = k.0 in
             let len = ap length k.1 in (
               length mid + 1 + h.2,
               (let far = h.4 in omega (arith, length-append line (10 ∷ mid))),
-              subst (λ (t : List ℕ). Reads t (length mid + 1 + h.2) q v) (sym k.2) (Reads-shift mid rest h.2 q v h.5),
+              subst (λ (t : List ℕ). ReadsAt t (length mid + 1 + h.2) q v) (sym k.2) (Reads-shift mid rest h.2 q v h.5),
             )
             )
       ]
@@ -154,7 +154,7 @@ here : (w u v : List ℕ) → IsBlank w → StartsSolid u → IsPreferred (λ (q
     → IsChosen (w ++ u) (Some v)
 here w u v white solid h = (
   length w,
-  IsPreferred-iff (λ (q : Bool) (v : List ℕ). SetsKey q v u) (Reads (w ++ u) (length w))
+  IsPreferred-iff (λ (q : Bool) (v : List ℕ). SetsKey q v u) (ReadsAt (w ++ u) (length w))
       (λ q v key. (w, u, refl, refl, ([], w, refl, inl refl, white), key))
       (λ q v r. elim (Reads-cases w u (length w) q v white solid r)
       [ inl k ↦ k.1 | inr k ↦ absurd (let far = k.4 in omega arith) ]) (Some v) h,
@@ -187,13 +187,13 @@ further w u line next white solid e one never (Some v) h =
     let whole : w ++ u ≡ prefix ++ 10 ∷ next = ap (λ t. w ++ t) e ∙ sym (append_assoc w line (10 ∷ next)) in
     let far : ℕ = length prefix + 1 + h.0 in
     let lens = length-append w line in
-    let there : (q : Bool) (x : List ℕ) → Reads next h.0 q x
-    → Reads (w ++ u) far q x = λ q x r. subst (λ (t : List ℕ). Reads t far q x) (sym whole) (Reads-shift prefix next h.0 q x r) in
-    let back : (q : Bool) (x : List ℕ) → Reads (w ++ u) far q x
-    → Reads next h.0 q x = λ q x r. (let k = Reads-next w u line next far q x white solid e one never r in let same : k.0
-    ≡ h.0 = (let is = k.1 in omega arith) in subst (λ (n : ℕ). Reads next n q x) same k.2) in (
+    let there : (q : Bool) (x : List ℕ) → ReadsAt next h.0 q x
+    → ReadsAt (w ++ u) far q x = λ q x r. subst (λ (t : List ℕ). ReadsAt t far q x) (sym whole) (Reads-shift prefix next h.0 q x r) in
+    let back : (q : Bool) (x : List ℕ) → ReadsAt (w ++ u) far q x
+    → ReadsAt next h.0 q x = λ q x r. (let k = Reads-next w u line next far q x white solid e one never r in let same : k.0
+    ≡ h.0 = (let is = k.1 in omega arith) in subst (λ (n : ℕ). ReadsAt next n q x) same k.2) in (
       far,
-      IsPreferred-iff (Reads next h.0) (Reads (w ++ u) far) there back (Some v) h.1,
+      IsPreferred-iff (ReadsAt next h.0) (ReadsAt (w ++ u) far) there back (Some v) h.1,
       λ earlier before q x r. (let k = Reads-next w u line next earlier q x white solid e one never r in
           h.2 k.0 (let is = k.1 in omega arith) q x k.2),
     )

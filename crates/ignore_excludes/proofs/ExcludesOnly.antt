@@ -6,7 +6,7 @@ use Rattle.std.specs.Result.{result_ok}
 use Rattle.std.specs.Str.{IsUtf8}
 use Rattle.std.proofs.lemmas.List.{take_at, drop_at}
 use Rattle.std.proofs.lemmas.Bool.{cases_order}
-use Rattle.ignore_excludes.specs.Excludes.{HasValue, Assigns, SetsKey, Reads, IsShortest, IsPreferred, IsChosen, IsValue, trimmed_start}
+use Rattle.ignore_excludes.specs.Excludes.{HasValue, Assigns, SetsKey, ReadsAt, IsShortest, IsPreferred, IsChosen, IsValue, trimmed_start}
 use Rattle.ignore_excludes.proofs.ExcludesKeys.{Assigns-quoted, Assigns-plain, SetsKey-parts}
 
 -- P holds for one value of each length at most
@@ -27,7 +27,7 @@ Assigns-one true text v w len h k =
     HasValue-one (trimmed_start a.0) v w len a.2 (subst (λ (t : List ℕ). HasValue w (trimmed_start t)) same b.2)
 Assigns-one false text v w len h k = HasValue-one (trimmed_start text) v w len (Assigns-plain v text h) (Assigns-plain w text k)
 
-Reads-one : (text : List ℕ) (place : ℕ) (q : Bool) → IsOnePerLength (Reads text place q)
+Reads-one : (text : List ℕ) (place : ℕ) (q : Bool) → IsOnePerLength (ReadsAt text place q)
 Reads-one text place q v w len h k =
     let one : h.1 ≡ drop place text = sym (drop_at h.0 h.1 place (sym h.3)) ∙ ap (λ t. drop place t) (sym h.2) in
     let two : k.1 ≡ drop place text = sym (drop_at k.0 k.1 place (sym k.3)) ∙ ap (λ t. drop place t) (sym k.2) in
@@ -56,15 +56,15 @@ reading_of R v (inr h) = (false, h.1.0)
 
 IsChosen-one : (text : List ℕ) (a b : Option (List ℕ)) → IsChosen text a → IsChosen text b → a ≡ b
 IsChosen-one text None None h k = refl
-IsChosen-one text None (Some w) h k = (let r = reading_of (Reads text k.0) w k.1 in absurd (h k.0 r.0 w r.1))
-IsChosen-one text (Some v) None h k = (let r = reading_of (Reads text h.0) v h.1 in absurd (k h.0 r.0 v r.1))
+IsChosen-one text None (Some w) h k = (let r = reading_of (ReadsAt text k.0) w k.1 in absurd (h k.0 r.0 w r.1))
+IsChosen-one text (Some v) None h k = (let r = reading_of (ReadsAt text h.0) v h.1 in absurd (k h.0 r.0 v r.1))
 IsChosen-one text (Some v) (Some w) h k =
-    let r = reading_of (Reads text h.0) v h.1 in
-    let s = reading_of (Reads text k.0) w k.1 in
+    let r = reading_of (ReadsAt text h.0) v h.1 in
+    let s = reading_of (ReadsAt text k.0) w k.1 in
     elim (cases_order h.0 k.0) [
-      | inl same ↦ (let there : IsPreferred (Reads text k.0) (Some v) =
-          subst (λ (n : ℕ). IsPreferred (Reads text n) (Some v)) same h.1 in
-          ap (λ t. Some t) (IsPreferred-one (Reads text k.0) v w (Reads-one text k.0) there k.1))
+      | inl same ↦ (let there : IsPreferred (ReadsAt text k.0) (Some v) =
+          subst (λ (n : ℕ). IsPreferred (ReadsAt text n) (Some v)) same h.1 in
+          ap (λ t. Some t) (IsPreferred-one (ReadsAt text k.0) v w (Reads-one text k.0) there k.1))
       | inr (inl before) ↦ absurd (k.2 h.0 before r.0 v r.1)
       | inr (inr after) ↦ absurd (h.2 k.0 after s.0 w s.1)
     ]

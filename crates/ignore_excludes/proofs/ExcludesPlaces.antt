@@ -14,9 +14,9 @@ use Rattle.ignore_files.specs.declared.types.Refusal.TheVariants.{Memory}
 use Rattle.ignore_files.specs.declared.types.Refusal.TheVariants.{Fault as Refused}
 use Rattle.ignore_excludes.specs.Excludes.{IsValue}
 use Rattle.ignore_excludes.proofs.ExcludesOnly.{IsValue-one}
-use Rattle.ignore_excludes.specs.ExcludesSearch.{ReadGives, ContentsGive, TreeGives, AnswerGives, FilesGive, Gives, IsFirstValue, LeadsTo}
-use Rattle.ignore_files.specs.Variables.{filled}
-use Rattle.ignore_excludes.specs.ExcludesSearch.{below, xdg_folder, configurations, path_of, expanded, IsFirstPath}
+use Rattle.ignore_excludes.specs.ExcludesSearch.{ReadGives, ContentsGive, TreeGives, AnswerGives, FilesGive, PathGives, IsFirstValue, LeadsTo}
+use Rattle.ignore_files.specs.Variables.{set_value}
+use Rattle.ignore_excludes.specs.ExcludesSearch.{path_below, xdg_folder, configurations, excludes_path, expanded, IsFirstPath}
 use Rattle.ignore_excludes.specs.ExcludesSearch.{IsExcludesPath}
 use Rattle.ignore_files.specs.declared.env.Env.{Env}
 
@@ -33,9 +33,9 @@ AnswerGives-whole contents bytes found whole same h =
     ReadGives-whole contents.bytes contents.fault found whole value
 
 -- the four places, each by itself
-pub configurations-same : (env : Env) (a b c d : Option (List ℕ)) → a ≡ filled env.git_config_global → b
-    ≡ below env.home (codes ".gitconfig") → c ≡ below (xdg_folder env) (codes "git/config") → d
-    ≡ option_or (filled env.git_config_system) (Some (codes "/etc/gitconfig")) → a ∷ (b ∷ (c ∷ (d ∷ []))) ≡ configurations env
+pub configurations-same : (env : Env) (a b c d : Option (List ℕ)) → a ≡ set_value env.git_config_global → b
+    ≡ path_below env.home (codes ".gitconfig") → c ≡ path_below (xdg_folder env) (codes "git/config") → d
+    ≡ option_or (set_value env.git_config_system) (Some (codes "/etc/gitconfig")) → a ∷ (b ∷ (c ∷ (d ∷ []))) ≡ configurations env
 configurations-same env a b c d p q r s = cc
 
 pub LeadsTo-some : (Says : List ℕ → Option (List ℕ) → Type 0) (env : Env) (home : Option (List ℕ))
@@ -49,7 +49,7 @@ LeadsTo-some Says env home places path h p (value, first, e) = (
 
 pub LeadsTo-none : (Says : List ℕ → Option (List ℕ) → Type 0) (env : Env) (home : Option (List ℕ))
     (places : List (Option (List ℕ))) (found : Option (List ℕ)) → places ≡ configurations env → IsFirstPath Says home places None
-    → found ≡ below (xdg_folder env) (codes "git/ignore") → LeadsTo Says env found
+    → found ≡ path_below (xdg_folder env) (codes "git/ignore") → LeadsTo Says env found
 LeadsTo-none Says env home places found p first e = (None, subst (λ (t : List (Option (List ℕ))). IsFirstValue Says t None) p first, e)
 
 -- The answers of a value that is consistent with a tree lead where the tree leads.
@@ -62,7 +62,7 @@ AnswerGives-tree reported (Err Memory) found e h = absurd h
 
 Gives-weaker : (P Q : List ℕ → Option (List ℕ) → Type 0)
     → ((path : List ℕ) (found : Option (List ℕ)) → P path found → Q path found) → (place found : Option (List ℕ))
-    → Gives P place found → Gives Q place found
+    → PathGives P place found → PathGives Q place found
 Gives-weaker P Q f None found h = h
 Gives-weaker P Q f (Some path) found h = f path found h
 
@@ -93,8 +93,8 @@ ContentsGive-one : (reported : Result Contents Fault) (a b : Option (List ℕ)) 
 ContentsGive-one (Ok contents) a b h k = ReadGives-one contents.bytes contents.fault a b h k
 ContentsGive-one (Err fault) a b h k = h ∙ sym k
 
-Gives-one : (tree : Tree) (place : Option (List ℕ)) (a b : Option (List ℕ)) → Gives (TreeGives tree) place a
-    → Gives (TreeGives tree) place b → a ≡ b
+Gives-one : (tree : Tree) (place : Option (List ℕ)) (a b : Option (List ℕ)) → PathGives (TreeGives tree) place a
+    → PathGives (TreeGives tree) place b → a ≡ b
 Gives-one tree None a b h k = h ∙ sym k
 Gives-one tree (Some path) a b h k = ContentsGive-one (tree.contents path) a b h k
 
@@ -115,4 +115,4 @@ IsFirstValue-one tree (p ∷ ps) (Some v) (Some w) (inr h) (inr k) = IsFirstValu
 
 pub IsExcludesPath-one : (tree : Tree) (env : Env) (a b : Option (List ℕ)) → IsExcludesPath tree env a → IsExcludesPath tree env b → a ≡ b
 IsExcludesPath-one tree env a b (v, h, e) (w, k, f) = e
-    ∙ (ap (λ t. path_of env t) (IsFirstValue-one tree (configurations env) v w h k) ∙ sym f)
+    ∙ (ap (λ t. excludes_path env t) (IsFirstValue-one tree (configurations env) v w h k) ∙ sym f)

@@ -3,13 +3,13 @@ use Rattle.std.proofs.Common.{◌≡◌, ◌≢◌, ◌⊎◌, inl, inr, ℕ, tr
 use Rattle.std.proofs.Common.{ap, ◌∙◌, subst, arith}
 use Rattle.std.proofs.lemmas.List.{append_cancel_right, append_assoc}
 use Rattle.std.proofs.lemmas.Bool.{both_ways}
-use Rattle.ignore_excludes.specs.Excludes.{is_space, IsSolid, EndsLine, Closes, HasValue, IsShortest, trimmed_start, StartsBlank}
+use Rattle.ignore_excludes.specs.Excludes.{is_space, IsSolid, EndsLine, ClosesValue, HasValue, IsShortest, trimmed_start, StartsBlank}
 use Rattle.ignore_excludes.specs.Excludes.{IsUnquoted}
 use Rattle.ignore_excludes.proofs.ExcludesBlanks.{StartsSolid, trimmed_start-append, trimmed_start-solid, prefix_of, EndsLine-solid}
 use Rattle.ignore_excludes.proofs.ExcludesBlanks.{EndsLine-append}
 
 -- a byte that is no white space and closes the line is a `"`
-closing : (x : ℕ) (w rest after : List ℕ) → rest ≡ x ∷ (w ++ after) → is_space x ≡ false → IsSolid w → Closes rest
+closing : (x : ℕ) (w rest after : List ℕ) → rest ≡ x ∷ (w ++ after) → is_space x ≡ false → IsSolid w → ClosesValue rest
     → (x ∷ w ≡ 34 ∷ []) × EndsLine after
 closing x w rest after e solid more (c ∷ cs, r, d, blank, later) =
     let same : c ≡ x = cc in
@@ -29,7 +29,7 @@ closing x (y ∷ w) rest after e solid more ([], r, d, blank, (q, s, f, (true, o
 
 -- a value is the whole word, or all of it but a `"` that closes the line
 pub first_word : (v word rest after : List ℕ) → v ++ rest ≡ word ++ after → IsSolid v → IsSolid word → StartsBlank after
-    → Closes rest → ((v ≡ word) × (rest ≡ after)) ⊎ ((word ≡ v ++ 34 ∷ []) × EndsLine after)
+    → ClosesValue rest → ((v ≡ word) × (rest ≡ after)) ⊎ ((word ≡ v ++ 34 ∷ []) × EndsLine after)
 first_word [] [] rest after e p q s c = inl (refl, e)
 first_word [] (x ∷ w) rest after e p q s c = inr (closing x w rest after e q.0 q.1 c)
 first_word (b ∷ v) [] rest after e p q s c =
@@ -44,7 +44,7 @@ first_word (b ∷ v) (x ∷ w) rest after e p q s c =
     ]
 
 -- what may close the line: white space alone, or one `"` in it
-pub Closes-cases : (after : List ℕ) → Closes after → EndsLine after ⊎ ((rest : List ℕ) × (trimmed_start after ≡ 34 ∷ rest) × EndsLine rest)
+pub Closes-cases : (after : List ℕ) → ClosesValue after → EndsLine after ⊎ ((rest : List ℕ) × (trimmed_start after ≡ 34 ∷ rest) × EndsLine rest)
 Closes-cases after (a, r, d, blank, (q, s, f, (false, none), ends)) =
     let same : s ≡ r = cc in
     inl (subst EndsLine (sym d) (EndsLine-append a r blank (subst EndsLine same ends)))
@@ -52,10 +52,10 @@ Closes-cases after (a, r, d, blank, (q, s, f, (true, one), ends)) =
     let same : r ≡ 34 ∷ s = cc in
     inr (s, ap trimmed_start d ∙ (trimmed_start-append a r blank ∙ (ap trimmed_start same ∙ trimmed_start-solid (34 ∷ s) refl)), ends)
 
-pub Closes-plain : (after : List ℕ) → EndsLine after → Closes after
+pub Closes-plain : (after : List ℕ) → EndsLine after → ClosesValue after
 Closes-plain after h = ([], after, refl, tt, ([], after, refl, (false, refl), h))
 
-pub Closes-quote : (after rest : List ℕ) → trimmed_start after ≡ 34 ∷ rest → EndsLine rest → Closes after
+pub Closes-quote : (after rest : List ℕ) → trimmed_start after ≡ 34 ∷ rest → EndsLine rest → ClosesValue after
 Closes-quote after rest e h = let prefix = prefix_of after in
     (prefix.0, trimmed_start after, prefix.1, prefix.2, (34 ∷ [], rest, e, (true, refl), h))
 
@@ -71,12 +71,12 @@ IsSolid-prefix [] b h = tt
 IsSolid-prefix (x ∷ a) b h = (h.0, IsSolid-prefix a b h.1)
 
 pub HasValue-cases : (v word after : List ℕ) → IsSolid word → StartsBlank after → HasValue v (word ++ after) → (v ≢ [])
-    × (((v ≡ word) × Closes after) ⊎ ((word ≡ v ++ 34 ∷ []) × EndsLine after))
+    × (((v ≡ word) × ClosesValue after) ⊎ ((word ≡ v ++ 34 ∷ []) × EndsLine after))
 HasValue-cases v word after q s (prefix, rest, e, (is, ne, solid), closes) =
     let whole : v ++ rest ≡ word ++ after = ap (λ t. t ++ rest) (sym is) ∙ sym e in (
       ne,
       elim (first_word v word rest after whole solid q s closes) [
-        | inl h ↦ inl (h.0, subst Closes h.1 closes)
+        | inl h ↦ inl (h.0, subst ClosesValue h.1 closes)
         | inr h ↦ inr h
       ],
     )
@@ -122,7 +122,7 @@ unquoted_word word after value ne q s ends (inr (is, unclosed)) =
     )
 
 -- a `"` follows the word, before the line ends
-pub whole_word : (word after : List ℕ) → word ≢ [] → IsSolid word → StartsBlank after → Closes after → (EndsLine after → ⊥)
+pub whole_word : (word after : List ℕ) → word ≢ [] → IsSolid word → StartsBlank after → ClosesValue after → (EndsLine after → ⊥)
     → IsShortest (λ (v : List ℕ). HasValue v (word ++ after)) (Some word)
 whole_word word after ne q s c never = (
   (word, after, refl, (refl, ne, q), c),
@@ -135,7 +135,7 @@ whole_word word after ne q s c never = (
       ),
 )
 
-pub no_value : (word after : List ℕ) → IsSolid word → StartsBlank after → (Closes after → ⊥)
+pub no_value : (word after : List ℕ) → IsSolid word → StartsBlank after → (ClosesValue after → ⊥)
     → IsShortest (λ (v : List ℕ). HasValue v (word ++ after)) None
 no_value word after q s never v h =
     let cases = HasValue-cases v word after q s h in

@@ -53,12 +53,12 @@ abbrev pub EndsLine : Bytes → Type 0
 EndsLine text = Then IsBlank IsLineEnd text
 
 -- what follows the value: white space or none, an optional `"`, and the end of the line
-abbrev pub Closes : Bytes → Type 0
-Closes text = Then IsBlank (Then IsOptionalQuote EndsLine) text
+abbrev pub ClosesValue : Bytes → Type 0
+ClosesValue text = Then IsBlank (Then IsOptionalQuote EndsLine) text
 
 -- the value, nonempty and without white space, and what follows it
 abbrev pub HasValue : Bytes → Bytes → Type 0
-HasValue value text = Then (λ prefix. (prefix ≡ value) × (value ≢ []) × IsSolid value) Closes text
+HasValue value text = Then (λ prefix. (prefix ≡ value) × (value ≢ []) × IsSolid value) ClosesValue text
 
 -- what follows the equals sign: white space or none, a `"` where the value is quoted, white space
 -- or none, and the value
@@ -71,8 +71,8 @@ SetsKey quoted value text = Then IsKey (Then IsBlank (Then IsEquals (Assigns quo
 
 -- one parse of a configuration: this many bytes, which are lines and white space or none; then the
 -- key with this value
-abbrev pub Reads : Bytes → ℕ → Bool → Bytes → Type 0
-Reads text place quoted value =
+abbrev pub ReadsAt : Bytes → ℕ → Bool → Bytes → Type 0
+ReadsAt text place quoted value =
     (before rest : Bytes) × (text ≡ before ++ rest) × (place ≡ length before) × Then IsLineStart IsBlank before
     × SetsKey quoted value rest
 
@@ -89,9 +89,9 @@ IsPreferred R (Some value) = IsShortest (R true) (Some value) ⊎ (IsShortest (R
 
 -- of all parses: the first key that has one, and the preferred one there
 abbrev pub IsChosen : Bytes → Option Bytes → Type 0
-IsChosen text None = (place : ℕ) → IsPreferred (Reads text place) None
+IsChosen text None = (place : ℕ) → IsPreferred (ReadsAt text place) None
 IsChosen text (Some value) =
-    (place : ℕ) × IsPreferred (Reads text place) (Some value) × ((earlier : ℕ) → earlier < place → IsPreferred (Reads text earlier) None)
+    (place : ℕ) × IsPreferred (ReadsAt text place) (Some value) × ((earlier : ℕ) → earlier < place → IsPreferred (ReadsAt text earlier) None)
 
 -- the value of a configuration: the chosen one if it is UTF-8
 abbrev pub IsValue : Bytes → Option Bytes → Type 0

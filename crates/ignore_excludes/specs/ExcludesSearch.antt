@@ -7,7 +7,7 @@ use Rattle.ignore_base.specs.Text.{Bytes, Path}
 use Rattle.ignore_base.specs.Paths.{join_of}
 use Rattle.ignore_base.specs.declared.fault.Fault.{Fault}
 use Rattle.ignore_files.specs.Tree.{Tree}
-use Rattle.ignore_files.specs.Variables.{filled}
+use Rattle.ignore_files.specs.Variables.{set_value}
 use Rattle.ignore_files.specs.declared.env.Env.{Env}
 use Rattle.ignore_files.specs.declared.types.Contents.{Contents}
 use Rattle.ignore_files.specs.declared.types.Refusal.{Refusal}
@@ -16,21 +16,21 @@ use Rattle.ignore_files.specs.declared.types.Refusal.TheVariants.{Fault as Refus
 use Rattle.ignore_excludes.specs.Excludes.{IsValue}
 
 -- a path below a folder, where the folder is known
-abbrev pub below : Option Path → Path → Option Path
-below None path = None
-below (Some folder) path = Some (join_of folder path)
+abbrev pub path_below : Option Path → Path → Option Path
+path_below None path = None
+path_below (Some folder) path = Some (join_of folder path)
 
 -- the folder of the user's configuration: `XDG_CONFIG_HOME`, else `.config` in the home directory
 abbrev pub xdg_folder : Env → Option Path
-xdg_folder env = option_or (filled env.xdg_config_home) (below env.home (codes ".config"))
+xdg_folder env = option_or (set_value env.xdg_config_home) (path_below env.home (codes ".config"))
 
 -- the configuration files, in the order in which they are searched
 abbrev pub configurations : Env → List (Option Path)
 configurations env =
-    filled env.git_config_global
-    ∷ (below env.home (codes ".gitconfig")
-    ∷ (below (xdg_folder env) (codes "git/config")
-    ∷ (option_or (filled env.git_config_system) (Some (codes "/etc/gitconfig"))
+    set_value env.git_config_global
+    ∷ (path_below env.home (codes ".gitconfig")
+    ∷ (path_below (xdg_folder env) (codes "git/config")
+    ∷ (option_or (set_value env.git_config_system) (Some (codes "/etc/gitconfig"))
     ∷ [])))
 
 -- the bytes give their value, unless reading ended with a fault
@@ -58,16 +58,16 @@ abbrev pub FilesGive : (Path → Result Contents Refusal → Type 0) → Path �
 FilesGive Answers path found = (answer : Result Contents Refusal) × Answers path answer × AnswerGives answer found
 
 -- the value that the configuration at a path gives; none where its path is unknown
-abbrev pub Gives : (Path → Option Bytes → Type 0) → Option Path → Option Bytes → Type 0
-Gives Says None found = found ≡ None
-Gives Says (Some path) found = Says path found
+abbrev pub PathGives : (Path → Option Bytes → Type 0) → Option Path → Option Bytes → Type 0
+PathGives Says None found = found ≡ None
+PathGives Says (Some path) found = Says path found
 
 -- the value of the first configuration that gives one
 abbrev pub IsFirstValue : (Path → Option Bytes → Type 0) → List (Option Path) → Option Bytes → Type 0
 IsFirstValue Says [] found = found ≡ None
-IsFirstValue Says (place ∷ places) None = Gives Says place None × IsFirstValue Says places None
+IsFirstValue Says (place ∷ places) None = PathGives Says place None × IsFirstValue Says places None
 IsFirstValue Says (place ∷ places) (Some value) =
-    Gives Says place (Some value) ⊎ (Gives Says place None × IsFirstValue Says places (Some value))
+    PathGives Says place (Some value) ⊎ (PathGives Says place None × IsFirstValue Says places (Some value))
 
 -- the value with the home directory, where it is known, in place of each `~`
 abbrev pub expanded : Option Path → Bytes → Path
@@ -76,13 +76,13 @@ expanded (Some home) value = flat_map (λ b. if b == 126 then home else b ∷ []
 
 -- the path that a value names; without a value, `git/ignore` in the folder of the user's
 -- configuration
-abbrev pub path_of : Env → Option Bytes → Option Path
-path_of env None = below (xdg_folder env) (codes "git/ignore")
-path_of env (Some value) = Some (expanded env.home value)
+abbrev pub excludes_path : Env → Option Bytes → Option Path
+excludes_path env None = path_below (xdg_folder env) (codes "git/ignore")
+excludes_path env (Some value) = Some (expanded env.home value)
 
 -- the excludes file of an environment, or none, where the file at a path gives such a value
 abbrev pub LeadsTo : (Path → Option Bytes → Type 0) → Env → Option Path → Type 0
-LeadsTo Says env found = (value : Option Bytes) × IsFirstValue Says (configurations env) value × (found ≡ path_of env value)
+LeadsTo Says env found = (value : Option Bytes) × IsFirstValue Says (configurations env) value × (found ≡ excludes_path env value)
 
 -- the path of the excludes file for a tree and an environment, or none
 abbrev pub IsExcludesPath : Tree → Env → Option Path → Type 0
@@ -90,8 +90,8 @@ IsExcludesPath tree env found = LeadsTo (TreeGives tree) env found
 
 -- the path that a configuration's value names, if it gives a value
 abbrev pub GivesPath : (Path → Option Bytes → Type 0) → Option Path → Option Path → Option Path → Type 0
-GivesPath Says home place None = Gives Says place None
-GivesPath Says home place (Some path) = (value : Bytes) × Gives Says place (Some value) × (path ≡ expanded home value)
+GivesPath Says home place None = PathGives Says place None
+GivesPath Says home place (Some path) = (value : Bytes) × PathGives Says place (Some value) × (path ≡ expanded home value)
 
 -- the same for the first of several configurations that gives a value
 abbrev pub IsFirstPath : (Path → Option Bytes → Type 0) → Option Path → List (Option Path) → Option Path → Type 0

@@ -5,8 +5,8 @@ ghost use Rattle.ignore_base.specs.Text.{Path};
 ghost use Rattle.ignore_base.specs.Problem.{problem_of, memory};
 ghost use Rattle.ignore_files.specs.Tree.{Tree};
 ghost use Rattle.ignore_files.specs.Gives.{IsHonest};
-ghost use Rattle.ignore_files.specs.Variables.{filled};
-ghost use Rattle.ignore_excludes.specs.ExcludesSearch.{below, xdg_folder, expanded, FilesGive, GivesPath, IsFirstPath};
+ghost use Rattle.ignore_files.specs.Variables.{set_value};
+ghost use Rattle.ignore_excludes.specs.ExcludesSearch.{path_below, xdg_folder, expanded, FilesGive, GivesPath, IsFirstPath};
 ghost use Rattle.ignore_excludes.specs.ExcludesSearch.{LeadsTo, IsExcludesPath};
 
 use crate::excludes::excludes_value;
@@ -28,7 +28,7 @@ fn known(variable: &Option<Name>) -> Option<&str>
 
 /// The text of a variable that is set and not empty.
 fn filled(variable: &Option<Name>) -> Option<&str>
-    ensures { option_copied result ≡ filled variable.now }
+    ensures { option_copied result ≡ set_value variable.now }
 {
     match known(variable) {
         None => None,
@@ -47,7 +47,7 @@ fn text_of(path: &Option<String>) -> Option<&str>
 
 /// The path below the folder, where the folder is known.
 fn below(alloc: Global, folder: Option<&str>, path: &str) -> Result<Option<String>, AllocError>
-    ensures { IfOk result (λ found. option_map string_bytes found ≡ below (option_copied folder.entry) path.now) }
+    ensures { IfOk result (λ found. option_map string_bytes found ≡ path_below (option_copied folder.entry) path.now) }
 {
     match folder {
         None => Ok(None),
@@ -67,7 +67,7 @@ fn xdg_folder(alloc: Global, env: &Env) -> Result<Option<String>, AllocError>
 
 /// The file of the system's configuration.
 fn system_config(env: &Env) -> &str
-    ensures { Some result.now ≡ option_or (filled env.now.git_config_system) (Some (codes "/etc/gitconfig")) }
+    ensures { Some result.now ≡ option_or (set_value env.now.git_config_system) (Some (codes "/etc/gitconfig")) }
 {
     match filled(&env.git_config_system) {
         None => "/etc/gitconfig",

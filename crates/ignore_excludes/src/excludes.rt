@@ -3,7 +3,7 @@ ghost use Rattle.std.specs.Prelude.{◌≡◌, ◌↔◌, ◌≤◌, ◌++◌, �
 ghost use Rattle.std.specs.Option.{option_copied};
 ghost use Rattle.ignore_base.specs.Text.{Bytes};
 ghost use Rattle.ignore_excludes.specs.Excludes.{is_space, trimmed_start, IsSolid, EndsLine, HasValue, Assigns, SetsKey, IsShortest};
-ghost use Rattle.ignore_excludes.specs.Excludes.{IsPreferred, IsChosen, IsValue, StartsBlank, Closes, IsUnquoted};
+ghost use Rattle.ignore_excludes.specs.Excludes.{IsPreferred, IsChosen, IsValue, StartsBlank, ClosesValue, IsUnquoted};
 
 use memchr::memchr;
 use std::str;
@@ -65,7 +65,7 @@ fn ends_line(text: &[u8]) -> bool
 
 /// Whether the rest of the line has only white space and at most one `"`.
 fn closes(text: &[u8]) -> bool
-    ensures { IsTrue result ↔ Closes text.now }
+    ensures { IsTrue result ↔ ClosesValue text.now }
 {
     if ends_line(text) {
         return true;

@@ -8,7 +8,7 @@ use Rattle.ignore_base.specs.declared.fault.Fault.{Fault}
 use Rattle.ignore_base.specs.declared.fault.Fault.TheVariants.{NotFound, NotADirectory}
 use Rattle.ignore_base.specs.Paths.{components, whole_components, has_slash, is_absolute, is_proper, join_of}
 use Rattle.ignore_files.specs.Answers.{stat_of, listed_of, listing_of, list_of, tree_of}
-use Rattle.ignore_files.specs.Entries.{named}
+use Rattle.ignore_files.specs.Entries.{node_named}
 use Rattle.ignore_files.specs.Memory.{Memory, and_then, is_empty, is_directory, is_dir_at, entries_of}
 use Rattle.ignore_files.specs.Resolve.{enter, enter_node, enter_directory, link_at, resolve_last, resolve_inner, resolve_components, walk, start_of, resolved}
 use Rattle.ignore_files.specs.Tree.{Tree, Answers}
@@ -48,23 +48,23 @@ other a b h = put (bytes_eq a b) refl
         absurd (cc (lower, h))
 
 -- what each listed entry differs from has no entry
-unnamed : (name : List ℕ) (entries : List Entry) → list_all (differs name) (map listed_of entries) ≡ true → named name entries ≡ None
+unnamed : (name : List ℕ) (entries : List Entry) → list_all (differs name) (map listed_of entries) ≡ true → node_named name entries ≡ None
 unnamed name [] h = refl
 unnamed name (Named n kind node ∷ es) h =
     let p = both _ _ h in
-    ap (λ b. cond b (Some node) (named name es)) (other n name p.0) ∙ unnamed name es p.1
+    ap (λ b. cond b (Some node) (node_named name es)) (other n name p.0) ∙ unnamed name es p.1
 unnamed name (Nameless ∷ es) h = absurd (cc (h))
 
 -- a name without an entry leads nowhere from a directory
 enter_none : (nodes : List Node) (here : ℕ) (n : Node) (entries : List Entry) (name : List ℕ) → slice_get nodes here ≡ Some n
-    → n.kind ≡ Dir entries → named name entries ≡ None → is_proper name ≡ true → enter nodes here name ≡ Err NotFound
+    → n.kind ≡ Dir entries → node_named name entries ≡ None → is_proper name ≡ true → enter nodes here name ≡ Err NotFound
 enter_none nodes here n entries [] at kind found h = absurd (cc (h))
 enter_none nodes here n entries (b ∷ bs) at kind found h =
     let is = proper (eqb (length (b ∷ bs)) 0) (bytes_eq (b ∷ bs) (codes ".")) (bytes_eq (b ∷ bs) (codes "..")) h in
     ap (λ s. cond s (Ok here) (enter_node (b ∷ bs) (slice_get nodes here))) is.1
     ∙ ap (enter_node (b ∷ bs)) at
     ∙ ap (λ k. enter_directory n.parent (b ∷ bs) (entries_of k)) kind
-    ∙ ap (λ s. cond s (Ok n.parent) (ok_or (named (b ∷ bs) entries) NotFound)) is.2
+    ∙ ap (λ s. cond s (Ok n.parent) (ok_or (node_named (b ∷ bs) entries) NotFound)) is.2
     ∙ ap (λ o. ok_or o NotFound) found
 
 module _ (nodes : List Node) where

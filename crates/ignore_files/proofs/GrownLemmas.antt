@@ -7,7 +7,7 @@ use Rattle.std.proofs.lemmas.Slice.Eq.{bytes_eq-Decides}
 use Rattle.ignore_base.specs.Paths.{components, last_component}
 use Rattle.ignore_files.specs.Answers.{file_type_of}
 use Rattle.ignore_files.specs.Changes.{changed, with_entry, listing_too, with_node}
-use Rattle.ignore_files.specs.Entries.{named}
+use Rattle.ignore_files.specs.Entries.{node_named}
 use Rattle.ignore_files.specs.Grown.{kind_at, IsGrown}
 use Rattle.ignore_files.specs.Memory.{sought, parent_for, entry_under, new_node}
 use Rattle.ignore_files.specs.declared.memory.entry.Entry.{Entry}
@@ -86,7 +86,7 @@ grown_same f keeps ns p g place dir entries name kind node at is has = from (get
     same : KeepsKinds f
     same n = ap file_type_of (keeps n)
 
-    from : Changed f ns p place dir → (named name entries ≡ Some node) × (place < node) × (kind_at (changed f ns p) node ≡ Some kind)
+    from : Changed f ns p place dir → (node_named name entries ≡ Some node) × (place < node) × (kind_at (changed f ns p) node ≡ Some kind)
     from (inl (e, (n, there, d))) =
         let r = g place n entries name kind node there (sym (keeps n) ∙ ap (λ (m : Node). m.kind) (sym d) ∙ is) has in
         (r.0, r.1, kind_changed f same ns p node ∙ r.2)
@@ -110,23 +110,23 @@ grown_nameless ns p g place dir entries name kind node at is has = from (get_cha
     same n = keeps_listing Nameless n.kind
 
     from : Changed (listing_too Nameless) ns p place dir
-        → (named name entries ≡ Some node) × (place < node) × (kind_at (changed (listing_too Nameless) ns p) node ≡ Some kind)
+        → (node_named name entries ≡ Some node) × (place < node) × (kind_at (changed (listing_too Nameless) ns p) node ≡ Some kind)
     from (inl (e, (n, there, d))) =
         let l = listing_dir Nameless n.kind entries (ap (λ (m : Node). m.kind) (sym d) ∙ is) in
         let old = old_of_nameless l.0 name kind node (subst (λ es. Contains es (Named name kind node)) l.2 has) in
         let r = g place n l.0 name kind node there l.1 old in
-        (ap (named name) l.2 ∙ named_nameless name l.0 ∙ r.0, r.1, kind_changed (listing_too Nameless) same ns p node ∙ r.2)
+        (ap (node_named name) l.2 ∙ named_nameless name l.0 ∙ r.0, r.1, kind_changed (listing_too Nameless) same ns p node ∙ r.2)
     from (inr there) =
         let r = g place dir entries name kind node there is has in
         (r.0, r.1, kind_changed (listing_too Nameless) same ns p node ∙ r.2)
 
 -- an old entry is found as before, beside one under a new name
-found_still : (q name : List ℕ) (t : FileType) (k node : ℕ) (es : List Entry) → named q es ≡ None → named name es ≡ Some node
-    → named name (es ++ Named q t k ∷ []) ≡ Some node
+found_still : (q name : List ℕ) (t : FileType) (k node : ℕ) (es : List Entry) → node_named q es ≡ None → node_named name es ≡ Some node
+    → node_named name (es ++ Named q t k ∷ []) ≡ Some node
 found_still q name t k node es none some = named_more name q t k es none ∙ from (bytes_eq q name) refl
   where
-    from : (b : Bool) → bytes_eq q name ≡ b → cond b (Some k) (named name es) ≡ Some node
-    from true e = let same : q ≡ name = (bytes_eq-Decides q name).0 e in absurd (cc (none, some, ap (λ m. named m es) same))
+    from : (b : Bool) → bytes_eq q name ≡ b → cond b (Some k) (node_named name es) ≡ Some node
+    from true e = let same : q ≡ name = (bytes_eq-Decides q name).0 e in absurd (cc (none, some, ap (λ m. node_named m es) same))
     from false e = some
 
 itself : (q : List ℕ) → bytes_eq q q ≡ true
@@ -148,7 +148,7 @@ module _ (ns : List Node) (p : ℕ) (q : List ℕ) (x : Node) (parent : Node) (t
       kind_before (changed (listing_too entry) ns p) x node kind (kind_changed (listing_too entry) same ns p node ∙ h)
 
   abbrev Leads : ℕ → List Entry → List ℕ → FileType → ℕ → Type 0
-  Leads place entries name kind node = (named name entries ≡ Some node) × (place < node) × (kind_at more node ≡ Some kind)
+  Leads place entries name kind node = (node_named name entries ≡ Some node) × (place < node) × (kind_at more node ≡ Some kind)
 
   -- an entry of the directory that lists the node too
   listed_too : (place : ℕ) (n : Node) (es : List Entry) (name : List ℕ) (kind : FileType) (node : ℕ) → place ≡ p → slice_get ns place ≡ Some n
@@ -157,19 +157,19 @@ module _ (ns : List Node) (p : ℕ) (q : List ℕ) (x : Node) (parent : Node) (t
       let r = g place n es name kind node at is has in
       let one : Some n ≡ Some parent = sym at ∙ ap (slice_get ns) e ∙ there in
       let node_is : n ≡ parent = cc (one) in
-      let none : named q es ≡ None = ap (entry_under q) (sym is ∙ ap (λ (m : Node). m.kind) node_is) ∙ free in
+      let none : node_named q es ≡ None = ap (entry_under q) (sym is ∙ ap (λ (m : Node). m.kind) node_is) ∙ free in
       (found_still q name (file_type_of x.kind) (length ns) node es none r.0, r.1, kind_still node kind r.2)
   listed_too place n es name kind node e at is (inr new) =
       let one : Some n ≡ Some parent = sym at ∙ ap (slice_get ns) e ∙ there in
       let node_is : n ≡ parent = cc (one) in
-      let none : named q es ≡ None = ap (entry_under q) (sym is ∙ ap (λ (m : Node). m.kind) node_is) ∙ free in
+      let none : node_named q es ≡ None = ap (entry_under q) (sym is ∙ ap (λ (m : Node). m.kind) node_is) ∙ free in
       let name_is : q ≡ name = cc (new) in
       let kind_is : file_type_of x.kind ≡ kind = cc (new) in
       let last : length ns ≡ node = cc (new) in
       let less = slice_get_within ns p parent there in
       let long = length_changed (listing_too entry) ns p in (
-        ap (λ m. named m (es ++ entry ∷ [])) (sym name_is) ∙ named_more q q (file_type_of x.kind) (length ns) es none
-            ∙ ap (λ b. cond b (Some (length ns)) (named q es)) (itself q) ∙ ap Some last,
+        ap (λ m. node_named m (es ++ entry ∷ [])) (sym name_is) ∙ named_more q q (file_type_of x.kind) (length ns) es none
+            ∙ ap (λ b. cond b (Some (length ns)) (node_named q es)) (itself q) ∙ ap Some last,
         omega (arith, less, e, last),
         kind_last (changed (listing_too entry) ns p) x node (sym last ∙ sym long) ∙ ap Some kind_is,
       )
@@ -181,7 +181,7 @@ module _ (ns : List Node) (p : ℕ) (q : List ℕ) (x : Node) (parent : Node) (t
       let l = listing_dir entry n.kind entries (ap (λ (m : Node). m.kind) (sym d) ∙ is) in
       let r = listed_too place n l.0 name kind node e at l.1
       (Contains-push_cases l.0 entry (Named name kind node) (subst (λ es. Contains es (Named name kind node)) l.2 has)) in
-      (ap (named name) l.2 ∙ r.0, r.1, r.2)
+      (ap (node_named name) l.2 ∙ r.0, r.1, r.2)
   before place dir entries name kind node is has (inr at) =
       let r = g place dir entries name kind node at is has in
       (r.0, r.1, kind_still node kind r.2)

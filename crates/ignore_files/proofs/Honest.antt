@@ -1,6 +1,6 @@
 -- The machine's files are consistent with the tree on the disk from which the machine answers
 -- truly.
-use Rattle.std.proofs.Common.{ℕ, Bool, true, is_ok, List, Option, Result, Ok, Err, refl, sym, ap, subst, Some}
+use Rattle.std.proofs.Common.{◌≡◌, ℕ, Bool, true, is_ok, List, Option, Result, Ok, Err, refl, sym, ap, subst, Some}
 use Rattle.std.specs.declared.io.Error.{Error}
 use Rattle.ignore_base.specs.declared.fault.Fault.{Fault}
 use Rattle.ignore_base.specs.declared.fault.Fault.TheVariants as fault
@@ -11,7 +11,9 @@ use Rattle.ignore_files.specs.Machine.{Disk, IsTruthful, MayList, MayRead, AreRe
 use Rattle.ignore_files.specs.Whole.{AreWhole, is_found}
 use Rattle.ignore_files.specs.declared.types.Listed.{Listed}
 use Rattle.ignore_files.specs.Disk.{GivesStat, GivesIdentity, GivesOf, GivesAt, GivesContents, metadata_of, identity_of, contents_at}
-use Rattle.ignore_files.specs.Disk.{tree_on}
+use Rattle.ignore_files.specs.Disk.{files_on, machine_of, tree_on}
+use Rattle.ignore_files.specs.Gives.{IsHonest}
+use Rattle.ignore_files.specs.declared.disk.DiskFiles.{DiskFiles}
 use Rattle.ignore_files.specs.declared.machine.Machine.{Ghosts}
 use Rattle.ignore_files.specs.declared.stat.Stat.{Stat}
 use Rattle.ignore_files.specs.declared.types.Refusal.{Refusal}
@@ -54,7 +56,7 @@ Answers-contents at one (Err (Refused fault)) May answer each h given =
 Answers-contents at one (Err Memory) May answer each h given =
     subst (λ a. Answers (and_then (λ s. contents_at s.metadata.file_type one) at) a) (sym given) tt
 
-pub consistent_stat : {R M E D F : Type 0} (machine : Ghosts R M E D F)
+consistent_stat : {R M E D F : Type 0} (machine : Ghosts R M E D F)
     (next : D → Option (Result E Error) → D → Type 0) (r : R) (disk : Disk) → IsTruthful machine next r disk
     → (path : List ℕ) (follow : Bool) (answer : Result Metadata Refusal) → GivesStat machine r path follow answer
     → Answers ((tree_on disk).stat path follow) answer
@@ -63,7 +65,7 @@ consistent_stat machine next r disk truth path follow answer given =
     (Answers-then (λ stat. Ok stat.metadata) metadata_of (disk.stat path follow) given.0 (λ s. refl)
     (truth.stat path follow given.0 given.1))
 
-pub consistent_identity : {R M E D F : Type 0} (machine : Ghosts R M E D F)
+consistent_identity : {R M E D F : Type 0} (machine : Ghosts R M E D F)
     (next : D → Option (Result E Error) → D → Type 0) (r : R) (disk : Disk) → IsTruthful machine next r disk
     → (path : List ℕ) (follow : Bool) (answer : Result (Option Identity) Refusal)
     → GivesIdentity machine r path follow answer → Answers ((tree_on disk).identity path follow) answer
@@ -72,13 +74,31 @@ consistent_identity machine next r disk truth path follow answer given =
     (Answers-then (λ stat. Ok (Some stat.identity)) identity_of (disk.stat path follow) given.0 (λ s. refl)
     (truth.stat path follow given.0 given.1))
 
-pub consistent_contents : {R M E D F : Type 0} (machine : Ghosts R M E D F)
+consistent_contents : {R M E D F : Type 0} (machine : Ghosts R M E D F)
     (next : D → Option (Result E Error) → D → Type 0) (r : R) (disk : Disk) → IsTruthful machine next r disk
     → (path : List ℕ) (answer : Result Contents Refusal) → GivesContents machine r path answer
     → Answers ((tree_on disk).contents path) answer
 consistent_contents machine next r disk truth path answer given =
     Answers-contents (disk.stat path true) (disk.read path) given.0 (MayRead machine r path) answer
     (λ a m. truth.read path a m) (truth.stat path true given.0 given.1) given.2
+
+-- the files of a machine that answers truly are consistent with the tree on its disk
+pub honest_on : {R M E D F : Type 0} (machine : Ghosts R M E D F) (next : D → Option (Result E Error) → D → Type 0)
+    (files : DiskFiles R) (disk : Disk) → IsTruthful machine next (machine_of files) disk
+    → IsHonest (files_on machine next) files (tree_on disk)
+honest_on machine next files disk truth = record {
+  stat = consistent_stat machine next (machine_of files) disk truth;
+  list = truth.list;
+  contents = consistent_contents machine next (machine_of files) disk truth;
+  canonical = truth.canonical;
+  identity = consistent_identity machine next (machine_of files) disk truth;
+}
+
+pub honest_over : {R M E D F : Type 0} (machine : Ghosts R M E D F) (next : D → Option (Result E Error) → D → Type 0)
+    (r : R) (disk : Disk) → IsTruthful machine next r disk → (files : DiskFiles R) → machine_of files ≡ r
+    → IsHonest (files_on machine next) files (tree_on disk)
+honest_over machine next r disk truth files over =
+    honest_on machine next files disk (subst (λ m. IsTruthful machine next m disk) (sym over) truth)
 
 -- where nothing may be heard but faults, nothing is found
 pub whole_disk : {R M E D F : Type 0} (machine : Ghosts R M E D F) (next : D → Option (Result E Error) → D → Type 0) (r : R)

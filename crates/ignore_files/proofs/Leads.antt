@@ -6,7 +6,7 @@ use Rattle.std.specs.Option.{option_map_or}
 use Rattle.ignore_base.specs.declared.fault.Fault.{Fault}
 use Rattle.ignore_base.specs.declared.fault.Fault.TheVariants.{NotFound, NotADirectory}
 use Rattle.ignore_base.specs.Paths.{components, whole_components, has_slash, is_absolute, is_proper, join_of}
-use Rattle.ignore_files.specs.Entries.{named}
+use Rattle.ignore_files.specs.Entries.{node_named}
 use Rattle.ignore_files.specs.Memory.{and_then, is_empty, is_directory, is_dir_at, entries_of}
 use Rattle.ignore_files.specs.Resolve.{enter, enter_node, enter_directory, link_at, link_of, target_of, resolve_last, walk, start_of, link_limit, resolved}
 use Rattle.ignore_files.specs.declared.memory.entry.Entry.{Entry}
@@ -156,14 +156,14 @@ proper false false false h = (refl, refl, refl)
 
 -- a name leads from a directory to the node of its entry
 pub enter_name : (nodes : List Node) (here to : ℕ) (n : Node) (entries : List Entry) (name : List ℕ) → slice_get nodes here ≡ Some n
-    → n.kind ≡ Dir entries → named name entries ≡ Some to → is_proper name ≡ true → enter nodes here name ≡ Ok to
+    → n.kind ≡ Dir entries → node_named name entries ≡ Some to → is_proper name ≡ true → enter nodes here name ≡ Ok to
 enter_name nodes here to n entries [] at kind found h = absurd (cc (h))
 enter_name nodes here to n entries (b ∷ bs) at kind found h =
     let is = proper (eqb (length (b ∷ bs)) 0) (bytes_eq (b ∷ bs) (codes ".")) (bytes_eq (b ∷ bs) (codes "..")) h in
     ap (λ s. cond s (Ok here) (enter_node (b ∷ bs) (slice_get nodes here))) is.1
     ∙ ap (enter_node (b ∷ bs)) at
     ∙ ap (λ k. enter_directory n.parent (b ∷ bs) (entries_of k)) kind
-    ∙ ap (λ s. cond s (Ok n.parent) (ok_or (named (b ∷ bs) entries) NotFound)) is.2
+    ∙ ap (λ s. cond s (Ok n.parent) (ok_or (node_named (b ∷ bs) entries) NotFound)) is.2
     ∙ ap (λ o. ok_or o NotFound) found
 
 pub start_same : (cwd : List ℕ) (nodes : List Node) (a b : List ℕ) → is_absolute a ≡ is_absolute b → start_of cwd nodes a ≡ start_of cwd nodes b

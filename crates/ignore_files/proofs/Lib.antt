@@ -3,6 +3,7 @@ pub mod Places
 pub mod Walks
 pub mod EntryLemmas
 pub mod NodeLemmas
+pub mod Present
 mod DiskLemmas
 mod Heard
 mod Ranks
@@ -16,5 +17,6 @@ mod GrownLemmas
 mod RemovedLemmas
 mod Honest
 mod Truthful
+mod WorkedTable
 mod ChangesOnly
 mod AnswersOnly

@@ -9,7 +9,7 @@ use Rattle.std.proofs.lemmas.Slice.Eq.{bytes_eq-Decides}
 use Rattle.ignore_base.specs.Paths.{components, last_component}
 use Rattle.ignore_files.specs.Answers.{file_type_of}
 use Rattle.ignore_files.specs.Changes.{changed, Leaves}
-use Rattle.ignore_files.specs.Entries.{named}
+use Rattle.ignore_files.specs.Entries.{node_named}
 use Rattle.ignore_files.specs.Grown.{kind_at, IsGrown}
 use Rattle.ignore_files.specs.Memory.{Memory, and_then, child, folder_sought}
 use Rattle.ignore_files.specs.Removed.{is_under, without, without_name, unlisting, holding, with_bytes, listing, lister_of, removed}
@@ -25,7 +25,7 @@ use Rattle.ignore_files.proofs.NodeLemmas.{write_changed}
 use Rattle.ignore_files.proofs.Places.{folder_ok}
 
 -- without the entries of a name, it leads nowhere, and every other one as before
-pub named_without : (q name : List ℕ) (es : List Entry) → named q (without name es) ≡ cond (bytes_eq name q) None (named q es)
+pub named_without : (q name : List ℕ) (es : List Entry) → node_named q (without name es) ≡ cond (bytes_eq name q) None (node_named q es)
 named_without q name [] = either (bytes_eq name q) None
   where
     either : (b : Bool) (o : Option ℕ) → o ≡ cond b o o
@@ -35,8 +35,8 @@ named_without q name (Nameless ∷ es) = named_without q name es
 named_without q name (Named n t i ∷ es) = either (bytes_eq n name) (bytes_eq n q) (bytes_eq name q) refl refl refl (named_without q name es)
   where
     either : (a b c : Bool) → bytes_eq n name ≡ a → bytes_eq n q ≡ b → bytes_eq name q ≡ c
-        → named q (without name es) ≡ cond c None (named q es)
-        → named q (cond (not a) (Named n t i ∷ without name es) (without name es)) ≡ cond c None (cond b (Some i) (named q es))
+        → node_named q (without name es) ≡ cond c None (node_named q es)
+        → node_named q (cond (not a) (Named n t i ∷ without name es) (without name es)) ≡ cond c None (cond b (Some i) (node_named q es))
     either true b true ea eb ec h = h
     either true false false ea eb ec h = h
     either true true false ea eb ec h =
@@ -47,9 +47,9 @@ named_without q name (Named n t i ∷ es) = either (bytes_eq n name) (bytes_eq n
         let other : name ≡ q = (bytes_eq-Decides name q).0 ec in
         let equal : bytes_eq n name ≡ true = (bytes_eq-Decides n name).1 (same ∙ sym other) in
         absurd (cc (ea, equal))
-    either false false true ea eb ec h = ap (λ b. cond b (Some i) (named q (without name es))) eb ∙ h
-    either false true false ea eb ec h = ap (λ b. cond b (Some i) (named q (without name es))) eb
-    either false false false ea eb ec h = ap (λ b. cond b (Some i) (named q (without name es))) eb ∙ h
+    either false false true ea eb ec h = ap (λ b. cond b (Some i) (node_named q (without name es))) eb ∙ h
+    either false true false ea eb ec h = ap (λ b. cond b (Some i) (node_named q (without name es))) eb
+    either false false false ea eb ec h = ap (λ b. cond b (Some i) (node_named q (without name es))) eb ∙ h
 
 later : {X : Type 0} (x : X) (xs : List X) (y : X) → Contains xs y → Contains (x ∷ xs) y
 later x xs y c = let less = c.1 in (suc c.0, omega (arith, less), c.2)
@@ -75,10 +75,10 @@ otherwise q name o h = from (bytes_eq q name) refl
 
 -- an entry that is left was there, and leads where it led
 left : (q name : List ℕ) (kind : FileType) (node : ℕ) (es : List Entry) → Contains (without q es) (Named name kind node)
-    → Contains es (Named name kind node) × (named name (without q es) ≡ named name es)
+    → Contains es (Named name kind node) × (node_named name (without q es) ≡ node_named name es)
 left q name kind node es has = (
   All-contains (Contains es) (without q es) (Named name kind node) (all_kept (Contains es) (λ e. not (is_under q e)) es (λ e c. c)) has,
-  named_without name q es ∙ otherwise q name (named name es) (All-contains (λ e. not (is_under q e) ≡ true) (without q es)
+  named_without name q es ∙ otherwise q name (node_named name es) (All-contains (λ e. not (is_under q e) ≡ true) (without q es)
       (Named name kind node) (filter_passes (λ e. not (is_under q e)) es) has),
 )
 
@@ -86,11 +86,11 @@ left q name kind node es has = (
 module _ (f : Node → Node) (same : KeepsKinds f)
     (back : (n : Node) (entries : List Entry) → (f n).kind ≡ Dir entries → (es : List Entry) × (n.kind ≡ Dir es)
     × ((name : List ℕ) (kind : FileType) (node : ℕ) → Contains entries (Named name kind node)
-    → Contains es (Named name kind node) × (named name entries ≡ named name es))) where
+    → Contains es (Named name kind node) × (node_named name entries ≡ node_named name es))) where
   grown_kept : (ns : List Node) (p : ℕ) → IsGrown ns → IsGrown (changed f ns p)
   grown_kept ns p g place dir entries name kind node at is has = from (get_changed f ns p place dir at)
     where
-      from : Changed f ns p place dir → (named name entries ≡ Some node) × (place < node) × (kind_at (changed f ns p) node ≡ Some kind)
+      from : Changed f ns p place dir → (node_named name entries ≡ Some node) × (place < node) × (kind_at (changed f ns p) node ≡ Some kind)
       from (inl (e, (n, there, d))) =
           let b = back n entries (ap (λ (m : Node). m.kind) (sym d) ∙ is) in
           let was = b.2 name kind node has in
@@ -121,7 +121,7 @@ grown_unlisting q = grown_kept (unlisting q) (keeps_unlisting q) (λ n entries h
       d.1,
       λ name kind node has.
           let l = left q name kind node d.0 (subst (λ es. Contains es (Named name kind node)) d.2 has) in
-          (l.0, ap (named name) d.2 ∙ l.1),
+          (l.0, ap (node_named name) d.2 ∙ l.1),
     ))
 
 keeps_holding : (bytes : List ℕ) → KeepsKinds (holding bytes)

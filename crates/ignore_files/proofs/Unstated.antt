@@ -1,16 +1,13 @@
 -- A system that may refuse to list each directory has no listing that isn't whole.
-use Rattle.std.proofs.Common.{◌≡◌, ℕ, ℤ, pos, Bool, true, false, List, [], ◌∷◌, Option, Some, None, Result, Ok, Err, refl, sym, ap}
+use Rattle.std.proofs.Common.{◌≡◌, ℕ, pos, Bool, true, false, List, Option, Result, Err, refl, sym, ap}
 use Rattle.std.specs.IoError.{error_kind, kind_at, raw_os_error}
 use Rattle.std.specs.declared.io.Error.{Error}
 use Rattle.std.specs.declared.io.ErrorKind.TheVariants as kind
 use Rattle.ignore_base.specs.declared.fault.Fault.{Fault}
 use Rattle.ignore_base.specs.declared.fault.Fault.TheVariants as fault
-use Rattle.ignore_files.specs.Heard.{has_nul, IsHeard, MayList, HasWhole}
+use Rattle.ignore_files.specs.Heard.{has_nul, MayList, HasWhole}
 use Rattle.ignore_files.specs.Reported.{refusal_of, reported_error}
-use Rattle.ignore_files.specs.Table.{Refuses}
-use Rattle.ignore_files.specs.declared.table.Row.{Row}
 use Rattle.ignore_files.specs.declared.types.Listed.{Listed}
-use Rattle.ignore_files.specs.declared.types.Refusal.{Refusal}
 use Rattle.ignore_files.specs.declared.types.Refusal.TheVariants.{Fault as Refused}
 
 -- an error of the kind with this number
@@ -27,10 +24,6 @@ missing : error_kind (error_of 0) ≡ kind.NotFound
 unfolding kind_at error_of
 missing = refl
 
-no_directory : error_kind (error_of 14) ≡ kind.NotADirectory
-unfolding kind_at error_of
-no_directory = refl
-
 -- an error, and the fault as which it is reported
 pub record Refusing : Type 0 where
   pub error : Error
@@ -39,17 +32,6 @@ pub record Refusing : Type 0 where
 
 pub not_found : Refusing
 not_found = record { error = error_of 0; fault = fault.NotFound; is = ap (refusal_of (raw_os_error (error_of 0))) missing }
-
--- how a machine by a table refuses to list
-pub refusal_at : Option Row → Refusing
-refusal_at None = not_found
-refusal_at (Some row) =
-    record { error = error_of 14; fault = fault.NotADirectory; is = ap (refusal_of (raw_os_error (error_of 14))) no_directory }
-
-pub refuses_at : (T : Type 0) (row : Option Row) → Refuses {T = T} row (Err (refusal_at row).error)
-unfolding refusal_at error_of not_found
-refuses_at T None = missing
-refuses_at T (Some row) = no_directory
 
 module _ {M D E : Type 0} (metadata : List ℕ → Result M Error → Type 0) (opens : List ℕ → Result D Error → Type 0)
     (next : D → Option (Result E Error) → D → Type 0) (Are : List (Result E Error) → List Listed → Type 0)

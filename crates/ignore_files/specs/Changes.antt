@@ -3,7 +3,7 @@ use Rattle.std.specs.Prelude.{◌≡◌, ℕ, zero, suc, Bool, List, [], ◌∷�
 use Rattle.ignore_base.specs.Text.{Bytes, Path}
 use Rattle.ignore_base.specs.declared.fault.Fault.{Fault}
 use Rattle.ignore_base.specs.Paths.{components, last_component}
-use Rattle.ignore_files.specs.Memory.{Memory, and_then, is_canonical_path, is_directory, is_file, any_kind, sought, parent_for, new_node}
+use Rattle.ignore_files.specs.Memory.{Memory, and_then, is_canonical_path, is_directory, is_file_node, any_kind, sought, parent_for, new_node}
 use Rattle.ignore_files.specs.Answers.{file_type_of}
 use Rattle.ignore_files.specs.declared.tree_error.TreeError.{TreeError}
 use Rattle.ignore_files.specs.declared.tree_error.TreeError.TheVariants as refusal
@@ -71,7 +71,7 @@ nameless_added = set_at is_directory (listing_too Nameless)
 
 -- the size of a file is set
 abbrev pub size_set : ℕ → Memory → Path → Result Memory TreeError
-size_set len = set_at is_file (λ n. record n { len = len })
+size_set len = set_at is_file_node (λ n. record n { len = len })
 
 -- the identity of a node is set
 abbrev pub identity_set : Option Identity → Memory → Path → Result Memory TreeError
@@ -87,7 +87,7 @@ list_faulted fault = set_at is_directory (λ n. record n { list_fault = Some fau
 
 -- reading of a file ends after so many bytes, by this fault
 abbrev pub contents_cut : ℕ → Fault → Memory → Path → Result Memory TreeError
-contents_cut len fault = set_at is_file (λ n. record n { cut = Some (record { len = len; fault = fault }) })
+contents_cut len fault = set_at is_file_node (λ n. record n { cut = Some (record { len = len; fault = fault }) })
 
 -- the call succeeds exactly where it should and leaves that tree; or it fails with that error and
 -- changes nothing

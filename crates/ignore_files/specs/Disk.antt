@@ -1,13 +1,15 @@
 -- What the machine's files answer, and the tree that a disk is.
 use Rattle.std.specs.Prelude.{◌≡◌, Bool, true, Option, Some, Result, Ok, Err}
+use Rattle.std.specs.declared.io.Error.{Error}
 use Rattle.ignore_base.specs.Text.{Path}
 use Rattle.ignore_base.specs.declared.fault.Fault.{Fault}
 use Rattle.ignore_base.specs.declared.fault.Fault.TheVariants as fault
 use Rattle.ignore_files.specs.Tree.{Tree}
 use Rattle.ignore_files.specs.Memory.{and_then}
-use Rattle.ignore_files.specs.Machine.{Disk, MayStat, MayRead}
+use Rattle.ignore_files.specs.Machine.{Disk, MayStat, MayList, MayRead, MayCanonicalize}
 use Rattle.ignore_files.specs.declared.machine.Machine.{Ghosts}
 use Rattle.ignore_files.specs.declared.disk.DiskFiles.{DiskFiles}
+use Rattle.ignore_files.specs.declared.files.Files.{Ghosts as FilesGhosts}
 use Rattle.ignore_files.specs.declared.stat.Stat.{Stat}
 use Rattle.ignore_files.specs.declared.types.Refusal.{Refusal}
 use Rattle.ignore_files.specs.declared.types.Refusal.TheVariants.{Fault as Refused}
@@ -55,6 +57,17 @@ GivesAt (Err refusal) May answer = answer ≡ Err refusal
 abbrev pub GivesContents : {R M E D F : Type 0} → Ghosts R M E D F → R → Path → Result Contents Refusal → Type 0
 GivesContents machine r path answer =
     (heard : Result Stat Refusal) × MayStat machine r path true heard × GivesAt heard (MayRead machine r path) answer
+
+-- the answers of the files of a machine, as `DiskFiles` states them
+abbrev pub files_on : {R M E D F : Type 0} → Ghosts R M E D F → (D → Option (Result E Error) → D → Type 0)
+    → FilesGhosts (DiskFiles R)
+files_on machine next = record {
+  stat_gives = λ files path follow answer. GivesStat machine (machine_of files) path follow answer;
+  list_gives = λ files path answer. MayList machine next (machine_of files) path answer;
+  contents_gives = λ files path answer. GivesContents machine (machine_of files) path answer;
+  canonical_gives = λ files path answer. MayCanonicalize machine (machine_of files) path answer;
+  identity_gives = λ files path follow answer. GivesIdentity machine (machine_of files) path follow answer;
+}
 
 -- the contents at a path of this kind, where reading gives these
 abbrev pub contents_at : FileType → Result Contents Fault → Result Contents Fault

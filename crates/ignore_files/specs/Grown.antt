@@ -2,7 +2,7 @@
 use Rattle.std.specs.Prelude.{◌≡◌, ℕ, ◌<◌, List, Contains, Option, Some, slice_get, option_map}
 use Rattle.ignore_base.specs.Text.{Bytes}
 use Rattle.ignore_files.specs.Answers.{file_type_of}
-use Rattle.ignore_files.specs.Entries.{named}
+use Rattle.ignore_files.specs.Entries.{node_named}
 use Rattle.ignore_files.specs.declared.memory.entry.Entry.{Entry}
 use Rattle.ignore_files.specs.declared.memory.entry.Entry.TheVariants.{Named}
 use Rattle.ignore_files.specs.declared.memory.node.Node.{Node}
@@ -18,4 +18,4 @@ kind_at nodes place = option_map (λ n. file_type_of n.kind) (slice_get nodes pl
 abbrev pub IsGrown : List Node → Type 0
 IsGrown nodes = (place : ℕ) (dir : Node) (entries : List Entry) (name : Bytes) (kind : FileType) (node : ℕ)
     → slice_get nodes place ≡ Some dir → dir.kind ≡ Dir entries → Contains entries (Named name kind node)
-    → (named name entries ≡ Some node) × (place < node) × (kind_at nodes node ≡ Some kind)
+    → (node_named name entries ≡ Some node) × (place < node) × (kind_at nodes node ≡ Some kind)

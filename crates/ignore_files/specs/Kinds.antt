@@ -6,20 +6,14 @@ use Rattle.ignore_files.specs.declared.types.FileType.TheVariants.{File, Dir, Sy
 -- it is a file
 abbrev pub is_file : FileType → Bool
 is_file File = true
-is_file Dir = false
-is_file Symlink = false
-is_file Other = false
+is_file _ = false
 
 -- it is a directory
 abbrev pub is_dir : FileType → Bool
-is_dir File = false
 is_dir Dir = true
-is_dir Symlink = false
-is_dir Other = false
+is_dir _ = false
 
 -- it is a link
 abbrev pub is_symlink : FileType → Bool
-is_symlink File = false
-is_symlink Dir = false
 is_symlink Symlink = true
-is_symlink Other = false
+is_symlink _ = false

@@ -2,6 +2,7 @@ pub mod Kinds
 pub mod Tree
 pub mod Gives
 pub mod Whole
+pub mod Present
 pub mod Shown
 pub mod Entries
 pub mod Memory

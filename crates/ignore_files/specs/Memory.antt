@@ -5,7 +5,7 @@ use Rattle.std.specs.List.{list_all}
 use Rattle.ignore_base.specs.Paths.{but_last, components, is_proper}
 use Rattle.std.specs.Option.{option_map_or}
 use Rattle.ignore_base.specs.Text.{Bytes, Path}
-use Rattle.ignore_files.specs.Entries.{named}
+use Rattle.ignore_files.specs.Entries.{node_named}
 use Rattle.ignore_files.specs.declared.tree_error.TreeError.{TreeError}
 use Rattle.ignore_files.specs.declared.tree_error.TreeError.TheVariants as refusal
 use Rattle.ignore_files.specs.declared.memory.entry.Entry.{Entry}
@@ -36,10 +36,10 @@ is_directory (File bytes) = false
 is_directory (Link target) = false
 
 -- it is a file
-abbrev pub is_file : Kind → Bool
-is_file (Dir entries) = false
-is_file (File bytes) = true
-is_file (Link target) = false
+abbrev pub is_file_node : Kind → Bool
+is_file_node (Dir entries) = false
+is_file_node (File bytes) = true
+is_file_node (Link target) = false
 
 -- each kind passes
 abbrev pub any_kind : Kind → Bool
@@ -65,7 +65,7 @@ entries_of (Link target) = None
 
 -- the node of a directory's entry with a name
 abbrev pub entry_under : Bytes → Kind → Option ℕ
-entry_under name kind = option_and_then (named name) (entries_of kind)
+entry_under name kind = option_and_then (node_named name) (entries_of kind)
 
 -- the node of the entry with a name in the directory at a place
 abbrev pub child : List Node → ℕ → Bytes → Option ℕ
@@ -73,14 +73,14 @@ child nodes place name = option_and_then (λ n. entry_under name n.kind) (slice_
 
 -- the node to which components lead, one after another and through no links; empty components are
 -- skipped
-abbrev pub below : List Node → ℕ → List Bytes → Option ℕ
-below nodes place [] = Some place
-below nodes place (component ∷ rest) =
-    cond (is_empty component) (below nodes place rest) (option_and_then (λ i. below nodes i rest) (child nodes place component))
+abbrev pub node_below : List Node → ℕ → List Bytes → Option ℕ
+node_below nodes place [] = Some place
+node_below nodes place (component ∷ rest) =
+    cond (is_empty component) (node_below nodes place rest) (option_and_then (λ i. node_below nodes i rest) (child nodes place component))
 
 -- the node at a canonical path
 abbrev pub place_of : List Node → Path → Option ℕ
-place_of nodes path = below nodes 0 (components path)
+place_of nodes path = node_below nodes 0 (components path)
 
 -- a canonical path: `/`, or `/` and names joined by single slashes
 abbrev pub is_canonical_path : Path → Bool
@@ -100,7 +100,7 @@ sought test nodes path = cond (is_canonical_path path) (passing test refusal.Mis
 abbrev pub folder_sought : List Node → Path → Result ℕ TreeError
 folder_sought nodes path =
     cond (is_canonical_path path)
-    (passing is_directory refusal.NoParent nodes (below nodes 0 (but_last (components path)))) (Err refusal.NotClean)
+    (passing is_directory refusal.NoParent nodes (node_below nodes 0 (but_last (components path)))) (Err refusal.NotClean)
 
 -- the directory, unless the path has a node already
 abbrev pub vacant : Option ℕ → ℕ → Result ℕ TreeError

@@ -3,7 +3,7 @@ use Rattle.std.specs.Prelude.{ℕ, Bool, false, List, length, Option, Some, None
 use Rattle.std.specs.List.{filter}
 use Rattle.ignore_base.specs.Text.{Bytes, Path}
 use Rattle.ignore_base.specs.Paths.{components, last_component}
-use Rattle.ignore_files.specs.Memory.{Memory, and_then, child, is_file, folder_sought}
+use Rattle.ignore_files.specs.Memory.{Memory, and_then, child, is_file_node, folder_sought}
 use Rattle.ignore_files.specs.Changes.{changed, set_at}
 use Rattle.ignore_files.specs.declared.tree_error.TreeError.{TreeError}
 use Rattle.ignore_files.specs.declared.tree_error.TreeError.TheVariants as refusal
@@ -61,4 +61,4 @@ holding bytes n = record n { kind = with_bytes bytes n.kind; len = length bytes 
 
 -- a file is written anew: it has these bytes, and their number as its size
 abbrev pub file_written : Bytes → Memory → Path → Result Memory TreeError
-file_written bytes = set_at is_file (holding bytes)
+file_written bytes = set_at is_file_node (holding bytes)

@@ -48,11 +48,6 @@ abbrev pub reported : {T : Type 0} → Result T Error → Result T Refusal
 reported (Ok x) = Ok x
 reported (Err error) = Err (reported_error error)
 
--- the fault of a refusal, which may stand in an answer; out of memory can't
-abbrev pub reported_fault : Refusal → Result Fault Refusal
-reported_fault (Refused fault) = Ok fault
-reported_fault Memory = Err Memory
-
 -- the system's type of a file is reported as this kind
 abbrev pub IsReportedAs : MachineType → FileType → Type 0
 IsReportedAs t Dir = IsDir t

@@ -4,7 +4,7 @@ use Rattle.std.specs.Prelude.{bytes_eq, codes, cond}
 use Rattle.ignore_base.specs.Text.{Bytes, Path}
 use Rattle.ignore_base.specs.declared.fault.Fault.{Fault}
 use Rattle.ignore_base.specs.declared.fault.Fault.TheVariants.{NotFound, NotADirectory, LinkLimit}
-use Rattle.ignore_files.specs.Entries.{named}
+use Rattle.ignore_files.specs.Entries.{node_named}
 use Rattle.ignore_base.specs.Paths.{components, is_absolute}
 use Rattle.ignore_files.specs.Memory.{and_then, is_empty, entries_of, is_dir_at}
 use Rattle.ignore_files.specs.declared.memory.entry.Entry.{Entry}
@@ -21,7 +21,7 @@ stays component = is_empty component || bytes_eq component (codes ".")
 -- name; from other kinds nothing leads on
 abbrev pub enter_directory : ℕ → Bytes → Option (List Entry) → Result ℕ Fault
 enter_directory parent component (Some entries) =
-    cond (bytes_eq component (codes "..")) (Ok parent) (ok_or (named component entries) NotFound)
+    cond (bytes_eq component (codes "..")) (Ok parent) (ok_or (node_named component entries) NotFound)
 enter_directory parent component None = Err NotADirectory
 
 -- the same from the node at a place

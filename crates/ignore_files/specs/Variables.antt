@@ -18,10 +18,10 @@ IsReportedAs value (Err NotUnicode) = value ≡ None
 IsReportedAs value (Err OutOfMemory) = ⊥
 
 -- the value of a variable that is set and not empty
-abbrev pub filled : Option Bytes → Option Bytes
-filled None = None
-filled (Some []) = None
-filled (Some (b ∷ bs)) = Some (b ∷ bs)
+abbrev pub set_value : Option Bytes → Option Bytes
+set_value None = None
+set_value (Some []) = None
+set_value (Some (b ∷ bs)) = Some (b ∷ bs)
 
 -- a working directory that is reported so has this path: none where it isn't reported
 abbrev pub IsDirReportedAs : Option Path → Result (PathBuf Global) Error → Type 0

@@ -1,12 +1,13 @@
 //! Asking a system, and reporting its errors.
-ghost use Rattle.std.specs.Prelude.{◌≡◌, ◌↔◌, true, IsTrue, IsErrAnd};
+ghost use Rattle.std.specs.Prelude.{◌≡◌, ◌↔◌, true, IsTrue, IsErrAnd, MatchResult};
 ghost use Rattle.std.specs.IoError.{error_kind, raw_os_error};
 ghost use Rattle.std.specs.declared.io.ErrorKind.TheVariants.{Interrupted};
-ghost use Rattle.ignore_files.specs.Reported.{refusal_of, reported_error, reported_fault, IsReportedAs};
+ghost use Rattle.ignore_files.specs.Reported.{refusal_of, reported_error, IsReportedAs};
 ghost use Rattle.ignore_files.specs.Heard.{has_nul, IsHeard};
 
 use crate::types::{FileType, Refusal};
 use ignore_base::Fault;
+use std::alloc::AllocError;
 use std::{fs, io};
 
 /// As what an error of the system is reported.
@@ -30,12 +31,12 @@ pub fn refusal_of(error: io::Error) -> Refusal
 }
 
 /// A fault that stands in the answer; a failed allocation ends the call.
-pub fn fault_of(error: io::Error) -> Result<Fault, Refusal>
-    ensures { result ≡ reported_fault (reported_error error) }
+pub fn fault_of(error: io::Error) -> Result<Fault, AllocError>
+    ensures { MatchResult result (λ fault. reported_error error ≡ Refusal.Fault fault) (λ _. reported_error error ≡ Refusal.Memory) }
 {
     match refusal_of(error) {
         Refusal::Fault(fault) => Ok(fault),
-        Refusal::Memory => Err(Refusal::Memory),
+        Refusal::Memory => Err(AllocError),
     }
 }
 

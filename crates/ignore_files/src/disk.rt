@@ -1,5 +1,5 @@
 //! The machine's files.
-ghost use Rattle.std.specs.Prelude.{◌≡◌, Ok, Err, MatchResult, MatchOption, ⊤};
+ghost use Rattle.std.specs.Prelude.{◌≡◌, Ok, Err, IfOk, MatchResult, MatchOption, ⊤};
 ghost use Rattle.std.specs.Path.{path_buf_bytes};
 ghost use Rattle.std.specs.Iterator.{IsFinite};
 ghost use Rattle.ignore_files.specs.Reported.{IsEntryOf};
@@ -13,7 +13,7 @@ use crate::machine::Machine;
 use crate::stat::Stat;
 use crate::types::{Bytes, Contents, FileType, Identity, Listed, Listing, Metadata, Name, Refusal};
 use ignore_base::Fault;
-use std::alloc::Global;
+use std::alloc::{AllocError, Global};
 use std::io;
 
 /// How much room a read begins with, in bytes: most files of rules fit in, and all of it is filled
@@ -133,8 +133,8 @@ where
 }
 
 /// As what one of the things that a directory gives is reported.
-fn listed_of<R: Machine>(alloc: Global, entry: io::Result<R::Entry>) -> Result<Listed, Refusal>
-    ensures { MatchResult result (λ listed. IsReported R.Machine entry listed) (λ e. e ≡ Memory) }
+fn listed_of<R: Machine>(alloc: Global, entry: io::Result<R::Entry>) -> Result<Listed, AllocError>
+    ensures { IfOk result (λ listed. IsReported R.Machine entry listed) }
 {
     match entry {
         Ok(entry) => entry_of::<R>(alloc, &entry),
@@ -143,8 +143,8 @@ fn listed_of<R: Machine>(alloc: Global, entry: io::Result<R::Entry>) -> Result<L
 }
 
 /// As what an entry is reported.
-fn entry_of<R: Machine>(alloc: Global, entry: &R::Entry) -> Result<Listed, Refusal>
-    ensures { MatchResult result (λ listed. IsReported R.Machine (Ok entry.now) listed) (λ e. e ≡ Memory) }
+fn entry_of<R: Machine>(alloc: Global, entry: &R::Entry) -> Result<Listed, AllocError>
+    ensures { IfOk result (λ listed. IsReported R.Machine (Ok entry.now) listed) }
 {
     match ask(|| R::entry_type(entry)) {
         Ok(kind) => Ok(Listed::Entry {
@@ -236,6 +236,11 @@ impl<'r, R: Machine> Files for DiskFiles<'r, R> {
 
     fn listings_are_whole(&self) -> bool {
         self.rt.listings_are_whole()
+    }
+
+    /// They do: a file is opened after its `stat`.
+    fn reads_what_is_there(&self) -> bool {
+        true
     }
 }
 

@@ -1,7 +1,7 @@
 //! The environment of a run, handed in; `Env::of_process` asks the system for it.
 ghost use Rattle.std.specs.Prelude.{IfOk, IfErr, ◌≡◌, ◌≢◌, [], None, Some, string_bytes};
 ghost use Rattle.ignore_base.specs.Problem.{problem_of, memory};
-ghost use Rattle.ignore_files.specs.Variables.{IsReportedAs, IsDirReportedAs, filled};
+ghost use Rattle.ignore_files.specs.Variables.{IsReportedAs, IsDirReportedAs, set_value};
 
 use crate::types::Name;
 use ignore_base::Error;
@@ -128,7 +128,7 @@ fn value(variable: Result<String, VarError>) -> Result<Option<Name>, AllocError>
 
 /// The value of a variable that is set and not empty.
 fn filled(value: Option<Name>) -> Option<Name>
-    ensures value { result ≡ filled value }
+    ensures value { result ≡ set_value value }
     ensures filled { result ≢ Some [] }
 {
     match value {

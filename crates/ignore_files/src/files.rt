@@ -18,6 +18,7 @@ pub trait Files {
     ghost use Rattle.std.specs.Prelude.{Bool, List, Result, Option, IsTrue, ⊤};
     ghost use Rattle.ignore_base.specs.Text.{Path};
     ghost use Rattle.ignore_files.specs.Whole.{AreWhole};
+    ghost use Rattle.ignore_files.specs.Present.{ReadWhatIsThere};
     ghost use Rattle.ignore_files.specs.declared.types.Refusal.{Refusal};
     ghost use Rattle.ignore_files.specs.declared.types.Metadata.{Metadata};
     ghost use Rattle.ignore_files.specs.declared.types.Listed.{Listed};
@@ -65,6 +66,17 @@ pub trait Files {
     fn listings_are_whole(&self) -> bool
         ensures { IsTrue result → AreWhole (stat_gives self.now) (list_gives self.now) }
     {
-        false
+        false // nothing is known of listings
+    }
+
+    /// Whether it is known to read only what is there: where `contents` returns some, a followed
+    /// `stat` can return too. Of a file whose contents were returned one needn't ask then whether it
+    /// is there.
+    ///
+    /// A type that answers `true` proves it of the answers that the value may give.
+    fn reads_what_is_there(&self) -> bool
+        ensures { IsTrue result → ReadWhatIsThere (stat_gives self.now) (contents_gives self.now) }
+    {
+        false // nothing is known of reads
     }
 }

@@ -9,7 +9,7 @@ use Rattle.ignore_glob.specs.Glob.{no_branch, branch}
 use Rattle.ignore_glob.specs.Matches.{slash, other_case, is_listed, IsCaseOf, IsMember, BeginsWithSlash, EndsWithSlash, token_matches}
 use Rattle.ignore_glob.specs.Matches.{tokens_match, branch_matches}
 use Rattle.ignore_glob.specs.Reading.{Reading, Matches}
-use Rattle.ignore_glob.specs.DoesMatch.{some_split, is_one, is_empty, begins_with_slash, ends_with_slash, is_case_of, is_member}
+use Rattle.ignore_glob.specs.DoesMatch.{some_split, is_one, is_empty, begins_with_slash, is_last_slash, is_case_of, is_member}
 use Rattle.ignore_glob.specs.DoesMatch.{has_no_branch, does_token_match, do_tokens_match, does_branch_match, is_lone_start, does_match}
 
 never : {P : Type 0} → (P → ⊥) → Decides false P
@@ -62,13 +62,13 @@ end_back : (c : ℕ) (cs a : List ℕ) → c ∷ cs ≡ a ++ slash ∷ [] → ((
 end_back c cs [] e = inl (cc, cc)
 end_back c cs (d ∷ ds) e = inr (ds, cc)
 
-Decides-ends : (w : List ℕ) → Decides (ends_with_slash w) (EndsWithSlash w)
+Decides-ends : (w : List ℕ) → Decides (is_last_slash w) (EndsWithSlash w)
 Decides-ends [] = never (λ h. let e = no_cut h.0 (slash ∷ []) h.1 in let f = e.1 in cc)
 Decides-ends (c ∷ cs) =
-    Decides-like ((is_empty cs && eqb c slash) || ends_with_slash cs)
+    Decides-like ((is_empty cs && eqb c slash) || is_last_slash cs)
     (λ h. elim h [ inl last ↦ ([], cc (last.0, last.1)) | inr later ↦ (c ∷ later.0, ap (λ l. c ∷ l) later.1) ])
     (λ h. end_back c cs h.0 h.1)
-    (Decides-or (is_empty cs && eqb c slash) (ends_with_slash cs)
+    (Decides-or (is_empty cs && eqb c slash) (is_last_slash cs)
     (Decides-and (is_empty cs) (eqb c slash) (Decides-is_empty cs) (Decides-eqb c slash)) (Decides-ends cs))
 
 Decides-is_case_of : (fold : Bool) (c d : ℕ) → Decides (is_case_of fold c d) (IsCaseOf fold c d)
@@ -98,8 +98,8 @@ mutual
   token_decided fold (literal c) w = Decides-is_one (is_case_of fold c) (IsCaseOf fold c) (Decides-is_case_of fold c) w
   token_decided fold any w = Decides-is_one (λ d. not (eqb d slash)) (λ d. d ≡ slash → ⊥) not_slash w
   token_decided fold star w = no_slash w
-  token_decided fold start w = Decides-or (is_empty w) (ends_with_slash w) (Decides-is_empty w) (Decides-ends w)
-  token_decided fold middle w = Decides-and (begins_with_slash w) (ends_with_slash w) (Decides-has_prefix w) (Decides-ends w)
+  token_decided fold start w = Decides-or (is_empty w) (is_last_slash w) (Decides-is_empty w) (Decides-ends w)
+  token_decided fold middle w = Decides-and (begins_with_slash w) (is_last_slash w) (Decides-has_prefix w) (Decides-ends w)
   token_decided fold end w = Decides-has_prefix w
   token_decided fold (class negated ranges) w =
       Decides-is_one (is_member fold negated ranges) (IsMember fold negated ranges) (Decides-is_member fold negated ranges) w

@@ -9,7 +9,7 @@ use Rattle.ignore_glob.specs.Glob.{Token, Tokens, done, then, Branches, no_branc
 use Rattle.ignore_glob.specs.Lexing as P
 use Rattle.ignore_glob.specs.Lexing.{Lexeme, char, escaped, any, run, class, opening, comma, closing, Step, Begins, put_first, Bracket}
 use Rattle.ignore_glob.specs.Lexing.{Lexed}
-use Rattle.ignore_glob.specs.Row.{IsSlash, chain, Left, Meaning, gives, braces, ended, Means, character, escape, question, bracket, stars}
+use Rattle.ignore_glob.specs.Row.{IsSlash, stars_before, Left, Meaning, gives, braces, ended, Means, character, escape, question, bracket, stars}
 use Rattle.ignore_glob.specs.Row.{slash, middle, end, start, start_to_end, alone, opens, ends, times, add_branch, Row, nothing, further}
 use Rattle.ignore_glob.specs.Row.{nested, Inner, last_branch, further_branch, Reads}
 use Rattle.ignore_glob.specs.Nodes.{width, branches_width}
@@ -32,7 +32,7 @@ abbrev row_weight : List Lexeme → ℕ
 row_weight [] = 0
 row_weight (l ∷ ls) = weight l + row_weight ls
 
-chain_weight : (n : ℕ) (ls : List Lexeme) → row_weight (chain n ls) ≡ 3 * n + row_weight ls
+chain_weight : (n : ℕ) (ls : List Lexeme) → row_weight (stars_before n ls) ≡ 3 * n + row_weight ls
 chain_weight zero ls = omega arith
 chain_weight (suc n) ls = let e = chain_weight n ls in omega (arith, e)
 

@@ -8,7 +8,7 @@ use Rattle.ignore_glob.specs.Glob as G
 use Rattle.ignore_glob.specs.Glob.{Token, Tokens, done, Branches, no_branch, branch}
 use Rattle.ignore_glob.specs.Lexing as P
 use Rattle.ignore_glob.specs.Lexing.{Lexeme, char, escaped, any, run, class, opening, comma, closing, Step, Begins, put_first, Lexed}
-use Rattle.ignore_glob.specs.Row.{IsSlash, Ends, of_glob, at_comma, at_closing, chain, BeforeSlash, AtEnd, Left, glob_start, branch_start}
+use Rattle.ignore_glob.specs.Row.{IsSlash, Ends, of_glob, at_comma, at_closing, stars_before, BeforeSlash, AtEnd, Left, glob_start, branch_start}
 use Rattle.ignore_glob.specs.Row.{lexeme, IsStart, Meaning, gives, braces, ended, Means, character, escape, question, bracket, stars, slash}
 use Rattle.ignore_glob.specs.Row.{middle, end, start, start_to_end, alone, opens, ends, times, add_branch, Row, nothing, further, nested}
 use Rattle.ignore_glob.specs.Row.{Inner, last_branch, further_branch, Reads}
@@ -57,7 +57,7 @@ Lexed-balanced o d text out (P.continues d' e t rest l out' b w) =
       put (Ok row) h n = n row h
       put (Err f) h n = tt
 
-find_chain : (ls : List Lexeme) → (n : ℕ) × (rest : List Lexeme) × (ls ≡ chain n rest) × (BeforeSlash rest → ⊥)
+find_chain : (ls : List Lexeme) → (n : ℕ) × (rest : List Lexeme) × (ls ≡ stars_before n rest) × (BeforeSlash rest → ⊥)
 find_chain (run n ∷ char c ∷ ls) = elim (cases_eq n 2) [
   | inr k ↦ (0, run n ∷ char c ∷ ls, refl, (λ h. k (cc h.1)))
   | inl e ↦ elim (cases_eq c 47) [
@@ -90,20 +90,20 @@ at_slash : (p : Left) (l : Lexeme) (ls : List Lexeme) → IsSlash l → HasMeani
 at_slash p l ls s =
     let q = find_chain ls in let M : List Lexeme → Type 0 = λ x. HasMeaning p (l ∷ x) in
     subst M (sym q.2) (by_end q.0 q.1 q.3 (find_at_end q.1)) where
-      by_count : (n : ℕ) (rest : List Lexeme) → (BeforeSlash rest → ⊥) → (AtEnd rest → ⊥) → HasMeaning p (l ∷ chain n rest)
+      by_count : (n : ℕ) (rest : List Lexeme) → (BeforeSlash rest → ⊥) → (AtEnd rest → ⊥) → HasMeaning p (l ∷ stars_before n rest)
       by_count zero rest b a = (gives 1 (G.literal 47) rest, slash p l rest s b a)
       by_count (suc n) rest b a = (gives 1 G.middle rest, middle p l n rest s b a)
 
-      by_end : (n : ℕ) (rest : List Lexeme) → (BeforeSlash rest → ⊥) → AtEnd rest ⊎ (AtEnd rest → ⊥) → HasMeaning p (l ∷ chain n rest)
+      by_end : (n : ℕ) (rest : List Lexeme) → (BeforeSlash rest → ⊥) → AtEnd rest ⊎ (AtEnd rest → ⊥) → HasMeaning p (l ∷ stars_before n rest)
       by_end n rest b (inl h) =
-          let N : List Lexeme → Type 0 = λ x. HasMeaning p (l ∷ chain n x) in subst N (sym h.1) (gives 1 G.end h.0, end p l n h.0 s h.2)
+          let N : List Lexeme → Type 0 = λ x. HasMeaning p (l ∷ stars_before n x) in subst N (sym h.1) (gives 1 G.end h.0, end p l n h.0 s h.2)
       by_end n rest b (inr a) = by_count n rest b a
 
-at_start : (p : Left) (n : ℕ) (rest : List Lexeme) → IsStart p → (BeforeSlash rest → ⊥) → HasMeaning p (chain (suc n) rest)
+at_start : (p : Left) (n : ℕ) (rest : List Lexeme) → IsStart p → (BeforeSlash rest → ⊥) → HasMeaning p (stars_before (suc n) rest)
 at_start p n rest s b = by_end (find_at_end rest) where
-  by_end : AtEnd rest ⊎ (AtEnd rest → ⊥) → HasMeaning p (chain (suc n) rest)
+  by_end : AtEnd rest ⊎ (AtEnd rest → ⊥) → HasMeaning p (stars_before (suc n) rest)
   by_end (inl h) =
-      let N : List Lexeme → Type 0 = λ x. HasMeaning p (chain (suc n) x) in
+      let N : List Lexeme → Type 0 = λ x. HasMeaning p (stars_before (suc n) x) in
       subst N (sym h.1) (gives 1 G.start h.0, start_to_end p n h.0 s h.2)
   by_end (inr a) = (gives 1 G.start rest, start p n rest s b a)
 
@@ -117,13 +117,13 @@ find_lone n (l ∷ ls) b = (gives n G.star (l ∷ ls), stars glob_start n (l ∷
 find_run : (p : Left) (n : ℕ) (ls : List Lexeme) → HasMeaning p (run n ∷ ls)
 find_run lexeme n ls = (gives n G.star ls, stars lexeme n ls (λ r. r))
 find_run branch_start n ls = let q = find_chain (run n ∷ ls) in by_count q.0 q.1 q.2 q.3 where
-  by_count : (k : ℕ) (rest : List Lexeme) → run n ∷ ls ≡ chain k rest → (BeforeSlash rest → ⊥) → HasMeaning branch_start (run n ∷ ls)
+  by_count : (k : ℕ) (rest : List Lexeme) → run n ∷ ls ≡ stars_before k rest → (BeforeSlash rest → ⊥) → HasMeaning branch_start (run n ∷ ls)
   by_count zero rest e b =
       let B : List Lexeme → Type 0 = λ x. BeforeSlash x → ⊥ in (gives n G.star ls, stars branch_start n ls (subst B (sym e) b))
   by_count (suc k) rest e b =
       let M : List Lexeme → Type 0 = λ x. HasMeaning branch_start x in subst M (sym e) (at_start branch_start k rest tt b)
 find_run glob_start n ls = let q = find_chain (run n ∷ ls) in by_count q.0 q.1 q.2 q.3 where
-  by_count : (k : ℕ) (rest : List Lexeme) → run n ∷ ls ≡ chain k rest → (BeforeSlash rest → ⊥) → HasMeaning glob_start (run n ∷ ls)
+  by_count : (k : ℕ) (rest : List Lexeme) → run n ∷ ls ≡ stars_before k rest → (BeforeSlash rest → ⊥) → HasMeaning glob_start (run n ∷ ls)
   by_count zero rest e b = let B : List Lexeme → Type 0 = λ x. BeforeSlash x → ⊥ in find_lone n ls (subst B (sym e) b)
   by_count (suc k) rest e b =
       let M : List Lexeme → Type 0 = λ x. HasMeaning glob_start x in subst M (sym e) (at_start glob_start k rest tt b)
@@ -151,11 +151,11 @@ Leaves ls (gives n t mid) = (length mid < length ls) × ((d : ℕ) → Balanced 
 Leaves ls (braces mid) = (length mid < length ls) × ((d : ℕ) → Balanced ls d → Balanced mid (suc d))
 Leaves ls ended = Ends ls
 
-chain-longer : (n : ℕ) (rest : List Lexeme) → length rest ≤ length (chain n rest)
+chain-longer : (n : ℕ) (rest : List Lexeme) → length rest ≤ length (stars_before n rest)
 chain-longer zero rest = omega arith
 chain-longer (suc n) rest = omega (arith, chain-longer n rest)
 
-chain-balanced : (n d : ℕ) (rest : List Lexeme) → Balanced (chain n rest) d → Balanced rest d
+chain-balanced : (n d : ℕ) (rest : List Lexeme) → Balanced (stars_before n rest) d → Balanced rest d
 chain-balanced zero d rest b = b
 chain-balanced (suc n) d rest b = chain-balanced n d rest b
 
@@ -171,10 +171,10 @@ Means-leaves p ls m (bracket q negated ranges rest) = ((omega arith), λ d b. b)
 Means-leaves p ls m (stars q n rest r) = ((omega arith), λ d b. b)
 Means-leaves p ls m (slash q l rest s b a) = ((omega arith), λ d h. slash-balanced l d rest s h)
 Means-leaves p ls m (middle q l n rest s b a) =
-    (omega (arith, chain-longer n rest), λ d h. chain-balanced n d rest (slash-balanced l d (chain (suc n) rest) s h))
+    (omega (arith, chain-longer n rest), λ d h. chain-balanced n d rest (slash-balanced l d (stars_before (suc n) rest) s h))
 Means-leaves p ls m (end q l n rest s e) = (
   omega (arith, chain-longer n (run 2 ∷ rest)),
-  λ d h. chain-balanced n d (run 2 ∷ rest) (slash-balanced l d (chain n (run 2 ∷ rest)) s h),
+  λ d h. chain-balanced n d (run 2 ∷ rest) (slash-balanced l d (stars_before n (run 2 ∷ rest)) s h),
 )
 Means-leaves p ls m (start q n rest s b a) = (omega (arith, chain-longer n rest), λ d h. chain-balanced n d rest h)
 Means-leaves p ls m (start_to_end q n rest s e) = (omega (arith, chain-longer n (run 2 ∷ rest)), λ d h. chain-balanced n d (run 2 ∷ rest) h)

@@ -7,7 +7,7 @@ use Rattle.ignore_glob.specs.declared.glob.fault.GlobFault.{GlobFault}
 use Rattle.ignore_glob.specs.Glob as G
 use Rattle.ignore_glob.specs.Glob.{Token, Tokens, done, then, Branches, no_branch, branch}
 use Rattle.ignore_glob.specs.Lexing.{Lexeme, char, escaped, any, run, class, opening, comma, closing}
-use Rattle.ignore_glob.specs.Row.{IsSlash, Ends, of_glob, at_comma, at_closing, chain, BeforeSlash, AtEnd, Left, glob_start, branch_start}
+use Rattle.ignore_glob.specs.Row.{IsSlash, Ends, of_glob, at_comma, at_closing, stars_before, BeforeSlash, AtEnd, Left, glob_start, branch_start}
 use Rattle.ignore_glob.specs.Row.{lexeme, IsStart, IsRecursive, Meaning, gives, braces, ended, Means, character, escape, question, bracket}
 use Rattle.ignore_glob.specs.Row.{stars, slash, middle, end, start, start_to_end, alone, opens, ends, times, add_branch, Row, nothing}
 use Rattle.ignore_glob.specs.Row.{further, nested, Inner, last_branch, further_branch, Reads, IsFaulty}
@@ -78,7 +78,7 @@ past_chain-none (run n ∷ char c ∷ ls) p =
     ap (λ b. if b then (suc (past_chain ls).0, (past_chain ls).1) else (0, run n ∷ char c ∷ ls)) (before_slash n c ls p)
 past_chain-none ls p = refl
 
-past_chain-chain : (n : ℕ) (rest : List Lexeme) → (BeforeSlash rest → ⊥) → past_chain (chain n rest) ≡ (n, rest)
+past_chain-chain : (n : ℕ) (rest : List Lexeme) → (BeforeSlash rest → ⊥) → past_chain (stars_before n rest) ≡ (n, rest)
 past_chain-chain zero rest p = past_chain-none rest p
 past_chain-chain (suc n) rest p = ap (λ (q : ℕ × List Lexeme). (suc q.0, q.1)) (past_chain-chain n rest p)
 
@@ -111,18 +111,18 @@ slash_meaning p l ls (inl e) = ap (λ x. meaning_of p (x ∷ ls)) e
 slash_meaning p l ls (inr e) = ap (λ x. meaning_of p (x ∷ ls)) e
 
 chain_meaning : (n : ℕ) (rest : List Lexeme) → (BeforeSlash rest → ⊥) → (AtEnd rest → ⊥)
-    → after_slash (past_chain (chain n rest)) ≡ gives 1 (slash_or_middle n) rest
+    → after_slash (past_chain (stars_before n rest)) ≡ gives 1 (slash_or_middle n) rest
 chain_meaning n rest b a =
     ap after_slash (past_chain-chain n rest b) ∙ ap (λ t. if t then gives 1 G.end (tail rest) else gives 1 (slash_or_middle n) rest)
     (is_at_end-false rest a)
 
-end_meaning : (n : ℕ) (rest : List Lexeme) → Ends rest → after_slash (past_chain (chain n (run 2 ∷ rest))) ≡ gives 1 G.end rest
+end_meaning : (n : ℕ) (rest : List Lexeme) → Ends rest → after_slash (past_chain (stars_before n (run 2 ∷ rest))) ≡ gives 1 G.end rest
 end_meaning n rest h =
     ap after_slash (past_chain-chain n (run 2 ∷ rest) (ends_before rest h))
     ∙ ap (λ t. if t then gives 1 G.end rest else gives 1 (slash_or_middle n) (run 2 ∷ rest)) (is_end-true rest h)
 
 start_meaning : (p : Left) (n : ℕ) (rest : List Lexeme) → IsStart p → (BeforeSlash rest → ⊥)
-    → meaning_of p (chain (suc n) rest) ≡ gives 1 G.start (if is_at_end rest then tail rest else rest)
+    → meaning_of p (stars_before (suc n) rest) ≡ gives 1 G.start (if is_at_end rest then tail rest else rest)
 start_meaning glob_start n rest s b =
     ap (λ (q : ℕ × List Lexeme). gives 1 G.start (if is_at_end q.1 then tail q.1 else q.1)) (past_chain-chain n rest b)
 start_meaning branch_start n rest s b =
@@ -149,8 +149,8 @@ Means-meaning p ls m (question q rest) = refl
 Means-meaning p ls m (bracket q negated ranges rest) = refl
 Means-meaning p ls m (stars q n rest r) = sym (stars_meaning q n rest r)
 Means-meaning p ls m (slash q l rest s b a) = sym (slash_meaning q l rest s ∙ chain_meaning 0 rest b a)
-Means-meaning p ls m (middle q l n rest s b a) = sym (slash_meaning q l (chain (suc n) rest) s ∙ chain_meaning (suc n) rest b a)
-Means-meaning p ls m (end q l n rest s h) = sym (slash_meaning q l (chain n (run 2 ∷ rest)) s ∙ end_meaning n rest h)
+Means-meaning p ls m (middle q l n rest s b a) = sym (slash_meaning q l (stars_before (suc n) rest) s ∙ chain_meaning (suc n) rest b a)
+Means-meaning p ls m (end q l n rest s h) = sym (slash_meaning q l (stars_before n (run 2 ∷ rest)) s ∙ end_meaning n rest h)
 Means-meaning p ls m (start q n rest s b a) =
     sym (start_meaning q n rest s b ∙ ap (λ t. gives 1 G.start (if t then tail rest else rest)) (is_at_end-false rest a))
 Means-meaning p ls m (start_to_end q n rest s h) =

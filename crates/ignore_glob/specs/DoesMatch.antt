@@ -30,9 +30,9 @@ begins_with_slash [] = false
 begins_with_slash (c ∷ cs) = is_slash c
 
 -- the text ends with a slash
-abbrev pub ends_with_slash : Chars → Bool
-ends_with_slash [] = false
-ends_with_slash (c ∷ cs) = (is_empty cs && is_slash c) || ends_with_slash cs
+abbrev pub is_last_slash : Chars → Bool
+is_last_slash [] = false
+is_last_slash (c ∷ cs) = (is_empty cs && is_slash c) || is_last_slash cs
 
 -- the character d is c, or where case is folded the other case of c
 abbrev pub is_case_of : Bool → ℕ → ℕ → Bool
@@ -55,8 +55,8 @@ abbrev mutual
   does_token_match fold (literal c) w = is_one (is_case_of fold c) w
   does_token_match fold any w = is_one (λ d. not (is_slash d)) w
   does_token_match fold star w = list_all (λ d. not (is_slash d)) w
-  does_token_match fold start w = is_empty w || ends_with_slash w
-  does_token_match fold middle w = begins_with_slash w && ends_with_slash w
+  does_token_match fold start w = is_empty w || is_last_slash w
+  does_token_match fold middle w = begins_with_slash w && is_last_slash w
   does_token_match fold end w = begins_with_slash w
   does_token_match fold (class negated ranges) w = is_one (is_member fold negated ranges) w
   does_token_match fold (alternates bs) w = (has_no_branch bs && is_empty w) || does_branch_match fold bs w

@@ -10,35 +10,17 @@ use Rattle.ignore_glob.specs.Reading.{Reading}
 -- the character of a literal
 abbrev pub literal_of : Token → Option ℕ
 literal_of (literal c) = Some c
-literal_of any = None
-literal_of star = None
-literal_of start = None
-literal_of middle = None
-literal_of end = None
-literal_of (class negated ranges) = None
-literal_of (alternates bs) = None
+literal_of _ = None
 
 -- the token is a recursive start
 abbrev pub is_start : Token → Bool
-is_start (literal c) = false
-is_start any = false
-is_start star = false
 is_start start = true
-is_start middle = false
-is_start end = false
-is_start (class negated ranges) = false
-is_start (alternates bs) = false
+is_start _ = false
 
 -- the token is a star
 abbrev pub is_star : Token → Bool
-is_star (literal c) = false
-is_star any = false
 is_star star = true
-is_star start = false
-is_star middle = false
-is_star end = false
-is_star (class negated ranges) = false
-is_star (alternates bs) = false
+is_star _ = false
 
 -- a character, in UTF-8, before a text, where there are both
 abbrev pub before : Option ℕ → Option (List ℕ) → Option (List ℕ)

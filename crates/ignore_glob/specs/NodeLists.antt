@@ -4,6 +4,7 @@ use Rattle.std.specs.Coded.{Coded, code_by, coded×, coded_ℕ, coded_bool, code
 use Rattle.std.specs.Arc.{arc_slice_items}
 use Rattle.ignore_glob.specs.Glob.{Token, literal, any, star, start, middle, end, class, alternates, Tokens, done, then, Branches}
 use Rattle.ignore_glob.specs.Glob.{no_branch, branch}
+use Rattle.ignore_glob.specs.DoesMatch.{is_lone_start}
 use Rattle.ignore_glob.specs.Nodes.{Node, literal_at, any_at, star_at, start_at, middle_at, end_at, until_slash, until_end, class_at}
 use Rattle.ignore_glob.specs.Nodes.{fork_at, token_width, width, entry, fork}
 use Rattle.ignore_glob.specs.declared.glob.node.Node.{Node as CodeNode}
@@ -28,19 +29,6 @@ abbrev mutual
   pub branches_nodes : Branches → ℕ → ℕ → List Node
   branches_nodes no_branch b e = []
   branches_nodes (branch ts bs) b e = tokens_nodes ts b e ++ branches_nodes bs (b + width ts) e
-
--- the glob is one recursive start
-abbrev pub is_lone_start : Tokens → Bool
-is_lone_start done = false
-is_lone_start (then (literal c) ts) = false
-is_lone_start (then any ts) = false
-is_lone_start (then star ts) = false
-is_lone_start (then start done) = true
-is_lone_start (then start (then t ts)) = false
-is_lone_start (then middle ts) = false
-is_lone_start (then end ts) = false
-is_lone_start (then (class negated ranges) ts) = false
-is_lone_start (then (alternates bs) ts) = false
 
 -- the nodes of a whole glob; the inside of a lone recursive start leads to the end by nothing
 abbrev pub glob_nodes : Tokens → List Node

@@ -19,9 +19,9 @@ pub data Ends : List Lexeme → Type 0 where
   at_closing : (ls : List Lexeme) → Ends (closing ∷ ls)
 
 -- `**/` n times before this row; on the right of a run an escaped slash doesn't count
-abbrev pub chain : ℕ → List Lexeme → List Lexeme
-chain zero ls = ls
-chain (suc n) ls = run 2 ∷ char 47 ∷ chain n ls
+abbrev pub stars_before : ℕ → List Lexeme → List Lexeme
+stars_before zero ls = ls
+stars_before (suc n) ls = run 2 ∷ char 47 ∷ stars_before n ls
 
 -- the row begins with `**/`
 abbrev pub BeforeSlash : List Lexeme → Type 0
@@ -71,16 +71,16 @@ pub data Means : Left → List Lexeme → Meaning → Type 0 where
       → Means p (l ∷ rest) (gives 1 (G.literal 47) rest)
   -- `/**/` is a middle, and further runs at its slash add nothing: `/**/**/`
   middle : (p : Left) (l : Lexeme) (n : ℕ) (rest : List Lexeme) → IsSlash l → (BeforeSlash rest → ⊥) → (AtEnd rest → ⊥)
-      → Means p (l ∷ chain (suc n) rest) (gives 1 G.middle rest)
+      → Means p (l ∷ stars_before (suc n) rest) (gives 1 G.middle rest)
   -- `/**` at the end is an end, after a middle too: `/**/**`
   end : (p : Left) (l : Lexeme) (n : ℕ) (rest : List Lexeme) → IsSlash l → Ends rest
-      → Means p (l ∷ chain n (run 2 ∷ rest)) (gives 1 G.end rest)
+      → Means p (l ∷ stars_before n (run 2 ∷ rest)) (gives 1 G.end rest)
   -- `**/` at a start is a recursive start, and further runs at its slash add nothing: `**/**/`,
   -- `**/**`
   start : (p : Left) (n : ℕ) (rest : List Lexeme) → IsStart p → (BeforeSlash rest → ⊥) → (AtEnd rest → ⊥)
-      → Means p (chain (suc n) rest) (gives 1 G.start rest)
+      → Means p (stars_before (suc n) rest) (gives 1 G.start rest)
   start_to_end : (p : Left) (n : ℕ) (rest : List Lexeme) → IsStart p → Ends rest
-      → Means p (chain (suc n) (run 2 ∷ rest)) (gives 1 G.start rest)
+      → Means p (stars_before (suc n) (run 2 ∷ rest)) (gives 1 G.start rest)
   -- `**` as the whole glob
   alone : Means glob_start (run 2 ∷ []) (gives 1 G.start [])
   -- braces are parsed by themselves; a comma, a closing brace or nothing is the end

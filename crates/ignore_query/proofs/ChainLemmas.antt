@@ -8,7 +8,7 @@ use Rattle.ignore_dir.specs.declared.dir.Dir.{Dir}
 use Rattle.ignore_dir.specs.Above.{directories_along, dirs_above, names_above, path_along, paths_above}
 use Rattle.ignore_dir.specs.Chains.{placed_along, slashed}
 use Rattle.ignore_dir.specs.Lists.{IsAfterSlash, Placed}
-use Rattle.ignore_dir.specs.Scene.{Scene, dirs_at, names_to, path_verdict}
+use Rattle.ignore_dir.specs.Scene.{QueryScene, dirs_at, names_to, path_verdict}
 use Rattle.ignore_dir.specs.Steps.{entry, reached_in, verdict_at}
 use Rattle.ignore_dir.specs.declared.outside.Outside.{Outside}
 use Rattle.ignore_dir.specs.declared.settings.Settings.{Settings}
@@ -63,7 +63,7 @@ joined-slashed (a ∷ (b ∷ names)) name =
 -- Kept directories.
 
 -- those on the way to a kept one are kept
-pub loaded_front : (g : Scene) (c : Cache) (front rest : List (List ℕ)) → Agrees g c → All IsName (front ++ rest)
+pub loaded_front : (g : QueryScene) (c : Cache) (front rest : List (List ℕ)) → Agrees g c → All IsName (front ++ rest)
     → IsLoaded c (front ++ rest) → IsLoaded c front
 loaded_front g c front [] a names h = subst (IsLoaded c) (append-nil front) h
 loaded_front g c front (n ∷ rest) a names h =
@@ -78,7 +78,7 @@ take_drop [] (suc i) = ([], refl)
 take_drop (x ∷ xs) zero = (x ∷ xs, refl)
 take_drop (x ∷ xs) (suc i) = let r = take_drop xs i in (r.0, ap (λ l. x ∷ l) r.1)
 
-pub loaded_take : (g : Scene) (c : Cache) (names : List (List ℕ)) (i : ℕ) → Agrees g c → All IsName names → IsLoaded c names
+pub loaded_take : (g : QueryScene) (c : Cache) (names : List (List ℕ)) (i : ℕ) → Agrees g c → All IsName names → IsLoaded c names
     → IsLoaded c (take i names)
 loaded_take g c names i a clean h =
     let r = take_drop names i in
@@ -115,7 +115,7 @@ placed-after text offset (d ∷ dirs) (n ∷ names) e h =
     (placed-after next (offset + length n + 1) dirs names (ap (λ k. k + length n + 1) e ∙ sym size) (after_slash-end (text ++ n))))
 
 -- so is each of what is reached in a directory
-pub reached-after : (g : Scene) (front : List (List ℕ)) → All (λ p. IsAfterSlash (reached_in g front).text p.1) (reached_in g front).chain
+pub reached-after : (g : QueryScene) (front : List (List ℕ)) → All (λ p. IsAfterSlash (reached_in g front).text p.1) (reached_in g front).chain
 reached-after g front =
     let dirs = dirs_above g.loads g.settings (paths_above g.tree g.settings g.root)
     ++ dirs_at g.loads (directories_along g.root front ++ path_along g.root front ∷ []) in
@@ -123,7 +123,7 @@ reached-after g front =
     (placed-after (47 ∷ []) 1 dirs (names_to g front) refl (after_slash-end []))
 
 -- so are those that count, in the text of an entry
-pub counting-after : (g : Scene) (front : List (List ℕ)) (name text : List ℕ) → text ≡ (reached_in g front).text ++ name
+pub counting-after : (g : QueryScene) (front : List (List ℕ)) (name text : List ℕ) → text ≡ (reached_in g front).text ++ name
     → All (λ p. IsAfterSlash text p.1) (counting (reached_in g front).chain)
 counting-after g front name text is =
     All-filter (λ (p : Placed). counts p.0) (λ p. IsAfterSlash text p.1) (reached_in g front).chain
@@ -131,7 +131,7 @@ counting-after g front name text is =
     (placed-longer (reached_in g front).text name (reached_in g front).chain (reached-after g front)))
 
 -- and none is beyond the text
-pub counting-most : (g : Scene) (front : List (List ℕ)) (most : ℕ) → most ≡ length (reached_in g front).text
+pub counting-most : (g : QueryScene) (front : List (List ℕ)) (most : ℕ) → most ≡ length (reached_in g front).text
     → All (λ p. p.1 ≤ most) (counting (reached_in g front).chain)
 counting-most g front most is =
     All-filter (λ (p : Placed). counts p.0) (λ p. p.1 ≤ most) (reached_in g front).chain
@@ -139,7 +139,7 @@ counting-most g front most is =
     (reached_in g front).chain (reached-after g front))
 
 -- the text of a directory
-pub text-length : (g : Scene) (c : Cache) (front : List (List ℕ)) → Agrees g c → c.has_above ≡ true
+pub text-length : (g : QueryScene) (c : Cache) (front : List (List ℕ)) → Agrees g c → c.has_above ≡ true
     → length (string_bytes c.base) + length (slashed front) ≡ length (reached_in g front).text
 text-length g c front a h =
     let above = a.above h in
@@ -148,7 +148,7 @@ text-length g c front a h =
     ∙ ap (λ t. length t + length (slashed front)) (sym above.base)))
 
 -- the text of an entry of a directory
-pub text_in : (g : Scene) (c : Cache) (front : List (List ℕ)) (name base path : List ℕ) → Agrees g c → c.has_above ≡ true
+pub text_in : (g : QueryScene) (c : Cache) (front : List (List ℕ)) (name base path : List ℕ) → Agrees g c → c.has_above ≡ true
     → base ≡ string_bytes c.base → path ≡ joined (front ++ name ∷ []) → base ++ path ≡ (reached_in g front).text ++ name
 text_in g c front name base path a h b p =
     let above = a.above h in
@@ -192,7 +192,7 @@ same_entry : (s : Settings) (o : Outside) (a b : List Placed) (t u p q : List �
 same_entry s o a b t u p q is_dir d e f = rw (d, e, f) refl
 
 -- the verdict by this chain, text and path is that on the entry
-pub judged_in : (g : Scene) (front : List (List ℕ)) (n text path : List ℕ) (chain : List Placed) (is_dir : Bool)
+pub judged_in : (g : QueryScene) (front : List (List ℕ)) (n text path : List ℕ) (chain : List Placed) (is_dir : Bool)
     → verdict_at g.settings g.outside (entry (reached_in g front) n) is_dir ≡ path_verdict g (front ++ n ∷ []) is_dir
     → chain ≡ (reached_in g front).chain → text ≡ (reached_in g front).text ++ n → path ≡ path_along g.root (front ++ n ∷ [])
     → placed_verdict g.settings g.outside chain text path is_dir ≡ path_verdict g (front ++ n ∷ []) is_dir

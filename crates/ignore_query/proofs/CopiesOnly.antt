@@ -3,7 +3,7 @@ use Rattle.std.proofs.Common.{◌≡◌, List, ℕ, Option, string_bytes, refl, 
 use Rattle.ignore_dir.specs.declared.outside.Outside.{Outside}
 use Rattle.ignore_dir.specs.declared.settings.Settings.{Settings}
 use Rattle.ignore_dir.specs.Load.{AreLoads, Loaded}
-use Rattle.ignore_dir.specs.Scene.{Scene, scene}
+use Rattle.ignore_dir.specs.Scene.{QueryScene, scene}
 use Rattle.ignore_files.specs.Tree.{Tree}
 use Rattle.ignore_files.specs.declared.files.Files.{Ghosts as Files}
 use Rattle.ignore_query.specs.declared.asked.Asked.{Asked}
@@ -32,7 +32,7 @@ pub IsSame-scene : (a b : Asked) (tree : Tree) (loads : List ℕ → Loaded) →
 IsSame-scene a b tree loads h = IsSame-reads (λ s o r d. scene tree loads s o r) a b h
 
 -- what holds of each scene holds of each scene of a copy
-pub IsSame-each : {F : Type 0} (files : Files F) (f : F) (a b : Asked) (P : Scene → Type 0) → IsSame a b → InEachScene files f a P
+pub IsSame-each : {F : Type 0} (files : Files F) (f : F) (a b : Asked) (P : QueryScene → Type 0) → IsSame a b → InEachScene files f a P
     → InEachScene files f b P
 IsSame-each files f a b P h all tree loads honest are =
     subst P (sym (IsSame-scene a b tree loads h)) (all tree loads honest (subst (λ s. AreLoads tree s loads) h.0 are))

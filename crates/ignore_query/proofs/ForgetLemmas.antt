@@ -22,7 +22,7 @@ use Rattle.ignore_dir.specs.Above.{canonical_names, directories_along, dirs_abov
 use Rattle.ignore_dir.specs.Chains.{placed_along, slashed}
 use Rattle.ignore_dir.specs.Query.{is_clean, is_ignored, names_of}
 use Rattle.ignore_dir.specs.Load.{Loaded as Load}
-use Rattle.ignore_dir.specs.Scene.{Scene, asked_along, dirs_at, dirs_to, names_to, path_verdict}
+use Rattle.ignore_dir.specs.Scene.{QueryScene, asked_along, dirs_at, dirs_to, names_to, path_verdict}
 use Rattle.ignore_dir.specs.Verdict.{is_ignore, verdict}
 use Rattle.ignore_query.specs.declared.asked.Asked.{Asked as Shared}
 use Rattle.ignore_query.specs.declared.kept.Cache.{Cache}
@@ -222,7 +222,7 @@ pub record Forgets (c c' : Cache) (dir : List ℕ) : Type 0 where
       → ((key : List ℕ) (at : Place) → is_key_in dir key ≡ true → IsOwn c dir key at → ¬ Passes (slots_of c.levels) place at)
       → IsChain (slots_of c'.levels) place chain
 
-module _ (g : Scene) (c c' : Cache) (dir : List ℕ) (old : Agrees g c) (f : Forgets c c' dir) where
+module _ (g : QueryScene) (c c' : Cache) (dir : List ℕ) (old : Agrees g c) (f : Forgets c c' dir) where
   before : (q : List (List ℕ)) (k : Kept) → kept_at c' q ≡ Some k → (is_key_in dir (slashed q) ≡ false) × (kept_at c q ≡ Some k)
   before q k h = was (is_key_in dir (slashed q)) (kept_at c q) k (sym (f.look (slashed q)) ∙ h)
 
@@ -307,7 +307,7 @@ module _ (g : Scene) (c c' : Cache) (dir : List ℕ) (old : Agrees g c) (f : For
 
 -- Another tree.
 
-same_dirs : (g h : Scene) (c : Cache) → h.root ≡ g.root → Agrees g c → IsSameKept g h c → (done rest : List (List ℕ))
+same_dirs : (g h : QueryScene) (c : Cache) → h.root ≡ g.root → Agrees g c → IsSameKept g h c → (done rest : List (List ℕ))
     → All IsName (done ++ rest) → IsLoaded c (done ++ rest)
     → dirs_at h.loads (directories_along (path_along h.root done) rest ++ path_along (path_along h.root done) rest ∷ [])
     ≡ dirs_at g.loads (directories_along (path_along g.root done) rest ++ path_along (path_along g.root done) rest ∷ [])
@@ -319,7 +319,7 @@ same_dirs g h c root a same done (n ∷ rest) clean kept =
     let move : (done ++ n ∷ []) ++ rest ≡ done ++ n ∷ rest = append_assoc done (n ∷ []) rest in
     let next = same_dirs g h c root a same (done ++ n ∷ []) rest (subst (All IsName) (sym move) clean) (subst (IsLoaded c)
     (sym move) kept) in
-    let at : Scene → List ℕ → List Dir = λ s d. dirs_at s.loads (directories_along d rest ++ path_along d rest ∷ []) in
+    let at : QueryScene → List ℕ → List Dir = λ s d. dirs_at s.loads (directories_along d rest ++ path_along d rest ∷ []) in
     let next' : at h (join_of (path_along h.root done) n) ≡ at g (join_of (path_along g.root done) n) =
     ap (at h) (sym (path_along-more h.root done n)) ∙ (next ∙ ap (at g) (path_along-more g.root done n)) in
     ap (λ (d : Dir). d ∷ at h (join_of (path_along h.root done) n)) (same.dirs done front.0 (front_names done (n ∷ rest) clean) front.1)
@@ -342,11 +342,11 @@ same_verdict a before after loads later names is_dir d n =
     ∙ ap (λ (l : List (List ℕ)). verdict a.settings a.outside (reverse (asked_along (dirs_to
     (scene_of a before loads) names) l)) path is_dir) n
 
-root_ignored : (g h : Scene) → is_ignored h [] ≡ is_ignored g []
+root_ignored : (g h : QueryScene) → is_ignored h [] ≡ is_ignored g []
 unfolding is_ignored
 root_ignored g h = refl
 
-ignored_is : (g : Scene) (front : List (List ℕ)) (n : List ℕ)
+ignored_is : (g : QueryScene) (front : List (List ℕ)) (n : List ℕ)
     → is_ignored g (front ++ n ∷ []) ≡ is_ignore (path_verdict g (front ++ n ∷ []) true)
 unfolding is_ignored
 ignored_is g [] n = refl
@@ -381,7 +381,7 @@ same_ignored a before after loads later c old same names k clean kept (last fron
     ∙ (ap is_ignore (same_verdict a before after loads later (front ++ n ∷ []) true dirs names')
     ∙ (sym (ignored_is g front n) ∙ ap (is_ignored g) (sym e))))
 
-right_later : (g h : Scene) (c : Cache) (names : List (List ℕ)) (k : Kept) → is_ignored h names ≡ is_ignored g names
+right_later : (g h : QueryScene) (c : Cache) (names : List (List ℕ)) (k : Kept) → is_ignored h names ≡ is_ignored g names
     → ((place : Option Place) → k ≡ Loaded place → (reached_in h names).chain ≡ (reached_in g names).chain)
     → IsRight g c names k → IsRight h c names k
 right_later g h c names Ignored e f r = e ∙ r

@@ -6,9 +6,9 @@ use Rattle.ignore_base.specs.Problem.{Problem}
 use Rattle.ignore_dir.specs.declared.incremental.IncrementalMatch.{IncrementalMatch}
 use Rattle.ignore_dir.specs.declared.verdict.Verdict.TheVariants as v
 use Rattle.ignore_dir.specs.Load.{joined_some}
-use Rattle.ignore_dir.specs.Query.{answer_of_rules, depth_of, has_rules, is_asked, limit_of, loaded_for, names_of, problem_above}
+use Rattle.ignore_dir.specs.Query.{answer_of_rules, depth_of_path, has_rules, is_asked, limit_of, loaded_for, names_of, problem_above}
 use Rattle.ignore_dir.specs.Query.{problem_of_rules, problems_below, query, size_of}
-use Rattle.ignore_dir.specs.Scene.{Scene}
+use Rattle.ignore_dir.specs.Scene.{QueryScene}
 use Rattle.ignore_query.specs.declared.kept.Cache.{Cache}
 use Rattle.ignore_query.specs.declared.kept.Kept.{Kept}
 use Rattle.ignore_query.specs.declared.kept.Kept.TheVariants.{Loaded}
@@ -37,11 +37,11 @@ all_new c h (names ∷ fronts) =
     ap (λ o. cond (not (is_some o)) (names ∷ not_kept c fronts) (not_kept c fronts)) (h.dirs names)
     ∙ ap (λ l. names ∷ l) (all_new c h fronts)
 
-below : (g : Scene) (c : Cache) → KeepsNothing c → (names : List (List ℕ)) → new_below g c names ≡ problems_below g names
+below : (g : QueryScene) (c : Cache) → KeepsNothing c → (names : List (List ℕ)) → new_below g c names ≡ problems_below g names
 unfolding new_below problems_below
 below g c h names = ap (map (problem_in g)) (all_new c h (loaded_for g names))
 
-by_rules : (g : Scene) (c : Cache) → KeepsNothing c → (path : List ℕ) (is_dir : Bool) → reported_by_rules g c path is_dir ≡ problem_of_rules g path is_dir
+by_rules : (g : QueryScene) (c : Cache) → KeepsNothing c → (path : List ℕ) (is_dir : Bool) → reported_by_rules g c path is_dir ≡ problem_of_rules g path is_dir
 unfolding reported_by_rules problem_of_rules
 by_rules g c h path is_dir =
     let size = size_problem (join_of g.root path) (limit_of g path is_dir) (size_of g path) in
@@ -58,5 +58,5 @@ by_cases false false false p q s x y e = refl
 pub nothing_reports_all : NothingReportsAll
 unfolding reported query answer_of_rules
 nothing_reports_all g c path is_dir h =
-    by_cases (not (is_asked g.root path)) (is_beyond g.settings (depth_of path) is_dir) (has_rules g.tree g.root path)
-    (no_match is_dir) beyond (limited g.settings (depth_of path) is_dir v.None) (answer_of_rules g path is_dir) _ (by_rules g c h path is_dir)
+    by_cases (not (is_asked g.root path)) (is_beyond g.settings (depth_of_path path) is_dir) (has_rules g.tree g.root path)
+    (no_match is_dir) beyond (limited g.settings (depth_of_path path) is_dir v.None) (answer_of_rules g path is_dir) _ (by_rules g c h path is_dir)

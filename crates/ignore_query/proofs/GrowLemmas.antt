@@ -7,7 +7,7 @@ use Rattle.ignore_dir.specs.declared.dir.Dir.{Dir}
 use Rattle.ignore_dir.specs.Above.{dirs_above, names_above, path_along, paths_above}
 use Rattle.ignore_dir.specs.Chains.{placed_along, slashed}
 use Rattle.ignore_dir.specs.Lists.{Placed}
-use Rattle.ignore_dir.specs.Scene.{Scene}
+use Rattle.ignore_dir.specs.Scene.{QueryScene}
 use Rattle.ignore_dir.specs.Steps.{Reached, entered, entry, reached_in}
 use Rattle.ignore_dir.proofs.ChainLemmas.{slashed-more}
 use Rattle.ignore_levels.specs.Levels.{IsBelow, IsChain, counted, counting, slots_of}
@@ -20,11 +20,11 @@ use Rattle.ignore_query.proofs.KeepLemmas.{Ends, last, none}
 use Rattle.ignore_query.proofs.ListLemmas.{above-within}
 
 -- the directory with these names, in the chain of its entries
-abbrev pub here : Scene → List (List ℕ) → Placed
+abbrev pub here : QueryScene → List (List ℕ) → Placed
 here g names = ((g.loads (path_along g.root names)).0, length (reached_in g names).text)
 
 -- what is reached at the root, where the directories above it were placed
-abbrev pub RootLaw : Scene → Type 0
+abbrev pub RootLaw : QueryScene → Type 0
 RootLaw g = (dirs : List Placed) (text path : List ℕ)
     → dirs ≡ placed_along 1 (dirs_above g.loads g.settings (paths_above g.tree g.settings g.root))
     (names_above g.tree g.settings g.root) ++ ((g.loads g.root).0, length text) ∷ []
@@ -33,10 +33,10 @@ RootLaw g = (dirs : List Placed) (text path : List ℕ)
     at ≡ reached_in g []
 
 -- what is reached in an entry
-abbrev pub EntryLaw : Scene → Type 0
+abbrev pub EntryLaw : QueryScene → Type 0
 EntryLaw g = (front : List (List ℕ)) (n : List ℕ) → entered g.loads (entry (reached_in g front) n) ≡ reached_in g (front ++ n ∷ [])
 
-chain_first : (g : Scene) → RootLaw g → here g [] ∷ chain_above g ≡ (reached_in g []).chain
+chain_first : (g : QueryScene) → RootLaw g → here g [] ∷ chain_above g ≡ (reached_in g []).chain
 chain_first g law =
     let text : List ℕ = 47 ∷ slashed (names_above g.tree g.settings g.root) in
     let root : Placed = ((g.loads g.root).0, length text) in
@@ -45,7 +45,7 @@ chain_first g law =
     ap (λ n. let x : Placed = ((g.loads g.root).0, n) in x ∷ reverse above) (ap (λ (r : Reached). length r.text) (sym is))
     ∙ (sym (reverse-append above (root ∷ [])) ∙ ap (λ (r : Reached). r.chain) is)
 
-chain_more : (g : Scene) → EntryLaw g → (front : List (List ℕ)) (n : List ℕ)
+chain_more : (g : QueryScene) → EntryLaw g → (front : List (List ℕ)) (n : List ℕ)
     → here g (front ++ n ∷ []) ∷ (reached_in g front).chain ≡ (reached_in g (front ++ n ∷ [])).chain
 chain_more g law front n =
     ap (λ (r : Reached). let l : List Placed = ((g.loads r.path).0, length r.text) ∷ (reached_in g front).chain in l) (sym (law front n))
@@ -56,13 +56,13 @@ below-all [] most n h lt = tt
 below-all (x ∷ xs) most n h lt = let le = h 0 x (omega arith) in omega (arith, le, lt)
 
 -- the chain of the parent's place, and the directory before it
-pub record Parent (g : Scene) (c : Cache) (names : List (List ℕ)) (place : Option Place) : Type 0 where
+pub record Parent (g : QueryScene) (c : Cache) (names : List (List ℕ)) (place : Option Place) : Type 0 where
   pub chain : List Placed
   pub is : IsChain (slots_of c.levels) place (counting chain)
   pub whole : here g names ∷ chain ≡ (reached_in g names).chain
   pub below : IsBelow (length (reached_in g names).text) (counting chain)
 
-pub parent_of : (g : Scene) (c : Cache) (names : List (List ℕ)) (place : Option Place) → RootLaw g → EntryLaw g → Agrees g c → All IsName names
+pub parent_of : (g : QueryScene) (c : Cache) (names : List (List ℕ)) (place : Option Place) → RootLaw g → EntryLaw g → Agrees g c → All IsName names
     → IsNext c names place → Ends names → Parent g c names place
 parent_of g c names place root entry' a clean next (none e) =
     let P : List (List ℕ) → Type 0 = λ q. Parent g c q place in
@@ -95,7 +95,7 @@ parent_of g c names place root entry' a clean next (last front n e) =
     subst P (sym e) inner
 
 -- the added directory before the chain of its parent is the chain of its entries
-pub grown_chain : (g : Scene) (c : Cache) (names : List (List ℕ)) (parent : Option Place) (dir : Dir) (offset : ℕ) (chain : List Placed)
+pub grown_chain : (g : QueryScene) (c : Cache) (names : List (List ℕ)) (parent : Option Place) (dir : Dir) (offset : ℕ) (chain : List Placed)
     → here g names ∷ chain ≡ (reached_in g names).chain → dir ≡ (g.loads (path_along g.root names)).0
     → offset ≡ length (reached_in g names).text
     → counted dir offset (counting chain) ≡ counting (reached_in g names).chain

@@ -11,7 +11,7 @@ use Rattle.std.proofs.lemmas.Slice.Eq.{bytes_eq-Decides}
 use Rattle.ignore_base.specs.Paths.{IsName}
 use Rattle.ignore_dir.specs.Chains.{slashed}
 use Rattle.ignore_dir.specs.Query.{is_ignored}
-use Rattle.ignore_dir.specs.Scene.{Scene, path_verdict}
+use Rattle.ignore_dir.specs.Scene.{QueryScene, path_verdict}
 use Rattle.ignore_dir.specs.Verdict.{is_ignore}
 use Rattle.ignore_dir.proofs.ChainLemmas.{slashed-more}
 use Rattle.ignore_query.specs.declared.kept.Cache.{Cache}
@@ -43,7 +43,7 @@ pub key_end : (names front : List (List ℕ)) (name key : List ℕ) → names �
     → key ≡ (slashed front ++ name) ++ 47 ∷ []
 key_end names front name key is e = e ∙ (ap slashed is ∙ (slashed-more front name ∙ sym (append_assoc (slashed front) name (47 ∷ []))))
 
-pub ignored_last : (g : Scene) (front : List (List ℕ)) (name : List ℕ)
+pub ignored_last : (g : QueryScene) (front : List (List ℕ)) (name : List ℕ)
     → is_ignore (path_verdict g (front ++ name ∷ []) true) ≡ is_ignored g (front ++ name ∷ [])
 unfolding is_ignored
 ignored_last g [] name = refl
@@ -55,7 +55,7 @@ some_named [] [] k h e = cc (h)
 some_named [] (b ∷ bs) k h e = cc (k)
 some_named (n ∷ names) key k h e = cc (e)
 
-pub root_named : (g : Scene) (names : List (List ℕ)) → names ≡ [] → false ≡ is_ignored g names
+pub root_named : (g : QueryScene) (names : List (List ℕ)) → names ≡ [] → false ≡ is_ignored g names
 unfolding is_ignored
 root_named g [] h = refl
 root_named g (x ∷ xs) h = absurd (cc (h))
@@ -112,20 +112,20 @@ slashed_inj (n ∷ ns) (m ∷ ms) p q e =
 
 -- Kept directories.
 
-pub right_loaded : (g : Scene) (c : Cache) (names : List (List ℕ)) (k : Kept) → IsRight g c names k → is_loaded k ≡ not (is_ignored g names)
+pub right_loaded : (g : QueryScene) (c : Cache) (names : List (List ℕ)) (k : Kept) → IsRight g c names k → is_loaded k ≡ not (is_ignored g names)
 right_loaded g c names Ignored h = ap not (sym h)
 right_loaded g c names (Loaded place) h = ap not (sym h.0)
 
 -- what is right stays so where each level stays at its place
-pub right_kept : (g : Scene) (c c' : Cache) (names : List (List ℕ)) (k : Kept) → Keeps (slots_of c.levels) (slots_of c'.levels)
+pub right_kept : (g : QueryScene) (c c' : Cache) (names : List (List ℕ)) (k : Kept) → Keeps (slots_of c.levels) (slots_of c'.levels)
     → IsRight g c names k → IsRight g c' names k
 right_kept g c c' names Ignored keeps h = h
 right_kept g c c' names (Loaded place) keeps h = (h.0, chain-kept _ _ keeps h.1)
 
-pub problems_known : (g : Scene) (c : Cache) (names : List (List ℕ)) (k : Kept) → kept_at c names ≡ Some k → problems_at g c names ≡ []
+pub problems_known : (g : QueryScene) (c : Cache) (names : List (List ℕ)) (k : Kept) → kept_at c names ≡ Some k → problems_at g c names ≡ []
 problems_known g c names k h = ap (λ o. cond (is_some o || is_ignored g names) [] (option_to_list (problem_in g names))) h
 
-pub problems_new : (g : Scene) (c : Cache) (names : List (List ℕ)) → kept_at c names ≡ None
+pub problems_new : (g : QueryScene) (c : Cache) (names : List (List ℕ)) → kept_at c names ≡ None
     → problems_at g c names ≡ cond (is_ignored g names) [] (option_to_list (problem_in g names))
 problems_new g c names h = ap (λ o. cond (is_some o || is_ignored g names) [] (option_to_list (problem_in g names))) h
 
@@ -179,7 +179,7 @@ put_cases c c' names k puts clean q r cleanq h =
 abbrev pub SameAbove : Cache → Cache → Type 0
 SameAbove c c' = (c'.has_above ≡ c.has_above) × ((c'.above ≡ c.above) × (c'.base ≡ c.base))
 
-pub above_kept : (g : Scene) (c c' : Cache) → SameAbove c c' → Keeps (slots_of c.levels) (slots_of c'.levels) → (c.has_above ≡ true → IsAbove g c)
+pub above_kept : (g : QueryScene) (c c' : Cache) → SameAbove c c' → Keeps (slots_of c.levels) (slots_of c'.levels) → (c.has_above ≡ true → IsAbove g c)
     → c'.has_above ≡ true → IsAbove g c'
 above_kept g c c' same keeps old h =
     let a = old (sym same.0 ∙ h) in
@@ -190,7 +190,7 @@ above_kept g c c' same keeps old h =
     }
 
 -- one directory more: the second has a key more, and its list has grown
-pub record AddsOne (g : Scene) (c c' : Cache) (names : List (List ℕ)) (place : Option Place) (k : Kept) : Type 0 where
+pub record AddsOne (g : QueryScene) (c c' : Cache) (names : List (List ℕ)) (place : Option Place) (k : Kept) : Type 0 where
   pub clean : All IsName names
   pub next : IsNext c names place
   pub puts : Puts c c' (slashed names) k
@@ -200,7 +200,7 @@ pub record AddsOne (g : Scene) (c c' : Cache) (names : List (List ℕ)) (place :
   pub right : IsRight g c' names k
   pub below : IsBelow (slots_of c.levels) (slots_of c'.levels) place k
 
-pub put_agrees : (g : Scene) (c c' : Cache) (names : List (List ℕ)) (place : Option Place) (k : Kept) → Agrees g c
+pub put_agrees : (g : QueryScene) (c c' : Cache) (names : List (List ℕ)) (place : Option Place) (k : Kept) → Agrees g c
     → AddsOne g c c' names place k → SharesLevels c' → Agrees g c'
 put_agrees g c c' names place k old p shared =
     let split = put_cases c c' names k p.puts p.clean in

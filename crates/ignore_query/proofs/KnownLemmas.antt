@@ -13,7 +13,7 @@ use Rattle.ignore_dir.specs.Chains.{slashed}
 use Rattle.ignore_base.specs.Text.{is_slash}
 use Rattle.ignore_dir.specs.declared.verdict.Verdict.TheVariants as v
 use Rattle.ignore_dir.specs.Query.{ancestors, is_ignored, problem_above, rules_verdict}
-use Rattle.ignore_dir.specs.Scene.{Scene, path_verdict}
+use Rattle.ignore_dir.specs.Scene.{QueryScene, path_verdict}
 use Rattle.ignore_query.specs.declared.kept.Cache.{Cache}
 use Rattle.ignore_query.specs.declared.kept.Kept.{Kept}
 use Rattle.ignore_query.specs.declared.kept.Kept.TheVariants.{Ignored, Loaded}
@@ -51,7 +51,7 @@ without_end path front name n e k =
 -- By what is kept of the directory in which a path is.
 
 -- what is above a kept directory is kept and not ignored
-kept_front : (g : Scene) (c : Cache) (front : List (List ℕ)) (n : List ℕ) (rest : List (List ℕ)) (k : Kept) → Agrees g c
+kept_front : (g : QueryScene) (c : Cache) (front : List (List ℕ)) (n : List ℕ) (rest : List (List ℕ)) (k : Kept) → Agrees g c
     → All IsName (front ++ n ∷ rest) → kept_at c (front ++ n ∷ rest) ≡ Some k → IsLoaded c front
 kept_front g c front n [] k a clean h = a.inside (front ++ n ∷ []) k clean h front n refl
 kept_front g c front n (m ∷ rest) k a clean h =
@@ -68,7 +68,7 @@ or_none : (c : Cache) (b : Bool) (w : List (List (List ℕ))) → list_all (is_k
 or_none c true w h = refl
 or_none c false w h = h
 
-way_known : (g : Scene) (c : Cache) (done rest : List (List ℕ)) (n : List ℕ) (k : Kept) → Agrees g c → All IsName (done ++ rest)
+way_known : (g : QueryScene) (c : Cache) (done rest : List (List ℕ)) (n : List ℕ) (k : Kept) → Agrees g c → All IsName (done ++ rest)
     → kept_at c (done ++ rest) ≡ Some k → list_all (is_kept c) (way g done (rest ++ n ∷ [])) ≡ true
 way_known g c done [] n k a clean h =
     let here : is_kept c done ≡ true = ap (λ o. is_some o) (ap (kept_at c) (sym (append-nil done)) ∙ h) in
@@ -82,12 +82,12 @@ way_known g c done (m ∷ rest) n k a clean h =
     ∙ or_none c (is_ignored g done) (way g (done ++ m ∷ []) (rest ++ n ∷ [])) next
 
 -- where something is kept of it, all that the answer needs is
-pub parent_known : (g : Scene) (c : Cache) (front : List (List ℕ)) (n : List ℕ) (k : Kept) → Agrees g c → All IsName (front ++ n ∷ [])
+pub parent_known : (g : QueryScene) (c : Cache) (front : List (List ℕ)) (n : List ℕ) (k : Kept) → Agrees g c → All IsName (front ++ n ∷ [])
     → kept_at c front ≡ Some k → is_known g c (front ++ n ∷ []) ≡ true
 parent_known g c front n k a clean h =
     ap (list_all (is_kept c)) (needed_way g (front ++ n ∷ [])) ∙ way_known g c [] front n k a (front_names front (n ∷ []) clean) h
 
-open_front : (g : Scene) (c : Cache) (done rest : List (List ℕ)) → Agrees g c → All IsName (done ++ rest) → IsLoaded c (done ++ rest)
+open_front : (g : QueryScene) (c : Cache) (done rest : List (List ℕ)) → Agrees g c → All IsName (done ++ rest) → IsLoaded c (done ++ rest)
     → list_any (is_ignored g) (ancestors done) ≡ false → list_any (is_ignored g) (ancestors (done ++ rest)) ≡ false
 open_front g c done [] a clean h o = ap (λ l. list_any (is_ignored g) (ancestors l)) (append-nil done) ∙ o
 open_front g c done (n ∷ rest) a clean h o =
@@ -99,7 +99,7 @@ open_front g c done (n ∷ rest) a clean h o =
     ∙ open_front g c (done ++ n ∷ []) rest a (subst (All IsName) (sym move) clean) (subst (IsLoaded c) (sym move) h) next
 
 -- where it is loaded, no directory on the way is ignored
-pub parent_open : (g : Scene) (c : Cache) (front : List (List ℕ)) (n : List ℕ) → Agrees g c → All IsName (front ++ n ∷ []) → IsLoaded c front
+pub parent_open : (g : QueryScene) (c : Cache) (front : List (List ℕ)) (n : List ℕ) → Agrees g c → All IsName (front ++ n ∷ []) → IsLoaded c front
     → list_any (is_ignored g) (ancestors (front ++ n ∷ [])) ≡ false
 parent_open g c front n a clean h =
     let clean1 = front_names front (n ∷ []) clean in
@@ -107,7 +107,7 @@ parent_open g c front n a clean h =
     ∙ (a.right front (Loaded h.0) clean1 h.1).0)
 
 -- where it is kept as ignored, one is
-pub parent_shut : (g : Scene) (c : Cache) (front : List (List ℕ)) (n : List ℕ) → Agrees g c → All IsName (front ++ n ∷ [])
+pub parent_shut : (g : QueryScene) (c : Cache) (front : List (List ℕ)) (n : List ℕ) → Agrees g c → All IsName (front ++ n ∷ [])
     → kept_at c front ≡ Some Ignored → list_any (is_ignored g) (ancestors (front ++ n ∷ [])) ≡ true
 parent_shut g c front n a clean h =
     any-more g front n ∙ (ap (λ b. list_any (is_ignored g) (ancestors front) || b) (a.right front Ignored (front_names front (n ∷ []) clean) h)
@@ -127,7 +127,7 @@ some_kept : (o : Option Kept) → is_some o ≡ true → (k : Kept) × (o ≡ So
 some_kept (Some k) h = (k, refl)
 some_kept None h = cc
 
-root_known : (g : Scene) (c : Cache) (names : List (List ℕ)) → length names ≢ 0 → is_known g c names ≡ true → is_kept c [] ≡ true
+root_known : (g : QueryScene) (c : Cache) (names : List (List ℕ)) → length names ≢ 0 → is_known g c names ≡ true → is_kept c [] ≡ true
 root_known g c [] some h = absurd (some refl)
 root_known g c (n ∷ names) some h =
     and_left (is_kept c []) (list_all (is_kept c) (cond (is_ignored g []) [] (way g (n ∷ []) names)))
@@ -136,19 +136,19 @@ root_known g c (n ∷ names) some h =
 some_components : (path : List ℕ) → length (components path) ≢ 0
 some_components path z = omega (arith, z, length-slice_split is_slash path)
 
-pub known_above : (g : Scene) (c : Cache) (path : List ℕ) → Agrees g c → is_known g c (components path) ≡ true → c.has_above ≡ true
+pub known_above : (g : QueryScene) (c : Cache) (path : List ℕ) → Agrees g c → is_known g c (components path) ≡ true → c.has_above ≡ true
 known_above g c path a h =
     let k = some_kept (kept_at c []) (root_known g c (components path) (some_components path) h) in
     a.first [] k.0 k.1
 
 -- What the rules say by a way.
 
-pub shut_verdict : (g : Scene) (names : List (List ℕ)) (is_dir : Bool) → list_any (is_ignored g) (ancestors names) ≡ true
+pub shut_verdict : (g : QueryScene) (names : List (List ℕ)) (is_dir : Bool) → list_any (is_ignored g) (ancestors names) ≡ true
     → v.Ignore ≡ rules_verdict g names is_dir
 unfolding rules_verdict
 shut_verdict g names is_dir h = sym (ap (λ b. cond b v.Ignore (path_verdict g names is_dir)) h)
 
-pub open_verdict : (g : Scene) (names : List (List ℕ)) (is_dir : Bool) → list_any (is_ignored g) (ancestors names) ≡ false
+pub open_verdict : (g : QueryScene) (names : List (List ℕ)) (is_dir : Bool) → list_any (is_ignored g) (ancestors names) ≡ false
     → path_verdict g names is_dir ≡ rules_verdict g names is_dir
 unfolding rules_verdict
 open_verdict g names is_dir h = sym (ap (λ b. cond b v.Ignore (path_verdict g names is_dir)) h)
@@ -176,14 +176,14 @@ kept_among c (d ∷ ds) q all h =
     ] in
     P (pointwise bytes_eq q d) refl h
 
-pub keeps_known : (g : Scene) (c : Cache) (names : List (List ℕ)) → c.has_above ≡ true → is_known g c names ≡ true
+pub keeps_known : (g : QueryScene) (c : Cache) (names : List (List ℕ)) → c.has_above ≡ true → is_known g c names ≡ true
     → KeepsNeeded (needed g names) c c
 keeps_known g c names h all = record {
   above = h;
   dirs = λ q clean. or_same (is_kept c q) (is_among (needed g names) q) (λ e. kept_among c (needed g names) q all e);
 }
 
-none_new : (g : Scene) (c : Cache) (front rest : List (List ℕ)) → list_all (is_kept c) (way g front rest) ≡ true
+none_new : (g : QueryScene) (c : Cache) (front rest : List (List ℕ)) → list_all (is_kept c) (way g front rest) ≡ true
     → not_kept c (take_while (λ f. not (is_ignored g f)) (left front rest)) ≡ []
 none_new g c front [] all = refl
 none_new g c front (n ∷ rest) all =
@@ -200,19 +200,19 @@ none_new g c front (n ∷ rest) all =
     ap (λ l. not_kept c (take_while (λ f. not (is_ignored g f)) l)) (left_next front n rest)
     ∙ (ap (not_kept c) (take_while-cons (λ f. not (is_ignored g f)) front next) ∙ P (is_ignored g front) refl)
 
-pub none_below : (g : Scene) (c : Cache) (names : List (List ℕ)) → is_known g c names ≡ true → new_below g c names ≡ []
+pub none_below : (g : QueryScene) (c : Cache) (names : List (List ℕ)) → is_known g c names ≡ true → new_below g c names ≡ []
 unfolding new_below
 none_below g c names all =
     ap (λ l. map (problem_in g) (not_kept c (take_while (λ f. not (is_ignored g f)) l))) (sym (left_all names))
     ∙ ap (map (problem_in g)) (none_new g c [] names (sym (ap (list_all (is_kept c)) (needed_way g names)) ∙ all))
 
-pub none_above : (g : Scene) (c : Cache) → c.has_above ≡ true → new_above g c ≡ None
+pub none_above : (g : QueryScene) (c : Cache) → c.has_above ≡ true → new_above g c ≡ None
 none_above g c h = ap (λ b. cond b None (problem_above g)) h
 
 -- One directory after the other.
 
 -- where all that is left is kept, the next is, and so is what is left after it
-pub known_next : (g : Scene) (c : Cache) (names : List (List ℕ)) (i : ℕ) (n : List ℕ) → i < length names → n ≡ get_or names i n
+pub known_next : (g : QueryScene) (c : Cache) (names : List (List ℕ)) (i : ℕ) (n : List ℕ) → i < length names → n ≡ get_or names i n
     → take (i + 1) names ≡ take i names ++ n ∷ [] → list_all (is_kept c) (way g (take i names) (drop i names)) ≡ true
     → (is_kept c (take i names) ≡ true)
     × (is_ignored g (take i names) ≡ false → list_all (is_kept c) (way g (take (i + 1) names) (drop (i + 1) names)) ≡ true)

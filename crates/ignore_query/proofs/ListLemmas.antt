@@ -9,7 +9,7 @@ use Rattle.ignore_dir.specs.declared.dir.Dir.{Dir}
 use Rattle.ignore_dir.specs.Above.{directories_along, dirs_above, names_above, paths_above}
 use Rattle.ignore_dir.specs.Chains.{placed_along, slashed}
 use Rattle.ignore_dir.specs.Lists.{Placed}
-use Rattle.ignore_dir.specs.Scene.{Scene}
+use Rattle.ignore_dir.specs.Scene.{QueryScene}
 use Rattle.ignore_dir.specs.Steps.{reached_in}
 use Rattle.ignore_dir.proofs.ChainLemmas.{slashed-more}
 use Rattle.ignore_dir.specs.Query.{is_dir_there}
@@ -49,7 +49,7 @@ along-length dir [] = refl
 along-length dir (n ∷ names) = ap suc (along-length (join_of dir n) names)
 
 -- no directory above the root has an offset beyond the names there
-pub above-within : (g : Scene) → All (λ p. p.1 ≤ length (slashed (names_above g.tree g.settings g.root))) (counting (chain_above g))
+pub above-within : (g : QueryScene) → All (λ p. p.1 ≤ length (slashed (names_above g.tree g.settings g.root))) (counting (chain_above g))
 above-within g =
     let names = names_above g.tree g.settings g.root in
     let paths = paths_above g.tree g.settings g.root in
@@ -60,14 +60,14 @@ above-within g =
     (placed-within 1 dirs names (length (slashed names)) (omega (arith, size)) (omega arith)))
 
 -- a level that the chain above the root passes
-pub above-passed : (g : Scene) (c : Cache) (at : Place) → Agrees g c → c.has_above ≡ true → Passes (slots_of c.levels) c.above at
+pub above-passed : (g : QueryScene) (c : Cache) (at : Place) → Agrees g c → c.has_above ≡ true → Passes (slots_of c.levels) c.above at
     → PassedLevel (slots_of c.levels) at (length (slashed (names_above g.tree g.settings g.root)))
 above-passed g c at a h passes =
     let most = length (slashed (names_above g.tree g.settings g.root)) in
     passed-level (slots_of c.levels) c.above (counting (chain_above g)) at most (a.above h).chain (above-within g) passes
 
 -- a level that the chain of a kept directory passes
-pub passed : (g : Scene) (c : Cache) (names : List (List ℕ)) (place : Option Place) (at : Place) → Agrees g c → All IsName names
+pub passed : (g : QueryScene) (c : Cache) (names : List (List ℕ)) (place : Option Place) (at : Place) → Agrees g c → All IsName names
     → kept_at c names ≡ Some (Loaded place) → Passes (slots_of c.levels) place at
     → PassedLevel (slots_of c.levels) at (length (string_bytes c.base) + length (slashed names))
 passed g c names place at a clean kept passes =
@@ -92,7 +92,7 @@ nothing-down c at a b le =
 
 -- What was kept, in a list that has grown.
 
-module _ (g : Scene) (c c' : Cache) (old : Agrees g c) (same : SameAbove c c') (keeps : Keeps (slots_of c.levels) (slots_of c'.levels)) where
+module _ (g : QueryScene) (c c' : Cache) (old : Agrees g c) (same : SameAbove c c') (keeps : Keeps (slots_of c.levels) (slots_of c'.levels)) where
   -- a level that was there
   abbrev pub Stood : Place → Type 0
   Stood at = (floor_at (slots_of c'.levels) (Some at) ≡ floor_at (slots_of c.levels) (Some at)) × (level_at (slots_of c.levels) at ≡ None → ⊥)
@@ -131,7 +131,7 @@ module _ (g : Scene) (c c' : Cache) (old : Agrees g c) (same : SameAbove c c') (
 -- What is above the root, where nothing was kept.
 
 -- what counts of the directories above the root, from `/` down
-abbrev pub placed_above : Scene → List Placed
+abbrev pub placed_above : QueryScene → List Placed
 placed_above g =
     placed_along 1 (dirs_above g.loads g.settings (paths_above g.tree g.settings g.root)) (names_above g.tree g.settings g.root)
 
@@ -142,7 +142,7 @@ rising-along floor offset (d ∷ dirs) [] lt le = absurd (omega arith)
 rising-along floor offset (d ∷ dirs) (n ∷ names) lt le =
     (lt, rising-along offset (offset + length n + 1) dirs names (omega arith) (omega (arith, le)))
 
-pub above-rising : (g : Scene) → IsRising 0 (placed_above g)
+pub above-rising : (g : QueryScene) → IsRising 0 (placed_above g)
 above-rising g =
     let names = names_above g.tree g.settings g.root in
     let paths = paths_above g.tree g.settings g.root in
@@ -150,7 +150,7 @@ above-rising g =
     let size : length dirs ≡ length names = length-map paths _ ∙ along-length _ names in
     rising-along 0 1 dirs names (omega arith) (omega (arith, size))
 
-pub first_agrees : (g : Scene) (c c' : Cache) → Agrees g c → c.has_above ≡ false → c'.dirs ≡ c.dirs
+pub first_agrees : (g : QueryScene) (c c' : Cache) → Agrees g c → c.has_above ≡ false → c'.dirs ≡ c.dirs
     → is_dir_there (g.tree.stat g.root true) ≡ true → IsChain (slots_of c'.levels) c'.above (counting (reverse (placed_above g)))
     → string_bytes c'.base ≡ 47 ∷ slashed (names_above g.tree g.settings g.root) → c'.has_above ≡ true → Agrees g c'
 first_agrees g c c' a off dirs root chain base has =
@@ -166,7 +166,7 @@ first_agrees g c c' a off dirs root chain base has =
 
 -- One directory more.
 
-module _ (g : Scene) (c c' : Cache) (names : List (List ℕ)) (parent : Option Place) (k : Kept) (old : Agrees g c)
+module _ (g : QueryScene) (c c' : Cache) (names : List (List ℕ)) (parent : Option Place) (k : Kept) (old : Agrees g c)
     (adds : AddsOne g c c' names parent k) where
   abbrev StoodAt : Place → Type 0
   StoodAt at = Stood g c c' old adds.same adds.keeps at

@@ -13,7 +13,7 @@ use Rattle.ignore_dir.specs.declared.dir.Dir.{Dir}
 use Rattle.ignore_dir.specs.Above.{names_above, path_along}
 use Rattle.ignore_dir.specs.Chains.{slashed}
 use Rattle.ignore_dir.specs.Lists.{Placed}
-use Rattle.ignore_dir.specs.Scene.{Scene, names_to}
+use Rattle.ignore_dir.specs.Scene.{QueryScene, names_to}
 use Rattle.ignore_levels.specs.Levels.{IsBelow, IsChain, counting, counts, has_rules, level_at, slots_of}
 use Rattle.ignore_levels.specs.Levels.IsChain.{no_level, a_level}
 use Rattle.ignore_levels.specs.declared.list.Level.{Level}
@@ -102,7 +102,7 @@ not_own c key _ _ (a_level {place} {level} e under ruled mark more) below =
 
 -- One kept directory.
 
-next_of : (g : Scene) (c : Cache) (names : List (List ℕ)) (k : Kept) → Agrees g c → All IsName names → kept_at c names ≡ Some k → Ends names
+next_of : (g : QueryScene) (c : Cache) (names : List (List ℕ)) (k : Kept) → Agrees g c → All IsName names → kept_at c names ≡ Some k → Ends names
     → (place : Option Place) × IsNext c names place
 next_of g c names k a named kept (none e) = (
   c.above,
@@ -116,7 +116,7 @@ next_of g c names k a named kept (last front name e) =
     let p = a.inside names k named kept front name e in
     (p.0, parent_next g c names front name (Loaded p.0) p.0 a e p.1 refl)
 
-module _ (g : Scene) (c : Cache) (root : RootLaw g) (entry : EntryLaw g) (a : Agrees g c) where
+module _ (g : QueryScene) (c : Cache) (root : RootLaw g) (entry : EntryLaw g) (a : Agrees g c) where
   one_loaded : (names : List (List ℕ)) (k : Kept) → All IsName names → kept_at c names ≡ Some k → rules_kept c (slashed names) k ≡ rules_of g names
   one_loaded names Ignored named kept =
       let dir = (g.loads (path_along g.root names)).0 in

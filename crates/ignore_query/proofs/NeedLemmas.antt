@@ -11,7 +11,7 @@ use Rattle.std.specs.Str.{bytes_eq}
 use Rattle.ignore_base.specs.Paths.{IsName}
 use Rattle.ignore_dir.specs.Chains.{slashed}
 use Rattle.ignore_dir.specs.Query.{ancestors, is_ignored}
-use Rattle.ignore_dir.specs.Scene.{Scene}
+use Rattle.ignore_dir.specs.Scene.{QueryScene}
 use Rattle.ignore_levels.specs.Levels.{Keeps, slots_of}
 use Rattle.ignore_levels.proofs.PassLemmas.{keeps-then}
 use Rattle.ignore_query.specs.declared.kept.Cache.{Cache}
@@ -81,12 +81,12 @@ same_key a b p q =
 -- The way to a path.
 
 -- the directories from one with some names on, down to the first ignored one
-abbrev pub way : Scene → List (List ℕ) → List (List ℕ) → List (List (List ℕ))
+abbrev pub way : QueryScene → List (List ℕ) → List (List ℕ) → List (List (List ℕ))
 way g front [] = []
 way g front (n ∷ rest) = front ∷ cond (is_ignored g front) [] (way g (front ++ n ∷ []) rest)
 
 -- no proper ancestor of it is ignored
-abbrev opened : Scene → List (List ℕ) → Bool
+abbrev opened : QueryScene → List (List ℕ) → Bool
 opened g q = not (list_any (is_ignored g) (ancestors q))
 
 pub ancestors-append : (a b : List (List ℕ)) → ancestors (a ++ b) ≡ ancestors a ++ map (λ q. a ++ q) (ancestors b)
@@ -109,7 +109,7 @@ pub or_true : (b : Bool) → (b || true) ≡ true
 or_true true = refl
 or_true false = refl
 
-pub any-more : (g : Scene) (front : List (List ℕ)) (n : List ℕ)
+pub any-more : (g : QueryScene) (front : List (List ℕ)) (n : List ℕ)
     → list_any (is_ignored g) (ancestors (front ++ n ∷ [])) ≡ (list_any (is_ignored g) (ancestors front) || is_ignored g front)
 any-more g front n =
     ap (list_any (is_ignored g)) (ancestors-more front n)
@@ -117,7 +117,7 @@ any-more g front n =
     ∙ ap (λ b. list_any (is_ignored g) (ancestors front) || b) (or_false (is_ignored g front)))
 
 -- what is below an ignored directory is below an ignored one
-closed : (g : Scene) (front : List (List ℕ)) (n : List ℕ) (q : List (List ℕ)) → is_ignored g front ≡ true
+closed : (g : QueryScene) (front : List (List ℕ)) (n : List ℕ) (q : List (List ℕ)) → is_ignored g front ≡ true
     → opened g ((front ++ n ∷ []) ++ q) ≡ false
 closed g front n q h =
     let rest = list_any (is_ignored g) (map (λ p. (front ++ n ∷ []) ++ p) (ancestors q)) in
@@ -127,21 +127,21 @@ closed g front n q h =
     ∙ (ap (λ b. not ((list_any (is_ignored g) (ancestors front) || b) || rest)) h
     ∙ ap (λ b. not (b || rest)) (or_true (list_any (is_ignored g) (ancestors front))))))
 
-none_opened : (g : Scene) (front : List (List ℕ)) (n : List ℕ) (qs : List (List (List ℕ))) → is_ignored g front ≡ true
+none_opened : (g : QueryScene) (front : List (List ℕ)) (n : List ℕ) (qs : List (List (List ℕ))) → is_ignored g front ≡ true
     → filter (opened g) (map (λ q. (front ++ n ∷ []) ++ q) qs) ≡ []
 none_opened g front n [] h = refl
 none_opened g front n (q ∷ qs) h =
     let rest = filter (opened g) (map (λ p. (front ++ n ∷ []) ++ p) qs) in
     ap (λ b. cond b (((front ++ n ∷ []) ++ q) ∷ rest) rest) (closed g front n q h) ∙ none_opened g front n qs h
 
-opened_next : (g : Scene) (front : List (List ℕ)) (n : List ℕ) → opened g front ≡ true → is_ignored g front ≡ false
+opened_next : (g : QueryScene) (front : List (List ℕ)) (n : List ℕ) → opened g front ≡ true → is_ignored g front ≡ false
     → opened g (front ++ n ∷ []) ≡ true
 opened_next g front n o h =
     ap not (any-more g front n)
     ∙ (ap (λ b. not (list_any (is_ignored g) (ancestors front) || b)) h
     ∙ (ap not (or_false (list_any (is_ignored g) (ancestors front))) ∙ o))
 
-way_is : (g : Scene) (front rest : List (List ℕ)) → opened g front ≡ true → filter (opened g) (left front rest) ≡ way g front rest
+way_is : (g : QueryScene) (front rest : List (List ℕ)) → opened g front ≡ true → filter (opened g) (left front rest) ≡ way g front rest
 way_is g front [] o = refl
 way_is g front (n ∷ rest) o =
     let next = left (front ++ n ∷ []) rest in
@@ -154,12 +154,12 @@ way_is g front (n ∷ rest) o =
     ∙ (ap (λ b. cond b (front ∷ filter (opened g) next) (filter (opened g) next)) o
     ∙ ap (λ (l : List (List (List ℕ))). front ∷ l) (P (is_ignored g front) refl))
 
-pub needed_way : (g : Scene) (names : List (List ℕ)) → needed g names ≡ way g [] names
+pub needed_way : (g : QueryScene) (names : List (List ℕ)) → needed g names ≡ way g [] names
 unfolding needed
 needed_way g names = ap (filter (opened g)) (sym (left_all names)) ∙ way_is g [] names refl
 
 -- the next one
-pub way_at : (g : Scene) (names : List (List ℕ)) (i : ℕ) (n : List ℕ) → i < length names → n ≡ get_or names i n
+pub way_at : (g : QueryScene) (names : List (List ℕ)) (i : ℕ) (n : List ℕ) → i < length names → n ≡ get_or names i n
     → take (i + 1) names ≡ take i names ++ n ∷ []
     → way g (take i names) (drop i names)
     ≡ take i names ∷ cond (is_ignored g (take i names)) [] (way g (take (i + 1) names) (drop (i + 1) names))
@@ -167,7 +167,7 @@ way_at g names i n lt is more =
     ap (way g (take i names)) (drop_next names i n lt is)
     ∙ ap (λ (f : List (List ℕ)). take i names ∷ cond (is_ignored g (take i names)) [] (way g f (drop (i + 1) names))) (sym more)
 
-pub way_end : (g : Scene) (names : List (List ℕ)) (i : ℕ) → length names ≤ i → way g (take i names) (drop i names) ≡ []
+pub way_end : (g : QueryScene) (names : List (List ℕ)) (i : ℕ) → length names ≤ i → way g (take i names) (drop i names) ≡ []
 way_end g names i le = ap (way g (take i names)) (drop_all names i le)
 
 or_assoc : (a b c : Bool) → (a || (b || c)) ≡ ((a || b) || c)
@@ -175,7 +175,7 @@ or_assoc true b c = refl
 or_assoc false b c = refl
 
 -- what is kept with the directories that are left is kept with the next one and those after it
-pub kept_next : (g : Scene) (c c' : Cache) (names q : List (List ℕ)) (i : ℕ) (n : List ℕ) (key : List ℕ) → i < length names
+pub kept_next : (g : QueryScene) (c c' : Cache) (names q : List (List ℕ)) (i : ℕ) (n : List ℕ) (key : List ℕ) → i < length names
     → n ≡ get_or names i n → take (i + 1) names ≡ take i names ++ n ∷ [] → All IsName (take i names) → All IsName q
     → key ≡ slashed (take i names)
     → is_kept c' q ≡ (is_kept c q || bytes_eq key (slashed q))
@@ -190,7 +190,7 @@ kept_next g c c' names q i n key lt is more clean cleanq k put =
     ∙ ap (λ b. b || is_among rest q) (sym (put ∙ ap (λ b. is_kept c q || b) here)))
 
 -- the same after a step that keeps no directory, by the same names
-pub keeps_after : (g : Scene) (a b c : Cache) (names ms : List (List ℕ)) → b.dirs ≡ a.dirs → names ≡ ms
+pub keeps_after : (g : QueryScene) (a b c : Cache) (names ms : List (List ℕ)) → b.dirs ≡ a.dirs → names ≡ ms
     → KeepsNeeded (needed g names) b c → KeepsNeeded (needed g ms) a c
 keeps_after g a b c names ms same is k = record {
   above = k.above;

@@ -12,8 +12,8 @@ use Rattle.ignore_dir.specs.Chains.{slashed}
 use Rattle.ignore_dir.specs.declared.incremental.IncrementalMatch.{IncrementalMatch}
 use Rattle.ignore_dir.specs.declared.verdict.Verdict.TheVariants as v
 use Rattle.ignore_dir.specs.Limits.{beyond, is_beyond, limited, no_match}
-use Rattle.ignore_dir.specs.Query.{answer_of_rules, depth_of, has_rules, is_asked, is_clean, is_dir_there, loaded_for, names_of, query}
-use Rattle.ignore_dir.specs.Scene.{Scene}
+use Rattle.ignore_dir.specs.Query.{answer_of_rules, depth_of_path, has_rules, is_asked, is_clean, is_dir_there, loaded_for, names_of, query}
+use Rattle.ignore_dir.specs.Scene.{QueryScene}
 use Rattle.ignore_files.specs.Tree.{Tree}
 use Rattle.ignore_query.specs.declared.kept.Cache.{Cache}
 use Rattle.ignore_query.specs.Agrees.{Agrees}
@@ -48,7 +48,7 @@ pub names_are : (tree : Tree) (root path : List ℕ) → has_rules tree root pat
 names_are tree root [] h = cc
 names_are tree root (b ∷ bs) h = refl
 
-pub same_below : (g : Scene) (c c' : Cache) (names : List (List ℕ)) → c'.dirs ≡ c.dirs → new_below g c' names ≡ new_below g c names
+pub same_below : (g : QueryScene) (c c' : Cache) (names : List (List ℕ)) → c'.dirs ≡ c.dirs → new_below g c' names ≡ new_below g c names
 unfolding new_below
 same_below g c c' names e =
     ap (λ d. map (problem_in g) (filter (λ n. not (is_some (get_by_text d.map (slashed n)))) (loaded_for g names))) e
@@ -82,31 +82,31 @@ none_known (Some v) h e = h v refl
 
 -- The answer where all that it needs is kept.
 
-pub query_rules : (g : Scene) (path : List ℕ) (is_dir : Bool) → is_asked g.root path ≡ true
-    → is_beyond g.settings (depth_of path) is_dir ≡ false → has_rules g.tree g.root path ≡ true
+pub query_rules : (g : QueryScene) (path : List ℕ) (is_dir : Bool) → is_asked g.root path ≡ true
+    → is_beyond g.settings (depth_of_path path) is_dir ≡ false → has_rules g.tree g.root path ≡ true
     → query g path is_dir ≡ answer_of_rules g path is_dir
 unfolding query
 query_rules g path is_dir asked within ruled =
-    let none : IncrementalMatch × Option Problem = (limited g.settings (depth_of path) is_dir v.None, None) in
+    let none : IncrementalMatch × Option Problem = (limited g.settings (depth_of_path path) is_dir v.None, None) in
     let far : IncrementalMatch × Option Problem = (beyond, None) in
     let by : IncrementalMatch × Option Problem = answer_of_rules g path is_dir in
-    ap (λ b. cond (not b) (no_match is_dir, None) (cond (is_beyond g.settings (depth_of path) is_dir) far
+    ap (λ b. cond (not b) (no_match is_dir, None) (cond (is_beyond g.settings (depth_of_path path) is_dir) far
     (cond (has_rules g.tree g.root path) by none))) asked
     ∙ (ap (λ b. cond b far (cond (has_rules g.tree g.root path) by none)) within ∙ ap (λ b. cond b by none) ruled)
 
-pub query_none : (g : Scene) (path : List ℕ) (is_dir : Bool) → is_asked g.root path ≡ true
-    → is_beyond g.settings (depth_of path) is_dir ≡ false → has_rules g.tree g.root path ≡ false
-    → (query g path is_dir).0 ≡ limited g.settings (depth_of path) is_dir v.None
+pub query_none : (g : QueryScene) (path : List ℕ) (is_dir : Bool) → is_asked g.root path ≡ true
+    → is_beyond g.settings (depth_of_path path) is_dir ≡ false → has_rules g.tree g.root path ≡ false
+    → (query g path is_dir).0 ≡ limited g.settings (depth_of_path path) is_dir v.None
 unfolding query
 query_none g path is_dir asked within ruled =
-    let none : IncrementalMatch × Option Problem = (limited g.settings (depth_of path) is_dir v.None, None) in
+    let none : IncrementalMatch × Option Problem = (limited g.settings (depth_of_path path) is_dir v.None, None) in
     let far : IncrementalMatch × Option Problem = (beyond, None) in
     let by : IncrementalMatch × Option Problem = answer_of_rules g path is_dir in
-    ap (λ b. (cond (not b) (no_match is_dir, None) (cond (is_beyond g.settings (depth_of path) is_dir) far
+    ap (λ b. (cond (not b) (no_match is_dir, None) (cond (is_beyond g.settings (depth_of_path path) is_dir) far
     (cond (has_rules g.tree g.root path) by none))).0) asked
     ∙ (ap (λ b. (cond b far (cond (has_rules g.tree g.root path) by none)).0) within ∙ ap (λ b. (cond b by none).0) ruled)
 
-pub kept_rules : (g : Scene) (c : Cache) (path : List ℕ) → Agrees g c → length path ≢ 0 → is_known g c (names_of path) ≡ true
+pub kept_rules : (g : QueryScene) (c : Cache) (path : List ℕ) → Agrees g c → length path ≢ 0 → is_known g c (names_of path) ≡ true
     → (c.has_above ≡ true) × (has_rules g.tree g.root path ≡ true)
 kept_rules g c [] a some all = absurd (some refl)
 kept_rules g c (b ∷ bs) a some all =
@@ -114,7 +114,7 @@ kept_rules g c (b ∷ bs) a some all =
     (above, ap (λ t. not t && is_dir_there (g.tree.stat g.root true)) (eqb-suc-zero (length bs)) ∙ (a.above above).root)
 
 -- where the rules don't decide by what is kept, the path has no name
-pub kept_none : (g : Scene) (c : Cache) (path : List ℕ) (found : Bool) → Agrees g c → is_known g c (names_of path) ≡ true → found ≡ false
+pub kept_none : (g : QueryScene) (c : Cache) (path : List ℕ) (found : Bool) → Agrees g c → is_known g c (names_of path) ≡ true → found ≡ false
     → (c.has_above ≡ true → found ≡ not (length path == 0)) → has_rules g.tree g.root path ≡ false
 kept_none g c [] found a all off h = refl
 kept_none g c (b ∷ bs) found a all off h =

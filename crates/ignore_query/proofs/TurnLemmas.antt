@@ -5,7 +5,7 @@ use Rattle.ignore_base.specs.declared.error.Error.{Error}
 use Rattle.ignore_base.specs.Problem.{Problem, problem_of}
 use Rattle.ignore_dir.specs.declared.incremental.IncrementalMatch.{IncrementalMatch}
 use Rattle.ignore_dir.specs.Query.{query}
-use Rattle.ignore_dir.specs.Scene.{Scene}
+use Rattle.ignore_dir.specs.Scene.{QueryScene}
 use Rattle.ignore_query.specs.declared.kept.Cache.{Cache}
 use Rattle.ignore_query.specs.Agrees.{Agrees}
 use Rattle.ignore_query.specs.InTurn.{Leaves, Question, ReportInTurn}
@@ -13,7 +13,7 @@ use Rattle.ignore_query.specs.Reports.{reported}
 use Rattle.ignore_why.specs.declared.explanation.Explanation.{Explanation}
 use Rattle.ignore_why.specs.QueryWhy.{QueryWhy, query_why, query_why_of}
 
-turn_next : (g : Scene) (qs : List Question) (ps : List (Option Problem)) (old c c' : Cache) (q : Question)
+turn_next : (g : QueryScene) (qs : List Question) (ps : List (Option Problem)) (old c c' : Cache) (q : Question)
     → ReportInTurn g qs ps old c → Leaves g q c c' → ReportInTurn g (qs ++ q ∷ []) (ps ++ reported g c q.0 q.1 ∷ []) old c'
 turn_next g [] ps old c c' q turn leaves =
     let P : Cache → Type 0 = λ x. Leaves g q x c' → ReportInTurn g (q ∷ []) (ps ++ reported g x q.0 q.1 ∷ []) old c' in
@@ -36,17 +36,17 @@ match_of r = r.0
 abbrev pub reported_by : Answer → Option Problem
 reported_by r = option_map problem_of r.1
 
-abbrev pub match_to : Scene → Question → IncrementalMatch
+abbrev pub match_to : QueryScene → Question → IncrementalMatch
 match_to g q = (query g q.0 q.1).0
 
 -- questions have these answers, which report their problems in turn, and what is kept in the end
 -- agrees with the tree
-pub record AreAsked (g : Scene) (qs : List Question) (rs : List Answer) (old new : Cache) : Type 0 where
+pub record AreAsked (g : QueryScene) (qs : List Question) (rs : List Answer) (old new : Cache) : Type 0 where
   pub value : map match_of rs ≡ map (match_to g) qs
   pub turn : ReportInTurn g qs (map reported_by rs) old new
   pub agrees : Agrees g new
 
-pub asked_next : (g : Scene) (qs : List Question) (rs : List Answer) (old c c' : Cache) (q : Question) (r : Answer)
+pub asked_next : (g : QueryScene) (qs : List Question) (rs : List Answer) (old c c' : Cache) (q : Question) (r : Answer)
     → AreAsked g qs rs old c → r.0 ≡ match_to g q → reported_by r ≡ reported g c q.0 q.1 → Leaves g q c c' → Agrees g c'
     → AreAsked g (qs ++ q ∷ []) (rs ++ r ∷ []) old c'
 asked_next g qs rs old c c' q r asked value problem leaves agrees = record {
@@ -59,7 +59,7 @@ asked_next g qs rs old c c' q r asked value problem leaves agrees = record {
   agrees = agrees;
 }
 
-pub asked_so : (g : Scene) (qs qs' : List Question) (rs rs' : List Answer) (old new : Cache) → qs' ≡ qs → rs' ≡ rs
+pub asked_so : (g : QueryScene) (qs qs' : List Question) (rs rs' : List Answer) (old new : Cache) → qs' ≡ qs → rs' ≡ rs
     → AreAsked g qs rs old new → AreAsked g qs' rs' old new
 asked_so g qs qs' rs rs' old new e f asked =
     let P : List Question → Type 0 = λ x. AreAsked g x rs' old new in
@@ -80,26 +80,26 @@ answer_by r = r.0.answer
 abbrev pub told_by : Explained → Option Problem
 told_by r = option_map problem_of r.1
 
-abbrev pub why_to : Scene → Question → QueryWhy
+abbrev pub why_to : QueryScene → Question → QueryWhy
 why_to g q = query_why g q.0 q.1
 
 -- questions have these explanations, which report their problems in turn, and what is kept in the
 -- end agrees with the tree
-pub record AreExplained (g : Scene) (qs : List Question) (rs : List Explained) (old new : Cache) : Type 0 where
+pub record AreExplained (g : QueryScene) (qs : List Question) (rs : List Explained) (old new : Cache) : Type 0 where
   pub why : map why_by rs ≡ map (why_to g) qs
   pub value : map answer_by rs ≡ map (match_to g) qs
   pub turn : ReportInTurn g qs (map told_by rs) old new
   pub agrees : Agrees g new
 
 -- one more question, and what is right of its explanation
-pub record IsExplained (g : Scene) (q : Question) (r : Explained) (old new : Cache) : Type 0 where
+pub record IsExplained (g : QueryScene) (q : Question) (r : Explained) (old new : Cache) : Type 0 where
   pub why : why_by r ≡ why_to g q
   pub value : r.0.answer ≡ match_to g q
   pub problem : told_by r ≡ reported g old q.0 q.1
   pub leaves : Leaves g q old new
   pub agrees : Agrees g new
 
-pub explained_next : (g : Scene) (qs : List Question) (rs : List Explained) (old c c' : Cache) (q : Question) (r : Explained)
+pub explained_next : (g : QueryScene) (qs : List Question) (rs : List Explained) (old c c' : Cache) (q : Question) (r : Explained)
     → AreExplained g qs rs old c → IsExplained g q r c c' → AreExplained g (qs ++ q ∷ []) (rs ++ r ∷ []) old c'
 explained_next g qs rs old c c' q r before is = record {
   why = map-append why_by rs (r ∷ []) ∙ (ap (λ l. l ++ why_by r ∷ []) before.why
@@ -113,7 +113,7 @@ explained_next g qs rs old c c' q r before is = record {
   agrees = is.agrees;
 }
 
-pub explained_so : (g : Scene) (qs qs' : List Question) (rs rs' : List Explained) (old new : Cache) → qs' ≡ qs → rs' ≡ rs
+pub explained_so : (g : QueryScene) (qs qs' : List Question) (rs rs' : List Explained) (old new : Cache) → qs' ≡ qs → rs' ≡ rs
     → AreExplained g qs rs old new → AreExplained g qs' rs' old new
 explained_so g qs qs' rs rs' old new e f asked =
     let P : List Question → Type 0 = λ x. AreExplained g x rs' old new in

@@ -10,9 +10,9 @@ use Rattle.ignore_base.specs.Paths.{IsName, join_of}
 use Rattle.ignore_base.specs.Problem.{Problem}
 use Rattle.ignore_dir.specs.Limits.{is_beyond, size_problem}
 use Rattle.ignore_dir.specs.Load.{joined_some}
-use Rattle.ignore_dir.specs.Query.{ancestors, depth_of, has_rules, is_asked, is_ignored, limit_of, loaded_for, names_of, problem_above}
+use Rattle.ignore_dir.specs.Query.{ancestors, depth_of_path, has_rules, is_asked, is_ignored, limit_of, loaded_for, names_of, problem_above}
 use Rattle.ignore_dir.specs.Query.{size_of}
-use Rattle.ignore_dir.specs.Scene.{Scene}
+use Rattle.ignore_dir.specs.Scene.{QueryScene}
 use Rattle.ignore_query.specs.declared.kept.Cache.{Cache}
 use Rattle.ignore_query.specs.declared.kept.Kept.{Kept}
 use Rattle.ignore_query.specs.declared.kept.Kept.TheVariants.{Loaded}
@@ -54,7 +54,7 @@ all_stay old new (front ∷ fronts) stays h =
     ap (λ b. b && list_all (is_kept new) fronts) (Stays-kept old new front stays both.0) ∙ all_stay old new fronts stays both.1
 
 -- where all that an answer needs was kept, it stays kept, and no directory is loaded for it
-pub Stays-known : (g : Scene) (old new : Cache) (names : List (List ℕ)) → Stays old new → is_known g old names ≡ true
+pub Stays-known : (g : QueryScene) (old new : Cache) (names : List (List ℕ)) → Stays old new → is_known g old names ≡ true
     → (is_known g new names ≡ true) × (new_below g new names ≡ [])
 Stays-known g old new names stays h =
     let known : is_known g new names ≡ true = all_stay old new (needed g names) stays h in
@@ -96,7 +96,7 @@ KeepsNeeded-one needs a b c d alike h k = record {
 }
 
 -- a question leaves one set of directories kept
-pub Leaves-one : (g : Scene) (q : Question) (a b c d : Cache) → KeepAlike a b → Leaves g q a c → Leaves g q b d → KeepAlike c d
+pub Leaves-one : (g : QueryScene) (q : Question) (a b c d : Cache) → KeepAlike a b → Leaves g q a c → Leaves g q b d → KeepAlike c d
 Leaves-one g q a b c d alike h k = by (is_decided g q.0 q.1) refl
   where
     by : (x : Bool) → is_decided g q.0 q.1 ≡ x → KeepAlike c d
@@ -136,14 +136,14 @@ same_not_kept c d (front ∷ fronts) alike h =
     ap (λ b. cond (not b) (front ∷ not_kept c fronts) (not_kept c fronts)) (alike.dirs front h.0)
     ∙ ap (λ l. cond (not (is_kept d front)) (front ∷ l) l) (same_not_kept c d fronts alike h.1)
 
-same_below : (g : Scene) (c d : Cache) (names : List (List ℕ)) → KeepAlike c d → All IsName names
+same_below : (g : QueryScene) (c d : Cache) (names : List (List ℕ)) → KeepAlike c d → All IsName names
     → new_below g c names ≡ new_below g d names
 unfolding new_below
 same_below g c d names alike are =
     ap (map (problem_in g))
     (same_not_kept c d (loaded_for g names) alike (taken_named (λ f. not (is_ignored g f)) (ancestors names) (ancestors_named names are)))
 
-same_by_rules : (g : Scene) (c d : Cache) (path : List ℕ) (is_dir : Bool) → KeepAlike c d → All IsName (names_of path)
+same_by_rules : (g : QueryScene) (c d : Cache) (path : List ℕ) (is_dir : Bool) → KeepAlike c d → All IsName (names_of path)
     → reported_by_rules g c path is_dir ≡ reported_by_rules g d path is_dir
 unfolding reported_by_rules
 same_by_rules g c d path is_dir alike are =
@@ -159,17 +159,17 @@ by_cases true false true x y h = h refl refl
 by_cases true false false x y h = refl
 
 -- a question reports one problem, by the directories that are kept
-pub reported-one : (g : Scene) (c d : Cache) (path : List ℕ) (is_dir : Bool) → KeepAlike c d
+pub reported-one : (g : QueryScene) (c d : Cache) (path : List ℕ) (is_dir : Bool) → KeepAlike c d
     → reported g c path is_dir ≡ reported g d path is_dir
 unfolding reported
 reported-one g c d path is_dir alike =
-    by_cases (is_asked g.root path) (is_beyond g.settings (depth_of path) is_dir) (has_rules g.tree g.root path)
+    by_cases (is_asked g.root path) (is_beyond g.settings (depth_of_path path) is_dir) (has_rules g.tree g.root path)
     (reported_by_rules g c path is_dir) (reported_by_rules g d path is_dir)
     (λ asked ruled. same_by_rules g c d path is_dir alike
     (subst (All IsName) (names_are g.tree g.root path ruled) (names-components path (asked_names g.tree g.root path asked ruled))))
 
 -- questions in turn have one list of problems, and leave one set of directories kept
-pub ReportInTurn-one : (g : Scene) (qs : List Question) (ps rs : List (Option Problem)) (a b c d : Cache) → KeepAlike a b
+pub ReportInTurn-one : (g : QueryScene) (qs : List Question) (ps rs : List (Option Problem)) (a b c d : Cache) → KeepAlike a b
     → ReportInTurn g qs ps a c → ReportInTurn g qs rs b d → (ps ≡ rs) × KeepAlike c d
 ReportInTurn-one g [] ps rs a b c d alike h k = (h.0 ∙ sym k.0, KeepAlike-same a b c d alike h.1 k.1)
 ReportInTurn-one g (q ∷ qs) ps rs a b c d alike (m, rest, here, is, more) (n, others, there, are, further) =

@@ -9,7 +9,7 @@ use Rattle.std.specs.Option.{option_to_list}
 use Rattle.ignore_base.specs.Problem.{Problem}
 use Rattle.ignore_dir.specs.Chains.{slashed}
 use Rattle.ignore_dir.specs.Query.{ancestors, is_ignored}
-use Rattle.ignore_dir.specs.Scene.{Scene}
+use Rattle.ignore_dir.specs.Scene.{QueryScene}
 use Rattle.ignore_query.specs.declared.kept.Cache.{Cache}
 use Rattle.ignore_query.specs.Listed.{kept_at}
 use Rattle.ignore_query.specs.Reports.{new_below, not_kept, problem_in, problems_at}
@@ -19,7 +19,7 @@ abbrev pub left : List (List ℕ) → List (List ℕ) → List (List (List ℕ))
 left front names = map (λ q. front ++ q) (ancestors names)
 
 -- the problems of loading these, up to the first ignored one, where nothing is kept of them
-abbrev pub problems_of : Scene → Cache → List (List (List ℕ)) → List (Option Problem)
+abbrev pub problems_of : QueryScene → Cache → List (List (List ℕ)) → List (Option Problem)
 problems_of g c fronts = map (problem_in g) (not_kept c (take_while (λ f. not (is_ignored g f)) fronts))
 
 abbrev pub collected : List (Option Problem) → List Problem
@@ -76,15 +76,15 @@ left_end names i le = ap (left (take i names)) (drop_all names i le)
 
 -- An ignored ancestor ends the way.
 
-pub any_ignored : (g : Scene) (front : List (List ℕ)) (fronts : List (List (List ℕ))) → is_ignored g front ≡ true
+pub any_ignored : (g : QueryScene) (front : List (List ℕ)) (fronts : List (List (List ℕ))) → is_ignored g front ≡ true
     → list_any (is_ignored g) (front ∷ fronts) ≡ true
 any_ignored g front fronts h = ap (λ b. b || list_any (is_ignored g) fronts) h
 
-pub none_ignored : (g : Scene) (front : List (List ℕ)) (fronts : List (List (List ℕ))) → is_ignored g front ≡ false
+pub none_ignored : (g : QueryScene) (front : List (List ℕ)) (fronts : List (List (List ℕ))) → is_ignored g front ≡ false
     → list_any (is_ignored g) (front ∷ fronts) ≡ list_any (is_ignored g) fronts
 none_ignored g front fronts h = ap (λ b. b || list_any (is_ignored g) fronts) h
 
-pub no_problems : (g : Scene) (c : Cache) (front : List (List ℕ)) (fronts : List (List (List ℕ))) → is_ignored g front ≡ true
+pub no_problems : (g : QueryScene) (c : Cache) (front : List (List ℕ)) (fronts : List (List (List ℕ))) → is_ignored g front ≡ true
     → collected (problems_of g c (front ∷ fronts)) ≡ []
 no_problems g c front fronts h =
     ap (λ l. collected (map (problem_in g) (not_kept c l)))
@@ -95,7 +95,7 @@ or_true : (b : Bool) → (b || true) ≡ true
 or_true true = refl
 or_true false = refl
 
-pub ignored_problems : (g : Scene) (c : Cache) (front : List (List ℕ)) → is_ignored g front ≡ true → problems_at g c front ≡ []
+pub ignored_problems : (g : QueryScene) (c : Cache) (front : List (List ℕ)) → is_ignored g front ≡ true → problems_at g c front ≡ []
 ignored_problems g c front h =
     ap (λ b. cond (is_some (kept_at c front) || b) [] (option_to_list (problem_in g front))) h
     ∙ ap (λ b. cond b [] (option_to_list (problem_in g front))) (or_true (is_some (kept_at c front)))
@@ -109,7 +109,7 @@ one_problem true front fronts f p e = refl
 one_problem false front fronts f None e = ap (λ o. collected (o ∷ map f fronts)) e
 one_problem false front fronts f (Some p) e = ap (λ o. collected (o ∷ map f fronts)) e
 
-pub next_problems : (g : Scene) (c : Cache) (front : List (List ℕ)) (fronts : List (List (List ℕ))) → is_ignored g front ≡ false
+pub next_problems : (g : QueryScene) (c : Cache) (front : List (List ℕ)) (fronts : List (List (List ℕ))) → is_ignored g front ≡ false
     → collected (problems_of g c (front ∷ fronts)) ≡ problems_at g c front ++ collected (problems_of g c fronts)
 next_problems g c front fronts h =
     let rest = take_while (λ f. not (is_ignored g f)) fronts in
@@ -120,12 +120,12 @@ next_problems g c front fronts h =
     ∙ ap (λ b. cond (is_some (kept_at c front) || b) [] (option_to_list (problem_in g front)) ++ collected (problems_of g c fronts))
     (sym h))
 
-pub below_is : (g : Scene) (c : Cache) (names : List (List ℕ))
+pub below_is : (g : QueryScene) (c : Cache) (names : List (List ℕ))
     → collected (new_below g c names) ≡ collected (problems_of g c (left [] names))
 unfolding new_below
 below_is g c names = ap (λ l. collected (problems_of g c l)) (sym (left_all names))
 
-pub same_problems : (g : Scene) (c c' : Cache) (front : List (List ℕ)) → kept_at c front ≡ kept_at c' front
+pub same_problems : (g : QueryScene) (c c' : Cache) (front : List (List ℕ)) → kept_at c front ≡ kept_at c' front
     → problems_at g c front ≡ problems_at g c' front
 same_problems g c c' front e = ap (λ o. cond (is_some o || is_ignored g front) [] (option_to_list (problem_in g front))) e
 

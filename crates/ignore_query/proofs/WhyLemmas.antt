@@ -17,9 +17,9 @@ use Rattle.ignore_dir.specs.declared.settings.Settings.{Settings}
 use Rattle.ignore_dir.specs.declared.verdict.Verdict.{Verdict}
 use Rattle.ignore_dir.specs.declared.verdict.Verdict.TheVariants as v
 use Rattle.ignore_dir.specs.Limits.{is_beyond, limited, size_limit, size_problem}
-use Rattle.ignore_dir.specs.Query.{ancestors, depth_of, has_rules, is_asked, is_ignored, limit_of, names_of, rules_verdict}
+use Rattle.ignore_dir.specs.Query.{ancestors, depth_of_path, has_rules, is_asked, is_ignored, limit_of, names_of, rules_verdict}
 use Rattle.ignore_dir.specs.Query.{size_of}
-use Rattle.ignore_dir.specs.Scene.{Scene, chain}
+use Rattle.ignore_dir.specs.Scene.{QueryScene, chain}
 use Rattle.ignore_dir.specs.Steps.{reached_in}
 use Rattle.ignore_dir.specs.Verdict.{verdict_of}
 use Rattle.ignore_dir.proofs.WholeLemmas.{chain-in}
@@ -46,13 +46,13 @@ use Rattle.ignore_query.proofs.WayLemmas.{left, left_all, left_at, left_next}
 -- Over the chain of a path.
 
 -- the text of an entry of a directory
-pub text_to-in : (g : Scene) (front : List (List ℕ)) (n : List ℕ) → (reached_in g front).text ++ n ≡ text_to g (front ++ n ∷ [])
+pub text_to-in : (g : QueryScene) (front : List (List ℕ)) (n : List ℕ) → (reached_in g front).text ++ n ≡ text_to g (front ++ n ∷ [])
 text_to-in g front n =
     let base = names_above g.tree g.settings g.root in
     ap (λ (t : List ℕ). 47 ∷ t) (sym (joined-slashed (base ++ front) n) ∙ ap joined (append_assoc base front (n ∷ [])))
 
 -- what decides on an entry of a directory, by its text and path
-pub why_in : (g : Scene) (front : List (List ℕ)) (n text path : List ℕ) (is_dir : Bool) → text ≡ (reached_in g front).text ++ n
+pub why_in : (g : QueryScene) (front : List (List ℕ)) (n text path : List ℕ) (is_dir : Bool) → text ≡ (reached_in g front).text ++ n
     → path ≡ path_along g.root (front ++ n ∷ [])
     → placed_why g.settings g.outside (reached_in g front).chain text path is_dir ≡ path_why g (front ++ n ∷ []) is_dir
 unfolding placed_why path_why
@@ -63,7 +63,7 @@ why_in g front n text path is_dir t p =
     ∙ ap (λ (x : List ℕ). why g.settings g.outside (chain g (front ++ n ∷ [])) x is_dir) p)
 
 -- the same by name
-pub cited_in : (g : Scene) (front : List (List ℕ)) (n text path : List ℕ) (is_dir : Bool) → text ≡ (reached_in g front).text ++ n
+pub cited_in : (g : QueryScene) (front : List (List ℕ)) (n text path : List ℕ) (is_dir : Bool) → text ≡ (reached_in g front).text ++ n
     → path ≡ path_along g.root (front ++ n ∷ [])
     → match_map (cited text) (placed_why g.settings g.outside (reached_in g front).chain text path is_dir)
     ≡ path_cited g (front ++ n ∷ []) is_dir
@@ -72,7 +72,7 @@ cited_in g front n text path is_dir t p =
     ∙ ap (λ (x : List ℕ). match_map (cited x) (path_why g (front ++ n ∷ []) is_dir)) (t ∙ text_to-in g front n)
 
 -- what decides on a path below no ignored directory has the verdict of the rules
-pub said_rules : {T : Type 0} (g : Scene) (names : List (List ℕ)) (is_dir : Bool) (f : T → Cited) (said : Match T)
+pub said_rules : {T : Type 0} (g : QueryScene) (names : List (List ℕ)) (is_dir : Bool) (f : T → Cited) (said : Match T)
     → match_map f said ≡ path_cited g names is_dir → list_any (is_ignored g) (ancestors names) ≡ false
     → verdict_of said ≡ rules_verdict g names is_dir
 said_rules g names is_dir f said is off = sym (verdict-map f said) ∙ (ap verdict_of is ∙ rules_said g names is_dir off)
@@ -84,7 +84,7 @@ names-step : (done front : List (List ℕ)) (b : Bool) (rest : Option (List (Lis
 names-step done front true rest h here more = let same : done ≡ front = cc (h) in subst (All IsName) same here
 names-step done front false rest h here more = more h
 
-first-left : (g : Scene) (done rest front : List (List ℕ)) → All IsName (done ++ rest) → first_ignored g (left done rest) ≡ Some front
+first-left : (g : QueryScene) (done rest front : List (List ℕ)) → All IsName (done ++ rest) → first_ignored g (left done rest) ≡ Some front
     → All IsName front
 first-left g done [] front clean h = cc
 first-left g done (n ∷ rest) front clean h =
@@ -94,20 +94,20 @@ first-left g done (n ∷ rest) front clean h =
     (first-left g (done ++ n ∷ []) rest front (subst (All IsName) (sym move) clean))
 
 -- it is by names, as the path is
-pub first_names : (g : Scene) (names front : List (List ℕ)) → All IsName names → first_ignored g (ancestors names) ≡ Some front
+pub first_names : (g : QueryScene) (names front : List (List ℕ)) → All IsName names → first_ignored g (ancestors names) ≡ Some front
     → All IsName front
 first_names g names front clean h = first-left g [] names front clean (ap (first_ignored g) (left_all names) ∙ h)
 
 -- By what is kept.
 
-pub by_kept : (g : Scene) (c : Cache) (q : List (List ℕ)) (o : Option Kept) → Agrees g c → All IsName q → kept_at c q ≡ o → is_some o ≡ true
+pub by_kept : (g : QueryScene) (c : Cache) (q : List (List ℕ)) (o : Option Kept) → Agrees g c → All IsName q → kept_at c q ≡ o → is_some o ≡ true
     → is_ignored g q ≡ is_shut o
 by_kept g c q (Some Ignored) a clean e k = a.right q Ignored clean e
 by_kept g c q (Some (Loaded place)) a clean e k = (a.right q (Loaded place) clean e).0
 by_kept g c q None a clean e k = cc
 
 -- the next directory on a way isn't kept as ignored, and the way goes on
-pub shut_next : (g : Scene) (c : Cache) (names : List (List ℕ)) (i : ℕ) (n : List ℕ) → i < length names → n ≡ get_or names i n
+pub shut_next : (g : QueryScene) (c : Cache) (names : List (List ℕ)) (i : ℕ) (n : List ℕ) → i < length names → n ≡ get_or names i n
     → take (i + 1) names ≡ take i names ++ n ∷ [] → Agrees g c → All IsName names
     → list_all (is_kept c) (way g (take i names) (drop i names)) ≡ true → is_shut (kept_at c (take i names)) ≡ false
     → (first_ignored g (left (take i names) (drop i names)) ≡ first_ignored g (left (take (i + 1) names) (drop (i + 1) names)))
@@ -122,7 +122,7 @@ shut_next g c names i n lt is more a clean all open' =
     )
 
 -- it is kept as ignored, and so it is the first
-pub shut_here : (g : Scene) (c : Cache) (names : List (List ℕ)) (i : ℕ) (n : List ℕ) → i < length names → n ≡ get_or names i n
+pub shut_here : (g : QueryScene) (c : Cache) (names : List (List ℕ)) (i : ℕ) (n : List ℕ) → i < length names → n ≡ get_or names i n
     → take (i + 1) names ≡ take i names ++ n ∷ [] → Agrees g c → All IsName names
     → list_all (is_kept c) (way g (take i names) (drop i names)) ≡ true → is_shut (kept_at c (take i names)) ≡ true
     → first_ignored g (left (take i names) (drop i names)) ≡ Some (take i names)
@@ -135,7 +135,7 @@ shut_here g c names i n lt is more a clean all shut =
 
 -- What an answer leaves kept.
 
-known_way : (g : Scene) (c : Cache) (needs : List (List (List ℕ))) (done rest : List (List ℕ))
+known_way : (g : QueryScene) (c : Cache) (needs : List (List (List ℕ))) (done rest : List (List ℕ))
     → ((q : List (List ℕ)) → All IsName q → is_among needs q ≡ true → is_kept c q ≡ true) → All IsName (done ++ rest)
     → ((q : List (List ℕ)) → is_among (way g done rest) q ≡ true → is_among needs q ≡ true)
     → list_all (is_kept c) (way g done rest) ≡ true
@@ -159,7 +159,7 @@ or_now : (a b : Bool) → b ≡ true → (a || b) ≡ true
 or_now a b h = ap (λ x. a || x) h ∙ or_true a
 
 -- after an answer all that it needs is kept
-pub needed_known : (g : Scene) (old new : Cache) (names : List (List ℕ)) → All IsName names → KeepsNeeded (needed g names) old new
+pub needed_known : (g : QueryScene) (old new : Cache) (names : List (List ℕ)) → All IsName names → KeepsNeeded (needed g names) old new
     → is_known g new names ≡ true
 needed_known g old new names clean kept =
     ap (list_all (is_kept new)) (needed_way g names)
@@ -196,7 +196,7 @@ pub found_none : (o : Option (List (List ℕ))) → ◌≡◌ {A = Option (List 
 found_none None h = refl
 found_none (Some front) h = absurd (cc (h))
 
-pub root_shut : (g : Scene) (c : Cache) (front : List (List ℕ)) → Agrees g c → kept_at c front ≡ Some Ignored → front ≡ [] → ⊥
+pub root_shut : (g : QueryScene) (c : Cache) (front : List (List ℕ)) → Agrees g c → kept_at c front ≡ Some Ignored → front ≡ [] → ⊥
 unfolding is_ignored
 root_shut g c [] a h e = let on : is_ignored g [] ≡ true = a.right [] Ignored (λ k d lt. absurd (omega (arith, lt))) h in cc (on)
 root_shut g c (x ∷ xs) a h e = absurd (cc (e))
@@ -204,7 +204,7 @@ root_shut g c (x ∷ xs) a h e = absurd (cc (e))
 -- The reason that the rules give.
 
 -- below no ignored directory
-pub why_open : {T : Type 0} (g : Scene) (path : List ℕ) (names : List (List ℕ)) (is_dir : Bool) (f : T → Cited) (said : Match T)
+pub why_open : {T : Type 0} (g : QueryScene) (path : List ℕ) (names : List (List ℕ)) (is_dir : Bool) (f : T → Cited) (said : Match T)
     → match_map f said ≡ path_cited g names is_dir → names ≡ names_of path → list_any (is_ignored g) (ancestors names) ≡ false
     → why_by_size (size_limit g.settings is_dir (verdict_of said)) (size_of g path) (match_map f said) ≡ why_by_rules g path is_dir
 unfolding why_by_rules
@@ -216,7 +216,7 @@ why_open g path names is_dir f said is same off =
     ∙ sym (ap (why_on_way g path is_dir) (ap (λ (l : List (List ℕ)). first_ignored g (ancestors l)) (sym same) ∙ none_first g (ancestors names) off))))
 
 -- below an ignored one
-pub why_shut : (g : Scene) (path : List ℕ) (front : List (List ℕ)) (is_dir : Bool)
+pub why_shut : (g : QueryScene) (path : List ℕ) (front : List (List ℕ)) (is_dir : Bool)
     → first_ignored g (ancestors (names_of path)) ≡ Some front
     → inside (joined front) (path_cited g front true) ≡ why_by_rules g path is_dir
 unfolding why_by_rules
@@ -224,49 +224,49 @@ why_shut g path front is_dir h = sym (ap (why_on_way g path is_dir) h)
 
 -- The reason by the cases of an answer.
 
-pub why_unasked : (g : Scene) (path : List ℕ) (is_dir : Bool) → is_asked g.root path ≡ false → unasked ≡ query_why g path is_dir
+pub why_unasked : (g : QueryScene) (path : List ℕ) (is_dir : Bool) → is_asked g.root path ≡ false → unasked ≡ query_why g path is_dir
 unfolding query_why
 why_unasked g path is_dir h =
-    sym (ap (λ a. cond (not a) unasked (cond (is_beyond g.settings (depth_of path) is_dir) (why_beyond g.settings (depth_of path))
+    sym (ap (λ a. cond (not a) unasked (cond (is_beyond g.settings (depth_of_path path) is_dir) (why_beyond g.settings (depth_of_path path))
     (cond (has_rules g.tree g.root path) (why_by_rules g path is_dir) unruled))) h)
 
-why_asked : (g : Scene) (path : List ℕ) (is_dir : Bool) → is_asked g.root path ≡ true → query_why g path is_dir
-    ≡ cond (is_beyond g.settings (depth_of path) is_dir) (why_beyond g.settings (depth_of path))
+why_asked : (g : QueryScene) (path : List ℕ) (is_dir : Bool) → is_asked g.root path ≡ true → query_why g path is_dir
+    ≡ cond (is_beyond g.settings (depth_of_path path) is_dir) (why_beyond g.settings (depth_of_path path))
     (cond (has_rules g.tree g.root path) (why_by_rules g path is_dir) unruled)
 unfolding query_why
 why_asked g path is_dir h =
-    ap (λ a. cond (not a) unasked (cond (is_beyond g.settings (depth_of path) is_dir) (why_beyond g.settings (depth_of path))
+    ap (λ a. cond (not a) unasked (cond (is_beyond g.settings (depth_of_path path) is_dir) (why_beyond g.settings (depth_of_path path))
     (cond (has_rules g.tree g.root path) (why_by_rules g path is_dir) unruled))) h
 
-pub why_far : (g : Scene) (path : List ℕ) (is_dir : Bool) → is_asked g.root path ≡ true
-    → is_beyond g.settings (depth_of path) is_dir ≡ true → why_beyond g.settings (depth_of path) ≡ query_why g path is_dir
+pub why_far : (g : QueryScene) (path : List ℕ) (is_dir : Bool) → is_asked g.root path ≡ true
+    → is_beyond g.settings (depth_of_path path) is_dir ≡ true → why_beyond g.settings (depth_of_path path) ≡ query_why g path is_dir
 why_far g path is_dir a b =
     sym (why_asked g path is_dir a
-    ∙ ap (λ x. cond x (why_beyond g.settings (depth_of path)) (cond (has_rules g.tree g.root path) (why_by_rules g path is_dir) unruled)) b)
+    ∙ ap (λ x. cond x (why_beyond g.settings (depth_of_path path)) (cond (has_rules g.tree g.root path) (why_by_rules g path is_dir) unruled)) b)
 
-pub why_unruled : (g : Scene) (path : List ℕ) (is_dir : Bool) → is_asked g.root path ≡ true
-    → is_beyond g.settings (depth_of path) is_dir ≡ false → has_rules g.tree g.root path ≡ false → unruled ≡ query_why g path is_dir
+pub why_unruled : (g : QueryScene) (path : List ℕ) (is_dir : Bool) → is_asked g.root path ≡ true
+    → is_beyond g.settings (depth_of_path path) is_dir ≡ false → has_rules g.tree g.root path ≡ false → unruled ≡ query_why g path is_dir
 why_unruled g path is_dir a b r =
     sym (why_asked g path is_dir a
-    ∙ (ap (λ x. cond x (why_beyond g.settings (depth_of path)) (cond (has_rules g.tree g.root path) (why_by_rules g path is_dir) unruled)) b
+    ∙ (ap (λ x. cond x (why_beyond g.settings (depth_of_path path)) (cond (has_rules g.tree g.root path) (why_by_rules g path is_dir) unruled)) b
     ∙ ap (λ x. cond x (why_by_rules g path is_dir) unruled) r))
 
-pub why_ruled : (g : Scene) (path : List ℕ) (is_dir : Bool) → is_asked g.root path ≡ true
-    → is_beyond g.settings (depth_of path) is_dir ≡ false → has_rules g.tree g.root path ≡ true
+pub why_ruled : (g : QueryScene) (path : List ℕ) (is_dir : Bool) → is_asked g.root path ≡ true
+    → is_beyond g.settings (depth_of_path path) is_dir ≡ false → has_rules g.tree g.root path ≡ true
     → why_by_rules g path is_dir ≡ query_why g path is_dir
 why_ruled g path is_dir a b r =
     sym (why_asked g path is_dir a
-    ∙ (ap (λ x. cond x (why_beyond g.settings (depth_of path)) (cond (has_rules g.tree g.root path) (why_by_rules g path is_dir) unruled)) b
+    ∙ (ap (λ x. cond x (why_beyond g.settings (depth_of_path path)) (cond (has_rules g.tree g.root path) (why_by_rules g path is_dir) unruled)) b
     ∙ ap (λ x. cond x (why_by_rules g path is_dir) unruled) r))
 
 -- What is kept of the directory in which a path is.
 
-pub parent_says : (g : Scene) (c : Cache) (front : List (List ℕ)) (n : List ℕ) (k : Kept) → Agrees g c → All IsName (front ++ n ∷ [])
+pub parent_says : (g : QueryScene) (c : Cache) (front : List (List ℕ)) (n : List ℕ) (k : Kept) → Agrees g c → All IsName (front ++ n ∷ [])
     → kept_at c front ≡ Some k → is_loaded k ≡ not (list_any (is_ignored g) (ancestors (front ++ n ∷ [])))
 parent_says g c front n Ignored a clean h = sym (ap not (parent_shut g c front n a clean h))
 parent_says g c front n (Loaded place) a clean h = sym (ap not (parent_open g c front n a clean (place, h)))
 
-pub parent_next : (g : Scene) (c : Cache) (names front : List (List ℕ)) (n : List ℕ) (k : Kept) (place : Option Place) → Agrees g c
+pub parent_next : (g : QueryScene) (c : Cache) (names front : List (List ℕ)) (n : List ℕ) (k : Kept) (place : Option Place) → Agrees g c
     → names ≡ front ++ n ∷ [] → kept_at c front ≡ Some k → k ≡ Loaded place → IsNext c names place
 parent_next g c names front n k place a split h e = record {
   rooted = a.first front k h;
@@ -289,7 +289,7 @@ proper_names [] h = cc (h)
 proper_names (b ∷ bs) h = refl
 
 -- a path below an ignored directory has no limit on size
-pub shut_size : (g : Scene) (path file : List ℕ) (is_dir : Bool) → list_any (is_ignored g) (ancestors (names_of path)) ≡ true
+pub shut_size : (g : QueryScene) (path file : List ℕ) (is_dir : Bool) → list_any (is_ignored g) (ancestors (names_of path)) ≡ true
     → option_to_list (size_problem file (limit_of g path is_dir) (size_of g path)) ≡ []
 shut_size g path file is_dir h =
     let off : size_limit g.settings is_dir v.Ignore ≡ None = ap (λ b. cond b None g.settings.max_filesize) (or_true is_dir) in

@@ -6,7 +6,7 @@ use Rattle.ignore_dir.specs.Above.{dirs_above, names_above, paths_above}
 use Rattle.ignore_dir.specs.Chains.{placed_along, slashed}
 use Rattle.ignore_dir.specs.Lists.{Placed}
 use Rattle.ignore_dir.specs.Query.{is_dir_there, is_ignored}
-use Rattle.ignore_dir.specs.Scene.{Scene}
+use Rattle.ignore_dir.specs.Scene.{QueryScene}
 use Rattle.ignore_dir.specs.Steps.{reached_in}
 use Rattle.ignore_levels.specs.Levels.{IsChain, counting, slots_of}
 use Rattle.ignore_levels.specs.declared.list.Place.{Place}
@@ -34,26 +34,26 @@ abbrev pub StandsFor : Cache → Option Place → List Placed → Type 0
 StandsFor c place chain = IsChain (slots_of c.levels) place (counting chain)
 
 -- what counts of the directories above the root, the nearest first
-abbrev pub chain_above : Scene → List Placed
+abbrev pub chain_above : QueryScene → List Placed
 chain_above g =
     reverse (placed_along 1 (dirs_above g.loads g.settings (paths_above g.tree g.settings g.root)) (names_above g.tree g.settings g.root))
 
 -- the root is a directory, and what is kept of the directories above it is what counts of them
-pub record IsAbove (g : Scene) (c : Cache) : Type 0 where
+pub record IsAbove (g : QueryScene) (c : Cache) : Type 0 where
   pub root : is_dir_there (g.tree.stat g.root true) ≡ true
   pub chain : StandsFor c c.above (chain_above g)
   pub base : string_bytes c.base ≡ 47 ∷ slashed (names_above g.tree g.settings g.root)
 
 -- this is right to keep of the directory with these names: that it is ignored, or a place that
 -- stands for the chain of its entries
-abbrev pub IsRight : Scene → Cache → List Bytes → Kept → Type 0
+abbrev pub IsRight : QueryScene → Cache → List Bytes → Kept → Type 0
 IsRight g c names Ignored = is_ignored g names ≡ true
 IsRight g c names (Loaded place) = (is_ignored g names ≡ false) × StandsFor c place (reached_in g names).chain
 
 -- what is kept agrees with a tree. Nothing is kept without what is above the root; what is kept of
 -- a directory is right, so the root is never kept as ignored; and each is in one that is kept and
 -- not ignored
-pub record Agrees (g : Scene) (c : Cache) : Type 0 where
+pub record Agrees (g : QueryScene) (c : Cache) : Type 0 where
   pub above : c.has_above ≡ true → IsAbove g c
   pub first : (names : List Bytes) (k : Kept) → kept_at c names ≡ Some k → c.has_above ≡ true
   pub right : (names : List Bytes) (k : Kept) → All IsName names → kept_at c names ≡ Some k → IsRight g c names k

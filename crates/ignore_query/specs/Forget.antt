@@ -8,7 +8,7 @@ use Rattle.ignore_base.specs.Text.{Bytes, Path}
 use Rattle.ignore_base.specs.Paths.{IsName}
 use Rattle.ignore_dir.specs.Above.{dirs_above, path_along, paths_above}
 use Rattle.ignore_dir.specs.Query.{is_dir_there}
-use Rattle.ignore_dir.specs.Scene.{Scene}
+use Rattle.ignore_dir.specs.Scene.{QueryScene}
 use Rattle.ignore_levels.specs.Levels.{floor_at, slots_of}
 use Rattle.ignore_levels.specs.declared.list.Place.{Place}
 use Rattle.ignore_levels.specs.declared.list.Slot.{Slot}
@@ -49,7 +49,7 @@ is_key_in dir key = starts_with nat_eq key (key_of dir)
 
 -- what is kept is the same in another tree: the kind of the root and its canonical path, what
 -- counts of the directories above it, and what each directory holds that is kept and not ignored
-pub record IsSameKept (g h : Scene) (c : Cache) : Type 0 where
+pub record IsSameKept (g h : QueryScene) (c : Cache) : Type 0 where
   pub root : c.has_above ≡ true → is_dir_there (h.tree.stat h.root true) ≡ is_dir_there (g.tree.stat g.root true)
   pub canonical : c.has_above ≡ true → h.tree.canonical h.root ≡ g.tree.canonical g.root
   pub above : c.has_above ≡ true → dirs_above h.loads h.settings (paths_above h.tree h.settings h.root)

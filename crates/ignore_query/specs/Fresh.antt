@@ -2,7 +2,7 @@
 use Rattle.std.specs.Prelude.{◌≡◌, Bool, false, List, None}
 use Rattle.ignore_base.specs.Text.{Bytes, Path}
 use Rattle.ignore_dir.specs.Query.{query}
-use Rattle.ignore_dir.specs.Scene.{Scene}
+use Rattle.ignore_dir.specs.Scene.{QueryScene}
 use Rattle.ignore_query.specs.declared.kept.Cache.{Cache}
 use Rattle.ignore_query.specs.Agrees.{Agrees, kept_at}
 use Rattle.ignore_query.specs.Reports.{reported}
@@ -14,9 +14,9 @@ pub record KeepsNothing (c : Cache) : Type 0 where
 
 -- what keeps nothing agrees with each tree
 abbrev pub NothingAgrees : Type 0
-NothingAgrees = (g : Scene) (c : Cache) → KeepsNothing c → Agrees g c
+NothingAgrees = (g : QueryScene) (c : Cache) → KeepsNothing c → Agrees g c
 
 -- where nothing is kept, a query reports the problem of a query on the bare tree
 abbrev pub NothingReportsAll : Type 0
-NothingReportsAll = (g : Scene) (c : Cache) (path : Path) (is_dir : Bool) → KeepsNothing c
+NothingReportsAll = (g : QueryScene) (c : Cache) (path : Path) (is_dir : Bool) → KeepsNothing c
     → reported g c path is_dir ≡ (query g path is_dir).1

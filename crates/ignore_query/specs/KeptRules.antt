@@ -7,7 +7,7 @@ use Rattle.ignore_dir.specs.declared.dir.Dir.{Dir}
 use Rattle.ignore_dir.specs.Above.{path_along}
 use Rattle.ignore_dir.specs.Chains.{slashed}
 use Rattle.ignore_dir.specs.Query.{is_ignored}
-use Rattle.ignore_dir.specs.Scene.{Scene, names_to}
+use Rattle.ignore_dir.specs.Scene.{QueryScene, names_to}
 use Rattle.ignore_levels.specs.Levels.{level_at, slots_of}
 use Rattle.ignore_levels.specs.declared.list.Level.{Level}
 use Rattle.ignore_query.specs.declared.kept.Cache.{Cache}
@@ -39,7 +39,7 @@ rules_in path dir =
 
 -- the rules of a directory by the tree: those of its load, and none where it is ignored. Its path
 -- has the names from the top
-abbrev pub rules_of : Scene → List Bytes → List Named
+abbrev pub rules_of : QueryScene → List Bytes → List Named
 rules_of g names = if is_ignored g names then [] else rules_in (47 ∷ slashed (names_to g names)) (g.loads (path_along g.root names)).0
 
 -- a level, where its offset is this one

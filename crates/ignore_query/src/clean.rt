@@ -49,9 +49,9 @@ pub(crate) fn is_asked(root: &str, path: &str) -> bool
 /// set, so that its names needn't be counted.
 pub(crate) fn depth_for(settings: &Settings, path: &str) -> usize
     ensures beyond { (is_dir : Bool) → limits.is_beyond settings.now result is_dir
-        ≡ limits.is_beyond settings.now (queries.depth_of path.now) is_dir }
+        ≡ limits.is_beyond settings.now (queries.depth_of_path path.now) is_dir }
     ensures limited { (is_dir : Bool) (verdict : Verdict) → limits.limited settings.now result is_dir verdict
-        ≡ limits.limited settings.now (queries.depth_of path.now) is_dir verdict }
+        ≡ limits.limited settings.now (queries.depth_of_path path.now) is_dir verdict }
 {
     match (settings.min_depth, settings.max_depth) {
         (None, None) => 0,
@@ -61,7 +61,7 @@ pub(crate) fn depth_for(settings: &Settings, path: &str) -> usize
 
 /// How many names a clean path has.
 pub(crate) fn depth_of(path: &str) -> usize
-    ensures { result ≡ queries.depth_of path.now }
+    ensures { result ≡ queries.depth_of_path path.now }
 {
     if path.is_empty() {
         return 0;

@@ -9,7 +9,7 @@ ghost use Rattle.ignore_base.specs.Paths.{components, is_proper};
 ghost use Rattle.ignore_base.specs.Problem.{problem_of, memory};
 ghost use Rattle.ignore_dir.specs.Load.{Loaded, AreLoads};
 ghost use Rattle.ignore_dir.specs.Query as queries;
-ghost use Rattle.ignore_dir.specs.Scene.{Scene};
+ghost use Rattle.ignore_dir.specs.Scene.{QueryScene};
 ghost use Rattle.ignore_dir.specs.Soft.{IsSoft};
 ghost use Rattle.ignore_query.specs.Agrees.{Agrees};
 ghost use Rattle.ignore_query.specs.Fresh.{KeepsNothing};
@@ -50,7 +50,7 @@ impl IncrementalIgnore {
         current_dir: Option<String>,
     ) -> IncrementalIgnore
         ensures asked { result.asked ≡ record { settings = settings; outside = outside; root = root; current_dir = current_dir } }
-        ensures fresh { (g : Scene) → Agrees g result.cache }
+        ensures fresh { (g : QueryScene) → Agrees g result.cache }
         ensures empty { KeepsNothing result.cache }
     {
         let cache = Cache::new(*root.allocator());
@@ -227,7 +227,7 @@ impl Clone for IncrementalIgnore {
     ghost use Rattle.ignore_query.specs.Reached.{IsSame};
 
     // The copy keeps nothing.
-    ghost is_clone = { λ m copy. IsSame m.asked copy.asked × (KeepsNothing copy.cache × ((g : Scene) → Agrees g copy.cache)) };
+    ghost is_clone = { λ m copy. IsSame m.asked copy.asked × (KeepsNothing copy.cache × ((g : QueryScene) → Agrees g copy.cache)) };
 
     fn clone(&self) -> Result<IncrementalIgnore, AllocError> {
         let asked = self.asked.clone()?;

@@ -1,6 +1,6 @@
 //! What a matcher keeps.
 ghost use Rattle.std.specs.Prelude.{◌≡◌};
-ghost use Rattle.ignore_dir.specs.Scene.{Scene};
+ghost use Rattle.ignore_dir.specs.Scene.{QueryScene};
 ghost use Rattle.ignore_query.specs.Agrees.{Agrees};
 ghost use Rattle.ignore_query.specs.Fresh.{KeepsNothing};
 
@@ -36,7 +36,7 @@ pub struct Cache {
 impl Cache {
     /// Nothing is kept. It allocates nothing.
     pub(crate) fn new(alloc: Global) -> Cache
-        ensures fresh { (g : Scene) → Agrees g result }
+        ensures fresh { (g : QueryScene) → Agrees g result }
         ensures empty { KeepsNothing result }
     {
         Cache {

@@ -4,7 +4,7 @@ ghost use Rattle.ignore_base.specs.Paths.{IsName, components};
 ghost use Rattle.ignore_dir.specs.Chains.{slashed};
 ghost use Rattle.ignore_dir.specs.Load.{Loaded};
 ghost use Rattle.ignore_dir.specs.Query.{rules_verdict};
-ghost use Rattle.ignore_dir.specs.Scene.{Scene};
+ghost use Rattle.ignore_dir.specs.Scene.{QueryScene};
 ghost use Rattle.ignore_files.specs.Tree.{Tree};
 ghost use Rattle.ignore_query.specs.Agrees.{Agrees};
 ghost use Rattle.ignore_query.specs.Needs.{is_known};
@@ -35,7 +35,7 @@ impl Cache {
         path: &str,
         is_dir: bool,
     ) -> Result<Option<Verdict>, AllocError>
-        ensures known { (g : Scene) → Agrees g self.now → All IsName (components path.now)
+        ensures known { (g : QueryScene) → Agrees g self.now → All IsName (components path.now)
             → IfOk result (λ o. is_some o ≡ true → is_known g self.now (components path.now) ≡ true) }
         ensures value { (tree : Tree) (loads : List ℕ → Loaded) → let g = scene_of asked.now tree loads in
             Agrees g self.now → All IsName (components path.now)

@@ -11,7 +11,7 @@ ghost use Rattle.ignore_dir.specs.Limits as limits;
 ghost use Rattle.ignore_dir.specs.Load.{Loaded};
 ghost use Rattle.ignore_dir.specs.Query.{ancestors, is_ignored};
 ghost use Rattle.ignore_dir.specs.Query as queries;
-ghost use Rattle.ignore_dir.specs.Scene.{Scene};
+ghost use Rattle.ignore_dir.specs.Scene.{QueryScene};
 ghost use Rattle.ignore_dir.specs.Soft.{AllSoft};
 ghost use Rattle.ignore_dir.specs.Verdict as verdicts;
 ghost use Rattle.ignore_files.specs.Gives.{IsHonest};
@@ -154,7 +154,7 @@ impl Cache {
 
     /// The key of the first proper ancestor of a path of these names that is kept as ignored.
     fn first_shut(&self, alloc: Global, names: &[&str]) -> Result<Option<String>, AllocError>
-        ensures value { (g : Scene) → let all = map (λ n. n.now) names.now in
+        ensures value { (g : QueryScene) → let all = map (λ n. n.now) names.now in
             Agrees g self.now → All IsName all → is_known g self.now all ≡ true
             → IfOk result (λ key. option_map string_bytes key ≡ option_map slashed (first_ignored g (ancestors all))) }
         ensures shut { IfOk result (λ key. IfSome key (λ k. is_shut (get_by_text self.now.dirs.map (string_bytes k)) ≡ true)) }

@@ -5,7 +5,7 @@ use Rattle.std.proofs.lemmas.List.{append-nil}
 use Rattle.std.specs.Str.{chars}
 use Rattle.ignore_base.specs.declared.fault.Fault.{Fault}
 use Rattle.ignore_glob.specs.GlobFaults.{glob_fault_text}
-use Rattle.ignore_base.specs.Problem.{Problem, at_path, glob, io, joined}
+use Rattle.ignore_base.specs.Problem.{Problem, at_path, glob, io, joined_problems}
 use Rattle.ignore_glob.proofs.RowExists.{find_reading}
 use Rattle.ignore_files.specs.declared.types.Contents.{Contents}
 use Rattle.ignore_rules.specs.Line.{ParsedLine, parsed_line}
@@ -104,8 +104,8 @@ pub one_result : GivesOneResult
 one_result path (Ok contents) options =
     let lines = lines_give path options 1 (lines_read contents.bytes contents.fault) in (
       lines.0,
-      joined lines.1,
-      gives_alone path (Ok contents) options lines.0 (joined lines.1)
+      joined_problems lines.1,
+      gives_alone path (Ok contents) options lines.0 (joined_problems lines.1)
           (λ old same. (lines.1, lines.2 old same, refl)),
     )
 one_result path (Err fault) options = (

@@ -4,7 +4,7 @@
 use Rattle.std.proofs.Common.{◌≡◌, ◌⊎◌, inl, inr, ℕ, ◌+◌, List, ◌∷◌, Option, Some, None, Result, Ok, Err, refl, sym, ap, ◌∙◌, subst}
 use Rattle.ignore_base.specs.declared.fault.Fault.{Fault}
 use Rattle.ignore_base.specs.Errors.{without_fault}
-use Rattle.ignore_base.specs.Problem.{Problem, joined}
+use Rattle.ignore_base.specs.Problem.{Problem, joined_problems}
 use Rattle.ignore_files.specs.declared.env.Env.{Env}
 use Rattle.ignore_files.specs.declared.types.Contents.{Contents}
 use Rattle.ignore_files.specs.declared.types.Refusal.{Refusal}
@@ -43,7 +43,7 @@ pub AddsContents-one : (path : List ℕ) (found : Result Contents Fault) (old a 
     → AddsContents path found old a p → AddsContents path found old b q → (a ≡ b) × (p ≡ q)
 AddsContents-one path (Ok contents) old a b p q h k =
     let same = AddsLines-one path 1 (lines_read contents.bytes contents.fault) old a b h.0 k.0 h.1 k.1 in
-    (same.0, h.2 ∙ (ap (λ (ps : List Problem). joined ps) same.1 ∙ sym k.2))
+    (same.0, h.2 ∙ (ap (λ (ps : List Problem). joined_problems ps) same.1 ∙ sym k.2))
 AddsContents-one path (Err fault) old a b p q h k = (h.0 ∙ sym k.0, h.1 ∙ sym k.1)
 
 AddsAnswer-reported : (path : List ℕ) (reported : Result Contents Fault) (answer : Result Contents Refusal) (old new : Building)

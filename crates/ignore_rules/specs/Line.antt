@@ -54,8 +54,8 @@ is_silent as_git line = has_prefix (codes "#") line || length (trimmed as_git li
 -- What follows is about a trimmed line.
 
 -- a leading `!` makes the rule a whitelist
-abbrev pub is_whitelist : Bytes → Bool
-is_whitelist line = has_prefix (codes "!") line
+abbrev pub is_whitelist_line : Bytes → Bool
+is_whitelist_line line = has_prefix (codes "!") line
 
 -- then a leading `/` anchors it to its root
 abbrev pub is_anchored : Bytes → Bool
@@ -98,7 +98,7 @@ pub record ParsedLine : Type 0 where
 
 -- what a trimmed line parses to
 abbrev pub parsed_as : Bytes → ParsedLine
-parsed_as line = record { original = line; actual = actual line; is_whitelist = is_whitelist line; is_only_dir = is_only_dir line }
+parsed_as line = record { original = line; actual = actual line; is_whitelist = is_whitelist_line line; is_only_dir = is_only_dir line }
 
 -- what a line parses to; comments and blank lines parse to nothing
 abbrev pub parsed_line : Bool → Bytes → Option ParsedLine

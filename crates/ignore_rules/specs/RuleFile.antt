@@ -9,7 +9,7 @@ use Rattle.ignore_base.specs.Text.{Bytes, Path}
 use Rattle.ignore_base.specs.declared.fault.Fault.{Fault}
 use Rattle.ignore_base.specs.declared.fault.Fault.TheVariants.{InvalidData}
 use Rattle.ignore_base.specs.Problem.{Problem, several, at_line, at_path, at_depth, loop, io, glob, unrecognized, invalid_definition}
-use Rattle.ignore_base.specs.Problem.{memory, joined}
+use Rattle.ignore_base.specs.Problem.{memory, joined_problems}
 use Rattle.ignore_files.specs.declared.types.Contents.{Contents}
 use Rattle.ignore_files.specs.declared.types.Refusal.{Refusal}
 use Rattle.ignore_files.specs.declared.types.Refusal.TheVariants.{Memory}
@@ -90,7 +90,7 @@ pub data AddsLines (path : Path) : ℕ → List (Result Bytes Fault) → Buildin
 -- any: the problems of all lines as one, or that the file can't be opened
 abbrev pub AddsContents : Path → Result Contents Fault → Building → Building → Option Problem → Type 0
 AddsContents path (Ok contents) old new problem =
-    (problems : List Problem) × AddsLines path 1 (lines_read contents.bytes contents.fault) old new problems × (problem ≡ joined problems)
+    (problems : List Problem) × AddsLines path 1 (lines_read contents.bytes contents.fault) old new problems × (problem ≡ joined_problems problems)
 AddsContents path (Err fault) old new problem = (new ≡ old) × (problem ≡ Some (at_path path (io fault)))
 
 -- the same for the file at a path in a tree
@@ -140,13 +140,5 @@ KeepsTheRoot =
 
 -- the problem is out of memory
 abbrev pub is_memory : Problem → Bool
-is_memory (several ps) = false
-is_memory (at_line line p) = false
-is_memory (at_path path p) = false
-is_memory (at_depth depth p) = false
-is_memory (loop ancestor child) = false
-is_memory (io fault) = false
-is_memory (glob pattern err) = false
-is_memory (unrecognized name) = false
-is_memory invalid_definition = false
 is_memory memory = true
+is_memory _ = false

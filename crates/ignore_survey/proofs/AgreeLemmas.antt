@@ -7,7 +7,7 @@ use Rattle.ignore_base.specs.Paths.{JoinsName, components, directory_of, join_of
 use Rattle.ignore_base.specs.Problem.{Problem}
 use Rattle.ignore_base.specs.Text.{Bytes, Path}
 use Rattle.ignore_dir.specs.Limits.{beyond, is_above, is_below, is_beyond, is_deepest, limited, no_match, sized}
-use Rattle.ignore_dir.specs.Query.{answer_of_rules, depth_of, has_rules, is_asked, limit_of, names_of, problem_of_rules, query, rules_verdict, size_of}
+use Rattle.ignore_dir.specs.Query.{answer_of_rules, depth_of_path, has_rules, is_asked, limit_of, names_of, problem_of_rules, query, rules_verdict, size_of}
 use Rattle.ignore_dir.specs.Scene as below
 use Rattle.ignore_dir.specs.Verdict.{is_ignore}
 use Rattle.ignore_dir.specs.declared.incremental.IncrementalMatch.{IncrementalMatch}
@@ -56,7 +56,7 @@ names-joined : (ns : List (List ℕ)) → AreNames ns → names_of (joined ns) �
 names-joined [] h = refl
 names-joined (n ∷ ns) h = names-some (joined (n ∷ ns)) (filled n ns h.0) ∙ components-joined n ns h
 
-pub depth-at : (b : Branch) → AreNames b → depth_of (joined (reverse b)) ≡ length b
+pub depth-at : (b : Branch) → AreNames b → depth_of_path (joined (reverse b)) ≡ length b
 depth-at b h = ap (λ (l : List (List ℕ)). length l) (names-joined (reverse b) (names-reverse b h)) ∙ length-reverse b
 
 -- the answers of queries without limits on depth
@@ -107,17 +107,17 @@ limited-fair s depth d said p h = (
   ap (λ (o : Option ℕ). d && (not (is_ignore said) && not (is_deepest o depth))) h.1 ∙ and_true d (not (is_ignore said)),
 )
 
-pub query-fair : (g : below.Scene) (path : Path) (d : Bool) → HasNoLimits g.settings → IsFair d (query g path d)
+pub query-fair : (g : below.QueryScene) (path : Path) (d : Bool) → HasNoLimits g.settings → IsFair d (query g path d)
 unfolding query answer_of_rules
 query-fair g path d h =
-    choose (IsFair d) (is_asked g.root path) (is_beyond g.settings (depth_of path) d) (has_rules g.tree g.root path)
-    (no_match d, None) (beyond, None) (answer_of_rules g path d) (limited g.settings (depth_of path) d v.None, None)
-    (no_match-fair d) (λ out. absurd (let e = sym (not_beyond g.settings (depth_of path) d h) ∙ out in cc (e)))
-    (limited-fair g.settings (depth_of path) d (sized (limit_of g path d) (size_of g path) (rules_verdict g (names_of path) d)) (problem_of_rules g path d) h)
-    (limited-fair g.settings (depth_of path) d v.None None h)
+    choose (IsFair d) (is_asked g.root path) (is_beyond g.settings (depth_of_path path) d) (has_rules g.tree g.root path)
+    (no_match d, None) (beyond, None) (answer_of_rules g path d) (limited g.settings (depth_of_path path) d v.None, None)
+    (no_match-fair d) (λ out. absurd (let e = sym (not_beyond g.settings (depth_of_path path) d h) ∙ out in cc (e)))
+    (limited-fair g.settings (depth_of_path path) d (sized (limit_of g path d) (size_of g path) (rules_verdict g (names_of path) d)) (problem_of_rules g path d) h)
+    (limited-fair g.settings (depth_of_path path) d v.None None h)
 
 -- nothing ignores a root
-pub root-descends : (g : below.Scene) → HasNoLimits g.settings → (query g [] true).0.descends ≡ true
+pub root-descends : (g : below.QueryScene) → HasNoLimits g.settings → (query g [] true).0.descends ≡ true
 unfolding query
 root-descends g h =
     let own = limited g.settings 0 true v.None in

@@ -6,7 +6,7 @@ use Rattle.ignore_base.specs.Paths.{JoinsName, join_of, joined}
 use Rattle.ignore_base.specs.Problem.{Problem}
 use Rattle.ignore_base.specs.Text.{Bytes, Path}
 use Rattle.ignore_base.specs.declared.fault.Fault.{Fault}
-use Rattle.ignore_dir.specs.Query.{depth_of, query}
+use Rattle.ignore_dir.specs.Query.{depth_of_path, query}
 use Rattle.ignore_dir.specs.Scene as below
 use Rattle.ignore_dir.specs.Verdict.{is_ignore}
 use Rattle.ignore_files.specs.Kinds.{is_dir}
@@ -52,7 +52,7 @@ later : (x y : Item) (xs : List Item) → Contains xs y → Contains (x ∷ xs) 
 later x y xs (k, l, e) = (suc k, omega (arith, l), e)
 
 module _ (w : Scene) (root : Path) (join : JoinsName) (plain : IsPlain w) where
-  abbrev g : below.Scene
+  abbrev g : below.QueryScene
   g = queries w root
 
   -- an entry of a survey, and the entry of the walk at its place
@@ -91,7 +91,7 @@ module _ (w : Scene) (root : Path) (join : JoinsName) (plain : IsPlain w) where
       let path = path_below b name dir at names in
       let there : path_of root (name ∷ b) ≡ place root (join_of dir name) =
       sym (ap (place root) path ∙ place-at join root (name ∷ b) names) in
-      let deep : length b + 1 ≡ depth_of (join_of dir name) = add-one (length b) ∙ sym (ap depth_of path ∙ depth-at (name ∷ b) names) in
+      let deep : length b + 1 ≡ depth_of_path (join_of dir name) = add-one (length b) ∙ sym (ap depth_of_path path ∙ depth-at (name ∷ b) names) in
       ap (λ (p : Path). entry_with p (length b + 1) kind) there ∙ ap (λ (n : ℕ). entry_with (place root (join_of dir name)) n kind) deep
 
   found : (b : Branch) (d : Walked) (dir : Path) (name : Bytes) (kind : FileType) (e : Entry) → dir ≡ joined (reverse b)

@@ -48,7 +48,7 @@ module _ (w : Scene) (root : Path) (join : JoinsName) (plain : IsPlain w) (no_st
     (items : List Item) (survey : IsSurvey (queries w root) items) (out : List WalkItem) (n : ℕ) (walk : WalkedOne w root [] (root_entry w root) out n)
     (agrees : (b : Branch) (e : Walked) → Reachable w root b e → is_within w b ≡ true → IsYielded out e ↔ (is_kept w root b e ≡ true))
     (shows : (e : Walked) → IsYielded out e ↔ IsShown w root e) where
-  abbrev g : below.Scene
+  abbrev g : below.QueryScene
   g = queries w root
 
   within : (b : Branch) → is_within w b ≡ true

@@ -9,7 +9,7 @@ use Rattle.ignore_base.specs.Problem.{Problem, at_path, io, problem_of}
 use Rattle.ignore_base.specs.Text.{Path}
 use Rattle.ignore_base.specs.declared.error.Error.{Error}
 use Rattle.ignore_base.specs.declared.fault.Fault.{Fault}
-use Rattle.ignore_dir.specs.Scene.{Scene}
+use Rattle.ignore_dir.specs.Scene.{QueryScene}
 use Rattle.ignore_files.specs.declared.types.FileType.{FileType}
 use Rattle.ignore_files.specs.declared.types.Listed.{Listed}
 use Rattle.ignore_files.specs.declared.types.Listed.TheVariants as thing
@@ -21,14 +21,14 @@ use Rattle.ignore_survey.specs.declared.stack.Stack.{Stack}
 use Rattle.ignore_survey.proofs.SurveyLemmas.{below_failed, below_listed, each_entry, each_fault, each_none}
 
 -- the innermost directory of which nothing is left is left
-pub leave : (g : Scene) (f : Frame) (fs : List Frame) (items : List Item) → f.rest.items ≡ [] → Left g (f ∷ fs) items → Left g fs items
+pub leave : (g : QueryScene) (f : Frame) (fs : List Frame) (items : List Item) → f.rest.items ≡ [] → Left g (f ∷ fs) items → Left g fs items
 leave g f fs items empty left =
     let own : left.own ≡ [] = each_none g f.path left.own (subst (λ (xs : List Listed). Each g f.path xs left.own) empty left.first) in
     let are : left.outer ≡ items = sym (left.are ∙ ap (λ (o : List Item). o ++ left.outer) own) in
     subst (Left g fs) are left.rest
 
 -- a thing is taken of it
-pub taken : (g : Scene) (f h : Frame) (x : Listed) (fs : List Frame) (items : List Item) → h.path ≡ f.path
+pub taken : (g : QueryScene) (f h : Frame) (x : Listed) (fs : List Frame) (items : List Item) → h.path ≡ f.path
     → f.rest.items ≡ x ∷ h.rest.items → Left g (f ∷ fs) items → Takes g h x fs items
 taken g f h x fs items path rest left =
     record {
@@ -41,33 +41,33 @@ taken g f h x fs items path rest left =
     }
 
 -- where no directory waits, the entered ones give all that is left
-pub none_waits : (g : Scene) (s : Stack) (items : List Item) → s.waiting ≡ None → Stands g s items → Left g s.frames.items items
+pub none_waits : (g : QueryScene) (s : Stack) (items : List Item) → s.waiting ≡ None → Stands g s items → Left g s.frames.items items
 none_waits g s items shut stands =
     let own : stands.own ≡ [] = subst (λ (w : Option Path). Waits g w stands.own) shut stands.first in
     let are : stands.outer ≡ items = sym (stands.are ∙ ap (λ (o : List Item). o ++ stands.outer) own) in
     subst (Left g s.frames.items) are stands.rest
 
 -- a directory is entered by what it lists
-pub enters_listed : (g : Scene) (dir : Path) (f : Frame) → f.path ≡ dir → Lists g.tree (place g.root dir) f.rest.items → Enters g dir (Ok f)
+pub enters_listed : (g : QueryScene) (dir : Path) (f : Frame) → f.path ≡ dir → Lists g.tree (place g.root dir) f.rest.items → Enters g dir (Ok f)
 enters_listed g dir f path listed = λ items below.
     subst (λ (p : Path). Each g p f.rest.items items) (sym path) (below_listed g dir items f.rest.items listed below)
 
 -- or it can't be listed
-pub enters_failed : (g : Scene) (dir : Path) (e : Error) (fault : Fault) → g.tree.list (place g.root dir) ≡ Err fault
+pub enters_failed : (g : QueryScene) (dir : Path) (e : Error) (fault : Fault) → g.tree.list (place g.root dir) ≡ Err fault
     → problem_of e ≡ at_path (place g.root dir) (io fault) → Enters g dir (Err e)
 enters_failed g dir e fault shut is = λ items below.
     let alone : Problem → List Item = λ p. Err p ∷ [] in
     below_failed g dir items fault shut below ∙ ap alone (sym is)
 
 -- the directory that waits is entered
-pub entered : (g : Scene) (s : Stack) (f : Frame) (dir : Path) (items : List Item) → s.waiting ≡ Some dir → Enters g dir (Ok f)
+pub entered : (g : QueryScene) (s : Stack) (f : Frame) (dir : Path) (items : List Item) → s.waiting ≡ Some dir → Enters g dir (Ok f)
     → Stands g s items → Left g (f ∷ s.frames.items) items
 entered g s f dir items waits enters stands =
     let below : Below g dir stands.own = subst (λ (w : Option Path). Waits g w stands.own) waits stands.first in
     record { own = stands.own; outer = stands.outer; first = enters stands.own below; rest = stands.rest; are = stands.are }
 
 -- the directory that waits can't be listed
-pub refused : (g : Scene) (s t : Stack) (e : Error) (dir : Path) (items : List Item) → s.waiting ≡ Some dir → t.waiting ≡ None
+pub refused : (g : QueryScene) (s t : Stack) (e : Error) (dir : Path) (items : List Item) → s.waiting ≡ Some dir → t.waiting ≡ None
     → t.frames.items ≡ s.frames.items → Enters g dir (Err e) → Stands g s items → Hands g t (Err (problem_of e)) items
 refused g s t e dir items waits empty same enters stands =
     let below : Below g dir stands.own = subst (λ (w : Option Path). Waits g w stands.own) waits stands.first in
@@ -83,7 +83,7 @@ refused g s t e dir items waits empty same enters stands =
       };
     }
 
-module _ (g : Scene) (f : Frame) (fs : List Frame) where
+module _ (g : QueryScene) (f : Frame) (fs : List Frame) where
   -- what waits after an entry
   waits_for : (path : Path) (kind : FileType) (inside : List Item) (b : Bool) → b ≡ goes_on g path kind
       → (goes_on g path kind ≡ false → inside ≡ []) → (goes_on g path kind ≡ true → Below g path inside)
@@ -126,7 +126,7 @@ module _ (g : Scene) (f : Frame) (fs : List Frame) where
       }
 
 -- after an entry, the stack waits for what is below it
-pub next_waits : (g : Scene) (s t : Stack) (path : Path) (kind : FileType) (e : Entry) (items : List Item)
+pub next_waits : (g : QueryScene) (s t : Stack) (path : Path) (kind : FileType) (e : Entry) (items : List Item)
     → e ≡ entry_at g path kind → t.waiting ≡ (if e.answer.descends then Some e.path else None)
     → t.frames.items ≡ s.frames.items → Finds g s (Ok (path, kind)) items → Hands g t (Ok e) items
 next_waits g s t path kind e items is waits same h =
@@ -144,7 +144,7 @@ next_waits g s t path kind e items is waits same h =
     }
 
 -- what was listed, by what it is
-pub finds_as : (g : Scene) (s : Stack) (f h : Result (String Global × FileType) Error) (items : List Item) → f ≡ h
+pub finds_as : (g : QueryScene) (s : Stack) (f h : Result (String Global × FileType) Error) (items : List Item) → f ≡ h
     → Finds g s (found_of f) items → Finds g s (found_of h) items
 finds_as g s f h items is finds = subst (λ (x : Result (String Global × FileType) Error). Finds g s (found_of x) items) is finds
 
@@ -152,7 +152,7 @@ finds_as g s f h items is finds = subst (λ (x : Result (String Global × FileTy
 abbrev pub waits_if : Bool → Option Path
 waits_if goes = if goes then Some [] else None
 
-pub stand_whole : (g : Scene) (s : Stack) (items : List Item) → s.waiting ≡ waits_if (is_open g)
+pub stand_whole : (g : QueryScene) (s : Stack) (items : List Item) → s.waiting ≡ waits_if (is_open g)
     → s.frames.items ≡ [] → IsSurvey g items → Stands g s items
 stand_whole g s items waits empty survey =
     record {

@@ -3,7 +3,7 @@ use Rattle.std.proofs.Common.{◌≡◌, Bool, true, false, not, ◌&&◌, [], c
 use Rattle.ignore_base.specs.Text.{Path}
 use Rattle.ignore_dir.specs.Load.{AreLoads}
 use Rattle.ignore_dir.specs.Query.{query}
-use Rattle.ignore_dir.specs.Scene.{Scene}
+use Rattle.ignore_dir.specs.Scene.{QueryScene}
 use Rattle.ignore_dir.specs.declared.incremental.IncrementalMatch.{IncrementalMatch}
 use Rattle.ignore_files.specs.Kinds.{is_dir}
 use Rattle.ignore_files.specs.declared.files.Files.{Ghosts as Files}
@@ -17,11 +17,11 @@ use Rattle.ignore_survey.specs.Suits.{Suits}
 use Rattle.ignore_survey.specs.Survey.{Entry, entry_at, is_open}
 use Rattle.ignore_why.specs.QueryWhy.{QueryWhy, query_why}
 
-module _ {F : Type 0} (files : Files F) (f : F) (m : IncrementalIgnore) (g : Scene) where
-  pub where_suits : (P : Scene → Type 0) → Suits files f m g → WhereAgrees files f m P → P g
+module _ {F : Type 0} (files : Files F) (f : F) (m : IncrementalIgnore) (g : QueryScene) where
+  pub where_suits : (P : QueryScene → Type 0) → Suits files f m g → WhereAgrees files f m P → P g
   where_suits P s w =
-      subst P (sym s.scene) (w g.tree g.loads s.honest (subst (λ (x : Scene). AreLoads g.tree x.settings g.loads) s.scene s.loads)
-      (subst (λ (x : Scene). Agrees x m.cache) s.scene s.agrees))
+      subst P (sym s.scene) (w g.tree g.loads s.honest (subst (λ (x : QueryScene). AreLoads g.tree x.settings g.loads) s.scene s.loads)
+      (subst (λ (x : QueryScene). Agrees x m.cache) s.scene s.agrees))
 
   -- a matcher that asks about the same, with which it agrees, suits it too
   pub suits_still : (n : IncrementalIgnore) → Suits files f m g → n.asked ≡ m.asked → Agrees g n.cache → Suits files f n g
@@ -34,7 +34,7 @@ module _ {F : Type 0} (files : Files F) (f : F) (m : IncrementalIgnore) (g : Sce
       }
 
 -- what an entry of a survey is, by what a matcher answers
-pub entry_is : (g : Scene) (path p : Path) (kind : FileType) (d : Bool) (a : IncrementalMatch) (why : QueryWhy) → p ≡ path → d ≡ is_dir kind
+pub entry_is : (g : QueryScene) (path p : Path) (kind : FileType) (d : Bool) (a : IncrementalMatch) (why : QueryWhy) → p ≡ path → d ≡ is_dir kind
     → a ≡ (query g p d).0 → why ≡ query_why g p d
     → let e : Entry = record { path = path; kind = kind; answer = a; why = why } in e ≡ entry_at g path kind
 entry_is g path p kind d a why same dir is because =
@@ -47,14 +47,14 @@ entry_is g path p kind d a why same dir is because =
     ap with_answer answer ∙ ap with_reason reason
 
 -- standard input isn't surveyed
-pub stdin_is_shut : (g : Scene) (root : Path) (stdin : Bool) → g.root ≡ root → stdin ≡ bytes_eq root (codes "-") → stdin ≡ true
+pub stdin_is_shut : (g : QueryScene) (root : Path) (stdin : Bool) → g.root ≡ root → stdin ≡ bytes_eq root (codes "-") → stdin ≡ true
     → false ≡ is_open g
 stdin_is_shut g root stdin at is shut =
     let there : bytes_eq g.root (codes "-") ≡ true = ap (λ (p : Path). bytes_eq p (codes "-")) at ∙ (sym is ∙ shut) in
     sym (ap (λ (b : Bool). not b && (query g [] true).0.descends) there)
 
 -- another root is surveyed where the query says so
-pub opens_as : (g : Scene) (root : Path) (stdin goes : Bool) (a : IncrementalMatch) → g.root ≡ root
+pub opens_as : (g : QueryScene) (root : Path) (stdin goes : Bool) (a : IncrementalMatch) → g.root ≡ root
     → stdin ≡ bytes_eq root (codes "-") → stdin ≡ false → goes ≡ a.descends → a ≡ (query g [] true).0 → goes ≡ is_open g
 opens_as g root stdin goes a at is other descends answer =
     let elsewhere : bytes_eq g.root (codes "-") ≡ false = ap (λ (p : Path). bytes_eq p (codes "-")) at ∙ (sym is ∙ other) in

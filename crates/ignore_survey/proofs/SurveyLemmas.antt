@@ -8,7 +8,7 @@ use Rattle.std.specs.Ordering.{is_lt, nat_cmp}
 use Rattle.ignore_base.specs.Paths.{join_of}
 use Rattle.ignore_base.specs.Text.{Bytes, Path}
 use Rattle.ignore_base.specs.declared.fault.Fault.{Fault}
-use Rattle.ignore_dir.specs.Scene.{Scene}
+use Rattle.ignore_dir.specs.Scene.{QueryScene}
 use Rattle.ignore_files.specs.Tree.{Tree}
 use Rattle.ignore_files.specs.declared.types.FileType.{FileType}
 use Rattle.ignore_files.specs.declared.types.Listed.{Listed}
@@ -36,29 +36,29 @@ one_listing tree path xs ys a b =
     (subst (λ (l : List Listed). IsArranged by_name path (map named l) xs) same a.2) b.2
 
 -- of a directory that can't be listed
-pub below_failed : (g : Scene) (dir : Path) (own : List Item) (f : Fault) → g.tree.list (place g.root dir) ≡ Err f
+pub below_failed : (g : QueryScene) (dir : Path) (own : List Item) (f : Fault) → g.tree.list (place g.root dir) ≡ Err f
     → Below g dir own → own ≡ unlisted g dir f ∷ []
 below_failed g dir own f shut (fails {fault = k} is) = let e = sym shut ∙ is in let same : k ≡ f = cc (e) in ap (λ (x : Fault). unlisted g dir x ∷ []) same
 below_failed g dir own f shut (lists listed each) = absurd (let e = sym shut ∙ listed.1 in cc (e))
 
 -- of one that lists these things
-pub below_listed : (g : Scene) (dir : Path) (own : List Item) (xs : List Listed) → Lists g.tree (place g.root dir) xs
+pub below_listed : (g : QueryScene) (dir : Path) (own : List Item) (xs : List Listed) → Lists g.tree (place g.root dir) xs
     → Below g dir own → Each g dir xs own
 below_listed g dir own xs listed (fails is) = absurd (let e = sym is ∙ listed.1 in cc (e))
 below_listed g dir own xs listed (lists {things = ys} other each) =
     subst (λ (l : List Listed). Each g dir l own) (one_listing g.tree (place g.root dir) xs ys listed other) each
 
 -- of no things
-pub each_none : (g : Scene) (dir : Path) (own : List Item) → Each g dir [] own → own ≡ []
+pub each_none : (g : QueryScene) (dir : Path) (own : List Item) → Each g dir [] own → own ≡ []
 each_none g dir own none = refl
 
 -- of a fault, and then other things
-pub each_fault : (g : Scene) (dir : Path) (f : Fault) (xs : List Listed) (own : List Item) → Each g dir (thing.Fault f ∷ xs) own
+pub each_fault : (g : QueryScene) (dir : Path) (f : Fault) (xs : List Listed) (own : List Item) → Each g dir (thing.Fault f ∷ xs) own
     → (items : List Item) × (own ≡ unlisted g dir f ∷ items) × Each g dir xs items
 each_fault g dir f xs own (fault {items = items} each) = (items, refl, each)
 
 -- of an entry, and then other things: what is below it is nothing where the survey doesn't go on
-pub record AnEntry (g : Scene) (dir : Path) (name : Bytes) (kind : FileType) (xs : List Listed) (own : List Item) : Type 0 where
+pub record AnEntry (g : QueryScene) (dir : Path) (name : Bytes) (kind : FileType) (xs : List Listed) (own : List Item) : Type 0 where
   pub inside : List Item
   pub items : List Item
   pub leaf_there : goes_on g (join_of dir name) kind ≡ false → inside ≡ []
@@ -66,7 +66,7 @@ pub record AnEntry (g : Scene) (dir : Path) (name : Bytes) (kind : FileType) (xs
   pub each : Each g dir xs items
   pub are : own ≡ Ok (entry_at g (join_of dir name) kind) ∷ (inside ++ items)
 
-pub each_entry : (g : Scene) (dir : Path) (name : Bytes) (kind : FileType) (xs : List Listed) (own : List Item)
+pub each_entry : (g : QueryScene) (dir : Path) (name : Bytes) (kind : FileType) (xs : List Listed) (own : List Item)
     → Each g dir (thing.Entry name kind ∷ xs) own → AnEntry g dir name kind xs own
 each_entry g dir name kind xs own (leaf {items = items} shut each) =
     record {

@@ -21,7 +21,7 @@ use Rattle.ignore_dir.specs.declared.dir.Dir.{Dir}
 use Rattle.ignore_dir.specs.declared.settings.Settings.{Settings}
 use Rattle.ignore_dir.specs.Load.{Loaded}
 use Rattle.ignore_dir.specs.Query.{answer_of_rules, is_ignored, query, rules_verdict}
-use Rattle.ignore_dir.specs.Scene.{Scene, path_verdict, scene}
+use Rattle.ignore_dir.specs.Scene.{QueryScene, path_verdict, scene}
 use Rattle.ignore_why.specs.declared.cause.RuleRank.TheVariants.{Ignore}
 use Rattle.ignore_why.specs.Cited.Cited.{on_name, on_rule}
 use Rattle.ignore_why.specs.QueryWhy.{path_why, query_why, why_by_rules}
@@ -90,7 +90,7 @@ settings = record {
   max_filesize = None;
 }
 
-abbrev pub g : Scene
+abbrev pub g : QueryScene
 g = scene tree loads settings (record { overrides = empty; types = no_types; global = empty; explicit = [] }) (codes "/t")
 
 -- the reason of each entry: `.h` is hidden, and a rule ignores `b`

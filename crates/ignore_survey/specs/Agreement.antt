@@ -1,7 +1,7 @@
 -- What a survey yields, by the walk of its root.
 use Rattle.std.specs.Prelude.{◌≡◌, false, List, Contains, None, Some, Ok}
 use Rattle.ignore_base.specs.Text.{Path}
-use Rattle.ignore_dir.specs.Query.{depth_of}
+use Rattle.ignore_dir.specs.Query.{depth_of_path}
 use Rattle.ignore_dir.specs.Verdict.{is_ignore}
 use Rattle.ignore_walk.specs.Agreement.{IsOpen}
 use Rattle.ignore_walk.specs.Entry.{Entry as Walked}
@@ -18,7 +18,7 @@ pub record IsPlain (g : Scene) : Type 0 where
 
 -- an entry of a survey as a walk of the root yields it
 abbrev pub walked : Path → Entry → Walked
-walked root e = record { path = place root e.path; depth = depth_of e.path; kind = Some e.kind; followed = false }
+walked root e = record { path = place root e.path; depth = depth_of_path e.path; kind = Some e.kind; followed = false }
 
 -- a walk's entry is one of a survey that isn't ignored
 pub record IsKept (root : Path) (items : List Item) (v : Walked) : Type 0 where

@@ -4,7 +4,7 @@ use Rattle.std.specs.Prelude.{if◌then◌else◌}
 use Rattle.ignore_base.specs.declared.error.Error.{Error}
 use Rattle.ignore_base.specs.declared.fault.Fault.TheVariants.{StepLimit}
 use Rattle.ignore_base.specs.Problem.{io, memory}
-use Rattle.ignore_dir.specs.Scene.{Scene}
+use Rattle.ignore_dir.specs.Scene.{QueryScene}
 use Rattle.ignore_files.specs.declared.files.Files.{Ghosts as Files}
 use Rattle.ignore_survey.specs.Stands.{Stands}
 use Rattle.ignore_survey.specs.Suits.{ReportsNext, Suits}
@@ -14,13 +14,13 @@ use Rattle.ignore_survey.specs.declared.survey.Survey.{Survey}
 use Rattle.ignore_survey.specs.declared.surveyed.Surveyed.{Surveyed}
 
 -- a survey that wasn't ended suits a scene, and still gives these items
-pub record Remaining {F : Type 0} (files : Files F) (g : Scene) (s : Survey F) (items : List Item) : Type 0 where
+pub record Remaining {F : Type 0} (files : Files F) (g : QueryScene) (s : Survey F) (items : List Item) : Type 0 where
   pub suits : Suits files s.files.now s.matcher g
   pub goes_on : s.ended ≡ false
   pub stands : Stands g s.stack items
 
 -- an item was handed out, the first of those that remained, and one fewer may follow
-pub record Handed {F : Type 0} (files : Files F) (g : Scene) (a : Survey F) (item : Item) (b : Survey F) (items : List Item) : Type 0 where
+pub record Handed {F : Type 0} (files : Files F) (g : QueryScene) (a : Survey F) (item : Item) (b : Survey F) (items : List Item) : Type 0 where
   pub others : List Item
   pub are : items ≡ item ∷ others
   pub rest : Remaining files g b others
@@ -32,7 +32,7 @@ EndsBy item left items = (item ≡ Err memory) ⊎ ((item ≡ Err (io StepLimit)
 
 -- what `next` answers where these items remain: none, where there are none; the first of them, and
 -- then the others remain; or what ends the survey
-abbrev pub Nexts : {F : Type 0} → Files F → Scene → Survey F → Option Item → Survey F → List Item → Type 0
+abbrev pub Nexts : {F : Type 0} → Files F → QueryScene → Survey F → Option Item → Survey F → List Item → Type 0
 Nexts files g a None b items = items ≡ []
 Nexts files g a (Some item) b items = Handed files g a item b items ⊎ (EndsBy item a.left items × (b.ended ≡ true))
 
@@ -53,9 +53,9 @@ items_at_most s = if s.ended then 0 else s.left + 1
 -- ended now, that was its last answer
 pub record NextGives {F : Type 0} (files : Files F) (a : Survey F) (answer : Option (Result Surveyed Error)) (b : Survey F)
     : Type 0 where
-  pub given : (g : Scene) (items : List Item) → Remaining files g a items → Nexts files g a (option_map item_of answer) b items
-  pub reports : (g : Scene) → Suits files a.files.now a.matcher g → ReportsNext g a.matcher.cache answer
-  pub suits : (g : Scene) → Suits files a.files.now a.matcher g → Suits files b.files.now b.matcher g
+  pub given : (g : QueryScene) (items : List Item) → Remaining files g a items → Nexts files g a (option_map item_of answer) b items
+  pub reports : (g : QueryScene) → Suits files a.files.now a.matcher g → ReportsNext g a.matcher.cache answer
+  pub suits : (g : QueryScene) → Suits files a.files.now a.matcher g → Suits files b.files.now b.matcher g
   pub over : a.ended ≡ true → answer ≡ None
   pub none : answer ≡ None → b.ended ≡ true
   pub last : a.ended ≡ false → b.ended ≡ true → IsLast (option_map item_of answer) b.left

@@ -6,7 +6,7 @@ use Rattle.ignore_base.specs.Paths.{join_of}
 use Rattle.ignore_base.specs.Problem.{Problem, problem_of, at_path, io}
 use Rattle.ignore_base.specs.Text.{Path}
 use Rattle.ignore_base.specs.declared.error.Error.{Error}
-use Rattle.ignore_dir.specs.Scene.{Scene}
+use Rattle.ignore_dir.specs.Scene.{QueryScene}
 use Rattle.ignore_files.specs.declared.types.FileType.{FileType}
 use Rattle.ignore_files.specs.declared.types.Listed.{Listed}
 use Rattle.ignore_files.specs.declared.types.Listed.TheVariants as thing
@@ -23,38 +23,38 @@ pub record InTurn (First Then : List Item → Type 0) (items : List Item) : Type
   pub are : items ≡ own ++ outer
 
 -- what is left of the listings of entered directories still gives these items, the innermost first
-abbrev pub Left : Scene → List Frame → List Item → Type 0
+abbrev pub Left : QueryScene → List Frame → List Item → Type 0
 Left g [] items = items ≡ []
 Left g (f ∷ fs) items = InTurn (Each g f.path f.rest.items) (Left g fs) items
 
 -- the directory that is to be listed next, if any, gives these items
-abbrev pub Waits : Scene → Option Path → List Item → Type 0
+abbrev pub Waits : QueryScene → Option Path → List Item → Type 0
 Waits g None items = items ≡ []
 Waits g (Some dir) items = Below g dir items
 
 -- the directory at a path is entered, and what it lists gives its items; or this error is all that it
 -- gives
-abbrev pub Enters : Scene → Path → Result Frame Error → Type 0
+abbrev pub Enters : QueryScene → Path → Result Frame Error → Type 0
 Enters g dir (Ok f) = (items : List Item) → Below g dir items → Each g f.path f.rest.items items
 Enters g dir (Err e) = (items : List Item) → Below g dir items → items ≡ Err (problem_of e) ∷ []
 
 -- a stack still gives these items
-abbrev pub Stands : Scene → Stack → List Item → Type 0
+abbrev pub Stands : QueryScene → Stack → List Item → Type 0
 Stands g s items = InTurn (Waits g s.waiting) (Left g s.frames.items) items
 
 -- what is left after a listed thing was taken of the innermost directory, which is not among the
 -- frames now
-abbrev pub Takes : Scene → Frame → Listed → List Frame → List Item → Type 0
+abbrev pub Takes : QueryScene → Frame → Listed → List Frame → List Item → Type 0
 Takes g f x frames items = InTurn (Each g f.path (x ∷ f.rest.items)) (Left g frames) items
 
 -- an item is the first of these, and the stack still gives the others
-pub record Hands (g : Scene) (s : Stack) (item : Item) (items : List Item) : Type 0 where
+pub record Hands (g : QueryScene) (s : Stack) (item : Item) (items : List Item) : Type 0 where
   pub others : List Item
   pub are : items ≡ item ∷ others
   pub rest : Stands g s others
 
 -- what is to be listed after an entry, if anything is
-abbrev pub next_dir : Scene → Path → FileType → Option Path
+abbrev pub next_dir : QueryScene → Path → FileType → Option Path
 next_dir g path kind = if goes_on g path kind then Some path else None
 
 -- the path and the kind of an entry that was taken, or the problem in its place
@@ -73,7 +73,7 @@ found_at root dir (thing.Fault fault) = Err (at_path (place root dir) (io fault)
 
 -- what was taken gives the first of these items, and the stack gives the others; after an entry, once
 -- it waits for what is below that
-abbrev pub Finds : Scene → Stack → Found → List Item → Type 0
+abbrev pub Finds : QueryScene → Stack → Found → List Item → Type 0
 Finds g s (Ok found) items =
     Hands g (record { waiting = next_dir g found.0 found.1; frames = s.frames }) (Ok (entry_at g found.0 found.1)) items
 Finds g s (Err p) items = Hands g s (Err p) items

@@ -3,7 +3,7 @@ use Rattle.std.specs.Prelude.{◌≡◌, ⊤, Option, None, Some, option_map, Re
 use Rattle.ignore_base.specs.Problem.{problem_of}
 use Rattle.ignore_base.specs.declared.error.Error.{Error}
 use Rattle.ignore_dir.specs.Load.{AreLoads}
-use Rattle.ignore_dir.specs.Scene.{Scene}
+use Rattle.ignore_dir.specs.Scene.{QueryScene}
 use Rattle.ignore_files.specs.Gives.{IsHonest}
 use Rattle.ignore_files.specs.Kinds.{is_dir}
 use Rattle.ignore_files.specs.declared.files.Files.{Ghosts as Files}
@@ -16,18 +16,18 @@ use Rattle.ignore_survey.specs.declared.surveyed.Surveyed.{Surveyed}
 
 -- files and a matcher suit a scene: it is one of the matcher over a tree with which the files are
 -- consistent, and what the matcher keeps agrees with it
-pub record Suits {F : Type 0} (files : Files F) (f : F) (m : IncrementalIgnore) (g : Scene) : Type 0 where
+pub record Suits {F : Type 0} (files : Files F) (f : F) (m : IncrementalIgnore) (g : QueryScene) : Type 0 where
   pub honest : IsHonest files f g.tree
   pub loads : AreLoads g.tree g.settings g.loads
   pub scene : g ≡ scene_of m.asked g.tree g.loads
   pub agrees : Agrees g m.cache
 
 -- the error beside an entry is what the query for it reports, by what the matcher kept before
-abbrev pub Reports : Scene → Cache → Result Surveyed Error → Type 0
+abbrev pub Reports : QueryScene → Cache → Result Surveyed Error → Type 0
 Reports g c (Err e) = ⊤
 Reports g c (Ok s) = option_map problem_of s.error ≡ reported g c (string_bytes s.path) (is_dir s.file_type)
 
 -- the same of the answer of `next`
-abbrev pub ReportsNext : Scene → Cache → Option (Result Surveyed Error) → Type 0
+abbrev pub ReportsNext : QueryScene → Cache → Option (Result Surveyed Error) → Type 0
 ReportsNext g c None = ⊤
 ReportsNext g c (Some item) = Reports g c item

@@ -13,7 +13,7 @@ use Rattle.ignore_files.specs.declared.types.FileType.{FileType}
 use Rattle.ignore_files.specs.declared.types.Listed.{Listed}
 use Rattle.ignore_files.specs.declared.types.Listed.TheVariants as thing
 use Rattle.ignore_dir.specs.Query.{query}
-use Rattle.ignore_dir.specs.Scene.{Scene}
+use Rattle.ignore_dir.specs.Scene.{QueryScene}
 use Rattle.ignore_dir.specs.declared.incremental.IncrementalMatch.{IncrementalMatch}
 use Rattle.ignore_walk.specs.Child.{named}
 use Rattle.ignore_walk.specs.Walked.{IsArranged}
@@ -32,12 +32,12 @@ abbrev pub Item : Type 0
 Item = Result Entry Problem
 
 -- the entry of this kind at a path
-abbrev pub entry_at : Scene → Path → FileType → Entry
+abbrev pub entry_at : QueryScene → Path → FileType → Entry
 entry_at g path kind =
     record { path = path; kind = kind; answer = (query g path (is_dir kind)).0; why = query_why g path (is_dir kind) }
 
 -- a survey goes on below an entry: it is a directory that isn't ignored, nor at the greatest depth
-abbrev pub goes_on : Scene → Path → FileType → Bool
+abbrev pub goes_on : QueryScene → Path → FileType → Bool
 goes_on g path kind = (query g path (is_dir kind)).0.descends
 
 -- where a directory is; the empty path is that of the root
@@ -46,7 +46,7 @@ place root [] = root
 place root (b ∷ bs) = join_of root (b ∷ bs)
 
 -- a fault in the place of what can't be listed of the directory at a path
-abbrev pub unlisted : Scene → Path → Fault → Item
+abbrev pub unlisted : QueryScene → Path → Fault → Item
 unlisted g dir fault = Err (at_path (place g.root dir) (io fault))
 
 -- names in the order of their bytes, in each directory
@@ -61,14 +61,14 @@ Lists tree path things = (listed : List Listed) × (tree.list path ≡ Ok listed
 mutual
   -- what a survey yields below the directory at a path: of each thing that it lists, in order; or
   -- the fault of its listing
-  pub data Below (g : Scene) : Path → List Item → Type 0 where
+  pub data Below (g : QueryScene) : Path → List Item → Type 0 where
     fails : {dir : Path} {fault : Fault} → g.tree.list (place g.root dir) ≡ Err fault → Below g dir (unlisted g dir fault ∷ [])
     lists : {dir : Path} {things : List Listed} {items : List Item} → Lists g.tree (place g.root dir) things → Each g dir things items
         → Below g dir items
 
   -- what it yields of some things that the directory at a path lists: a fault in its place; an
   -- entry, and then what is below it, where it goes on there
-  pub data Each (g : Scene) : Path → List Listed → List Item → Type 0 where
+  pub data Each (g : QueryScene) : Path → List Listed → List Item → Type 0 where
     none : {dir : Path} → Each g dir [] []
     fault : {dir : Path} {f : Fault} {things : List Listed} {items : List Item} → Each g dir things items
         → Each g dir (thing.Fault f ∷ things) (unlisted g dir f ∷ items)
@@ -80,10 +80,10 @@ mutual
         → Each g dir (thing.Entry name kind ∷ things) (Ok (entry_at g (join_of dir name) kind) ∷ (inside ++ items))
 
 -- a root is surveyed: it isn't `-`, which stands for standard input, and the greatest depth isn't 0
-abbrev pub is_open : Scene → Bool
+abbrev pub is_open : QueryScene → Bool
 is_open g = not (bytes_eq g.root (codes "-")) && (query g [] true).0.descends
 
 -- what a survey of a root yields
-pub data IsSurvey (g : Scene) : List Item → Type 0 where
+pub data IsSurvey (g : QueryScene) : List Item → Type 0 where
   closed : is_open g ≡ false → IsSurvey g []
   of_root : {items : List Item} → is_open g ≡ true → Below g [] items → IsSurvey g items

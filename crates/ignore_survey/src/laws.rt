@@ -14,7 +14,7 @@ use ignore_walk::laws::{walk_agrees_with_queries, walk_yields_what_it_shows};
 
 /// A survey of a root gives one list of items.
 pub fn one_survey()
-    ensures { (g : below.Scene) (xs ys : List Item) → IsSurvey g xs → IsSurvey g ys → ys ≡ xs }
+    ensures { (g : below.QueryScene) (xs ys : List Item) → IsSurvey g xs → IsSurvey g ys → ys ≡ xs }
 {}
 
 /// The entries of a survey that aren't ignored are those of the walk of its root but the root itself,

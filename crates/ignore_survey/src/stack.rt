@@ -1,7 +1,7 @@
 //! What a survey has in hand: directories whose listings are half read, and one that is to be listed.
 ghost use Rattle.std.specs.Prelude.{◌≡◌, [], Err, IfOk, List, MatchOption, None};
 ghost use Rattle.ignore_base.specs.Problem.{problem_of};
-ghost use Rattle.ignore_dir.specs.Scene.{Scene};
+ghost use Rattle.ignore_dir.specs.Scene.{QueryScene};
 ghost use Rattle.ignore_files.specs.Gives.{IsHonest};
 ghost use Rattle.ignore_survey.specs.Stands.{Enters, Finds, Hands, Left, Stands, Takes, found_at, found_of};
 ghost use Rattle.ignore_survey.specs.Survey.{Item as Yielded};
@@ -37,7 +37,7 @@ pub struct Stack {
 /// What is listed next, with its directory, which is taken from the frames. Directories of which
 /// nothing is left are left.
 fn take_listed(frames: &mut VecDeque<Frame>) -> Option<(Frame, Listed)>
-    ensures { (g : Scene) (items : List Yielded) → Left g frames.old.items items
+    ensures { (g : QueryScene) (items : List Yielded) → Left g frames.old.items items
         → MatchOption result (items ≡ []) (λ r. Takes g r.0 r.1 frames.new.items items) }
 {
     while let Some(mut frame) = frames.pop_front() {
@@ -55,7 +55,7 @@ fn enter<F: Files>(
     root: &str,
     path: Name,
 ) -> Result<Result<Frame, Error>, AllocError>
-    ensures { (g : Scene) → IsHonest F.Files files.now g.tree → g.root ≡ root.now → IfOk result (Enters g path) }
+    ensures { (g : QueryScene) → IsHonest F.Files files.now g.tree → g.root ≡ root.now → IfOk result (Enters g path) }
 {
     let place = place(alloc, root, path.as_str())?;
     match listed(alloc, files, place.as_str())? {
@@ -72,7 +72,7 @@ impl Stack {
         files: &F,
         root: &str,
     ) -> Result<Option<Found>, AllocError>
-        ensures { (g : Scene) (items : List Yielded) → IsHonest F.Files files.now g.tree → g.root ≡ root.now → Stands g self.old items
+        ensures { (g : QueryScene) (items : List Yielded) → IsHonest F.Files files.now g.tree → g.root ≡ root.now → Stands g self.old items
             → IfOk result (λ r. MatchOption r (items ≡ []) (λ found. Finds g self.new (found_of found) items)) }
     {
         if let Some(error) = self.open(alloc, files, root)? {
@@ -89,7 +89,7 @@ impl Stack {
         files: &F,
         root: &str,
     ) -> Result<Option<Error>, AllocError>
-        ensures { (g : Scene) (items : List Yielded) → IsHonest F.Files files.now g.tree → g.root ≡ root.now → Stands g self.old items
+        ensures { (g : QueryScene) (items : List Yielded) → IsHonest F.Files files.now g.tree → g.root ≡ root.now → Stands g self.old items
             → IfOk result (λ r. MatchOption r
             ((self.new.waiting ≡ None) × Left g self.new.frames.items items)
             (λ e. Hands g self.new (Err (problem_of e)) items)) }
@@ -108,7 +108,7 @@ impl Stack {
 
     /// What is listed next in the directories that were entered.
     fn take(&mut self, alloc: Global, root: &str) -> Result<Option<Found>, AllocError>
-        ensures { (g : Scene) (items : List Yielded) → g.root ≡ root.now → self.old.waiting ≡ None → Left g self.old.frames.items items
+        ensures { (g : QueryScene) (items : List Yielded) → g.root ≡ root.now → self.old.waiting ≡ None → Left g self.old.frames.items items
             → IfOk result (λ r. MatchOption r (items ≡ []) (λ found. Finds g self.new (found_of found) items)) }
     {
         let Some((frame, listed)) = take_listed(&mut self.frames) else {

@@ -2,7 +2,7 @@
 ghost use Rattle.std.specs.Prelude.{◌≡◌, ◌<◌, List, [], true, false, None, Some, Ok, Err, IfErr, IfOk, IfSome, MatchOption, option_map, string_bytes, if◌then◌else◌};
 ghost use Rattle.ignore_base.specs.declared.fault.Fault.TheVariants.{StepLimit};
 ghost use Rattle.ignore_base.specs.Problem.{problem_of, io, memory};
-ghost use Rattle.ignore_dir.specs.Scene.{Scene};
+ghost use Rattle.ignore_dir.specs.Scene.{QueryScene};
 ghost use Rattle.ignore_query.specs.declared.kept.Cache.{Cache};
 ghost use Rattle.ignore_survey.specs.Nexts.{IsLast, Nexts, Remaining, items_at_most};
 ghost use Rattle.ignore_survey.specs.Stands.{Finds, Hands, Stands, found_of};
@@ -58,8 +58,8 @@ fn next_after(alloc: Global, entry: &Surveyed) -> Result<Option<Name>, AllocErro
 
 /// Whether the root is surveyed.
 fn is_open<F: Files>(files: &F, matcher: &mut IncrementalIgnore) -> Result<bool, Error>
-    ensures value { (g : Scene) → Suits F.Files files.now matcher.old g → IfOk result (λ goes_on. goes_on ≡ is_open g) }
-    ensures suits { (g : Scene) → Suits F.Files files.now matcher.old g → Suits F.Files files.now matcher.new g }
+    ensures value { (g : QueryScene) → Suits F.Files files.now matcher.old g → IfOk result (λ goes_on. goes_on ≡ is_open g) }
+    ensures suits { (g : QueryScene) → Suits F.Files files.now matcher.old g → Suits F.Files files.now matcher.new g }
     ensures out_of_memory { IfErr result (λ e. problem_of e ≡ memory) }
 {
     if matcher.root() == "-" {
@@ -87,7 +87,7 @@ impl<'a, F: Files> Survey<'a, F> {
         files: &'a F,
         mut matcher: IncrementalIgnore,
     ) -> Result<Survey<'a, F>, Error>
-        ensures whole { (g : Scene) (items : List Yielded) → Suits F.Files files.entry.now matcher g → IsSurvey g items
+        ensures whole { (g : QueryScene) (items : List Yielded) → Suits F.Files files.entry.now matcher g → IsSurvey g items
             → IfOk result (λ s. Remaining F.Files g s items) }
         ensures limit { IfOk result (λ s. s.left ≡ u64.MAX) }
         ensures goes_on { IfOk result (λ s. s.ended ≡ false) }
@@ -125,12 +125,12 @@ impl<'a, F: Files> Survey<'a, F> {
 
     /// An entry with what becomes of it. Where the survey goes on below it, it is listed next.
     fn visit(&mut self, path: String, file_type: FileType) -> Result<Surveyed, Error>
-        ensures hands { (g : Scene) (items : List Yielded) → Suits F.Files self.old.files.now self.old.matcher g
+        ensures hands { (g : QueryScene) (items : List Yielded) → Suits F.Files self.old.files.now self.old.matcher g
             → Finds g self.old.stack (Ok (string_bytes path, file_type)) items
             → IfOk result (λ s. Hands g self.new.stack (item_of (Ok s)) items) }
-        ensures reports { (g : Scene) → Suits F.Files self.old.files.now self.old.matcher g
+        ensures reports { (g : QueryScene) → Suits F.Files self.old.files.now self.old.matcher g
             → IfOk result (λ s. Reports g self.old.matcher.cache (Ok s)) }
-        ensures suits { (g : Scene) → Suits F.Files self.old.files.now self.old.matcher g
+        ensures suits { (g : QueryScene) → Suits F.Files self.old.files.now self.old.matcher g
             → Suits F.Files self.new.files.now self.new.matcher g }
         ensures left { self.new.left ≡ self.old.left }
         ensures ended { self.new.ended ≡ self.old.ended }
@@ -143,12 +143,12 @@ impl<'a, F: Files> Survey<'a, F> {
 
     /// The item of what was listed.
     fn item(&mut self, found: Found) -> Result<Item, Error>
-        ensures hands { (g : Scene) (items : List Yielded) → Suits F.Files self.old.files.now self.old.matcher g
+        ensures hands { (g : QueryScene) (items : List Yielded) → Suits F.Files self.old.files.now self.old.matcher g
             → Finds g self.old.stack (found_of found) items
             → IfOk result (λ item. Hands g self.new.stack (item_of item) items) }
-        ensures reports { (g : Scene) → Suits F.Files self.old.files.now self.old.matcher g
+        ensures reports { (g : QueryScene) → Suits F.Files self.old.files.now self.old.matcher g
             → IfOk result (Reports g self.old.matcher.cache) }
-        ensures suits { (g : Scene) → Suits F.Files self.old.files.now self.old.matcher g
+        ensures suits { (g : QueryScene) → Suits F.Files self.old.files.now self.old.matcher g
             → Suits F.Files self.new.files.now self.new.matcher g }
         ensures left { self.new.left ≡ self.old.left }
         ensures ended { self.new.ended ≡ self.old.ended }
@@ -162,12 +162,12 @@ impl<'a, F: Files> Survey<'a, F> {
 
     /// The next item, whatever the limit is.
     fn step(&mut self) -> Result<Option<Item>, Error>
-        ensures given { (g : Scene) (items : List Yielded) → Suits F.Files self.old.files.now self.old.matcher g
+        ensures given { (g : QueryScene) (items : List Yielded) → Suits F.Files self.old.files.now self.old.matcher g
             → Stands g self.old.stack items → IfOk result (λ next. MatchOption next (items ≡ [])
             (λ item. Hands g self.new.stack (item_of item) items)) }
-        ensures reports { (g : Scene) → Suits F.Files self.old.files.now self.old.matcher g
+        ensures reports { (g : QueryScene) → Suits F.Files self.old.files.now self.old.matcher g
             → IfOk result (ReportsNext g self.old.matcher.cache) }
-        ensures suits { (g : Scene) → Suits F.Files self.old.files.now self.old.matcher g
+        ensures suits { (g : QueryScene) → Suits F.Files self.old.files.now self.old.matcher g
             → Suits F.Files self.new.files.now self.new.matcher g }
         ensures left { self.new.left ≡ self.old.left }
         ensures ended { self.new.ended ≡ self.old.ended }
@@ -183,7 +183,7 @@ impl<'a, F: Files> Survey<'a, F> {
     /// Ends the survey by an error.
     fn end(&mut self, error: Error) -> Option<Item>
         ensures item { option_map item_of result ≡ Some (Err (problem_of error)) }
-        ensures reports { (g : Scene) (c : Cache) → ReportsNext g c result }
+        ensures reports { (g : QueryScene) (c : Cache) → ReportsNext g c result }
         ensures files { self.new.files ≡ self.old.files }
         ensures matcher { self.new.matcher ≡ self.old.matcher }
         ensures left { self.new.left ≡ self.old.left }
@@ -196,11 +196,11 @@ impl<'a, F: Files> Survey<'a, F> {
     /// The next item.
     fn advance(&mut self) -> Option<Item>
         ensures fewer { IfSome result (λ _. items_at_most self.new < items_at_most self.old) }
-        ensures given { (g : Scene) (items : List Yielded) → Remaining F.Files g self.old items
+        ensures given { (g : QueryScene) (items : List Yielded) → Remaining F.Files g self.old items
             → Nexts F.Files g self.old (option_map item_of result) self.new items }
-        ensures reports { (g : Scene) → Suits F.Files self.old.files.now self.old.matcher g
+        ensures reports { (g : QueryScene) → Suits F.Files self.old.files.now self.old.matcher g
             → ReportsNext g self.old.matcher.cache result }
-        ensures suits { (g : Scene) → Suits F.Files self.old.files.now self.old.matcher g
+        ensures suits { (g : QueryScene) → Suits F.Files self.old.files.now self.old.matcher g
             → Suits F.Files self.new.files.now self.new.matcher g }
         ensures over { self.old.ended ≡ true → result ≡ None }
         ensures none { result ≡ None → self.new.ended ≡ true }

@@ -1,7 +1,7 @@
 //! What a survey yields.
 ghost use Rattle.std.specs.Prelude.{◌≡◌, IfErr, IfOk, Ok, string_bytes};
 ghost use Rattle.ignore_base.specs.Problem.{problem_of, memory};
-ghost use Rattle.ignore_dir.specs.Scene.{Scene};
+ghost use Rattle.ignore_dir.specs.Scene.{QueryScene};
 ghost use Rattle.ignore_survey.specs.Suits.{Reports, Suits};
 ghost use Rattle.ignore_survey.specs.Survey.{entry_at};
 ghost use Rattle.ignore_survey.specs.Surveyed.{entry_of};
@@ -33,9 +33,9 @@ pub(crate) fn explained<F: Files>(
     path: String,
     file_type: FileType,
 ) -> Result<Surveyed, Error>
-    ensures entry { (g : Scene) → Suits F.Files files.now matcher.old g → IfOk result (λ s. entry_of s ≡ entry_at g (string_bytes path) file_type) }
-    ensures reports { (g : Scene) → Suits F.Files files.now matcher.old g → IfOk result (λ s. Reports g matcher.old.cache (Ok s)) }
-    ensures suits { (g : Scene) → Suits F.Files files.now matcher.old g → Suits F.Files files.now matcher.new g }
+    ensures entry { (g : QueryScene) → Suits F.Files files.now matcher.old g → IfOk result (λ s. entry_of s ≡ entry_at g (string_bytes path) file_type) }
+    ensures reports { (g : QueryScene) → Suits F.Files files.now matcher.old g → IfOk result (λ s. Reports g matcher.old.cache (Ok s)) }
+    ensures suits { (g : QueryScene) → Suits F.Files files.now matcher.old g → Suits F.Files files.now matcher.new g }
     ensures out_of_memory { IfErr result (λ e. problem_of e ≡ memory) }
 {
     let (explanation, error) = matcher.explain(files, path.as_str(), file_type.is_dir())?;

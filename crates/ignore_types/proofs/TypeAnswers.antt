@@ -15,7 +15,7 @@ use Rattle.ignore_base.specs.Match.{match_or}
 use Rattle.ignore_glob.specs.Reading.{Reading, Matches}
 use Rattle.ignore_set.specs.Sets.{Member, Applies, IsLastMatch}
 use Rattle.ignore_types.specs.TypeIndex.{name_member}
-use Rattle.ignore_types.specs.TypeMatch.{Chosen, TypeGlob, last_place, glob_at, verdict_of, choice_answer, choices_answer, unmatched}
+use Rattle.ignore_types.specs.TypeMatch.{Chosen, TypeGlob, last_place, glob_at, match_by_glob, choice_answer, choices_answer, unmatched}
 use Rattle.ignore_types.specs.TypeMatch.{SomeMatches, NoneMatches, IsLastGlob, IsDeciding, IsNameAnswer, AnswersByTheLastChoice, type_answer}
 
 some_one : {A : Type 0} (a b : A) → option.Some a ≡ option.Some b → a ≡ b
@@ -135,16 +135,16 @@ module _ (decides : (reading : Reading) (text : List ℕ) → Decides (does_matc
 
   -- the last choice that matches, or none
   last_of : (cs : List Chosen) (name : List ℕ)
-      → ((c : Chosen) × (i : ℕ) × IsDeciding name cs c i × (choices_answer cs name ≡ verdict_of c i))
+      → ((c : Chosen) × (i : ℕ) × IsDeciding name cs c i × (choices_answer cs name ≡ match_by_glob c i))
       ⊎ (NoneMatches name cs × (choices_answer cs name ≡ None))
   last_of [] name = inr (tt, refl)
   last_of (c ∷ cs) name = step (last_of cs name) (last_of_globs name c.readings)
     where
-      step : ((d : Chosen) × (i : ℕ) × IsDeciding name cs d i × (choices_answer cs name ≡ verdict_of d i))
+      step : ((d : Chosen) × (i : ℕ) × IsDeciding name cs d i × (choices_answer cs name ≡ match_by_glob d i))
           ⊎ (NoneMatches name cs × (choices_answer cs name ≡ None))
           → ((i : ℕ) × IsLastGlob name c.readings i × (last_place name c.readings ≡ option.Some i))
           ⊎ ((SomeMatches name c.readings → ⊥) × (last_place name c.readings ≡ option.None))
-          → ((d : Chosen) × (i : ℕ) × IsDeciding name (c ∷ cs) d i × (choices_answer (c ∷ cs) name ≡ verdict_of d i))
+          → ((d : Chosen) × (i : ℕ) × IsDeciding name (c ∷ cs) d i × (choices_answer (c ∷ cs) name ≡ match_by_glob d i))
           ⊎ (NoneMatches name (c ∷ cs) × (choices_answer (c ∷ cs) name ≡ None))
       step (inl (d, i, h, e)) here = inl (
         d,
@@ -156,11 +156,11 @@ module _ (decides : (reading : Reading) (text : List ℕ) → Decides (does_matc
         c,
         i,
         record { before = []; after = cs; split = refl; last = last; later = none },
-        ap (λ m. match_or m (choice_answer name c)) e ∙ ap (λ o. option_map_or (verdict_of c) o None) f,
+        ap (λ m. match_or m (choice_answer name c)) e ∙ ap (λ o. option_map_or (match_by_glob c) o None) f,
       )
       step (inr (none, e)) (inr (never, f)) = inr (
         (never, none),
-        ap (λ m. match_or m (choice_answer name c)) e ∙ ap (λ o. option_map_or (verdict_of c) o None) f,
+        ap (λ m. match_or m (choice_answer name c)) e ∙ ap (λ o. option_map_or (match_by_glob c) o None) f,
       )
 
   pub answers_by_the_last_choice : AnswersByTheLastChoice
@@ -168,7 +168,7 @@ module _ (decides : (reading : Reading) (text : List ℕ) → Decides (does_matc
   answers_by_the_last_choice choices false option.None = refl
   answers_by_the_last_choice choices false (option.Some name) = go (last_of choices (chars name))
     where
-      go : ((c : Chosen) × (i : ℕ) × IsDeciding (chars name) choices c i × (choices_answer choices (chars name) ≡ verdict_of c i))
+      go : ((c : Chosen) × (i : ℕ) × IsDeciding (chars name) choices c i × (choices_answer choices (chars name) ≡ match_by_glob c i))
           ⊎ (NoneMatches (chars name) choices × (choices_answer choices (chars name) ≡ None))
           → IsNameAnswer choices (chars name) (match_or (choices_answer choices (chars name)) (unmatched choices))
       go (inl (c, i, h, e)) =

@@ -10,7 +10,7 @@ use Rattle.std.specs.declared.cmp.Ordering.{Ordering}
 use Rattle.std.specs.declared.cmp.Ordering.TheVariants.{Less, Equal, Greater}
 use Rattle.std.proofs.lemmas.Slice.Eq.{bytes_eq-Decides}
 use Rattle.std.proofs.lemmas.List.Sorted.{searchable_from_sorted}
-use Rattle.ignore_types.specs.Types.{Definition, text_cmp, AllAfter, IsAscending, definition_of, placed, with_glob, without, IsSortedCopy}
+use Rattle.ignore_types.specs.Types.{Definition, text_cmp, AllAfter, IsAscending, definition_of, inserted, with_glob, without, IsSortedCopy}
 use Rattle.ignore_types.specs.PlaceSteps.{AllBefore, IsAt, IsGap, IsPlace}
 use Rattle.ignore_types.proofs.TextOrder.{order, same_from_equal, equal_from_same, differ_from_less, differ_from_less_back}
 use Rattle.ignore_types.proofs.TextOrder.{greater_from_less, less_from_greater}
@@ -19,18 +19,18 @@ use Rattle.ignore_types.proofs.TextOrder.{greater_from_less, less_from_greater}
 
 pub with_glob-at : (name glob : List ℕ) (a b : List Definition) (d : Definition) → AllBefore name a → d.name ≡ name
     → with_glob name glob (a ++ d ∷ b) ≡ a ++ record { name = d.name; globs = d.globs ++ glob ∷ [] } ∷ b
-with_glob-at name glob [] b d before named = ap (λ o. placed o name glob d b (with_glob name glob b)) (equal_from_same d.name name named)
+with_glob-at name glob [] b d before named = ap (λ o. inserted o name glob d b (with_glob name glob b)) (equal_from_same d.name name named)
 with_glob-at name glob (e ∷ es) b d before named =
-    ap (λ o. placed o name glob e (es ++ d ∷ b) (with_glob name glob (es ++ d ∷ b))) before.0
+    ap (λ o. inserted o name glob e (es ++ d ∷ b) (with_glob name glob (es ++ d ∷ b))) before.0
     ∙ ap (λ l. e ∷ l) (with_glob-at name glob es b d before.1 named)
 
 pub with_glob-gap : (name glob : List ℕ) (a b : List Definition) → AllBefore name a → AllAfter name b
     → with_glob name glob (a ++ b) ≡ a ++ record { name = name; globs = glob ∷ [] } ∷ b
 with_glob-gap name glob [] [] before after = refl
 with_glob-gap name glob [] (d ∷ ds) before after =
-    ap (λ o. placed o name glob d ds (with_glob name glob ds)) (greater_from_less name d.name after.0)
+    ap (λ o. inserted o name glob d ds (with_glob name glob ds)) (greater_from_less name d.name after.0)
 with_glob-gap name glob (e ∷ es) b before after =
-    ap (λ o. placed o name glob e (es ++ b) (with_glob name glob (es ++ b))) before.0
+    ap (λ o. inserted o name glob e (es ++ b) (with_glob name glob (es ++ b))) before.0
     ∙ ap (λ l. e ∷ l) (with_glob-gap name glob es b before.1 after)
 
 pub definition_of-at : (name : List ℕ) (a b : List Definition) (d : Definition) → AllBefore name a → d.name ≡ name
@@ -78,7 +78,7 @@ AllAfter-from_less m name [] less after = tt
 AllAfter-from_less m name (d ∷ ds) less after = (order.trans m name d.name less after.0, AllAfter-from_less m name ds less after.1)
 
 AllAfter-placed : (m name glob : List ℕ) (d : Definition) (ds more : List Definition) (o : Ordering) → text_cmp m name ≡ Less
-    → text_cmp m d.name ≡ Less → AllAfter m ds → AllAfter m more → AllAfter m (placed o name glob d ds more)
+    → text_cmp m d.name ≡ Less → AllAfter m ds → AllAfter m more → AllAfter m (inserted o name glob d ds more)
 AllAfter-placed m name glob d ds more Less less first after later = (first, later)
 AllAfter-placed m name glob d ds more Equal less first after later = (first, after)
 AllAfter-placed m name glob d ds more Greater less first after later = (less, (first, after))
@@ -92,7 +92,7 @@ AllAfter-with_glob m name glob (d ∷ ds) less after =
 
 IsAscending-placed : (name glob : List ℕ) (d : Definition) (ds : List Definition) (o : Ordering) → text_cmp d.name name ≡ o
     → AllAfter d.name ds → IsAscending ds → IsAscending (with_glob name glob ds)
-    → IsAscending (placed o name glob d ds (with_glob name glob ds))
+    → IsAscending (inserted o name glob d ds (with_glob name glob ds))
 IsAscending-placed name glob d ds Less compared after rest more = (AllAfter-with_glob d.name name glob ds compared after, more)
 IsAscending-placed name glob d ds Equal compared after rest more = (after, rest)
 IsAscending-placed name glob d ds Greater compared after rest more =

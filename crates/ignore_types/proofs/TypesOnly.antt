@@ -15,7 +15,7 @@ use Rattle.ignore_glob.proofs.RowLemmas.{Reads-same, one_fault, never_both}
 use Rattle.ignore_base.specs.declared.error.Error.{Error}
 use Rattle.std.specs.declared.cmp.Ordering.TheVariants.{Less}
 use Rattle.ignore_types.specs.Types.{Definition, Choice, Draft, Becomes, IsSortedCopy, IsAscending, text_cmp, definition_of}
-use Rattle.ignore_types.specs.TypeMatch.{Chosen, Matcher, TypeGlob, SomeMatches, NoneMatches, IsLastGlob, IsNameAnswer, IsTypeAnswer, verdict_of}
+use Rattle.ignore_types.specs.TypeMatch.{Chosen, Matcher, TypeGlob, SomeMatches, NoneMatches, IsLastGlob, IsNameAnswer, IsTypeAnswer, match_by_glob}
 use Rattle.ignore_types.specs.Building.{plain, IsReadAs, IsChosen, IsBuilt, FirstBad, IsGlobProblem, IsChoiceProblem, IsRefusedWith}
 use Rattle.ignore_types.specs.Refusals.{IsRefusal}
 use Rattle.ignore_types.proofs.SortedTexts.{sorted_one}
@@ -71,7 +71,7 @@ IsNameAnswer-one choices name m k (inl (c, i, here, e)) (inl (d, j, there, f)) =
     (one_matches name c.readings i here.last) here.later (one_matches name d.readings j there.last) there.later in
     let place : i ≡ j = IsLastGlob-one name c.readings i j here.last
     (subst (λ (x : Chosen). IsLastGlob name x.readings j) (sym same) there.last) in
-    e ∙ (ap (λ (x : Chosen). verdict_of x i) same ∙ (ap (λ n. verdict_of d n) place ∙ sym f))
+    e ∙ (ap (λ (x : Chosen). match_by_glob x i) same ∙ (ap (λ n. match_by_glob d n) place ∙ sym f))
 IsNameAnswer-one choices name m k (inl (c, i, here, e)) (inr (none, f)) =
     absurd (none_at name here.before c here.after (subst (NoneMatches name) here.split none) (one_matches name c.readings i here.last))
 IsNameAnswer-one choices name m k (inr (none, e)) (inl (d, j, there, f)) =

@@ -47,12 +47,12 @@ abbrev pub glob_at : Chosen → ℕ → TypeGlob
 glob_at c i = type_glob c.definition (get_or c.definition.globs i [])
 
 -- the match of a chosen type by its glob in a place: whitelist, or ignore where the type was negated
-abbrev pub verdict_of : Chosen → ℕ → Match (Option TypeGlob)
-verdict_of c i = if c.negated then Ignore (std.Some (glob_at c i)) else Whitelist (std.Some (glob_at c i))
+abbrev pub match_by_glob : Chosen → ℕ → Match (Option TypeGlob)
+match_by_glob c i = if c.negated then Ignore (std.Some (glob_at c i)) else Whitelist (std.Some (glob_at c i))
 
 -- the match of a choice by the last of its globs that matches the name; none where none does
 abbrev pub choice_answer : Chars → Chosen → Match (Option TypeGlob)
-choice_answer name c = option_map_or (verdict_of c) (last_place name c.readings) None
+choice_answer name c = option_map_or (match_by_glob c) (last_place name c.readings) None
 
 -- the match of the last choice that matches the name: a later choice overrides an earlier one
 abbrev pub choices_answer : List Chosen → Chars → Match (Option TypeGlob)
@@ -104,7 +104,7 @@ pub record IsDeciding (name : Chars) (choices : List Chosen) (choice : Chosen) (
 -- the answer for a file of this name, a list of characters
 abbrev pub IsNameAnswer : List Chosen → Chars → Match (Option TypeGlob) → Type 0
 IsNameAnswer choices name m =
-    ((c : Chosen) × (i : ℕ) × IsDeciding name choices c i × (m ≡ verdict_of c i)) ⊎ (NoneMatches name choices × (m ≡ unmatched choices))
+    ((c : Chosen) × (i : ℕ) × IsDeciding name choices c i × (m ≡ match_by_glob c i)) ⊎ (NoneMatches name choices × (m ≡ unmatched choices))
 
 -- the answer for a path that is a directory or not, by its file name
 abbrev pub IsTypeAnswer : List Chosen → Bool → Option Bytes → Match (Option TypeGlob) → Type 0

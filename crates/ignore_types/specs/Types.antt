@@ -55,15 +55,15 @@ abbrev pub definition_of : Bytes → List Definition → Option Definition
 definition_of name ds = find (λ d. bytes_eq d.name name) ds
 
 -- the first definition comes before the name, has it, or comes after it
-abbrev pub placed : Ordering → Bytes → Bytes → Definition → List Definition → List Definition → List Definition
-placed Less name glob d ds more = d ∷ more
-placed Equal name glob d ds more = record { name = d.name; globs = d.globs ++ glob ∷ [] } ∷ ds
-placed Greater name glob d ds more = record { name = name; globs = glob ∷ [] } ∷ (d ∷ ds)
+abbrev pub inserted : Ordering → Bytes → Bytes → Definition → List Definition → List Definition → List Definition
+inserted Less name glob d ds more = d ∷ more
+inserted Equal name glob d ds more = record { name = d.name; globs = d.globs ++ glob ∷ [] } ∷ ds
+inserted Greater name glob d ds more = record { name = name; globs = glob ∷ [] } ∷ (d ∷ ds)
 
 -- the glob appended to those of the name; a new name is inserted in text order
 abbrev pub with_glob : Bytes → Bytes → List Definition → List Definition
 with_glob name glob [] = record { name = name; globs = glob ∷ [] } ∷ []
-with_glob name glob (d ∷ ds) = placed (text_cmp d.name name) name glob d ds (with_glob name glob ds)
+with_glob name glob (d ∷ ds) = inserted (text_cmp d.name name) name glob d ds (with_glob name glob ds)
 
 -- the globs of a type; none where the type is unknown
 abbrev pub globs_of : Bytes → List Definition → List Bytes
@@ -75,9 +75,9 @@ with_globs name [] ds = ds
 with_globs name (glob ∷ globs) ds = with_globs name globs (with_glob name glob ds)
 
 -- the globs of each of the sources, in turn, appended to those of the name
-abbrev pub with_types : Bytes → List Bytes → List Definition → List Definition
-with_types name [] ds = ds
-with_types name (source ∷ sources) ds = with_types name sources (with_globs name (globs_of source ds) ds)
+abbrev pub with_sources : Bytes → List Bytes → List Definition → List Definition
+with_sources name [] ds = ds
+with_sources name (source ∷ sources) ds = with_sources name sources (with_globs name (globs_of source ds) ds)
 
 -- each of the names has a definition
 abbrev pub has_all : List Bytes → List Definition → Bool
@@ -123,7 +123,7 @@ request_of text = request_of_fields (slice_split (λ b. b == 58) text)
 -- includes exists
 abbrev pub after_request : Request → List Definition → Option (List Definition)
 after_request (one_glob name glob) ds = if is_type_name name then Some (with_glob name glob ds) else None
-after_request (included name sources) ds = if is_type_name name && has_all sources ds then Some (with_types name sources ds) else None
+after_request (included name sources) ds = if is_type_name name && has_all sources ds then Some (with_sources name sources ds) else None
 after_request unreadable ds = None
 
 -- the definitions become these, and the choices stay

@@ -15,7 +15,7 @@ use Rattle.ignore_dir.specs.Load.{AreLoads, joined_some}
 use Rattle.ignore_dir.specs.Query.{is_dir_there}
 use Rattle.ignore_dir.specs.declared.settings.Settings.{Settings}
 use Rattle.ignore_walk.specs.Branch.{Branch, entered, path_of}
-use Rattle.ignore_walk.specs.Child.{below, child, followed_link, found, identity_at, is_dir_kind, or_failed, same_among, unlooped, with_device, without_loop}
+use Rattle.ignore_walk.specs.Child.{branch_below, child, followed_link, found, identity_at, is_dir_kind, or_failed, same_among, unlooped, with_device, without_loop}
 use Rattle.ignore_walk.specs.Entry.{Entry, Item, failed_at, stdin_entry}
 use Rattle.ignore_walk.specs.Finished.{IsEnd, IsFinished}
 use Rattle.ignore_walk.specs.Scene.{Scene}
@@ -130,7 +130,7 @@ mutual
       → WalkedEach g root b xs items n → IsFinished items
   each_finished g root b [] items n none = tt
   each_finished g root b (x ∷ xs) items n (more {own = own} {others = others} {m = p} {n = q} w v) =
-      both_finished own others (one_finished g root (below b x) (child g root b x) own p (child-placed g root b x) w)
+      both_finished own others (one_finished g root (branch_below b x) (child g root b x) own p (child-placed g root b x) w)
       (each_finished g root b xs others q v)
 
 -- what a root gives

@@ -3,7 +3,7 @@ use Rattle.std.proofs.Common.{◌≡◌, ℕ, suc, ◌+◌, List, [], ◌∷◌,
 use Rattle.ignore_base.specs.Problem.{Problem}
 use Rattle.ignore_files.specs.declared.types.Listed.{Listed}
 use Rattle.ignore_walk.specs.Branch.{Branch}
-use Rattle.ignore_walk.specs.Child.{child, below}
+use Rattle.ignore_walk.specs.Child.{child, branch_below}
 use Rattle.ignore_walk.specs.Entry.{Entry, Item}
 use Rattle.ignore_walk.specs.Scene.{Scene}
 use Rattle.ignore_walk.specs.Walked.{IsArranged, WalkedOne, WalkedEach, skip, yield, load, enter, fate, yielded, loaded, listing_of, unlisted, failed, skipped, leaf, closed, dir, none, more}
@@ -16,7 +16,7 @@ pub record More (g : Scene) (root : List ℕ) (b : Branch) (x : Listed) (xs : Li
   pub others : List Item
   pub p : ℕ
   pub q : ℕ
-  pub one : WalkedOne g root (below b x) (child g root b x) own p
+  pub one : WalkedOne g root (branch_below b x) (child g root b x) own p
   pub each : WalkedEach g root b xs others q
   pub are : items ≡ own ++ others
   pub count : n ≡ suc (p + q)

@@ -12,7 +12,7 @@ use Rattle.ignore_dir.specs.declared.incremental.IncrementalMatch.{IncrementalMa
 use Rattle.ignore_dir.specs.declared.verdict.Verdict.{Verdict}
 use Rattle.ignore_dir.specs.declared.verdict.Verdict.TheVariants as v
 use Rattle.ignore_dir.specs.Limits.{beyond, is_above, is_below, is_beyond, is_larger, limited, no_match, sized}
-use Rattle.ignore_dir.specs.Query.{ancestors, answer_of_rules, depth_of, has_rules, is_asked, is_clean, is_dir_there, is_ignored, names_of, query, rules_verdict, size_of}
+use Rattle.ignore_dir.specs.Query.{ancestors, answer_of_rules, depth_of_path, has_rules, is_asked, is_clean, is_dir_there, is_ignored, names_of, query, rules_verdict, size_of}
 use Rattle.ignore_dir.specs.Scene.{path_verdict}
 use Rattle.ignore_dir.specs.Scene as below
 use Rattle.ignore_dir.specs.Verdict.{is_ignore}
@@ -41,7 +41,7 @@ or_no false = refl
 
 -- the directories above, as a query asks them
 
-ignored-some : (g : below.Scene) (n : List ℕ) (ns : List (List ℕ))
+ignored-some : (g : below.QueryScene) (n : List ℕ) (ns : List (List ℕ))
     → is_ignored g (ns ++ n ∷ []) ≡ is_ignore (path_verdict g (ns ++ n ∷ []) true)
 unfolding is_ignored
 ignored-some g n [] = refl
@@ -151,17 +151,17 @@ both true b h k = k
 both false b h k = absurd (cc (h))
 
 -- the answer that the rules give
-rules-answer : (g : below.Scene) (path : List ℕ) (is_dir : Bool)
+rules-answer : (g : below.QueryScene) (path : List ℕ) (is_dir : Bool)
     → keeps (answer_of_rules g path is_dir).0
     ≡ (not (is_ignore (rules_verdict g (names_of path) is_dir) || (not is_dir && is_larger g.settings.max_filesize (size_of g path)))
-    && not (is_above g.settings.min_depth (depth_of path)))
+    && not (is_above g.settings.min_depth (depth_of_path path)))
 unfolding answer_of_rules
 rules-answer g path is_dir =
-    ap (λ (x : Bool). not x && not (is_above g.settings.min_depth (depth_of path)))
+    ap (λ (x : Bool). not x && not (is_above g.settings.min_depth (depth_of_path path)))
     (sized-is g.settings.max_filesize (size_of g path) is_dir (rules_verdict g (names_of path) is_dir))
 
 -- the query of some names that are joined
-query-is : (g : below.Scene) (n : List ℕ) (ns : List (List ℕ)) (is_dir : Bool) → bytes_eq g.root (codes "-") ≡ false → AreNames (n ∷ ns)
+query-is : (g : below.QueryScene) (n : List ℕ) (ns : List (List ℕ)) (is_dir : Bool) → bytes_eq g.root (codes "-") ≡ false → AreNames (n ∷ ns)
     → is_dir_there (g.tree.stat g.root true) ≡ true → not (is_below g.settings.max_depth (length (n ∷ ns))) ≡ true
     → keeps (query g (joined (n ∷ ns)) is_dir).0
     ≡ (not (is_ignore (rules_verdict g (n ∷ ns) is_dir) || (not is_dir && is_larger g.settings.max_filesize (size_of g (joined
@@ -177,10 +177,10 @@ query-is g n ns is_dir file names there within =
     let rules : has_rules g.tree g.root path ≡ true =
     both (not (length path == 0)) (is_dir_there (g.tree.stat g.root true)) (ap not (filled n ns names.0)) (dir_there
     (g.tree.stat g.root true) there) in
-    chosen (is_asked g.root path) (is_beyond g.settings (depth_of path) is_dir) (has_rules g.tree g.root path)
+    chosen (is_asked g.root path) (is_beyond g.settings (depth_of_path path) is_dir) (has_rules g.tree g.root path)
     (no_match is_dir, None) (beyond, None) (answer_of_rules g path is_dir)
-    (limited g.settings (depth_of path) is_dir v.None, None) asked rules
-    ∙ (ap (λ (x : Bool). cond (is_beyond g.settings (depth_of path) is_dir) false x) (rules-answer g path is_dir)
+    (limited g.settings (depth_of_path path) is_dir v.None, None) asked rules
+    ∙ (ap (λ (x : Bool). cond (is_beyond g.settings (depth_of_path path) is_dir) false x) (rules-answer g path is_dir)
     ∙ (ap (λ (l : List (List ℕ)). cond (is_beyond g.settings (length l) is_dir) false
     (not (is_ignore (rules_verdict g l is_dir) || (not is_dir && is_larger g.settings.max_filesize (size_of g path)))
     && not (is_above g.settings.min_depth (length l)))) whole
@@ -197,7 +197,7 @@ or-assoc : (a b c : Bool) → ((a || b) || c) ≡ (a || (b || c))
 or-assoc true b c = refl
 or-assoc false b c = refl
 
-query-place : (g : below.Scene) (ns ms : List (List ℕ)) (m : List ℕ) (is_dir : Bool) → ns ≡ m ∷ ms → bytes_eq g.root (codes "-") ≡ false
+query-place : (g : below.QueryScene) (ns ms : List (List ℕ)) (m : List ℕ) (is_dir : Bool) → ns ≡ m ∷ ms → bytes_eq g.root (codes "-") ≡ false
     → AreNames ns → is_dir_there (g.tree.stat g.root true) ≡ true → not (is_below g.settings.max_depth (length ns)) ≡ true
     → keeps (query g (joined ns) is_dir).0
     ≡ (not (is_ignore (rules_verdict g ns is_dir) || (not is_dir && is_larger g.settings.max_filesize (g.tree.stat

@@ -3,10 +3,11 @@ use Rattle.std.proofs.Common.{◌≡◌, ℕ, suc, ◌+◌, ◌<◌, true, false
 use Rattle.std.proofs.lemmas.List.{append-nil}
 use Rattle.ignore_base.specs.Problem.{Problem}
 use Rattle.ignore_files.specs.declared.types.Listed.{Listed}
-use Rattle.ignore_walk.specs.Branch.{Branch, around}
-use Rattle.ignore_walk.specs.Child.{child, below}
+use Rattle.ignore_walk.specs.Branch.{Branch}
+use Rattle.ignore_walk.specs.Child.{child, branch_below}
 use Rattle.ignore_walk.specs.Entry.{Entry, Item, stdin_entry}
 use Rattle.ignore_walk.specs.Left.{State, Left, outermost, inside, LeftInRoot, RemainsAfter, Remains, InHand, IsNext}
+use Rattle.ignore_walk.specs.Moves.{with_entered, with_made}
 use Rattle.ignore_walk.specs.Scene.{Scene}
 use Rattle.ignore_walk.specs.Walked.{IsArranged, IsOrdered, WalkedEach, skip, yield, load, enter, fate, yielded, loaded, listing_of, unlisted}
 use Rattle.ignore_walk.specs.Whole.{WalkedRoots, root_entry, above_root, reported_before}
@@ -17,7 +18,7 @@ use Rattle.ignore_walk.proofs.OneList.{roots_stdin, roots_root}
 -- the innermost directory, and what is around it
 
 -- what the directories around a place still give
-abbrev LeftIn : Scene → List ℕ → Branch → List (List Listed) → List Item → ℕ → Type 0
+abbrev pub LeftIn : Scene → List ℕ → Branch → List (List Listed) → List Item → ℕ → Type 0
 LeftIn g root [] rests items n = (rests ≡ []) × (items ≡ []) × (n ≡ 0)
 LeftIn g root (name ∷ b) rests items n = Left g root b rests items n
 
@@ -26,24 +27,25 @@ some_frame : (g : Scene) (root : List ℕ) (b : Branch) (rests : List (List List
 some_frame g root b rests items n (outermost each) = omega arith
 some_frame g root b rests items n (inside each left) = omega arith
 
-left_around : (g : Scene) (root : List ℕ) (b : Branch) (rests : List (List Listed)) (items : List Item) (n : ℕ)
-    → LeftIn g root b rests items n → LeftInRoot g root (around b) rests items n
-left_around g root [] rests items n (alone, nothing, none) = rw alone (nothing, none)
-left_around g root (name ∷ b) (xs ∷ rests) items n left = left
-left_around g root (name ∷ b) [] items n left = absurd (omega (some_frame g root b [] items n left, arith))
+pub left_outside : (g : Scene) (root : List ℕ) (b place : Branch) (rests : List (List Listed)) (items : List Item) (n : ℕ)
+    → IsNext b place rests → LeftIn g root b rests items n → LeftInRoot g root place rests items n
+left_outside g root b place [] items n next left =
+    let t = subst (λ (b : Branch). LeftIn g root b [] items n) next left in (t.1, t.2)
+left_outside g root b place (ys ∷ rests) items n next left =
+    subst (λ (b : Branch). LeftIn g root b (ys ∷ rests) items n) next.1 left
 
-record Inner (g : Scene) (root : List ℕ) (b : Branch) (xs : List Listed) (rests : List (List Listed)) (items : List Item)
+pub record Inner (g : Scene) (root : List ℕ) (b : Branch) (xs : List Listed) (rests : List (List Listed)) (items : List Item)
     (n : ℕ) : Type 0 where
-  own : List Item
-  others : List Item
-  m : ℕ
-  k : ℕ
-  each : WalkedEach g root b xs own m
-  rest : LeftIn g root b rests others k
-  are : items ≡ own ++ others
-  count : n ≡ suc (m + k)
+  pub own : List Item
+  pub others : List Item
+  pub m : ℕ
+  pub k : ℕ
+  pub each : WalkedEach g root b xs own m
+  pub rest : LeftIn g root b rests others k
+  pub are : items ≡ own ++ others
+  pub count : n ≡ suc (m + k)
 
-innermost : (g : Scene) (root : List ℕ) (b : Branch) (xs : List Listed) (rests : List (List Listed)) (items : List Item) (n : ℕ)
+pub innermost : (g : Scene) (root : List ℕ) (b : Branch) (xs : List Listed) (rests : List (List Listed)) (items : List Item) (n : ℕ)
     → Left g root b (xs ∷ rests) items n → Inner g root b xs rests items n
 innermost g root b xs rests items n (outermost {m = m} each) =
     record {
@@ -60,7 +62,7 @@ innermost g root b xs rests items n (outermost {m = m} each) =
 innermost g root b xs rests items n (inside {b = c} {outer = outer} {n = k} each left) =
     record { own = _; others = outer; m = _; k = k; each = each; rest = left; are = refl; count = omega arith }
 
-left_of : (g : Scene) (root : List ℕ) (b : Branch) (xs : List Listed) (rests : List (List Listed)) (own others : List Item) (m k : ℕ)
+pub left_of : (g : Scene) (root : List ℕ) (b : Branch) (xs : List Listed) (rests : List (List Listed)) (own others : List Item) (m k : ℕ)
     → LeftIn g root b rests others k → WalkedEach g root b xs own m → Left g root b (xs ∷ rests) (own ++ others) (suc (m + k))
 left_of g root [] xs rests own others m k (alone, nothing, none) each =
     let sum : m + k ≡ m = omega (none, arith) in
@@ -73,12 +75,11 @@ abbrev pub state : List Item → List ℕ → Branch → List (List Listed) → 
 state made root place rests seen roots =
     record { made = made; root = root; place = place; rests = rests; seen = seen; roots = roots }
 
-pub leave : (g : Scene) (made : List Item) (root : List ℕ) (b : Branch) (rests : List (List Listed)) (seen roots : List (List ℕ))
-    (items : List Item) (n : ℕ) → Remains g (state made root b ([] ∷ rests) seen roots) items n
-    → (k : ℕ) × (n ≡ suc k) × Remains g (state made root (around b) rests seen roots) items k
-leave g made root b rests seen roots items n r =
-    let i = innermost g root b [] rests r.inner r.p r.within in
-    let no = each_none g root b i.own i.m i.each in (
+pub leave : (g : Scene) (s : State) (b : Branch) (items : List Item) (n : ℕ) → IsNext b s.place s.rests
+    → Remains g (with_entered s b []) items n → (k : ℕ) × (n ≡ suc k) × Remains g s items k
+leave g s b items n next r =
+    let i = innermost g s.root b [] s.rests r.inner r.p r.within in
+    let no = each_none g s.root b i.own i.m i.each in (
       i.k + r.q,
       omega (r.count, i.count, no.1, arith),
       record {
@@ -86,16 +87,16 @@ leave g made root b rests seen roots items n r =
         outer = r.outer;
         p = i.k;
         q = r.q;
-        within = left_around g root b rests i.others i.k i.rest;
+        within = left_outside g s.root b s.place s.rests i.others i.k next i.rest;
         after = r.after;
-        are = r.are ∙ ap (λ (t : List Item). made ++ (t ++ r.outer)) (i.are ∙ ap (λ (t : List Item). t ++ i.others) no.0);
+        are = r.are ∙ ap (λ (t : List Item). s.made ++ (t ++ r.outer)) (i.are ∙ ap (λ (t : List Item). t ++ i.others) no.0);
         count = omega arith;
       },
     )
 
 pub take : (g : Scene) (made : List Item) (root : List ℕ) (b : Branch) (x : Listed) (xs : List Listed) (rests : List (List Listed))
     (seen roots : List (List ℕ)) (items : List Item) (n : ℕ) → Remains g (state made root b ((x ∷ xs) ∷ rests) seen roots) items n
-    → (k : ℕ) × (n ≡ suc k) × InHand g (state made root b (xs ∷ rests) seen roots) (below b x) (child g root b x) items k
+    → (k : ℕ) × (n ≡ suc k) × InHand g (state made root b (xs ∷ rests) seen roots) (branch_below b x) (child g root b x) items k
 take g made root b x xs rests seen roots items n r =
     let i = innermost g root b (x ∷ xs) rests r.inner r.p r.within in
     let t = each_more g root b x xs i.own i.m i.each in (
@@ -169,11 +170,6 @@ begin_root g made root b seen roots first items n is r =
 
 -- what an entry in hand gives
 
--- the same walk with more items made
-abbrev pub with_made : State → List Item → State
-with_made s now =
-    record { made = s.made ++ now; root = s.root; place = s.place; rests = s.rests; seen = s.seen; roots = s.roots }
-
 -- all that it gives is made at once
 all_made : (g : Scene) (s : State) (own now : List Item) (m : ℕ) (items : List Item) (n : ℕ) → own ≡ now → m ≡ 0
     → RemainsAfter g s own m items n → Remains g (with_made s now) items n
@@ -223,7 +219,7 @@ make_closed g s b e items n is h =
     let w = one_closed g s.root b e h.own h.m is h.one in
     all_made g s h.own (loaded g e) h.m items n w.0 w.1 h.rest
 
-left_entered : (g : Scene) (root : List ℕ) (b place : Branch) (xs : List Listed) (rests : List (List Listed))
+pub left_entered : (g : Scene) (root : List ℕ) (b place : Branch) (xs : List Listed) (rests : List (List Listed))
     (own inner : List Item) (m p : ℕ)
     → IsNext b place rests → LeftInRoot g root place rests inner p → WalkedEach g root b xs own m
     → Left g root b (xs ∷ rests) (own ++ inner) (suc (m + p))
@@ -237,7 +233,7 @@ left_entered g root b place xs (ys ∷ rests) own inner m p next within each =
 pub make_entered : (g : Scene) (s : State) (b : Branch) (e : Entry) (xs : List Listed) (items : List Item) (n : ℕ) → IsOrdered g.order
     → IsNext b s.place s.rests → fate g s.root b e ≡ enter → IsArranged g.order e.path (listing_of (g.tree.list e.path)) xs
     → InHand g s b (Ok e) items n
-    → Remains g (state (s.made ++ (loaded g e ++ unlisted e (g.tree.list e.path))) s.root b (xs ∷ s.rests) s.seen s.roots) items n
+    → Remains g (with_entered (with_made s (loaded g e ++ unlisted e (g.tree.list e.path))) b xs) items n
 make_entered g s b e xs items n o next is arranged h =
     let d = one_dir g s.root b e h.own h.m is h.one in
     let lists = g.tree.list e.path in
@@ -268,3 +264,10 @@ pub whole_remains : (g : Scene) (root : List ℕ) (b : Branch) (roots : List (Li
     → WalkedRoots g [] roots items n → Remains g (state [] root b [] [] roots) items n
 whole_remains g root b roots items n w =
     record { inner = []; outer = items; p = 0; q = n; within = (refl, refl); after = w; are = refl; count = omega arith }
+
+pub remains_whole : (g : Scene) (root : List ℕ) (b : Branch) (roots : List (List ℕ)) (items : List Item) (n : ℕ)
+    → Remains g (state [] root b [] [] roots) items n → WalkedRoots g [] roots items n
+remains_whole g root b roots items n r =
+    let all : items ≡ r.outer = r.are ∙ ap (λ (i : List Item). i ++ r.outer) r.within.0 in
+    let steps : n ≡ r.q = omega (r.count, r.within.1, arith) in
+    rw (all, steps) r.after

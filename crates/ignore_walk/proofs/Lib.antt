@@ -17,6 +17,7 @@ pub mod RootLemmas
 pub mod AboveLemmas
 pub mod LastLemmas
 pub mod LeftLemmas
+pub mod MoveLemmas
 pub mod PlaceNames
 pub mod CanonicalLemmas
 pub mod SharedLemmas

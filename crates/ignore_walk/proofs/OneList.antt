@@ -3,7 +3,7 @@ use Rattle.std.proofs.Common.{◌≡◌, ℕ, suc, ◌+◌, true, false, List, [
 use Rattle.ignore_base.specs.Problem.{Problem}
 use Rattle.ignore_files.specs.declared.types.Listed.{Listed}
 use Rattle.ignore_walk.specs.Branch.{Branch}
-use Rattle.ignore_walk.specs.Child.{child, below}
+use Rattle.ignore_walk.specs.Child.{child, branch_below}
 use Rattle.ignore_walk.specs.Entry.{Entry, Item, stdin_entry}
 use Rattle.ignore_walk.specs.Scene.{Scene}
 use Rattle.ignore_walk.specs.Walked.{IsOrdered, WalkedOne, WalkedEach, loaded, unlisted, listing_of, failed, skipped, leaf, closed, dir, none, more}
@@ -30,7 +30,7 @@ mutual
   each_list g root b [] xs ys m n o none v = each_none g root b ys n v
   each_list g root b (l ∷ ls) xs ys m n o (more {own = own} {others = others} {m = p} {n = q} w rest) v =
       let t = each_more g root b l ls ys n v in
-      let first = one_list g root (below b l) (child g root b l) own t.own p t.p o w t.one in
+      let first = one_list g root (branch_below b l) (child g root b l) own t.own p t.p o w t.one in
       let then_ = each_list g root b ls others t.others q t.q o rest t.each in (
         t.are ∙ (ap (λ (o : List Item). o ++ t.others) first.0 ∙ ap (λ (o :
             List Item). own ++ o) then_.0),

@@ -6,7 +6,7 @@ use Rattle.std.specs.List.{filter_map, starts_with}
 use Rattle.std.specs.Option.{is_some, option_to_list}
 use Rattle.ignore_base.specs.Errors.{io_fault, without_fault}
 use Rattle.ignore_base.specs.Paths.{join_of}
-use Rattle.ignore_base.specs.Problem.{Problem, io, joined, memory}
+use Rattle.ignore_base.specs.Problem.{Problem, io, joined_problems, memory}
 use Rattle.ignore_base.specs.declared.fault.Fault.{Fault}
 use Rattle.ignore_files.specs.Tree.{Tree}
 use Rattle.ignore_files.specs.declared.types.Contents.{Contents}
@@ -53,7 +53,7 @@ AddsLines-placed path number met old new ps (added n line more o between end rep
 AddsLines-placed path number met old new ps (refused n line more o end p reported h v) =
     (at_line_of-placed path n p, AddsLines-placed path (n + 1) more o end reported v)
 
-joined-placed : (ps : List Problem) → ArePlaced ps → IsPlaced (joined ps)
+joined-placed : (ps : List Problem) → ArePlaced ps → IsPlaced (joined_problems ps)
 joined-placed [] h = tt
 joined-placed (p ∷ []) h = h.0
 joined-placed (p ∷ (q ∷ ps)) h = refl

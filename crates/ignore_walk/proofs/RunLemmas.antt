@@ -1,15 +1,23 @@
 -- What a walk has yielded when it answers none, before, and after.
-use Rattle.std.proofs.Common.{◌≡◌, ◌≢◌, ◌+◌, ◌++◌, ℕ, List, [], ◌∷◌, Option, None, Some, Ok, Err, option_map, map, inl, inr, refl, sym, ◌∙◌, ap, subst, arith}
+use Rattle.std.proofs.Common.{◌≡◌, ◌≢◌, ◌≤◌, ◌+◌, ◌++◌, ℕ, List, [], ◌∷◌, Option, None, Some, Ok, Err, option_map, map, inl, inr, refl, sym, ◌∙◌, ap, subst, arith, append_assoc, false}
 use Rattle.std.specs.Iterator.{Drains, Yields, YieldsThen}
+use Rattle.ignore_base.specs.Text.{Path}
 use Rattle.ignore_base.specs.Problem.{Problem, io, memory}
 use Rattle.ignore_base.specs.declared.fault.Fault.TheVariants.{StepLimit}
 use Rattle.ignore_files.specs.declared.files.Files.{Ghosts as Files}
 use Rattle.ignore_walk.specs.Entry.{Entry, Item}
 use Rattle.ignore_walk.specs.Finished.{IsEnd, IsFinished}
 use Rattle.ignore_walk.specs.GoesOn.{HasNoEnd}
-use Rattle.ignore_walk.specs.Nexts.{EndsBy, IsLast, IsOver, NextGives, Remaining}
+use Rattle.ignore_walk.specs.Moves.{IsAfter}
+use Rattle.ignore_walk.specs.Nexts.{EndsBy, IsLast, IsOver, NextGives, Remaining, Starts}
 use Rattle.ignore_walk.specs.Runs.{EndsLast, IsBegun, IsRun}
 use Rattle.ignore_walk.specs.Scene.{Scene}
+use Rattle.ignore_walk.specs.Stands.{Becomes}
+use Rattle.ignore_walk.specs.Suits.{IsGroundOf}
+use Rattle.ignore_walk.specs.Whole.{Whole}
+use Rattle.ignore_walk.specs.declared.ground.Ground.{Ground}
+use Rattle.ignore_walk.proofs.MoveLemmas.{after_more, after_none}
+use Rattle.ignore_walk.proofs.StandLemmas.{becomes_by}
 use Rattle.ignore_walk.specs.declared.callbacks.Callbacks.{Ghosts as Callbacks}
 use Rattle.ignore_walk.specs.declared.walk.Walk.{Walk}
 
@@ -61,6 +69,40 @@ run_is_list files calls item g a (x ∷ xs) items n (u, (t, (j, s, y), e)) r =
             ended = ended;
           })
     ]
+
+-- the list that a run has shown
+
+shown_list : {F S A : Type 0} (files : Files F) (calls : Callbacks S) (item : A → Item) (g : Scene) (roots : List Path) (a : Walk F S)
+    (xs : List A) (front : List Item) (k : ℕ) → Drains (Step files calls item) a xs → IsGroundOf files calls a.ground g → a.ended ≡ false
+    → Becomes g a.stack (IsAfter g roots front k) → IsFinished (map item xs)
+    → (n : ℕ) × (n ≤ k + a.left) × Whole g roots (front ++ map item xs) n
+shown_list files calls item g roots a [] front k (u, (t, same, s)) suits on b done =
+    let end = (subst (λ (t : Walk _ _). Step files calls item t None u) (sym same) s).shows g b.root b.place b.seen suits on b.is in
+    (end.0 + k, omega (end.1, arith), b.by [] end.0 end.2)
+shown_list files calls item g roots a (x ∷ xs) front k (u, (t, (j, s, y), e)) suits on b (goes, done) =
+    elim (s.shows g b.root b.place b.seen suits on b.is) [
+      | inl end ↦ absurd (goes end.0)
+      | inr h ↦
+          let ground = subst (λ (ground : Ground _ _). IsGroundOf files calls ground g) (sym s.paced.ground) suits in
+          let c : Becomes g j.stack (IsAfter g roots (front ++ item x ∷ []) (k + h.0)) =
+          becomes_by g j.stack _ _ h.3 (λ t p. after_more g roots _ t front (item x) k h.0 b.by p) in
+          let r = shown_list files calls item g roots j xs (front ++ item x ∷ []) (k + h.0) (u, (t, y, e)) ground h.2 c done in
+          let left = h.1 in
+          let few = r.1 in (
+            r.0,
+            omega (few, left, arith),
+            subst (λ (all : List Item). Whole g roots all r.0) (append_assoc front (item x ∷ []) (map item xs)) r.2,
+          )
+    ]
+
+pub run_exists : {F S A : Type 0} (files : Files F) (calls : Callbacks S) (item : A → Item) (g : Scene) (roots : List Path) (a : Walk F S)
+    (xs : List A) → Drains (Step files calls item) a xs → Starts files calls g a roots → IsFinished (map item xs)
+    → (n : ℕ) × (n ≤ a.left) × Whole g roots (map item xs) n
+run_exists files calls item g roots a xs drains starts done =
+    let b : Becomes g a.stack (IsAfter g roots [] 0) = becomes_by g a.stack _ _ starts.whole (λ t h. after_none g roots t h) in
+    let r = shown_list files calls item g roots a xs [] 0 drains starts.suits starts.goes_on b done in
+    let few = r.1 in
+    (r.0, omega (few, arith), r.2)
 
 -- before the end
 

@@ -13,7 +13,7 @@ use Rattle.ignore_dir.specs.Load.{joined_some}
 use Rattle.ignore_dir.specs.declared.settings.Settings.{Settings}
 use Rattle.ignore_dir.specs.Limits.{is_deepest}
 use Rattle.ignore_walk.specs.Branch.{Branch}
-use Rattle.ignore_walk.specs.Child.{below, child}
+use Rattle.ignore_walk.specs.Child.{branch_below, child}
 use Rattle.ignore_walk.specs.Entry.{Entry, Item, stdin_entry}
 use Rattle.ignore_walk.specs.Scene.{Scene}
 use Rattle.ignore_walk.specs.Visits.{IsShown, IsShownBelow, IsVisited, IsYielded, at_root, listed}
@@ -188,7 +188,7 @@ pub record WalkedAt (g : Scene) (root : List ℕ) (b : Branch) (e : Entry) (item
 record Given (g : Scene) (root : List ℕ) (b : Branch) (x : Listed) (items : List Item) : Type 0 where
   pub own : List Item
   pub m : ℕ
-  pub one : WalkedOne g root (below b x) (child g root b x) own m
+  pub one : WalkedOne g root (branch_below b x) (child g root b x) own m
   pub among : (i : Item) → Contains own i → Contains items i
 
 given_from : (g : Scene) (root : List ℕ) (b : Branch) (x : Listed) (own others : List Item) → Given g root b x others

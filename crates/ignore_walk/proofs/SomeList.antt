@@ -16,7 +16,7 @@ use Rattle.ignore_files.specs.declared.types.Listed.{Listed}
 use Rattle.ignore_files.specs.declared.types.Listed.TheVariants as thing
 use Rattle.ignore_walk.specs.Agreement.{Reachable, at_root, listed}
 use Rattle.ignore_walk.specs.Branch.{Branch, path_of, entered}
-use Rattle.ignore_walk.specs.Child.{is_dir_kind, known, identity_at, is_same, same_among, below, child}
+use Rattle.ignore_walk.specs.Child.{is_dir_kind, known, identity_at, is_same, same_among, branch_below, child}
 use Rattle.ignore_walk.specs.Entry.{Entry, Item}
 use Rattle.ignore_walk.specs.Scene.{Scene}
 use Rattle.ignore_walk.specs.Walked.{Fate, skip, yield, load, enter, fate, listing_of, IsOrdered, leads_in}
@@ -110,7 +110,7 @@ module _ (g : Scene) (n : ℕ) (dirs : IsNumbered g.tree n) (root : List ℕ) wh
           }
 
   step : (b : Branch) (x : Listed) (e : Entry) → Contains (listing_of (g.tree.list (path_of root b))) x → child g root b x ≡ Ok e
-      → fate g root (below b x) e ≡ enter → Steps b (below b x) e
+      → fate g root (branch_below b x) e ≡ enter → Steps b (branch_below b x) e
   step b (thing.Entry name kind) e has is enters =
       step_name b name kind e (listed_ok (g.tree.list (path_of root b)) name kind has) (child_ok g root b name kind e is)
       (fate_in g root (name ∷ b) e enters)
@@ -123,7 +123,7 @@ module _ (g : Scene) (n : ℕ) (dirs : IsNumbered g.tree n) (root : List ℕ) wh
   abbrev Each : Branch → List Listed → Type 0
   Each b xs = (items : List Item) × (steps : ℕ) × WalkedEach g root b xs items steps
 
-  some_each : (b : Branch) (xs : List Listed) → ((x : Listed) → Contains xs x → One (below b x) (child g root b x)) → Each b xs
+  some_each : (b : Branch) (xs : List Listed) → ((x : Listed) → Contains xs x → One (branch_below b x) (child g root b x)) → Each b xs
   some_each b [] each = ([], 0, none)
   some_each b (x ∷ xs) each =
       let first = each x (0, omega arith, refl) in
@@ -132,7 +132,7 @@ module _ (g : Scene) (n : ℕ) (dirs : IsNumbered g.tree n) (root : List ℕ) wh
 
   -- an entry gives a list where the things that it lists do
   some_entry : IsOrdered g.order → (b : Branch) (e : Entry) (f : Fate) → fate g root b e ≡ f
-      → (fate g root b e ≡ enter → (x : Listed) → Contains (listing_of (g.tree.list e.path)) x → One (below b x) (child g root b x))
+      → (fate g root b e ≡ enter → (x : Listed) → Contains (listing_of (g.tree.list e.path)) x → One (branch_below b x) (child g root b x))
       → One b (Ok e)
   some_entry o b e skip is each = (_, _, skipped is)
   some_entry o b e yield is each = (_, _, leaf is)
@@ -153,13 +153,13 @@ module _ (g : Scene) (n : ℕ) (dirs : IsNumbered g.tree n) (root : List ℕ) wh
       some_entry o b e (fate g root b e) refl (λ is x h.
       let here = fits e refl is in
       let has = subst (λ (path : List ℕ). Contains (listing_of (g.tree.list path)) x) here.0 h in
-      some_one o k (below b x) (child g root b x) (λ e' r enters.
+      some_one o k (branch_below b x) (child g root b x) (λ e' r enters.
       let s = step b x e' has r enters in
       let less = s.fewer in
       let most = here.1 in
       (s.at, omega (arith, less, most))))
 
-  child_at : (b : Branch) (x : Listed) (e : Entry) → child g root b x ≡ Ok e → e.path ≡ path_of root (below b x)
+  child_at : (b : Branch) (x : Listed) (e : Entry) → child g root b x ≡ Ok e → e.path ≡ path_of root (branch_below b x)
   child_at b (thing.Entry name kind) e h = (child_ok g root b name kind e h).at
   child_at b (thing.Fault f) e h = absurd (no_fault g root b f e h)
 
@@ -167,7 +167,7 @@ module _ (g : Scene) (n : ℕ) (dirs : IsNumbered g.tree n) (root : List ℕ) wh
   some_result o b (Err p) = (_, _, failed)
   some_result o b (Ok e) =
       some_entry o b e (fate g root b e) refl (λ is x h.
-      some_one o (suc (left_at (below b x))) (below b x) (child g root b x) (λ e' r enters. (child_at b x e' r, omega arith)))
+      some_one o (suc (left_at (branch_below b x))) (branch_below b x) (child g root b x) (λ e' r enters. (child_at b x e' r, omega arith)))
 
   -- a directory that is reachable: at its path, with a number, and as far from the root as others
   -- may still follow

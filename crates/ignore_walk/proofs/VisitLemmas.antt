@@ -14,7 +14,7 @@ use Rattle.ignore_files.specs.declared.types.Metadata.{Metadata}
 use Rattle.ignore_dir.specs.Query.{is_dir_there}
 use Rattle.ignore_dir.specs.Limits.{is_deepest}
 use Rattle.ignore_walk.specs.Branch.{Branch, path_of}
-use Rattle.ignore_walk.specs.Child.{child, below, or_failed, with_device, identity_at}
+use Rattle.ignore_walk.specs.Child.{child, branch_below, or_failed, with_device, identity_at}
 use Rattle.ignore_walk.specs.Entry.{Entry}
 use Rattle.ignore_walk.specs.Frames.{IsFrame, AreFrames, outermost, inside}
 use Rattle.ignore_walk.specs.Left.{IsNext}
@@ -128,7 +128,7 @@ no_entry : (p : Problem) (e : Entry) → Err p ≡ found e → ⊥
 no_entry p e h = cc (h)
 
 pub child_place : (g : Scene) (root : List ℕ) (b : Branch) (x : Listed) (e : Entry) → child g root b x ≡ Ok e
-    → (name : List ℕ) × (below b x ≡ name ∷ b) × (name_in x ≡ name) × (e.path ≡ path_of root (name ∷ b))
+    → (name : List ℕ) × (branch_below b x ≡ name ∷ b) × (name_in x ≡ name) × (e.path ≡ path_of root (name ∷ b))
 child_place g root b (thing.Entry name kind) e h = (name, refl, refl, child_path g root b name kind e h)
 child_place g root b (thing.Fault fault) e h = absurd (no_entry (at_depth (length b + 1) (io fault)) e (sym (fault_is g root b fault) ∙ h))
 

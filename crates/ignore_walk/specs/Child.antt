@@ -87,9 +87,9 @@ named (thing.Entry name kind) = if is_proper name && not (has_slash name) then t
 named (thing.Fault fault) = thing.Fault fault
 
 -- where a listed thing is
-abbrev pub below : Branch → Listed → Branch
-below b (thing.Entry name kind) = name ∷ b
-below b (thing.Fault fault) = b
+abbrev pub branch_below : Branch → Listed → Branch
+branch_below b (thing.Entry name kind) = name ∷ b
+branch_below b (thing.Fault fault) = b
 
 -- a listed thing is an entry, or a problem in its place
 unfoldable pub child : Scene → Path → Branch → Listed → Result Entry Problem

@@ -18,6 +18,7 @@ pub mod OnList
 pub mod Opens
 pub mod Fates
 pub mod Left
+pub mod Moves
 pub mod Stands
 pub mod Paces
 pub mod Nexts

@@ -3,13 +3,17 @@ use Rattle.std.specs.Prelude.{◌≡◌, ◌<◌, ◌≤◌, ◌⊎◌, ⊤, ℕ
 use Rattle.std.specs.Prelude.{if◌then◌else◌}
 use Rattle.ignore_base.specs.declared.fault.Fault.TheVariants.{StepLimit}
 use Rattle.ignore_base.specs.Problem.{io, memory}
+use Rattle.ignore_base.specs.Text.{Path}
 use Rattle.ignore_files.specs.declared.files.Files.{Ghosts as Files}
+use Rattle.ignore_walk.specs.Branch.{Branch}
 use Rattle.ignore_walk.specs.Entry.{Item}
 use Rattle.ignore_walk.specs.Finished.{IsEnd}
 use Rattle.ignore_walk.specs.GoesOn.{GoesOn, HasNoEnd}
+use Rattle.ignore_walk.specs.Left.{Remains, State}
+use Rattle.ignore_walk.specs.Moves.{IsOfRoots, Precedes}
 use Rattle.ignore_walk.specs.Paces.{Paces}
 use Rattle.ignore_walk.specs.Scene.{Scene}
-use Rattle.ignore_walk.specs.Stands.{Stands}
+use Rattle.ignore_walk.specs.Stands.{Becomes, IsIn, Stands, state_of}
 use Rattle.ignore_walk.specs.Suits.{IsGroundOf}
 use Rattle.ignore_walk.specs.declared.callbacks.Callbacks.{Ghosts as Callbacks}
 use Rattle.ignore_walk.specs.declared.walk.Walk.{Walk}
@@ -35,6 +39,20 @@ pub record Handed {F S : Type 0} (files : Files F) (calls : Callbacks S) (g : Sc
 -- left than what remains takes
 abbrev pub EndsBy : Item → ℕ → ℕ → Type 0
 EndsBy item left n = (item ≡ Err memory) ⊎ ((item ≡ Err (io StepLimit)) × (left < n))
+
+-- a walk that wasn't ended suits a scene, and what remains of it is what these roots give
+pub record Starts {F S : Type 0} (files : Files F) (calls : Callbacks S) (g : Scene) (w : Walk F S) (roots : List Path) : Type 0 where
+  pub suits : IsGroundOf files calls w.ground g
+  pub goes_on : w.ended ≡ false
+  pub whole : Becomes g w.stack (IsOfRoots g roots)
+
+-- what `next` shows of a list, where this was in hand and so many steps were left: by none, that
+-- nothing remained, and that in steps that were left; by an item, unless it ended the walk, that the
+-- item and then what remains now remained, in more steps by those that were taken for it
+abbrev pub Shows : {F S : Type 0} → Scene → State → ℕ → Option Item → Walk F S → Type 0
+Shows g s left None b = (n : ℕ) × (n ≤ left) × Remains g s [] n
+Shows g s left (Some item) b =
+    (IsEnd item × (b.ended ≡ true)) ⊎ ((k : ℕ) × (b.left + k ≡ left) × (b.ended ≡ false) × Becomes g b.stack (Precedes g s (item ∷ []) k))
 
 -- what `next` answers where these items remain, in so many steps: none, where there are none and
 -- the steps left were enough; the first of them, and then the others remain; or what ends the walk
@@ -65,13 +83,15 @@ EndsOrGoesOn None b = ⊤
 EndsOrGoesOn (Some item) b = GoesOn item ⊎ (IsEnd item × IsOver b)
 
 -- what one `next` of a walk answers, and what it makes of the walk. For files that are consistent
--- with a tree it is an item of what remains. For all files: a walk that is over answers none; after
+-- with a tree it is an item of what remains (`given`), and shows that this exists (`shows`). For all files: a walk that is over answers none; after
 -- none it is over; where it wasn't ended and now is, it is over, and that was its last answer; the
 -- steps that are left are fewer by exactly those that it took; and where no item in hand ends a
 -- walk, as at first, none does from then on but the last one that is handed out
 pub record NextGives {F S : Type 0} (files : Files F) (calls : Callbacks S) (a : Walk F S) (answer : Option Item) (b : Walk F S)
     : Type 0 where
   pub given : (g : Scene) (items : List Item) (n : ℕ) → Remaining files calls g a items n → Nexts files calls g a answer b items n
+  pub shows : (g : Scene) (root : Path) (place : Branch) (seen : List Path) → IsGroundOf files calls a.ground g → a.ended ≡ false
+      → IsIn g root place seen a.stack → Shows g (state_of a.stack root place seen) a.left answer b
   pub over : IsOver a → answer ≡ None
   pub none : answer ≡ None → IsOver b
   pub last : a.ended ≡ false → b.ended ≡ true → IsOver b × IsLast answer b.left

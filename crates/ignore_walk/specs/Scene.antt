@@ -21,5 +21,5 @@ pub record Scene : Type 0 where
   pub order : Option (Path → Bytes → Bytes → Bool)
 
 -- what queries below a root depend on
-abbrev pub queries : Scene → Path → below.Scene
+abbrev pub queries : Scene → Path → below.QueryScene
 queries g root = below.scene g.tree g.loads g.settings g.outside root

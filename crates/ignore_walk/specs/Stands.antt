@@ -5,10 +5,11 @@ use Rattle.ignore_files.specs.declared.types.Listed.{Listed}
 use Rattle.ignore_files.specs.declared.types.Listed.TheVariants as thing
 use Rattle.ignore_levels.specs.Levels.{IsChain, counting, slots_of}
 use Rattle.ignore_walk.specs.Branch.{Branch, path_of, placed_around, text_at}
-use Rattle.ignore_walk.specs.Child.{child, below}
+use Rattle.ignore_walk.specs.Child.{child, branch_below}
 use Rattle.ignore_walk.specs.Entry.{Item, entry_of, item_of}
 use Rattle.ignore_walk.specs.Frames.{AreFrames, device_of}
-use Rattle.ignore_walk.specs.Left.{State, Remains, InHand}
+use Rattle.ignore_walk.specs.Left.{State, Remains}
+use Rattle.ignore_walk.specs.Moves.{Gives, Moves}
 use Rattle.ignore_walk.specs.OnList.{AreOn, place_around}
 use Rattle.ignore_walk.specs.Scene.{Scene}
 use Rattle.ignore_walk.specs.Shared.{AreSeen, AreShared}
@@ -66,17 +67,21 @@ pub record Stands (g : Scene) (s : Stack) (items : List Item) (n : ℕ) : Type 0
 abbrev pub Steps : Scene → Stack → List Item → ℕ → Type 0
 Steps g s items n = (k : ℕ) × (n ≡ suc k) × Stands g s items k
 
--- a listed thing was taken by a step
-pub record Takes (g : Scene) (s : Stack) (x : Listed) (items : List Item) (n : ℕ) : Type 0 where
+-- a stack has in hand what is so
+pub record Becomes (g : Scene) (s : Stack) (Is : State → Type 0) : Type 0 where
   pub root : Path
   pub place : Branch
   pub seen : List Path
   pub is : IsIn g root place seen s
+  pub by : Is (state_of s root place seen)
+
+-- a listed thing was taken: what is in hand now is this, and what the thing makes of it is a step
+pub record Takes (g : Scene) (root : Path) (place : Branch) (seen : List Path) (old : Stack) (x : Listed) (s : Stack) : Type 0 where
+  pub is : IsIn g root place seen s
   pub frames : AreFrames g root place (reverse s.frames.items)
   pub at : IsAt g root s
-  pub k : ℕ
-  pub fewer : n ≡ suc k
-  pub hand : InHand g (state_of s root place seen) (below place x) (child g root place x) items k
+  pub step : (t : State) → Gives g (state_of s root place seen) (branch_below place x) (child g root place x) t
+      → Moves g (state_of old root place seen) t
 
 -- the name of a listed thing; a fault has none
 abbrev pub name_in : Listed → Bytes

@@ -15,7 +15,7 @@ use Rattle.ignore_dir.specs.Scene.{path_verdict}
 use Rattle.ignore_dir.specs.Verdict.{is_ignore}
 use Rattle.ignore_dir.specs.declared.settings.Settings.{Settings}
 use Rattle.ignore_walk.specs.Branch.{Branch}
-use Rattle.ignore_walk.specs.Child.{is_dir_kind, identity_at, named, below, child}
+use Rattle.ignore_walk.specs.Child.{is_dir_kind, identity_at, named, branch_below, child}
 use Rattle.ignore_walk.specs.Entry.{Entry, Item, failed_at}
 use Rattle.ignore_walk.specs.Scene.{Scene, queries}
 
@@ -122,5 +122,5 @@ mutual
   pub data WalkedEach (g : Scene) (root : Path) : Branch → List Listed → List Item → ℕ → Type 0 where
     none : {b : Branch} → WalkedEach g root b [] [] 0
     more : {b : Branch} {x : Listed} {xs : List Listed} {own others : List Item} {m n : ℕ}
-        → WalkedOne g root (below b x) (child g root b x) own m → WalkedEach g root b xs others n
+        → WalkedOne g root (branch_below b x) (child g root b x) own m → WalkedEach g root b xs others n
         → WalkedEach g root b (x ∷ xs) (own ++ others) (suc (m + n))

@@ -1,13 +1,16 @@
 //! What a walk has yielded when it answers none, before, and after, as calls that do nothing: each
 //! contract is the law.
-ghost use Rattle.std.specs.Prelude.{◌≡◌, ℕ, List, Option, None, Some, Result, map, option_map};
+ghost use Rattle.std.specs.Prelude.{◌≡◌, ◌≤◌, ℕ, List, Option, None, Some, Result, map, option_map};
 ghost use Rattle.std.specs.Iterator.{Drains, YieldsThen};
+ghost use Rattle.ignore_base.specs.Text.{Path};
 ghost use Rattle.ignore_base.specs.declared.error.Error.{Error};
 ghost use Rattle.ignore_walk.specs.Entry.{Item, item_of};
+ghost use Rattle.ignore_walk.specs.Finished.{IsFinished};
 ghost use Rattle.ignore_walk.specs.GoesOn.{HasNoEnd};
-ghost use Rattle.ignore_walk.specs.Nexts.{NextGives, Remaining};
+ghost use Rattle.ignore_walk.specs.Nexts.{NextGives, Remaining, Starts};
 ghost use Rattle.ignore_walk.specs.Runs.{EndsLast, IsBegun, IsRun};
 ghost use Rattle.ignore_walk.specs.Scene.{Scene};
+ghost use Rattle.ignore_walk.specs.Whole.{Whole};
 ghost use Rattle.ignore_walk.specs.declared.entry.DirEntry.{DirEntry};
 ghost use Rattle.ignore_walk.specs.declared.walk.Walk.{Walk};
 
@@ -29,6 +32,18 @@ pub fn a_run_begins_the_list<F: Files, S: Callbacks>()
     ensures { (g : Scene) (w v : Walk F S) (all : List (Result DirEntry Error)) (x : Result DirEntry Error) (items : List Item) (n : ℕ)
         → YieldsThen (λ a answer b. NextGives F.Files S.Callbacks a (option_map item_of answer) b) w all (Some x) v
         → Remaining F.Files S.Callbacks g w items n → IsBegun (map item_of all) (item_of x) items w.left n }
+{}
+
+/// A walk that is asked until it answers none, and that no item ended, shows that there is a list: in
+/// each scene that it suits, where what remains of it is what some roots give (as for a new walk, by
+/// `Walk::new`), these roots give just the items that it has yielded, and in no more steps than it
+/// might take. Nothing is asked of the tree: neither that it ends nor that its directories can be
+/// numbered.
+pub fn a_finished_run_is_a_list<F: Files, S: Callbacks>()
+    ensures { (g : Scene) (roots : List Path) (w : Walk F S) (all : List (Result DirEntry Error))
+        → Drains (λ a answer b. NextGives F.Files S.Callbacks a (option_map item_of answer) b) w all
+        → Starts F.Files S.Callbacks g w roots → IsFinished (map item_of all)
+        → (n : ℕ) × (n ≤ w.left) × Whole g roots (map item_of all) n }
 {}
 
 /// After a walk has answered none it answers none, whatever the files answer: the next time, and so

@@ -11,14 +11,15 @@ ghost use Rattle.ignore_walk.specs.Entry.{Item as Yielded, entry_of, item_of};
 ghost use Rattle.ignore_walk.specs.Found.{IsFoundAt};
 ghost use Rattle.ignore_walk.specs.Frames.{AreFrames};
 ghost use Rattle.ignore_walk.specs.GoesOn.{GoesOn, HasNoEnd, is_fatal, is_limit, is_step_limit};
-ghost use Rattle.ignore_walk.specs.Left.{Remains, InHand, IsNext};
+ghost use Rattle.ignore_walk.specs.Left.{Remains, IsNext};
+ghost use Rattle.ignore_walk.specs.Moves.{Gives, Moves, with_first};
 ghost use Rattle.ignore_walk.specs.OnList.{place_around};
 ghost use Rattle.ignore_walk.specs.Opens.{Opens};
 ghost use Rattle.ignore_walk.specs.Paces.{Enters, HasWork, IsStep, Leaves, MayEnter, TakesOne, work_of};
 ghost use Rattle.ignore_walk.specs.Scene.{Scene};
-ghost use Rattle.ignore_walk.specs.Stands.{state_of, before_root, name_in, text_below, IsAround, IsAt, IsIn, IsKept, Stands, Steps, Takes, Visits, Hands};
+ghost use Rattle.ignore_walk.specs.Stands.{state_of, before_root, name_in, text_below, Becomes, IsAround, IsAt, IsIn, IsKept, Stands, Takes, Visits, Hands};
 ghost use Rattle.ignore_walk.specs.Suits.{IsGroundOf};
-ghost use Rattle.ignore_walk.specs.Walked.{IsOrdered, enter, fate};
+ghost use Rattle.ignore_walk.specs.Walked.{enter, fate};
 ghost use Rattle.ignore_walk.specs.Whole.{root_entry, above_root, reported_before};
 
 use crate::above::{Seen, see, way_along};
@@ -72,12 +73,11 @@ impl Stack {
         leads_in: bool,
         text: Name,
     ) -> Result<(), AllocError>
-        ensures visited { (g : Scene) (root : List ℕ) (place b : Branch) (seen : List (List ℕ)) (items : List Yielded) (n : ℕ)
+        ensures visited { (g : Scene) (root : List ℕ) (place b : Branch) (seen : List (List ℕ))
             → IsGroundOf F.Files S.Callbacks ground.now g
             → IsIn g root place seen self.old → Visits g root b self.old found leads_in text
             → IsNext b place (state_of self.old root place seen).rests
-            → InHand g (state_of self.old root place seen) b (Ok (entry_of found.entry)) items n
-            → OnOk result (Stands g self.new items n) }
+            → OnOk result (Becomes g self.new (Gives g (state_of self.old root place seen) b (Ok (entry_of found.entry)))) }
         ensures roots { self.new.roots ≡ self.old.roots }
         ensures enters { OnOk result (MayEnter (F.list_gives ground.now.files.now) self.old.frames.items self.new.frames.items) }
         ensures made { length self.new.made.items ≤ length self.old.made.items + 2 }
@@ -107,12 +107,11 @@ impl Stack {
         entry: DirEntry,
         opened: Opened,
     ) -> Result<(), AllocError>
-        ensures entered { (g : Scene) (root : List ℕ) (place b : Branch) (seen : List (List ℕ)) (items : List Yielded) (n : ℕ)
-            → IsOrdered g.order → g.settings ≡ settings.now → IsIn g root place seen self.old → IsAt g root self.old
-            → IsAround g root b self.old
+        ensures entered { (g : Scene) (root : List ℕ) (place b : Branch) (seen : List (List ℕ))
+            → g.settings ≡ settings.now → IsIn g root place seen self.old → IsAt g root self.old → IsAround g root b self.old
             → (entry_of entry).path ≡ path_of root b → Opens g (path_of root b) (text_at g root b) opened
             → fate g root b (entry_of entry) ≡ enter → IsNext b place (state_of self.old root place seen).rests
-            → InHand g (state_of self.old root place seen) b (Ok (entry_of entry)) items n → OnOk result (Stands g self.new items n) }
+            → OnOk result (Becomes g self.new (Gives g (state_of self.old root place seen) b (Ok (entry_of entry)))) }
         ensures roots { self.new.roots ≡ self.old.roots }
         ensures enters { OnOk result (Enters opened.directory self.old.frames.items self.new.frames.items) }
         ensures made { length self.new.made.items ≤ length self.old.made.items + 2 }
@@ -131,9 +130,10 @@ impl Stack {
 
     /// A step below a root: takes one listed thing, or leaves one directory.
     fn step<F: Files, S: Callbacks>(&mut self, ground: &Ground<'_, F, S>) -> Result<(), AllocError>
-        ensures stepped { (g : Scene) (items : List Yielded) (n : ℕ)
+        ensures stepped { (g : Scene) (root : List ℕ) (place : Branch) (seen : List (List ℕ))
             → IsGroundOf F.Files S.Callbacks ground.now g
-            → 0 < length self.old.frames.items → Stands g self.old items n → OnOk result (Steps g self.new items n) }
+            → 0 < length self.old.frames.items → IsIn g root place seen self.old
+            → OnOk result (Becomes g self.new (Moves g (state_of self.old root place seen))) }
         ensures paced { 0 < length self.old.frames.items → OnOk result (IsStep (F.list_gives ground.now.files.now) (work_of self.old) (work_of self.new)) }
         ensures made { length self.new.made.items ≤ length self.old.made.items + 2 }
         ensures no_end { HasNoEnd self.old → OnOk result (HasNoEnd self.new) }
@@ -155,8 +155,10 @@ impl Stack {
         ensures made { self.new.made ≡ self.old.made }
         ensures next { 0 < length self.old.frames.items → MatchOption result (Leaves (work_of self.old) (work_of self.new))
             (λ x. TakesOne (work_of self.old) x (work_of self.new)) }
-        ensures taken { (g : Scene) (items : List Yielded) (n : ℕ) → 0 < length self.old.frames.items → Stands g self.old items n
-            → MatchOption result (Steps g self.new items n) (λ x. Takes g self.new x items n) }
+        ensures taken { (g : Scene) (root : List ℕ) (place : Branch) (seen : List (List ℕ)) → 0 < length self.old.frames.items
+            → IsIn g root place seen self.old
+            → MatchOption result (Becomes g self.new (Moves g (state_of self.old root place seen)))
+            (λ x. Takes g root place seen self.old x self.new) }
     {
         let Some(frame) = self.frames.last_mut() else {
             return None;
@@ -175,12 +177,11 @@ impl Stack {
         ground: &Ground<'_, F, S>,
         found: Found,
     ) -> Result<(), AllocError>
-        ensures taken { (g : Scene) (root : List ℕ) (place : Branch) (name : List ℕ) (seen : List (List ℕ)) (items : List Yielded) (n : ℕ)
+        ensures taken { (g : Scene) (root : List ℕ) (place : Branch) (name : List ℕ) (seen : List (List ℕ))
             → IsGroundOf F.Files S.Callbacks ground.now g
             → IsIn g root place seen self.old → AreFrames g root place (reverse self.old.frames.items) → IsAt g root self.old
             → string_bytes self.old.text ≡ text_at g root place ++ name → IsFoundAt g root (name ∷ place) found
-            → InHand g (state_of self.old root place seen) (name ∷ place) (Ok (entry_of found.entry)) items n
-            → OnOk result (Stands g self.new items n) }
+            → OnOk result (Becomes g self.new (Gives g (state_of self.old root place seen) (name ∷ place) (Ok (entry_of found.entry)))) }
         ensures roots { self.new.roots ≡ self.old.roots }
         ensures enters { OnOk result (MayEnter (F.list_gives ground.now.files.now) self.old.frames.items self.new.frames.items) }
         ensures made { length self.new.made.items ≤ length self.old.made.items + 2 }
@@ -201,11 +202,10 @@ impl Stack {
         ground: &Ground<'_, F, S>,
         root: &str,
     ) -> Result<(), AllocError>
-        ensures begun { (g : Scene) (last : List ℕ) (place : Branch) (seen : List (List ℕ)) (items : List Yielded) (n : ℕ)
+        ensures begun { (g : Scene) (last : List ℕ) (place : Branch) (seen : List (List ℕ))
             → IsGroundOf F.Files S.Callbacks ground.now g
             → self.old.frames.items ≡ [] → IsKept g seen self.old
-            → Remains g (before_root self.old last place seen root.now) items n
-            → OnOk result (Steps g self.new items n) }
+            → OnOk result (Becomes g self.new (Moves g (before_root self.old last place seen root.now))) }
         ensures roots { self.new.roots ≡ self.old.roots }
         ensures enters { self.old.frames.items ≡ [] → OnOk result (MayEnter (F.list_gives ground.now.files.now) [] self.new.frames.items) }
         ensures made { length self.new.made.items ≤ length self.old.made.items + 3 }
@@ -231,13 +231,12 @@ impl Stack {
         is_dir: bool,
         base: String,
     ) -> Result<(), AllocError>
-        ensures begun { (g : Scene) (seen : List (List ℕ)) (items : List Yielded) (n : ℕ)
+        ensures begun { (g : Scene) (seen : List (List ℕ))
             → IsGroundOf F.Files S.Callbacks ground.now g
             → self.old.frames.items ≡ [] → IsKept g seen self.old → is_dir ≡ is_dir_there (g.tree.stat root.now true)
             → (is_dir ≡ true → IsAround g root.now [] self.old)
             → (is_dir ≡ true → string_bytes base ≡ text_at g root.now [])
-            → InHand g (state_of self.old root.now [] seen) [] (root_entry g root.now) items n
-            → OnOk result (Stands g self.new items n) }
+            → OnOk result (Becomes g self.new (Gives g (state_of self.old root.now [] seen) [] (root_entry g root.now))) }
         ensures roots { self.new.roots ≡ self.old.roots }
         ensures enters { OnOk result (MayEnter (F.list_gives ground.now.files.now) self.old.frames.items self.new.frames.items) }
         ensures made { length self.new.made.items ≤ length self.old.made.items + 2 }
@@ -311,9 +310,10 @@ impl Stack {
         &mut self,
         ground: &Ground<'_, F, S>,
     ) -> Result<(), AllocError>
-        ensures advanced { (g : Scene) (items : List Yielded) (n : ℕ)
+        ensures advanced { (g : Scene) (root : List ℕ) (place : Branch) (seen : List (List ℕ))
             → IsGroundOf F.Files S.Callbacks ground.now g
-            → Stands g self.old items n → 0 < n → OnOk result (Steps g self.new items n) }
+            → HasWork (work_of self.old) → IsIn g root place seen self.old
+            → OnOk result (Becomes g self.new (Moves g (state_of self.old root place seen))) }
         ensures paced { HasWork (work_of self.old) → OnOk result (IsStep (F.list_gives ground.now.files.now) (work_of self.old) (work_of self.new)) }
         ensures made { length self.new.made.items ≤ length self.old.made.items + 3 }
         ensures no_end { HasNoEnd self.old → OnOk result (HasNoEnd self.new) }
@@ -333,6 +333,8 @@ impl Stack {
         ensures more { result ≡ false → (g : Scene) (items : List Yielded) (n : ℕ) → Stands g self.now items n → 0 < n }
         ensures none { result ≡ true → (g : Scene) (items : List Yielded) (n : ℕ) → self.now.made.items ≡ [] → Stands g self.now items n
             → (items ≡ []) × (n ≡ 0) }
+        ensures nothing { result ≡ true → self.now.made.items ≡ [] → (g : Scene) (root : List ℕ) (place : Branch) (seen : List (List ℕ))
+            → Remains g (state_of self.now root place seen) [] 0 }
     {
         is_outside(self.frames.as_slice()) && are_begun(&self.roots)
     }
@@ -345,6 +347,9 @@ impl Stack {
         ensures no_end { HasNoEnd self.old → HasNoEnd self.new × MatchOption result ⊤ (λ item. GoesOn (item_of item)) }
         ensures handed { (g : Scene) (items : List Yielded) (n : ℕ) → Stands g self.old items n
             → MatchOption result (Stands g self.new items n) (λ item. Hands g self.new (item_of item) items n) }
+        ensures first { (g : Scene) (root : List ℕ) (place : Branch) (seen : List (List ℕ)) → IsIn g root place seen self.old
+            → MatchOption result (Becomes g self.new (λ t. state_of self.old root place seen ≡ t))
+            (λ item. Becomes g self.new (λ t. state_of self.old root place seen ≡ with_first (item_of item) t)) }
     {
         self.made.pop_front()
     }

@@ -3,10 +3,12 @@ ghost use Rattle.std.specs.Prelude.{◌≡◌, ◌<◌, ◌≤◌, ◌⊎◌, []
 ghost use Rattle.ignore_base.specs.declared.fault.Fault.TheVariants.{StepLimit};
 ghost use Rattle.ignore_base.specs.Problem.{Problem, problem_of, io, memory};
 ghost use Rattle.ignore_walk.specs.Entry.{Item as Yielded, item_of};
+ghost use Rattle.ignore_walk.specs.Branch.{Branch};
 ghost use Rattle.ignore_walk.specs.GoesOn.{AllGoOn, HasNoEnd};
+ghost use Rattle.ignore_walk.specs.Left.{Remains};
 ghost use Rattle.ignore_walk.specs.Paces.{HasWork, Paces, TookSteps, Work, work_at, work_of};
 ghost use Rattle.ignore_walk.specs.Scene.{Scene};
-ghost use Rattle.ignore_walk.specs.Stands.{Stands};
+ghost use Rattle.ignore_walk.specs.Stands.{IsIn, Stands, state_of};
 ghost use Rattle.ignore_walk.specs.Suits.{IsGroundOf};
 ghost use Rattle.ignore_walk.specs.Whole.{Whole};
 
@@ -41,7 +43,7 @@ fn step_limit() -> Error
 }
 
 impl<'a, F: Files, S: Callbacks> Walk<'a, F, S> {
-    ghost use Rattle.ignore_walk.specs.Nexts.{Remaining, Nexts, IsOver, IsLast, EndsOrGoesOn, items_at_most};
+    ghost use Rattle.ignore_walk.specs.Nexts.{Remaining, Nexts, Shows, Starts, IsOver, IsLast, EndsOrGoesOn, items_at_most};
 
     /// A walk of these roots, by what stays the same in it. It allocates nothing.
     /// For dependents.
@@ -49,6 +51,7 @@ impl<'a, F: Files, S: Callbacks> Walk<'a, F, S> {
         ensures whole { (g : Scene) (items : List Yielded) (n : ℕ)
             → IsGroundOf F.Files S.Callbacks ground.entry g → Whole g roots.items items n
             → Remaining F.Files S.Callbacks g result items n }
+        ensures starts { (g : Scene) → IsGroundOf F.Files S.Callbacks ground.entry g → Starts F.Files S.Callbacks g result roots.items }
         ensures ground { result.ground ≡ ground.entry }
         ensures limit { result.left ≡ ground.entry.options.limit }
         ensures goes_on { result.ended ≡ false }
@@ -95,6 +98,8 @@ impl<'a, F: Files, S: Callbacks> Walk<'a, F, S> {
         ensures more { result ≡ false → (g : Scene) (items : List Yielded) (n : ℕ) → Stands g self.now.stack items n → 0 < n }
         ensures none { result ≡ true → self.now.ended ≡ false → (g : Scene) (items : List Yielded) (n : ℕ)
             → self.now.stack.made.items ≡ [] → Stands g self.now.stack items n → (items ≡ []) × (n ≡ 0) }
+        ensures nothing { result ≡ true → self.now.ended ≡ false → self.now.stack.made.items ≡ []
+            → (g : Scene) (root : List ℕ) (place : Branch) (seen : List (List ℕ)) → Remains g (state_of self.now.stack root place seen) [] 0 }
     {
         self.ended || self.stack.is_done()
     }
@@ -104,6 +109,9 @@ impl<'a, F: Files, S: Callbacks> Walk<'a, F, S> {
         ensures fewer { IfSome result (λ _. items_at_most self.new < items_at_most self.old) }
         ensures given { (g : Scene) (items : List Yielded) (n : ℕ) → Remaining F.Files S.Callbacks g self.old items n
             → Nexts F.Files S.Callbacks g self.old (option_map item_of result) self.new items n }
+        ensures shows { (g : Scene) (root : List ℕ) (place : Branch) (seen : List (List ℕ))
+            → IsGroundOf F.Files S.Callbacks self.old.ground g → self.old.ended ≡ false → IsIn g root place seen self.old.stack
+            → Shows g (state_of self.old.stack root place seen) self.old.left (option_map item_of result) self.new }
         ensures over { IsOver self.old → result ≡ None }
         ensures none { result ≡ None → IsOver self.new }
         ensures last { self.old.ended ≡ false → self.new.ended ≡ true
@@ -163,7 +171,7 @@ fn error_of(item: Item) -> Error
 
 impl<'a, F: Files, S: Callbacks> Walk<'a, F, S> {
     ghost use Rattle.std.specs.Prelude.{IsOkAnd};
-    ghost use Rattle.ignore_walk.specs.Nexts.{Remaining, IsOver};
+    ghost use Rattle.ignore_walk.specs.Nexts.{Remaining, Starts, IsOver};
 
     /// All items that the walk still gives, in their order.
     /// For dependents.
@@ -176,6 +184,8 @@ impl<'a, F: Files, S: Callbacks> Walk<'a, F, S> {
             → IfOk result (λ all. map item_of all.items ≡ items) }
         ensures within { (g : Scene) (items : List Yielded) (n : ℕ) → Remaining F.Files S.Callbacks g self.entry items n
             → IfOk result (λ _. n ≤ self.entry.left) }
+        ensures exists { (g : Scene) (roots : List (List ℕ)) → Starts F.Files S.Callbacks g self.entry roots
+            → IfOk result (λ all. (n : ℕ) × (n ≤ self.entry.left) × Whole g roots (map item_of all.items) n) }
         ensures ended { (g : Scene) (items : List Yielded) (n : ℕ) → Remaining F.Files S.Callbacks g self.entry items n
             → IfErr result (λ e. (problem_of e ≡ memory) ⊎ ((problem_of e ≡ io StepLimit) × (self.entry.left < n))) }
         ensures errors { self.entry.ended ≡ false → IfErr result (λ e. (problem_of e ≡ memory) ⊎ (problem_of e ≡ io StepLimit)) }

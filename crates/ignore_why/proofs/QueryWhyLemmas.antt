@@ -10,9 +10,9 @@ use Rattle.ignore_dir.specs.declared.settings.Settings.{Settings}
 use Rattle.ignore_dir.specs.declared.verdict.Verdict.TheVariants as v
 use Rattle.ignore_dir.specs.Above.{path_along}
 use Rattle.ignore_dir.specs.Limits.{beyond, is_below, is_beyond, is_larger, limited, no_match, sized}
-use Rattle.ignore_dir.specs.Query.{ancestors, answer_of_rules, depth_of, has_rules, is_asked, is_ignored, limit_of, names_of, query}
+use Rattle.ignore_dir.specs.Query.{ancestors, answer_of_rules, depth_of_path, has_rules, is_asked, is_ignored, limit_of, names_of, query}
 use Rattle.ignore_dir.specs.Query.{rules_verdict, size_of}
-use Rattle.ignore_dir.specs.Scene.{Scene, chain, path_verdict}
+use Rattle.ignore_dir.specs.Scene.{QueryScene, chain, path_verdict}
 use Rattle.ignore_dir.specs.Verdict.{verdict_of}
 use Rattle.ignore_levels.proofs.ReasonLemmas.{verdict-map, whole-verdict}
 use Rattle.ignore_why.specs.Cited.{Cited, cited}
@@ -29,7 +29,7 @@ or_right true b h = absurd (cc (h))
 or_right false b h = h
 
 -- no directory on the way is ignored, and so none is the first
-pub none_first : (g : Scene) (fronts : List (List (List ℕ))) → list_any (is_ignored g) fronts ≡ false → first_ignored g fronts ≡ None
+pub none_first : (g : QueryScene) (fronts : List (List (List ℕ))) → list_any (is_ignored g) fronts ≡ false → first_ignored g fronts ≡ None
 none_first g [] h = refl
 none_first g (front ∷ fronts) h =
     ap (λ b. cond b (Some front) (first_ignored g fronts)) (or_left (is_ignored g front) (list_any (is_ignored g) fronts) h)
@@ -40,7 +40,7 @@ first-step : (front : List (List ℕ)) (b c : Bool) (rest : Option (List (List �
 first-step front true c rest h f = absurd (cc (h))
 first-step front false c rest h f = f h
 
-pub first_none : (g : Scene) (fronts : List (List (List ℕ))) → first_ignored g fronts ≡ None → list_any (is_ignored g) fronts ≡ false
+pub first_none : (g : QueryScene) (fronts : List (List (List ℕ))) → first_ignored g fronts ≡ None → list_any (is_ignored g) fronts ≡ false
 first_none g [] h = refl
 first_none g (front ∷ fronts) h =
     first-step front (is_ignored g front) (list_any (is_ignored g) fronts) (first_ignored g fronts) h (first_none g fronts)
@@ -54,28 +54,28 @@ some-step : (front found : List (List ℕ)) (b c : Bool) (rest : Option (List (L
 some-step front found true c rest h f = refl
 some-step front found false c rest h f = f h
 
-pub first_some : (g : Scene) (fronts : List (List (List ℕ))) (found : List (List ℕ)) → first_ignored g fronts ≡ Some found
+pub first_some : (g : QueryScene) (fronts : List (List (List ℕ))) (found : List (List ℕ)) → first_ignored g fronts ≡ Some found
     → list_any (is_ignored g) fronts ≡ true
 first_some g [] found h = absurd (cc (h))
 first_some g (front ∷ fronts) found h =
     some-step front found (is_ignored g front) (list_any (is_ignored g) fronts) (first_ignored g fronts) h (first_some g fronts found)
 
-why-path : (g : Scene) (names : List (List ℕ)) (is_dir : Bool) → verdict_of (path_why g names is_dir) ≡ path_verdict g names is_dir
+why-path : (g : QueryScene) (names : List (List ℕ)) (is_dir : Bool) → verdict_of (path_why g names is_dir) ≡ path_verdict g names is_dir
 unfolding path_why path_verdict
 why-path g names is_dir = whole-verdict g.settings g.outside (chain g names) (path_along g.root names) is_dir
 
-open_rules : (g : Scene) (names : List (List ℕ)) (is_dir : Bool) → list_any (is_ignored g) (ancestors names) ≡ false
+open_rules : (g : QueryScene) (names : List (List ℕ)) (is_dir : Bool) → list_any (is_ignored g) (ancestors names) ≡ false
     → path_verdict g names is_dir ≡ rules_verdict g names is_dir
 unfolding rules_verdict
 open_rules g names is_dir h = sym (ap (λ b. cond b v.Ignore (path_verdict g names is_dir)) h)
 
-shut_rules : (g : Scene) (names : List (List ℕ)) (is_dir : Bool) → list_any (is_ignored g) (ancestors names) ≡ true
+shut_rules : (g : QueryScene) (names : List (List ℕ)) (is_dir : Bool) → list_any (is_ignored g) (ancestors names) ≡ true
     → rules_verdict g names is_dir ≡ v.Ignore
 unfolding rules_verdict
 shut_rules g names is_dir h = ap (λ b. cond b v.Ignore (path_verdict g names is_dir)) h
 
 -- what decides on a path below no ignored directory has the verdict of the rules
-pub rules_said : (g : Scene) (names : List (List ℕ)) (is_dir : Bool) → list_any (is_ignored g) (ancestors names) ≡ false
+pub rules_said : (g : QueryScene) (names : List (List ℕ)) (is_dir : Bool) → list_any (is_ignored g) (ancestors names) ≡ false
     → verdict_of (path_cited g names is_dir) ≡ rules_verdict g names is_dir
 rules_said g names is_dir none =
     verdict-map (cited (text_to g names)) (path_why g names is_dir) ∙ (why-path g names is_dir ∙ open_rules g names is_dir none)
@@ -98,23 +98,23 @@ ignored-sized : (limit : Option ℕ) (size : Result Metadata Fault) (b : Bool) �
 ignored-sized limit size true h = ap (λ x. cond x v.Ignore v.Ignore) h
 ignored-sized limit size false h = ap (λ x. cond x v.Ignore v.Ignore) h
 
-way-answer : (g : Scene) (path : List ℕ) (is_dir : Bool) (found : Option (List (List ℕ)))
+way-answer : (g : QueryScene) (path : List ℕ) (is_dir : Bool) (found : Option (List (List ℕ)))
     → first_ignored g (ancestors (names_of path)) ≡ found
-    → limited g.settings (depth_of path) is_dir (sized (limit_of g path is_dir) (size_of g path) (rules_verdict g (names_of path) is_dir))
-    ≡ answer_of g.settings (depth_of path) is_dir (why_on_way g path is_dir found)
+    → limited g.settings (depth_of_path path) is_dir (sized (limit_of g path is_dir) (size_of g path) (rules_verdict g (names_of path) is_dir))
+    ≡ answer_of g.settings (depth_of_path path) is_dir (why_on_way g path is_dir found)
 way-answer g path is_dir None h =
     let none = first_none g (ancestors (names_of path)) h in
-    ap (λ w. limited g.settings (depth_of path) is_dir (sized (limit_of g path is_dir) (size_of g path) w))
+    ap (λ w. limited g.settings (depth_of_path path) is_dir (sized (limit_of g path is_dir) (size_of g path) w))
     (sym (rules_said g (names_of path) is_dir none))
-    ∙ sized-answer g.settings (depth_of path) is_dir (limit_of g path is_dir) (size_of g path) (path_cited g (names_of path) is_dir)
+    ∙ sized-answer g.settings (depth_of_path path) is_dir (limit_of g path is_dir) (size_of g path) (path_cited g (names_of path) is_dir)
 way-answer g path is_dir (Some front) h =
     let shut = shut_rules g (names_of path) is_dir (first_some g (ancestors (names_of path)) front h) in
-    ap (λ w. limited g.settings (depth_of path) is_dir (sized (limit_of g path is_dir) (size_of g path) w)) shut
-    ∙ ap (limited g.settings (depth_of path) is_dir)
+    ap (λ w. limited g.settings (depth_of_path path) is_dir (sized (limit_of g path is_dir) (size_of g path) w)) shut
+    ∙ ap (limited g.settings (depth_of_path path) is_dir)
     (ignored-sized (limit_of g path is_dir) (size_of g path) (is_larger (limit_of g path is_dir) (size_of g path)) refl)
 
-rules-answer : (g : Scene) (path : List ℕ) (is_dir : Bool)
-    → (answer_of_rules g path is_dir).0 ≡ answer_of g.settings (depth_of path) is_dir (why_by_rules g path is_dir)
+rules-answer : (g : QueryScene) (path : List ℕ) (is_dir : Bool)
+    → (answer_of_rules g path is_dir).0 ≡ answer_of g.settings (depth_of_path path) is_dir (why_by_rules g path is_dir)
 unfolding answer_of_rules why_by_rules
 rules-answer g path is_dir = way-answer g path is_dir (first_ignored g (ancestors (names_of path))) refl
 
@@ -137,8 +137,8 @@ pick s depth is_dir by far rules e h true false false = refl
 pub answers-by_reason : AnswersByReason
 unfolding query query_why
 answers-by_reason g path is_dir =
-    pick g.settings (depth_of path) is_dir (answer_of_rules g path is_dir) (why_beyond g.settings (depth_of path))
+    pick g.settings (depth_of_path path) is_dir (answer_of_rules g path is_dir) (why_beyond g.settings (depth_of_path path))
     (why_by_rules g path is_dir)
-    (beyond-answer g.settings (depth_of path) is_dir (is_below g.settings.max_depth (depth_of path)) refl)
-    (rules-answer g path is_dir) (is_asked g.root path) (is_beyond g.settings (depth_of path) is_dir)
+    (beyond-answer g.settings (depth_of_path path) is_dir (is_below g.settings.max_depth (depth_of_path path)) refl)
+    (rules-answer g path is_dir) (is_asked g.root path) (is_beyond g.settings (depth_of_path path) is_dir)
     (has_rules g.tree g.root path)

@@ -20,7 +20,7 @@ use Rattle.ignore_dir.specs.declared.dir.Dir.{Dir}
 use Rattle.ignore_dir.specs.declared.settings.Settings.{Settings}
 use Rattle.ignore_dir.specs.Load.{Loaded}
 use Rattle.ignore_dir.specs.Query.{is_ignored, rules_verdict}
-use Rattle.ignore_dir.specs.Scene.{Scene, path_verdict, scene}
+use Rattle.ignore_dir.specs.Scene.{QueryScene, path_verdict, scene}
 use Rattle.ignore_why.specs.declared.cause.RuleRank.{RuleRank}
 use Rattle.ignore_why.specs.declared.cause.RuleRank.TheVariants.{Custom, Ignore, Gitignore, Exclude, Global, Explicit}
 use Rattle.ignore_why.specs.Cited.{Cited, Typed}
@@ -112,7 +112,7 @@ typed negated = record {
   } ∷ [];
 }
 
-abbrev asked : Option ℕ → Option ℕ → Ruleset → Matcher → List ℕ → Scene
+abbrev asked : Option ℕ → Option ℕ → Ruleset → Matcher → List ℕ → QueryScene
 asked least most overrides types root = scene tree loads (settings least most) (record {
   overrides = overrides;
   types = types;
@@ -120,7 +120,7 @@ asked least most overrides types root = scene tree loads (settings least most) (
   explicit = rules (rule (only 54) 54 6 false ∷ []) ∷ [];
 }) root
 
-abbrev g : Scene
+abbrev g : QueryScene
 g = asked None None empty no_types (codes "/t")
 
 -- a rule of that file, by name

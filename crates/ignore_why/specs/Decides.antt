@@ -16,7 +16,7 @@ use Rattle.ignore_dir.specs.declared.settings.Settings.{Settings}
 use Rattle.ignore_dir.specs.Above.{path_along}
 use Rattle.ignore_dir.specs.Lists.{Asked}
 use Rattle.ignore_dir.specs.Ranks.{cut, rules_answer}
-use Rattle.ignore_dir.specs.Scene.{Scene, chain}
+use Rattle.ignore_dir.specs.Scene.{QueryScene, chain}
 use Rattle.ignore_levels.specs.Reasons.Why.{by_rule}
 use Rattle.ignore_levels.specs.Sites.{Site, Sited, StandsIn, in_directory, in_explicit, in_global, git_ranks_sited, nearest_sited}
 use Rattle.ignore_why.specs.QueryWhy.{path_why}
@@ -76,7 +76,7 @@ pub record Decides (s : Settings) (o : Outside) (chain : List Asked) (path : Pat
 -- where a rule decides on a path, it does so in this sense
 abbrev pub FirstRankDecides : Type 0
 FirstRankDecides =
-    (g : Scene) (names : List Bytes) (is_dir : Bool) (x : Sited) → inner (path_why g names is_dir) ≡ Some (by_rule x)
+    (g : QueryScene) (names : List Bytes) (is_dir : Bool) (x : Sited) → inner (path_why g names is_dir) ≡ Some (by_rule x)
     → Decides g.settings g.outside (chain g names) (path_along g.root names) is_dir x
 
 -- a list with the rule alone that decides gives the same answer as the whole list

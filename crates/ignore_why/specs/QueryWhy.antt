@@ -11,8 +11,8 @@ use Rattle.ignore_dir.specs.declared.settings.Settings.{Settings}
 use Rattle.ignore_dir.specs.declared.verdict.Verdict.TheVariants as v
 use Rattle.ignore_dir.specs.Above.{path_along}
 use Rattle.ignore_dir.specs.Limits.{beyond, is_beyond, is_below, limited, no_match}
-use Rattle.ignore_dir.specs.Query.{ancestors, depth_of, has_rules, is_asked, is_ignored, limit_of, names_of, query, size_of}
-use Rattle.ignore_dir.specs.Scene.{Scene, chain, names_to}
+use Rattle.ignore_dir.specs.Query.{ancestors, depth_of_path, has_rules, is_asked, is_ignored, limit_of, names_of, query, size_of}
+use Rattle.ignore_dir.specs.Scene.{QueryScene, chain, names_to}
 use Rattle.ignore_dir.specs.Verdict.{verdict_of}
 use Rattle.ignore_levels.specs.Reasons.{Why, why}
 use Rattle.ignore_why.specs.Cited.{Cited, cited, cited_of}
@@ -32,19 +32,19 @@ pub data QueryWhy : Type 0 where
   inside : Path → Match Cited → QueryWhy
 
 -- the text of a path of these names: from `/` on, as far as the names above the root are known
-abbrev pub text_to : Scene → List Bytes → Path
+abbrev pub text_to : QueryScene → List Bytes → Path
 text_to g names = 47 ∷ joined (names_to g names)
 
 -- what decides on a path of these names, and whether it ignores or whitelists it
-unfoldable pub path_why : Scene → List Bytes → Bool → Match Why
+unfoldable pub path_why : QueryScene → List Bytes → Bool → Match Why
 path_why g names is_dir = why g.settings g.outside (chain g names) (path_along g.root names) is_dir
 
 -- the same by name
-abbrev pub path_cited : Scene → List Bytes → Bool → Match Cited
+abbrev pub path_cited : QueryScene → List Bytes → Bool → Match Cited
 path_cited g names is_dir = match_map (cited (text_to g names)) (path_why g names is_dir)
 
 -- the first of some directories that is ignored
-abbrev pub first_ignored : Scene → List (List Bytes) → Option (List Bytes)
+abbrev pub first_ignored : QueryScene → List (List Bytes) → Option (List Bytes)
 first_ignored g [] = None
 first_ignored g (front ∷ fronts) = if is_ignored g front then Some front else first_ignored g fronts
 
@@ -55,12 +55,12 @@ why_by_size (Some most) (Ok m) said = if nat_lt most m.len then larger m.len mos
 why_by_size (Some most) (Err fault) said = decided said
 
 -- why the rules answer as they do, by the first ignored directory on the way, if there is one
-abbrev pub why_on_way : Scene → Path → Bool → Option (List Bytes) → QueryWhy
+abbrev pub why_on_way : QueryScene → Path → Bool → Option (List Bytes) → QueryWhy
 why_on_way g path is_dir None = why_by_size (limit_of g path is_dir) (size_of g path) (path_cited g (names_of path) is_dir)
 why_on_way g path is_dir (Some front) = inside (joined front) (path_cited g front true)
 
 -- why the rules answer as they do
-unfoldable pub why_by_rules : Scene → Path → Bool → QueryWhy
+unfoldable pub why_by_rules : QueryScene → Path → Bool → QueryWhy
 why_by_rules g path is_dir = why_on_way g path is_dir (first_ignored g (ancestors (names_of path)))
 
 -- why what is beyond the limits on depth is ignored
@@ -68,10 +68,10 @@ abbrev pub why_beyond : Settings → ℕ → QueryWhy
 why_beyond s depth = if is_below s.max_depth depth then too_deep else too_shallow
 
 -- the reason of a query, in the order of its answer
-unfoldable pub query_why : Scene → Path → Bool → QueryWhy
+unfoldable pub query_why : QueryScene → Path → Bool → QueryWhy
 query_why g path is_dir =
     if not (is_asked g.root path) then unasked
-    else if is_beyond g.settings (depth_of path) is_dir then why_beyond g.settings (depth_of path)
+    else if is_beyond g.settings (depth_of_path path) is_dir then why_beyond g.settings (depth_of_path path)
     else if has_rules g.tree g.root path then why_by_rules g path is_dir
     else unruled
 
@@ -87,8 +87,8 @@ answer_of s depth is_dir (inside dir said) = limited s depth is_dir v.Ignore
 
 -- the answer of a query is that of its reason
 abbrev pub AnswersByReason : Type 0
-AnswersByReason = (g : Scene) (path : Path) (is_dir : Bool)
-    → (query g path is_dir).0 ≡ answer_of g.settings (depth_of path) is_dir (query_why g path is_dir)
+AnswersByReason = (g : QueryScene) (path : Path) (is_dir : Bool)
+    → (query g path is_dir).0 ≡ answer_of g.settings (depth_of_path path) is_dir (query_why g path is_dir)
 
 -- a reason as plain data
 abbrev pub query_why_of : Reason → QueryWhy

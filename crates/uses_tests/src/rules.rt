@@ -1,7 +1,7 @@
 //! What asks rules alone.
 use crate::trees::tree_of;
 use ignore::Error;
-use ignore::files::{Bytes, Identity, Row, TableMachine};
+use ignore::files::{Bytes, Identity, Row, RowKind, TableMachine};
 use ignore::gitignore::{Gitignore, GitignoreBuilder};
 use ignore::overrides::{Override, OverrideBuilder};
 use ignore::types::{Types, TypesBuilder};
@@ -124,12 +124,12 @@ fn the_global_file_of_the_process_is_asked(rt: HostRuntime) -> Result<(), Fail> 
 }
 
 fn row(alloc: Global) -> Result<Row, AllocError> {
-    let bytes = Bytes::new(Vec::from_array(alloc, *b"*.o\n")?);
+    let kind = RowKind::File(Bytes::new(Vec::from_array(alloc, *b"*.o\n")?));
     let identity = Identity {
         device: 1,
         inode: 2,
     };
-    Ok(Row { bytes, identity })
+    Ok(Row { kind, identity })
 }
 
 /// A machine with one file of rules.

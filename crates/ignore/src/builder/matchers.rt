@@ -3,7 +3,7 @@ ghost use Rattle.std.specs.Prelude.{◌≡◌, All, IfOk, IfErr, length};
 ghost use Rattle.ignore_base.specs.Problem.{problem_of, memory};
 ghost use Rattle.ignore_files.specs.Gives.{IsHonest};
 ghost use Rattle.ignore_files.specs.Tree.{Tree};
-ghost use Rattle.ignore_dir.specs.Scene.{Scene};
+ghost use Rattle.ignore_dir.specs.Scene.{QueryScene};
 ghost use Rattle.ignore_query.specs.Agrees.{Agrees};
 ghost use Rattle.ignore_query.specs.Fresh.{KeepsNothing};
 ghost use Rattle.ignore.specs.Matchers.{AreMatchers, AreMatchersBy};
@@ -30,7 +30,7 @@ impl WalkBuilder {
         ensures read { (tree : Tree) → IsHonest F.Files files.now tree
             → IfOk result (λ ms. AreMatchers tree env.now self.now.options ms.items) }
         ensures answered { IfOk result (λ ms. AreMatchersBy (F.contents_gives files.now) env.now self.now.options ms.items) }
-        ensures fresh { (g : Scene) → IfOk result (λ ms. All (λ m. Agrees g m.cache) ms.items) }
+        ensures fresh { (g : QueryScene) → IfOk result (λ ms. All (λ m. Agrees g m.cache) ms.items) }
         ensures empty { IfOk result (λ ms. All (λ m. KeepsNothing m.cache) ms.items) }
         ensures counted { IfOk result (λ ms. length ms.items ≡ length self.now.options.roots) }
         ensures out_of_memory { IfErr result (λ e. problem_of e ≡ memory) }

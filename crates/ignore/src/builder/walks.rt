@@ -8,7 +8,7 @@ ghost use Rattle.ignore_walk.specs.declared.callbacks.Order.TheVariants.{Listed}
 ghost use Rattle.ignore.specs.Asked.{IsOutsideBy};
 ghost use Rattle.ignore.specs.Builder.{unset, with_root, with_roots};
 ghost use Rattle.ignore.specs.Closures.{options_of, order_of};
-ghost use Rattle.ignore.specs.Walks.{IsWalkBy};
+ghost use Rattle.ignore.specs.Walks.{IsNewWalkBy, IsWalkBy};
 
 use crate::builder::WalkBuilder;
 use crate::options::WalkOptions;
@@ -33,6 +33,8 @@ impl WalkBuilder {
     pub fn build<'a, F: Files>(&'a self, files: &'a F, env: &Env) -> Result<Walk<'a, F>, Error>
         ensures whole { IfOk result (λ w. IsWalkBy F.Files ⟦<Owner<'a> as Callbacks>⟧ files.now (record { builder = Some self.entry }) env.now self.now.options
             (order_of (λ s. s.order) self.now.sorter) w.inner) }
+        ensures starts { IfOk result (λ w. IsNewWalkBy F.Files ⟦<Owner<'a> as Callbacks>⟧ files.now (record { builder = Some self.entry }) env.now
+            self.now.options (order_of (λ s. s.order) self.now.sorter) w.inner) }
         ensures answered { IfOk result (λ w. IsOutsideBy (F.contents_gives files.now) env.now self.now.options w.inner.ground.outside) }
         ensures limit { IfOk result (λ w. w.inner.left ≡ self.now.options.limit) }
         ensures goes_on { IfOk result (λ w. w.inner.ended ≡ false) }
@@ -73,6 +75,7 @@ impl WalkOptions {
         order: Order,
     ) -> Result<Walk<'a, F>, Error>
         ensures whole { IfOk result (λ w. IsWalkBy F.Files ⟦<Owner<'a> as Callbacks>⟧ files.now owner.entry env.now self.now order w.inner) }
+        ensures starts { IfOk result (λ w. IsNewWalkBy F.Files ⟦<Owner<'a> as Callbacks>⟧ files.now owner.entry env.now self.now order w.inner) }
         ensures answered { IfOk result (λ w. IsOutsideBy (F.contents_gives files.now) env.now self.now w.inner.ground.outside) }
         ensures limit { IfOk result (λ w. w.inner.left ≡ self.now.limit) }
         ensures goes_on { IfOk result (λ w. w.inner.ended ≡ false) }
@@ -116,6 +119,8 @@ impl<'a, F: Files> Walk<'a, F> {
     /// `Error::Memory` alone.
     pub fn new(alloc: Global, files: &'a F, env: &Env, path: &str) -> Result<Walk<'a, F>, Error>
         ensures whole { IfOk result (λ w. IsWalkBy F.Files ⟦<Owner<'a> as Callbacks>⟧ files.now (record { builder = None }) env.now
+            (with_root unset path.now) Listed w.inner) }
+        ensures starts { IfOk result (λ w. IsNewWalkBy F.Files ⟦<Owner<'a> as Callbacks>⟧ files.now (record { builder = None }) env.now
             (with_root unset path.now) Listed w.inner) }
         ensures limit { IfOk result (λ w. w.inner.left ≡ unset.limit) }
         ensures goes_on { IfOk result (λ w. w.inner.ended ≡ false) }

@@ -161,4 +161,9 @@ impl Files for MemoryTree {
     fn listings_are_whole(&self) -> bool {
         true
     }
+
+    /// It isn't known of each: a fault can be set for `stat` alone.
+    fn reads_what_is_there(&self) -> bool {
+        false
+    }
 }

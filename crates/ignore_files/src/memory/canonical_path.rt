@@ -1,7 +1,7 @@
 //! The canonical paths of nodes: from `/`, by names alone.
 ghost use Rattle.std.specs.Prelude.{◌≡◌, ◌∷◌, [], count_by};
-ghost use Rattle.ignore_files.specs.Memory.{is_canonical_path, child, place_of, any_kind, is_file, is_directory, sought, folder_sought};
-ghost use Rattle.ignore_files.specs.Memory.{parent_for, below};
+ghost use Rattle.ignore_files.specs.Memory.{is_canonical_path, child, place_of, any_kind, is_file_node, is_directory, sought, folder_sought};
+ghost use Rattle.ignore_files.specs.Memory.{parent_for, node_below};
 ghost use Rattle.ignore_files.specs.declared.memory.node.Node.{Node};
 
 use crate::memory::node::{Kind, Node};
@@ -35,7 +35,7 @@ pub fn child(nodes: &[Node], here: usize, name: &str) -> Option<usize>
 
 /// Where one component leads: an empty one is skipped.
 fn component_below(nodes: &[Node], here: usize, component: &str) -> Option<usize>
-    ensures { result ≡ below nodes.now here (component.now ∷ []) }
+    ensures { result ≡ node_below nodes.now here (component.now ∷ []) }
 {
     if component.is_empty() {
         Some(here)
@@ -112,7 +112,7 @@ pub fn dir_place(nodes: &[Node], path: &str) -> Result<usize, TreeError>
 
 /// The place of a path, where a file is there.
 pub fn file_place(nodes: &[Node], path: &str) -> Result<usize, TreeError>
-    ensures { result ≡ sought is_file nodes.now path.now }
+    ensures { result ≡ sought is_file_node nodes.now path.now }
 {
     let place = any_place(nodes, path)?;
     if nodes[place].kind.is_file() {

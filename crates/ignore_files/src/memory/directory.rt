@@ -19,19 +19,19 @@ impl Model for Directory {
     ghost use Rattle.std.specs.BTreeMap.{get_by_text};
     ghost use Rattle.ignore_base.specs.Text.{Bytes};
     ghost use Rattle.ignore_files.specs.declared.memory.entry.Entry.{Entry};
-    ghost use Rattle.ignore_files.specs.Entries.{named};
+    ghost use Rattle.ignore_files.specs.Entries.{node_named};
 
     ghost Value = { List Entry };
 
     ghost view = { λ d. d.entries.items };
 
-    ghost invariant = { λ d. (name : Bytes) → get_by_text d.by_name name ≡ named name d.entries.items };
+    ghost invariant = { λ d. (name : Bytes) → get_by_text d.by_name name ≡ node_named name d.entries.items };
 }
 
 impl Directory {
     ghost use Rattle.std.specs.Prelude.{◌≡◌, [], ◌∷◌, ◌++◌, None, OnOk, OnErr};
     ghost use Rattle.ignore_files.specs.declared.memory.entry.Entry.TheVariants.{Named, Nameless};
-    ghost use Rattle.ignore_files.specs.Entries.{named};
+    ghost use Rattle.ignore_files.specs.Entries.{node_named};
     ghost use Rattle.ignore_files.specs.Removed.{without};
 
     /// An empty directory. It allocates nothing.
@@ -46,7 +46,7 @@ impl Directory {
 
     /// The node under this name.
     pub fn get(&self, name: &str) -> Option<usize>
-        ensures { result ≡ named name.now self.now }
+        ensures { result ≡ node_named name.now self.now }
     {
         self.by_name.get(name).copied()
     }
@@ -60,7 +60,7 @@ impl Directory {
 
     /// Adds a node under a name that isn't there. After an `Err` nothing has changed.
     pub fn push(&mut self, name: Name, file_type: FileType, node: usize) -> Result<(), AllocError>
-        requires { named name self.old ≡ None }
+        requires { node_named name self.old ≡ None }
         ensures added { OnOk result (self.new ≡ self.old ++ Named name file_type node ∷ []) }
         ensures unchanged { OnErr result (self.new ≡ self.old) }
     {

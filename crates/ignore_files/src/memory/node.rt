@@ -48,7 +48,7 @@ pub struct Node {
 
 impl Kind {
     ghost use Rattle.std.specs.Prelude.{◌≡◌};
-    ghost use Rattle.ignore_files.specs.Memory.{is_directory, is_file};
+    ghost use Rattle.ignore_files.specs.Memory.{is_directory, is_file_node};
     ghost use Rattle.ignore_files.specs.Answers.{file_type_of};
 
     /// Whether it is a directory.
@@ -64,7 +64,7 @@ impl Kind {
 
     /// Whether it is a file.
     pub fn is_file(&self) -> bool
-        ensures { result ≡ is_file self.now }
+        ensures { result ≡ is_file_node self.now }
     {
         match self {
             Kind::Dir(_) => false,

@@ -3,7 +3,7 @@
 ghost use Rattle.std.specs.Prelude.{◌≡◌, ◌⊎◌, ◌+◌, ◌<◌, ◌≤◌, ◌↔◌, ◌∷◌, [], List, length, IsTrue, IfSome, IfNone};
 ghost use Rattle.ignore_glob.specs.Lexing as P;
 ghost use Rattle.ignore_glob.specs.Row as R;
-ghost use Rattle.ignore_glob.specs.Row.{IsSlash, IsStart, Ends, AtEnd, BeforeSlash, chain, Means};
+ghost use Rattle.ignore_glob.specs.Row.{IsSlash, IsStart, Ends, AtEnd, BeforeSlash, stars_before, Means};
 ghost use Rattle.ignore_glob.specs.LexemeViews.{lexeme_view, row_view, left_view, meaning_view};
 
 use crate::glob::lexeme::Lexeme;
@@ -106,7 +106,7 @@ fn past_slash(row: &[Lexeme]) -> Option<&[Lexeme]>
 
 /// How many times the row begins with `**/`, and what follows.
 fn past_chain(row: &[Lexeme]) -> (usize, &[Lexeme])
-    ensures chain { row_view row.now ≡ chain result.0 (row_view result.1.now) }
+    ensures chain { row_view row.now ≡ stars_before result.0 (row_view result.1.now) }
     ensures whole { BeforeSlash (row_view result.1.now) → ⊥ }
 {
     let mut n = 0;

@@ -3,7 +3,8 @@ ghost use Rattle.std.specs.Prelude.{◌≡◌, ◌+◌, ◌++◌, ◌∷◌, [],
 ghost use Rattle.std.specs.Arc.{arc_slice_items};
 ghost use Rattle.ignore_glob.specs.Glob.{start, then, done};
 ghost use Rattle.ignore_glob.specs.Nodes.{fork_at, token_width, width, branches_width, entry, entries, fork};
-ghost use Rattle.ignore_glob.specs.NodeLists.{token_nodes, tokens_nodes, branches_nodes, glob_nodes, is_lone_start, node_view, nodes_view};
+ghost use Rattle.ignore_glob.specs.DoesMatch.{is_lone_start};
+ghost use Rattle.ignore_glob.specs.NodeLists.{token_nodes, tokens_nodes, branches_nodes, glob_nodes, node_view, nodes_view};
 ghost use Rattle.ignore_glob.specs.View.{view, tokens_view, branches_view};
 
 use crate::glob::node::Node;

@@ -4,7 +4,7 @@ ghost use Rattle.std.specs.List.{AllZip, list_any};
 ghost use Rattle.std.specs.Str.{chars};
 ghost use Rattle.ignore_base.specs.Problem.{problem_of, memory, glob as glob_problem};
 ghost use Rattle.ignore_glob.specs.GlobFaults.{glob_fault_text};
-ghost use Rattle.ignore_types.specs.TypeMatch.{choice_answer, choices_answer, glob_at, verdict_of};
+ghost use Rattle.ignore_types.specs.TypeMatch.{choice_answer, choices_answer, glob_at, match_by_glob};
 ghost use Rattle.ignore_types.specs.Building.{plain, IsReadAs, FirstBad, IsGlobProblem};
 
 use crate::types::definition::FileTypeDef;
@@ -111,7 +111,7 @@ impl ChosenType {
 
     fn verdict(&self, place: usize) -> Match<Glob<'_>>
         requires { place < length self.now.readings }
-        ensures { result ≡ verdict_of self.now place }
+        ensures { result ≡ match_by_glob self.now place }
     {
         let glob = self.glob_at(place);
         if self.negated {

@@ -1,7 +1,7 @@
 //! File types in text order of their names.
 ghost use Rattle.std.specs.Prelude.{◌≡◌, [], OnOk, OnErr, IfOk, map, string_bytes};
 ghost use Rattle.std.specs.Option.{option_copied};
-ghost use Rattle.ignore_types.specs.Types.{IsAscending, definition_of, globs_of, with_glob, with_globs, with_types, with_names, has_all};
+ghost use Rattle.ignore_types.specs.Types.{IsAscending, definition_of, globs_of, with_glob, with_globs, with_sources, with_names, has_all};
 ghost use Rattle.ignore_types.specs.Types.{without, IsSortedCopy};
 ghost use Rattle.std.specs.List.{AllZip};
 ghost use Rattle.ignore_types.specs.PlaceSteps.{IsPlace};
@@ -93,7 +93,7 @@ impl Definitions {
 
     /// These types, with the globs of each of the sources in turn appended to those of the name.
     pub(super) fn with_types(&self, name: &str, sources: &[&str]) -> Result<Definitions, AllocError>
-        ensures { IfOk result (λ ds. ds ≡ with_types name.now (map (λ s. s.now) sources.now) self.now) }
+        ensures { IfOk result (λ ds. ds ≡ with_sources name.now (map (λ s. s.now) sources.now) self.now) }
     {
         let mut definitions = self.clone()?;
         for source in sources {

@@ -7,6 +7,11 @@ returns-clause-headline g c =
     c.all_items.ensures.headline c.args.files.now (record { builder = Some c.args.builder }) c.args.env.now c.args.builder.now.options _ c.in_ok-build.ensures.whole
     c.in_ok-build.ensures.limit
 
+pub returns-clause-exists : goal.returns-clause-exists
+returns-clause-exists g c =
+    c.all_items.ensures.exists c.args.files.now (record { builder = Some c.args.builder }) c.args.env.now c.args.builder.now.options _ c.in_ok-build.ensures.starts
+    c.in_ok-build.ensures.limit
+
 pub returns-clause-ended : goal.returns-clause-ended
 returns-clause-ended g c =
     c.all_items.ensures.ended c.args.files.now (record { builder = Some c.args.builder }) c.args.env.now c.args.builder.now.options _ c.in_ok-build.ensures.whole

@@ -2,10 +2,10 @@ use Rattle.std.proofs.Common.{◌≡◌, ℕ, List, [], ◌∷◌, length, false
 use Rattle.std.proofs.lemmas.Iterator.Consumers.{count_from_yields_List}
 use Rattle.std.proofs.lemmas.Iterator.Splits.{YieldsList-from_str_split}
 use Rattle.ignore_base.specs.Paths.{components}
-use Rattle.ignore_dir.specs.Query.{depth_of}
+use Rattle.ignore_dir.specs.Query.{depth_of_path}
 use Rattle.ignore_query.proofs.clean.depth_of.Goals as goal
 
-counted : (path : List ℕ) (n : ℕ) → eqb (length path) 0 ≡ false → n ≡ length (components path) → n ≡ depth_of path
+counted : (path : List ℕ) (n : ℕ) → eqb (length path) 0 ≡ false → n ≡ length (components path) → n ≡ depth_of_path path
 counted [] n h e = cc
 counted (b ∷ bs) n h e = e
 

@@ -1,6 +1,6 @@
 use Rattle.std.proofs.Common.{◌≡◌, [], true, sym, ◌∙◌, ap}
 use Rattle.ignore_dir.specs.Query.{query}
-use Rattle.ignore_dir.specs.Scene.{Scene}
+use Rattle.ignore_dir.specs.Scene.{QueryScene}
 use Rattle.ignore_query.specs.Agrees.{Agrees}
 use Rattle.ignore_survey.proofs.SuitLemmas.{opens_as, stdin_is_shut, suits_still, where_suits}
 use Rattle.ignore_survey.proofs.survey.is_open.Goals as goal
@@ -19,11 +19,11 @@ returns-clause-suits g c = λ s suits.
 
 pub returns-then-eq-clause-value : goal.returns-then-eq-clause-value
 returns-then-eq-clause-value g c = λ s suits.
-    stdin_is_shut s c.root.result.now c.eq.result (ap (λ (x : Scene). x.root) suits.scene ∙ sym c.root.ensures) c.eq.ensures c.if-eq.true
+    stdin_is_shut s c.root.result.now c.eq.result (ap (λ (x : QueryScene). x.root) suits.scene ∙ sym c.root.ensures) c.eq.ensures c.if-eq.true
 
 pub returns-clause-value : goal.returns-clause-value
 returns-clause-value g c = λ s suits.
     let a = c.in_ok-answer.answer in
-    opens_as s c.root.result.now c.eq.result c.should_descend.result a (ap (λ (x : Scene). x.root) suits.scene ∙ sym c.root.ensures)
+    opens_as s c.root.result.now c.eq.result c.should_descend.result a (ap (λ (x : QueryScene). x.root) suits.scene ∙ sym c.root.ensures)
     c.eq.ensures c.if-eq.false c.should_descend.ensures
     (where_suits g.F.Files c.args.files.now c.args.matcher.now s (λ x. a ≡ (query x [] true).0) suits c.in_ok-answer.ensures.value)

@@ -1,5 +1,5 @@
 use Rattle.std.proofs.Common.{sym, ap, ◌∙◌, rules}
-use Rattle.ignore_files.specs.Memory.{below}
+use Rattle.ignore_files.specs.Memory.{node_below}
 use Rattle.ignore_files.proofs.Components.{components_split, components_whole}
 use Rattle.ignore_files.proofs.Places.{below_some, below_none}
 use Rattle.ignore_files.proofs.memory.canonical_path.place_of.Goals as goal
@@ -26,5 +26,5 @@ loop-component-preserved c =
 pub returns : goal.returns
 returns c =
     let l = c.loop-component in
-    c.component_below-2.ensures ∙ ap (below c.args.nodes.now l.here) (sym (components_whole l.rest.now c.in_default.ensures.cases))
+    c.component_below-2.ensures ∙ ap (node_below c.args.nodes.now l.here) (sym (components_whole l.rest.now c.in_default.ensures.cases))
     ∙ l.invariant.same

@@ -2,10 +2,10 @@ use Rattle.std.proofs.Common.{◌≡◌, ◌++◌, List, Option, None, Some, map
 use Rattle.std.specs.List.{filter_map}
 use Rattle.std.specs.Option.{option_map, option_to_list}
 use Rattle.ignore_base.specs.Paths.{components, join_of}
-use Rattle.ignore_base.specs.Problem.{Problem, joined, problem_of}
+use Rattle.ignore_base.specs.Problem.{Problem, joined_problems, problem_of}
 use Rattle.ignore_base.specs.declared.error.Error.{Error}
 use Rattle.ignore_dir.specs.Limits.{limited, size_limit, size_problem, sized}
-use Rattle.ignore_dir.specs.Query.{answer_of_rules, depth_of, names_of, rules_verdict}
+use Rattle.ignore_dir.specs.Query.{answer_of_rules, depth_of_path, names_of, rules_verdict}
 use Rattle.ignore_dir.specs.Soft.{AllSoft, IsSoft}
 use Rattle.ignore_dir.proofs.SoftLemmas.{joined-soft}
 use Rattle.ignore_query.specs.Needs.{KeepsNeeded, is_known, needed}
@@ -54,7 +54,7 @@ returns-clause-value g c = λ tree loads honest are agrees asked rules.
     ∙ ap (λ l. rules_verdict scene l is_dir) (names_are tree root path rules) in
     let judged = c.in_ok-verdict-2.ensures.value tree honest ∙ ap (λ v. sized (size_limit s is_dir v) stat v) said in
     c.limited-answer.ensures
-    ∙ (c.depth_for.ensures.limited is_dir c.in_ok-verdict-2.verdict ∙ ap (limited s (depth_of path) is_dir) judged)
+    ∙ (c.depth_for.ensures.limited is_dir c.in_ok-verdict-2.verdict ∙ ap (limited s (depth_of_path path) is_dir) judged)
 
 pub returns-clause-reports : goal.returns-clause-reports
 unfolding reported_by_rules
@@ -84,7 +84,7 @@ returns-clause-reports g c = λ tree loads honest are agrees asked rules.
     ∙ (ap (λ v. (first ++ filter_map (λ p. p) below) ++ option_to_list (size_problem file (size_limit s is_dir v)
     (tree.stat file s.follow_links))) said
     ∙ collected_three (new_above scene old) below size)) in
-    c.joined.ensures ∙ ap joined said
+    c.joined.ensures ∙ ap joined_problems said
 
 pub returns-clause-soft : goal.returns-clause-soft
 returns-clause-soft g c =
@@ -133,7 +133,7 @@ returns-clause-from_kept g c = λ tree loads agrees asked ruled known unasked.
       from.0,
       (
         c.limited-answer.ensures
-            ∙ (c.depth_for.ensures.limited is_dir c.in_ok-verdict-2.verdict ∙ ap (limited s (depth_of path) is_dir) judged),
-        no_error _ (c.joined.ensures ∙ ap joined errors),
+            ∙ (c.depth_for.ensures.limited is_dir c.in_ok-verdict-2.verdict ∙ ap (limited s (depth_of_path path) is_dir) judged),
+        no_error _ (c.joined.ensures ∙ ap joined_problems errors),
       ),
     )

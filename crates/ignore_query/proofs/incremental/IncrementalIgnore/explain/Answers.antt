@@ -1,5 +1,5 @@
 use Rattle.std.proofs.Common.{ap, ◌∙◌, sym}
-use Rattle.ignore_dir.specs.Query.{depth_of}
+use Rattle.ignore_dir.specs.Query.{depth_of_path}
 use Rattle.ignore_why.specs.QueryWhy.{answer_of, query_why_of}
 use Rattle.ignore_why.proofs.QueryWhyLemmas.{answers-by_reason}
 use Rattle.ignore_query.specs.Reached.{scene_of}
@@ -14,7 +14,7 @@ returns-clause-value g c = λ tree loads honest are agrees.
     let is_dir = c.args.is_dir in
     let why = query_why_of c.in_ok-reason.reason in
     c.answer_of-answer.ensures
-    ∙ (answer_at c.reason.new.self.asked.settings c.depth_for.result (depth_of path) is_dir why (λ verdict. c.depth_for.ensures.limited is_dir verdict)
-    ∙ (ap (λ (a : Asked). answer_of a.settings (depth_of path) is_dir why) c.reason.ensures.same
-    ∙ (ap (answer_of scene.settings (depth_of path) is_dir) (c.in_ok-reason.ensures.why tree loads honest are agrees)
+    ∙ (answer_at c.reason.new.self.asked.settings c.depth_for.result (depth_of_path path) is_dir why (λ verdict. c.depth_for.ensures.limited is_dir verdict)
+    ∙ (ap (λ (a : Asked). answer_of a.settings (depth_of_path path) is_dir why) c.reason.ensures.same
+    ∙ (ap (answer_of scene.settings (depth_of_path path) is_dir) (c.in_ok-reason.ensures.why tree loads honest are agrees)
     ∙ sym (answers-by_reason scene path is_dir))))

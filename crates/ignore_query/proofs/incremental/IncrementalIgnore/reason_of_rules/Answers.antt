@@ -2,7 +2,7 @@ use Rattle.std.proofs.Common.{◌++◌, List, Option, map, sym, ap, ◌∙◌, s
 use Rattle.std.specs.List.{filter_map}
 use Rattle.std.specs.Option.{option_to_list}
 use Rattle.ignore_base.specs.Paths.{components, join_of}
-use Rattle.ignore_base.specs.Problem.{Problem, joined, problem_of}
+use Rattle.ignore_base.specs.Problem.{Problem, joined_problems, problem_of}
 use Rattle.ignore_dir.specs.Limits.{size_problem}
 use Rattle.ignore_dir.specs.Query.{limit_of, names_of, size_of}
 use Rattle.ignore_dir.specs.Soft.{AllSoft, IsSoft}
@@ -54,7 +54,7 @@ returns-clause-reports g c = λ tree loads honest are agrees asked ruled.
     (ap (map problem_of) c.new-errors.ensures.items)
     ∙ (ap (λ l. (first ++ filter_map (λ p. p) (new_below scene old l)) ++ option_to_list size) (names_are tree root path ruled)
     ∙ collected_three (new_above scene old) below size)) in
-    c.joined.ensures ∙ ap joined said
+    c.joined.ensures ∙ ap joined_problems said
 
 pub returns-clause-soft : goal.returns-clause-soft
 returns-clause-soft g c =

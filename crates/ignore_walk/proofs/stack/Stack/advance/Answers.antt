@@ -1,10 +1,12 @@
-use Rattle.std.proofs.Common.{◌≡◌, ◌∷◌, [], ℕ, List, map, reverse, sym, ◌∙◌, ap, subst}
+use Rattle.std.proofs.Common.{◌≡◌, ◌∷◌, [], ℕ, List, OnOk, map, reverse, sym, ◌∙◌, ap, subst}
 use Rattle.ignore_files.specs.declared.types.Listed.{Listed}
 use Rattle.ignore_levels.specs.Levels.{slots_of}
 use Rattle.ignore_walk.specs.Entry.{item_of}
-use Rattle.ignore_walk.specs.Left.{Remains}
+use Rattle.ignore_walk.specs.Left.{State}
+use Rattle.ignore_walk.specs.Moves.{Moves, between}
 use Rattle.ignore_walk.specs.OnList.{AreOn}
 use Rattle.ignore_walk.specs.Paces.{work_of}
+use Rattle.ignore_walk.specs.Stands.{Becomes, state_of}
 use Rattle.ignore_walk.specs.declared.frame.Frame.{Frame}
 use Rattle.ignore_walk.proofs.LeftLemmas.{state}
 use Rattle.ignore_walk.proofs.PaceLemmas.{begun}
@@ -13,19 +15,18 @@ use Rattle.ignore_walk.proofs.VisitLemmas.{on_ok_map}
 use Rattle.ignore_walk.proofs.stack.Stack.advance.Goals as goal
 
 pub returns-in-Some-clause-advanced : goal.returns-in-Some-clause-advanced
-returns-in-Some-clause-advanced g c = λ s items n suits r more.
+returns-in-Some-clause-advanced g c = λ s last place seen suits work is.
     let stack = c.args.self.now in
     let made = map item_of stack.made.items in
+    let others = c.pop_front.new.self.items in
     let empty : stack.frames.items ≡ [] = sym c.as_slice.ensures.value ∙ c.is_outside.ensures.yes c.if-not-is_outside.false in
-    let roots = c.in-Some.root ∷ c.pop_front.new.self.items in
-    let remains : Remains s (state made r.root r.place [] r.seen roots) items n =
-    subst (λ (all : List (List ℕ)). Remains s (state made r.root r.place [] r.seen all) items n) c.in-Some.ensures.items
-    (subst (λ (rests : List (List Listed)). Remains s (state made r.root r.place rests r.seen stack.roots.items) items n)
-    (rests_none stack empty) r.remains) in
-    let remains' = subst (λ (root : List ℕ). Remains s (state made r.root r.place [] r.seen (root ∷ c.pop_front.new.self.items)) items n)
-    (sym c.as_str.ensures) remains in
-    let places = subst (λ (fs : List Frame). AreOn s r.root stack.seen.items r.place (slots_of stack.levels) (reverse fs)) empty r.is.levels in
-    c.begin.ensures.begun s r.root r.place r.seen items n suits empty (record { kept = r.is.kept; places = places }) remains'
+    let same : state_of stack last place seen ≡ between made last place seen (c.as_str.result.now ∷ others) =
+    ap (λ (rests : List (List Listed)). state made last place rests seen stack.roots.items) (rests_none stack empty)
+    ∙ (ap (λ (all : List (List ℕ)). between made last place seen all) c.in-Some.ensures.items
+    ∙ sym (ap (λ (root : List ℕ). between made last place seen (root ∷ others)) c.as_str.ensures)) in
+    let places = subst (λ (fs : List Frame). AreOn s last stack.seen.items place (slots_of stack.levels) (reverse fs)) empty is.levels in
+    subst (λ (u : State). OnOk c.begin.result (Becomes s c.begin.new.self (Moves s u))) (sym same)
+    (c.begin.ensures.begun s last place seen suits empty (record { kept = is.kept; places = places }))
 
 pub returns-in-Some-clause-paced : goal.returns-in-Some-clause-paced
 returns-in-Some-clause-paced g c = λ work.

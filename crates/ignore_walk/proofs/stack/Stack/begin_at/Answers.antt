@@ -1,16 +1,15 @@
-use Rattle.std.proofs.Common.{◌≡◌, ◌∷◌, [], ℕ, List, Ok, Err, Result, inl, true, refl, sym, ◌∙◌, ap, subst, false, IfErr}
+use Rattle.std.proofs.Common.{◌≡◌, ◌∷◌, [], ℕ, List, Ok, Err, Result, inl, true, refl, sym, ◌∙◌, ap, subst, false, IfErr, OnOk}
 use Rattle.ignore_base.specs.Problem.{Problem, problem_of}
 use Rattle.ignore_base.specs.declared.error.Error.{Error}
 use Rattle.ignore_dir.specs.Query.{is_dir_there}
 use Rattle.ignore_walk.specs.Entry.{Entry, entry_of}
 use Rattle.ignore_walk.specs.Found.{IsFound}
 use Rattle.ignore_walk.specs.Frames.{device_of}
-use Rattle.ignore_walk.specs.Left.{InHand}
-use Rattle.ignore_walk.specs.Stands.{state_of}
+use Rattle.ignore_walk.specs.Moves.{Gives, fails, with_made}
+use Rattle.ignore_walk.specs.Stands.{Becomes, state_of}
 use Rattle.ignore_walk.specs.Whole.{root_entry}
 use Rattle.ignore_walk.specs.declared.found.Found.{Found}
 use Rattle.ignore_walk.specs.declared.stack.Stack.{Stack}
-use Rattle.ignore_walk.proofs.LeftLemmas.{make_failed}
 use Rattle.ignore_walk.proofs.PaceLemmas.{on_any_ok}
 use Rattle.ignore_walk.proofs.VisitLemmas.{on_ok_map, root_path, root_kept}
 use Rattle.ignore_walk.proofs.StandLemmas.{stand_made, next_root, outside}
@@ -19,21 +18,20 @@ use Rattle.ignore_walk.specs.GoesOn.{is_fatal}
 use Rattle.ignore_walk.proofs.stack.Stack.begin_at.Goals as goal
 
 pub returns-in-Err-clause-begun : goal.returns-in-Err-clause-begun
-returns-in-Err-clause-begun g c = λ s seen items n suits empty kept is_dir above base hand.
+returns-in-Err-clause-begun g c = λ s seen suits empty kept is_dir above base.
     let root = c.args.root.now in
     let p = problem_of c.in-Err.error in
     let state = state_of c.args.self.now root [] seen in
     let failed : root_entry s root ≡ Err p =
     subst (λ (r : Result Found Error). IsFound s (λ e. c.args.is_dir) r (root_entry s root)) c.in-Err.is (c.in_ok-error.ensures.value s suits is_dir) in
-    let hand' : InHand s state [] (Err p) items n = subst (λ (r : Result Entry Problem). InHand s state [] r items n) failed hand in
     on_ok_map c.make_error.result
-    (λ makes. stand_made s root [] seen c.args.self.now _ (Err p ∷ []) items n
+    (λ makes. stand_made s root [] seen c.args.self.now _ (Err p ∷ []) (Gives s state [] (root_entry s root))
     (record { seen = refl; roots = refl; above = refl; device = refl }) refl refl makes (outside s root [] seen c.args.self.now empty kept)
-    (make_failed s state [] p items n hand'))
+    (subst (λ (r : Result Entry Problem). Gives s state [] r (with_made state (Err p ∷ []))) (sym failed) fails))
     c.make_error.ensures.value
 
 pub returns-in-Ok-clause-begun : goal.returns-in-Ok-clause-begun
-returns-in-Ok-clause-begun g c = λ s seen items n suits empty kept is_dir above base hand.
+returns-in-Ok-clause-begun g c = λ s seen suits empty kept is_dir above base.
     let root = c.args.root.now in
     let self = c.args.self.now in
     let e = entry_of c.in-Ok.found.entry in
@@ -42,7 +40,6 @@ returns-in-Ok-clause-begun g c = λ s seen items n suits empty kept is_dir above
     subst (λ (r : Result Found Error). IsFound s (λ e. c.args.is_dir) r (root_entry s root)) c.in-Ok.is (c.in_ok-error.ensures.value s suits is_dir) in
     let is : root_entry s root ≡ Ok e = found.0 in
     let path : e.path ≡ root = root_path s root e is in
-    let hand' : InHand s state [] (Ok e) items n = subst (λ (r : Result Entry Problem). InHand s state [] r items n) is hand in
     let next : Stack = record {
       roots = self.roots;
       seen = self.seen;
@@ -53,7 +50,8 @@ returns-in-Ok-clause-begun g c = λ s seen items n suits empty kept is_dir above
       made = self.made;
       text = self.text;
     } in
-    c.visit.ensures.visited s root [] [] seen items n suits
+    subst (λ (r : Result Entry Problem). OnOk c.visit.result (Becomes s c.visit.new.self (Gives s state [] r))) (sym is)
+    (c.visit.ensures.visited s root [] [] seen suits
     (outside s root [] seen next empty (record { kept = kept.kept; places = kept.places }))
     (record {
       path = path;
@@ -63,7 +61,7 @@ returns-in-Ok-clause-begun g c = λ s seen items n suits empty kept is_dir above
       device = λ t. found.2 t;
       seen_as = λ t. c.new.ensures ∙ base t;
       around = λ t. above t;
-    }) (next_root c.args.self.now [] empty) hand'
+    }) (next_root c.args.self.now [] empty))
 
 pub returns-in-Err-clause-enters : goal.returns-in-Err-clause-enters
 returns-in-Err-clause-enters g c = on_any_ok c.make_error.result (inl refl)

@@ -1,5 +1,5 @@
 use Rattle.std.proofs.Common.{◌≡◌, ◌++◌, ℕ, List, Ok, Option, ap, map, option_map, refl, subst, sym, ◌∙◌}
-use Rattle.ignore_base.specs.Problem.{Problem, joined, problem_of}
+use Rattle.ignore_base.specs.Problem.{Problem, joined_problems, problem_of}
 use Rattle.ignore_dir.specs.Above.{canonical_names, names_above, paths_above, problems_of_loads}
 use Rattle.ignore_levels.specs.declared.list.Levels.{Levels}
 use Rattle.ignore_levels.specs.declared.list.Place.{Place}
@@ -36,7 +36,7 @@ returns-clause-reported g c = λ s seen suits kept found.
     (c.in_ok-way.ensures.come s seen c.in_ok-path.path is suits known shared)) in
     let above = paths_above s.tree s.settings root in
     let problem : option_map problem_of c.joined.result ≡ joined_some (problems_of_loads s.loads (unseen seen above)) =
-    c.joined.ensures ∙ ap (λ (l : List Problem). joined l) come.passed.errors in
+    c.joined.ensures ∙ ap (λ (l : List Problem). joined_problems l) come.passed.errors in
     c.in_ok-report.ensures.value (reported_no_limit s (unseen seen above) _ suits.loads problem)
     ∙ ap (λ (l : List Item). map item_of self.made.items ++ l)
     (reported-is s root seen above (option_map problem_of c.joined.result) found refl problem)

@@ -19,7 +19,7 @@ use Rattle.ignore_walk.proofs.NoEndLemmas.{answer_by, answer_by-fault, made_go_o
 use Rattle.ignore_walk.proofs.stack.Stack.settle.Goals as goal
 
 pub returns-clause-entered : goal.returns-clause-entered
-returns-clause-entered c = λ s root place b seen items n ordered settings is at around path opens enters next hand.
+returns-clause-entered c = λ s root place b seen settings is at around path opens enters next.
     let e = entry_of c.args.entry in
     let self = c.args.self.now in
     let found = c.args.opened.directory in
@@ -47,10 +47,10 @@ returns-clause-entered c = λ s root place b seen items n ordered settings is at
     entered.len next chain' entered.kept is.levels in
     let arranged = subst (λ (xs : List Listed). IsArranged s.order e.path (listing_of lists) xs) (sym entered.rest)
     (subst (λ (p : List ℕ). IsArranged s.order p (listing_of (s.tree.list p)) found.rest.items) (sym path) opens.rest) in
-    stand_entered s root place b seen self _ e frame items n
+    stand_entered s root place b seen self _ e frame
     (record { seen = refl; roots = refl; above = refl; device = refl }) c.in_ok-push.ensures.items
     (faults ∙ (ap (λ (t : List Item). t ++ unlisted e lists) yields ∙ append_assoc made (loaded s e) (unlisted e lists)))
-    is at ordered is_frame on arranged enters next hand
+    is at is_frame on arranged enters next
 
 pub returns-clause-enters : goal.returns-clause-enters
 returns-clause-enters c =

@@ -2,79 +2,73 @@ use Rattle.std.proofs.Common.{◌≡◌, ◌++◌, ◌∷◌, [], ℕ, List, Ok,
 use Rattle.ignore_base.specs.Problem.{Problem, problem_of}
 use Rattle.ignore_base.specs.declared.error.Error.{Error}
 use Rattle.ignore_walk.specs.Branch.{Branch, text_at}
-use Rattle.ignore_walk.specs.Child.{child, below, is_dir_kind}
+use Rattle.ignore_walk.specs.Child.{child, branch_below, is_dir_kind}
 use Rattle.ignore_walk.specs.Entry.{Entry, entry_of}
 use Rattle.ignore_walk.specs.Found.{IsFound}
 use Rattle.ignore_walk.specs.Frames.{AreFrames}
-use Rattle.ignore_walk.specs.Left.{InHand}
+use Rattle.ignore_walk.specs.Moves.{Gives, Moves, fails, with_made}
 use Rattle.ignore_walk.specs.Paces.{work_of}
 use Rattle.ignore_walk.specs.Stands.{state_of}
 use Rattle.ignore_walk.specs.declared.found.Found.{Found}
 use Rattle.ignore_walk.specs.declared.frame.Frame.{Frame}
 use Rattle.ignore_walk.specs.declared.stack.Stack.{Stack}
-use Rattle.ignore_walk.proofs.LeftLemmas.{make_failed}
 use Rattle.ignore_walk.proofs.VisitLemmas.{on_ok_map, when_none, when_some, child_place}
 use Rattle.ignore_walk.proofs.PaceLemmas.{on_any_ok, taken}
-use Rattle.ignore_walk.proofs.StandLemmas.{stand_made, takes_same}
+use Rattle.ignore_walk.proofs.StandLemmas.{becomes_by, stand_made, takes_same}
 use Rattle.ignore_walk.proofs.NoEndLemmas.{made_go_on, same_no_end}
 use Rattle.ignore_walk.specs.GoesOn.{is_fatal}
 use Rattle.ignore_walk.proofs.stack.Stack.step.Goals as goal
 
 pub returns-in-None-clause-stepped : goal.returns-in-None-clause-stepped
-returns-in-None-clause-stepped g c = λ s items n suits some r.
-    when_none _ _ c.take_listed.result c.in-None.is (c.take_listed.ensures.taken s items n some r)
+returns-in-None-clause-stepped g c = λ s root place seen suits some is.
+    when_none _ _ c.take_listed.result c.in-None.is (c.take_listed.ensures.taken s root place seen some is)
 
 pub returns-in-Err-clause-stepped : goal.returns-in-Err-clause-stepped
-returns-in-Err-clause-stepped g c = λ s items n suits some r.
+returns-in-Err-clause-stepped g c = λ s root place seen suits some is.
     let was = c.take_listed.new.self in
     let stack : Stack = record was { text = c.set_text.new.text } in
     let x = c.in-Some.listed in
-    let t = takes_same s was stack x items n (record { seen = refl; roots = refl; above = refl; device = refl }) refl refl refl
-    (when_some _ _ c.take_listed.result x c.in-Some.is (c.take_listed.ensures.taken s items n some r)) in
+    let t = takes_same s root place seen c.args.self.now was stack x (record { seen = refl; roots = refl; above = refl; device = refl })
+    refl refl refl (when_some _ _ c.take_listed.result x c.in-Some.is (c.take_listed.ensures.taken s root place seen some is)) in
     let p = problem_of c.in-Err.error in
-    let state = state_of stack t.root t.place t.seen in
-    let frames : AreFrames s t.root t.place (reverse c.as_slice-in-Some.result.now) =
-    subst (λ (fs : List Frame). AreFrames s t.root t.place (reverse fs)) (sym c.as_slice-in-Some.ensures.value) t.frames in
-    let failed : child s t.root t.place x ≡ Err p =
-    subst (λ (r : Result Found Error). IsFound s (λ e. is_dir_kind e.kind) r (child s t.root t.place x)) c.in-Err.is
-    (c.in_ok-error-in-Some.ensures.value s t.root t.place suits frames) in
-    let hand : InHand s state (below t.place x) (Err p) items t.k =
-    subst (λ (r : Result Entry Problem). InHand s state (below t.place x) r items t.k) failed t.hand in
+    let state = state_of stack root place seen in
+    let frames : AreFrames s root place (reverse c.as_slice-in-Some.result.now) =
+    subst (λ (fs : List Frame). AreFrames s root place (reverse fs)) (sym c.as_slice-in-Some.ensures.value) t.frames in
+    let failed : child s root place x ≡ Err p =
+    subst (λ (r : Result Found Error). IsFound s (λ e. is_dir_kind e.kind) r (child s root place x)) c.in-Err.is
+    (c.in_ok-error-in-Some.ensures.value s root place suits frames) in
+    let gives : Gives s state (branch_below place x) (child s root place x) (with_made state (Err p ∷ [])) =
+    subst (λ (r : Result Entry Problem). Gives s state (branch_below place x) r (with_made state (Err p ∷ []))) (sym failed) fails in
     on_ok_map c.make_error.result
-    (λ makes. (
-      t.k,
-      t.fewer,
-      stand_made s t.root t.place t.seen stack _ (Err p ∷ []) items t.k
-          (record { seen = refl; roots = refl; above = refl; device = refl }) refl refl makes t.is (make_failed s state
-          (below t.place x) p items t.k hand),
-    ))
+    (λ makes. stand_made s root place seen stack _ (Err p ∷ []) (Moves s (state_of c.args.self.now root place seen))
+    (record { seen = refl; roots = refl; above = refl; device = refl }) refl refl makes t.is (t.step _ gives))
     c.make_error.ensures.value
 
 pub returns-in-Ok-clause-stepped : goal.returns-in-Ok-clause-stepped
-returns-in-Ok-clause-stepped g c = λ s items n suits some r.
+returns-in-Ok-clause-stepped g c = λ s root place seen suits some is.
     let was = c.take_listed.new.self in
     let stack : Stack = record was { text = c.set_text.new.text } in
     let x = c.in-Some.listed in
-    let t = takes_same s was stack x items n (record { seen = refl; roots = refl; above = refl; device = refl }) refl refl refl
-    (when_some _ _ c.take_listed.result x c.in-Some.is (c.take_listed.ensures.taken s items n some r)) in
+    let t = takes_same s root place seen c.args.self.now was stack x (record { seen = refl; roots = refl; above = refl; device = refl })
+    refl refl refl (when_some _ _ c.take_listed.result x c.in-Some.is (c.take_listed.ensures.taken s root place seen some is)) in
     let e = entry_of c.in-Ok.found.entry in
-    let state = state_of stack t.root t.place t.seen in
-    let frames : AreFrames s t.root t.place (reverse c.as_slice-in-Some.result.now) =
-    subst (λ (fs : List Frame). AreFrames s t.root t.place (reverse fs)) (sym c.as_slice-in-Some.ensures.value) t.frames in
-    let frames' : AreFrames s t.root t.place (reverse c.as_slice.result.now) =
-    subst (λ (fs : List Frame). AreFrames s t.root t.place (reverse fs)) (sym c.as_slice.ensures.value) t.frames in
-    let found : IsFound s (λ e. is_dir_kind e.kind) (Ok c.in-Ok.found) (child s t.root t.place x) =
-    subst (λ (r : Result Found Error). IsFound s (λ e. is_dir_kind e.kind) r (child s t.root t.place x)) c.in-Ok.is
-    (c.in_ok-error-in-Some.ensures.value s t.root t.place suits frames) in
-    let is : child s t.root t.place x ≡ Ok e = found.0 in
-    let at = child_place s t.root t.place x e is in
-    let text = c.in_ok-set_text-in-Some.ensures s t.root t.place frames' ∙ ap (λ (n : List ℕ). text_at s t.root t.place ++ n) at.2 in
-    let hand : InHand s state (at.0 ∷ t.place) (Ok e) items t.k =
-    subst (λ (b : Branch). InHand s state b (Ok e) items t.k) at.1
-    (subst (λ (r : Result Entry Problem). InHand s state (below t.place x) r items t.k) is t.hand) in
-    on_ok_map c.take.result (λ stands. (t.k, t.fewer, stands))
-    (c.take.ensures.taken s t.root t.place at.0 t.seen items t.k suits t.is t.frames t.at text
-    (record { path = at.3; sound = found.1; device = found.2 }) hand)
+    let state = state_of stack root place seen in
+    let frames : AreFrames s root place (reverse c.as_slice-in-Some.result.now) =
+    subst (λ (fs : List Frame). AreFrames s root place (reverse fs)) (sym c.as_slice-in-Some.ensures.value) t.frames in
+    let frames' : AreFrames s root place (reverse c.as_slice.result.now) =
+    subst (λ (fs : List Frame). AreFrames s root place (reverse fs)) (sym c.as_slice.ensures.value) t.frames in
+    let found : IsFound s (λ e. is_dir_kind e.kind) (Ok c.in-Ok.found) (child s root place x) =
+    subst (λ (r : Result Found Error). IsFound s (λ e. is_dir_kind e.kind) r (child s root place x)) c.in-Ok.is
+    (c.in_ok-error-in-Some.ensures.value s root place suits frames) in
+    let is_entry : child s root place x ≡ Ok e = found.0 in
+    let at = child_place s root place x e is_entry in
+    let text = c.in_ok-set_text-in-Some.ensures s root place frames' ∙ ap (λ (n : List ℕ). text_at s root place ++ n) at.2 in
+    on_ok_map c.take.result
+    (λ becomes. becomes_by s c.take.new.self (Gives s state (at.0 ∷ place) (Ok e)) (Moves s (state_of c.args.self.now root place seen)) becomes
+    (λ u gives. t.step u (subst (λ (b : Branch). Gives s state b (child s root place x) u) (sym at.1)
+    (subst (λ (r : Result Entry Problem). Gives s state (at.0 ∷ place) r u) (sym is_entry) gives))))
+    (c.take.ensures.taken s root place at.0 seen suits t.is t.frames t.at text
+    (record { path = at.3; sound = found.1; device = found.2 }))
 
 pub returns-in-None-clause-paced : goal.returns-in-None-clause-paced
 returns-in-None-clause-paced g c = λ some.

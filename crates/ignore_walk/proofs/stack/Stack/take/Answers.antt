@@ -4,17 +4,17 @@ use Rattle.ignore_levels.specs.Levels.{IsChain, counting, slots_of}
 use Rattle.ignore_walk.specs.Branch.{placed_to, text_at}
 use Rattle.ignore_walk.specs.Child.{is_dir_kind}
 use Rattle.ignore_walk.specs.Entry.{entry_of}
+use Rattle.ignore_walk.specs.Moves.{skips}
 use Rattle.ignore_walk.specs.OnList.{place_around}
-use Rattle.ignore_walk.specs.Stands.{state_of, Visits}
+use Rattle.ignore_walk.specs.Stands.{Visits}
 use Rattle.ignore_walk.specs.Walked.{is_skipped}
 use Rattle.ignore_walk.specs.declared.frame.Frame.{Frame}
-use Rattle.ignore_walk.proofs.LeftLemmas.{make_skipped}
 use Rattle.ignore_walk.proofs.ListLemmas.{on-around}
 use Rattle.ignore_walk.proofs.VisitLemmas.{fate_skip, next_inside}
 use Rattle.ignore_walk.proofs.stack.Stack.take.Goals as goal
 
 pub returns-then-branch-clause-taken : goal.returns-then-branch-clause-taken
-returns-then-branch-clause-taken g c = λ s root place name seen items n suits is frames at text here hand.
+returns-then-branch-clause-taken g c = λ s root place name seen suits is frames at text here.
     let e = entry_of c.args.found.entry in
     let self = c.args.self.now in
     let around = on-around s root self.seen.items place self.above (reverse self.frames.items) (slots_of self.levels) frames is.levels in
@@ -28,12 +28,11 @@ returns-then-branch-clause-taken g c = λ s root place name seen items n suits i
       place = place;
       seen = seen;
       is = is;
-      remains = make_skipped s (state_of c.args.self.now root place seen) (name ∷ place) e items n (fate_skip s root
-          (name ∷ place) e skipped) hand;
+      by = skips (fate_skip s root (name ∷ place) e skipped);
     }
 
 pub returns-clause-taken : goal.returns-clause-taken
-returns-clause-taken g c = λ s root place name seen items n suits is frames at text here hand.
+returns-clause-taken g c = λ s root place name seen suits is frames at text here.
     let e = entry_of c.args.found.entry in
     let self = c.args.self.now in
     let around = on-around s root self.seen.items place self.above (reverse self.frames.items) (slots_of self.levels) frames is.levels in
@@ -54,8 +53,8 @@ returns-clause-taken g c = λ s root place name seen items n suits is frames at 
       seen_as = full;
       around = λ _. around;
     } in
-    c.visit.ensures.visited s root place (name ∷ place) seen items n suits is visits
-    (next_inside s root place (reverse c.args.self.now.frames.items) name frames) hand
+    c.visit.ensures.visited s root place (name ∷ place) seen suits is visits
+    (next_inside s root place (reverse c.args.self.now.frames.items) name frames)
 
 pub returns-then-branch-clause-enters : goal.returns-then-branch-clause-enters
 returns-then-branch-clause-enters g c = inl refl

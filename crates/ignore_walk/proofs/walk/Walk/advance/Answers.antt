@@ -1,8 +1,16 @@
-use Rattle.std.proofs.Common.{◌<◌, Option, inl, inr, refl, sym, ◌∙◌, ap, subst, arith, Err}
-use Rattle.ignore_walk.specs.Entry.{Item}
-use Rattle.ignore_walk.specs.Nexts.{EndsOrGoesOn, Nexts}
+use Rattle.std.proofs.Common.{◌<◌, ◌+◌, ◌∷◌, [], suc, Option, inl, inr, refl, sym, ◌∙◌, ap, subst, arith, Err}
+use Rattle.ignore_walk.specs.Entry.{Item, item_of}
+use Rattle.ignore_walk.specs.Left.{Remains, State}
+use Rattle.ignore_walk.specs.Moves.{Precedes}
+use Rattle.ignore_walk.specs.Nexts.{EndsOrGoesOn, Nexts, Shows}
+use Rattle.ignore_walk.specs.Stands.{state_of}
+use Rattle.ignore_walk.specs.Suits.{IsGroundOf}
+use Rattle.ignore_walk.specs.declared.ground.Ground.{Ground}
+use Rattle.ignore_walk.proofs.MoveLemmas.{precedes_first, precedes_none, precedes_same, precedes_step}
 use Rattle.ignore_walk.proofs.NoEndLemmas.{memory_no_limit, none_go_on, problem_of-Memory}
 use Rattle.ignore_walk.proofs.PaceLemmas.{all_steps, from_same, no_step, not_both, one_more_step, same_step}
+use Rattle.ignore_walk.proofs.StandLemmas.{becomes_by, stands_on}
+use Rattle.ignore_walk.proofs.VisitLemmas.{chosen_ordered}
 use Rattle.ignore_walk.proofs.walk.Walk.advance.Goals as goal
 
 pub returns-in-Some-clause-given : goal.returns-in-Some-clause-given
@@ -29,8 +37,9 @@ pub returns-in-Some-take_made-clause-given : goal.returns-in-Some-take_made-clau
 returns-in-Some-take_made-clause-given g c = λ s items n r.
     let i = c.loop-self.invariant.remaining s items n
     (record { suits = r.suits; goes_on = r.goes_on; stands = c.in_default.ensures.handed s items n r.stands }) in
-    let more : 0 < i.0 = c.is_done.ensures.more c.loop-self-test.true s items i.0 i.2.stands in
-    let step = c.in-Ok.ensures.advanced s items i.0 i.2.suits i.2.stands more in
+    let step = stands_on s _ _ items i.0 (chosen_ordered _ _ s.order i.2.suits.order) i.2.stands
+    (c.in-Ok.ensures.advanced s i.2.stands.root i.2.stands.place i.2.stands.seen i.2.suits (c.is_done.ensures.work c.loop-self-test.true)
+    i.2.stands.is) in
     let h = c.in-Some-take_made.ensures.handed s items step.0 step.2 in
     inl (record {
       others = h.others;
@@ -49,6 +58,11 @@ loop-self-init g c = record {
   no_end = λ h. h;
   paced = (0, omega arith, no_step _ _ _ refl);
   remaining = λ s items n r. (n, refl, r);
+  shows = λ s root place seen suits is. (
+    0,
+    omega arith,
+    record { root = root; place = place; seen = seen; is = is; by = precedes_none s _ },
+  );
 }
 
 pub loop-self-preserved : goal.loop-self-preserved
@@ -64,8 +78,9 @@ loop-self-preserved g c = record {
       c.in_default-take_made.ensures.same _ (omega (c.if-self-eq0.false, arith));
   remaining = λ s items n r.
       let i = c.loop-self.invariant.remaining s items n r in
-      let more : 0 < i.0 = c.is_done.ensures.more c.loop-self-test.true s items i.0 i.2.stands in
-      let step = c.in-Ok.ensures.advanced s items i.0 i.2.suits i.2.stands more in (
+      let step = stands_on s _ _ items i.0 (chosen_ordered _ _ s.order i.2.suits.order) i.2.stands
+      (c.in-Ok.ensures.advanced s i.2.stands.root i.2.stands.place i.2.stands.seen i.2.suits (c.is_done.ensures.work c.loop-self-test.true)
+      i.2.stands.is) in (
         step.0,
         omega (i.1, step.1, c.if-self-eq0.false, arith),
         record {
@@ -73,6 +88,16 @@ loop-self-preserved g c = record {
           goes_on = i.2.goes_on;
           stands = c.in_default-take_made.ensures.handed s items step.0 step.2;
         },
+      );
+  shows = λ s root place seen suits is.
+      let i = c.loop-self.invariant.shows s root place seen suits is in
+      let b = i.2 in
+      let ground = subst (λ (ground : Ground _ _). IsGroundOf g.F.Files g.S.Callbacks ground s) (sym c.loop-self.invariant.ground) suits in
+      let step = c.in-Ok.ensures.advanced s b.root b.place b.seen ground (c.is_done.ensures.work c.loop-self-test.true) b.is in
+      let h = c.in_default-take_made.ensures.first s step.root step.place step.seen step.is in (
+        suc i.0,
+        omega (i.1, c.if-self-eq0.false, arith),
+        becomes_by s _ _ _ h (λ t same. precedes_same s _ _ t [] (suc i.0) (precedes_step s _ _ _ [] i.0 b.by step.by) same),
       );
 }
 
@@ -159,3 +184,46 @@ returns-in-Some-take_made-clause-ends g c = λ h.
 
 pub returns-clause-ends : goal.returns-clause-ends
 returns-clause-ends g c = λ h. (c.loop-self.invariant.no_end (c.in_default.ensures.no_end h).0, tt)
+
+-- what a list is shown by
+
+pub returns-in-Some-clause-shows : goal.returns-in-Some-clause-shows
+returns-in-Some-clause-shows g c = λ s root place seen suits on is.
+    let h = c.in-Some.ensures.first s root place seen is in
+    inr (0, omega arith, on, becomes_by s _ _ _ h (λ t same. precedes_first s _ _ t _ 0 (precedes_none s _) same))
+
+pub returns-then-self-eq0-clause-shows : goal.returns-then-self-eq0-clause-shows
+returns-then-self-eq0-clause-shows g c = λ s root place seen suits on is.
+    subst (λ (o : Option Item). Shows s (state_of c.args.self.now.stack root place seen) c.args.self.now.left o c.end.new.self) (sym c.end.ensures.item)
+    (inl (inr (ap Err c.step_limit.ensures), c.end.ensures.over.0))
+
+pub returns-in-Err-clause-shows : goal.returns-in-Err-clause-shows
+returns-in-Err-clause-shows g c = λ s root place seen suits on is.
+    subst (λ (o : Option Item). Shows s (state_of c.args.self.now.stack root place seen) c.args.self.now.left o c.end-in-Err.new.self)
+    (sym c.end-in-Err.ensures.item) (inl (inl (ap Err problem_of-Memory), c.end-in-Err.ensures.over.0))
+
+pub returns-in-Some-take_made-clause-shows : goal.returns-in-Some-take_made-clause-shows
+returns-in-Some-take_made-clause-shows g c = λ s root place seen suits on is.
+    let f = c.in_default.ensures.first s root place seen is in
+    let i = c.loop-self.invariant.shows s f.root f.place f.seen suits f.is in
+    let b = i.2 in
+    let ground = subst (λ (ground : Ground _ _). IsGroundOf g.F.Files g.S.Callbacks ground s) (sym c.loop-self.invariant.ground) suits in
+    let step = c.in-Ok.ensures.advanced s b.root b.place b.seen ground (c.is_done.ensures.work c.loop-self-test.true) b.is in
+    let h = c.in-Some-take_made.ensures.first s step.root step.place step.seen step.is in
+    inr (
+      suc i.0,
+      omega (i.1, c.if-self-eq0.false, arith),
+      c.loop-self.invariant.ended ∙ on,
+      becomes_by s _ _ _ h (λ t same.
+          subst (λ (u : State). Precedes s u (item_of c.in-Some-take_made.item ∷ []) (suc i.0) t) (sym f.by)
+          (precedes_first s _ _ t _ (suc i.0) (precedes_step s _ _ _ [] i.0 b.by step.by) same)),
+    )
+
+pub returns-clause-shows : goal.returns-clause-shows
+returns-clause-shows g c = λ s root place seen suits on is.
+    let f = c.in_default.ensures.first s root place seen is in
+    let i = c.loop-self.invariant.shows s f.root f.place f.seen suits f.is in
+    let b = i.2 in
+    let end = c.is_done.ensures.nothing c.loop-self-test.false (c.loop-self.invariant.ended ∙ on) c.loop-self.invariant.made s b.root b.place b.seen in
+    let sum = i.1 in
+    (0 + i.0, omega (sum, arith), subst (λ (u : State). Remains s u [] (0 + i.0)) (sym f.by) (b.by [] 0 end))

@@ -5,9 +5,14 @@ use Rattle.ignore_base.specs.Problem.{io, memory}
 use Rattle.ignore_walk.specs.Entry.{Item, item_of}
 use Rattle.ignore_base.specs.declared.error.Error.{Error}
 use Rattle.ignore_walk.specs.GoesOn.{AllGoOn}
+use Rattle.ignore_walk.specs.Moves.{IsAfter}
+use Rattle.ignore_walk.specs.Suits.{IsGroundOf}
 use Rattle.ignore_walk.specs.declared.entry.DirEntry.{DirEntry}
+use Rattle.ignore_walk.specs.declared.ground.Ground.{Ground}
+use Rattle.ignore_walk.proofs.MoveLemmas.{after_all, after_more, after_none}
 use Rattle.ignore_walk.proofs.NoEndLemmas.{more_go_on}
 use Rattle.ignore_walk.proofs.PaceLemmas.{both_steps, no_step, same_steps}
+use Rattle.ignore_walk.proofs.StandLemmas.{becomes_by}
 use Rattle.ignore_walk.proofs.walk.Walk.all_items.Goals as goal
 
 pub returns-then-self-clause-ended : goal.returns-then-self-clause-ended
@@ -36,6 +41,12 @@ pub loop-item-init : goal.loop-item-init
 loop-item-init g c = record {
   remaining = λ s items n r.
       (items, n, sym (ap (λ (l : List (Result DirEntry Error)). map item_of l ++ items) c.new-all.ensures.items), refl, r);
+  exists = λ s roots starts.
+      let none = sym (ap (λ (l : List (Result DirEntry Error)). map item_of l) c.new-all.ensures.items) in (
+        0,
+        omega arith,
+        becomes_by s _ _ _ starts.whole (λ t h. subst (λ (front : List Item). IsAfter s roots front 0 t) none (after_none s roots t h)),
+      );
   ground = refl;
   goes_on = λ on. on;
   over = λ over. (over, c.new-all.ensures.items);
@@ -45,6 +56,25 @@ loop-item-init g c = record {
 
 pub loop-item-preserved : goal.loop-item-preserved
 loop-item-preserved g c = record {
+  exists = λ s roots starts.
+      let i = c.loop-item.invariant.exists s roots starts in
+      let b = i.2 in
+      let all = map item_of c.loop-item.all.items in
+      let own = item_of c.in-Some.item in
+      let pushed : map item_of c.push.new.self.items ≡ all ++ own ∷ [] =
+      ap (map item_of) c.in_ok-push.ensures.items ∙ map-append item_of c.loop-item.all.items (c.in-Some.item ∷ []) in
+      let on = c.loop-item.invariant.goes_on starts.goes_on in
+      let suits = subst (λ (ground : Ground _ _). IsGroundOf g.F.Files g.S.Callbacks ground s) (sym c.loop-item.invariant.ground) starts.suits in
+      elim (c.in-Some.ensures.shows s b.root b.place b.seen suits on b.is) [
+        | inl e ↦ absurd (let h = sym c.if-self.false ∙ e.1 in cc (h))
+        | inr h ↦ (
+          i.0 + h.0,
+          omega (i.1, h.1, arith),
+          becomes_by s _ _ _ h.3 (λ t p.
+              subst (λ (front : List Item). IsAfter s roots front (i.0 + h.0) t) (sym pushed)
+              (after_more s roots _ t all own i.0 h.0 b.by p)),
+        )
+      ];
   goes_on = λ on. c.if-self.false;
   over = λ over. absurd (let e = c.in-Some.ensures.over (c.loop-item.invariant.over over).0 in cc (e));
   ground = c.in-Some.ensures.paced.ground ∙ c.loop-item.invariant.ground;
@@ -95,6 +125,15 @@ returns-clause-within g c = λ s items n r.
     let i = c.loop-item.invariant.remaining s items n r in
     let d = c.in_default.ensures.given s i.0 i.1 i.4 in
     omega (i.3, d.1, arith)
+
+pub returns-clause-exists : goal.returns-clause-exists
+returns-clause-exists g c = λ s roots starts.
+    let i = c.loop-item.invariant.exists s roots starts in
+    let b = i.2 in
+    let on = c.loop-item.invariant.goes_on starts.goes_on in
+    let suits = subst (λ (ground : Ground _ _). IsGroundOf g.F.Files g.S.Callbacks ground s) (sym c.loop-item.invariant.ground) starts.suits in
+    let d = c.in_default.ensures.shows s b.root b.place b.seen suits on b.is in
+    (d.0 + i.0, omega (i.1, d.1, arith), after_all s roots _ _ i.0 d.0 b.by d.2)
 
 pub returns-then-self-clause-limited : goal.returns-then-self-clause-limited
 returns-then-self-clause-limited g c = λ on is.

@@ -1,6 +1,6 @@
 use Rattle.std.proofs.Common.{ℕ, List, [], length, refl, sym, ◌∙◌, ap, subst}
 use Rattle.ignore_walk.specs.Whole.{WalkedRoots}
-use Rattle.ignore_walk.proofs.StandLemmas.{stand_whole}
+use Rattle.ignore_walk.proofs.StandLemmas.{stand_first, stand_whole}
 use Rattle.ignore_walk.proofs.NoEndLemmas.{none_go_on}
 use Rattle.ignore_walk.proofs.PaceLemmas.{work_first}
 use Rattle.ignore_walk.proofs.walk.Walk.new.Goals as goal
@@ -11,6 +11,13 @@ returns-clause-whole g c = λ s items n suits whole. record {
   goes_on = refl;
   stands = stand_whole s _ items n (c.from_vec-2.ensures.items ∙ c.new-4.ensures.items) c.new-3.ensures.items c.new.ensures.items
       (subst (λ (roots : List (List ℕ)). WalkedRoots s [] roots items n) (sym c.from_vec.ensures.items) whole);
+}
+
+pub returns-clause-starts : goal.returns-clause-starts
+returns-clause-starts g c = λ s suits. record {
+  suits = suits;
+  goes_on = refl;
+  whole = stand_first s _ _ (c.from_vec-2.ensures.items ∙ c.new-4.ensures.items) c.new-3.ensures.items c.new.ensures.items c.from_vec.ensures.items;
 }
 
 pub returns-clause-begins : goal.returns-clause-begins

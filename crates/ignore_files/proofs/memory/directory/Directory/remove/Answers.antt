@@ -1,7 +1,7 @@
 use Rattle.std.proofs.Common.{rules, not, None, bytes_eq, cond, sym, ap, ◌∙◌}
 use Rattle.std.proofs.lemmas.Fn.{filter_same}
 use Rattle.std.proofs.lemmas.Map.Text.{btree_map_updates_text}
-use Rattle.ignore_files.specs.Entries.{named}
+use Rattle.ignore_files.specs.Entries.{node_named}
 use Rattle.ignore_files.specs.Removed.{is_under}
 use Rattle.ignore_files.proofs.RemovedLemmas.{named_without}
 use Rattle.ignore_files.proofs.memory.directory.Directory.remove.Goals as goal
@@ -19,4 +19,4 @@ invariant_of-self c = λ q.
     btree_map_updates_text name fields.by_name c.remove.new.self None c.remove.ensures.updates q
     ∙ ap (cond (bytes_eq name q) None) (c.self.invariant q)
     ∙ sym (named_without q name fields.entries.items)
-    ∙ ap (named q) (sym kept)
+    ∙ ap (node_named q) (sym kept)

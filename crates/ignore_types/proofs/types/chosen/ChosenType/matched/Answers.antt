@@ -7,7 +7,7 @@ use Rattle.std.proofs.lemmas.Option.{slice_get_within}
 use Rattle.ignore_base.specs.declared.match_result.Match.TheVariants as match
 use Rattle.ignore_set.specs.Sets.{IsLastMatch}
 use Rattle.ignore_types.specs.TypeIndex.{name_member}
-use Rattle.ignore_types.specs.TypeMatch.{Chosen, last_place, verdict_of}
+use Rattle.ignore_types.specs.TypeMatch.{Chosen, last_place, match_by_glob}
 use Rattle.ignore_types.proofs.TypeAnswers.{last_found}
 use Rattle.ignore_types.proofs.types.chosen.ChosenType.matched.Goals as goal
 
@@ -18,9 +18,9 @@ returns-in-Some c =
     c.in_ok-place.ensures.value in
     let same = c.deref.ensures.value ∙ ap (λ (t : Chosen). t.readings) c.self.view_is in
     c.verdict.ensures
-    ∙ (ap (λ o. option_map_or (verdict_of c.args.self.now) o match.None)
+    ∙ (ap (λ o. option_map_or (match_by_glob c.args.self.now) o match.None)
     (last_found c.matching_is_decided.ensures name c.deref.result.now (Some c.in-Some.place) found)
-    ∙ ap (λ rs. option_map_or (verdict_of c.args.self.now) (last_place name rs) match.None) same)
+    ∙ ap (λ rs. option_map_or (match_by_glob c.args.self.now) (last_place name rs) match.None) same)
 
 pub returns-in-None : goal.returns-in-None
 returns-in-None c =
@@ -28,9 +28,9 @@ returns-in-None c =
     let found = subst (λ (o : Option ℕ). IsLastMatch name false (map name_member c.deref.result.now) o) c.in-None.is
     c.in_ok-place.ensures.value in
     let same = c.deref.ensures.value ∙ ap (λ (t : Chosen). t.readings) c.self.view_is in
-    ap (λ o. option_map_or (verdict_of c.args.self.now) o match.None)
+    ap (λ o. option_map_or (match_by_glob c.args.self.now) o match.None)
     (last_found c.matching_is_decided.ensures name c.deref.result.now None found)
-    ∙ ap (λ rs. option_map_or (verdict_of c.args.self.now) (last_place name rs) match.None) same
+    ∙ ap (λ rs. option_map_or (match_by_glob c.args.self.now) (last_place name rs) match.None) same
 
 pub verdict-requires : goal.verdict-requires
 verdict-requires c =

@@ -1,0 +1,22 @@
+-- What holds of the list of the definition that a builder's walk has in a tree, and of its scenes.
+use Rattle.std.specs.Prelude.{ℕ, List}
+use Rattle.ignore_dir.specs.declared.outside.Outside.{Outside}
+use Rattle.ignore_files.specs.declared.env.Env.{Env}
+use Rattle.ignore_files.specs.Tree.{Tree}
+use Rattle.ignore_walk.specs.Entry.{Item}
+use Rattle.ignore_walk.specs.Scene.{Scene}
+use Rattle.ignore_walk.specs.Whole.{Whole}
+use Rattle.ignore.specs.declared.options.WalkOptions.{WalkOptions}
+use Rattle.ignore.specs.Asked.{IsOutside}
+
+-- `Holds` is so of the list of the definition, and of the number of its steps, by options, in a
+-- tree: there are rules from outside, as they were read, by which it holds for what the roots give
+-- in each scene of these rules (`IsScene`)
+abbrev pub ForItsList : (Outside → Scene → Type 0) → Env → WalkOptions → Tree → (Scene → List Item → ℕ → Type 0) → Type 0
+ForItsList IsScene env b tree Holds =
+    (o : Outside) × IsOutside tree env b o
+    × ((g : Scene) (items : List Item) (n : ℕ) → IsScene o g → Whole g b.roots items n → Holds g items n)
+
+-- `Holds` is so of each scene of a builder's walk in a tree, by rules from outside as they were read
+abbrev pub InItsScenes : (Outside → Scene → Type 0) → Env → WalkOptions → Tree → (Scene → Type 0) → Type 0
+InItsScenes IsScene env b tree Holds = (o : Outside) × IsOutside tree env b o × ((g : Scene) → IsScene o g → Holds g)
