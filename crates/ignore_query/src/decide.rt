@@ -10,6 +10,7 @@ ghost use Rattle.ignore_dir.specs.Soft.{AllSoft};
 ghost use Rattle.ignore_files.specs.Tree.{Tree};
 ghost use Rattle.ignore_query.specs.declared.kept.Kept as kept;
 ghost use Rattle.ignore_query.specs.Agrees.{Agrees, IsNext, is_loaded};
+ghost use Rattle.ignore_query.specs.KeptLoads.{KeepsLoads};
 ghost use Rattle.ignore_query.specs.Needs.{KeepsNeeded, Stays, is_known, needed};
 ghost use Rattle.ignore_query.specs.Reached.{scene_of};
 ghost use Rattle.ignore_query.specs.Reports.{new_above, new_below};
@@ -37,6 +38,7 @@ impl Cache {
     ) -> Result<Verdict, AllocError>
         requires named { list_all is_proper (components path.now) ≡ true }
         ensures stays { Stays self.old self.new }
+        ensures loaded { KeepsLoads F.Files call.now.files.now call.now.asked.now self.old self.new }
         ensures kept { WhereAsked F.Files call.now self.old path.now (λ g.
             OnOk result (KeepsNeeded (needed g (components path.now)) self.old self.new)) }
         ensures agrees { WhereAsked F.Files call.now self.old path.now (λ g.
@@ -69,6 +71,7 @@ impl Cache {
     ) -> Result<Kept, AllocError>
         requires named { list_all is_proper (components path.now) ≡ true }
         ensures stays { Stays self.old self.new }
+        ensures loaded { KeepsLoads F.Files call.now.files.now call.now.asked.now self.old self.new }
         ensures kept { WhereAsked F.Files call.now self.old path.now (λ g.
             OnOk result (KeepsNeeded (needed g (components path.now)) self.old self.new)) }
         ensures agrees { WhereAsked F.Files call.now self.old path.now (λ g.
