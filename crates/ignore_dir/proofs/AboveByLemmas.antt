@@ -20,7 +20,7 @@ are-more Stat Read s [] (x ∷ loads) path l h k = absurd h
 are-more Stat Read s (p ∷ paths) [] path l h k = absurd h
 are-more Stat Read s (p ∷ paths) (x ∷ loads) path l h k = (h.0, are-more Stat Read s paths loads path l h.1 k)
 
-are-length : (Stat : Stats) (Read : Reads) (s : Settings) (paths : List (List ℕ)) (loads : List Loaded)
+pub are-length : (Stat : Stats) (Read : Reads) (s : Settings) (paths : List (List ℕ)) (loads : List Loaded)
     → AreLoadsBy Stat Read s paths loads → length loads ≡ length paths
 are-length Stat Read s [] [] h = refl
 are-length Stat Read s [] (x ∷ loads) h = absurd h

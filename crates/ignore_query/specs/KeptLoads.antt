@@ -1,10 +1,12 @@
 -- What is kept of directories is loaded by answers of files, consistent with a tree or not.
-use Rattle.std.specs.Prelude.{◌≡◌, ◌+◌, All, List, Option, None, Some, length, string_bytes}
+use Rattle.std.specs.Prelude.{◌≡◌, ◌+◌, true, false, All, List, Option, None, Some, length, reverse, string_bytes}
 use Rattle.ignore_base.specs.Text.{Bytes}
 use Rattle.ignore_base.specs.Paths.{IsName}
 use Rattle.ignore_base.specs.Problem.{Problem}
 use Rattle.ignore_dir.specs.Above.{path_along}
+use Rattle.ignore_dir.specs.AboveBy.{IsAboveBy}
 use Rattle.ignore_dir.specs.Chains.{slashed}
+use Rattle.ignore_dir.specs.Lists.{Placed}
 use Rattle.ignore_dir.specs.LoadsBy.{LoadsBy, reads_of, stats_of}
 use Rattle.ignore_dir.specs.declared.dir.Dir.{Dir}
 use Rattle.ignore_files.specs.declared.files.Files.{Ghosts as Files}
@@ -14,7 +16,7 @@ use Rattle.ignore_query.specs.declared.asked.Asked.{Asked}
 use Rattle.ignore_query.specs.declared.kept.Cache.{Cache}
 use Rattle.ignore_query.specs.declared.kept.Kept.{Kept}
 use Rattle.ignore_query.specs.declared.kept.Kept.TheVariants.{Ignored, Loaded}
-use Rattle.ignore_query.specs.Agrees.{IsNext}
+use Rattle.ignore_query.specs.Agrees.{IsNext, StandsFor}
 use Rattle.ignore_query.specs.Listed.{kept_at}
 
 -- the directory with these names was loaded whole, by answers that these files may give, and is
@@ -28,11 +30,20 @@ pub record IsKeptLoad {F : Type 0} (files : Files F) (f : F) (a : Asked) (c : Ca
   pub next : IsNext c names parent
   pub added : IsAdded (slots_of c.levels) dir parent (length (string_bytes c.base) + length (slashed names)) place
 
--- each directory that is kept now, not as ignored, and wasn't kept before, was loaded so
-abbrev pub KeepsLoads : {F : Type 0} → Files F → F → Asked → Cache → Cache → Type 0
-KeepsLoads files f a old new =
-    (names : List Bytes) (place : Option Place) → All IsName names → kept_at old names ≡ None → kept_at new names ≡ Some (Loaded place)
-    → IsKeptLoad files f a new names place
+-- what is above the root was loaded whole, by answers that these files may give, and is kept at its
+-- place
+pub record IsKeptAbove {F : Type 0} (files : Files F) (f : F) (a : Asked) (c : Cache) : Type 0 where
+  pub dirs : List Placed
+  pub reported : List (Option Problem)
+  pub loads : IsAboveBy files f a.settings (string_bytes a.root) dirs (string_bytes c.base) reported
+  pub stands : StandsFor c c.above (reverse dirs)
+
+-- what is kept now and wasn't kept before was loaded so: what is above the root, and each directory
+-- that isn't kept as ignored
+pub record KeepsLoads {F : Type 0} (files : Files F) (f : F) (a : Asked) (old new : Cache) : Type 0 where
+  pub above : old.has_above ≡ false → new.has_above ≡ true → IsKeptAbove files f a new
+  pub dirs : (names : List Bytes) (place : Option Place) → All IsName names → kept_at old names ≡ None
+      → kept_at new names ≡ Some (Loaded place) → IsKeptLoad files f a new names place
 
 -- what was found of a directory with these names, in one that stands at a place: that it is ignored,
 -- or a place after a load

@@ -49,7 +49,7 @@ returns-in-not-needs_above-clause-answered g c =
       subst (λ b. AreNamesBy b (λ answer. g.F.Files.canonical_gives files root (as_answer answer)) [])
           (sym (sym c.needs_above.ensures ∙ c.if-not-needs_above.true)) refl,
       along-none (stats_of g.F.Files files) (reads_of g.F.Files files) s a.dirs.items (string_bytes a.base)
-          (map (option_map problem_of) a.errors.items) h.0 h.1.1 (ap (map (option_map problem_of)) h.1.0),
+          (map (option_map problem_of) a.errors.items) h.0 h.2 (ap (map (option_map problem_of)) h.1),
     ))
     c.new.ensures.value
 
@@ -66,7 +66,7 @@ returns-in-Err-clause-answered g c =
       subst (λ b. AreNamesBy b (λ answer. g.F.Files.canonical_gives files root (as_answer answer)) [])
           (sym (sym c.needs_above.ensures ∙ c.if-not-needs_above.false)) (Err c.in-Err.x, gives, refl),
       along-none (stats_of g.F.Files files) (reads_of g.F.Files files) s a.dirs.items (string_bytes a.base)
-          (map (option_map problem_of) a.errors.items) h.0 h.1.1 (ap (map (option_map problem_of)) h.1.0),
+          (map (option_map problem_of) a.errors.items) h.0 h.2 (ap (map (option_map problem_of)) h.1),
     ))
     c.new.ensures.value
 

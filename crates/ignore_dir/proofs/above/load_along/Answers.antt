@@ -1,5 +1,5 @@
 use Rattle.std.proofs.Common.{◌≡◌, ◌++◌, [], ◌∷◌, ◌+◌, take, get_or, map, ℕ, List, codes, sym, ap, ◌∙◌, append_assoc, subst}
-use Rattle.std.proofs.Common.{All, Bor, length}
+use Rattle.std.proofs.Common.{All, Bor, length, rules}
 use Rattle.std.proofs.lemmas.List.{map_more}
 use Rattle.std.proofs.lemmas.List.Elements.{All-push}
 use Rattle.std.specs.Option.{option_map}
@@ -12,11 +12,27 @@ use Rattle.ignore_dir.specs.AboveBy.{AreAlongBy}
 use Rattle.ignore_dir.specs.Lists.{IsAfterSlash, Placed}
 use Rattle.ignore_dir.specs.LoadsBy.{reads_of, stats_of}
 use Rattle.ignore_dir.specs.Soft.{IsSoft}
-use Rattle.ignore_dir.proofs.AboveByLemmas.{along-more}
+use Rattle.ignore_dir.proofs.AboveByLemmas.{along-more, along-none}
 use Rattle.ignore_dir.proofs.AboveLemmas.{above-more, path_along-more, problems-more}
 use Rattle.ignore_dir.proofs.ChainLemmas.{slashed-more}
 use Rattle.ignore_dir.proofs.SlashLemmas.{after_slash-end, after_slash-longer, placed-longer}
 use Rattle.ignore_dir.proofs.above.load_along.Goals as goal
+
+pub loop-name-init : goal.loop-name-init
+loop-name-init g c =
+    let none = c.in_ok-above.ensures.value in
+    record {
+      dir = search rules;
+      base = search rules;
+      ends = search rules;
+      placed = search rules;
+      along = along-none (stats_of g.F.Files c.args.ground.now.files.now) (reads_of g.F.Files c.args.ground.now.files.now) c.args.ground.now.settings.now
+          c.in_ok-above.above.dirs.items (string_bytes c.in_ok-above.above.base) (map (option_map problem_of) c.in_ok-above.above.errors.items)
+          none.0 none.2 (ap (map (option_map problem_of)) none.1);
+      soft = search rules;
+      dirs = search rules;
+      errors = search rules;
+    }
 
 pub loop-name-preserved : goal.loop-name-preserved
 loop-name-preserved g c =

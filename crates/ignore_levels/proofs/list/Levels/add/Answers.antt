@@ -91,6 +91,7 @@ returns-clause-added c = record {
     same = refl;
     there = c.in_ok-put.ensures.put c.vacant-place.ensures.vacant;
     holds = refl;
+    below = refl;
     begins = refl;
   };
   shared = λ no. absurd (false≢true (sym no ∙ (sym c.counts.ensures ∙ c.if-not-counts.false)));

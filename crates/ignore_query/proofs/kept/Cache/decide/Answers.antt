@@ -13,9 +13,7 @@ use Rattle.ignore_query.specs.Reports.{new_above, new_below}
 use Rattle.ignore_query.proofs.KnownLemmas.{keeps_known, known_above, none_above, none_below}
 use Rattle.ignore_query.proofs.NeedLemmas.{keeps_after, stays_then}
 use Rattle.ignore_query.proofs.QueryLemmas.{ok_then, same_below, some_value}
-use Rattle.std.specs.BTreeMap.{get_by_text}
-use Rattle.ignore_dir.specs.Chains.{slashed}
-use Rattle.ignore_query.proofs.KeptLoadLemmas.{loads_same, loads_then}
+use Rattle.ignore_query.proofs.KeptLoadLemmas.{loads_then}
 use Rattle.ignore_query.proofs.kept.Cache.decide.Goals as goal
 
 pub returns-in-Some-clause-kept : goal.returns-in-Some-clause-kept
@@ -92,14 +90,7 @@ returns-clause-from_kept g c = λ tree loads agrees proper all.
     (subst (λ (x : Cache). x.has_above ≡ true) back has) (subst (λ x. is_known scene x names ≡ true) back all) in
     (r.0 ∙ k.0, (r.1.0 ∙ k.1, r.1.1))
 
-pub returns-in_err-keep_above-clause-loaded : goal.returns-in_err-keep_above-clause-loaded
-returns-in_err-keep_above-clause-loaded g c =
-    loads_same g.F.Files c.args.call.now.files.now c.args.call.now.asked.now c.args.self.now c.keep_above.new.self
-    (λ q. ap (λ d. get_by_text d.map (slashed q)) c.keep_above.ensures.same)
-
 pub returns-clause-loaded : goal.returns-clause-loaded
 returns-clause-loaded g c =
     loads_then g.F.Files c.args.call.now.files.now c.args.call.now.asked.now c.args.self.now c.keep_above.new.self c.rules_verdict.new.self
-    (loads_same g.F.Files c.args.call.now.files.now c.args.call.now.asked.now c.args.self.now c.keep_above.new.self
-    (λ q. ap (λ d. get_by_text d.map (slashed q)) c.keep_above.ensures.same))
-    c.rules_verdict.ensures.stays (c.rules_verdict.ensures.loaded c.in_ok-keep_above.ensures.kept)
+    c.in_ok-keep_above.ensures.loaded c.rules_verdict.ensures.stays (c.rules_verdict.ensures.loaded c.in_ok-keep_above.ensures.kept)

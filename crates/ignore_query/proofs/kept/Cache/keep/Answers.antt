@@ -129,7 +129,7 @@ insert-requires g c = record { named = subst IsKey (sym c.in_ok-text.ensures.ok)
 pub returns-in_err-kept-clause-loaded : goal.returns-in_err-kept-clause-loaded
 returns-in_err-kept-clause-loaded g c = λ names clean key next.
     loads_same g.F.Files c.args.call.now.files.now c.args.call.now.asked.now c.args.self.now c.find.new.self
-    (λ q. ap (λ d. get_by_text d.map (slashed q)) c.find.ensures.dirs)
+    c.find.ensures.above.0 (λ q. ap (λ d. get_by_text d.map (slashed q)) c.find.ensures.dirs)
 
 pub returns-in_err-insert-clause-loaded : goal.returns-in_err-insert-clause-loaded
 returns-in_err-insert-clause-loaded g c = λ names clean key next.
@@ -137,7 +137,7 @@ returns-in_err-insert-clause-loaded g c = λ names clean key next.
     let mid = c.find.new.self in
     let after : Cache = record mid { dirs = c.insert.new.self } in
     loads_same g.F.Files c.args.call.now.files.now c.args.call.now.asked.now before after
-    (λ q. c.in_err-insert.ensures.unchanged (slashed q) ∙ ap (λ d. get_by_text d.map (slashed q)) c.find.ensures.dirs)
+    c.find.ensures.above.0 (λ q. c.in_err-insert.ensures.unchanged (slashed q) ∙ ap (λ d. get_by_text d.map (slashed q)) c.find.ensures.dirs)
 
 pub returns-clause-loaded : goal.returns-clause-loaded
 returns-clause-loaded g c = λ names clean key next.

@@ -18,8 +18,7 @@ use Rattle.ignore_query.proofs.KnownLemmas.{keeps_known, known_above, last_of, n
 use Rattle.ignore_query.proofs.NeedLemmas.{keeps_after, stays_then}
 use Rattle.ignore_query.proofs.QueryLemmas.{ok_then, same_below}
 use Rattle.ignore_query.proofs.WhyLemmas.{parent_next, parent_says}
-use Rattle.ignore_dir.specs.Chains.{slashed}
-use Rattle.ignore_query.proofs.KeptLoadLemmas.{loads_same, loads_then}
+use Rattle.ignore_query.proofs.KeptLoadLemmas.{loads_then}
 use Rattle.ignore_query.proofs.kept.Cache.keep_for.Goals as goal
 
 pub returns-in-Some-clause-kept : goal.returns-in-Some-clause-kept
@@ -135,19 +134,7 @@ keep_way-requires g c =
       named = subst (All IsName) (sym is) (names-components c.args.path.now c.requires.named);
     }
 
-pub returns-in_err-keep_above-clause-loaded : goal.returns-in_err-keep_above-clause-loaded
-returns-in_err-keep_above-clause-loaded g c =
-    loads_same g.F.Files c.args.call.now.files.now c.args.call.now.asked.now c.args.self.now c.keep_above.new.self
-    (λ q. ap (λ d. get_by_text d.map (slashed q)) c.keep_above.ensures.same)
-
-pub returns-in_err-names-clause-loaded : goal.returns-in_err-names-clause-loaded
-returns-in_err-names-clause-loaded g c =
-    loads_same g.F.Files c.args.call.now.files.now c.args.call.now.asked.now c.args.self.now c.keep_above.new.self
-    (λ q. ap (λ d. get_by_text d.map (slashed q)) c.keep_above.ensures.same)
-
 pub returns-clause-loaded : goal.returns-clause-loaded
 returns-clause-loaded g c =
     loads_then g.F.Files c.args.call.now.files.now c.args.call.now.asked.now c.args.self.now c.keep_above.new.self c.keep_way.new.self
-    (loads_same g.F.Files c.args.call.now.files.now c.args.call.now.asked.now c.args.self.now c.keep_above.new.self
-    (λ q. ap (λ d. get_by_text d.map (slashed q)) c.keep_above.ensures.same))
-    c.keep_way.ensures.stays (c.keep_way.ensures.loaded c.in_ok-keep_above.ensures.kept)
+    c.in_ok-keep_above.ensures.loaded c.keep_way.ensures.stays (c.keep_way.ensures.loaded c.in_ok-keep_above.ensures.kept)

@@ -54,7 +54,7 @@ loop-name-init g c =
       soft = λ h. h;
       loaded = λ rooted. record {
         next = record { rooted = rooted; top = λ e. refl; inside = λ front name is. absurd (no_last front name is) };
-        loads = loads_same g.F.Files c.args.call.now.files.now c.args.call.now.asked.now c.args.self.now c.args.self.now (λ q. refl);
+        loads = loads_same g.F.Files c.args.call.now.files.now c.args.call.now.asked.now c.args.self.now c.args.self.now refl (λ q. refl);
       };
       asked = λ tree loads honest are agrees clean rooted. record {
         agrees = agrees;
