@@ -103,6 +103,9 @@ loads_same files f a old new rooted same =
           let is : None ≡ Some (Loaded place) = sym none ∙ (sym (same names) ∙ now) in absurd (cc (is));
     }
 
+pub loads_nothing : {F : Type 0} (files : Files F) (f : F) (a : Asked) (c : Cache) → KeepsLoads files f a c c
+loads_nothing files f a c = loads_same files f a c c refl (λ names. refl)
+
 -- one after another
 pub loads_then : {F : Type 0} (files : Files F) (f : F) (a : Asked) (old mid new : Cache) → KeepsLoads files f a old mid
     → Stays mid new → KeepsLoads files f a mid new → KeepsLoads files f a old new

@@ -29,6 +29,7 @@ use std::alloc::AllocError;
 impl Cache {
     /// What the rules say of a path of names below a root that is a directory. What the answer
     /// needs is kept then: what isn't kept before is loaded.
+    #[tactic(auto, using(crate::proofs::KeptLoadLemmas::loads_nothing))]
     pub(crate) fn decide<F: Files>(
         &mut self,
         call: &Call<'_, F>,
@@ -63,6 +64,7 @@ impl Cache {
 
     /// Keeps what the answer for a path of names below a root that is a directory needs. Returns
     /// what is kept of the directory in which it is, or of the first ignored one on the way.
+    #[tactic(auto, using(crate::proofs::KeptLoadLemmas::loads_nothing))]
     pub(crate) fn keep_for<F: Files>(
         &mut self,
         call: &Call<'_, F>,

@@ -96,7 +96,7 @@ impl IncrementalIgnore {
     }
 
     /// The reason of an answer, with what is wrong with what this call read.
-    #[tactic(auto, unfolding(crate::specs::Reports::reported))]
+    #[tactic(auto, using(crate::proofs::KeptLoadLemmas::loads_nothing), unfolding(crate::specs::Reports::reported))]
     fn reason<F: Files>(
         &mut self,
         files: &F,

@@ -143,7 +143,7 @@ impl IncrementalIgnore {
     ///
     /// # Errors
     /// `Error::Memory` alone. What was kept stays kept.
-    #[tactic(auto, unfolding(ignore_dir::specs::Query::query, crate::specs::Reports::reported))]
+    #[tactic(auto, using(crate::proofs::KeptLoadLemmas::loads_nothing), unfolding(ignore_dir::specs::Query::query, crate::specs::Reports::reported))]
     pub fn matched_with_errors<F: Files>(
         &mut self,
         files: &F,

@@ -130,6 +130,7 @@ impl Cache {
 
     /// Looks the directory with this key up, in one that stands at a place. Where nothing is kept
     /// of it, judges it, loads it unless it is ignored, and keeps it. Returns what is kept of it.
+    #[tactic(auto, using(crate::proofs::KeptLoadLemmas::loads_nothing))]
     fn keep<F: Files>(
         &mut self,
         call: &Call<'_, F>,
@@ -209,6 +210,7 @@ impl Cache {
 
     /// What the rules say of a path of names. Its proper ancestors are kept then, down to the first
     /// ignored one.
+    #[tactic(auto, using(crate::proofs::KeptLoadLemmas::loads_nothing))]
     pub(crate) fn rules_verdict<F: Files>(
         &mut self,
         call: &Call<'_, F>,

@@ -57,6 +57,7 @@ impl Cache {
     }
 
     /// Keeps what is above the root, which is a directory.
+    #[tactic(auto, using(crate::proofs::KeptLoadLemmas::loads_nothing))]
     pub(crate) fn keep_above<F: Files>(
         &mut self,
         call: &Call<'_, F>,

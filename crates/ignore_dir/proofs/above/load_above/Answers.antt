@@ -38,8 +38,8 @@ returns-in_ok-names-in-Ok-clause-errors g c = λ tree loads honest are.
     (λ a. map (option_map problem_of) a.errors.items ≡ problems_of_loads loads (directories_along (codes "/") ns))) names
     (c.load_along.ensures.errors tree loads honest are)
 
-pub returns-in-not-needs_above-clause-answered : goal.returns-in-not-needs_above-clause-answered
-returns-in-not-needs_above-clause-answered g c =
+pub returns-then-not-needs_above-clause-answered : goal.returns-then-not-needs_above-clause-answered
+returns-then-not-needs_above-clause-answered g c =
     let files = c.args.ground.now.files.now in
     let s = c.args.ground.now.settings.now in
     let root = c.args.root.now in
@@ -64,7 +64,7 @@ returns-in-Err-clause-answered g c =
     (λ a h. (
       [],
       subst (λ b. AreNamesBy b (λ answer. g.F.Files.canonical_gives files root (as_answer answer)) [])
-          (sym (sym c.needs_above.ensures ∙ c.if-not-needs_above.false)) (Err c.in-Err.x, gives, refl),
+          (sym (sym c.needs_above.ensures ∙ c.if-not-needs_above.false)) (Err c.in-Err.field-0, gives, refl),
       along-none (stats_of g.F.Files files) (reads_of g.F.Files files) s a.dirs.items (string_bytes a.base)
           (map (option_map problem_of) a.errors.items) h.0 h.2 (ap (map (option_map problem_of)) h.1),
     ))
