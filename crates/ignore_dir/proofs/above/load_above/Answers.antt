@@ -1,4 +1,4 @@
-use Rattle.std.proofs.Common.{◌≡◌, map, ℕ, [], List, Bool, Result, Ok, Err, codes, refl, sym, ap, ◌∙◌, subst, IfOk, option_map, string_bytes}
+use Rattle.std.proofs.Common.{◌≡◌, map, ℕ, [], List, Ok, Err, codes, refl, sym, ap, ◌∙◌, subst, IfOk, option_map, string_bytes}
 use Rattle.std.proofs.lemmas.Result.{IfOk-weaker}
 use Rattle.ignore_base.specs.Problem.{problem_of}
 use Rattle.ignore_dir.specs.Above.{canonical_names, directories_along, dirs_above, problems_of_loads}
@@ -60,7 +60,7 @@ returns-in-Err-clause-answered g c =
     let root = c.args.root.now in
     let gives = subst (g.F.Files.canonical_gives files root)
     (answer-is c.canonical.result _ c.in_ok-path.ensures.answered ∙ ap as_answer c.in-Err.is) c.canonical.ensures in
-    IfOk-weaker c.new.result _ _
+    IfOk-weaker c.new-in-Err.result _ _
     (λ a h. (
       [],
       subst (λ b. AreNamesBy b (λ answer. g.F.Files.canonical_gives files root (as_answer answer)) [])
@@ -68,7 +68,7 @@ returns-in-Err-clause-answered g c =
       along-none (stats_of g.F.Files files) (reads_of g.F.Files files) s a.dirs.items (string_bytes a.base)
           (map (option_map problem_of) a.errors.items) h.0 h.2 (ap (map (option_map problem_of)) h.1),
     ))
-    c.new.ensures.value
+    c.new-in-Err.ensures.value
 
 pub returns-in_ok-names-in-Ok-clause-answered : goal.returns-in_ok-names-in-Ok-clause-answered
 returns-in_ok-names-in-Ok-clause-answered g c =
