@@ -1,5 +1,5 @@
 -- One directory more above a root, loaded by answers.
-use Rattle.std.proofs.Common.{◌≡◌, ℕ, suc, ◌+◌, List, [], ◌∷◌, ◌++◌, length, map, Option, Result, Ok, Err, refl, sym, ap, ◌∙◌, subst, arith, codes}
+use Rattle.std.proofs.Common.{◌≡◌, ℕ, suc, ◌+◌, List, [], ◌∷◌, ◌++◌, length, map, Option, refl, sym, ap, ◌∙◌, subst, arith, codes}
 use Rattle.std.proofs.lemmas.List.{map-append, length-map}
 use Rattle.ignore_base.specs.Problem.{Problem}
 use Rattle.ignore_dir.specs.declared.dir.Dir.{Dir}
