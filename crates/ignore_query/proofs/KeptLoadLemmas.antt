@@ -1,5 +1,5 @@
 -- What is kept of directories that were loaded by answers of files.
-use Rattle.std.proofs.Common.{◌≡◌, ◌+◌, ◌⊎◌, ℕ, Bool, true, false, All, List, Option, None, Some, inl, inr, length, map, refl, reverse, string_bytes}
+use Rattle.std.proofs.Common.{◌≡◌, ◌+◌, ℕ, Bool, true, false, All, List, Option, None, Some, inl, inr, length, map, refl, reverse, string_bytes}
 use Rattle.std.proofs.Common.{sym, ap, ◌∙◌, subst, arith, codes}
 use Rattle.std.proofs.lemmas.Bool.{false≢true}
 use Rattle.std.proofs.lemmas.List.{length-map}
