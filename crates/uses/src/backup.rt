@@ -5,7 +5,7 @@ ghost use Rattle.ignore.specs.Closures.{order_of};
 ghost use Rattle.ignore.specs.FileWords.{Disk, IsHonest, IsTruthful, Tree, disk_of, tree_on};
 ghost use Rattle.ignore.specs.Headline.{Headline, IsListIn};
 ghost use Rattle.ignore.specs.WalkWords.{Agrees, AreLoads, AreMatchers, Entry, IncrementalIgnore, IsMatcherIn, IsOpen, IsYielded, Item};
-ghost use Rattle.ignore.specs.WalkWords.{QueryScene, item_of, keeps, scene_of};
+ghost use Rattle.ignore.specs.WalkWords.{Scene, item_of, keeps, scene_of};
 ghost use Rattle.ignore.specs.Words.{memory, problem_of};
 ghost use Rattle.uses.specs.Stored.{HoldsWhatTheyKeep, IsAbout};
 
@@ -110,7 +110,7 @@ pub fn is_stored<F: Files>(
     path: &str,
     is_dir: bool,
 ) -> Result<bool, Error>
-    ensures stored { (g : QueryScene) (e : Entry) (items : List Item) → IsHonest F.Files files.now g.tree → AreLoads g.tree g.settings g.loads
+    ensures stored { (g : Scene) (e : Entry) (items : List Item) → IsHonest F.Files files.now g.tree → AreLoads g.tree g.settings g.loads
         → IsOpen g → IsMatcherIn g matcher.old → Agrees (scene_of matcher.old.asked g.tree g.loads) matcher.old.cache
         → IsAbout g matcher.old path.now is_dir e items → IfOk result (λ yes. (yes ≡ true) ↔ IsYielded items e) }
     ensures out_of_memory { IfErr result (λ e. problem_of e ≡ memory) }
