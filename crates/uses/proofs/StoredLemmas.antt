@@ -7,6 +7,11 @@ use Rattle.ignore.specs.WalkWords.{Item, Order, Outside, Scene, Whole, answer_at
 use Rattle.ignore.specs.declared.options.WalkOptions.{WalkOptions}
 use Rattle.uses.specs.Stored.{HoldsWhatTheyKeep, IsAbout}
 
+-- the list of the definition, written otherwise
+pub list_of : {S : Type 0} (calls : Callbacks S) (owner : S) (env : Env) (b : WalkOptions) (order : Order) (tree : Tree)
+    (all held : List Item) → all ≡ held → IsListIn calls owner env b order tree all → IsListIn calls owner env b order tree held
+list_of calls owner env b order tree all held same list = subst (IsListIn calls owner env b order tree) same list
+
 pub holds : {S : Type 0} (calls : Callbacks S) (owner : S) (env : Env) (b : WalkOptions) (order : Order) (tree : Tree)
     (ms : List IncrementalIgnore) (all held : List Item) → all ≡ held → IsListIn calls owner env b order tree all
     → ((o : Outside) (g : Scene) (e : Entry) (items : List Item) (n : ℕ) → IsOutside tree env b o
