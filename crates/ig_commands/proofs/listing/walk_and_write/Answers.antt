@@ -1,0 +1,46 @@
+use Rattle.std.proofs.Common.{inr, map}
+use Rattle.std.proofs.lemmas.Result.{IfErr-weaker, IfOk-weaker}
+use Rattle.ignore_walk.specs.Entry.{item_of}
+use Rattle.commands.proofs.WalkLemmas.{within}
+use Rattle.ig_commands.specs.Listing.{listing}
+use Rattle.ig_commands.proofs.listing.walk_and_write.Goals as goal
+
+pub returns-clause-lists : goal.returns-clause-lists
+returns-clause-lists g c =
+    IfOk-weaker c.write_items.result _ _
+    (λ seen h. (
+      map item_of h.0,
+      h.2,
+      λ tree honest.
+          let w = c.in-Ok.ensures.whole tree honest in (
+            w.0,
+            w.1,
+            w.2,
+            λ loads items n are whole.
+                let scene = listing c.args.options.now c.args.walk tree loads w.1 in
+                within (map item_of h.0) items c.in-Ok.steps.left n c.in-Ok.ensures.limit h.2.enough
+                (c.a_run_yields_the_list.ensures scene c.in-Ok.steps h.0 items n h.1 (w.3 loads items n are whole)),
+          ),
+    ))
+    c.write_items.ensures.lists
+
+-- what was written before the item that ended it is of a beginning of the walk's items
+pub returns-clause-ended : goal.returns-clause-ended
+returns-clause-ended g c =
+    IfErr-weaker c.write_items.result _ _
+    (λ stop h. (
+      map item_of h.0,
+      h.4,
+      λ tree honest. inr (
+          let w = c.in-Ok.ensures.whole tree honest in (
+            w.0,
+            w.1,
+            w.2,
+            λ loads items n are whole.
+                let scene = listing c.args.options.now c.args.walk tree loads w.1 in
+                let begun = c.a_run_begins_the_list.ensures scene c.in-Ok.steps h.2 h.0 h.1 items n h.3 (w.3 loads items n are whole) in
+                (begun.rest, begun.begins),
+          )
+          ),
+    ))
+    c.write_items.ensures.ended

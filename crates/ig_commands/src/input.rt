@@ -1,0 +1,51 @@
+//! Paths from standard input.
+ghost use Rattle.std.specs.Prelude.{◌≡◌, ◌++◌, false, true, IfSome, List, OnOk};
+ghost use Rattle.ig_commands.specs.Input.{AreGiven};
+ghost use Rattle.ig_options.specs.declared.given.Given.{Given};
+
+use crate::stop::Stop;
+use ig_options::{Options, given_by};
+use std::alloc::Global;
+use std::io;
+use std::io::BufRead;
+
+/// Reads the paths of standard input, where they are to come from there: its records, which end in
+/// NUL with `-z`, and else in a newline. The last one needs no end.
+pub(crate) fn read_paths<R: BufRead + Drop>(
+    alloc: Global,
+    input: R,
+    options: &mut Options,
+) -> Result<(), Stop>
+    ensures given { options.old.stdin ≡ true → OnOk result (IfSome (R.remaining input) (λ bytes. (all : List Given) × AreGiven options.old bytes all
+        × (options.new ≡ record options.old { paths = options.new.paths }) × (options.new.paths.items ≡ options.old.paths.items ++ all))) }
+    ensures unasked { options.old.stdin ≡ false → OnOk result (options.new ≡ options.old) }
+{
+    if !options.stdin {
+        return Ok(());
+    }
+    let end = if options.null { 0u8 } else { b'\n' };
+    let mut number = 0u64;
+    for record in input.split(alloc, end) {
+        let record = match record {
+            Ok(record) => record,
+            Err(error) => return Err(read_stop(&error)),
+        };
+        number = number.saturating_add(1);
+        let Ok(given) = given_by(record, number, options.null) else {
+            return Err(Stop::Memory);
+        };
+        if options.paths.push(given).is_err() {
+            return Err(Stop::Memory);
+        }
+    }
+    Ok(())
+}
+
+/// Why a failed read ends a command.
+fn read_stop(error: &io::Error) -> Stop {
+    if error.kind() == io::ErrorKind::OutOfMemory {
+        Stop::Memory
+    } else {
+        Stop::Read
+    }
+}

@@ -1,0 +1,145 @@
+//! The run of the program, over any two writers.
+
+ghost use Rattle.std.specs.Prelude.{◌≡◌, ◌≢◌, ◌⊎◌, Ok, Err, [], IfOk, IfErr};
+ghost use Rattle.std.specs.Io.KnownBytes.{Appends};
+ghost use Rattle.ig_commands.specs.Stops.{reason, stop_status};
+
+use crate::ignored::list_ignored;
+use crate::input::read_paths;
+use crate::listing::list;
+use crate::stop::{Stop, report_stop};
+use crate::types::list_types;
+use crate::unused::list_unused;
+use crate::why::why;
+use crate::world::World;
+use crate::writing::write_stop;
+use clap::error::ErrorKind;
+use ig_options::{Options, Task, read_words};
+use ignore_base::Error;
+use ignore_files::Files;
+use ignore_types::types::TypesBuilder;
+use std::alloc::Global;
+use std::io::{BufRead, Write};
+
+/// How a run ended: its status, and whether its time is asked for.
+#[derive(Clone, Copy)]
+pub struct Ran {
+    /// The status.
+    pub status: u8,
+    /// Whether the time that it took is to be reported.
+    pub is_timed: bool,
+}
+
+/// Runs the command in the words after the program's name: lists what the rules keep, what they
+/// ignore, why, rules that decide on nothing, or the file types. `input` is read where the paths of
+/// `why` are to come from there. It returns the status.
+///
+/// # Errors
+/// Why the run ended, where that can't be written to `err`.
+pub fn run<F: Files, R: BufRead + Drop, W: Write, E: Write>(
+    world: &World<'_, F>,
+    words: &[String],
+    input: R,
+    out: &mut W,
+    err: &mut E,
+) -> Result<Ran, Stop> {
+    match read_words(world.alloc, words) {
+        Ok((task, mut options)) => {
+            let ended = match read_paths(world.alloc, input, &mut options) {
+                Ok(()) => run_task(world, task, &options, out, err),
+                Err(stop) => Err(stop),
+            };
+            Ok(Ran {
+                status: finish(ended, out, err)?,
+                is_timed: options.stats,
+            })
+        }
+        Err(error) => {
+            let ended = show(&error, out, err);
+            Ok(Ran {
+                status: finish(ended, out, err)?,
+                is_timed: false,
+            })
+        }
+    }
+}
+
+/// Ends a command that has returned its status, or why it ended early: writes what its output still
+/// keeps, and reports why the command, or that, ended early.
+///
+/// # Errors
+/// Why it ended, where that can't be written to `err`.
+pub fn finish<W: Write, E: Write>(
+    ended: Result<u8, Stop>,
+    out: &mut W,
+    err: &mut E,
+) -> Result<u8, Stop>
+    ensures kept { IfOk ended (λ given. IfOk result (λ status. (stop : Stop) × (status ≡ stop_status stop)
+        × Appends (E.contents err.old) (E.contents err.new) (reason stop))
+        ⊎ ((result ≡ Ok given) × Appends (E.contents err.old) (E.contents err.new) [])) }
+    ensures reported { IfErr ended (λ stop. IfOk result (λ status. (status ≡ stop_status stop)
+        × Appends (E.contents err.old) (E.contents err.new) (reason stop))) }
+    ensures unreported { IfErr result (λ stop. stop ≢ Stop.Closed) }
+{
+    match flushed(ended, out) {
+        Ok(status) => Ok(status),
+        Err(stop) => report_stop(err, stop),
+    }
+}
+
+/// Writes what an output still keeps, after a command that didn't end early.
+fn flushed<W: Write>(ended: Result<u8, Stop>, out: &mut W) -> Result<u8, Stop>
+    ensures ended { IfErr ended (λ stop. result ≡ Err stop) }
+    ensures status { IfOk ended (λ status. (result ≡ Ok status) ⊎ ((result ≡ Err Stop.Write) ⊎ (result ≡ Err Stop.Closed))) }
+{
+    let status = ended?;
+    match out.flush() {
+        Ok(()) => Ok(status),
+        Err(error) => Err(write_stop(&error)),
+    }
+}
+
+/// Runs a command.
+fn run_task<F: Files, W: Write, E: Write>(
+    world: &World<'_, F>,
+    task: Task,
+    options: &Options,
+    out: &mut W,
+    err: &mut E,
+) -> Result<u8, Stop> {
+    let Ok(first) = default_types(world.alloc) else {
+        return Err(Stop::Memory);
+    };
+    match task {
+        Task::List => list(world, options, first, out, err),
+        Task::Ignored => list_ignored(world, options, first, out, err),
+        Task::Why => why(world, options, first, out, err),
+        Task::Unused => list_unused(world, options, first, out, err),
+        Task::Types => list_types(first, options, out, err),
+    }
+}
+
+/// The file types that exist without `--type-add`.
+fn default_types(alloc: Global) -> Result<TypesBuilder, Error> {
+    let mut builder = TypesBuilder::new(alloc);
+    builder.push_defaults()?;
+    Ok(builder)
+}
+
+/// Writes what the parser of words has to say: help and version to the output, mistakes to the
+/// errors.
+fn show<W: Write, E: Write>(error: &clap::Error, out: &mut W, err: &mut E) -> Result<u8, Stop> {
+    if error.kind() == ErrorKind::OutOfMemory {
+        return Err(Stop::Memory);
+    }
+    if error.use_stderr() {
+        return match write!(err, "{error}") {
+            Ok(()) => Ok(2),
+            Err(_) => Err(Stop::Silence),
+        };
+    }
+    match write!(out, "{error}") {
+        Ok(()) => Ok(0),
+        Err(error) => Err(write_stop(&error)),
+    }
+}
