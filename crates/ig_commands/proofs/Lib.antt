@@ -1,3 +1,5 @@
 pub mod ItemLemmas
 pub mod StopLemmas
+pub mod TurnLemmas
 pub mod WalkLemmas
+pub mod WhyLemmas

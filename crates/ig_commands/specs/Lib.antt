@@ -10,3 +10,4 @@ pub mod Why
 pub mod Ignored
 pub mod Unused
 pub mod Input
+pub mod Run

@@ -60,7 +60,7 @@ abbrev pub said_of : Code → Said
 said_of (code.NotText number) = no_text number
 said_of (code.BadlyQuoted number) = ill_quoted number
 said_of (code.Outside path) = not_below path.now
-said_of (code.Answered path e error) =
+said_of (code.Told path e error) =
     told (record {
       path = path.now;
       why = query_why_of e.reason;
@@ -79,11 +79,15 @@ written o root (told t) = if o.quiet then [] else reasoned (Some root) o.null t.
 abbrev pub record_line : ℕ → Bytes → Bytes
 record_line number what = codes "ig: path " ++ (decimal number ++ (codes " of standard input " ++ (what ++ 10 ∷ [])))
 
+-- the report of a path that isn't below the root
+abbrev pub outside_line : Path → Path → Bytes
+outside_line root path = codes "ig: " ++ (path ++ (codes ": outside of " ++ (root ++ 10 ∷ [])))
+
 -- what is reported of it
 abbrev pub reports : Path → Said → Bytes
 reports root (no_text number) = record_line number (codes "is not UTF-8")
 reports root (ill_quoted number) = record_line number (codes "is badly quoted")
-reports root (not_below path) = codes "ig: " ++ (path ++ (codes ": outside of " ++ (root ++ 10 ∷ [])))
+reports root (not_below path) = outside_line root path
 reports root (told t) = report_of t.problem
 
 -- something is reported of it
@@ -158,6 +162,10 @@ pub record AreFirst (tree : Tree) (env : Env) (b : WalkOptions) (all : List Give
 abbrev pub AreAll : Tree → Env → WalkOptions → List Given → Path → List Said → Type 0
 AreAll tree env b all root said = (f : AreFirst tree env b all root said) × (f.rest ≡ [])
 
+-- the same, or nothing is said
+abbrev pub AreBegun : Tree → Env → WalkOptions → List Given → Path → List Said → Type 0
+AreBegun tree env b all root said = (said ≡ []) ⊎ AreFirst tree env b all root said
+
 -- how many times something was reported, those of the files that are named included
 abbrev pub wrong_in : List (Option Problem) → List Said → ℕ
 wrong_in problems said = capped (counted 0 (map is_wrong said) + counted 0 (map is_known problems))
@@ -184,5 +192,5 @@ abbrev pub WhyEnds : {F : Type 0} → Files F → F → Env → Options → Draf
 WhyEnds files f env o first out err stop =
     ((b : WalkOptions) × (problems : List (Option Problem)) × (root : Path) × (said : List Said)
     × EndsAfter (flat_map (written o root) said) (flat_map report_of problems ++ flat_map (reports root) said) out err stop
-    × ((tree : Tree) → IsHonest files f tree → IsAsked tree env o first b problems × AreFirst tree env b o.paths.items root said))
+    × ((tree : Tree) → IsHonest files f tree → IsAsked tree env o first b problems × AreBegun tree env b o.paths.items root said))
     ⊎ EndsAfter [] [] out err stop

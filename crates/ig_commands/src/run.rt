@@ -1,8 +1,9 @@
 //! The run of the program, over any two writers.
-
 ghost use Rattle.std.specs.Prelude.{◌≡◌, ◌≢◌, ◌⊎◌, Ok, Err, [], IfOk, IfErr};
-ghost use Rattle.std.specs.Io.KnownBytes.{Appends};
-ghost use Rattle.ig_commands.specs.Stops.{reason, stop_status};
+ghost use Rattle.std.specs.Io.KnownBytes.{Appends, Keeps};
+ghost use Rattle.ignore_base.specs.Problem.{memory, problem_of};
+ghost use Rattle.ig_commands.specs.Run.{Does, Ends, Runs, Shows, rows_of, types_at_first};
+ghost use Rattle.ig_commands.specs.Stops.{EndsAfter, reason, stop_status};
 
 use crate::ignored::list_ignored;
 use crate::input::read_paths;
@@ -17,6 +18,7 @@ use clap::error::ErrorKind;
 use ig_options::{Options, Task, read_words};
 use ignore_base::Error;
 use ignore_files::Files;
+use ignore_types::default_types::DEFAULT_TYPES;
 use ignore_types::types::TypesBuilder;
 use std::alloc::Global;
 use std::io::{BufRead, Write};
@@ -42,7 +44,11 @@ pub fn run<F: Files, R: BufRead + Drop, W: Write, E: Write>(
     input: R,
     out: &mut W,
     err: &mut E,
-) -> Result<Ran, Stop> {
+) -> Result<Ran, Stop>
+    ensures runs { IfOk result (λ ran. Runs F.Files world.now.files.now world.now.env.now (rows_of DEFAULT_TYPES) (R.remaining input) ran.status
+        (W.contents out.old) (W.contents out.new) (E.contents err.old) (E.contents err.new)) }
+    ensures unreported { IfErr result (λ stop. stop ≢ Stop.Closed) }
+{
     match read_words(world.alloc, words) {
         Ok((task, mut options)) => {
             let ended = match read_paths(world.alloc, input, &mut options) {
@@ -74,12 +80,13 @@ pub fn finish<W: Write, E: Write>(
     out: &mut W,
     err: &mut E,
 ) -> Result<u8, Stop>
-    ensures kept { IfOk ended (λ given. IfOk result (λ status. (stop : Stop) × (status ≡ stop_status stop)
-        × Appends (E.contents err.old) (E.contents err.new) (reason stop))
-        ⊎ ((result ≡ Ok given) × Appends (E.contents err.old) (E.contents err.new) [])) }
+    ensures kept { IfOk ended (λ given. IfOk result (λ status. ((status ≡ given) × (err.new ≡ err.old))
+        ⊎ ((stop : Stop) × ((stop ≡ Stop.Write) ⊎ (stop ≡ Stop.Closed)) × (status ≡ stop_status stop)
+        × Appends (E.contents err.old) (E.contents err.new) (reason stop)))) }
     ensures reported { IfErr ended (λ stop. IfOk result (λ status. (status ≡ stop_status stop)
         × Appends (E.contents err.old) (E.contents err.new) (reason stop))) }
     ensures unreported { IfErr result (λ stop. stop ≢ Stop.Closed) }
+    ensures written { Keeps (W.contents out.old) (W.contents out.new) }
 {
     match flushed(ended, out) {
         Ok(status) => Ok(status),
@@ -91,6 +98,7 @@ pub fn finish<W: Write, E: Write>(
 fn flushed<W: Write>(ended: Result<u8, Stop>, out: &mut W) -> Result<u8, Stop>
     ensures ended { IfErr ended (λ stop. result ≡ Err stop) }
     ensures status { IfOk ended (λ status. (result ≡ Ok status) ⊎ ((result ≡ Err Stop.Write) ⊎ (result ≡ Err Stop.Closed))) }
+    ensures written { Keeps (W.contents out.old) (W.contents out.new) }
 {
     let status = ended?;
     match out.flush() {
@@ -106,7 +114,12 @@ fn run_task<F: Files, W: Write, E: Write>(
     options: &Options,
     out: &mut W,
     err: &mut E,
-) -> Result<u8, Stop> {
+) -> Result<u8, Stop>
+    ensures done { IfOk result (λ status. Does F.Files world.now.files.now world.now.env.now options.now (types_at_first (rows_of DEFAULT_TYPES)) task
+        status (Appends (W.contents out.old) (W.contents out.new)) (Appends (E.contents err.old) (E.contents err.new))) }
+    ensures ended { IfErr result (Ends F.Files world.now.files.now world.now.env.now options.now (types_at_first (rows_of DEFAULT_TYPES)) task
+        (Appends (W.contents out.old) (W.contents out.new)) (Appends (E.contents err.old) (E.contents err.new))) }
+{
     let Ok(first) = default_types(world.alloc) else {
         return Err(Stop::Memory);
     };
@@ -120,7 +133,10 @@ fn run_task<F: Files, W: Write, E: Write>(
 }
 
 /// The file types that exist without `--type-add`.
-fn default_types(alloc: Global) -> Result<TypesBuilder, Error> {
+fn default_types(alloc: Global) -> Result<TypesBuilder, Error>
+    ensures value { IfOk result (λ types. types ≡ types_at_first (rows_of DEFAULT_TYPES)) }
+    ensures out_of_memory { IfErr result (λ e. problem_of e ≡ memory) }
+{
     let mut builder = TypesBuilder::new(alloc);
     builder.push_defaults()?;
     Ok(builder)
@@ -128,7 +144,10 @@ fn default_types(alloc: Global) -> Result<TypesBuilder, Error> {
 
 /// Writes what the parser of words has to say: help and version to the output, mistakes to the
 /// errors.
-fn show<W: Write, E: Write>(error: &clap::Error, out: &mut W, err: &mut E) -> Result<u8, Stop> {
+fn show<W: Write, E: Write>(error: &clap::Error, out: &mut W, err: &mut E) -> Result<u8, Stop>
+    ensures shows { IfOk result (λ status. Shows status (Appends (W.contents out.old) (W.contents out.new)) (Appends (E.contents err.old) (E.contents err.new))) }
+    ensures ended { IfErr result (EndsAfter [] [] (Appends (W.contents out.old) (W.contents out.new)) (Appends (E.contents err.old) (E.contents err.new))) }
+{
     if error.kind() == ErrorKind::OutOfMemory {
         return Err(Stop::Memory);
     }

@@ -1,19 +1,26 @@
 //! The command `why`: why paths are ignored or not.
-ghost use Rattle.std.specs.Prelude.{◌≡◌, ◌⊎◌, ◌×◌, List, Option, [], Some, IfErr, IfOk, OnOk, map, option_map, string_bytes};
+ghost use Rattle.std.specs.Prelude.{◌≡◌, ◌++◌, ℕ, List, [], Some, true, false, IfErr, IfOk, OnOk, map, option_map, string_bytes};
 ghost use Rattle.std.specs.Io.KnownBytes.{Appends};
 ghost use Rattle.std.specs.List.{flat_map};
-ghost use Rattle.ignore_base.specs.Paths.{join_of};
+ghost use Rattle.std.specs.Option.{option_copied};
+ghost use Rattle.ignore_base.specs.Normalize.{normalize_of};
+ghost use Rattle.ignore_base.specs.Paths.{ends_with_slash, join_of};
 ghost use Rattle.ignore_base.specs.Problem.{memory, problem_of};
 ghost use Rattle.ignore_base.specs.Text.{Path};
+ghost use Rattle.ignore_dir.specs.Load.{Loaded};
 ghost use Rattle.ignore_dir.specs.Query.{is_dir_there};
 ghost use Rattle.ignore_files.specs.Gives.{IsHonest};
 ghost use Rattle.ignore_files.specs.Tree.{Tree};
 ghost use Rattle.ignore_query.specs.Agrees.{Agrees};
 ghost use Rattle.ignore_query.specs.Fresh.{KeepsNothing};
-ghost use Rattle.ignore_query.specs.Reached.{InEachScene, dir_of};
+ghost use Rattle.ignore_query.specs.Reached.{InEachScene, dir_of, scene_of};
+ghost use Rattle.ignore_query.specs.declared.kept.Cache.{Cache};
+ghost use Rattle.ig_options.specs.declared.given.Given.{Given};
 ghost use Rattle.ig_commands.specs.Counts.{counted};
+ghost use Rattle.ig_commands.specs.Reports.{report_of};
 ghost use Rattle.ig_commands.specs.Stops.{EndsAfter};
-ghost use Rattle.ig_commands.specs.Why.{AreAll, AreFirst, AreSaid, IsMatcherOf, IsSaid, WhyAsked, WhyEnds, Writes, is_found, is_wrong, reports, said_of, written};
+ghost use Rattle.ig_commands.specs.Why.{AreAll, AreBegun, AreSaid, IsMatcherOf, IsSaid, IsSaidOf, WhyAsked, WhyEnds, Writes};
+ghost use Rattle.ig_commands.specs.Why.{is_found, is_wrong, outside_line, record_line, reports, said_of, written};
 ghost use Rattle.ig_commands.specs.Why.Said as plain;
 
 use crate::asking::{Asked, asked_for};
@@ -84,6 +91,10 @@ fn report_and_ask<F: Files, W: Write, E: Write>(
     ensures answers { IfOk result (λ status. (root : Path) × (said : List plain.Said)
         × Writes options.now (map (option_map problem_of) asked.errors.items) root said status (Appends (W.contents out.old) (W.contents out.new)) (Appends (E.contents err.old) (E.contents err.new))
         × ((tree : Tree) → IsHonest F.Files world.now.files.now tree → AreAll tree world.now.env.now asked.walk options.now.paths.items root said)) }
+    ensures ended { IfErr result (λ stop. (root : Path) × (said : List plain.Said)
+        × EndsAfter (flat_map (written options.now root) said) (flat_map report_of (map (option_map problem_of) asked.errors.items) ++ flat_map (reports root) said)
+        (Appends (W.contents out.old) (W.contents out.new)) (Appends (E.contents err.old) (E.contents err.new)) stop
+        × ((tree : Tree) → IsHonest F.Files world.now.files.now tree → AreBegun tree world.now.env.now asked.walk options.now.paths.items root said)) }
 {
     let reported = report_all(&asked.errors, err)?;
     let Ok(mut matcher) = matcher_of(world, asked.walk) else {
@@ -103,6 +114,7 @@ fn matcher_of<F: Files>(
 ) -> Result<IncrementalIgnore, Error>
     ensures asked { (tree : Tree) → IsHonest F.Files world.now.files.now tree
         → IfOk result (IsMatcherOf tree world.now.env.now walk) }
+    ensures fresh { (tree : Tree) (loads : List ℕ → Loaded) → IfOk result (λ m. Agrees (scene_of m.asked tree loads) m.cache) }
     ensures empty { IfOk result (λ m. KeepsNothing m.cache) }
     ensures out_of_memory { IfErr result (λ e. problem_of e ≡ memory) }
 {
@@ -129,6 +141,12 @@ fn ask_all<F: Files, W: Write, E: Write>(
         × (counts.reported ≡ counted 0 (map is_wrong said)) × (counts.found ≡ counted 0 (map is_found said))
         × InEachScene F.Files world.now.files.now matcher.old.asked (λ g. Agrees g matcher.old.cache
         → AreSaid g (dir_of matcher.old.asked) options.now.paths.items matcher.old.cache matcher.new.cache said)) }
+    ensures ended { IfErr result (λ stop. (said : List plain.Said) × (first rest : List Given) × (last : Cache)
+        × EndsAfter (flat_map (written options.now (string_bytes matcher.old.asked.root)) said) (flat_map (reports (string_bytes matcher.old.asked.root)) said)
+        (Appends (W.contents out.old) (W.contents out.new)) (Appends (E.contents err.old) (E.contents err.new)) stop
+        × (options.now.paths.items ≡ first ++ rest)
+        × InEachScene F.Files world.now.files.now matcher.old.asked (λ g. Agrees g matcher.old.cache
+        → AreSaid g (dir_of matcher.old.asked) first matcher.old.cache last said)) }
 {
     let mut counts = Counts::begun(0);
     for given in &options.paths {
@@ -162,23 +180,36 @@ fn ask_path<'g, F: Files>(
     world: &World<'_, F>,
     matcher: &mut IncrementalIgnore,
     path: &'g str,
-) -> Result<Said<'g>, Stop> {
+) -> Result<Said<'g>, Stop>
+    ensures said { InEachScene F.Files world.now.files.now matcher.old.asked (λ g. Agrees g matcher.old.cache
+        → IfOk result (λ s. IsSaidOf g (normalize_of (dir_of matcher.old.asked) g.root path.now) path.now matcher.old.cache matcher.new.cache (said_of s))) }
+    ensures agrees { InEachScene F.Files world.now.files.now matcher.old.asked (λ g. Agrees g matcher.old.cache → Agrees g matcher.new.cache) }
+    ensures same { matcher.new.asked ≡ matcher.old.asked }
+    ensures ended { IfErr result (λ stop. stop ≡ Stop.Memory) }
+{
     let Ok(below) = matcher.normalize(path) else {
         return Err(Stop::Memory);
     };
     let Some(below) = below else {
         return Ok(Said::Outside(path));
     };
-    let is_there = is_dir_at(world.alloc, world.files, matcher.root(), below.as_str())?;
-    let is_dir = is_there || path.ends_with('/');
+    let is_dir = is_dir_there(world.alloc, world.files, matcher.root(), below.as_str())?
+        || ends_with_slash(path);
     match matcher.explain(world.files, below.as_str(), is_dir) {
         Ok((explanation, error)) => Ok(Said::Told(path, explanation, error)),
         Err(_) => Err(Stop::Memory),
     }
 }
 
+/// Whether a path ends with a slash.
+fn ends_with_slash(path: &str) -> bool
+    ensures { result ≡ ends_with_slash path.now }
+{
+    path.ends_with('/')
+}
+
 /// Whether there is a directory at a path below a root, which isn't a link to one.
-fn is_dir_at<F: Files>(alloc: Global, files: &F, root: &str, path: &str) -> Result<bool, Stop>
+fn is_dir_there<F: Files>(alloc: Global, files: &F, root: &str, path: &str) -> Result<bool, Stop>
     ensures value { (tree : Tree) → IsHonest F.Files files.now tree
         → IfOk result (λ yes. yes ≡ is_dir_there (tree.stat (join_of root.now path.now) false)) }
     ensures ended { IfErr result (λ stop. stop ≡ Stop.Memory) }
@@ -224,7 +255,10 @@ fn write_said<W: Write, E: Write>(
 }
 
 /// How paths below a root are written.
-fn form_of<'r>(options: &Options, root: &'r str) -> Form<'r> {
+fn form_of<'r>(options: &Options, root: &'r str) -> Form<'r>
+    ensures base { option_copied result.base ≡ Some root.now }
+    ensures null { result.null ≡ options.now.null }
+{
     Form {
         base: Some(root),
         null: options.null,
@@ -238,7 +272,11 @@ const REPORTED: Seen = Seen {
 };
 
 /// Reports that a path is outside of the root.
-fn report_outside<E: Write>(path: &str, root: &str, err: &mut E) -> Result<Seen, Stop> {
+fn report_outside<E: Write>(path: &str, root: &str, err: &mut E) -> Result<Seen, Stop>
+    ensures reports { OnOk result (Appends (E.contents err.old) (E.contents err.new) (outside_line root.now path.now)) }
+    ensures seen { IfOk result (λ seen. (seen.reported ≡ true) × (seen.found ≡ false)) }
+    ensures ended { IfErr result (λ stop. stop ≡ Stop.Silence) }
+{
     match writeln!(err, "ig: {path}: outside of {root}") {
         Ok(()) => Ok(REPORTED),
         Err(_) => Err(Stop::Silence),
@@ -246,7 +284,11 @@ fn report_outside<E: Write>(path: &str, root: &str, err: &mut E) -> Result<Seen,
 }
 
 /// Reports what is wrong with a record of standard input.
-fn report_record<E: Write>(number: u64, what: &str, err: &mut E) -> Result<Seen, Stop> {
+fn report_record<E: Write>(number: u64, what: &str, err: &mut E) -> Result<Seen, Stop>
+    ensures reports { OnOk result (Appends (E.contents err.old) (E.contents err.new) (record_line number what.now)) }
+    ensures seen { IfOk result (λ seen. (seen.reported ≡ true) × (seen.found ≡ false)) }
+    ensures ended { IfErr result (λ stop. stop ≡ Stop.Silence) }
+{
     match writeln!(err, "ig: path {number} of standard input {what}") {
         Ok(()) => Ok(REPORTED),
         Err(_) => Err(Stop::Silence),

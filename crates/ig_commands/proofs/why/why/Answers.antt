@@ -1,0 +1,21 @@
+use Rattle.std.proofs.Common.{inl, inr, map, option_map}
+use Rattle.std.proofs.lemmas.Result.{IfErr-weaker, IfOk-weaker}
+use Rattle.commands.proofs.LineLemmas.{appends_nothing}
+use Rattle.ignore_base.specs.Problem.{problem_of}
+use Rattle.ig_commands.proofs.why.why.Goals as goal
+
+pub returns-in-Ok-clause-answers : goal.returns-in-Ok-clause-answers
+returns-in-Ok-clause-answers g c =
+    let b = c.in-Ok.asked.walk in
+    let problems = map (option_map problem_of) c.in-Ok.asked.errors.items in
+    IfOk-weaker c.report_and_ask.result _ _
+    (λ status h. inl (b, problems, h.0, h.1, h.2, λ tree honest. (c.in-Ok.ensures.read tree honest, h.3 tree honest)))
+    c.report_and_ask.ensures.answers
+
+pub returns-in-Ok-clause-ended : goal.returns-in-Ok-clause-ended
+returns-in-Ok-clause-ended g c =
+    let b = c.in-Ok.asked.walk in
+    let problems = map (option_map problem_of) c.in-Ok.asked.errors.items in
+    IfErr-weaker c.report_and_ask.result _ _
+    (λ stop h. inl (b, problems, h.0, h.1, h.2, λ tree honest. (c.in-Ok.ensures.read tree honest, h.3 tree honest)))
+    c.report_and_ask.ensures.ended
