@@ -7,6 +7,7 @@ pub mod Listing
 pub mod Form
 pub mod Root
 pub mod Why
+pub mod Surveys
 pub mod Ignored
 pub mod Unused
 pub mod Input

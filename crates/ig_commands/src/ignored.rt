@@ -1,8 +1,25 @@
 //! The command `ignored`: the topmost entries that are ignored.
-ghost use Rattle.std.specs.Prelude.{IfErr, IfOk};
+ghost use Rattle.std.specs.Prelude.{◌≡◌, ◌≢◌, ◌++◌, ◌∷◌, true, false, All, List, Ok, Err, Some, [], Result, Option, IfErr, IfOk, OnOk, map, option_map, string_bytes};
 ghost use Rattle.std.specs.Io.KnownBytes.{Appends};
-ghost use Rattle.ig_commands.specs.Ignored.{IgnoredAsked, IgnoredEnds};
-ghost use Rattle.std.specs.Iterator.{IsFinite};
+ghost use Rattle.std.specs.Iterator.{Drains, IsFinite, YieldsThen};
+ghost use Rattle.std.specs.List.{AllZip, flat_map};
+ghost use Rattle.ignore_base.specs.Problem.{memory, problem_of};
+ghost use Rattle.ignore_base.specs.Text.{Path};
+ghost use Rattle.ignore_base.specs.declared.error.Error.{Error};
+ghost use Rattle.ignore_files.specs.Gives.{IsHonest};
+ghost use Rattle.ignore_files.specs.Tree.{Tree};
+ghost use Rattle.ignore_query.specs.Fresh.{KeepsNothing};
+ghost use Rattle.ignore_query.specs.declared.incremental.IncrementalIgnore.{IncrementalIgnore};
+ghost use Rattle.ignore_survey.specs.Surveyed.{entry_of, item_of};
+ghost use Rattle.ignore_survey.specs.declared.surveyed.Surveyed.{Surveyed};
+ghost use Rattle.ignore.specs.Builder.{with_roots};
+ghost use Rattle.ignore.specs.Matchers.{AreMatchers};
+ghost use Rattle.commands.specs.Walking.{IsTrimmed};
+ghost use Rattle.ig_commands.specs.Counts.{counted};
+ghost use Rattle.ig_commands.specs.Ignored.{IgnoredAsked, IgnoredEnds, Writes, all_written, entry_text, is_found, written};
+ghost use Rattle.ig_commands.specs.Reports.{report_line, report_of};
+ghost use Rattle.ig_commands.specs.Stops.{EndsAfter};
+ghost use Rattle.ig_commands.specs.Surveys.{AreBegun, AreSurveys, IsBegun, IsWhole, OfMatcher, OfRoot, all_seen, is_wrong, reports, seen_of};
 
 use crate::asking::{Asked, asked_for};
 use crate::counts::{Counts, Seen, report_counts, status_of};
@@ -55,7 +72,15 @@ fn report_and_survey<F: Files, W: Write, E: Write>(
     asked: Asked,
     out: &mut W,
     err: &mut E,
-) -> Result<u8, Stop> {
+) -> Result<u8, Stop>
+    ensures lists { IfOk result (λ status. (all : List OfRoot)
+        × Writes options.now (map (option_map problem_of) asked.errors.items) all status (Appends (W.contents out.old) (W.contents out.new)) (Appends (E.contents err.old) (E.contents err.new))
+        × ((tree : Tree) → IsHonest F.Files world.now.files.now tree → asked.walk.roots ≡ [] → AreSurveys tree world.now.env.now options.now asked.walk all)) }
+    ensures ended { IfErr result (λ stop. (all : List OfRoot)
+        × EndsAfter (all_written options.now all) (flat_map report_of (map (option_map problem_of) asked.errors.items) ++ flat_map reports (all_seen all))
+        (Appends (W.contents out.old) (W.contents out.new)) (Appends (E.contents err.old) (E.contents err.new)) stop
+        × ((tree : Tree) → IsHonest F.Files world.now.files.now tree → asked.walk.roots ≡ [] → AreBegun tree world.now.env.now options.now asked.walk all)) }
+{
     let reported = report_all(&asked.errors, err)?;
     let Ok(matchers) = matchers_of(world, options, asked.walk) else {
         return Err(Stop::Memory);
@@ -74,7 +99,12 @@ pub(crate) fn matchers_of<F: Files>(
     world: &World<'_, F>,
     options: &Options,
     mut walk: WalkOptions,
-) -> Result<Vec<IncrementalIgnore>, Error> {
+) -> Result<Vec<IncrementalIgnore>, Error>
+    ensures made { (tree : Tree) → IsHonest F.Files world.now.files.now tree
+        → IfOk result (λ ms. (roots : List Path) × AllZip IsTrimmed (map string_bytes options.now.roots.items) roots
+        × AreMatchers tree world.now.env.now (with_roots walk roots) ms.items) }
+    ensures empty { IfOk result (λ ms. All (λ m. KeepsNothing m.cache) ms.items) }
+{
     for root in trimmed_roots(world.alloc, &options.roots)? {
         walk.push_root(root.as_str())?;
     }
@@ -88,23 +118,52 @@ fn survey_all<F: Files, W: Write, E: Write>(
     matchers: Vec<IncrementalIgnore>,
     out: &mut W,
     err: &mut E,
-) -> Result<Counts, Stop> {
+) -> Result<Counts, Stop>
+    ensures lists { IfOk result (λ counts. (all : List OfRoot) × AllZip (OfMatcher F.Files world.now.files.now IsWhole) matchers.items all
+        × Appends (W.contents out.old) (W.contents out.new) (all_written options.now all)
+        × Appends (E.contents err.old) (E.contents err.new) (flat_map reports (all_seen all))
+        × (counts.reported ≡ counted 0 (map is_wrong (all_seen all))) × (counts.found ≡ counted 0 (map (is_found options.now) (all_seen all)))) }
+    ensures ended { IfErr result (λ stop. (done : List OfRoot) × (last : OfRoot) × (first rest : List IncrementalIgnore) × (matcher : IncrementalIgnore)
+        × (matchers.items ≡ first ++ matcher ∷ rest) × AllZip (OfMatcher F.Files world.now.files.now IsWhole) first done
+        × OfMatcher F.Files world.now.files.now IsBegun matcher last
+        × EndsAfter (all_written options.now (done ++ last ∷ [])) (flat_map reports (all_seen (done ++ last ∷ [])))
+        (Appends (W.contents out.old) (W.contents out.new)) (Appends (E.contents err.old) (E.contents err.new)) stop) }
+{
     let mut counts = Counts::begun(0);
     for matcher in matchers {
-        let Ok(root) = String::from_str(world.alloc, matcher.root()) else {
-            return Err(Stop::Memory);
-        };
-        let Ok(survey) = Survey::new(world.alloc, world.files, matcher) else {
-            return Err(Stop::Memory);
-        };
-        let place = Place {
-            alloc: world.alloc,
-            options,
-            root: root.as_str(),
-        };
-        counts = counts.and(write_items(survey, &place, out, err)?);
+        counts = counts.and(survey_root(world, options, matcher, out, err)?);
     }
     Ok(counts)
+}
+
+/// Surveys the root of a matcher, and writes.
+fn survey_root<F: Files, W: Write, E: Write>(
+    world: &World<'_, F>,
+    options: &Options,
+    matcher: IncrementalIgnore,
+    out: &mut W,
+    err: &mut E,
+) -> Result<Counts, Stop>
+    ensures lists { IfOk result (λ counts. (r : OfRoot) × OfMatcher F.Files world.now.files.now IsWhole matcher r
+        × Appends (W.contents out.old) (W.contents out.new) (flat_map (written options.now r.0) r.1)
+        × Appends (E.contents err.old) (E.contents err.new) (flat_map reports r.1)
+        × (counts.reported ≡ counted 0 (map is_wrong r.1)) × (counts.found ≡ counted 0 (map (is_found options.now) r.1))) }
+    ensures ended { IfErr result (λ stop. (r : OfRoot) × OfMatcher F.Files world.now.files.now IsBegun matcher r
+        × EndsAfter (flat_map (written options.now r.0) r.1) (flat_map reports r.1)
+        (Appends (W.contents out.old) (W.contents out.new)) (Appends (E.contents err.old) (E.contents err.new)) stop) }
+{
+    let Ok(root) = String::from_str(world.alloc, matcher.root()) else {
+        return Err(Stop::Memory);
+    };
+    let Ok(survey) = Survey::new(world.alloc, world.files, matcher) else {
+        return Err(Stop::Memory);
+    };
+    let place = Place {
+        alloc: world.alloc,
+        options,
+        root: root.as_str(),
+    };
+    write_items(survey, &place, out, err)
 }
 
 /// Where entries are, and how they are written.
@@ -123,20 +182,50 @@ fn write_items<I: Iterator<Item = Item> + Drop, W: Write, E: Write>(
     err: &mut E,
 ) -> Result<Counts, Stop>
     requires ends { I.can_next items × IsFinite (I.remaining items) }
+    ensures lists { IfOk result (λ counts. (all : List (Result Surveyed Error)) × Drains I.next_gives items all
+        × Appends (W.contents out.old) (W.contents out.new) (flat_map (written place.now.options.now place.now.root.now) (map seen_of all))
+        × Appends (E.contents err.old) (E.contents err.new) (flat_map reports (map seen_of all))
+        × (counts.reported ≡ counted 0 (map is_wrong (map seen_of all))) × (counts.found ≡ counted 0 (map (is_found place.now.options.now) (map seen_of all)))
+        × All (λ item. item_of item ≢ Err memory) all) }
+    ensures ended { IfErr result (λ stop. (all : List (Result Surveyed Error)) × (x : Result Surveyed Error) × (v : I)
+        × YieldsThen I.next_gives items all (Some x) v
+        × EndsAfter (flat_map (written place.now.options.now place.now.root.now) (map seen_of all)) (flat_map reports (map seen_of all))
+        (Appends (W.contents out.old) (W.contents out.new)) (Appends (E.contents err.old) (E.contents err.new)) stop
+        × All (λ item. item_of item ≢ Err memory) all) }
 {
     let mut counts = Counts::begun(0);
     for item in items {
-        let seen = match item {
-            Ok(entry) => write_entry(&entry, place, out, err)?,
-            Err(error) => report_item(&error, err)?,
-        };
-        counts = counts.with(seen);
+        counts = counts.with(write_item(item, place, out, err)?);
     }
     Ok(counts)
 }
 
+/// Writes what is listed of an item, and reports what is wrong.
+fn write_item<W: Write, E: Write>(
+    item: Item,
+    place: &Place<'_>,
+    out: &mut W,
+    err: &mut E,
+) -> Result<Seen, Stop>
+    ensures writes { OnOk result (Appends (W.contents out.old) (W.contents out.new) (written place.now.options.now place.now.root.now (seen_of item))) }
+    ensures reports { OnOk result (Appends (E.contents err.old) (E.contents err.new) (reports (seen_of item))) }
+    ensures counts { IfOk result (λ seen. (seen.reported ≡ is_wrong (seen_of item)) × (seen.found ≡ is_found place.now.options.now (seen_of item))) }
+    ensures enough { OnOk result (item_of item ≢ Err memory) }
+    ensures ended { IfErr result (EndsAfter [] [] (Appends (W.contents out.old) (W.contents out.new)) (Appends (E.contents err.old) (E.contents err.new))) }
+{
+    match item {
+        Ok(entry) => write_entry(&entry, place, out, err),
+        Err(error) => report_item(&error, err),
+    }
+}
+
 /// Reports what stands in the place of an entry.
-pub(crate) fn report_item<E: Write>(error: &Error, err: &mut E) -> Result<Seen, Stop> {
+pub(crate) fn report_item<E: Write>(error: &Error, err: &mut E) -> Result<Seen, Stop>
+    ensures reports { OnOk result (Appends (E.contents err.old) (E.contents err.new) (report_line (problem_of error.now))) }
+    ensures seen { IfOk result (λ seen. (seen.reported ≡ true) × (seen.found ≡ false)) }
+    ensures enough { OnOk result (problem_of error.now ≢ memory) }
+    ensures ended { IfErr result (EndsAfter [] [] (λ bs. bs ≡ []) (Appends (E.contents err.old) (E.contents err.new))) }
+{
     if let Error::Memory = error {
         return Err(Stop::Memory);
     }
@@ -154,7 +243,13 @@ fn write_entry<W: Write, E: Write>(
     place: &Place<'_>,
     out: &mut W,
     err: &mut E,
-) -> Result<Seen, Stop> {
+) -> Result<Seen, Stop>
+    ensures writes { OnOk result (Appends (W.contents out.old) (W.contents out.new) (written place.now.options.now place.now.root.now (seen_of (Ok entry.now)))) }
+    ensures reports { OnOk result (Appends (E.contents err.old) (E.contents err.new) (reports (seen_of (Ok entry.now)))) }
+    ensures counts { IfOk result (λ seen. (seen.reported ≡ is_wrong (seen_of (Ok entry.now)))
+        × (seen.found ≡ is_found place.now.options.now (seen_of (Ok entry.now)))) }
+    ensures ended { IfErr result (EndsAfter [] [] (Appends (W.contents out.old) (W.contents out.new)) (Appends (E.contents err.old) (E.contents err.new))) }
+{
     let options = place.options;
     let found = entry.explanation.answer.is_ignore() && is_listed(options, Some(entry.file_type));
     if found && !options.quiet {
@@ -165,7 +260,10 @@ fn write_entry<W: Write, E: Write>(
 }
 
 /// Writes the path of an entry, after its reason where that is asked for.
-fn write_ignored<W: Write>(entry: &Surveyed, place: &Place<'_>, out: &mut W) -> Result<(), Stop> {
+fn write_ignored<W: Write>(entry: &Surveyed, place: &Place<'_>, out: &mut W) -> Result<(), Stop>
+    ensures writes { OnOk result (Appends (W.contents out.old) (W.contents out.new) (entry_text place.now.options.now place.now.root.now (entry_of entry.now))) }
+    ensures ended { IfErr result (EndsAfter [] [] (Appends (W.contents out.old) (W.contents out.new)) (λ bs. bs ≡ [])) }
+{
     let Ok(path) = text::join(place.alloc, place.root, entry.path.as_str()) else {
         return Err(Stop::Memory);
     };
