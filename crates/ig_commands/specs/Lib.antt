@@ -9,4 +9,5 @@ pub mod Root
 pub mod Why
 pub mod Ignored
 pub mod Unused
+pub mod Rules
 pub mod Input
