@@ -10,5 +10,6 @@ pub mod Why
 pub mod Surveys
 pub mod Ignored
 pub mod Unused
+pub mod Rules
 pub mod Input
 pub mod Run
