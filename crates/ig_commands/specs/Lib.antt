@@ -11,5 +11,6 @@ pub mod Surveys
 pub mod Ignored
 pub mod Unused
 pub mod Rules
+pub mod Found
 pub mod Input
 pub mod Run

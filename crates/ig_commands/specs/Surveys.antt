@@ -69,6 +69,10 @@ pub record AreMet (g : QueryScene) (items : List Item) (seen : List Seen) (rest 
   pub fresh : KeepsNothing old
   pub reported : AreReported g old seen new
 
+-- the survey of a scene has a list, which is no longer than a survey may be
+abbrev pub HasList : QueryScene → Type 0
+HasList g = (items : List Item) × IsSurvey g items × (length items ≤ most_items)
+
 -- these are the first items of the survey of a scene, by its list, where that is no longer than a
 -- survey may be
 abbrev pub IsBegun : QueryScene → List Seen → Type 0
