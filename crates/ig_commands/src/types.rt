@@ -25,7 +25,7 @@ pub fn list_types<W: Write, E: Write>(
     err: &mut E,
 ) -> Result<u8, Stop>
     ensures lists { IfOk result (λ status. ListsTypes options.now.type_add first status (Appends (W.contents out.old) (W.contents out.new)) (Appends (E.contents err.old) (E.contents err.new))) }
-    ensures ended { IfErr result (λ stop. (stop ≡ Stop.Memory → EndsAfter [] [] (Appends (W.contents out.old) (W.contents out.new)) (Appends (E.contents err.old) (E.contents err.new)) Stop.Memory)) }
+    ensures ended { IfErr result (EndsAfter [] [] (Appends (W.contents out.old) (W.contents out.new)) (Appends (E.contents err.old) (E.contents err.new))) }
 {
     match defined_types(first, options) {
         Ok(definitions) => {
