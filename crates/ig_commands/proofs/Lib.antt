@@ -1,8 +1,11 @@
 pub mod AskedLemmas
+pub mod FoundLemmas
 pub mod ItemLemmas
+pub mod MemberLemmas
 pub mod MetLemmas
 pub mod RootLemmas
 pub mod StopLemmas
 pub mod TurnLemmas
+pub mod UnusedLemmas
 pub mod WalkLemmas
 pub mod WhyLemmas

@@ -96,133 +96,136 @@ By = Settings × Outside × List ℕ × Option (List ℕ)
 by_root : Settings → Outside → Option (List ℕ) → List ℕ → By
 by_root s outside dir root = (s, outside, root, dir)
 
--- matchers ask by the same settings and rules from outside, each about its root
-module _ {F : Type 0} (files : Files F) (f : F) (s : Settings) (outside : Outside) (dir : Option (List ℕ)) where
-  named : (P : QueryScene → List Seen → Type 0) (m : IncrementalIgnore) (root : List ℕ) (r : OfRoot) → asked_by m ≡ by_root s outside dir root
-      → OfMatcher files f P m r → r.0 ≡ root
-  named P m root r asked of = of.0 ∙ ap (λ (t : By). t.2) asked
+-- the root of a matcher that asks by some root
+named : (m : IncrementalIgnore) (root : List ℕ) (r : OfRoot) {s : Settings} {outside : Outside} {dir : Option (List ℕ)}
+    → asked_by m ≡ by_root s outside dir root → r.0 ≡ string_bytes m.asked.root → r.0 ≡ root
+named m root r asked at = at ∙ ap (λ (t : By). t.2) asked
 
-  same_roots : (P : QueryScene → List Seen → Type 0) (ms : List IncrementalIgnore) (roots : List (List ℕ)) (all : List OfRoot)
-      → map asked_by ms ≡ map (by_root s outside dir) roots → AllZip (OfMatcher files f P) ms all → map (λ (r : OfRoot). r.0) all ≡ roots
-  same_roots P [] [] [] asked zip = refl
-  same_roots P [] [] (r ∷ all) asked zip = absurd zip
-  same_roots P [] (root ∷ roots) all asked zip = absurd (cc asked)
-  same_roots P (m ∷ ms) [] all asked zip = absurd (cc asked)
-  same_roots P (m ∷ ms) (root ∷ roots) [] asked zip = absurd zip
-  same_roots P (m ∷ ms) (root ∷ roots) (r ∷ all) asked zip =
+-- matchers ask by the same settings and rules from outside, each about its root, of which a value has
+-- the items
+module _ {F X : Type 0} (files : Files F) (f : F) (view : X → OfRoot) (P : X → QueryScene → List Seen → Type 0) (s : Settings)
+    (outside : Outside) (dir : Option (List ℕ)) where
+  abbrev Of : IncrementalIgnore → X → Type 0
+  Of m x = OfMatcher files f (P x) m (view x)
+
+  same_roots : (ms : List IncrementalIgnore) (roots : List (List ℕ)) (all : List X) → map asked_by ms ≡ map (by_root s outside dir) roots
+      → AllZip Of ms all → map (λ (x : X). (view x).0) all ≡ roots
+  same_roots [] [] [] asked zip = refl
+  same_roots [] [] (x ∷ all) asked zip = absurd zip
+  same_roots [] (root ∷ roots) all asked zip = absurd (cc asked)
+  same_roots (m ∷ ms) [] all asked zip = absurd (cc asked)
+  same_roots (m ∷ ms) (root ∷ roots) [] asked zip = absurd zip
+  same_roots (m ∷ ms) (root ∷ roots) (x ∷ all) asked zip =
       let here : asked_by m ≡ by_root s outside dir root = cc asked in
       let others : map asked_by ms ≡ map (by_root s outside dir) roots = cc asked in
-      ap (λ (p : List ℕ). p ∷ map (λ (r : OfRoot). r.0) all) (named P m root r here zip.0)
-      ∙ ap (λ (ps : List (List ℕ)). root ∷ ps) (same_roots P ms roots all others zip.1)
+      ap (λ (p : List ℕ). p ∷ map (λ (x : X). (view x).0) all) (named m root (view x) here zip.0.0)
+      ∙ ap (λ (ps : List (List ℕ)). root ∷ ps) (same_roots ms roots all others zip.1)
 
   -- the roots of the first matchers, that of the one after them, and the others
-  first_same : (P Q : QueryScene → List Seen → Type 0) (ms : List IncrementalIgnore) (m : IncrementalIgnore)
-      (others : List IncrementalIgnore) (roots : List (List ℕ)) (done : List OfRoot) (last : OfRoot)
-      → map asked_by (ms ++ m ∷ others) ≡ map (by_root s outside dir) roots
-      → AllZip (OfMatcher files f P) ms done → OfMatcher files f Q m last
-      → (rest : List (List ℕ)) × (map (λ (r : OfRoot). r.0) (done ++ last ∷ []) ++ rest ≡ roots)
-  first_same P Q [] m others [] done last asked zip of = absurd (cc asked)
-  first_same P Q [] m others (root ∷ roots) [] last asked zip of =
-      let here : asked_by m ≡ by_root s outside dir root = cc asked in (roots, ap (λ (p : List ℕ). p ∷ roots) (named Q m root last here of))
-  first_same P Q [] m others (root ∷ roots) (d ∷ done) last asked zip of = absurd zip
-  first_same P Q (x ∷ ms) m others [] done last asked zip of = absurd (cc asked)
-  first_same P Q (x ∷ ms) m others (root ∷ roots) [] last asked zip of = absurd zip
-  first_same P Q (x ∷ ms) m others (root ∷ roots) (d ∷ done) last asked zip of =
+  first_same : (ms : List IncrementalIgnore) (m : IncrementalIgnore) (others : List IncrementalIgnore) (roots : List (List ℕ))
+      (done : List X) (last : OfRoot) → map asked_by (ms ++ m ∷ others) ≡ map (by_root s outside dir) roots → AllZip Of ms done
+      → last.0 ≡ string_bytes m.asked.root → (rest : List (List ℕ)) × (map (λ (x : X). (view x).0) done ++ last.0 ∷ rest ≡ roots)
+  first_same [] m others [] done last asked zip at = absurd (cc asked)
+  first_same [] m others (root ∷ roots) [] last asked zip at =
+      let here : asked_by m ≡ by_root s outside dir root = cc asked in (roots, ap (λ (p : List ℕ). p ∷ roots) (named m root last here at))
+  first_same [] m others (root ∷ roots) (d ∷ done) last asked zip at = absurd zip
+  first_same (x ∷ ms) m others [] done last asked zip at = absurd (cc asked)
+  first_same (x ∷ ms) m others (root ∷ roots) [] last asked zip at = absurd zip
+  first_same (x ∷ ms) m others (root ∷ roots) (d ∷ done) last asked zip at =
       let here : asked_by x ≡ by_root s outside dir root = cc asked in
       let more : map asked_by (ms ++ m ∷ others) ≡ map (by_root s outside dir) roots = cc asked in
-      let rest = first_same P Q ms m others roots done last more zip.1 of in (
+      let rest = first_same ms m others roots done last more zip.1 at in (
         rest.0,
-        ap (λ (p : List ℕ). p ∷ (map (λ (r : OfRoot). r.0) (done ++ last ∷ []) ++ rest.0)) (named P x root d here zip.0)
+        ap (λ (p : List ℕ). p ∷ (map (λ (x : X). (view x).0) done ++ last.0 ∷ rest.0)) (named x root (view d) here zip.0.0)
             ∙ ap (λ (ps : List (List ℕ)). root ∷ ps) rest.1,
       )
 
   -- what holds of the scenes of each matcher holds of those of its root
   module _ (tree : Tree) (loads : List ℕ → Loaded) (honest : IsHonest files f tree) (are : AreLoads tree s loads) where
-    one_root : (P : QueryScene → List Seen → Type 0) (m : IncrementalIgnore) (root : List ℕ) (r : OfRoot)
-        → asked_by m ≡ by_root s outside dir root → KeepsNothing m.cache → OfMatcher files f P m r
-        → P (scene tree loads s outside r.0) r.1
-    one_root P m root r asked empty of =
+    one_root : (Q : QueryScene → List Seen → Type 0) (m : IncrementalIgnore) (root : List ℕ) (r : OfRoot)
+        → asked_by m ≡ by_root s outside dir root → KeepsNothing m.cache → OfMatcher files f Q m r
+        → Q (scene tree loads s outside r.0) r.1
+    one_root Q m root r asked empty of =
         let mine = subst (λ (x : Settings). AreLoads tree x loads) (sym (ap (λ (t : By). t.0) asked)) are in
-        subst (λ (x : List ℕ). P (scene tree loads s outside x) r.1) (sym (named P m root r asked of))
-        (subst (λ (t : By). P (scene tree loads t.0 t.1 t.2) r.1) asked (of.1 empty tree loads honest mine))
+        subst (λ (x : List ℕ). Q (scene tree loads s outside x) r.1) (sym (named m root r asked of.0))
+        (subst (λ (t : By). Q (scene tree loads t.0 t.1 t.2) r.1) asked (of.1 empty tree loads honest mine))
 
-    each_root : (P : QueryScene → List Seen → Type 0) (ms : List IncrementalIgnore) (roots : List (List ℕ)) (all : List OfRoot)
-        → map asked_by ms ≡ map (by_root s outside dir) roots → All (λ m. KeepsNothing m.cache) ms → AllZip (OfMatcher files f P) ms all
-        → All (λ r. P (scene tree loads s outside r.0) r.1) all
-    each_root P [] [] [] asked empty zip = All-nil (λ (r : OfRoot). P (scene tree loads s outside r.0) r.1)
-    each_root P [] [] (r ∷ all) asked empty zip = absurd zip
-    each_root P [] (root ∷ roots) all asked empty zip = absurd (cc asked)
-    each_root P (m ∷ ms) [] all asked empty zip = absurd (cc asked)
-    each_root P (m ∷ ms) (root ∷ roots) [] asked empty zip = absurd zip
-    each_root P (m ∷ ms) (root ∷ roots) (r ∷ all) asked empty zip =
+    abbrev Holds : X → Type 0
+    Holds x = P x (scene tree loads s outside (view x).0) (view x).1
+
+    each_root : (ms : List IncrementalIgnore) (roots : List (List ℕ)) (all : List X) → map asked_by ms ≡ map (by_root s outside dir) roots
+        → All (λ m. KeepsNothing m.cache) ms → AllZip Of ms all → All Holds all
+    each_root [] [] [] asked empty zip = All-nil Holds
+    each_root [] [] (x ∷ all) asked empty zip = absurd zip
+    each_root [] (root ∷ roots) all asked empty zip = absurd (cc asked)
+    each_root (m ∷ ms) [] all asked empty zip = absurd (cc asked)
+    each_root (m ∷ ms) (root ∷ roots) [] asked empty zip = absurd zip
+    each_root (m ∷ ms) (root ∷ roots) (x ∷ all) asked empty zip =
         let here : asked_by m ≡ by_root s outside dir root = cc asked in
         let others : map asked_by ms ≡ map (by_root s outside dir) roots = cc asked in
-        All-cons (λ (r : OfRoot). P (scene tree loads s outside r.0) r.1) r all
-        (one_root P m root r here (All-head (λ (x : IncrementalIgnore). KeepsNothing x.cache) m ms empty) zip.0)
-        (each_root P ms roots all others (All-tail (λ (x : IncrementalIgnore). KeepsNothing x.cache) m ms empty) zip.1)
+        All-cons Holds x all (one_root (P x) m root (view x) here (All-head (λ (y : IncrementalIgnore). KeepsNothing y.cache) m ms empty) zip.0)
+        (each_root ms roots all others (All-tail (λ (y : IncrementalIgnore). KeepsNothing y.cache) m ms empty) zip.1)
 
-    first_roots : (P Q : QueryScene → List Seen → Type 0) (ms : List IncrementalIgnore) (m : IncrementalIgnore)
-        (others : List IncrementalIgnore) (roots : List (List ℕ)) (done : List OfRoot) (last : OfRoot)
+    first_roots : (Q : QueryScene → List Seen → Type 0) (ms : List IncrementalIgnore) (m : IncrementalIgnore)
+        (others : List IncrementalIgnore) (roots : List (List ℕ)) (done : List X) (last : OfRoot)
         → map asked_by (ms ++ m ∷ others) ≡ map (by_root s outside dir) roots → All (λ m. KeepsNothing m.cache) (ms ++ m ∷ others)
-        → AllZip (OfMatcher files f P) ms done → OfMatcher files f Q m last
-        → All (λ r. P (scene tree loads s outside r.0) r.1) done × Q (scene tree loads s outside last.0) last.1
-    first_roots P Q [] m others [] done last asked empty zip of = absurd (cc asked)
-    first_roots P Q [] m others (root ∷ roots) [] last asked empty zip of =
-        let here : asked_by m ≡ by_root s outside dir root = cc asked in (
-          All-nil (λ (r : OfRoot). P (scene tree loads s outside r.0) r.1),
-          one_root Q m root last here (All-head (λ (x : IncrementalIgnore). KeepsNothing x.cache) m others empty) of,
-        )
-    first_roots P Q [] m others (root ∷ roots) (d ∷ done) last asked empty zip of = absurd zip
-    first_roots P Q (x ∷ ms) m others [] done last asked empty zip of = absurd (cc asked)
-    first_roots P Q (x ∷ ms) m others (root ∷ roots) [] last asked empty zip of = absurd zip
-    first_roots P Q (x ∷ ms) m others (root ∷ roots) (d ∷ done) last asked empty zip of =
+        → AllZip Of ms done → OfMatcher files f Q m last → All Holds done × Q (scene tree loads s outside last.0) last.1
+    first_roots Q [] m others [] done last asked empty zip of = absurd (cc asked)
+    first_roots Q [] m others (root ∷ roots) [] last asked empty zip of =
+        let here : asked_by m ≡ by_root s outside dir root = cc asked in
+        (All-nil Holds, one_root Q m root last here (All-head (λ (y : IncrementalIgnore). KeepsNothing y.cache) m others empty) of)
+    first_roots Q [] m others (root ∷ roots) (d ∷ done) last asked empty zip of = absurd zip
+    first_roots Q (x ∷ ms) m others [] done last asked empty zip of = absurd (cc asked)
+    first_roots Q (x ∷ ms) m others (root ∷ roots) [] last asked empty zip of = absurd zip
+    first_roots Q (x ∷ ms) m others (root ∷ roots) (d ∷ done) last asked empty zip of =
         let here : asked_by x ≡ by_root s outside dir root = cc asked in
         let more : map asked_by (ms ++ m ∷ others) ≡ map (by_root s outside dir) roots = cc asked in
         let none = All-head (λ (y : IncrementalIgnore). KeepsNothing y.cache) x (ms ++ m ∷ others) empty in
         let tail = All-tail (λ (y : IncrementalIgnore). KeepsNothing y.cache) x (ms ++ m ∷ others) empty in
-        let rest = first_roots P Q ms m others roots done last more tail zip.1 of in (
-          All-cons (λ (r : OfRoot). P (scene tree loads s outside r.0) r.1) d done (one_root P x root d here none zip.0) rest.0,
-          rest.1,
-        )
+        let rest = first_roots Q ms m others roots done last more tail zip.1 of in
+        (All-cons Holds d done (one_root (P d) x root (view d) here none zip.0) rest.0, rest.1)
 
 -- matchers of the roots that are asked for, which keep nothing
-module _ {F : Type 0} (files : Files F) (f : F) (tree : Tree) (env : Env) (o : Options) (b : WalkOptions) (honest : IsHonest files f tree)
-    (none : b.roots ≡ []) (roots : List (List ℕ)) (trimmed : AllZip IsTrimmed (map string_bytes o.roots.items) roots)
-    (ms : List IncrementalIgnore) (made : AreMatchers tree env (with_roots b roots) ms) (empty : All (λ m. KeepsNothing m.cache) ms) where
+module _ {F X : Type 0} (files : Files F) (f : F) (view : X → OfRoot) (P : X → QueryScene → List Seen → Type 0) (tree : Tree) (env : Env)
+    (o : Options) (b : WalkOptions) (honest : IsHonest files f tree) (none : b.roots ≡ []) (roots : List (List ℕ))
+    (trimmed : AllZip IsTrimmed (map string_bytes o.roots.items) roots) (ms : List IncrementalIgnore)
+    (made : AreMatchers tree env (with_roots b roots) ms) (empty : All (λ m. KeepsNothing m.cache) ms) where
   asked_all : map asked_by ms ≡ map (by_root b.settings made.0 env.current_dir) roots
   asked_all = made.2 ∙ ap (λ (rs : List (List ℕ)). map (by_root b.settings made.0 env.current_dir) (rs ++ roots)) none
 
   -- the rules from outside don't depend on the roots
-  goes_by : (named : List (List ℕ)) → named ≡ roots → GoesBy tree env o b named made.0
-  goes_by named same = record {
+  goes_by : (names : List (List ℕ)) → names ≡ roots → GoesBy tree env o b names made.0
+  goes_by names same = record {
     trimmed = subst (λ (rs : List (List ℕ)). AllZip IsTrimmed (map string_bytes o.roots.items) rs) (sym same) trimmed;
     read = record { overrides = made.1.overrides; types = made.1.types; explicit = made.1.explicit; global = made.1.global };
   }
 
   -- what holds of each matcher holds of each root
-  pub roots_of : (P : QueryScene → List Seen → Type 0) (all : List OfRoot) → AllZip (OfMatcher files f P) ms all
-      → (outside : Outside) × GoesBy tree env o b (map (λ (r : OfRoot). r.0) all) outside
-      × ((loads : List ℕ → Loaded) → AreLoads tree b.settings loads → All (λ r. P (scene tree loads b.settings outside r.0) r.1) all)
-  roots_of P all zip = (
+  pub roots_of : (all : List X) → AllZip (λ m x. OfMatcher files f (P x) m (view x)) ms all
+      → (outside : Outside) × GoesBy tree env o b (map (λ (x : X). (view x).0) all) outside
+      × ((loads : List ℕ → Loaded) → AreLoads tree b.settings loads
+      → All (λ x. P x (scene tree loads b.settings outside (view x).0) (view x).1) all)
+  roots_of all zip = (
     made.0,
-    goes_by (map (λ (r : OfRoot). r.0) all) (same_roots files f b.settings made.0 env.current_dir P ms roots all asked_all zip),
-    λ loads are. each_root files f b.settings made.0 env.current_dir tree loads honest are P ms roots all asked_all empty zip,
+    goes_by (map (λ (x : X). (view x).0) all) (same_roots files f view P b.settings made.0 env.current_dir ms roots all asked_all zip),
+    λ loads are. each_root files f view P b.settings made.0 env.current_dir tree loads honest are ms roots all asked_all empty zip,
   )
 
   -- the same of the first, and another fact of the one after them
-  pub begun_of : (P Q : QueryScene → List Seen → Type 0) (first : List IncrementalIgnore) (m : IncrementalIgnore)
-      (others : List IncrementalIgnore) (done : List OfRoot) (last : OfRoot) → ms ≡ first ++ m ∷ others
-      → AllZip (OfMatcher files f P) first done → OfMatcher files f Q m last
-      → (rest : List (List ℕ)) × (outside : Outside) × GoesBy tree env o b (map (λ (r : OfRoot). r.0) (done ++ last ∷ []) ++ rest) outside
+  pub begun_of : (Q : QueryScene → List Seen → Type 0) (first : List IncrementalIgnore) (m : IncrementalIgnore)
+      (others : List IncrementalIgnore) (done : List X) (last : OfRoot) → ms ≡ first ++ m ∷ others
+      → AllZip (λ m x. OfMatcher files f (P x) m (view x)) first done → OfMatcher files f Q m last
+      → (rest : List (List ℕ)) × (outside : Outside) × GoesBy tree env o b (map (λ (x : X). (view x).0) done ++ last.0 ∷ rest) outside
       × ((loads : List ℕ → Loaded) → AreLoads tree b.settings loads
-      → All (λ r. P (scene tree loads b.settings outside r.0) r.1) done × Q (scene tree loads b.settings outside last.0) last.1)
-  begun_of P Q first m others done last split zip of =
+      → All (λ x. P x (scene tree loads b.settings outside (view x).0) (view x).1) done × Q (scene tree loads b.settings outside last.0) last.1)
+  begun_of Q first m others done last split zip of =
       let asked = subst (λ (xs : List IncrementalIgnore). map asked_by xs ≡ map (by_root b.settings made.0 env.current_dir) roots) split asked_all in
       let fresh = subst (λ (xs : List IncrementalIgnore). All (λ m. KeepsNothing m.cache) xs) split empty in
-      let names = first_same files f b.settings made.0 env.current_dir P Q first m others roots done last asked zip of in (
+      let names = first_same files f view P b.settings made.0 env.current_dir first m others roots done last asked zip of.0 in (
         names.0,
         made.0,
-        goes_by (map (λ (r : OfRoot). r.0) (done ++ last ∷ []) ++ names.0) names.1,
+        goes_by (map (λ (x : X). (view x).0) done ++ last.0 ∷ names.0) names.1,
         λ loads are.
-            first_roots files f b.settings made.0 env.current_dir tree loads honest are P Q first m others roots done last asked fresh zip of,
+            first_roots files f view P b.settings made.0 env.current_dir tree loads honest are Q first m others roots done last asked fresh zip of,
       )
+

@@ -113,7 +113,7 @@ AreSurveys tree env o b all =
 abbrev pub AreBegun : Tree → Env → Options → WalkOptions → List OfRoot → Type 0
 AreBegun tree env o b all =
     (all ≡ []) ⊎ ((done : List OfRoot) × (last : OfRoot) × (rest : List Path) × (all ≡ done ++ last ∷ [])
-    × (outside : Outside) × GoesBy tree env o b (map (λ r. r.0) all ++ rest) outside
+    × (outside : Outside) × GoesBy tree env o b (map (λ r. r.0) done ++ last.0 ∷ rest) outside
     × ((loads : Path → Loaded) → AreLoads tree b.settings loads
     → All (λ r. IsWhole (scene tree loads b.settings outside r.0) r.1) done
     × IsBegun (scene tree loads b.settings outside last.0) last.1))

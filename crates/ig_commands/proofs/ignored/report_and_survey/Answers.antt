@@ -7,7 +7,7 @@ use Rattle.commands.proofs.LineLemmas.{appends_nothing, appends_on}
 use Rattle.ignore_base.specs.Problem.{problem_of}
 use Rattle.ig_commands.specs.Ignored.{all_written}
 use Rattle.ig_commands.specs.Reports.{report_of}
-use Rattle.ig_commands.specs.Surveys.{IsBegun, IsWhole, all_seen, reports}
+use Rattle.ig_commands.specs.Surveys.{IsBegun, IsWhole, OfRoot, all_seen, reports}
 use Rattle.ig_commands.proofs.RootLemmas.{begun_of, roots_of}
 use Rattle.ig_commands.proofs.StopLemmas.{ends_after_reports}
 use Rattle.ig_commands.proofs.ignored.report_and_survey.Goals as goal
@@ -45,8 +45,8 @@ returns-in_err-counts-clause-ended g c =
           c.in_err-counts.field-0.0 c.in_ok-reported.ensures.reports.1 h.8,
       λ tree honest none.
           let made = c.in-Ok.ensures.made tree honest in
-          let begun = begun_of g.F.Files c.args.world.now.files.now tree c.args.world.now.env.now o c.args.asked.walk honest none made.0
-          made.1 c.in-Ok.matchers.items made.2 c.in-Ok.ensures.empty IsWhole IsBegun h.2 h.4 h.3 h.0 h.1 h.5 h.6 h.7 in
+          let begun = begun_of g.F.Files c.args.world.now.files.now (λ (r : OfRoot). r) (λ (r : OfRoot). IsWhole) tree c.args.world.now.env.now o c.args.asked.walk honest none made.0
+          made.1 c.in-Ok.matchers.items made.2 c.in-Ok.ensures.empty IsBegun h.2 h.4 h.3 h.0 h.1 h.5 h.6 h.7 in
           inr (h.0, h.1, begun.0, refl, begun.1, begun.2, begun.3),
     )
 
@@ -70,6 +70,6 @@ returns-clause-lists g c =
       },
       λ tree honest none.
           let made = c.in-Ok.ensures.made tree honest in
-          roots_of g.F.Files c.args.world.now.files.now tree c.args.world.now.env.now o c.args.asked.walk honest none made.0
-          made.1 c.in-Ok.matchers.items made.2 c.in-Ok.ensures.empty IsWhole h.0 h.1,
+          roots_of g.F.Files c.args.world.now.files.now (λ (r : OfRoot). r) (λ (r : OfRoot). IsWhole) tree c.args.world.now.env.now o c.args.asked.walk honest none made.0
+          made.1 c.in-Ok.matchers.items made.2 c.in-Ok.ensures.empty h.0 h.1,
     )
