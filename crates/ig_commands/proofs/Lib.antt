@@ -1,5 +1,7 @@
 pub mod AskedLemmas
+pub mod EndLemmas
 pub mod FoundLemmas
+pub mod GrowLemmas
 pub mod ItemLemmas
 pub mod MemberLemmas
 pub mod MetLemmas

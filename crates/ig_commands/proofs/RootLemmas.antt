@@ -33,7 +33,7 @@ zip_push R [] (b ∷ ys) x y h k = absurd h
 zip_push R (a ∷ xs) [] x y h k = absurd h
 zip_push R (a ∷ xs) (b ∷ ys) x y h k = (h.0, zip_push R xs ys x y h.1 k)
 
-all_seen_more : (all : List OfRoot) (r : OfRoot) → all_seen (all ++ r ∷ []) ≡ all_seen all ++ r.1
+pub all_seen_more : (all : List OfRoot) (r : OfRoot) → all_seen (all ++ r ∷ []) ≡ all_seen all ++ r.1
 all_seen_more all r =
     flat_map-append (λ (x : OfRoot). x.1) all (r ∷ []) ∙ ap (λ (xs : List Seen). all_seen all ++ xs) (append-nil r.1)
 
