@@ -228,4 +228,3 @@ module _ {F X : Type 0} (files : Files F) (f : F) (view : X → OfRoot) (P : X �
         λ loads are.
             first_roots files f view P b.settings made.0 env.current_dir tree loads honest are Q first m others roots done last asked fresh zip of,
       )
-

@@ -33,8 +33,11 @@ returns-clause-lists g c =
     IfOk-weaker c.write_items.result _ _
     (λ counts h. (
       (root, map seen_of h.0),
-      (at, λ empty. survey_whole g.F.Files c.args.world.now.files.now m s c.in-Ok-2.ensures.whole c.in-Ok-2.ensures.kept c.in-Ok-2.ensures.limit empty
-          h.1.0 h.0 h.1.1 h.6),
+      (
+        at,
+        λ empty. survey_whole g.F.Files c.args.world.now.files.now m s c.in-Ok-2.ensures.whole c.in-Ok-2.ensures.kept c.in-Ok-2.ensures.limit empty
+            h.1.0 h.0 h.1.1 h.6,
+      ),
       h.2,
       h.3,
       h.4,
@@ -52,8 +55,11 @@ returns-clause-ended g c =
     IfErr-weaker c.write_items.result _ _
     (λ stop h. (
       (root, map seen_of h.0),
-      (at, λ empty. survey_begun g.F.Files c.args.world.now.files.now m s c.in-Ok-2.ensures.whole c.in-Ok-2.ensures.kept c.in-Ok-2.ensures.limit empty
-          h.2 h.0 h.1 h.3 h.5),
+      (
+        at,
+        λ empty. survey_begun g.F.Files c.args.world.now.files.now m s c.in-Ok-2.ensures.whole c.in-Ok-2.ensures.kept c.in-Ok-2.ensures.limit empty
+            h.2 h.0 h.1 h.3 h.5,
+      ),
       h.4,
     ))
     c.write_items.ensures.ended
