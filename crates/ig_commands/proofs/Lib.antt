@@ -1,3 +1,5 @@
+pub mod InputLemmas
 pub mod ItemLemmas
+pub mod RuleLemmas
 pub mod StopLemmas
 pub mod WalkLemmas

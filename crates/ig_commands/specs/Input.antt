@@ -14,8 +14,8 @@ end_byte o = if o.null then 0 else 10
 -- needs no end
 pub data AreRecords (end : ℕ) : Bytes → List Bytes → Type 0 where
   none : AreRecords end [] []
-  last : {text : Bytes} → text ≢ [] → (Contains text end → ⊥) → AreRecords end text (text ∷ [])
-  more : {text rest : Bytes} {records : List Bytes} → (Contains text end → ⊥) → AreRecords end rest records
+  last : {text : Bytes} → text ≢ [] → ¬ Contains text end → AreRecords end text (text ∷ [])
+  more : {text rest : Bytes} {records : List Bytes} → ¬ Contains text end → AreRecords end rest records
       → AreRecords end (text ++ end ∷ rest) (text ∷ records)
 
 -- records give these in turn, the first with this number
