@@ -62,11 +62,11 @@ cut_first end x xs true e h =
 cut_first end x xs false e (inl (text, is, other, front)) = inl (
   x ∷ text,
   ap (λ ys. x ∷ ys) is,
-  (λ c. elim contains_front x end text c [ | inl same ↦ both_ways (eqb x end) (eq-eqb x end same) e | inr here ↦ other here ]),
+  (λ c. elim (contains_front x end text c) [ | inl same ↦ both_ways (eqb x end) e (eq-eqb x end same) | inr here ↦ other here ]),
   ap (λ ys. x ∷ ys) front,
 )
 cut_first end x xs false e (inr (other, front, rest)) = inr (
-  (λ c. elim contains_front x end xs c [ | inl same ↦ both_ways (eqb x end) (eq-eqb x end same) e | inr here ↦ other here ]),
+  (λ c. elim (contains_front x end xs c) [ | inl same ↦ both_ways (eqb x end) e (eq-eqb x end same) | inr here ↦ other here ]),
   ap (λ ys. x ∷ ys) front,
   rest,
 )

@@ -1,13 +1,27 @@
 -- What stands at a line of a file, by the table of a file's lines and the table of the files.
-use Rattle.std.proofs.Common.{◌≡◌, ◌∙◌, ◌==◌, ◌&&◌, ℕ, Bool, true, false, cond, eqb, eqb-true, List, [], ◌∷◌, Option, None, Some, option_map, string_bytes, refl, sym, ap, subst}
+use Rattle.std.proofs.Common.{◌≡◌, ◌∙◌, ◌==◌, ◌&&◌, ℕ, Bool, true, false, cond, eqb, eqb-true, List, [], ◌∷◌, ◌++◌, map, Option, None, Some, is_some, option_map, string_bytes, Bor, refl, sym, ap, subst}
+use Rattle.std.proofs.lemmas.Grind.{flat_map-append}
+use Rattle.std.proofs.lemmas.List.{append-nil, map-append}
 use Rattle.std.proofs.lemmas.Slice.Eq.{bytes_eq-Decides}
 use Rattle.std.specs.BTreeMap.{BTreeMap, get, get_by_text}
+use Rattle.std.specs.List.{filter, flat_map}
 use Rattle.std.specs.Map.{update}
-use Rattle.std.specs.Option.{option_or}
+use Rattle.std.specs.Option.{option_copied, option_or}
 use Rattle.std.specs.Ordering.{nat_cmp}
 use Rattle.std.specs.Str.{bytes_eq}
 use Rattle.std.specs.declared.string.String.{String}
-use Rattle.ig_commands.specs.Rules.{alone_at, line_of}
+use Rattle.ig_commands.specs.Rules.{all_left, alone_at, file_rule, is_free, left_of, line_of}
+use Rattle.ig_commands.specs.declared.rules.FileRules.{FileRules}
+use Rattle.ig_commands.proofs.FieldLemmas.{filter_push}
+
+-- what a look-up found none of
+pub copied_none : {X : Type 0} (o : Option (Bor X)) (b : Bool) → b ≡ is_some o → b ≡ false → option_copied o ≡ None
+copied_none None b is no = refl
+copied_none (Some x) b is no = cc (sym is ∙ no)
+
+pub none_there : {X : Type 0} (o : Option X) (b : Bool) → b ≡ is_some o → b ≡ false → o ≡ None
+none_there None b is no = refl
+none_there (Some x) b is no = cc (sym is ∙ no)
 
 or_none : {A : Type 0} (x : Option A) → option_or x None ≡ x
 or_none None = refl
@@ -31,10 +45,10 @@ module _ {Y Z : Type 0} (m n : BTreeMap (String Y) (BTreeMap ℕ (String Z))) (s
   added_file file h none empty =
       ap (λ (o : Option (BTreeMap ℕ (String Z))). line_of o line) (h s) ∙ same_line file none empty (bytes_eq source s) refl
 
-module _ {Z : Type 0} (source s text : List ℕ) (number line : ℕ) (before : Option (List ℕ)) where
+module _ (source s text : List ℕ) (number line : ℕ) (before : Option (List ℕ)) where
   -- what stands there by a new line, where the file is the same
-  at_number : (pattern : String Z) (old : Option (String Z)) → string_bytes pattern ≡ text → option_map string_bytes old ≡ before
-      → (eqb number line ≡ true → before ≡ None) → (b : Bool) → eqb number line ≡ b
+  at_number : {Z : Type 0} (pattern : String Z) (old : Option (String Z)) → string_bytes pattern ≡ text
+      → option_map string_bytes old ≡ before → (eqb number line ≡ true → before ≡ None) → (b : Bool) → eqb number line ≡ b
       → option_map string_bytes (cond b (Some pattern) old) ≡ option_or before (cond b (Some text) None)
   at_number pattern old is same none true here =
       ap (λ (t : List ℕ). Some t) is ∙ sym (ap (λ (o : Option (List ℕ)). option_or o (Some text)) (none here))
@@ -77,3 +91,17 @@ module _ {Y Z : Type 0} (old m n : BTreeMap (String Y) (BTreeMap ℕ (String Z))
       → line_of (get_by_text n s) line ≡ option_or (line_of (get_by_text old s) line) (alone_at source number text s line)
   added_line h s line =
       ap (λ (o : Option (BTreeMap ℕ (String Z))). line_of o line) (h s) ∙ by_source s line (bytes_eq source s) refl
+
+-- one line more of a file, and one file more
+pub left_push : {Y : Type 0} (others : FileRules) (source : List ℕ) (es : List (ℕ × String Y)) (e : ℕ × String Y)
+    → left_of others source (es ++ e ∷ [])
+    ≡ left_of others source es ++ cond (is_free others (file_rule source e.0 (string_bytes e.1))) (file_rule source e.0 (string_bytes e.1) ∷ []) []
+left_push others source es e =
+    ap (filter (is_free others)) (map-append (λ p. file_rule source p.0 (string_bytes p.1)) es (e ∷ []))
+    ∙ filter_push (is_free others) (map (λ p. file_rule source p.0 (string_bytes p.1)) es) (file_rule source e.0 (string_bytes e.1))
+
+pub all_push : {X Y : Type 0} (others : FileRules) (fs : List (String X × BTreeMap ℕ (String Y))) (f : String X × BTreeMap ℕ (String Y))
+    → all_left others (fs ++ f ∷ []) ≡ all_left others fs ++ left_of others (string_bytes f.0) f.1.entries
+all_push others fs f =
+    flat_map-append (λ p. left_of others (string_bytes p.0) p.1.entries) fs (f ∷ [])
+    ∙ ap (λ rs. all_left others fs ++ rs) (append-nil (left_of others (string_bytes f.0) f.1.entries))

@@ -70,7 +70,7 @@ finished_or_cut (item ∷ []) (inl on) enough = inl (not_end item on, tt)
 finished_or_cut (item ∷ []) (inr (inl m)) enough = absurd (All-head (λ (i : Item). i ≢ Err memory) item [] enough m)
 finished_or_cut (item ∷ []) (inr (inr limit)) enough = inr ([], ap (λ (i : Item). i ∷ []) limit)
 finished_or_cut (item ∷ (next ∷ items)) h enough =
-    elim finished_or_cut (next ∷ items) h.1 (All-tail (λ (i : Item). i ≢ Err memory) item (next ∷ items) enough) [
+    elim (finished_or_cut (next ∷ items) h.1 (All-tail (λ (i : Item). i ≢ Err memory) item (next ∷ items) enough)) [
       | inl done ↦ inl (not_end item h.0, done)
       | inr (front, is) ↦ inr (item ∷ front, ap (λ xs. item ∷ xs) is)
     ]
@@ -86,14 +86,14 @@ pub listed : (g : Scene) (roots : List (List ℕ)) (all : List Item) (left : ℕ
     → (IsFinished all → (n : ℕ) × (n ≤ left) × Whole g roots all n)
     → ((items : List Item) (n : ℕ) → Whole g roots items n → IsRun all items left n) → AreAll g roots all ⊎ AreCut g roots all
 listed g roots all left are limit enough ends done run =
-    elim finished_or_cut all ends enough [
+    elim (finished_or_cut all ends enough) [
       | inl finished ↦
           let w = done finished in
           inl (w.0, subst (λ (l : ℕ). w.0 ≤ l) limit w.1, w.2)
       | inr cut ↦ inr (
         cut,
         λ items n whole.
-            elim within all items left n limit enough (run items n whole) [
+            elim (within all items left n limit enough (run items n whole)) [
               | inl h ↦
                   absurd (not_finished cut.0
                   (subst IsFinished (sym h.1 ∙ cut.1) (whole_finished g roots items n are whole)))
