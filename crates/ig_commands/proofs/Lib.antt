@@ -1,11 +1,15 @@
 pub mod AskedLemmas
 pub mod EndLemmas
+pub mod FieldLemmas
 pub mod FoundLemmas
 pub mod GrowLemmas
+pub mod InputLemmas
 pub mod ItemLemmas
 pub mod MemberLemmas
 pub mod MetLemmas
+pub mod OrderLemmas
 pub mod RootLemmas
+pub mod RuleLemmas
 pub mod StopLemmas
 pub mod TurnLemmas
 pub mod UnusedLemmas

@@ -1,5 +1,5 @@
 -- The paths of standard input.
-use Rattle.std.specs.Prelude.{◌≡◌, ◌≢◌, ¬, ℕ, ◌+◌, List, [], ◌∷◌, ◌++◌, Contains, if◌then◌else◌}
+use Rattle.std.specs.Prelude.{◌≡◌, ◌≢◌, ℕ, ◌+◌, List, [], ◌∷◌, ◌++◌, Contains, if◌then◌else◌}
 use Rattle.ignore_base.specs.Text.{Bytes}
 use Rattle.ig_options.specs.Given.{Gives, is_opened}
 use Rattle.ig_options.specs.declared.given.Given.{Given}
@@ -21,10 +21,10 @@ pub data AreRecords (end : ℕ) : Bytes → List Bytes → Type 0 where
 -- records give these in turn, the first with this number
 abbrev pub Give : Options → ℕ → List Bytes → List Given → Type 0
 Give o number [] [] = Unit {0}
-Give o number [] (given ∷ more) = ⊥
+Give o number [] (given ∷ others) = ⊥
 Give o number (text ∷ records) [] = ⊥
-Give o number (text ∷ records) (given ∷ more) =
-    Gives (is_opened o.null text) text number given × Give o (capped (number + 1)) records more
+Give o number (text ∷ records) (given ∷ others) =
+    Gives (is_opened o.null text) text number given × Give o (capped (number + 1)) records others
 
 -- what standard input gives
 abbrev pub AreGiven : Options → Bytes → List Given → Type 0

@@ -1,11 +1,12 @@
 -- What a list writes: the items of the walk that its options ask for.
-use Rattle.std.specs.Prelude.{◌≡◌, ◌≢◌, ◌⊎◌, ℕ, ◌+◌, true, ◌++◌, [], List, All, Option, Err, map, string_bytes}
+use Rattle.std.specs.Prelude.{◌≡◌, ◌≢◌, ◌⊎◌, ◌<◌, ◌≤◌, ℕ, ◌+◌, true, ◌++◌, ◌∷◌, [], List, All, Option, Err, map, string_bytes}
 use Rattle.std.specs.Prelude.{unwrap_or}
 use Rattle.std.specs.Cmp.Lexicographic.{slice_cmp}
 use Rattle.std.specs.List.{AllZip, flat_map}
 use Rattle.std.specs.Ordering.{nat_cmp}
 use Rattle.ignore_base.specs.Text.{Bytes, Path}
-use Rattle.ignore_base.specs.Problem.{Problem, memory}
+use Rattle.ignore_base.specs.Problem.{Problem, io, memory}
+use Rattle.ignore_base.specs.declared.fault.Fault.TheVariants.{StepLimit}
 use Rattle.ignore_dir.specs.Load.{AreLoads, Loaded}
 use Rattle.ignore_dir.specs.declared.outside.Outside.{Outside}
 use Rattle.ignore_files.specs.Gives.{IsHonest}
@@ -17,17 +18,20 @@ use Rattle.ignore_types.specs.Building.{IsBuilt}
 use Rattle.ignore_types.specs.TypeMatch.{Matcher}
 use Rattle.ignore_types.specs.Types.{Draft}
 use Rattle.ignore_walk.specs.Entry.{Item}
+use Rattle.ignore_walk.specs.Nexts.{Remaining, Starts}
 use Rattle.ignore_walk.specs.Scene.{Scene}
 use Rattle.ignore_walk.specs.Suits.{order_by}
 use Rattle.ignore_walk.specs.Whole.{Whole}
+use Rattle.ignore_walk.specs.declared.callbacks.Callbacks.{Ghosts as Callbacks}
+use Rattle.ignore_walk.specs.declared.walk.Walk.{Walk}
 use Rattle.ignore.specs.Asked.{IsOutside}
 use Rattle.ignore.specs.Builder.{with_overrides, with_types}
 use Rattle.ignore.specs.declared.options.WalkOptions.{WalkOptions}
-use Rattle.commands.specs.Walking.{AreWithin, IsTrimmed}
+use Rattle.commands.specs.Walking.{IsCut, IsTrimmed}
 use Rattle.ig_options.specs.Choices.{IsDraft, RefusesTypes}
 use Rattle.ig_options.specs.Files.{AddsFiles}
 use Rattle.ig_options.specs.Globs.{AreGlobs, RefusesOneOf}
-use Rattle.ig_options.specs.Settings.{walk_options}
+use Rattle.ig_options.specs.Settings.{most_steps, walk_options}
 use Rattle.ig_options.specs.declared.options.Options.{Options}
 use Rattle.ig_commands.specs.Counts.{capped, counted, stats_line, status_of}
 use Rattle.ig_commands.specs.Reports.{is_known, is_reported, report_line, report_of, reports_after}
@@ -76,13 +80,29 @@ pub record GoesBy (tree : Tree) (env : Env) (o : Options) (b : WalkOptions) (roo
   pub trimmed : AllZip IsTrimmed (map string_bytes o.roots.items) roots
   pub read : IsOutside tree env b outside
 
+-- a walk begins at roots: what remains of it is what they give
+pub record Begins {F S : Type 0} (files : Files F) (calls : Callbacks S) (g : Scene) (w : Walk F S) (roots : List Path) : Type 0 where
+  pub starts : Starts files calls g w roots
+  pub whole : (items : List Item) (n : ℕ) → Whole g roots items n → Remaining files calls g w items n
+
+-- these are what roots give, in no more steps than the limit
+abbrev pub AreAll : Scene → List Path → List Item → Type 0
+AreAll g roots all = (n : ℕ) × (n ≤ most_steps) × Whole g roots all n
+
+-- the last of these is the error of the limit; before it they are a beginning of what the roots give,
+-- if that is a list, and that takes more steps than the limit
+abbrev pub AreCut : Scene → List Path → List Item → Type 0
+AreCut g roots all =
+    ((front : List Item) × (all ≡ front ++ Err (io StepLimit) ∷ []))
+    × ((items : List Item) (n : ℕ) → Whole g roots items n → (most_steps < n) × IsCut all items)
+
 -- these are the items of the walk that is asked for, by these settings in the bare tree: there are
--- rules from outside, as they were read, by which they are what the roots give
+-- rules from outside, as they were read, by which the roots give them; or they were cut by the limit
 abbrev pub AreListed : Tree → Env → Options → WalkOptions → List Item → Type 0
 AreListed tree env o b all =
     (roots : List Path) × (outside : Outside) × GoesBy tree env o b roots outside
-    × ((loads : Path → Loaded) (items : List Item) (n : ℕ) → AreLoads tree b.settings loads
-    → Whole (listing o b tree loads outside) roots items n → AreWithin all items n)
+    × ((loads : Path → Loaded) → AreLoads tree b.settings loads
+    → AreAll (listing o b tree loads outside) roots all ⊎ AreCut (listing o b tree loads outside) roots all)
 
 -- these are a beginning of the items of that walk, or none
 abbrev pub AreBegun : Tree → Env → Options → WalkOptions → List Item → Type 0

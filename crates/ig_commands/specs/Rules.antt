@@ -1,7 +1,7 @@
 -- Rules of files, by where they stand.
 use Rattle.std.specs.Prelude.{◌≡◌, ◌↔◌, ℕ, ◌==◌, ◌&&◌, not, Bool, List, [], ◌∷◌, ◌++◌, map, Contains, Option, None, Some, is_some, option_map, string_bytes, if◌then◌else◌}
 use Rattle.std.specs.BTreeMap.{BTreeMap, get, get_by_text}
-use Rattle.std.specs.List.{filter}
+use Rattle.std.specs.List.{filter, flat_map}
 use Rattle.std.specs.Option.{option_or}
 use Rattle.std.specs.Ordering.{nat_cmp}
 use Rattle.std.specs.Str.{bytes_eq}
@@ -50,6 +50,10 @@ is_free others r = not (is_some (rule_at others r.source r.line))
 -- the rules of a file, by its lines, where none of others stands
 abbrev pub left_of : {Y : Type 0} → FileRules → Path → List (ℕ × String Y) → List FileRule
 left_of others source entries = filter (is_free others) (map (λ e. file_rule source e.0 (string_bytes e.1)) entries)
+
+-- the rules of all files
+abbrev pub all_left : {X Y : Type 0} → FileRules → List (String X × BTreeMap ℕ (String Y)) → List FileRule
+all_left others files = flat_map (λ f. left_of others (string_bytes f.0) f.1.entries) files
 
 -- these are the rules that stand where none of others does, in order
 pub record AreWithout (rules others : FileRules) (all : List FileRule) : Type 0 where

@@ -34,8 +34,8 @@ impl Counts {
 
     /// The sums of these counts and others.
     pub(crate) fn and(self, others: Counts) -> Counts
-        ensures reported { result.reported ≡ capped (self.entry.reported + others.entry.reported) }
-        ensures found { result.found ≡ capped (self.entry.found + others.entry.found) }
+        ensures reported { result.reported ≡ capped (self.reported + others.reported) }
+        ensures found { result.found ≡ capped (self.found + others.found) }
     {
         Counts {
             reported: self.reported.saturating_add(others.reported),
@@ -45,8 +45,8 @@ impl Counts {
 
     /// The counts with an item more.
     pub(crate) fn with(self, seen: Seen) -> Counts
-        ensures reported { result.reported ≡ one_more self.entry.reported seen.reported }
-        ensures found { result.found ≡ one_more self.entry.found seen.found }
+        ensures reported { result.reported ≡ one_more self.reported seen.reported }
+        ensures found { result.found ≡ one_more self.found seen.found }
     {
         Counts {
             reported: self.reported.saturating_add(u64::from(seen.reported)),

@@ -97,7 +97,7 @@ pub(crate) fn write_reasoned<W: Write>(
     path: &str,
     out: &mut W,
 ) -> Result<(), Stop>
-    ensures writes { OnOk result (Appends (W.contents out.old) (W.contents out.new) (reasoned (option_copied form.base) form.null (query_why_of explanation.now.reason) path.now)) }
+    ensures writes { OnOk result (Appends (W.contents out.old) (W.contents out.new) (reasoned (option_copied form.entry.base) form.entry.null (query_why_of explanation.now.reason) path.now)) }
     ensures ended { IfErr result (λ stop. (stop ≡ Stop.Write) ⊎ (stop ≡ Stop.Closed)) }
 {
     match rule_of(&explanation.reason) {
@@ -115,7 +115,7 @@ pub(crate) fn write_rule<W: Write>(
     origin: &Origin<'_>,
     out: &mut W,
 ) -> Result<(), Stop>
-    ensures writes { OnOk result (Appends (W.contents out.old) (W.contents out.new) (rule_fields (option_copied form.base) form.null origin.now.source.now origin.now.line origin.now.pattern.now)) }
+    ensures writes { OnOk result (Appends (W.contents out.old) (W.contents out.new) (rule_fields (option_copied form.entry.base) form.entry.null origin.now.source.now origin.now.line origin.now.pattern.now)) }
     ensures ended { IfErr result (λ stop. (stop ≡ Stop.Write) ⊎ (stop ≡ Stop.Closed)) }
 {
     write_text(form, relative(form.base, origin.source), out)?;
@@ -128,7 +128,7 @@ pub(crate) fn write_rule<W: Write>(
 /// Writes three fields, of which the last is the word for a reason that is no rule; it is empty
 /// where nothing decides.
 fn write_word<W: Write>(form: Form<'_>, reason: &Reason, out: &mut W) -> Result<(), Stop>
-    ensures writes { OnOk result (Appends (W.contents out.old) (W.contents out.new) (word_fields form.null (query_why_of reason.now))) }
+    ensures writes { OnOk result (Appends (W.contents out.old) (W.contents out.new) (word_fields form.entry.null (query_why_of reason.now))) }
     ensures ended { IfErr result (λ stop. (stop ≡ Stop.Write) ⊎ (stop ≡ Stop.Closed)) }
 {
     write_between(form, out)?;
@@ -144,7 +144,7 @@ fn write_word<W: Write>(form: Form<'_>, reason: &Reason, out: &mut W) -> Result<
 
 /// Writes what separates the three fields of a rule.
 fn write_between<W: Write>(form: Form<'_>, out: &mut W) -> Result<(), Stop>
-    ensures writes { OnOk result (Appends (W.contents out.old) (W.contents out.new) (between form.null)) }
+    ensures writes { OnOk result (Appends (W.contents out.old) (W.contents out.new) (between form.entry.null)) }
     ensures ended { IfErr result (λ stop. (stop ≡ Stop.Write) ⊎ (stop ≡ Stop.Closed)) }
 {
     write_bytes(if form.null { b"\0" } else { b":" }, out)
@@ -166,7 +166,7 @@ fn write_number<W: Write>(line: Option<u64>, out: &mut W) -> Result<(), Stop>
 
 /// A source relative to a directory, where one is given.
 fn relative<'a>(base: Option<&str>, source: &'a str) -> &'a str
-    ensures { result.now ≡ relative (option_copied base) source.now }
+    ensures { result.now ≡ relative (option_copied base.entry) source.now }
 {
     match base {
         Some(base) => strip(base, source),
@@ -176,7 +176,7 @@ fn relative<'a>(base: Option<&str>, source: &'a str) -> &'a str
 
 /// Writes a path: as it is where fields end in NUL, else quoted as git quotes it, where it must be.
 pub(crate) fn write_text<W: Write>(form: Form<'_>, text: &str, out: &mut W) -> Result<(), Stop>
-    ensures writes { OnOk result (Appends (W.contents out.old) (W.contents out.new) (field form.null text.now)) }
+    ensures writes { OnOk result (Appends (W.contents out.old) (W.contents out.new) (field form.entry.null text.now)) }
     ensures ended { IfErr result (λ stop. (stop ≡ Stop.Write) ⊎ (stop ≡ Stop.Closed)) }
 {
     let bytes = text.as_bytes();

@@ -1,5 +1,5 @@
 //! The command `ls`: the entries of a walk that the options choose.
-ghost use Rattle.std.specs.Prelude.{◌≡◌, ◌≢◌, ℕ, List, Result, Ok, Err, Some, false, [], map, option_map, OnOk, IfOk, IfErr};
+ghost use Rattle.std.specs.Prelude.{◌≡◌, ◌≢◌, List, Result, Ok, Err, Some, false, [], map, option_map, OnOk, IfOk, IfErr};
 ghost use Rattle.std.specs.Io.KnownBytes.{Appends};
 ghost use Rattle.std.specs.Iterator.{Drains, IsFinite, YieldsThen};
 ghost use Rattle.std.specs.List.{flat_map, list_any};
@@ -11,11 +11,10 @@ ghost use Rattle.ignore_dir.specs.declared.outside.Outside.{Outside};
 ghost use Rattle.ignore_files.specs.Gives.{IsHonest};
 ghost use Rattle.ignore_files.specs.Tree.{Tree};
 ghost use Rattle.ignore_walk.specs.Entry.{Item, entry_of, item_of, problem_in};
-ghost use Rattle.ignore_walk.specs.Nexts.{Remaining};
-ghost use Rattle.ignore_walk.specs.Whole.{Whole};
+ghost use Rattle.ignore_walk.specs.GoesOn.{HasNoEnd};
 ghost use Rattle.ignore_walk.specs.declared.entry.DirEntry.{DirEntry};
 ghost use Rattle.ig_options.specs.Settings.{most_steps};
-ghost use Rattle.ig_commands.specs.Listing.{AreBegun, AreFirst, AreListed, EndsAsked, GoesBy, Lists, ListsAsked, Writes, all_reports, listing};
+ghost use Rattle.ig_commands.specs.Listing.{AreBegun, AreFirst, AreListed, Begins, EndsAsked, GoesBy, Lists, ListsAsked, Writes, all_reports, listing};
 ghost use Rattle.ig_commands.specs.Reports.{Notes, is_known, is_reported, last_in, report_of, reports_after, reports_of};
 ghost use Rattle.ig_commands.specs.Stops.{EndsAfter};
 ghost use Rattle.ig_commands.specs.Writing.{is_found, is_listed, lines_of};
@@ -110,6 +109,8 @@ fn walk_and_write<F: Files, W: Write, E: Write>(
         return Err(Stop::Memory);
     };
     runs::a_run_yields_the_list::<F, ByName>();
+    runs::a_finished_run_is_a_list::<F, ByName>();
+    runs::only_the_last_item_ends::<F, ByName>();
     runs::a_run_begins_the_list::<F, ByName>();
     write_items(steps, options, world.alloc, out, err)
 }
@@ -120,11 +121,11 @@ fn walk_of<'a, F: Files>(
     options: &Options,
     walk: WalkOptions,
 ) -> Result<Walk<'a, F, ByName>, Error>
-    ensures whole { (tree : Tree) → IsHonest F.Files world.now.files.now tree
+    ensures walks { (tree : Tree) → IsHonest F.Files world.now.files.now tree
         → IfOk result (λ w. (roots : List Path) × (outside : Outside) × GoesBy tree world.now.env.now options.now walk roots outside
-        × ((loads : Path → Loaded) (items : List Item) (n : ℕ) → AreLoads tree walk.settings loads
-        → Whole (listing options.now walk tree loads outside) roots items n
-        → Remaining F.Files ⟦<ByName as Callbacks>⟧ (listing options.now walk tree loads outside) w items n)) }
+        × ((loads : Path → Loaded) → AreLoads tree walk.settings loads
+        → Begins F.Files ⟦<ByName as Callbacks>⟧ (listing options.now walk tree loads outside) w roots)) }
+    ensures no_end { IfOk result (λ w. HasNoEnd w.stack) }
     ensures limit { IfOk result (λ w. w.left ≡ most_steps) }
     ensures goes_on { IfOk result (λ w. w.ended ≡ false) }
 {

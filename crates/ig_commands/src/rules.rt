@@ -101,7 +101,7 @@ impl FileRules {
         out: &mut W,
     ) -> Result<u64, Stop>
         ensures writes { IfOk result (λ count. (all : List FileRule) × AreWithout self.now others.now all × (count ≡ capped (length all))
-            × Appends (W.contents out.old) (W.contents out.new) (flat_map (rule_line (option_copied form.base) form.null is_written) all)) }
+            × Appends (W.contents out.old) (W.contents out.new) (flat_map (rule_line (option_copied form.entry.base) form.entry.null is_written) all)) }
         ensures ended { IfErr result (λ stop. (stop ≡ Stop.Write) ⊎ (stop ≡ Stop.Closed)) }
     {
         let others = Without {
@@ -143,9 +143,9 @@ fn write_file<W: Write>(
     file: &File,
     out: &mut W,
 ) -> Result<u64, Stop>
-    ensures writes { IfOk result (λ count. (count ≡ capped (length (left_of without.others.now source.now file.now.entries)))
+    ensures writes { IfOk result (λ count. (count ≡ capped (length (left_of without.entry.others.now source.now file.now.entries)))
         × Appends (W.contents out.old) (W.contents out.new)
-        (flat_map (rule_line (option_copied without.form.base) without.form.null without.is_written) (left_of without.others.now source.now file.now.entries))) }
+        (flat_map (rule_line (option_copied without.entry.form.base) without.entry.form.null without.entry.is_written) (left_of without.entry.others.now source.now file.now.entries))) }
     ensures ordered { IsOrdered nat_cmp file.now }
     ensures ended { IfErr result (λ stop. (stop ≡ Stop.Write) ⊎ (stop ≡ Stop.Closed)) }
 {
@@ -165,9 +165,9 @@ fn write_left<W: Write>(
     pattern: &str,
     out: &mut W,
 ) -> Result<bool, Stop>
-    ensures writes { IfOk result (λ is_left. (is_left ≡ is_free without.others.now (file_rule source.now line pattern.now))
+    ensures writes { IfOk result (λ is_left. (is_left ≡ is_free without.entry.others.now (file_rule source.now line pattern.now))
         × Appends (W.contents out.old) (W.contents out.new) (if is_left
-        then rule_line (option_copied without.form.base) without.form.null without.is_written (file_rule source.now line pattern.now) else [])) }
+        then rule_line (option_copied without.entry.form.base) without.entry.form.null without.entry.is_written (file_rule source.now line pattern.now) else [])) }
     ensures ended { IfErr result (λ stop. (stop ≡ Stop.Write) ⊎ (stop ≡ Stop.Closed)) }
 {
     if without.others.has(source, line) {
@@ -187,7 +187,7 @@ fn write_left<W: Write>(
 /// Writes a rule, and what it ends in.
 fn write_line<W: Write>(form: Form<'_>, origin: &Origin<'_>, out: &mut W) -> Result<(), Stop>
     ensures writes { OnOk result (Appends (W.contents out.old) (W.contents out.new)
-        (rule_fields (option_copied form.base) form.null origin.now.source.now origin.now.line origin.now.pattern.now ++ at_end form.null)) }
+        (rule_fields (option_copied form.entry.base) form.entry.null origin.now.source.now origin.now.line origin.now.pattern.now ++ at_end form.entry.null)) }
     ensures ended { IfErr result (λ stop. (stop ≡ Stop.Write) ⊎ (stop ≡ Stop.Closed)) }
 {
     write_rule(form, origin, out)?;
