@@ -10,6 +10,7 @@ pub mod MetLemmas
 pub mod OrderLemmas
 pub mod RootLemmas
 pub mod RuleLemmas
+pub mod RunLemmas
 pub mod StopLemmas
 pub mod TurnLemmas
 pub mod UnusedLemmas
