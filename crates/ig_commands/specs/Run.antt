@@ -1,6 +1,6 @@
 -- What a run of the program does.
 use denote.Bor.{Bor}
-use Rattle.std.specs.Prelude.{◌≡◌, ◌⊎◌, ℕ, true, List, [], ◌++◌, map, Option, IfSome}
+use Rattle.std.specs.Prelude.{◌≡◌, ◌⊎◌, ⊤, ℕ, true, List, [], ◌++◌, map, Option, IfSome}
 use Rattle.std.specs.Io.KnownBytes.{Appends, Keeps}
 use Rattle.ignore_base.specs.Text.{Bytes}
 use Rattle.ignore_files.specs.declared.env.Env.{Env}
@@ -19,7 +19,9 @@ use Rattle.ig_commands.specs.Types.{ListsTypes}
 use Rattle.ig_commands.specs.Unused.{UnusedAsked, UnusedEnds}
 use Rattle.ig_commands.specs.Why.{WhyAsked, WhyEnds}
 use Rattle.ig_commands.specs.declared.stop.Stop.{Stop}
-use Rattle.ig_commands.specs.declared.stop.Stop.TheVariants.{Read, Write, Closed}
+use Rattle.ig_commands.specs.declared.stop.Stop.TheVariants.{Memory, Read, Write, Closed}
+use Rattle.ig_commands.specs.declared.run.Unread.{Unread}
+use Rattle.ig_commands.specs.declared.run.Unread.TheVariants as unread
 
 -- a command was carried out, with this status; the draft has the file types that exist at first
 abbrev pub Does : {F : Type 0} → Files F → F → Env → Options → Draft → Task → ℕ → (Bytes → Type 0) → (Bytes → Type 0) → Type 0
@@ -64,6 +66,11 @@ Shows status out err = ((status ≡ 0) × err []) ⊎ ((status ≡ 2) × out [])
 -- out of memory; or what the parser has to say can't be written
 abbrev pub EndsBefore : (Bytes → Type 0) → (Bytes → Type 0) → Stop → Type 0
 EndsBefore out err stop = EndsAfter [] [] out err stop ⊎ ((stop ≡ Read) × (out [] × err []))
+
+-- what ends a run at standard input is that it can't be read, or out of memory
+abbrev pub EndsRead : Unread → Type 0
+EndsRead (unread.Words error) = ⊤
+EndsRead (unread.Input stop is_timed) = (stop ≡ Read) ⊎ (stop ≡ Memory)
 
 -- the texts of a table of default types
 abbrev pub rows_of : List (Bor (List (Bor Bytes)) × Bor (List (Bor Bytes))) → List Row

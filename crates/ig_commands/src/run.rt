@@ -2,7 +2,7 @@
 ghost use Rattle.std.specs.Prelude.{◌≡◌, ◌≢◌, ◌⊎◌, Ok, Err, [], IfOk, IfErr};
 ghost use Rattle.std.specs.Io.KnownBytes.{Appends, Keeps};
 ghost use Rattle.ignore_base.specs.Problem.{memory, problem_of};
-ghost use Rattle.ig_commands.specs.Run.{Does, Ends, Runs, Shows, rows_of, types_at_first};
+ghost use Rattle.ig_commands.specs.Run.{Does, Ends, EndsRead, HasInput, Runs, Shows, rows_of, types_at_first};
 ghost use Rattle.ig_commands.specs.Stops.{EndsAfter, reason, stop_status};
 
 use crate::ignored::list_ignored;
@@ -49,25 +49,36 @@ pub fn run<F: Files, R: BufRead + Drop, W: Write, E: Write>(
         (W.contents out.old) (W.contents out.new) (E.contents err.old) (E.contents err.new)) }
     ensures unreported { IfErr result (λ stop. stop ≢ Stop.Closed) }
 {
-    match read_words(world.alloc, words) {
-        Ok((task, mut options)) => {
-            let ended = match read_paths(world.alloc, input, &mut options) {
-                Ok(()) => run_task(world, task, &options, out, err),
-                Err(stop) => Err(stop),
-            };
-            Ok(Ran {
-                status: finish(ended, out, err)?,
-                is_timed: options.stats,
-            })
+    match read_task(world.alloc, words, input) {
+        Ok((task, options)) => {
+            let ended = run_task(world, task, &options, out, err);
+            ran(ended, options.stats, out, err)
         }
-        Err(error) => {
+        Err(Unread::Words(error)) => {
             let ended = show(&error, out, err);
-            Ok(Ran {
-                status: finish(ended, out, err)?,
-                is_timed: false,
-            })
+            ran(ended, false, out, err)
         }
+        Err(Unread::Input { stop, is_timed }) => ran(Err(stop), is_timed, out, err),
     }
+}
+
+/// How a run ends that has returned its status, or why it ended early.
+fn ran<W: Write, E: Write>(
+    ended: Result<u8, Stop>,
+    is_timed: bool,
+    out: &mut W,
+    err: &mut E,
+) -> Result<Ran, Stop>
+    ensures kept { IfOk ended (λ given. IfOk result (λ ran. ((ran.status ≡ given) × (E.contents err.new ≡ E.contents err.old))
+        ⊎ ((stop : Stop) × ((stop ≡ Stop.Write) ⊎ (stop ≡ Stop.Closed)) × (ran.status ≡ stop_status stop)
+        × Appends (E.contents err.old) (E.contents err.new) (reason stop)))) }
+    ensures reported { IfErr ended (λ stop. IfOk result (λ ran. (ran.status ≡ stop_status stop)
+        × Appends (E.contents err.old) (E.contents err.new) (reason stop))) }
+    ensures unreported { IfErr result (λ stop. stop ≢ Stop.Closed) }
+    ensures written { Keeps (W.contents out.old) (W.contents out.new) }
+{
+    let status = finish(ended, out, err)?;
+    Ok(Ran { status, is_timed })
 }
 
 /// Ends a command that has returned its status, or why it ended early: writes what its output still
@@ -80,7 +91,7 @@ pub fn finish<W: Write, E: Write>(
     out: &mut W,
     err: &mut E,
 ) -> Result<u8, Stop>
-    ensures kept { IfOk ended (λ given. IfOk result (λ status. ((status ≡ given) × (err.new ≡ err.old))
+    ensures kept { IfOk ended (λ given. IfOk result (λ status. ((status ≡ given) × (E.contents err.new ≡ E.contents err.old))
         ⊎ ((stop : Stop) × ((stop ≡ Stop.Write) ⊎ (stop ≡ Stop.Closed)) × (status ≡ stop_status stop)
         × Appends (E.contents err.old) (E.contents err.new) (reason stop)))) }
     ensures reported { IfErr ended (λ stop. IfOk result (λ status. (status ≡ stop_status stop)
@@ -104,6 +115,38 @@ fn flushed<W: Write>(ended: Result<u8, Stop>, out: &mut W) -> Result<u8, Stop>
     match out.flush() {
         Ok(()) => Ok(status),
         Err(error) => Err(write_stop(&error)),
+    }
+}
+
+/// Why no command begins.
+#[derive(Drop)]
+enum Unread {
+    /// What the parser of words has to say.
+    Words(clap::Error),
+    /// Why standard input can't be read, and whether the time is asked for.
+    Input { stop: Stop, is_timed: bool },
+}
+
+/// The command of the words, and its options, with the paths of standard input where they are to
+/// come from there.
+fn read_task<R: BufRead + Drop>(
+    alloc: Global,
+    words: &[String],
+    input: R,
+) -> Result<(Task, Options), Unread>
+    ensures input { IfOk result (λ r. HasInput r.1 (R.remaining input)) }
+    ensures unread { IfErr result EndsRead }
+{
+    let (task, mut options) = match read_words(alloc, words) {
+        Ok(read) => read,
+        Err(error) => return Err(Unread::Words(error)),
+    };
+    match read_paths(alloc, input, &mut options) {
+        Ok(()) => Ok((task, options)),
+        Err(stop) => Err(Unread::Input {
+            stop,
+            is_timed: options.stats,
+        }),
     }
 }
 

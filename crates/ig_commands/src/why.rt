@@ -21,7 +21,7 @@ ghost use Rattle.ig_commands.specs.Reports.{report_of};
 ghost use Rattle.ig_commands.specs.Stops.{EndsAfter};
 ghost use Rattle.ig_commands.specs.Why.{AreAll, AreBegun, AreSaid, IsMatcherOf, IsSaid, IsSaidOf, WhyAsked, WhyEnds, Writes};
 ghost use Rattle.ig_commands.specs.Why.{is_found, is_wrong, outside_line, record_line, reports, said_of, written};
-ghost use Rattle.ig_commands.specs.Why.Said as plain;
+ghost use Rattle.ig_commands.specs.Why.{Said as Plain};
 
 use crate::asking::{Asked, asked_for};
 use crate::counts::{Counts, Seen, status_of};
@@ -88,10 +88,10 @@ fn report_and_ask<F: Files, W: Write, E: Write>(
     out: &mut W,
     err: &mut E,
 ) -> Result<u8, Stop>
-    ensures answers { IfOk result (λ status. (root : Path) × (said : List plain.Said)
+    ensures answers { IfOk result (λ status. (root : Path) × (said : List Plain)
         × Writes options.now (map (option_map problem_of) asked.errors.items) root said status (Appends (W.contents out.old) (W.contents out.new)) (Appends (E.contents err.old) (E.contents err.new))
         × ((tree : Tree) → IsHonest F.Files world.now.files.now tree → AreAll tree world.now.env.now asked.walk options.now.paths.items root said)) }
-    ensures ended { IfErr result (λ stop. (root : Path) × (said : List plain.Said)
+    ensures ended { IfErr result (λ stop. (root : Path) × (said : List Plain)
         × EndsAfter (flat_map (written options.now root) said) (flat_map report_of (map (option_map problem_of) asked.errors.items) ++ flat_map (reports root) said)
         (Appends (W.contents out.old) (W.contents out.new)) (Appends (E.contents err.old) (E.contents err.new)) stop
         × ((tree : Tree) → IsHonest F.Files world.now.files.now tree → AreBegun tree world.now.env.now asked.walk options.now.paths.items root said)) }
@@ -135,13 +135,13 @@ fn ask_all<F: Files, W: Write, E: Write>(
     out: &mut W,
     err: &mut E,
 ) -> Result<Counts, Stop>
-    ensures answers { IfOk result (λ counts. (said : List plain.Said)
+    ensures answers { IfOk result (λ counts. (said : List Plain)
         × Appends (W.contents out.old) (W.contents out.new) (flat_map (written options.now (string_bytes matcher.old.asked.root)) said)
         × Appends (E.contents err.old) (E.contents err.new) (flat_map (reports (string_bytes matcher.old.asked.root)) said)
         × (counts.reported ≡ counted 0 (map is_wrong said)) × (counts.found ≡ counted 0 (map is_found said))
         × InEachScene F.Files world.now.files.now matcher.old.asked (λ g. Agrees g matcher.old.cache
         → AreSaid g (dir_of matcher.old.asked) options.now.paths.items matcher.old.cache matcher.new.cache said)) }
-    ensures ended { IfErr result (λ stop. (said : List plain.Said) × (first rest : List Given) × (last : Cache)
+    ensures ended { IfErr result (λ stop. (said : List Plain) × (first rest : List Given) × (last : Cache)
         × EndsAfter (flat_map (written options.now (string_bytes matcher.old.asked.root)) said) (flat_map (reports (string_bytes matcher.old.asked.root)) said)
         (Appends (W.contents out.old) (W.contents out.new)) (Appends (E.contents err.old) (E.contents err.new)) stop
         × (options.now.paths.items ≡ first ++ rest)
