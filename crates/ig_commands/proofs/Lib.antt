@@ -8,6 +8,7 @@ pub mod ItemLemmas
 pub mod MemberLemmas
 pub mod MetLemmas
 pub mod OrderLemmas
+pub mod ReportLemmas
 pub mod RootLemmas
 pub mod RuleLemmas
 pub mod RunLemmas

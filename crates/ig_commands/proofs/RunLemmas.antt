@@ -1,18 +1,19 @@
 -- How a run ends.
 use Rattle.std.proofs.Common.{◌≡◌, ◌⊎◌, ℕ, List, [], Option, None, Some, Result, Ok, Err, IfErr, IfOk, inl, inr, refl, sym, subst}
 use Rattle.std.specs.Io.KnownBytes.{Appends, Keeps}
+use Rattle.commands.proofs.LineLemmas.{appends_nothing}
 use Rattle.ignore_files.specs.declared.env.Env.{Env}
 use Rattle.ignore_files.specs.declared.files.Files.{Ghosts as Files}
 use Rattle.ignore_types.specs.Types.{Draft}
 use Rattle.ig_options.specs.declared.options.Options.{Options}
 use Rattle.ig_options.specs.declared.words.Task.{Task}
 use Rattle.ig_options.specs.declared.words.Task.TheVariants as command
-use Rattle.ig_commands.specs.Run.{Does, Ends, Finishes}
+use Rattle.ig_commands.specs.Run.{Does, Ends, EndsBefore, Finishes}
 use Rattle.ig_commands.specs.Run.Finishes.{whole, early as early_end, unwritten}
 use Rattle.ig_commands.specs.Stops.{EndsAfter, reason, stop_status}
 use Rattle.ig_commands.specs.declared.run.Ran.{Ran}
 use Rattle.ig_commands.specs.declared.stop.Stop.{Stop}
-use Rattle.ig_commands.specs.declared.stop.Stop.TheVariants.{Write, Closed}
+use Rattle.ig_commands.specs.declared.stop.Stop.TheVariants.{Memory, Read, Write, Closed}
 
 -- each command may end before it begins
 pub ends_none : {F : Type 0} (files : Files F) (f : F) (env : Env) (o : Options) (first : Draft) (task : Task) (out err : List ℕ → Type 0)
@@ -59,3 +60,10 @@ finishes Done Ended (Ok given) (Ok x) out written now err reported told done end
 finishes Done Ended (Err stop) (Ok x) out written now err reported told done ended kept early keeps =
     early_end written reported stop ended keeps early.0 early.1
 finishes Done Ended r (Err s) out written now err reported told done ended kept early keeps = tt
+
+-- what ends a run at standard input
+pub ends_unread : (out err : Option (List ℕ)) (stop : Stop) → (stop ≡ Read) ⊎ (stop ≡ Memory)
+    → EndsBefore (Appends out out) (Appends err err) stop
+ends_unread out err stop (inl read) = inr (read, (appends_nothing out, appends_nothing err))
+ends_unread out err stop (inr memory) =
+    inl (subst (EndsAfter [] [] (Appends out out) (Appends err err)) (sym memory) (appends_nothing out, appends_nothing err))

@@ -52,18 +52,18 @@ pub fn run<F: Files, R: BufRead + Drop, W: Write, E: Write>(
     match read_task(world.alloc, words, input) {
         Ok((task, options)) => {
             let ended = run_task(world, task, &options, out, err);
-            ran(ended, options.stats, out, err)
+            end_run(ended, options.stats, out, err)
         }
         Err(Unread::Words(error)) => {
             let ended = show(&error, out, err);
-            ran(ended, false, out, err)
+            end_run(ended, false, out, err)
         }
-        Err(Unread::Input { stop, is_timed }) => ran(Err(stop), is_timed, out, err),
+        Err(Unread::Input { stop, is_timed }) => end_run(Err(stop), is_timed, out, err),
     }
 }
 
 /// How a run ends that has returned its status, or why it ended early.
-fn ran<W: Write, E: Write>(
+fn end_run<W: Write, E: Write>(
     ended: Result<u8, Stop>,
     is_timed: bool,
     out: &mut W,

@@ -9,6 +9,7 @@ use Rattle.ig_commands.specs.Ignored.{all_written}
 use Rattle.ig_commands.specs.Reports.{report_of}
 use Rattle.ig_commands.specs.Surveys.{IsBegun, IsWhole, OfRoot, all_seen, reports}
 use Rattle.ig_commands.proofs.RootLemmas.{begun_of, roots_of}
+use Rattle.ig_commands.proofs.ReportLemmas.{ends_as, reported_as}
 use Rattle.ig_commands.proofs.StopLemmas.{ends_after_reports}
 use Rattle.ig_commands.proofs.ignored.report_and_survey.Goals as goal
 
@@ -26,7 +27,7 @@ returns-in_default-clause-ended g c = (
     appends_nothing (g.W.Write.contents c.args.out.now),
     subst (Appends (g.E.Write.contents c.args.err.now) (g.E.Write.contents c.report_all.new.err))
         (sym (append-nil (flat_map report_of (map (option_map problem_of) c.args.asked.errors.items))))
-        c.in_ok-reported.ensures.reports.1,
+        (reported_as c.deref.result.now c.args.asked.errors.items c.deref.ensures.value c.in_ok-reported.ensures.reports.1),
   ),
   λ tree honest none. inl refl,
 )
@@ -42,7 +43,7 @@ returns-in_err-counts-clause-ended g c =
       ends_after_reports (all_written o all) (flat_map report_of (map (option_map problem_of) c.args.asked.errors.items))
           (flat_map reports (all_seen all)) (Appends (g.W.Write.contents c.args.out.now) (g.W.Write.contents c.survey_all.new.out))
           (g.E.Write.contents c.args.err.now) (g.E.Write.contents c.report_all.new.err) (g.E.Write.contents c.survey_all.new.err)
-          c.in_err-counts.field-0.0 c.in_ok-reported.ensures.reports.1 h.8,
+          c.in_err-counts.field-0.0 (reported_as c.deref.result.now c.args.asked.errors.items c.deref.ensures.value c.in_ok-reported.ensures.reports.1) h.8,
       λ tree honest none.
           let made = c.in-Ok.ensures.made tree honest in
           let begun = begun_of g.F.Files c.args.world.now.files.now (λ (r : OfRoot). r) (λ (r : OfRoot). IsWhole) tree c.args.world.now.env.now o c.args.asked.walk honest none made.0
@@ -65,8 +66,13 @@ returns-clause-lists g c =
       h.0,
       record {
         writes = h.2;
-        reports = ?;
-        ends = ?;
+        reports = appends_on _ _ _ (flat_map report_of problems ++ flat_map reports (all_seen h.0)) _
+            (appends_on _ _ _ (flat_map report_of problems) (flat_map reports (all_seen h.0))
+            (reported_as c.deref.result.now c.args.asked.errors.items c.deref.ensures.value c.in_ok-reported.ensures.reports.1) h.3)
+            ?;
+        ends = ends_as c.deref.result.now c.args.asked.errors.items c.status_of.result c.saturating_add.result c.in_ok-counts.counts.reported
+            c.in_ok-reported.reported c.in_ok-counts.counts.found _ _ c.deref.ensures.value c.status_of.ensures c.saturating_add.ensures
+            c.in_ok-reported.ensures.reports.0 h.4 h.5;
       },
       λ tree honest none.
           let made = c.in-Ok.ensures.made tree honest in

@@ -16,8 +16,8 @@ returns-in_default-clause-ended g c =
     )
 
 -- or for the survey
-pub returns-in_default-2-clause-ended : goal.returns-in_default-2-clause-ended
-returns-in_default-2-clause-ended g c =
+pub returns-in_default-new-clause-ended : goal.returns-in_default-new-clause-ended
+returns-in_default-new-clause-ended g c =
     let m = c.args.matcher in (
       (string_bytes m.asked.root, []),
       (refl, λ empty tree loads honest are. begun_none (scene_of m.asked tree loads) m.cache empty),
@@ -27,7 +27,7 @@ returns-in_default-2-clause-ended g c =
 pub returns-clause-lists : goal.returns-clause-lists
 returns-clause-lists g c =
     let m = c.args.matcher in
-    let s = c.in-Ok-2.survey in
+    let s = c.in-Ok-new.survey in
     let root = c.as_str.result.now in
     let at : root ≡ string_bytes m.asked.root = cc (c.in-Ok.ensures) in
     IfOk-weaker c.write_items.result _ _
@@ -35,7 +35,7 @@ returns-clause-lists g c =
       (root, map seen_of h.0),
       (
         at,
-        λ empty. survey_whole g.F.Files c.args.world.now.files.now m s c.in-Ok-2.ensures.whole c.in-Ok-2.ensures.kept c.in-Ok-2.ensures.limit empty
+        λ empty. survey_whole g.F.Files c.args.world.now.files.now m s c.in-Ok-new.ensures.whole c.in-Ok-new.ensures.kept c.in-Ok-new.ensures.limit empty
             h.1.0 h.0 h.1.1 h.6,
       ),
       h.2,
@@ -49,7 +49,7 @@ returns-clause-lists g c =
 pub returns-clause-ended : goal.returns-clause-ended
 returns-clause-ended g c =
     let m = c.args.matcher in
-    let s = c.in-Ok-2.survey in
+    let s = c.in-Ok-new.survey in
     let root = c.as_str.result.now in
     let at : root ≡ string_bytes m.asked.root = cc (c.in-Ok.ensures) in
     IfErr-weaker c.write_items.result _ _
@@ -57,7 +57,7 @@ returns-clause-ended g c =
       (root, map seen_of h.0),
       (
         at,
-        λ empty. survey_begun g.F.Files c.args.world.now.files.now m s c.in-Ok-2.ensures.whole c.in-Ok-2.ensures.kept c.in-Ok-2.ensures.limit empty
+        λ empty. survey_begun g.F.Files c.args.world.now.files.now m s c.in-Ok-new.ensures.whole c.in-Ok-new.ensures.kept c.in-Ok-new.ensures.limit empty
             h.2 h.0 h.1 h.3 h.5,
       ),
       h.4,

@@ -11,8 +11,8 @@ returns-in-Ok-clause-runs g c =
     let env = c.args.world.now.env.now in
     let task = c.in-Ok.task in
     let o = c.in-Ok.options in
-    IfOk-weaker c.ran.result _ _ (λ x h. inl (task, o, c.in-Ok.ensures.input, h))
-    (finishes (Does g.F.Files f env o _ task) (Ends g.F.Files f env o _ task) c.run_task-ended.result c.ran.result
-    (g.W.Write.contents c.args.out.now) (g.W.Write.contents c.run_task-ended.new.out) (g.W.Write.contents c.ran.new.out)
-    (g.E.Write.contents c.args.err.now) (g.E.Write.contents c.run_task-ended.new.err) (g.E.Write.contents c.ran.new.err)
-    c.run_task-ended.ensures.done c.run_task-ended.ensures.ended c.ran.ensures.kept c.ran.ensures.reported c.ran.ensures.written)
+    IfOk-weaker c.end_run.result _ _ (λ x h. inl (task, o, c.in-Ok.ensures.input, h))
+    (finishes (Does g.F.Files f env o _ task) (Ends g.F.Files f env o _ task) c.run_task-ended.result c.end_run.result
+    (g.W.Write.contents c.args.out.now) (g.W.Write.contents c.run_task-ended.new.out) (g.W.Write.contents c.end_run.new.out)
+    (g.E.Write.contents c.args.err.now) (g.E.Write.contents c.run_task-ended.new.err) (g.E.Write.contents c.end_run.new.err)
+    c.run_task-ended.ensures.done c.run_task-ended.ensures.ended c.end_run.ensures.kept c.end_run.ensures.reported c.end_run.ensures.written)

@@ -26,8 +26,11 @@ returns-in_err-reported-clause-ended g c =
     let p = err_from_is_err_and c.from_residual.result c.from_residual.ensures.1 in
     rw (p.1, p.2) (
       (string_bytes m.asked.root, map seen_of h.0),
-      (refl, λ empty. survey_begun g.F.Files c.args.world.now.files.now m s c.in-Ok.ensures.whole c.in-Ok.ensures.kept c.in-Ok.ensures.limit empty
-          h.2 h.0 h.1 h.3 h.5),
+      (
+        refl,
+        λ empty. survey_begun g.F.Files c.args.world.now.files.now m s c.in-Ok.ensures.whole c.in-Ok.ensures.kept c.in-Ok.ensures.limit empty
+            h.2 h.0 h.1 h.3 h.5,
+      ),
       h.4,
     )
 

@@ -39,7 +39,7 @@ loop-given-preserved g c =
     let so = l.invariant.answers in
     let given : Given = c.given-item.result in
     let one : Said = said_of c.in_ok-said.said in
-    let all = c.args.options.now.paths.items in
+    let all = c.deref-given-items.result.now in
     let root : c.root.result.now ≡ string_bytes first.asked.root =
     c.root.ensures ∙ ap (λ (a : Asked). string_bytes a.root) (c.in_ok-said.ensures.same ∙ l.invariant.same) in
     let asked = subst
@@ -87,16 +87,15 @@ returns-clause-answers g c =
       so.4,
       λ tree loads honest are agrees.
           subst (λ (gs : List Given). AreSaid (scene_of first.asked tree loads) (dir_of first.asked) gs first.cache l.matcher.cache so.0)
-          (take_all l.given-index c.args.options.now.paths.items c.loop-given-test.false) (so.5 tree loads honest are agrees),
+          (take_all l.given-index c.deref-given-items.result.now c.loop-given-test.false ∙ c.deref-given-items.ensures.value) (so.5 tree loads honest are agrees),
     )
 
 -- the paths before the one that ended it are answered
 pub returns-in_err-said-clause-ended : goal.returns-in_err-said-clause-ended
 returns-in_err-said-clause-ended g c =
     let l = c.loop-given in
-    let root = string_bytes c.args.matcher.now.asked.root in
     let so = l.invariant.answers in
-    let all = c.args.options.now.paths.items in
+    let all = c.deref-given-items.result.now in
     let p = err_from_is_err_and c.from_residual.result c.from_residual.ensures.1 in
     rw (p.1, p.2, c.in_err-said.ensures.ended) (
       so.0,
@@ -104,7 +103,7 @@ returns-in_err-said-clause-ended g c =
       drop l.given-index all,
       l.matcher.cache,
       (so.1, so.2),
-      sym (take-append-drop l.given-index all),
+      sym c.deref-given-items.ensures.value ∙ sym (take-append-drop l.given-index all),
       so.5,
     )
 
@@ -113,8 +112,8 @@ returns-in_err-write_said-clause-ended g c =
     let l = c.loop-given in
     let root = string_bytes c.args.matcher.now.asked.root in
     let so = l.invariant.answers in
-    let all = c.args.options.now.paths.items in
-    let p = err_from_is_err_and c.from_residual.result c.from_residual.ensures.1 in
+    let all = c.deref-given-items.result.now in
+    let p = err_from_is_err_and c.from_residual-in_err-write_said.result c.from_residual-in_err-write_said.ensures.1 in
     rw (p.1, p.2) (
       so.0,
       take l.given-index all,
@@ -124,6 +123,6 @@ returns-in_err-write_said-clause-ended g c =
           (g.W.Write.contents c.args.out.now) (g.W.Write.contents l.out) (g.W.Write.contents c.write_said.new.out)
           (g.E.Write.contents c.args.err.now) (g.E.Write.contents l.err) (g.E.Write.contents c.write_said.new.err)
           c.in_err-write_said.field-0.0 so.1 so.2 c.in_err-write_said.ensures.ended,
-      sym (take-append-drop l.given-index all),
+      sym c.deref-given-items.ensures.value ∙ sym (take-append-drop l.given-index all),
       so.5,
     )

@@ -21,7 +21,7 @@ invariant-loop-given g l = record {
       × ((tree : Tree) (loads : List ℕ → Loaded) → IsHonest g.F.Files l.world.files.now tree
       → AreLoads tree l.fn.matcher.asked.settings loads
       → Agrees (scene_of l.fn.matcher.asked tree loads) l.fn.matcher.cache
-      → AreSaid (scene_of l.fn.matcher.asked tree loads) (dir_of l.fn.matcher.asked) (take l.given-index l.options.paths.items)
+      → AreSaid (scene_of l.fn.matcher.asked tree loads) (dir_of l.fn.matcher.asked) (take l.given-index l.given-items)
       l.fn.matcher.cache l.matcher.cache said);
   agrees : (tree : Tree) (loads : List ℕ → Loaded) → IsHonest g.F.Files l.world.files.now tree
       → AreLoads tree l.fn.matcher.asked.settings loads
