@@ -1,7 +1,9 @@
 pub mod FieldLemmas
 pub mod InputLemmas
 pub mod ItemLemmas
+pub mod ListLemmas
 pub mod OrderLemmas
+pub mod RootLemmas
 pub mod RuleLemmas
 pub mod StopLemmas
 pub mod WalkLemmas
