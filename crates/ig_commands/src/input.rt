@@ -1,6 +1,8 @@
 //! Paths from standard input.
 ghost use Rattle.std.specs.Prelude.{◌≡◌, ◌⊎◌, ◌++◌, false, true, IfErr, IfSome, List, OnOk};
+ghost use Rattle.std.specs.IoError.{error_kind};
 ghost use Rattle.ig_commands.specs.Input.{AreGiven};
+ghost use Rattle.ig_commands.specs.Stops.{read_stop};
 ghost use Rattle.ig_options.specs.declared.given.Given.{Given};
 
 use crate::stop::Stop;
@@ -44,11 +46,11 @@ pub(crate) fn read_paths<R: BufRead + Drop>(
 
 /// Why a failed read ends a command.
 fn read_stop(error: &io::Error) -> Stop
-    ensures { (result ≡ Stop.Read) ⊎ (result ≡ Stop.Memory) }
+    ensures kind { result ≡ read_stop (error_kind error.now) }
+    ensures ended { (result ≡ Stop.Read) ⊎ (result ≡ Stop.Memory) }
 {
-    if error.kind() == io::ErrorKind::OutOfMemory {
-        Stop::Memory
-    } else {
-        Stop::Read
+    match error.kind() {
+        io::ErrorKind::OutOfMemory => Stop::Memory,
+        _ => Stop::Read,
     }
 }
