@@ -11,7 +11,7 @@ use Rattle.ig_commands.specs.Form.{rule_of}
 use Rattle.ig_commands.specs.Rules.{Grows, given_at, rule_at}
 use Rattle.ig_commands.specs.Surveys.{OfRoot, Seen, all_seen, seen_of}
 use Rattle.ig_commands.specs.declared.rules.FileRules.{FileRules}
-use Rattle.ig_commands.proofs.RootLemmas.{all_seen_more}
+use Rattle.ig_commands.proofs.SurveyLemmas.{all_seen_more}
 
 or_none : {A : Type 0} (a : Option A) → option_or a None ≡ a
 or_none None = refl

@@ -5,6 +5,7 @@ pub mod FoundLemmas
 pub mod GrowLemmas
 pub mod InputLemmas
 pub mod ItemLemmas
+pub mod ListLemmas
 pub mod MemberLemmas
 pub mod MetLemmas
 pub mod OrderLemmas
@@ -13,6 +14,7 @@ pub mod RootLemmas
 pub mod RuleLemmas
 pub mod RunLemmas
 pub mod StopLemmas
+pub mod SurveyLemmas
 pub mod TurnLemmas
 pub mod UnusedLemmas
 pub mod WalkLemmas

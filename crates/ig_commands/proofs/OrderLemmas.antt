@@ -41,34 +41,35 @@ by_all P [] h = tt
 by_all P (x ∷ xs) h = (All-head P x xs h, by_all P xs (All-tail P x xs h))
 
 -- ---- rules each of which comes before all after it
-Sorted : List FileRule → Type 0
+abbrev Sorted : List FileRule → Type 0
 Sorted [] = Unit {0}
 Sorted (r ∷ rs) = AllByRecursion (ComesBefore r) rs × Sorted rs
 
 in_order : (rs : List FileRule) → Sorted rs → AreInOrder rs
-unfolding Sorted
 in_order [] h = tt
 in_order (a ∷ []) h = tt
 in_order (a ∷ (b ∷ rs)) h = (h.0.0, in_order (b ∷ rs) h.1)
 
 sorted_kept : (r : FileRule) (rs : List FileRule) (b : Bool) → AllByRecursion (ComesBefore r) rs → Sorted rs → Sorted (cond b (r ∷ rs) rs)
-unfolding Sorted
 sorted_kept r rs true h k = (h, k)
 sorted_kept r rs false h k = k
 
 sorted_filter : (p : FileRule → Bool) (rs : List FileRule) → Sorted rs → Sorted (filter p rs)
-unfolding Sorted
 sorted_filter p [] h = tt
 sorted_filter p (r ∷ rs) h = sorted_kept r (filter p rs) (p r) (by_filter (ComesBefore r) p rs h.0) (sorted_filter p rs h.1)
 
 sorted_append : (rs qs : List FileRule) → Sorted rs → Sorted qs → AllByRecursion (λ r. AllByRecursion (ComesBefore r) qs) rs → Sorted (rs ++ qs)
-unfolding Sorted
 sorted_append [] qs h k before = k
 sorted_append (r ∷ rs) qs h k before =
     (by_append (ComesBefore r) rs qs h.0 before.0, sorted_append rs qs h.1 k before.1)
 
 -- ---- the lines of a file, and the files
-module _ {X Y : Type 0} (others : FileRules) where
+-- a rule of an earlier file comes before those of later ones
+before_source : (r q : FileRule) (a b : List ℕ) → r.source ≡ a → slice_cmp nat_cmp a b ≡ Less → q.source ≡ b → ComesBefore r q
+before_source r q a b is less its =
+    inl (ap is_lt (ap (λ (x : List ℕ). slice_cmp nat_cmp x q.source) is ∙ (ap (slice_cmp nat_cmp a) its ∙ less)))
+
+module _ {Y : Type 0} where
   before_lines : (source text : List ℕ) (n : ℕ) (es : List (ℕ × String Y)) → AllByRecursion (λ k. nat_cmp n k ≡ Less) (keys_of es)
       → AllByRecursion (ComesBefore (file_rule source n text)) (map (λ e. file_rule source e.0 (string_bytes e.1)) es)
   before_lines source text n [] h = tt
@@ -76,7 +77,7 @@ module _ {X Y : Type 0} (others : FileRules) where
 
   sorted_lines : (source : List ℕ) (es : List (ℕ × String Y)) → IsStrictlySortedBy nat_cmp (keys_of es)
       → Sorted (map (λ e. file_rule source e.0 (string_bytes e.1)) es)
-  unfolding Sorted IsStrictlySortedBy
+  unfolding IsStrictlySortedBy
   sorted_lines source [] h = tt
   sorted_lines source (e ∷ es) h = (before_lines source (string_bytes e.1) e.0 es h.0, sorted_lines source es h.1)
 
@@ -85,16 +86,12 @@ module _ {X Y : Type 0} (others : FileRules) where
   of_source source [] = tt
   of_source source (e ∷ es) = (refl, of_source source es)
 
+module _ {Y : Type 0} (others : FileRules) where
   left_of_source : (source : List ℕ) (es : List (ℕ × String Y)) → AllByRecursion (λ (r : FileRule). r.source ≡ source) (left_of others source es)
   left_of_source source es =
       by_filter (λ (r : FileRule). r.source ≡ source) (is_free others) (map (λ e. file_rule source e.0 (string_bytes e.1)) es) (of_source source es)
 
-  -- a rule of an earlier file comes before those of later ones
-  before_source : (r q : FileRule) (a b : List ℕ) → r.source ≡ a → slice_cmp nat_cmp a b ≡ Less → q.source ≡ b → ComesBefore r q
-  before_source r q a b is less its =
-      inl (ap is_lt (ap (λ (x : List ℕ). slice_cmp nat_cmp x q.source) is ∙ (ap (slice_cmp nat_cmp a) its ∙ less)))
-
-  before_files : (r : FileRule) (k : String X) (fs : List (String X × BTreeMap ℕ (String Y))) → r.source ≡ string_bytes k
+  before_files : {X : Type 0} (r : FileRule) (k : String X) (fs : List (String X × BTreeMap ℕ (String Y))) → r.source ≡ string_bytes k
       → AllByRecursion (λ (j : String X). string_cmp k j ≡ Less) (keys_of fs) → AllByRecursion (ComesBefore r) (all_left others fs)
   before_files r k [] is h = tt
   before_files r k (f ∷ fs) is h =
@@ -104,9 +101,9 @@ module _ {X Y : Type 0} (others : FileRules) where
       (left_of_source (string_bytes f.0) f.1.entries))
       (before_files r k fs is h.1)
 
-  sorted_files : (fs : List (String X × BTreeMap ℕ (String Y))) → IsStrictlySortedBy string_cmp (keys_of fs)
+  sorted_files : {X : Type 0} (fs : List (String X × BTreeMap ℕ (String Y))) → IsStrictlySortedBy string_cmp (keys_of fs)
       → AllByRecursion (λ (f : String X × BTreeMap ℕ (String Y)). IsOrdered nat_cmp f.1) fs → Sorted (all_left others fs)
-  unfolding Sorted IsStrictlySortedBy
+  unfolding IsStrictlySortedBy
   sorted_files [] h k = tt
   sorted_files (f ∷ fs) h k =
       sorted_append (left_of others (string_bytes f.0) f.1.entries) (all_left others fs)
@@ -118,35 +115,30 @@ module _ {X Y : Type 0} (others : FileRules) where
       (left_of_source (string_bytes f.0) f.1.entries))
 
 -- ---- members
-In : {X : Type 0} → List X → X → Type 0
+abbrev In : {X : Type 0} → List X → X → Type 0
 In [] x = ⊥
 In (y ∷ ys) x = (y ≡ x) ⊎ In ys x
 
 to_in : {X : Type 0} (xs : List X) (x : X) → Contains xs x → In xs x
-unfolding In
 to_in [] x (k, within, is) = absurd (omega (arith, within))
 to_in (y ∷ ys) x (zero, within, is) = inl is
 to_in (y ∷ ys) x (suc k, within, is) = inr (to_in ys x (k, omega (arith, within), is))
 
 from_in : {X : Type 0} (xs : List X) (x : X) → In xs x → Contains xs x
-unfolding In
 from_in [] x h = absurd h
 from_in (y ∷ ys) x (inl is) = (0, omega arith, is)
 from_in (y ∷ ys) x (inr h) = let k = from_in ys x h in (suc k.0, omega (arith, k.1), k.2)
 
 in_append_left : {X : Type 0} (xs ys : List X) (x : X) → In xs x → In (xs ++ ys) x
-unfolding In
 in_append_left [] ys x h = absurd h
 in_append_left (y ∷ xs) ys x (inl is) = inl is
 in_append_left (y ∷ xs) ys x (inr h) = inr (in_append_left xs ys x h)
 
 in_append_right : {X : Type 0} (xs ys : List X) (x : X) → In ys x → In (xs ++ ys) x
-unfolding In
 in_append_right [] ys x h = h
 in_append_right (y ∷ xs) ys x h = inr (in_append_right xs ys x h)
 
 in_append : {X : Type 0} (xs ys : List X) (x : X) → In (xs ++ ys) x → In xs x ⊎ In ys x
-unfolding In
 in_append [] ys x h = inr h
 in_append (y ∷ xs) ys x (inl is) = inl (inl is)
 in_append (y ∷ xs) ys x (inr h) = elim (in_append xs ys x h) [ | inl k ↦ inl (inr k) | inr k ↦ inr k ]
@@ -154,43 +146,36 @@ in_append (y ∷ xs) ys x (inr h) = elim (in_append xs ys x h) [ | inl k ↦ inl
 module _ {X : Type 0} (p : X → Bool) (y x : X) (ys : List X) where
   in_kept : (b : Bool) → p y ≡ b → (In (filter p ys) x → In ys x × (p x ≡ true)) → In (cond b (y ∷ filter p ys) (filter p ys)) x
       → In (y ∷ ys) x × (p x ≡ true)
-  unfolding In
   in_kept true e f (inl is) = (inl is, ap p (sym is) ∙ e)
   in_kept true e f (inr h) = let r = f h in (inr r.0, r.1)
   in_kept false e f h = let r = f h in (inr r.0, r.1)
 
   kept_back : (b : Bool) → p y ≡ b → In (y ∷ ys) x → p x ≡ true → (In ys x → In (filter p ys) x)
       → In (cond b (y ∷ filter p ys) (filter p ys)) x
-  unfolding In
   kept_back true e (inl is) k f = inl is
   kept_back true e (inr h) k f = inr (f h)
   kept_back false e (inl is) k f = let same : p y ≡ p x = ap p is in cc (same, e, k)
   kept_back false e (inr h) k f = f h
 
 in_filter : {X : Type 0} (p : X → Bool) (xs : List X) (x : X) → In (filter p xs) x → In xs x × (p x ≡ true)
-unfolding In
 in_filter p [] x h = absurd h
 in_filter p (y ∷ ys) x h = in_kept p y x ys (p y) refl (in_filter p ys x) h
 
 in_filter_back : {X : Type 0} (p : X → Bool) (xs : List X) (x : X) → In xs x → p x ≡ true → In (filter p xs) x
-unfolding In
 in_filter_back p [] x h k = absurd h
 in_filter_back p (y ∷ ys) x h k = kept_back p y x ys (p y) refl h k (λ m. in_filter_back p ys x m k)
 
 in_map : {X Y : Type 0} (f : X → Y) (xs : List X) (y : Y) → In (map f xs) y → (x : X) × In xs x × (f x ≡ y)
-unfolding In
 in_map f [] y h = absurd h
 in_map f (x ∷ xs) y (inl is) = (x, inl refl, is)
 in_map f (x ∷ xs) y (inr h) = let r = in_map f xs y h in (r.0, inr r.1, r.2)
 
 in_map_back : {X Y : Type 0} (f : X → Y) (xs : List X) (x : X) → In xs x → In (map f xs) (f x)
-unfolding In
 in_map_back f [] x h = absurd h
 in_map_back f (y ∷ ys) x (inl is) = inl (ap f is)
 in_map_back f (y ∷ ys) x (inr h) = inr (in_map_back f ys x h)
 
 in_flat : {X Y : Type 0} (f : X → List Y) (xs : List X) (y : Y) → In (flat_map f xs) y → (x : X) × In xs x × In (f x) y
-unfolding In
 in_flat f [] y h = absurd h
 in_flat f (x ∷ xs) y h =
     elim (in_append (f x) (flat_map f xs) y h) [
@@ -199,7 +184,6 @@ in_flat f (x ∷ xs) y h =
     ]
 
 in_flat_back : {X Y : Type 0} (f : X → List Y) (xs : List X) (x : X) (y : Y) → In xs x → In (f x) y → In (flat_map f xs) y
-unfolding In
 in_flat_back f [] x y h k = absurd h
 in_flat_back f (z ∷ xs) x y (inl is) k =
     in_append_left (f z) (flat_map f xs) y (subst (λ w. In (f w) y) (sym is) k)
@@ -209,7 +193,6 @@ in_flat_back f (z ∷ xs) x y (inr h) k = in_append_right (f z) (flat_map f xs) 
 look : {K X : Type 0} (test : K → Bool) (e : K × X) (es : List (K × X)) (v : X) (b : Bool) → test e.0 ≡ b
     → (lookup test es ≡ Some v → (k : K) × In es (k, v) × (test k ≡ true)) → cond b (Some e.1) (lookup test es) ≡ Some v
     → (k : K) × In (e ∷ es) (k, v) × (test k ≡ true)
-unfolding In
 look test e es v true t f h = let is : e.1 ≡ v = cc h in (e.0, inl (λ j. (e.0, is j)), t)
 look test e es v false t f h = let r = f h in (r.0, inr r.1, r.2)
 

@@ -16,12 +16,12 @@ use Rattle.ig_commands.proofs.FieldLemmas.{filter_push}
 
 -- what a look-up found none of
 pub copied_none : {X : Type 0} (o : Option (Bor X)) (b : Bool) → b ≡ is_some o → b ≡ false → option_copied o ≡ None
-copied_none None b is no = refl
-copied_none (Some x) b is no = cc (sym is ∙ no)
+copied_none None b is h = refl
+copied_none (Some x) b is h = cc (sym is ∙ h)
 
 pub none_there : {X : Type 0} (o : Option X) (b : Bool) → b ≡ is_some o → b ≡ false → o ≡ None
-none_there None b is no = refl
-none_there (Some x) b is no = cc (sym is ∙ no)
+none_there None b is h = refl
+none_there (Some x) b is h = cc (sym is ∙ h)
 
 or_none : {A : Type 0} (x : Option A) → option_or x None ≡ x
 or_none None = refl

@@ -1,5 +1,7 @@
 -- Why a command ends early, and what was written and reported by then.
 use Rattle.std.specs.Prelude.{ℕ, [], ◌∷◌, ◌++◌, codes, ⊤}
+use Rattle.std.specs.declared.io.ErrorKind.{ErrorKind}
+use Rattle.std.specs.declared.io.ErrorKind.TheVariants.{BrokenPipe, OutOfMemory}
 use Rattle.ignore_base.specs.Text.{Bytes}
 use Rattle.ig_commands.specs.declared.stop.Stop.{Stop}
 use Rattle.ig_commands.specs.declared.stop.Stop.TheVariants.{Memory, Read, Write, Closed, Silence}
@@ -19,6 +21,15 @@ stop_status Read = 2
 stop_status Write = 2
 stop_status Closed = 0
 stop_status Silence = 2
+
+-- why a failed write of this kind, and a failed read, ends a command
+abbrev pub write_stop : ErrorKind → Stop
+write_stop BrokenPipe = Closed
+write_stop _ = Write
+
+abbrev pub read_stop : ErrorKind → Stop
+read_stop OutOfMemory = Memory
+read_stop _ = Read
 
 -- a command ended early, at one more thing to write, after these bytes were written and these
 -- reported: out of memory, with nothing more written or reported; by a failed write or a closed

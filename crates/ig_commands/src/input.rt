@@ -1,6 +1,8 @@
 //! Paths from standard input.
-ghost use Rattle.std.specs.Prelude.{◌≡◌, ◌++◌, false, true, IfSome, List, OnOk};
+ghost use Rattle.std.specs.Prelude.{◌≡◌, ◌⊎◌, ◌++◌, false, true, IfErr, IfSome, List, OnOk};
+ghost use Rattle.std.specs.IoError.{error_kind};
 ghost use Rattle.ig_commands.specs.Input.{AreGiven};
+ghost use Rattle.ig_commands.specs.Stops.{read_stop};
 ghost use Rattle.ig_options.specs.declared.given.Given.{Given};
 
 use crate::stop::Stop;
@@ -19,6 +21,7 @@ pub(crate) fn read_paths<R: BufRead + Drop>(
     ensures given { options.old.stdin ≡ true → OnOk result (IfSome (R.remaining input) (λ bytes. (all : List Given) × AreGiven options.old bytes all
         × (options.new ≡ record options.old { paths = options.new.paths }) × (options.new.paths.items ≡ options.old.paths.items ++ all))) }
     ensures unasked { options.old.stdin ≡ false → OnOk result (options.new ≡ options.old) }
+    ensures ended { IfErr result (λ stop. (stop ≡ Stop.Read) ⊎ (stop ≡ Stop.Memory)) }
 {
     if !options.stdin {
         return Ok(());
@@ -42,10 +45,12 @@ pub(crate) fn read_paths<R: BufRead + Drop>(
 }
 
 /// Why a failed read ends a command.
-fn read_stop(error: &io::Error) -> Stop {
-    if error.kind() == io::ErrorKind::OutOfMemory {
-        Stop::Memory
-    } else {
-        Stop::Read
+fn read_stop(error: &io::Error) -> Stop
+    ensures kind { result ≡ read_stop (error_kind error.now) }
+    ensures ended { (result ≡ Stop.Read) ⊎ (result ≡ Stop.Memory) }
+{
+    match error.kind() {
+        io::ErrorKind::OutOfMemory => Stop::Memory,
+        _ => Stop::Read,
     }
 }

@@ -136,12 +136,13 @@ fn walk_of<'a, F: Files>(
         limit: MOST_STEPS,
     };
     let builder = WalkBuilder::from_options(walk);
+    let settings = builder.settings().clone()?;
     let outside = builder.outside(world.files, world.env)?;
     let ground = Ground {
         alloc: world.alloc,
         files: world.files,
         owner: ByName,
-        settings: builder.settings().clone()?,
+        settings,
         outside,
         options: walk_options,
     };

@@ -1,8 +1,10 @@
 //! Writing to the output, and reports to the errors.
 ghost use Rattle.std.specs.Prelude.{◌≡◌, ◌⊎◌, OnOk, IfOk, IfErr, None, true};
 ghost use Rattle.std.specs.Io.KnownBytes.{Appends};
+ghost use Rattle.std.specs.IoError.{error_kind};
 ghost use Rattle.ignore_base.specs.Problem.{problem_of};
 ghost use Rattle.ig_commands.specs.Reports.{report_line};
+ghost use Rattle.ig_commands.specs.Stops.{write_stop};
 ghost use Rattle.ig_commands.specs.Writing.{is_chosen, is_listed, record_of, shown};
 
 use crate::stop::Stop;
@@ -26,12 +28,12 @@ pub(crate) fn write_bytes<W: Write>(bytes: &[u8], out: &mut W) -> Result<(), Sto
 
 /// Why a failed write ends a command.
 pub(crate) fn write_stop(error: &io::Error) -> Stop
-    ensures { (result ≡ Stop.Write) ⊎ (result ≡ Stop.Closed) }
+    ensures kind { result ≡ write_stop (error_kind error.now) }
+    ensures ended { (result ≡ Stop.Write) ⊎ (result ≡ Stop.Closed) }
 {
-    if error.kind() == io::ErrorKind::BrokenPipe {
-        Stop::Closed
-    } else {
-        Stop::Write
+    match error.kind() {
+        io::ErrorKind::BrokenPipe => Stop::Closed,
+        _ => Stop::Write,
     }
 }
 

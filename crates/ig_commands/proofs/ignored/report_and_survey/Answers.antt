@@ -8,7 +8,7 @@ use Rattle.ignore_base.specs.Problem.{problem_of}
 use Rattle.ig_commands.specs.Ignored.{all_written}
 use Rattle.ig_commands.specs.Reports.{report_of}
 use Rattle.ig_commands.specs.Surveys.{IsBegun, IsWhole, OfRoot, all_seen, reports}
-use Rattle.ig_commands.proofs.RootLemmas.{begun_of, roots_of}
+use Rattle.ig_commands.proofs.SurveyLemmas.{begun_of, roots_of}
 use Rattle.ig_commands.proofs.ReportLemmas.{ends_as, reported_as}
 use Rattle.ig_commands.proofs.StopLemmas.{ends_after_reports}
 use Rattle.ig_commands.proofs.ignored.report_and_survey.Goals as goal

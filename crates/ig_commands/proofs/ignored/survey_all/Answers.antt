@@ -4,7 +4,7 @@ use Rattle.std.specs.List.{flat_map}
 use Rattle.commands.proofs.LineLemmas.{appends_nothing}
 use Rattle.ig_commands.specs.Ignored.{all_written, is_found, written}
 use Rattle.ig_commands.specs.Surveys.{IsWhole, OfMatcher, OfRoot, all_seen, is_wrong, reports}
-use Rattle.ig_commands.proofs.RootLemmas.{ends_roots, seen_counts, seen_more, zip_push}
+use Rattle.ig_commands.proofs.SurveyLemmas.{seen_counts, seen_more, zip_push}
 use Rattle.ig_commands.proofs.TurnLemmas.{text_more}
 use Rattle.ig_commands.proofs.ignored.survey_all.Goals as goal
 

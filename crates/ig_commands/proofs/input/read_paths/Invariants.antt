@@ -12,7 +12,7 @@ invariant-loop-record g l =
     (goal.iterator-loop-record g).is_finite l.record-iterator ×
     (split_byte l.record-iterator ≡ end_byte l.fn.options) ×
     (l.options ≡ record l.fn.options { paths = l.options.paths }) ×
-    IfSome (g.R.BufRead.remaining l.fn.input) (λ bytes. (rest : List ℕ) × (all : List Given)
-    × (split_known_bytes g.R.BufRead.remaining l.record-iterator ≡ Some rest)
+    IfSome (g.R.Read.remaining l.fn.input) (λ bytes. (rest : List ℕ) × (all : List Given)
+    × (split_known_bytes g.R.Read.remaining l.record-iterator ≡ Some rest)
     × (l.options.paths.items ≡ l.fn.options.paths.items ++ all)
     × GivesOn l.fn.options l.number bytes rest all)

@@ -10,7 +10,7 @@ use Rattle.ig_commands.specs.Found.{FindsOf, deciding, first_at, met, read_in}
 use Rattle.ig_commands.specs.Rules.{Grows}
 use Rattle.ig_commands.specs.Surveys.{OfRoot, all_seen, is_wrong, reports}
 use Rattle.ig_commands.proofs.GrowLemmas.{grows_none, grows_read, grows_root}
-use Rattle.ig_commands.proofs.RootLemmas.{seen_counts, seen_more, zip_push}
+use Rattle.ig_commands.proofs.SurveyLemmas.{seen_counts, seen_more, zip_push}
 use Rattle.ig_commands.proofs.unused.find_all.Goals as goal
 
 pub loop-matcher-init : goal.loop-matcher-init

@@ -1,4 +1,4 @@
-use Rattle.std.proofs.Common.{Some, subst, sym}
+use Rattle.std.proofs.Common.{Some, refl, subst, sym}
 use Rattle.std.proofs.lemmas.Map.Text.{btree_map_updates_text}
 use Rattle.std.proofs.lemmas.Result.{on_ok_weaker}
 use Rattle.std.specs.Option.{IsSome}
@@ -21,7 +21,7 @@ returns c =
               (none_there (rule_at c.args.self.now c.args.source.now c.args.line) c.has.result c.has.ensures c.if-has.false)
               found put c.in_ok-pattern.ensures.ok
               (λ cs. btree_map_updates_text c.args.source.now between after (Some new)
-                  ((c.get_mut.follows.holds new).3 (subst IsSome (sym found) tt)) cs)
+                  ((c.get_mut.follows.holds new).3 (subst IsSome (sym found) refl)) cs)
               s line)
           c.insert.ensures.adds;
     }
