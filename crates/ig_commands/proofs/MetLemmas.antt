@@ -169,3 +169,7 @@ module _ {F : Type 0} (files : Files F) (f : F) (m : IncrementalIgnore) (s : Sur
 -- nothing is met yet
 pub begun_none : (g : QueryScene) (c : Cache) → KeepsNothing c → IsBegun g []
 begun_none g c empty = λ items is fits. (items, c, record { are = refl; old = c; fresh = empty; reported = refl })
+
+-- all items are the first ones
+pub whole_begun : (g : QueryScene) (seen : List Seen) → IsWhole g seen → IsBegun g seen
+whole_begun g seen whole = λ items is fits. let met = whole items is fits in ([], met.0, met.1)

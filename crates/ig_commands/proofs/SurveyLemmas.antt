@@ -1,11 +1,12 @@
 -- What is met, written, reported and counted of roots in turn, one more at a time.
-use Rattle.std.proofs.Common.{◌≡◌, ◌∙◌, ◌≤◌, ℕ, ◌+◌, min, Bool, true, false, All, List, [], ◌∷◌, ◌++◌, Option, map, string_bytes, refl, sym, ap, subst, arith}
+use Rattle.std.proofs.Common.{◌≡◌, ◌∙◌, ◌<◌, ◌≤◌, ℕ, ◌+◌, suc, length, take, drop, get_or, min, Bool, true, false, All, List, [], ◌∷◌, ◌++◌, Option, map, string_bytes, refl, sym, ap, subst, arith}
 use Rattle.std.proofs.lemmas.Grind.{flat_map-append}
 use Rattle.std.proofs.lemmas.List.Elements.{All-cons, All-head, All-nil, All-tail}
 use Rattle.std.proofs.lemmas.List.{append-nil, map-append}
 use Rattle.std.specs.Io.KnownBytes.{Appends}
 use Rattle.std.specs.List.{AllZip, flat_map}
 use Rattle.commands.proofs.LineLemmas.{appends_on}
+use Rattle.commands.proofs.StopLemmas.{around}
 use Rattle.commands.specs.Walking.{IsTrimmed}
 use Rattle.ignore_dir.specs.Load.{AreLoads, Loaded}
 use Rattle.ignore_dir.specs.Scene.{QueryScene, scene}
@@ -32,6 +33,20 @@ zip_push R [] [] x y h k = (k, tt)
 zip_push R [] (b ∷ ys) x y h k = absurd h
 zip_push R (a ∷ xs) [] x y h k = absurd h
 zip_push R (a ∷ xs) (b ∷ ys) x y h k = (h.0, zip_push R xs ys x y h.1 k)
+
+pub map_same : {A : Type 0} (xs : List A) → map (λ y. y) xs ≡ xs
+map_same [] = refl
+map_same (x ∷ xs) = ap (λ (ys : List _). x ∷ ys) (map_same xs)
+
+-- a list by its members so far, one of them, and the others
+pub split_at : {A : Type 0} (xs ys : List A) (x : A) → map (λ y. y) ys ≡ take (length ys) xs → length ys < length xs
+    → x ≡ get_or xs (length ys) x → xs ≡ ys ++ x ∷ drop (suc (length ys)) xs
+split_at xs ys x front within here =
+    around xs (length ys) x within here
+    ∙ ap (λ (zs : List _). zs ++ x ∷ drop (suc (length ys)) xs) (sym front ∙ map_same ys)
+
+pub all_yielded : {A : Type 0} (xs ys : List A) → map (λ y. y) ys ≡ xs → ys ≡ xs
+all_yielded xs ys all = sym (map_same ys) ∙ all
 
 pub all_seen_more : (all : List OfRoot) (r : OfRoot) → all_seen (all ++ r ∷ []) ≡ all_seen all ++ r.1
 all_seen_more all r =
