@@ -1,5 +1,5 @@
 -- Early ends of what writes nothing to the output.
-use Rattle.std.proofs.Common.{◌≡◌, ℕ, List, [], ◌∷◌, ◌++◌, Option, refl, subst}
+use Rattle.std.proofs.Common.{◌≡◌, ◌⊎◌, ℕ, List, [], ◌∷◌, ◌++◌, Option, inl, inr, refl, subst, sym}
 use Rattle.std.proofs.lemmas.List.{append-nil}
 use Rattle.std.specs.Io.KnownBytes.{Appends}
 use Rattle.std.specs.List.{flat_map}
@@ -48,3 +48,9 @@ ends_root_quiet all r x y z Read err h = absurd h
 ends_root_quiet all r x y z Write err h = seen_more reports all r x y z err h
 ends_root_quiet all r x y z Closed err h = seen_more reports all r x y z err h
 ends_root_quiet all r x y z Silence err h = tt
+
+-- a failed write after these reports
+pub ends_write : (reported : List ℕ) (out err : List ℕ → Type 0) (stop : Stop) → (stop ≡ Write) ⊎ (stop ≡ Closed) → err reported
+    → EndsAfter [] reported out err stop
+ends_write reported out err stop (inl is) h = subst (EndsAfter [] reported out err) (sym is) h
+ends_write reported out err stop (inr is) h = subst (EndsAfter [] reported out err) (sym is) h

@@ -1,7 +1,8 @@
 -- The rules that decide on no entry met, by what surveys have found.
-use Rattle.std.proofs.Common.{◌≡◌, ◌∙◌, ◌⊎◌, ℕ, All, true, Contains, List, Option, None, Some, is_some, map, inl, inr, refl, sym, ap, subst}
+use Rattle.std.proofs.Common.{◌≡◌, ◌∙◌, ℕ, All, Bool, true, false, not, cond, codes, Contains, List, [], ◌∷◌, ◌++◌, Option, None, Some, is_some, map, inl, inr, refl, sym, ap, subst}
 use Rattle.std.proofs.lemmas.Bool.{false≢true}
-use Rattle.std.proofs.lemmas.List.Elements.{All-contains}
+use Rattle.std.proofs.lemmas.List.Elements.{All-contains, All-map, All-weaker}
+use Rattle.std.specs.Io.KnownBytes.{Appends}
 use Rattle.std.specs.List.{flat_map}
 use Rattle.ignore_base.specs.Paths.{IsName}
 use Rattle.ignore_dir.specs.Scene.{QueryScene}
@@ -9,10 +10,12 @@ use Rattle.ignore_query.specs.Forget.{kept_dirs}
 use Rattle.ignore_query.specs.KeptRules.{rules_of}
 use Rattle.ignore_query.specs.Needs.{is_kept}
 use Rattle.ignore_why.specs.Cited.{Named}
+use Rattle.ig_options.specs.declared.options.Options.{Options}
+use Rattle.ig_commands.specs.Form.{at_end, rule_fields}
 use Rattle.ig_commands.specs.Found.{Finds, deciding, first_at, met, read_in}
-use Rattle.ig_commands.specs.Rules.{AreWithout, rule_at}
-use Rattle.ig_commands.specs.Surveys.{HasList, OfRoot, Seen, all_seen}
-use Rattle.ig_commands.specs.Unused.{AreUnused, FileRule, IsReadBelow, IsUnused, StandsAmong}
+use Rattle.ig_commands.specs.Rules.{AreWithout, rule_at, rule_line}
+use Rattle.ig_commands.specs.Surveys.{HasList, IsWhole, OfRoot, Seen, all_seen}
+use Rattle.ig_commands.specs.Unused.{AreUnused, FileRule, IsReadBelow, IsUnused, written}
 use Rattle.ig_commands.specs.declared.rules.FileRules.{FileRules}
 use Rattle.ig_commands.proofs.FoundLemmas.{StandsAt, among_contains, contains_among, decided_by, decider, first_stands, kept_by, opened_kept, stands_first}
 use Rattle.ig_commands.proofs.MemberLemmas.{contains_flat, contains_map, flat_contains, map_contains}
@@ -100,3 +103,41 @@ module _ (at : List ℕ → QueryScene) (all : List (OfRoot × List Named)) (rea
         );
     in_order = left.in_order;
   }
+
+-- what a survey has found is all that it met
+pub finds_whole : (rules : List Named) (g : QueryScene) (seen : List Seen) → Finds rules g seen → IsWhole g seen
+finds_whole rules g seen finds = λ items is fits. let f = finds items is fits in (f.0, f.1)
+
+pub whole_met : (at : List ℕ → QueryScene) (all : List (OfRoot × List Named)) → All (λ x. Finds x.1 (at x.0.0) x.0.1) all
+    → All (λ r. IsWhole (at r.0) r.1) (met all)
+whole_met at all finds =
+    All-map (λ (r : OfRoot). IsWhole (at r.0) r.1) (λ (x : OfRoot × List Named). x.0) all
+    (All-weaker (λ (x : OfRoot × List Named). Finds x.1 (at x.0.0) x.0.1) (λ (x : OfRoot × List Named). IsWhole (at x.0.0) x.0.1)
+    (λ x f. finds_whole x.1 (at x.0.0) x.0.1 f) all finds)
+
+pub names_met : (all : List (OfRoot × List Named)) → map (λ (x : OfRoot × List Named). x.0.0) all ≡ map (λ (r : OfRoot). r.0) (met all)
+names_met [] = refl
+names_met (x ∷ all) = ap (λ (ps : List (List ℕ)). x.0.0 ∷ ps) (names_met all)
+
+-- what is written of rules
+
+one_line : (q : Bool) (text : List ℕ) → cond (not q) text [] ≡ cond q [] text
+one_line true text = refl
+one_line false text = refl
+
+all_lines : (o : Options) (rs : List FileRule)
+    → flat_map (rule_line (cond o.is_bare (Some (codes ".")) None) o.null (not o.quiet)) rs ≡ flat_map (written o) rs
+all_lines o [] = refl
+all_lines o (r ∷ rs) =
+    let base : Option (List ℕ) = cond o.is_bare (Some (codes ".")) None in
+    ap (λ (bs : List ℕ). bs ++ flat_map (rule_line base o.null (not o.quiet)) rs)
+    (one_line o.quiet (rule_fields base o.null r.source (Some r.line) r.pattern ++ at_end o.null))
+    ∙ ap (λ (bs : List ℕ). written o r ++ bs) (all_lines o rs)
+
+pub written_as : (o : Options) (rs : List FileRule) (base : Option (List ℕ)) (null : Bool) (a b : Option (List ℕ))
+    → base ≡ cond o.is_bare (Some (codes ".")) None → null ≡ o.null → Appends a b (flat_map (rule_line base null (not o.quiet)) rs)
+    → Appends a b (flat_map (written o) rs)
+written_as o rs base null a b is same h =
+    subst (Appends a b) (all_lines o rs)
+    (subst (λ (n : Bool). Appends a b (flat_map (rule_line (cond o.is_bare (Some (codes ".")) None) n (not o.quiet)) rs)) same
+    (subst (λ (x : Option (List ℕ)). Appends a b (flat_map (rule_line x null (not o.quiet)) rs)) is h))

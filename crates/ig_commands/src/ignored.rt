@@ -271,14 +271,14 @@ fn write_ignored<W: Write>(entry: &Surveyed, place: &Place<'_>, out: &mut W) -> 
     if !options.reasons {
         return write_path(options, path.as_str(), out);
     }
-    let form = Form {
-        base: if options.is_bare { Some(".") } else { None },
-        null: options.null,
-    };
-    let path = if options.is_bare {
-        entry.path.as_str()
-    } else {
-        path.as_str()
-    };
-    write_reasoned(form, &entry.explanation, path, out)
+    let null = options.null;
+    if options.is_bare {
+        let form = Form {
+            base: Some("."),
+            null,
+        };
+        return write_reasoned(form, &entry.explanation, entry.path.as_str(), out);
+    }
+    let form = Form { base: None, null };
+    write_reasoned(form, &entry.explanation, path.as_str(), out)
 }

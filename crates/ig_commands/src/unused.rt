@@ -1,9 +1,9 @@
 //! The command `unused`: the rules below a folder that decide on no entry there.
-ghost use Rattle.std.specs.Prelude.{◌≡◌, ◌≢◌, ◌⊎◌, ◌++◌, ◌∷◌, ℕ, All, List, Ok, Some, None, [], Result, IfErr, IfOk, OnOk, map, option_map};
+ghost use Rattle.std.specs.Prelude.{◌≡◌, ◌≢◌, ◌⊎◌, ◌++◌, ◌∷◌, ℕ, All, List, Ok, Some, None, [], Result, IfErr, IfOk, OnOk, codes, map, option_map, if◌then◌else◌};
 ghost use Rattle.std.specs.Io.KnownBytes.{Appends};
 ghost use Rattle.std.specs.Iterator.{IsFinite, YieldsThen};
 ghost use Rattle.std.specs.List.{AllZip, flat_map};
-ghost use Rattle.std.specs.Option.{option_to_list};
+ghost use Rattle.std.specs.Option.{option_copied, option_to_list};
 ghost use Rattle.ignore_base.specs.Problem.{memory, problem_of};
 ghost use Rattle.ignore_base.specs.Text.{Path};
 ghost use Rattle.ignore_base.specs.declared.error.Error.{Error};
@@ -144,19 +144,26 @@ fn report_and_find<F: Files, W: Write, E: Write>(
     };
     let mut found = Found::new(world.alloc);
     let more = find_all(world, matchers, &mut found, err)?;
-    let form = Form {
-        base: if options.is_bare { Some(".") } else { None },
-        null: options.null,
-    };
     let unused = found
         .read
-        .write_without(&found.used, form, !options.quiet, out)?;
+        .write_without(&found.used, form_of(options), !options.quiet, out)?;
     let counts = Counts {
-        reported: reported.saturating_add(more),
+        reported: more.saturating_add(reported),
         found: unused,
     };
     report_counts(options, counts, err)?;
     Ok(status_of(counts))
+}
+
+/// How rules are written: without a root their sources are below the working directory.
+fn form_of(options: &Options) -> Form<'static>
+    ensures base { option_copied result.base ≡ (if options.now.is_bare then Some (codes ".") else None) }
+    ensures null { result.null ≡ options.now.null }
+{
+    Form {
+        base: if options.is_bare { Some(".") } else { None },
+        null: options.null,
+    }
 }
 
 /// Finds the rules below the root of each matcher. It returns how many times something was reported.

@@ -5,11 +5,12 @@ use Rattle.std.specs.Io.KnownBytes.{Appends}
 use Rattle.std.specs.List.{flat_map}
 use Rattle.commands.proofs.LineLemmas.{appends_nothing, appends_on}
 use Rattle.ignore_base.specs.Problem.{problem_of}
+use Rattle.ig_commands.specs.Counts.{counted}
 use Rattle.ig_commands.specs.Ignored.{all_written}
 use Rattle.ig_commands.specs.Reports.{report_of}
-use Rattle.ig_commands.specs.Surveys.{IsBegun, IsWhole, OfRoot, all_seen, reports}
+use Rattle.ig_commands.specs.Surveys.{IsBegun, IsWhole, OfRoot, all_seen, is_wrong, reports}
 use Rattle.ig_commands.proofs.SurveyLemmas.{begun_of, roots_of}
-use Rattle.ig_commands.proofs.ReportLemmas.{ends_as, reported_as}
+use Rattle.ig_commands.proofs.ReportLemmas.{counts_told, reported_as, status_as, wrong_as}
 use Rattle.ig_commands.proofs.StopLemmas.{ends_after_reports}
 use Rattle.ig_commands.proofs.ignored.report_and_survey.Goals as goal
 
@@ -62,17 +63,18 @@ pub returns-clause-lists : goal.returns-clause-lists
 returns-clause-lists g c =
     let h = c.in_ok-counts.ensures.lists in
     let o = c.args.options.now in
-    let problems = map (option_map problem_of) c.args.asked.errors.items in (
+    let problems = map (option_map problem_of) c.args.asked.errors.items in
+    let wrong = wrong_as c.deref.result.now c.args.asked.errors.items c.saturating_add.result c.in_ok-counts.counts.reported
+    c.in_ok-reported.reported (counted 0 (map is_wrong (all_seen h.0))) c.deref.ensures.value c.saturating_add.ensures
+    c.in_ok-reported.ensures.reports.0 h.4 in (
       h.0,
       record {
         writes = h.2;
-        reports = appends_on _ _ _ (flat_map report_of problems ++ flat_map reports (all_seen h.0)) _
+        reports = counts_told o.stats (flat_map report_of problems ++ flat_map reports (all_seen h.0)) _ _ _ _ _ _ _
             (appends_on _ _ _ (flat_map report_of problems) (flat_map reports (all_seen h.0))
             (reported_as c.deref.result.now c.args.asked.errors.items c.deref.ensures.value c.in_ok-reported.ensures.reports.1) h.3)
-            ?;
-        ends = ends_as c.deref.result.now c.args.asked.errors.items c.status_of.result c.saturating_add.result c.in_ok-counts.counts.reported
-            c.in_ok-reported.reported c.in_ok-counts.counts.found _ _ c.deref.ensures.value c.status_of.ensures c.saturating_add.ensures
-            c.in_ok-reported.ensures.reports.0 h.4 h.5;
+            c.in_ok-report_counts.ensures.reports wrong h.5;
+        ends = status_as c.status_of.result c.saturating_add.result c.in_ok-counts.counts.found _ _ c.status_of.ensures wrong h.5;
       },
       λ tree honest none.
           let made = c.in-Ok.ensures.made tree honest in

@@ -7,7 +7,7 @@ use Rattle.commands.proofs.LineLemmas.{appends_nothing, appends_on}
 use Rattle.ignore_base.specs.Problem.{problem_of}
 use Rattle.ig_commands.specs.Reports.{report_of}
 use Rattle.ig_commands.specs.Why.{reports, wrong_in, written}
-use Rattle.ig_commands.proofs.ReportLemmas.{ends_as, reported_as}
+use Rattle.ig_commands.proofs.ReportLemmas.{reported_as, status_as, wrong_as}
 use Rattle.ig_commands.proofs.StopLemmas.{ends_after_reports}
 use Rattle.ig_commands.proofs.WhyLemmas.{first_of}
 use Rattle.ig_commands.proofs.why.report_and_ask.Goals as goal
@@ -63,9 +63,9 @@ returns-clause-answers g c =
       record {
         writes = h.1;
         reports = appends_on _ _ _ (flat_map report_of problems) _ (reported_as c.deref.result.now c.args.asked.errors.items c.deref.ensures.value c.in_ok-reported.ensures.reports.1) h.2;
-        ends = ends_as c.deref.result.now c.args.asked.errors.items c.status_of.result c.saturating_add.result c.in_ok-counts.counts.reported
-            c.in_ok-reported.reported c.in_ok-counts.counts.found _ _ c.deref.ensures.value c.status_of.ensures c.saturating_add.ensures
-            c.in_ok-reported.ensures.reports.0 h.3 h.4;
+        ends = status_as c.status_of.result c.saturating_add.result c.in_ok-counts.counts.found _ _ c.status_of.ensures
+            (wrong_as c.deref.result.now c.args.asked.errors.items c.saturating_add.result c.in_ok-counts.counts.reported c.in_ok-reported.reported _
+            c.deref.ensures.value c.saturating_add.ensures c.in_ok-reported.ensures.reports.0 h.3) h.4;
       },
       λ tree honest. (
         first_of tree c.args.world.now.env.now c.args.asked.walk m all all [] h.0 c.ask_all.new.matcher.cache
