@@ -2,6 +2,7 @@ pub mod AskedLemmas
 pub mod EndLemmas
 pub mod FieldLemmas
 pub mod FoundLemmas
+pub mod GivenLemmas
 pub mod GrowLemmas
 pub mod InputLemmas
 pub mod ItemLemmas
