@@ -1,7 +1,8 @@
 -- What is reported and counted of the files that are named.
-use Rattle.std.proofs.Common.{◌≡◌, ◌∙◌, ℕ, ◌+◌, ◌++◌, Bool, List, Option, map, option_map, ap, subst}
+use Rattle.std.proofs.Common.{◌≡◌, ◌∙◌, ℕ, ◌+◌, ◌++◌, Bool, Bor, List, Option, None, Some, map, option_map, ap, subst}
 use Rattle.std.specs.Io.KnownBytes.{Appends}
 use Rattle.std.specs.List.{flat_map}
+use Rattle.std.specs.Option.{option_copied}
 use Rattle.commands.proofs.LineLemmas.{appends_on}
 use Rattle.ignore_base.specs.Problem.{problem_of}
 use Rattle.ignore_base.specs.declared.error.Error.{Error}
@@ -34,3 +35,9 @@ pub counts_told : (asked : Bool) (told : List ℕ) (all found wrong listed : ℕ
 counts_told asked told all found wrong listed a b c h k sum there =
     appends_on a b c told (stats_line asked wrong listed) h
     (subst (λ n. Appends b c (stats_line asked wrong n)) there (subst (λ n. Appends b c (stats_line asked n found)) sum k))
+
+-- the problem of an error that is lent
+pub lent_problem : (r : Option (Bor Error)) (o : Option Error) → option_copied r ≡ o
+    → option_map (λ (e : Bor Error). problem_of e.now) r ≡ option_map problem_of o
+lent_problem None o is = ap (option_map problem_of) is
+lent_problem (Some e) o is = ap (option_map problem_of) is

@@ -1,5 +1,5 @@
 //! The command `ignored`: the topmost entries that are ignored.
-ghost use Rattle.std.specs.Prelude.{◌≡◌, ◌≢◌, ◌++◌, ◌∷◌, true, false, All, List, Ok, Err, Some, [], Result, Option, IfErr, IfOk, OnOk, map, option_map, string_bytes};
+ghost use Rattle.std.specs.Prelude.{◌≡◌, ◌≢◌, ◌++◌, ◌∷◌, ◌&&◌, not, true, false, All, List, Ok, Err, Some, [], Result, IfErr, IfOk, OnOk, map, option_map, string_bytes, if◌then◌else◌};
 ghost use Rattle.std.specs.Io.KnownBytes.{Appends};
 ghost use Rattle.std.specs.Iterator.{Drains, IsFinite, YieldsThen};
 ghost use Rattle.std.specs.List.{AllZip, flat_map};
@@ -16,7 +16,7 @@ ghost use Rattle.ignore.specs.Builder.{with_roots};
 ghost use Rattle.ignore.specs.Matchers.{AreMatchers};
 ghost use Rattle.commands.specs.Walking.{IsTrimmed};
 ghost use Rattle.ig_commands.specs.Counts.{counted};
-ghost use Rattle.ig_commands.specs.Ignored.{IgnoredAsked, IgnoredEnds, Writes, all_written, entry_text, is_found, written};
+ghost use Rattle.ig_commands.specs.Ignored.{IgnoredAsked, IgnoredEnds, Writes, all_written, entry_text, is_found, is_topmost, written};
 ghost use Rattle.ig_commands.specs.Reports.{report_line, report_of};
 ghost use Rattle.ig_commands.specs.Stops.{EndsAfter};
 ghost use Rattle.ig_commands.specs.Surveys.{AreBegun, AreSurveys, IsBegun, IsWhole, OfMatcher, OfRoot, all_seen, is_wrong, reports, seen_of};
@@ -250,13 +250,34 @@ fn write_entry<W: Write, E: Write>(
         × (seen.found ≡ is_found place.now.options.now (seen_of (Ok entry.now)))) }
     ensures ended { IfErr result (EndsAfter [] [] (Appends (W.contents out.old) (W.contents out.new)) (Appends (E.contents err.old) (E.contents err.new))) }
 {
-    let options = place.options;
-    let found = entry.explanation.answer.is_ignore() && is_listed(options, Some(entry.file_type));
-    if found && !options.quiet {
-        write_ignored(entry, place, out)?;
-    }
+    let found = is_topmost(entry, place.options);
+    write_found(found, entry, place, out)?;
     let reported = report_some(entry.error.as_ref(), err)?;
     Ok(Seen { reported, found })
+}
+
+/// Whether an entry is listed: it is ignored, and of a kind that is chosen.
+fn is_topmost(entry: &Surveyed, options: &Options) -> bool
+    ensures { result ≡ is_topmost options.now (entry_of entry.now) }
+{
+    entry.explanation.answer.is_ignore() && is_listed(options, Some(entry.file_type))
+}
+
+/// Writes an entry, where it is listed, unless nothing is to be written.
+fn write_found<W: Write>(
+    found: bool,
+    entry: &Surveyed,
+    place: &Place<'_>,
+    out: &mut W,
+) -> Result<(), Stop>
+    ensures writes { OnOk result (Appends (W.contents out.old) (W.contents out.new)
+        (if found && not place.now.options.now.quiet then entry_text place.now.options.now place.now.root.now (entry_of entry.now) else [])) }
+    ensures ended { IfErr result (EndsAfter [] [] (Appends (W.contents out.old) (W.contents out.new)) (λ bs. bs ≡ [])) }
+{
+    if !found || place.options.quiet {
+        return Ok(());
+    }
+    write_ignored(entry, place, out)
 }
 
 /// Writes the path of an entry, after its reason where that is asked for.

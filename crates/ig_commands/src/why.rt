@@ -1,5 +1,5 @@
 //! The command `why`: why paths are ignored or not.
-ghost use Rattle.std.specs.Prelude.{◌≡◌, ◌++◌, ℕ, List, [], Some, true, false, IfErr, IfOk, OnOk, map, option_map, string_bytes};
+ghost use Rattle.std.specs.Prelude.{◌≡◌, ◌⊎◌, ◌++◌, ℕ, List, [], Some, true, false, IfErr, IfOk, OnOk, map, option_map, string_bytes, if◌then◌else◌};
 ghost use Rattle.std.specs.Io.KnownBytes.{Appends};
 ghost use Rattle.std.specs.List.{flat_map};
 ghost use Rattle.std.specs.Option.{option_copied};
@@ -16,7 +16,9 @@ ghost use Rattle.ignore_query.specs.Fresh.{KeepsNothing};
 ghost use Rattle.ignore_query.specs.Reached.{InEachScene, dir_of, scene_of};
 ghost use Rattle.ignore_query.specs.declared.kept.Cache.{Cache};
 ghost use Rattle.ig_options.specs.declared.given.Given.{Given};
+ghost use Rattle.ignore_why.specs.QueryWhy.{query_why_of};
 ghost use Rattle.ig_commands.specs.Counts.{counted};
+ghost use Rattle.ig_commands.specs.Form.{reasoned};
 ghost use Rattle.ig_commands.specs.Reports.{report_of};
 ghost use Rattle.ig_commands.specs.Stops.{EndsAfter};
 ghost use Rattle.ig_commands.specs.Why.{AreAll, AreBegun, AreSaid, IsMatcherOf, IsSaid, IsSaidOf, WhyAsked, WhyEnds, Writes};
@@ -243,15 +245,31 @@ fn write_said<W: Write, E: Write>(
         Said::BadlyQuoted(number) => report_record(*number, "is badly quoted", err),
         Said::Outside(path) => report_outside(path, root, err),
         Said::Told(path, explanation, error) => {
-            if !options.quiet {
-                write_reasoned(form_of(options, root), explanation, path, out)?;
-            }
+            write_answer(options, root, path, explanation, out)?;
             Ok(Seen {
                 reported: report_some(error.as_ref(), err)?,
                 found: explanation.answer.is_ignore(),
             })
         }
     }
+}
+
+/// Writes a path after its reason, unless nothing is to be written.
+fn write_answer<W: Write>(
+    options: &Options,
+    root: &str,
+    path: &str,
+    explanation: &Explanation,
+    out: &mut W,
+) -> Result<(), Stop>
+    ensures writes { OnOk result (Appends (W.contents out.old) (W.contents out.new)
+        (if options.now.quiet then [] else reasoned (Some root.now) options.now.null (query_why_of explanation.now.reason) path.now)) }
+    ensures ended { IfErr result (λ stop. (stop ≡ Stop.Write) ⊎ (stop ≡ Stop.Closed)) }
+{
+    if options.quiet {
+        return Ok(());
+    }
+    write_reasoned(form_of(options, root), explanation, path, out)
 }
 
 /// How paths below a root are written.
