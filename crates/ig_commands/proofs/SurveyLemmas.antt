@@ -66,7 +66,7 @@ counted_append n (x ∷ xs) ys = counted_append (one_more n x) xs ys
 min_sum : (most n c d : ℕ) → n ≤ most → min (min (n + d) most + c) most ≡ min (n + min (min (0 + d) most + c) most) most
 min_sum most n c d within = omega (arith, within)
 
-bit : Bool → ℕ
+abbrev bit : Bool → ℕ
 bit true = 1
 bit false = 0
 
@@ -108,7 +108,7 @@ seen_counts f all r old more new before here sum =
 abbrev By : Type 0
 By = Settings × Outside × List ℕ × Option (List ℕ)
 
-by_root : Settings → Outside → Option (List ℕ) → List ℕ → By
+abbrev by_root : Settings → Outside → Option (List ℕ) → List ℕ → By
 by_root s outside dir root = (s, outside, root, dir)
 
 -- the root of a matcher that asks by some root

@@ -58,7 +58,7 @@ first_of tree env b m all first rest said last w empty is right =
           (sym (ap (λ (t : Settings × Outside × List ℕ × Option (List ℕ)). t.0) w.4)) are));
     }
 
-last_or : {A : Type 0} → A → List A → A
+abbrev last_or : {A : Type 0} → A → List A → A
 last_or d [] = d
 last_or d (x ∷ xs) = last_or x xs
 
