@@ -1,16 +1,21 @@
 -- What `why` says of paths in turn, and its matcher.
-use Rattle.std.proofs.Common.{◌≡◌, ◌∙◌, ℕ, List, [], ◌∷◌, ◌++◌, Option, map, refl, sym, ap, subst}
+use Rattle.std.proofs.Common.{◌≡◌, ◌∙◌, ℕ, Bool, List, [], ◌∷◌, ◌++◌, Option, map, refl, sym, ap, subst}
 use Rattle.std.proofs.lemmas.List.{map-append}
 use Rattle.ignore_dir.specs.Load.{AreLoads, Loaded}
+use Rattle.ignore_dir.specs.Query.{query}
 use Rattle.ignore_dir.specs.Scene.{QueryScene, scene}
+use Rattle.ignore_dir.specs.Verdict.{is_ignore}
 use Rattle.ignore_dir.specs.declared.outside.Outside.{Outside}
 use Rattle.ignore_dir.specs.declared.settings.Settings.{Settings}
 use Rattle.ignore_files.specs.Tree.{Tree}
 use Rattle.ignore_files.specs.declared.env.Env.{Env}
 use Rattle.ignore_query.specs.Fresh.{KeepsNothing}
+use Rattle.ignore_query.specs.InTurn.{Leaves}
 use Rattle.ignore_query.specs.Reached.{dir_of, scene_of}
+use Rattle.ignore_query.specs.Reports.{reported}
 use Rattle.ignore_query.specs.declared.incremental.IncrementalIgnore.{IncrementalIgnore}
 use Rattle.ignore_query.specs.declared.kept.Cache.{Cache}
+use Rattle.ignore_why.specs.QueryWhy.{query_why}
 use Rattle.ignore.specs.Asked.{IsOutside}
 use Rattle.ignore.specs.Builder.{with_root}
 use Rattle.ignore.specs.Matchers.{asked_by}
@@ -18,7 +23,7 @@ use Rattle.ignore.specs.declared.options.WalkOptions.{WalkOptions}
 use Rattle.std.specs.Prelude.{string_bytes}
 use Rattle.ig_options.specs.declared.given.Given.{Given}
 use Rattle.ig_commands.specs.Root.{IsRoot}
-use Rattle.ig_commands.specs.Why.{AreFirst, AreSaid, IsMatcherOf, IsSaid, Said}
+use Rattle.ig_commands.specs.Why.{Answered, AreFirst, AreSaid, IsAnswered, IsMatcherOf, IsSaid, Said, is_dir_at}
 
 -- the same is said of the paths up to one more
 pub said_more : (g : QueryScene) (dir : Option (List ℕ)) (all : List Given) (given : Given) (old middle new : Cache)
@@ -72,3 +77,16 @@ pub last_mapped : {A B C : Type 0} (f : A → C) (k : B → C) (xs : List A) (x 
 last_mapped f k xs x ys y e =
     let same = sym (map-append f xs (x ∷ [])) ∙ (e ∙ map-append k ys (y ∷ [])) in
     sym (last_pushed (f x) (map f xs) (f x)) ∙ (ap (last_or (f x)) same ∙ last_pushed (f x) (map k ys) (k y))
+
+-- what is answered of a text and a kind is answered of the same ones
+pub answered : (g : QueryScene) (text p : List ℕ) (d : Bool) (old new : Cache) (t : Answered) → p ≡ text → d ≡ is_dir_at g t.path text
+    → t.why ≡ query_why g p d → t.is_ignored ≡ is_ignore (query g p d).0.verdict → Leaves g (p, d) old new → t.problem ≡ reported g old p d
+    → IsAnswered g text old new t
+answered g text p d old new t same is why ignored leaves reports =
+    let at_text = subst
+    (λ (x : List ℕ). (t.why ≡ query_why g x d) × ((t.is_ignored ≡ is_ignore (query g x d).0.verdict)
+    × (Leaves g (x, d) old new × (t.problem ≡ reported g old x d)))) same (why, (ignored, (leaves, reports))) in
+    let all = subst
+    (λ (b : Bool). (t.why ≡ query_why g text b) × ((t.is_ignored ≡ is_ignore (query g text b).0.verdict)
+    × (Leaves g (text, b) old new × (t.problem ≡ reported g old text b)))) is at_text in
+    record { why = all.0; is_ignored = all.1; leaves = all.2; reports = all.3 }

@@ -1,5 +1,5 @@
 //! The command `why`: why paths are ignored or not.
-ghost use Rattle.std.specs.Prelude.{◌≡◌, ◌⊎◌, ◌++◌, ℕ, List, [], Some, true, false, IfErr, IfOk, OnOk, map, option_map, string_bytes, if◌then◌else◌};
+ghost use Rattle.std.specs.Prelude.{◌≡◌, ◌⊎◌, ◌++◌, ◌||◌, ℕ, List, [], Some, true, false, IfErr, IfOk, OnOk, map, option_map, string_bytes, if◌then◌else◌};
 ghost use Rattle.std.specs.Io.KnownBytes.{Appends};
 ghost use Rattle.std.specs.List.{flat_map};
 ghost use Rattle.std.specs.Option.{option_copied};
@@ -195,12 +195,29 @@ fn ask_path<'g, F: Files>(
     let Some(below) = below else {
         return Ok(Said::Outside(path));
     };
-    let is_dir = is_dir_there(world.alloc, world.files, matcher.root(), below.as_str())?
-        || ends_with_slash(path);
+    let is_dir = is_dir_for(world, matcher.root(), path, below.as_str())?;
     match matcher.explain(world.files, below.as_str(), is_dir) {
         Ok((explanation, error)) => Ok(Said::Told(path, explanation, error)),
         Err(_) => Err(Stop::Memory),
     }
+}
+
+/// Whether a path is asked about as a directory: it ends with a slash, or one is there, which isn't
+/// a link to one. It is known below the root by another text.
+fn is_dir_for<F: Files>(
+    world: &World<'_, F>,
+    root: &str,
+    given: &str,
+    below: &str,
+) -> Result<bool, Stop>
+    ensures value { (tree : Tree) → IsHonest F.Files world.now.files.now tree
+        → IfOk result (λ yes. yes ≡ (is_dir_there (tree.stat (join_of root.now below.now) false) || ends_with_slash given.now)) }
+    ensures ended { IfErr result (λ stop. stop ≡ Stop.Memory) }
+{
+    if ends_with_slash(given) {
+        return Ok(true);
+    }
+    is_dir_there(world.alloc, world.files, root, below)
 }
 
 /// Whether a path ends with a slash.
