@@ -89,7 +89,7 @@ module _ (at : List ℕ → QueryScene) (all : List (OfRoot × List Named)) (rea
   pub are_unused : (unused : List FileRule) → AreWithout read used unused → AreUnused at (met all) unused
   are_unused unused left = record {
     each = λ r h. let k = (left.are r).0 h in is_unused r k.0 k.1;
-    all = λ r is.
+    complete = λ r is.
         let root = contains_map (λ (y : OfRoot × List Named). y.0) all is.read.0 is.read.1 in
         let below = subst (λ (x : OfRoot). IsReadBelow (at x.0) (map (λ (s : Seen). s.0) x.1) r) (sym root.2) is.read.2 in
         let rule = read_back (at root.0.0.0) root.0.0.1 root.0.1 r (list_of root.0 root.1) (finds_of root.0 root.1) below in

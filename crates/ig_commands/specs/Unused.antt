@@ -87,7 +87,7 @@ StandsAmong rules r = (q : FileRule) × Contains rules q × (q.source ≡ r.sour
 -- these are the rules that decide on no entry met, one at each place
 pub record AreUnused (at : Path → QueryScene) (all : List OfRoot) (unused : List FileRule) : Type 0 where
   pub each : (r : FileRule) → Contains unused r → IsUnused at all r
-  pub all : (r : FileRule) → IsUnused at all r → StandsAmong unused r
+  pub complete : (r : FileRule) → IsUnused at all r → StandsAmong unused r
   pub in_order : AreInOrder unused
 
 -- these are the items of the surveys that are asked for, and the rules that decide on none of them,
