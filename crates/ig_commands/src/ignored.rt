@@ -24,10 +24,11 @@ ghost use Rattle.ig_commands.specs.Surveys.{AreBegun, AreSurveys, IsBegun, IsWho
 use crate::asking::{Asked, asked_for};
 use crate::counts::{Counts, Seen, report_counts, status_of};
 use crate::form::{Form, write_reasoned};
+use crate::rejecting::reject;
 use crate::reports::{report_all, report_some};
 use crate::stop::Stop;
 use crate::world::World;
-use crate::writing::{is_listed, refuse, report, write_path};
+use crate::writing::{is_listed, report, write_path};
 use commands::internal::trimmed_roots;
 use ig_options::Options;
 use ignore::{IncrementalIgnore, WalkBuilder, WalkOptions, text};
@@ -60,8 +61,7 @@ pub fn list_ignored<F: Files, W: Write, E: Write>(
 {
     match asked_for(world, options, first) {
         Ok(asked) => report_and_survey(world, options, asked, out, err),
-        Err(Error::Memory) => Err(Stop::Memory),
-        Err(error) => refuse(&error, err),
+        Err(error) => reject(&error, err),
     }
 }
 
@@ -226,9 +226,18 @@ pub(crate) fn report_item<E: Write>(error: &Error, err: &mut E) -> Result<Seen, 
     ensures enough { OnOk result (problem_of error.now ≢ memory) }
     ensures ended { IfErr result (EndsAfter [] [] (λ bs. bs ≡ []) (Appends (E.contents err.old) (E.contents err.new))) }
 {
-    if let Error::Memory = error {
-        return Err(Stop::Memory);
+    match error {
+        Error::Memory => Err(Stop::Memory),
+        _ => report_problem(error, err),
     }
+}
+
+/// Reports a problem in the place of an entry.
+fn report_problem<E: Write>(error: &Error, err: &mut E) -> Result<Seen, Stop>
+    ensures reports { OnOk result (Appends (E.contents err.old) (E.contents err.new) (report_line (problem_of error.now))) }
+    ensures seen { IfOk result (λ seen. (seen.reported ≡ true) × (seen.found ≡ false)) }
+    ensures ended { IfErr result (λ stop. stop ≡ Stop.Silence) }
+{
     report(error, err)?;
     Ok(Seen {
         reported: true,

@@ -5,10 +5,10 @@ ghost use Rattle.std.specs.List.{flat_map};
 ghost use Rattle.ig_commands.specs.Stops.{EndsAfter};
 ghost use Rattle.ig_commands.specs.Types.{ListsTypes, after_comma, glob_list, type_line};
 
+use crate::rejecting::reject;
 use crate::stop::Stop;
-use crate::writing::{refuse, write_bytes};
+use crate::writing::write_bytes;
 use ig_options::{Options, defined_types};
-use ignore_base::Error;
 use ignore_types::types::{FileTypeDef, TypesBuilder};
 use std::io::Write;
 
@@ -32,8 +32,7 @@ pub fn list_types<W: Write, E: Write>(
             write_types(&definitions, out)?;
             Ok(0)
         }
-        Err(Error::Memory) => Err(Stop::Memory),
-        Err(error) => refuse(&error, err),
+        Err(error) => reject(&error, err),
     }
 }
 

@@ -1,7 +1,9 @@
-use Rattle.std.proofs.Common.{inl, map, option_map}
+use Rattle.std.proofs.Common.{[], inl, inr, map, option_map}
 use Rattle.std.proofs.lemmas.Result.{IfErr-weaker, IfOk-weaker}
+use Rattle.commands.proofs.LineLemmas.{appends_nothing}
 use Rattle.ignore_base.specs.Problem.{problem_of}
 use Rattle.ig_commands.proofs.AskedLemmas.{no_roots}
+use Rattle.ig_commands.proofs.EndLemmas.{ends_out, not_memory}
 use Rattle.ig_commands.proofs.ignored.list_ignored.Goals as goal
 
 pub returns-in-Ok-clause-lists : goal.returns-in-Ok-clause-lists
@@ -35,3 +37,15 @@ returns-in-Ok-clause-ended g c =
           (asked, h.2 tree honest (no_roots tree c.args.world.now.env.now c.args.options.now c.args.first b problems asked)),
     ))
     c.report_and_survey.ensures.ended
+
+-- the options are rejected
+pub returns-in-Err-clause-lists : goal.returns-in-Err-clause-lists
+returns-in-Err-clause-lists g c =
+    let problem = problem_of c.in-Err.error in
+    IfOk-weaker c.reject.result _ _
+    (λ status h. inr (problem, not_memory problem h.1 c.in-Err.ensures.refused, h.0, appends_nothing (g.W.Write.contents c.args.out.now), h.2))
+    c.reject.ensures.rejects
+
+pub returns-in-Err-clause-ended : goal.returns-in-Err-clause-ended
+returns-in-Err-clause-ended g c =
+    IfErr-weaker c.reject.result _ _ (λ stop h. inr (ends_out [] (g.W.Write.contents c.args.out.now) _ stop h)) c.reject.ensures.ended

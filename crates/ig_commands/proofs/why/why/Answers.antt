@@ -1,7 +1,8 @@
-use Rattle.std.proofs.Common.{inl, inr, map, option_map}
+use Rattle.std.proofs.Common.{[], inl, inr, map, option_map}
 use Rattle.std.proofs.lemmas.Result.{IfErr-weaker, IfOk-weaker}
 use Rattle.commands.proofs.LineLemmas.{appends_nothing}
 use Rattle.ignore_base.specs.Problem.{problem_of}
+use Rattle.ig_commands.proofs.EndLemmas.{ends_out, not_memory}
 use Rattle.ig_commands.proofs.why.why.Goals as goal
 
 pub returns-in-Ok-clause-answers : goal.returns-in-Ok-clause-answers
@@ -19,3 +20,15 @@ returns-in-Ok-clause-ended g c =
     IfErr-weaker c.report_and_ask.result _ _
     (λ stop h. inl (b, problems, h.0, h.1, h.2, λ tree honest. (c.in-Ok.ensures.read tree honest, h.3 tree honest)))
     c.report_and_ask.ensures.ended
+
+-- the options are rejected
+pub returns-in-Err-clause-answers : goal.returns-in-Err-clause-answers
+returns-in-Err-clause-answers g c =
+    let problem = problem_of c.in-Err.error in
+    IfOk-weaker c.reject.result _ _
+    (λ status h. inr (problem, not_memory problem h.1 c.in-Err.ensures.refused, h.0, appends_nothing (g.W.Write.contents c.args.out.now), h.2))
+    c.reject.ensures.rejects
+
+pub returns-in-Err-clause-ended : goal.returns-in-Err-clause-ended
+returns-in-Err-clause-ended g c =
+    IfErr-weaker c.reject.result _ _ (λ stop h. inr (ends_out [] (g.W.Write.contents c.args.out.now) _ stop h)) c.reject.ensures.ended
