@@ -17,6 +17,7 @@ pub mod RunLemmas
 pub mod StopLemmas
 pub mod SurveyLemmas
 pub mod TurnLemmas
+pub mod TypeLemmas
 pub mod UnusedLemmas
 pub mod WalkLemmas
 pub mod WhyLemmas
