@@ -1,4 +1,4 @@
-use Rattle.core.proofs.iter.Next as it
+use Rattle.std.proofs.iter.Next as it
 use Rattle.std.proofs.Common.{◌≡◌, ◌≢◌, ◌∙◌, ◌∷◌, ◌++◌, [], Err, Result, map, refl}
 use Rattle.std.proofs.lemmas.List.Elements.{All-nil, All-push}
 use Rattle.std.proofs.lemmas.Result.{err_from_is_err_and}

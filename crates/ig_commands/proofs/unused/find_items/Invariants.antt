@@ -1,4 +1,4 @@
-use Rattle.core.proofs.iter.Next as it
+use Rattle.std.proofs.iter.Next as it
 use Rattle.std.proofs.Common.{◌≡◌, ◌≢◌, All, Err, map}
 use Rattle.std.specs.Io.KnownBytes.{Appends}
 use Rattle.std.specs.Iterator.{EndsFrom, items_left}
