@@ -1,11 +1,10 @@
 -- Which rules are read and decide on nothing, by what is kept after surveys.
 use lib.Pointwise.{pointwise}
-use Rattle.std.proofs.Common.{◌≡◌, ◌≢◌, ◌∙◌, ◌⊎◌, ◌==◌, ◌&&◌, ◌||◌, ℕ, All, Bool, true, false, cond, Contains, List, [], ◌∷◌, ◌++◌, map, Option, None, Some, Ok, Err, inl, inr, refl, sym, ap, subst}
+use Rattle.std.proofs.Common.{◌≡◌, ◌≢◌, ◌∙◌, ◌⊎◌, ◌==◌, ◌&&◌, ◌||◌, ℕ, All, Bool, true, false, cond, Contains, List, [], ◌∷◌, map, Option, None, Some, Ok, Err, inl, inr, refl, sym, ap, subst}
 use Rattle.std.proofs.lemmas.Bool.{false≢true}
 use Rattle.std.proofs.lemmas.Bool.Decides.{Decides-eqb}
-use Rattle.std.proofs.lemmas.List.Elements.{All-contains, Contains-append_cases, Contains-append_left, Contains-append_right}
+use Rattle.std.proofs.lemmas.List.Elements.{Contains-append_cases, Contains-append_left, Contains-append_right}
 use Rattle.std.proofs.lemmas.Slice.Eq.{bytes_eq-Decides, slice_eq-Decides}
-use Rattle.std.specs.List.{flat_map}
 use Rattle.std.specs.Option.{option_or, option_to_list}
 use Rattle.std.specs.Str.{bytes_eq}
 use Rattle.ignore_base.specs.Paths.{IsName}
@@ -13,16 +12,15 @@ use Rattle.ignore_base.specs.Problem.{Problem}
 use Rattle.ignore_dir.specs.Query.{names_of}
 use Rattle.ignore_dir.specs.Scene.{QueryScene}
 use Rattle.ignore_files.specs.Kinds.{is_dir}
-use Rattle.ignore_query.specs.Fresh.{KeepsNothing}
 use Rattle.ignore_query.specs.InTurn.{Leaves}
 use Rattle.ignore_query.specs.Needs.{is_among, is_decided, is_kept, needed}
 use Rattle.ignore_query.specs.declared.kept.Cache.{Cache}
-use Rattle.ignore_survey.specs.Survey.{Entry, Item}
+use Rattle.ignore_survey.specs.Survey.{Entry}
 use Rattle.ignore_why.specs.Cited.{Named}
 use Rattle.ig_commands.specs.Form.{rule_of}
 use Rattle.ig_commands.specs.Found.{deciding, first_at}
 use Rattle.ig_commands.specs.Rules.{given_at}
-use Rattle.ig_commands.specs.Surveys.{AreReported, IsReported, Seen}
+use Rattle.ig_commands.specs.Surveys.{AreReported, Seen}
 use Rattle.ig_commands.specs.Unused.{IsOpened}
 use Rattle.ig_commands.proofs.MemberLemmas.{contains_cons, contains_here, contains_none, contains_option, contains_there, first_some, or_cases}
 

@@ -1,5 +1,5 @@
 -- Which rules decide on no entry met.
-use Rattle.std.specs.Prelude.{◌≡◌, ¬, ◌⊎◌, ℕ, true, ◌<◌, All, List, [], ◌∷◌, ◌++◌, Contains, Option, None, Some, Ok, if◌then◌else◌, length, map, codes}
+use Rattle.std.specs.Prelude.{◌≡◌, ◌⊎◌, ℕ, true, ◌<◌, All, List, [], ◌∷◌, ◌++◌, Contains, Option, None, Some, Ok, if◌then◌else◌, length, map, codes}
 use Rattle.std.specs.Cmp.Lexicographic.{slice_cmp}
 use Rattle.std.specs.List.{flat_map}
 use Rattle.std.specs.Ordering.{is_lt, nat_cmp}

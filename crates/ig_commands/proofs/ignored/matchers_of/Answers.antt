@@ -1,4 +1,4 @@
-use Rattle.std.proofs.Common.{◌≡◌, ◌∙◌, ◌∷◌, [], List, append_assoc, ap, sym}
+use Rattle.std.proofs.Common.{◌∙◌, ◌∷◌, [], append_assoc, ap, sym}
 use Rattle.std.proofs.lemmas.List.{append-nil}
 use Rattle.ignore.specs.Builder.{with_root, with_roots}
 use Rattle.ignore.specs.declared.options.WalkOptions.{WalkOptions}

@@ -1,5 +1,3 @@
-use Rattle.std.proofs.Common.{refl}
-use Rattle.ig_commands.proofs.GivenLemmas.{has_input}
 use Rattle.ig_commands.proofs.run.read_task.Goals as goal
 
 pub returns-in-Ok-read_paths-clause-input : goal.returns-in-Ok-read_paths-clause-input

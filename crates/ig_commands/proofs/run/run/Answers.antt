@@ -1,7 +1,7 @@
 use Rattle.std.proofs.Common.{Err, inl, inr}
 use Rattle.std.proofs.lemmas.Result.{IfErr-weaker, IfOk-weaker}
 use Rattle.ig_commands.specs.Run.{Does, Ends, EndsBefore, Shows}
-use Rattle.ig_commands.proofs.RunLemmas.{ends_unread, finishes, keeps_same}
+use Rattle.ig_commands.proofs.RunLemmas.{ends_unread, finishes}
 use Rattle.ig_commands.proofs.run.run.Goals as goal
 
 pub returns-in-Ok-clause-runs : goal.returns-in-Ok-clause-runs

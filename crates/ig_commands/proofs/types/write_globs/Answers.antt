@@ -1,8 +1,7 @@
-use Rattle.std.proofs.Common.{◌≡◌, ◌∙◌, ◌∷◌, ◌++◌, [], List, ap, map, string_bytes, subst, sym}
+use Rattle.std.proofs.Common.{◌∙◌, string_bytes, subst}
 use Rattle.std.specs.Io.KnownBytes.{Appends}
-use Rattle.std.specs.List.{flat_map}
-use Rattle.commands.proofs.LineLemmas.{appends_nothing, appends_on}
-use Rattle.ig_commands.specs.Types.{after_comma, glob_list}
+use Rattle.commands.proofs.LineLemmas.{appends_nothing}
+use Rattle.ig_commands.specs.Types.{after_comma}
 use Rattle.ig_commands.proofs.TurnLemmas.{turn_more, turns_end}
 use Rattle.ig_commands.proofs.TypeLemmas.{globs_after, no_globs}
 use Rattle.ig_commands.proofs.types.write_globs.Goals as goal

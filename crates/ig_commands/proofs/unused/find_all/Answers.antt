@@ -9,7 +9,7 @@ use Rattle.commands.proofs.LineLemmas.{appends_nothing}
 use Rattle.ignore_query.specs.declared.incremental.IncrementalIgnore.{IncrementalIgnore}
 use Rattle.ignore_why.specs.Cited.{Named}
 use Rattle.ig_commands.specs.Counts.{counted}
-use Rattle.ig_commands.specs.Found.{FindsOf, deciding, first_at, met, read_in}
+use Rattle.ig_commands.specs.Found.{FindsOf, deciding, first_at, met}
 use Rattle.ig_commands.specs.Rules.{Grows}
 use Rattle.ig_commands.specs.Surveys.{OfRoot, all_seen, is_wrong, reports}
 use Rattle.ig_commands.proofs.EndLemmas.{ends_root_quiet}

@@ -56,8 +56,11 @@ returns-in-Ok-note_read-clause-found g c =
     → kept_rules x.cache ≡ flat_map (rules_of (scene_of x.asked tree loads)) (kept_dirs x.cache)) into k.loaded in
     let listed = subst (λ (x : IncrementalIgnore). ListsKept x.cache) into k.listed in (
       ((string_bytes m.asked.root, map seen_of h.0), kept_rules u.matcher.cache),
-      (refl, λ empty. survey_finds g.F.Files c.args.world.now.files.now m s c.in-Ok.ensures.whole c.in-Ok.ensures.kept c.in-Ok.ensures.limit empty
-          u h.0 h.1 h.4 loaded listed),
+      (
+        refl,
+        λ empty. survey_finds g.F.Files c.args.world.now.files.now m s c.in-Ok.ensures.whole c.in-Ok.ensures.kept c.in-Ok.ensures.limit empty
+            u h.0 h.1 h.4 loaded listed,
+      ),
       h.2,
       h.3,
       subst (λ (r : FileRules). Grows (first_at (deciding (map seen_of h.0))) c.args.found.now.used r) (sym k.used) h.5,
@@ -73,8 +76,11 @@ returns-in-Err-clause-ended g c =
     let u = c.find_items.new.items in
     let h = c.in_ok-reported.ensures.found in (
       (string_bytes m.asked.root, map seen_of h.0),
-      (refl, λ empty tree loads honest are. whole_begun (scene_of m.asked tree loads) (map seen_of h.0)
-          (survey_whole g.F.Files c.args.world.now.files.now m s c.in-Ok.ensures.whole c.in-Ok.ensures.kept c.in-Ok.ensures.limit empty
-          u h.0 h.1 h.4 tree loads honest are)),
+      (
+        refl,
+        λ empty tree loads honest are. whole_begun (scene_of m.asked tree loads) (map seen_of h.0)
+            (survey_whole g.F.Files c.args.world.now.files.now m s c.in-Ok.ensures.whole c.in-Ok.ensures.kept c.in-Ok.ensures.limit empty
+            u h.0 h.1 h.4 tree loads honest are),
+      ),
       (refl, h.2),
     )

@@ -1,4 +1,4 @@
-use Rattle.std.proofs.Common.{◌≡◌, ◌∙◌, ℕ, ◌+◌, [], ◌++◌, List, ap, inl, inr, map, option_map, refl, string_bytes, subst, sym}
+use Rattle.std.proofs.Common.{[], inl, inr, map, option_map, refl, string_bytes, subst, sym}
 use Rattle.std.proofs.lemmas.List.{append-nil}
 use Rattle.std.proofs.lemmas.Result.{err_from_is_err_and}
 use Rattle.std.specs.Io.KnownBytes.{Appends}
@@ -6,7 +6,7 @@ use Rattle.std.specs.List.{flat_map}
 use Rattle.commands.proofs.LineLemmas.{appends_nothing, appends_on}
 use Rattle.ignore_base.specs.Problem.{problem_of}
 use Rattle.ig_commands.specs.Reports.{report_of}
-use Rattle.ig_commands.specs.Why.{reports, wrong_in, written}
+use Rattle.ig_commands.specs.Why.{reports, written}
 use Rattle.ig_commands.proofs.ReportLemmas.{reported_as, status_as, wrong_as}
 use Rattle.ig_commands.proofs.StopLemmas.{ends_after_reports}
 use Rattle.ig_commands.proofs.WhyLemmas.{first_of}
