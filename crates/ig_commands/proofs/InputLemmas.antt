@@ -63,11 +63,11 @@ cut_first end x xs true e h =
 cut_first end x xs false e (inl (text, is, other, front)) = inl (
   x ∷ text,
   ap (λ ys. x ∷ ys) is,
-  (λ c. elim (contains_front x end text c) [ | inl same ↦ both_ways (eqb x end) e (eq-eqb x end same) | inr here ↦ other here ]),
+  (λ c. elim (contains_front x end text c) [ inl same ↦ both_ways (eqb x end) e (eq-eqb x end same) | inr here ↦ other here ]),
   ap (λ ys. x ∷ ys) front,
 )
 cut_first end x xs false e (inr (other, front, rest)) = inr (
-  (λ c. elim (contains_front x end xs c) [ | inl same ↦ both_ways (eqb x end) e (eq-eqb x end same) | inr here ↦ other here ]),
+  (λ c. elim (contains_front x end xs c) [ inl same ↦ both_ways (eqb x end) e (eq-eqb x end same) | inr here ↦ other here ]),
   ap (λ ys. x ∷ ys) front,
   rest,
 )
@@ -148,7 +148,7 @@ known_more o start (Some bytes) known next byte number more_number text paths mo
     let piece = subst (λ (k : Option (List ℕ)). IfSome k (λ xs. (0 < length xs) × (text ≡ first_piece (end_byte o) xs)) × DropsThrough k next (end_byte o)) left at_end in
     let some : rest ≢ [] = λ none. omega (arith, piece.0.0, ap length none) in
     let more_on = gives_more o number bytes rest text all given on some piece.0.1
-        (subst (λ (m : ℕ). Gives (is_opened o.null text) text m given) n gives) in (
+    (subst (λ (m : ℕ). Gives (is_opened o.null text) text m given) n gives) in (
       drop_through (end_byte o) rest,
       all ++ given ∷ [],
       piece.1,

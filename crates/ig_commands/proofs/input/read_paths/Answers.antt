@@ -12,10 +12,10 @@ pub loop-record-init : goal.loop-record-init
 loop-record-init g c =
     let o = c.args.options.now in
     let end : c.if-options.end ≡ end_byte o =
-        elim c.if-options.branch [
-          | then-options w ↦ w.end-is ∙ sym (ap (λ (b : Bool). cond b 0 10) w.if-options.true)
-          | else-options w ↦ w.end-is ∙ sym (ap (λ (b : Bool). cond b 0 10) w.if-options.false)
-        ] in
+    elim c.if-options.branch [
+      | then-options w ↦ w.end-is ∙ sym (ap (λ (b : Bool). cond b 0 10) w.if-options.true)
+      | else-options w ↦ w.end-is ∙ sym (ap (λ (b : Bool). cond b 0 10) w.if-options.false)
+    ] in
     let same = c.into_iter-record-iterator.ensures.into_iter_gives in (
       search rules,
       search rules,
@@ -34,7 +34,7 @@ loop-record-preserved g c =
     let n : c.saturating_add-number.result ≡ capped (l.number + 1) = search rules in
     let same = l.invariant.3 in
     let gives = subst (λ (b : Bool). Gives (is_opened b c.in-Ok.record.items) c.in-Ok.record.items c.saturating_add-number.result c.in-Ok-given_by.given)
-        (ap (λ (p : Options). p.null) same) c.in-Ok-given_by.ensures.given in (
+    (ap (λ (p : Options). p.null) same) c.in-Ok-given_by.ensures.given in (
       search rules,
       search rules,
       c.next.ensures.steps.1 ∙ l.invariant.2,

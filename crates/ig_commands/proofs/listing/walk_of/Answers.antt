@@ -19,6 +19,6 @@ returns-clause-walks g c = λ tree honest.
       λ loads are.
           let scene = listing c.args.options.now c.args.walk tree loads outside in
           let suits = suits_listing g.F.Files _ c.args.world.now.files.now _ _ tree loads c.in_ok-settings.settings outside c.args.options.now
-              c.args.walk honest are same refl refl (λ e. refl) (λ a b. refl) in
+          c.args.walk honest are same refl refl (λ e. refl) (λ a b. refl) in
           record { starts = c.new.ensures.starts scene suits; whole = λ items n whole. c.new.ensures.whole scene items n suits whole },
     )
