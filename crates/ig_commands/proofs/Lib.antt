@@ -1,3 +1,4 @@
+pub mod FaultLemmas
 pub mod FieldLemmas
 pub mod InputLemmas
 pub mod ItemLemmas
