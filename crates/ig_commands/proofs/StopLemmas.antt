@@ -49,3 +49,6 @@ ends_at_once (Err stop) o x y (inl m) kept Goal so =
     so stop (subst (λ (s : Stop). EndsAfter [] [] (Appends o o) (Appends x y) s) (sym m) (appends_nothing o, kept m))
 ends_at_once (Err stop) o x y (inr s) kept Goal so =
     so stop (subst (λ (t : Stop). EndsAfter [] [] (Appends o o) (Appends x y) t) (sym s) tt)
+
+pub appends_none : (a : Option (List ℕ)) → Appends a a []
+appends_none a = appends_nothing a

@@ -77,6 +77,7 @@ pub(crate) fn refuse<E: Write>(error: &Error, err: &mut E) -> Result<u8, Stop>
 }
 
 /// Reports that the options are wrong, unless memory ran out, which ends the command.
+#[tactic(auto, using(crate::proofs::StopLemmas::appends_none))]
 pub(crate) fn refuse_or_end<E: Write>(error: &Error, err: &mut E) -> Result<u8, Stop>
     ensures reports { IfOk result (λ status. (status ≡ 2)
         × Appends (E.contents err.old) (E.contents err.new) (report_line (problem_of error.now))) }
