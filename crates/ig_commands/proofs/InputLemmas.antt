@@ -1,8 +1,9 @@
 -- The records of some bytes, one by one.
-use Rattle.std.proofs.Common.{◌≡◌, ◌≢◌, ◌∙◌, ◌⊎◌, ◌<◌, ◌-◌, ◌+◌, ℕ, suc, zero, Bool, true, false, cond, eqb, eqb-true, eq-eqb, ltb, List, [], ◌∷◌, ◌++◌, length, take, get_or, append_assoc, Contains, refl, sym, ap, subst, inl, inr, arith}
+use Rattle.std.proofs.Common.{◌≡◌, ◌≢◌, ◌∙◌, ◌⊎◌, ◌<◌, ◌-◌, ◌+◌, ℕ, suc, zero, Bool, true, false, cond, eqb, eqb-true, eq-eqb, ltb, List, [], ◌∷◌, ◌++◌, length, take, get_or, append_assoc, Contains, IfSome, Option, None, Some, refl, sym, ap, subst, inl, inr, arith}
 use Rattle.std.proofs.lemmas.Bool.{and_from, and_parts, both_ways, lt-ltb, ltb-true}
 use Rattle.std.proofs.lemmas.List.{append-nil, get_or-append_right, get_or_default, length-append, length_push, take_at}
-use Rattle.std.specs.Io.BufRead.{drop_through, ends_with_byte, first_piece, strip_last, take_through}
+use Rattle.std.specs.Io.BufRead.{DropsThrough, drop_through, ends_with_byte, first_piece, strip_last, take_through}
+use Rattle.std.specs.Io.KnownBytes.{IsAtEnd}
 use Rattle.ig_options.specs.Given.{Gives, is_opened}
 use Rattle.ig_options.specs.declared.given.Given.{Given}
 use Rattle.ig_options.specs.declared.options.Options.{Options}
@@ -62,11 +63,11 @@ cut_first end x xs true e h =
 cut_first end x xs false e (inl (text, is, other, front)) = inl (
   x ∷ text,
   ap (λ ys. x ∷ ys) is,
-  (λ c. elim (contains_front x end text c) [ | inl same ↦ both_ways (eqb x end) e (eq-eqb x end same) | inr here ↦ other here ]),
+  (λ c. elim (contains_front x end text c) [ inl same ↦ both_ways (eqb x end) e (eq-eqb x end same) | inr here ↦ other here ]),
   ap (λ ys. x ∷ ys) front,
 )
 cut_first end x xs false e (inr (other, front, rest)) = inr (
-  (λ c. elim (contains_front x end xs c) [ | inl same ↦ both_ways (eqb x end) e (eq-eqb x end same) | inr here ↦ other here ]),
+  (λ c. elim (contains_front x end xs c) [ inl same ↦ both_ways (eqb x end) e (eq-eqb x end same) | inr here ↦ other here ]),
   ap (λ ys. x ∷ ys) front,
   rest,
 )
@@ -122,3 +123,43 @@ pub gives_all : (o : Options) (number : ℕ) (bytes rest : List ℕ) (all : List
 gives_all o number bytes rest all h ended =
     subst (λ (gs : List Given). AreGiven o bytes gs) (append-nil all)
     (h [] [] (subst (λ (bs : List ℕ). AreRecords (end_byte o) bs []) (sym ended) none) tt)
+
+-- ---- a loop over the pieces of a reader, of which the known bytes are left
+
+-- where the bytes are known, these are left, and the paths so far are those of the others
+abbrev pub Known : Options → List Given → Option (List ℕ) → Option (List ℕ) → ℕ → List Given → Type 0
+Known o start remaining known number paths =
+    IfSome remaining (λ bytes. (rest : List ℕ) × (all : List Given) × (known ≡ Some rest) × (paths ≡ start ++ all) × GivesOn o number bytes rest all)
+
+pub known_none : (o : Options) (start : List Given) (remaining known : Option (List ℕ)) → known ≡ remaining
+    → Known o start remaining known 0 start
+known_none o start None known is = tt
+known_none o start (Some bytes) known is =
+    (bytes, [], is, sym (append-nil start), (λ records others are gives. (records, are, gives)))
+
+pub known_more : (o : Options) (start : List Given) (remaining known next : Option (List ℕ)) (byte number more_number : ℕ) (text : List ℕ)
+    (paths more_paths : List Given) (given : Given) → byte ≡ end_byte o → Known o start remaining known number paths
+    → IfSome known (λ xs. (0 < length xs) × (text ≡ first_piece byte xs)) × DropsThrough known next byte
+    → more_number ≡ capped (number + 1) → Gives (is_opened o.null text) text more_number given → more_paths ≡ paths ++ given ∷ []
+    → Known o start remaining next more_number more_paths
+known_more o start None known next byte number more_number text paths more_paths given is h step n gives push = tt
+known_more o start (Some bytes) known next byte number more_number text paths more_paths given is (rest, all, left, so, on) step n gives push =
+    let at_end = subst (λ (b : ℕ). IfSome known (λ xs. (0 < length xs) × (text ≡ first_piece b xs)) × DropsThrough known next b) is step in
+    let piece = subst (λ (k : Option (List ℕ)). IfSome k (λ xs. (0 < length xs) × (text ≡ first_piece (end_byte o) xs)) × DropsThrough k next (end_byte o)) left at_end in
+    let some : rest ≢ [] = λ none. omega (arith, piece.0.0, ap length none) in
+    let more_on = gives_more o number bytes rest text all given on some piece.0.1
+    (subst (λ (m : ℕ). Gives (is_opened o.null text) text m given) n gives) in (
+      drop_through (end_byte o) rest,
+      all ++ given ∷ [],
+      piece.1,
+      push ∙ (ap (λ (ps : List Given). ps ++ given ∷ []) so ∙ append_assoc start all (given ∷ [])),
+      subst (λ (m : ℕ). GivesOn o m bytes (drop_through (end_byte o) rest) (all ++ given ∷ [])) (sym n) more_on,
+    )
+
+pub known_all : (o new : Options) (remaining known : Option (List ℕ)) (number : ℕ) → Known o o.paths.items remaining known number new.paths.items
+    → IsAtEnd known → new ≡ record o { paths = new.paths }
+    → IfSome remaining (λ bytes. (all : List Given) × AreGiven o bytes all × (new ≡ record o { paths = new.paths })
+    × (new.paths.items ≡ o.paths.items ++ all))
+known_all o new None known number h ended same = tt
+known_all o new (Some bytes) known number (rest, all, left, so, on) ended same =
+    (all, gives_all o number bytes rest all on (subst IsAtEnd left ended), same, so)

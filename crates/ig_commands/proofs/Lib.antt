@@ -1,5 +1,6 @@
 pub mod AskedLemmas
 pub mod EndLemmas
+pub mod FaultLemmas
 pub mod FieldLemmas
 pub mod FoundLemmas
 pub mod GivenLemmas

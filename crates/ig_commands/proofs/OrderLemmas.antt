@@ -141,7 +141,7 @@ in_append_right (y ∷ xs) ys x h = inr (in_append_right xs ys x h)
 in_append : {X : Type 0} (xs ys : List X) (x : X) → In (xs ++ ys) x → In xs x ⊎ In ys x
 in_append [] ys x h = inr h
 in_append (y ∷ xs) ys x (inl is) = inl (inl is)
-in_append (y ∷ xs) ys x (inr h) = elim (in_append xs ys x h) [ | inl k ↦ inl (inr k) | inr k ↦ inr k ]
+in_append (y ∷ xs) ys x (inr h) = elim (in_append xs ys x h) [ inl k ↦ inl (inr k) | inr k ↦ inr k ]
 
 module _ {X : Type 0} (p : X → Bool) (y x : X) (ys : List X) where
   in_kept : (b : Bool) → p y ≡ b → (In (filter p ys) x → In ys x × (p x ≡ true)) → In (cond b (y ∷ filter p ys) (filter p ys)) x
@@ -224,11 +224,11 @@ module _ {X Y : Type 0} (others : FileRules) (files : BTreeMap (String X) (BTree
       let e = in_map (λ (e : ℕ × String Y). file_rule (string_bytes f.0.0) e.0 (string_bytes e.1)) f.0.1.entries r l.0 in
       let of_file = from_in files.entries f.0 f.1 in
       let file : get string_cmp files f.0.0 ≡ Some f.0.1 =
-          All-contains (λ p. get string_cmp files p.0 ≡ Some p.1) files.entries f.0 (All-found string_cmp_total files in_files) of_file in
+      All-contains (λ p. get string_cmp files p.0 ≡ Some p.1) files.entries f.0 (All-found string_cmp_total files in_files) of_file in
       let ordered : IsOrdered nat_cmp f.0.1 = All-contains (λ p. IsOrdered nat_cmp p.1) files.entries f.0 in_lines of_file in
       let line : get nat_cmp f.0.1 e.0.0 ≡ Some e.0.1 =
-          All-contains (λ p. get nat_cmp f.0.1 p.0 ≡ Some p.1) f.0.1.entries e.0 (All-found nat_cmp_total f.0.1 ordered)
-          (from_in f.0.1.entries e.0 e.1) in (
+      All-contains (λ p. get nat_cmp f.0.1 p.0 ≡ Some p.1) f.0.1.entries e.0 (All-found nat_cmp_total f.0.1 ordered)
+      (from_in f.0.1.entries e.0 e.1) in (
         subst (λ (q : FileRule). line_of (get_by_text files q.source) q.line ≡ Some q.pattern) e.2
             (ap (λ (o : Option (BTreeMap ℕ (String Y))). line_of o e.0.0) file ∙ ap (λ (o : Option (String Y)). option_map string_bytes o) line),
         none_free (rule_at others r.source r.line) l.1,
@@ -241,11 +241,11 @@ module _ {X Y : Type 0} (others : FileRules) (files : BTreeMap (String X) (BTree
       let f = in_lookup (is_at (λ (k : String X). slice_cmp nat_cmp r.source (string_bytes k))) files.entries file is in
       let l = in_lookup (is_at (nat_cmp r.line)) file.entries v e in
       let source : r.source ≡ string_bytes f.0 =
-          (bytes_eq-Decides r.source (string_bytes f.0)).0 (sym (is_eq-slice_cmp r.source (string_bytes f.0)) ∙ f.2) in
+      (bytes_eq-Decides r.source (string_bytes f.0)).0 (sym (is_eq-slice_cmp r.source (string_bytes f.0)) ∙ f.2) in
       let line : r.line ≡ l.0 = equal r.line l.0 (nat_cmp r.line l.0) refl l.2 in
       let pattern : string_bytes v ≡ r.pattern = cc h in
       let same : file_rule (string_bytes f.0) l.0 (string_bytes v) ≡ r =
-          λ j. record { source = sym source j; line = sym line j; pattern = pattern j } in
+      λ j. record { source = sym source j; line = sym line j; pattern = pattern j } in
       let lines = map (λ (e : ℕ × String Y). file_rule (string_bytes f.0) e.0 (string_bytes e.1)) file.entries in
       in_flat_back (λ (f : String X × BTreeMap ℕ (String Y)). left_of others (string_bytes f.0) f.1.entries) files.entries (f.0, file) r f.1
       (in_filter_back (is_free others) lines r

@@ -41,8 +41,8 @@ folder_shorter : (path : List ℕ) → 0 < length path → bytes_eq path (codes 
 folder_shorter path some other =
     let folder = joined (but_last (components path)) in
     let less : length folder < length path =
-        subst (λ (p : List ℕ). length folder < length p) (joined-components path)
-        (front (components path) (subst (λ (p : List ℕ). 0 < length p) (sym (joined-components path)) some)) in
+    subst (λ (p : List ℕ). length folder < length p) (joined-components path)
+    (front (components path) (subst (λ (p : List ℕ). 0 < length p) (sym (joined-components path)) some)) in
     chosen (is_absolute path && eqb (length folder) 0) folder path
     (λ e. two path (and_parts (is_absolute path) (eqb (length folder) 0) e).0 other) less
 

@@ -1,8 +1,9 @@
 -- How an early end goes on from what was written before.
-use Rattle.std.proofs.Common.{ℕ, List, [], ◌++◌, Option, subst}
+use Rattle.std.proofs.Common.{◌≡◌, ◌≢◌, ◌⊎◌, ℕ, List, [], ◌++◌, Option, Result, Ok, Err, IfOk, IfErr, OnOk, inl, inr, subst, sym}
 use Rattle.std.proofs.lemmas.List.{append-nil}
 use Rattle.std.specs.Io.KnownBytes.{Appends}
-use Rattle.commands.proofs.LineLemmas.{appends_on}
+use Rattle.ignore_base.specs.Problem.{Problem, memory}
+use Rattle.commands.proofs.LineLemmas.{appends_nothing, appends_on}
 use Rattle.ig_commands.specs.declared.stop.Stop.{Stop}
 use Rattle.ig_commands.specs.declared.stop.Stop.TheVariants.{Memory, Read, Write, Closed, Silence}
 use Rattle.ig_commands.specs.Stops.{EndsAfter}
@@ -30,3 +31,24 @@ ends_after_reports written first reported out x y z Read h k = absurd k
 ends_after_reports written first reported out x y z Write h k = appends_on x y z first reported h k
 ends_after_reports written first reported out x y z Closed h k = appends_on x y z first reported h k
 ends_after_reports written first reported out x y z Silence h k = tt
+
+-- a problem of the options that isn't out of memory is one of those by which they are rejected
+pub refused : (r : Result ℕ Stop) (problem : Problem) (Refuses : Problem → Type 0) (Reports : ℕ → Type 0) (Goal : ℕ → Type 0)
+    → (problem ≡ memory) ⊎ Refuses problem → OnOk r (problem ≢ memory) → IfOk r (λ status. (status ≡ 2) × Reports status)
+    → ((status : ℕ) → Refuses problem → status ≡ 2 → Reports status → Goal status) → IfOk r Goal
+refused (Ok status) problem Refuses Reports Goal (inl m) enough h so = absurd (enough m)
+refused (Ok status) problem Refuses Reports Goal (inr other) enough h so = so status other h.0 h.1
+refused (Err stop) problem Refuses Reports Goal one enough h so = tt
+
+-- before anything is written, a command ends out of memory, or in silence
+pub ends_at_once : (r : Result ℕ Stop) (o x y : Option (List ℕ)) → IfErr r (λ stop. (stop ≡ Memory) ⊎ (stop ≡ Silence))
+    → IfErr r (λ stop. stop ≡ Memory → Appends x y []) → (Goal : Stop → Type 0)
+    → ((stop : Stop) → EndsAfter [] [] (Appends o o) (Appends x y) stop → Goal stop) → IfErr r Goal
+ends_at_once (Ok status) o x y ended kept Goal so = tt
+ends_at_once (Err stop) o x y (inl m) kept Goal so =
+    so stop (subst (λ (s : Stop). EndsAfter [] [] (Appends o o) (Appends x y) s) (sym m) (appends_nothing o, kept m))
+ends_at_once (Err stop) o x y (inr s) kept Goal so =
+    so stop (subst (λ (t : Stop). EndsAfter [] [] (Appends o o) (Appends x y) t) (sym s) tt)
+
+pub appends_none : (a : Option (List ℕ)) → Appends a a []
+appends_none a = appends_nothing a

@@ -52,7 +52,7 @@ suits_listing files calls f owner chosen tree loads s o options b honest are is 
 }
 
 -- an item after which a walk goes on ends none
-not_end : (item : Item) → GoesOn item → ¬ (IsEnd item)
+not_end : (item : Item) → GoesOn item → IsEnd item → ⊥
 not_end (Ok e) on (inl m) = cc m
 not_end (Ok e) on (inr l) = cc l
 not_end (Err p) on (inl m) =

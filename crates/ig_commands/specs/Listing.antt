@@ -127,8 +127,8 @@ found_in o items = counted 0 (map (is_found o) items)
 pub record Writes (o : Options) (items : List Item) (reported found : ℕ) (out err : Bytes → Type 0) : Type 0 where
   pub lists : out (flat_map (lines_of o) items)
   pub reports : err (reports_after [] items)
-  pub reported : reported ≡ reported_in items
-  pub found : found ≡ found_in o items
+  pub wrong : reported ≡ reported_in items
+  pub listed : found ≡ found_in o items
   pub enough : All (λ item. item ≢ Err memory) items
 
 -- what is reported: these problems of the files that are named, and then those of items

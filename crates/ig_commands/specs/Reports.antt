@@ -12,9 +12,13 @@ use Rattle.ignore_base.specs.Problem.{memory}
 use Rattle.ignore_walk.specs.Entry.{Item, entry_of}
 use Rattle.ignore_walk.specs.declared.entry.DirEntry.{DirEntry}
 
+-- the text of a problem, and the end of its line
+abbrev pub line_text : Problem → Bytes
+line_text problem = problem_text problem ++ 10 ∷ []
+
 -- the line that reports a problem
 abbrev pub report_line : Problem → Bytes
-report_line problem = codes "ig: " ++ (problem_text problem ++ 10 ∷ [])
+report_line problem = codes "ig: " ++ line_text problem
 
 -- the line that reports a problem, if there is one
 abbrev pub report_of : Option Problem → Bytes
@@ -70,19 +74,19 @@ bare_depth memory = None
 abbrev pub folder_above : (ℕ → Option Path) → ℕ → Option Path
 folder_above last depth = if depth == 0 then None else last (depth - 1)
 
--- where something is: its folder, or its depth, where the folder isn't among the entries
-abbrev pub place_text : Option Path → ℕ → Bytes
-place_text (Some folder) depth = folder ++ codes ": "
-place_text None depth = codes "depth " ++ (decimal depth ++ codes ": ")
+-- a text after where something is: its folder, or its depth, where the folder isn't among the entries
+abbrev pub after_place : Option Path → ℕ → Bytes → Bytes
+after_place (Some folder) depth text = folder ++ (codes ": " ++ text)
+after_place None depth text = codes "depth " ++ (decimal depth ++ (codes ": " ++ text))
 
--- where a problem is: with a depth alone, in the last entry one level up
-abbrev pub place_of : (ℕ → Option Path) → Option ℕ → Bytes
-place_of last None = []
-place_of last (Some depth) = place_text (folder_above last depth) depth
+-- a text after where a problem is: with a depth alone, in the last entry one level up
+abbrev pub placed : (ℕ → Option Path) → Option ℕ → Bytes → Bytes
+placed last None text = text
+placed last (Some depth) text = after_place (folder_above last depth) depth text
 
 -- the line that reports a problem in the place of an entry
 abbrev pub fault_line : (ℕ → Option Path) → Problem → Bytes
-fault_line last problem = codes "ig: " ++ (place_of last (bare_depth problem) ++ (problem_text problem ++ 10 ∷ []))
+fault_line last problem = codes "ig: " ++ placed last (bare_depth problem) (line_text problem)
 
 -- what is reported of an item, where these are the last entries at each depth
 abbrev pub reports_of : (ℕ → Option Path) → Item → Bytes

@@ -3,14 +3,16 @@ ghost use Rattle.std.specs.Prelude.{◌≡◌, ◌⊎◌, IfOk, IfErr, map, opti
 ghost use Rattle.ignore_base.specs.Problem.{problem_of, memory};
 ghost use Rattle.ignore_files.specs.Gives.{IsHonest};
 ghost use Rattle.ignore_files.specs.Tree.{Tree};
+ghost use Rattle.ignore.specs.Builder.{with_overrides, with_types};
 ghost use Rattle.ig_commands.specs.Listing.{IsAsked, RefusesOptions, base_of};
 
 use crate::world::World;
 use ig_options::{Options, add_files, globs_of, types_of, walk_options};
 use ignore::WalkOptions;
+use ignore::overrides::Override;
 use ignore_base::Error;
 use ignore_files::{Env, Files};
-use ignore_types::types::TypesBuilder;
+use ignore_types::types::{Types, TypesBuilder};
 
 /// What a walk goes by, and what is wrong with the files that the options name.
 #[derive(Drop)]
@@ -33,10 +35,17 @@ pub(crate) fn asked_for<F: Files>(
     let globs = globs_of(world.alloc, options, base_dir(world.env))?;
     let types = types_of(first, options)?;
     let mut walk = walk_options(world.alloc, options)?;
-    walk.overrides(globs);
-    walk.types(types);
+    set_rules(&mut walk, globs, types);
     let errors = add_files(world.alloc, world.files, world.env, options, &mut walk)?;
     Ok(Asked { walk, errors })
+}
+
+/// The globs of the command line and the chosen types.
+fn set_rules(walk: &mut WalkOptions, globs: Override, types: Types)
+    ensures { walk.new ≡ with_types (with_overrides walk.old globs) types }
+{
+    walk.overrides(globs);
+    walk.types(types);
 }
 
 /// The directory that globs are relative to.

@@ -1,12 +1,12 @@
 //! Paths from standard input.
-ghost use Rattle.std.specs.Prelude.{◌≡◌, ◌⊎◌, ◌++◌, false, true, IfErr, IfSome, List, OnOk};
+ghost use Rattle.std.specs.Prelude.{◌≡◌, ◌⊎◌, [], ◌∷◌, ◌++◌, false, true, IfErr, IfSome, List, OnOk};
 ghost use Rattle.std.specs.IoError.{error_kind};
 ghost use Rattle.ig_commands.specs.Input.{AreGiven};
 ghost use Rattle.ig_commands.specs.Stops.{read_stop};
 ghost use Rattle.ig_options.specs.declared.given.Given.{Given};
 
 use crate::stop::Stop;
-use ig_options::{Options, given_by};
+use ig_options::{Given, Options, given_by};
 use std::alloc::Global;
 use std::io;
 use std::io::BufRead;
@@ -37,11 +37,21 @@ pub(crate) fn read_paths<R: BufRead + Drop>(
         let Ok(given) = given_by(record, number, options.null) else {
             return Err(Stop::Memory);
         };
-        if options.paths.push(given).is_err() {
-            return Err(Stop::Memory);
-        }
+        push_path(options, given)?;
     }
     Ok(())
+}
+
+/// Adds a path after the others.
+fn push_path(options: &mut Options, given: Given) -> Result<(), Stop>
+    ensures pushed { OnOk result ((options.new ≡ record options.old { paths = options.new.paths })
+        × (options.new.paths.items ≡ options.old.paths.items ++ given ∷ [])) }
+    ensures ended { IfErr result (λ stop. stop ≡ Stop.Memory) }
+{
+    match options.paths.push(given) {
+        Ok(()) => Ok(()),
+        Err(_) => Err(Stop::Memory),
+    }
 }
 
 /// Why a failed read ends a command.

@@ -24,7 +24,7 @@ use crate::counts::{Counts, Seen, report_counts, status_of};
 use crate::reports::{Folders, report_all, report_fault, report_some};
 use crate::stop::Stop;
 use crate::world::World;
-use crate::writing::{is_listed, refuse, write_path};
+use crate::writing::{is_listed, refuse_or_end, write_path};
 use commands::internal::{ByName, trimmed_roots};
 use ig_options::Options;
 use ignore::{WalkBuilder, WalkOptions};
@@ -61,8 +61,7 @@ pub fn list<F: Files, W: Write, E: Write>(
 {
     match asked_for(world, options, first) {
         Ok(asked) => report_and_walk(world, options, asked, out, err),
-        Err(Error::Memory) => Err(Stop::Memory),
-        Err(error) => refuse(&error, err),
+        Err(error) => refuse_or_end(&error, err),
     }
 }
 

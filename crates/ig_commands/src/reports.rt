@@ -1,10 +1,10 @@
 //! Reports of what is wrong in a walk: a problem that has no path is reported with its folder.
-ghost use Rattle.std.specs.Prelude.{◌≡◌, OnOk, IfOk, IfErr, map, option_map};
+ghost use Rattle.std.specs.Prelude.{◌≡◌, ◌++◌, codes, None, Some, OnOk, IfOk, IfErr, map, option_map};
 ghost use Rattle.std.specs.Io.KnownBytes.{Appends};
 ghost use Rattle.std.specs.List.{flat_map};
 ghost use Rattle.ignore_base.specs.Problem.{problem_of};
 ghost use Rattle.ig_commands.specs.Counts.{counted};
-ghost use Rattle.ig_commands.specs.Reports.{bare_depth, fault_line, folder_above, is_known, last_in, path_of, report_of};
+ghost use Rattle.ig_commands.specs.Reports.{after_place, bare_depth, fault_line, folder_above, is_known, last_in, line_text, path_of, report_of};
 
 use crate::stop::Stop;
 use crate::writing::report;
@@ -41,6 +41,7 @@ fn bare_depth(error: &Error) -> Option<usize>
 
 /// Reports an error in the place of an entry, with its folder, where it has no path; or with its
 /// depth, where no entry is that folder.
+#[tactic(auto, using(crate::proofs::FaultLemmas::told_in, crate::proofs::FaultLemmas::told_at, crate::proofs::FaultLemmas::told_bare))]
 pub(crate) fn report_fault<E: Write>(
     error: &Error,
     folders: &Folders,
@@ -53,11 +54,31 @@ pub(crate) fn report_fault<E: Write>(
     let Some(depth) = bare_depth(error) else {
         return report(error, err);
     };
-    let written = match folder_above(folders, depth) {
-        Some(folder) => writeln!(err, "ig: {folder}: {error}"),
-        None => writeln!(err, "ig: depth {depth}: {error}"),
-    };
-    match written {
+    match folder_above(folders, depth) {
+        Some(folder) => report_in(folder, error, err),
+        None => report_at(depth, error, err),
+    }
+}
+
+/// Reports an error in a folder.
+fn report_in<E: Write>(folder: &str, error: &Error, err: &mut E) -> Result<(), Stop>
+    ensures reports { OnOk result (Appends (E.contents err.old) (E.contents err.new)
+        (codes "ig: " ++ after_place (Some folder.now) 0 (line_text (problem_of error.now)))) }
+    ensures ended { IfErr result (λ stop. stop ≡ Stop.Silence) }
+{
+    match writeln!(err, "ig: {folder}: {error}") {
+        Ok(()) => Ok(()),
+        Err(_) => Err(Stop::Silence),
+    }
+}
+
+/// Reports an error at a depth.
+fn report_at<E: Write>(depth: usize, error: &Error, err: &mut E) -> Result<(), Stop>
+    ensures reports { OnOk result (Appends (E.contents err.old) (E.contents err.new)
+        (codes "ig: " ++ after_place None depth (line_text (problem_of error.now)))) }
+    ensures ended { IfErr result (λ stop. stop ≡ Stop.Silence) }
+{
+    match writeln!(err, "ig: depth {depth}: {error}") {
         Ok(()) => Ok(()),
         Err(_) => Err(Stop::Silence),
     }

@@ -1,8 +1,8 @@
 //! Writing to the output, and reports to the errors.
-ghost use Rattle.std.specs.Prelude.{◌≡◌, ◌⊎◌, OnOk, IfOk, IfErr, None, true};
+ghost use Rattle.std.specs.Prelude.{◌≡◌, ◌≢◌, ◌⊎◌, [], OnOk, IfOk, IfErr, None, true};
 ghost use Rattle.std.specs.Io.KnownBytes.{Appends};
 ghost use Rattle.std.specs.IoError.{error_kind};
-ghost use Rattle.ignore_base.specs.Problem.{problem_of};
+ghost use Rattle.ignore_base.specs.Problem.{memory, problem_of};
 ghost use Rattle.ig_commands.specs.Reports.{report_line};
 ghost use Rattle.ig_commands.specs.Stops.{write_stop};
 ghost use Rattle.ig_commands.specs.Writing.{is_chosen, is_listed, record_of, shown};
@@ -74,6 +74,21 @@ pub(crate) fn refuse<E: Write>(error: &Error, err: &mut E) -> Result<u8, Stop>
 {
     report(error, err)?;
     Ok(2)
+}
+
+/// Reports that the options are wrong, unless memory ran out, which ends the command.
+#[tactic(auto, using(crate::proofs::StopLemmas::appends_none))]
+pub(crate) fn refuse_or_end<E: Write>(error: &Error, err: &mut E) -> Result<u8, Stop>
+    ensures reports { IfOk result (λ status. (status ≡ 2)
+        × Appends (E.contents err.old) (E.contents err.new) (report_line (problem_of error.now))) }
+    ensures enough { OnOk result (problem_of error.now ≢ memory) }
+    ensures ended { IfErr result (λ stop. (stop ≡ Stop.Memory) ⊎ (stop ≡ Stop.Silence)) }
+    ensures kept { IfErr result (λ stop. stop ≡ Stop.Memory → Appends (E.contents err.old) (E.contents err.new) []) }
+{
+    match error {
+        Error::Memory => Err(Stop::Memory),
+        _ => refuse(error, err),
+    }
 }
 
 /// Whether entries of this kind are listed.

@@ -14,13 +14,13 @@ returns-then-form-clause-writes g c =
     let bytes = c.as_bytes-bytes.result.now in
     let is = c.as_bytes-bytes.ensures.value in
     let so = λ (t : List ℕ).
-        OnOk c.write_bytes.result (Appends (g.W.Write.contents c.args.out.now) (g.W.Write.contents c.write_bytes.new.out) t) in
+    OnOk c.write_bytes.result (Appends (g.W.Write.contents c.args.out.now) (g.W.Write.contents c.write_bytes.new.out) t) in
     elim c.then-form.branch [
       | then-form-via-then-form w ↦
           subst so (plain_field c.args.form.null c.args.text.now bytes is (inl w.if-form.true)) c.write_bytes.ensures.writes
       | then-form-via-else-form+then-not-any w ↦
           let any : w.any.result ≡ list_any is_quoted bytes =
-              any_from_yields_List is_quoted _ _ w.any.result w.any.ensures.ran (YieldsList-from_slice bytes cc) (λ x b q k. search (rules, tests)) in
+          any_from_yields_List is_quoted _ _ w.any.result w.any.ensures.ran (YieldsList-from_slice bytes cc) (λ x b q k. search (rules, tests)) in
           subst so
           (plain_field c.args.form.null c.args.text.now bytes is
           (inr (sym (any ∙ ap (list_any is_quoted) is) ∙ w.if-not-any.true))) c.write_bytes.ensures.writes

@@ -19,7 +19,7 @@ loop-error-preserved g c =
     let all = map-take-push (option_map problem_of) c.args.errors.now l.error-index c.error-item.result c.loop-error-test.true c.error-item.is in
     let n : c.saturating_add-count.result ≡ one_more l.count c.in_ok-report_some.field-0 = search rules in
     let next = reported_more (map (option_map problem_of) (take l.error-index c.args.errors.now)) _ _ l.count c.saturating_add-count.result
-        c.in_ok-report_some.field-0 _ _ _ is l.invariant.counts n more.0 l.invariant.reports more.1 in
+    c.in_ok-report_some.field-0 _ _ _ is l.invariant.counts n more.0 l.invariant.reports more.1 in
     record {
       counts = next.0 ∙ ap (λ ps. counted 0 (map is_known ps)) (sym all);
       reports = subst (λ ps. Appends (g.E.Write.contents c.args.err.now) (g.E.Write.contents c.report_some.new.err) (flat_map report_of ps)) (sym all) next.1;

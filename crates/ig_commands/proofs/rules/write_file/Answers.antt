@@ -29,13 +29,13 @@ loop-line-preserved g c =
     let z = g.W.Write.contents c.write_left.new.out in
     let is_left = c.in_ok-is_left.is_left in
     let free : is_left ≡ is_free others r =
-        subst (λ (t : List ℕ). is_left ≡ is_free others (file_rule source e.0 t)) text here.0 in
+    subst (λ (t : List ℕ). is_left ≡ is_free others (file_rule source e.0 t)) text here.0 in
     let wrote : Appends m z (cond is_left (f r) []) =
-        subst (λ (t : List ℕ). Appends m z (cond is_left (f (file_rule source e.0 t)) [])) text here.1 in
+    subst (λ (t : List ℕ). Appends m z (cond is_left (f (file_rule source e.0 t)) [])) text here.1 in
     let all : left_of others source (map deref_pair (l.yielded ++ (c.in-Some.line, c.in-Some.pattern) ∷ []))
-        ≡ left_of others source es ++ cond is_left (r ∷ []) [] =
-        ap (left_of others source) (map-append deref_pair l.yielded ((c.in-Some.line, c.in-Some.pattern) ∷ []))
-        ∙ (left_push others source es e ∙ ap (λ (b : Bool). left_of others source es ++ cond b (r ∷ []) []) (sym free)) in
+    ≡ left_of others source es ++ cond is_left (r ∷ []) [] =
+    ap (left_of others source) (map-append deref_pair l.yielded ((c.in-Some.line, c.in-Some.pattern) ∷ []))
+    ∙ (left_push others source es e ∙ ap (λ (b : Bool). left_of others source es ++ cond b (r ∷ []) []) (sym free)) in
     record {
       counts = count_kept (left_of others source es) r is_left l.count c.saturating_add-count.result l.invariant.counts n
           ∙ ap (λ (rs : List FileRule). capped (length rs)) (sym all);

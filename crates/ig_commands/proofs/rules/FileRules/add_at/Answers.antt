@@ -16,12 +16,12 @@ returns c =
     record {
       adds = on_ok_weaker c.insert.result
           (λ put s line.
-              added_line old between after c.in-Some.file.now new c.args.source.now c.args.line c.in_ok-pattern.pattern c.args.pattern.now
-              c.in_ok-add_file.ensures.same
-              (none_there (rule_at c.args.self.now c.args.source.now c.args.line) c.has.result c.has.ensures c.if-has.false)
-              found put c.in_ok-pattern.ensures.ok
-              (λ cs. btree_map_updates_text c.args.source.now between after (Some new)
-                  ((c.get_mut.follows.holds new).3 (subst IsSome (sym found) refl)) cs)
-              s line)
+          added_line old between after c.in-Some.file.now new c.args.source.now c.args.line c.in_ok-pattern.pattern c.args.pattern.now
+          c.in_ok-add_file.ensures.same
+          (none_there (rule_at c.args.self.now c.args.source.now c.args.line) c.has.result c.has.ensures c.if-has.false)
+          found put c.in_ok-pattern.ensures.ok
+          (λ cs. btree_map_updates_text c.args.source.now between after (Some new)
+          ((c.get_mut.follows.holds new).3 (subst IsSome (sym found) refl)) cs)
+          s line)
           c.insert.ensures.adds;
     }

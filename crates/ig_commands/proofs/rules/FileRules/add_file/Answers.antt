@@ -12,6 +12,6 @@ returns-in-Ok-clause-same c = λ s line.
     let new = c.insert.new.self in
     added_file old new c.args.source.now s line c.new.result
     (λ cs.
-        subst (λ (t : List ℕ). get_by_text new cs ≡ update bytes_eq (get_by_text old) t (Some c.new.result) cs) c.in_ok-key.ensures.ok
-        (btree_map_updates_text _ old new (Some c.new.result) c.in-Ok.ensures.updates cs))
+    subst (λ (t : List ℕ). get_by_text new cs ≡ update bytes_eq (get_by_text old) t (Some c.new.result) cs) c.in_ok-key.ensures.ok
+    (btree_map_updates_text _ old new (Some c.new.result) c.in-Ok.ensures.updates cs))
     (sym c.get.ensures.value ∙ copied_none c.get.result c.is_some.result c.is_some.ensures c.if-is_some.false) c.new.ensures.empty

@@ -31,12 +31,12 @@ loop-source-preserved g c =
     let z = g.W.Write.contents c.write_file.new.out in
     let rest = left_of others (string_bytes e.0) e.1.entries in
     let more : c.in_ok-more.more ≡ capped (length rest) =
-        subst (λ (t : List ℕ). c.in_ok-more.more ≡ capped (length (left_of others t e.1.entries))) text here.0 in
+    subst (λ (t : List ℕ). c.in_ok-more.more ≡ capped (length (left_of others t e.1.entries))) text here.0 in
     let wrote : Appends m z (flat_map f rest) =
-        subst (λ (t : List ℕ). Appends m z (flat_map f (left_of others t e.1.entries))) text here.1 in
+    subst (λ (t : List ℕ). Appends m z (flat_map f (left_of others t e.1.entries))) text here.1 in
     let push = map-append deref_pair l.yielded ((c.in-Some.source, c.in-Some.file) ∷ []) in
     let all : all_left others (map deref_pair (l.yielded ++ (c.in-Some.source, c.in-Some.file) ∷ [])) ≡ all_left others es ++ rest =
-        ap (all_left others) push ∙ all_push others es e in
+    ap (all_left others) push ∙ all_push others es e in
     record {
       counts = count_joined (all_left others es) rest l.count c.in_ok-more.more c.saturating_add-count.result l.invariant.counts more n
           ∙ ap (λ (rs : List FileRule). capped (length rs)) (sym all);
