@@ -1,10 +1,9 @@
 -- Early ends of what writes nothing to the output.
-use Rattle.std.proofs.Common.{◌≡◌, ◌≢◌, ◌⊎◌, ℕ, List, [], ◌∷◌, ◌++◌, Option, inl, inr, subst, sym}
+use Rattle.std.proofs.Common.{◌≡◌, ◌⊎◌, ℕ, List, [], ◌∷◌, ◌++◌, Option, inl, inr, subst, sym}
 use Rattle.std.proofs.lemmas.List.{append-nil}
 use Rattle.std.specs.Io.KnownBytes.{Appends}
 use Rattle.std.specs.List.{flat_map}
 use Rattle.commands.proofs.LineLemmas.{appends_nothing}
-use Rattle.ignore_base.specs.Problem.{Problem, memory}
 use Rattle.ig_commands.specs.declared.stop.Stop.{Stop}
 use Rattle.ig_commands.specs.declared.stop.Stop.TheVariants.{Memory, Read, Write, Closed, Silence}
 use Rattle.ig_commands.specs.Stops.{EndsAfter}
@@ -55,8 +54,3 @@ pub ends_write : (reported : List ℕ) (out err : List ℕ → Type 0) (stop : S
     → EndsAfter [] reported out err stop
 ends_write reported out err stop (inl is) h = subst (EndsAfter [] reported out err) (sym is) h
 ends_write reported out err stop (inr is) h = subst (EndsAfter [] reported out err) (sym is) h
-
--- a problem other than out of memory is the other one
-pub not_memory : {Refused : Type 0} → (p : Problem) → p ≢ memory → (p ≡ memory) ⊎ Refused → Refused
-not_memory p other (inl same) = absurd (other same)
-not_memory p other (inr refused) = refused

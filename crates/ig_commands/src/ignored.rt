@@ -24,11 +24,10 @@ ghost use Rattle.ig_commands.specs.Surveys.{AreBegun, AreSurveys, IsBegun, IsWho
 use crate::asking::{Asked, asked_for};
 use crate::counts::{Counts, Seen, report_counts, status_of};
 use crate::form::{Form, write_reasoned};
-use crate::rejecting::reject;
 use crate::reports::{report_all, report_some};
 use crate::stop::Stop;
 use crate::world::World;
-use crate::writing::{is_listed, report, write_path};
+use crate::writing::{is_listed, refuse_or_end, report, write_path};
 use commands::internal::trimmed_roots;
 use ig_options::Options;
 use ignore::{IncrementalIgnore, WalkBuilder, WalkOptions, text};
@@ -61,7 +60,7 @@ pub fn list_ignored<F: Files, W: Write, E: Write>(
 {
     match asked_for(world, options, first) {
         Ok(asked) => report_and_survey(world, options, asked, out, err),
-        Err(error) => reject(&error, err),
+        Err(error) => refuse_or_end(&error, err),
     }
 }
 

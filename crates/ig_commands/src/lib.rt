@@ -7,7 +7,6 @@ mod form;
 mod ignored;
 mod input;
 mod listing;
-mod rejecting;
 mod reports;
 mod root;
 mod rules;

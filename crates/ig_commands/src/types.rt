@@ -5,9 +5,8 @@ ghost use Rattle.std.specs.List.{flat_map};
 ghost use Rattle.ig_commands.specs.Stops.{EndsAfter};
 ghost use Rattle.ig_commands.specs.Types.{ListsTypes, after_comma, glob_list, type_line};
 
-use crate::rejecting::reject;
 use crate::stop::Stop;
-use crate::writing::write_bytes;
+use crate::writing::{refuse_or_end, write_bytes};
 use ig_options::{Options, defined_types};
 use ignore_types::types::{FileTypeDef, TypesBuilder};
 use std::io::Write;
@@ -32,7 +31,7 @@ pub fn list_types<W: Write, E: Write>(
             write_types(&definitions, out)?;
             Ok(0)
         }
-        Err(error) => reject(&error, err),
+        Err(error) => refuse_or_end(&error, err),
     }
 }
 

@@ -32,11 +32,11 @@ use crate::asking::{Asked, asked_for};
 use crate::counts::{Counts, report_counts, status_of};
 use crate::form::{Form, rule_of};
 use crate::ignored::{matchers_of, report_item};
-use crate::rejecting::reject;
 use crate::reports::{report_all, report_some};
 use crate::rules::FileRules;
 use crate::stop::Stop;
 use crate::world::World;
+use crate::writing::refuse_or_end;
 use ig_options::Options;
 use ignore::{IncrementalIgnore, query_laws};
 use ignore_base::Error;
@@ -68,7 +68,7 @@ pub fn list_unused<F: Files, W: Write, E: Write>(
 {
     match asked_for(world, options, first) {
         Ok(asked) => report_and_find(world, options, asked, out, err),
-        Err(error) => reject(&error, err),
+        Err(error) => refuse_or_end(&error, err),
     }
 }
 

@@ -28,11 +28,11 @@ ghost use Rattle.ig_commands.specs.Why.{Said as Plain};
 use crate::asking::{Asked, asked_for};
 use crate::counts::{Counts, Seen, status_of};
 use crate::form::{Form, write_reasoned};
-use crate::rejecting::reject;
 use crate::reports::{report_all, report_some};
 use crate::root::root_of;
 use crate::stop::Stop;
 use crate::world::World;
+use crate::writing::refuse_or_end;
 use ig_options::{Given, Options};
 use ignore::{IncrementalIgnore, WalkBuilder, WalkOptions, text};
 use ignore_base::Error;
@@ -77,7 +77,7 @@ pub fn why<F: Files, W: Write, E: Write>(
 {
     match asked_for(world, options, first) {
         Ok(asked) => report_and_ask(world, options, asked, out, err),
-        Err(error) => reject(&error, err),
+        Err(error) => refuse_or_end(&error, err),
     }
 }
 

@@ -3,7 +3,7 @@ use Rattle.std.proofs.lemmas.Result.{IfErr-weaker, IfOk-weaker}
 use Rattle.commands.proofs.LineLemmas.{appends_nothing}
 use Rattle.ignore_base.specs.Problem.{problem_of}
 use Rattle.ig_commands.proofs.AskedLemmas.{no_roots}
-use Rattle.ig_commands.proofs.EndLemmas.{ends_out, not_memory}
+use Rattle.ig_commands.proofs.StopLemmas.{ends_at_once, refused}
 use Rattle.ig_commands.proofs.ignored.list_ignored.Goals as goal
 
 pub returns-in-Ok-clause-lists : goal.returns-in-Ok-clause-lists
@@ -41,11 +41,13 @@ returns-in-Ok-clause-ended g c =
 -- the options are rejected
 pub returns-in-Err-clause-lists : goal.returns-in-Err-clause-lists
 returns-in-Err-clause-lists g c =
-    let problem = problem_of c.in-Err.error in
-    IfOk-weaker c.reject.result _ _
-    (λ status h. inr (problem, not_memory problem h.1 c.in-Err.ensures.refused, h.0, appends_nothing (g.W.Write.contents c.args.out.now), h.2))
-    c.reject.ensures.rejects
+    let e = c.in-Err.error in
+    refused c.refuse_or_end.result (problem_of e) _ _ _ c.in-Err.ensures.refused c.refuse_or_end.ensures.enough c.refuse_or_end.ensures.reports
+    (λ status other is h. inr (problem_of e, other, is, appends_nothing (g.W.Write.contents c.args.out.now), h))
 
+-- or memory ran out, or they can't be reported
 pub returns-in-Err-clause-ended : goal.returns-in-Err-clause-ended
 returns-in-Err-clause-ended g c =
-    IfErr-weaker c.reject.result _ _ (λ stop h. inr (ends_out [] (g.W.Write.contents c.args.out.now) _ stop h)) c.reject.ensures.ended
+    let out = g.W.Write.contents c.args.out.now in
+    ends_at_once c.refuse_or_end.result out (g.E.Write.contents c.args.err.now) (g.E.Write.contents c.refuse_or_end.new.err)
+    c.refuse_or_end.ensures.ended c.refuse_or_end.ensures.kept _ (λ stop h. inr h)
