@@ -1,4 +1,4 @@
-use Rattle.std.proofs.Common.{[], inl, inr, map, option_map}
+use Rattle.std.proofs.Common.{inl, inr, map, option_map}
 use Rattle.std.proofs.lemmas.Result.{IfErr-weaker, IfOk-weaker}
 use Rattle.commands.proofs.LineLemmas.{appends_nothing}
 use Rattle.ignore_base.specs.Problem.{problem_of}

@@ -1,4 +1,4 @@
-use Rattle.std.proofs.Common.{[], inl, inr, refl}
+use Rattle.std.proofs.Common.{inl, inr, refl}
 use Rattle.commands.proofs.LineLemmas.{appends_nothing}
 use Rattle.ignore_base.specs.Problem.{problem_of}
 use Rattle.ig_commands.proofs.StopLemmas.{ends_at_once, refused}
