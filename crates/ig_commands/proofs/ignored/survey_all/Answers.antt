@@ -32,8 +32,8 @@ loop-matcher-preserved g c =
       zip_push (OfMatcher g.F.Files c.args.world.now.files.now IsWhole) l.yielded so.0 c.in-Some.matcher r so.1 h.1,
       text_more (λ (x : OfRoot). flat_map (written c.args.options.now x.0) x.1) so.0 r _ _ _ so.2 h.2,
       seen_more reports so.0 r _ _ _ so.3 h.3,
-      seen_counts is_wrong so.0 r _ _ _ so.4 h.4 c.and.ensures.reported,
-      seen_counts (is_found c.args.options.now) so.0 r _ _ _ so.5 h.5 c.and.ensures.found,
+      seen_counts is_wrong so.0 r _ _ _ so.4 h.4 c.and-counts.ensures.reported,
+      seen_counts (is_found c.args.options.now) so.0 r _ _ _ so.5 h.5 c.and-counts.ensures.found,
     )
 
 -- all roots are surveyed

@@ -32,8 +32,8 @@ loop-item-preserved g c =
     record {
       writes = text_more_by seen_of (written place.options.now place.root.now) l.yielded item _ _ _ l.invariant.writes h.writes;
       reports = text_more_by seen_of reports l.yielded item _ _ _ l.invariant.reports h.reports;
-      reported = counts_more_by seen_of is_wrong l.yielded item _ _ _ l.invariant.reported c.with.ensures.reported h.counts.0;
-      found = counts_more_by seen_of (is_found place.options.now) l.yielded item _ _ _ l.invariant.found c.with.ensures.found h.counts.1;
+      reported = counts_more_by seen_of is_wrong l.yielded item _ _ _ l.invariant.reported c.with-counts.ensures.reported h.counts.0;
+      found = counts_more_by seen_of (is_found place.options.now) l.yielded item _ _ _ l.invariant.found c.with-counts.ensures.found h.counts.1;
       enough = All-push (λ x. item_of x ≢ Err memory) l.yielded item l.invariant.enough h.enough;
     }
 

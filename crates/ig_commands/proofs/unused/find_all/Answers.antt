@@ -40,7 +40,7 @@ loop-matcher-preserved g c =
       zip_push (FindsOf g.F.Files c.args.world.now.files.now) l.yielded all c.in-Some.matcher r so.1 h.1,
       subst (λ (xs : List OfRoot). Appends (g.E.Write.contents c.args.err.now) (g.E.Write.contents c.find_below.new.err) (flat_map reports (all_seen xs)))
           (sym same) (seen_more reports (met all) r.0 _ _ _ so.2 h.2),
-      seen_counts is_wrong (met all) r.0 _ _ _ so.3 h.3 ? ∙ ap (λ (xs : List OfRoot). counted 0 (map is_wrong (all_seen xs))) (sym same),
+      seen_counts is_wrong (met all) r.0 _ _ _ so.3 h.3 c.saturating_add-reported.ensures ∙ ap (λ (xs : List OfRoot). counted 0 (map is_wrong (all_seen xs))) (sym same),
       subst (λ (xs : List OfRoot). Grows (first_at (deciding (all_seen xs))) c.args.found.now.used c.find_below.new.found.used) (sym same)
           (grows_root (met all) r.0 _ _ _ so.4 h.4),
       grows_read all r _ _ _ so.5 h.5,

@@ -1,5 +1,5 @@
 use Rattle.std.proofs.iter.Next as it
-use Rattle.std.proofs.Common.{◌≡◌, ◌≢◌, ◌∙◌, [], Err, Result, map, refl}
+use Rattle.std.proofs.Common.{◌≡◌, ◌≢◌, ◌∙◌, [], Err, Result, map, refl, rules}
 use Rattle.std.proofs.lemmas.List.Elements.{All-nil, All-push}
 use Rattle.std.proofs.lemmas.Result.{err_from_is_err_and}
 use Rattle.std.specs.List.{flat_map}
@@ -25,6 +25,9 @@ loop-item-init g c = record {
   read = refl;
 }
 
+pub next-requires : goal.next-requires
+next-requires g c = search (rules, c.loop-item.invariant.runs.callable)
+
 pub loop-item-smaller : goal.loop-item-smaller
 loop-item-smaller g c = it.less c.loop-item.invariant.runs c.in-Some.item c.in-Some.is c.next.ensures.goes
 
@@ -37,7 +40,7 @@ loop-item-preserved g c =
     record {
       runs = it.again runs item c.in-Some.is (c.next.ensures.steps, c.next.ensures.goes) (
         text_more_by seen_of reports runs.seen item _ _ _ runs.holds.0 h.reports,
-        counts_more_by seen_of is_wrong runs.seen item _ _ _ runs.holds.1 ? h.wrong,
+        counts_more_by seen_of is_wrong runs.seen item _ _ _ runs.holds.1 (search rules) h.wrong,
         All-push (λ x. item_of x ≢ Err memory) runs.seen item runs.holds.2 h.enough,
         grows_by runs.seen item _ _ _ runs.holds.3 h.used,
       );

@@ -63,8 +63,8 @@ loop-given-preserved g c =
         text_more (reports (string_bytes first.asked.root)) so.0 one _ _ _ so.2
             (subst (λ r. Appends (g.E.Write.contents l.err) (g.E.Write.contents c.write_said.new.err) (reports r one)) root
             c.in_ok-write_said.ensures.reports),
-        counts_more is_wrong so.0 one _ _ _ so.3 c.with.ensures.reported c.in_ok-write_said.ensures.reported,
-        counts_more is_found so.0 one _ _ _ so.4 c.with.ensures.found c.in_ok-write_said.ensures.found,
+        counts_more is_wrong so.0 one _ _ _ so.3 c.with-counts.ensures.reported c.in_ok-write_said.ensures.reported,
+        counts_more is_found so.0 one _ _ _ so.4 c.with-counts.ensures.found c.in_ok-write_said.ensures.found,
         λ tree loads honest are agrees.
             let s = scene_of first.asked tree loads in
             subst (λ (gs : List Given). AreSaid s (dir_of first.asked) gs first.cache c.ask.new.matcher.cache (so.0 ++ one ∷ [])) (sym more)
