@@ -36,4 +36,4 @@ returns-in-Err-Input-clause-runs g c =
     let err = g.E.Write.contents c.args.err.now in
     IfOk-weaker end.result _ _ (λ x h. inr h)
     (finishes Shows EndsBefore (Err stop) end.result out out (g.W.Write.contents end.new.out) err err (g.E.Write.contents end.new.err)
-    tt (ends_unread out err stop ?) end.ensures.kept end.ensures.reported end.ensures.written)
+    tt (ends_unread out err stop (rw c.in-Err-Input.field-0-is at c.in-Err-Input.ensures.unread)) end.ensures.kept end.ensures.reported end.ensures.written)
