@@ -1,7 +1,8 @@
 //! The program `ig`: what the ignore rules of a tree keep, what they ignore, and why.
 #![tactic(auto)]
 
-use ig_commands::{Stop, World, report_stop, run};
+use ig_commands::run::run;
+use ig_commands::{Stop, World, report_stop};
 use ignore_files::{DiskFiles, Env};
 use std::io::{BufReader, BufWriter, Write};
 use std::process::ExitCode;

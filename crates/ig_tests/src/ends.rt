@@ -1,6 +1,7 @@
 //! Runs of the program of which a write or the read of standard input fails. Vectors say what other
 //! runs write.
-use ig_commands::{Ran, Stop, World, run};
+use ig_commands::run::run;
+use ig_commands::{Ran, Stop, World};
 use ignore_files::{Env, MemoryTree};
 use std::alloc::{AllocError, Global};
 use std::io;

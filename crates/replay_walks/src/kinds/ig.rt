@@ -2,7 +2,8 @@
 
 use super::igwalk::{ENDED, Outcome, shown, words_of};
 use crate::settings::{Machine, machine_of};
-use ig_commands::{World, run};
+use ig_commands::World;
+use ig_commands::run::run;
 use serde_json::Value;
 use std::alloc::Global;
 use vectors::{Trouble, list};
