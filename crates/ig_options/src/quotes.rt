@@ -1,7 +1,8 @@
 //! Quotes of paths, as git writes them: a byte as its letter or as three octal digits after a
 //! backslash.
-ghost use Rattle.std.specs.Prelude.{◌≡◌, ¬, IfOk, List, ℕ, MatchOption, true};
+ghost use Rattle.std.specs.Prelude.{◌≡◌, ¬, IfOk, List, [], ◌∷◌, ℕ, MatchBool, MatchOption};
 ghost use Rattle.ig_options.specs.Quotes.{IsQuoteOf, is_quoted, letter_of};
+ghost use Rattle.ig_options.specs.QuoteSteps.{AreDigits, Closes, IsEscaped, IsFirst, IsOctal, NoEscaped, NoFirst, NoOctal, byte_of};
 
 use std::alloc::{AllocError, Global};
 
@@ -32,7 +33,9 @@ pub fn is_quoted(byte: u8) -> bool
 }
 
 /// The byte for which a letter stands after a backslash.
-fn meaning_of(letter: u8) -> Option<u8> {
+fn meaning_of(letter: u8) -> Option<u8>
+    ensures { result ≡ byte_of letter }
+{
     match letter {
         b'a' => Some(7),
         b'b' => Some(8),
@@ -47,23 +50,74 @@ fn meaning_of(letter: u8) -> Option<u8> {
     }
 }
 
-/// Whether three bytes are octal digits of a byte.
-fn are_octal(first: u8, second: u8, third: u8) -> bool {
+/// Whether three bytes are the octal digits of a byte.
+fn are_octal(first: u8, second: u8, third: u8) -> bool
+    ensures { MatchBool result (AreDigits first second third) (¬ AreDigits first second third) }
+{
     (b'0'..=b'3').contains(&first)
         && (b'0'..=b'7').contains(&second)
         && (b'0'..=b'7').contains(&third)
 }
 
+/// The byte of the three octal digits that a text begins with, and what follows them.
+fn octal_of(text: &[u8]) -> Option<(u8, &[u8])>
+    ensures { MatchOption result (NoOctal text.now) (λ p. IsOctal text.now p.0 p.1.now) }
+{
+    let [a, b, c, rest @ ..] = text else {
+        return None;
+    };
+    if are_octal(*a, *b, *c) {
+        Some(((*a - b'0') * 64 + (*b - b'0') * 8 + (*c - b'0'), rest))
+    } else {
+        None
+    }
+}
+
+/// The byte for which a text stands that follows a backslash, and what follows that.
+fn escaped_of(text: &[u8]) -> Option<(u8, &[u8])>
+    ensures { MatchOption result (NoEscaped text.now) (λ p. IsEscaped text.now p.0 p.1.now) }
+{
+    let (letter, rest) = text.split_first()?;
+    match meaning_of(*letter) {
+        Some(byte) => Some((byte, rest)),
+        None => octal_of(text),
+    }
+}
+
 /// The first byte that a quoted text stands for, and what follows it. None at a quote, at the end,
 /// and at a backslash before anything else.
-fn first_of(text: &[u8]) -> Option<(u8, &[u8])> {
-    match text {
-        [] | [b'"', ..] | [b'\\'] => None,
-        [b'\\', a, b, c, rest @ ..] if are_octal(*a, *b, *c) => {
-            Some(((*a - b'0') * 64 + (*b - b'0') * 8 + (*c - b'0'), rest))
-        }
-        [b'\\', letter, rest @ ..] => Some((meaning_of(*letter)?, rest)),
-        [byte, rest @ ..] => Some((*byte, rest)),
+fn first_of(text: &[u8]) -> Option<(u8, &[u8])>
+    ensures { MatchOption result (NoFirst text.now) (λ p. IsFirst text.now p.0 p.1.now) }
+{
+    let (byte, rest) = text.split_first()?;
+    match *byte {
+        b'"' => None,
+        b'\\' => escaped_of(rest),
+        byte => Some((byte, rest)),
+    }
+}
+
+/// Whether a text is one quote.
+fn is_quote(text: &[u8]) -> bool
+    ensures { MatchBool result (text.now ≡ 34 ∷ []) (¬ (text.now ≡ 34 ∷ [])) }
+{
+    matches!(text, [b'"'])
+}
+
+/// The bytes for which a text stands that ends in a closing quote. None where it isn't one.
+fn closed(alloc: Global, text: &[u8]) -> Result<Option<Vec<u8>>, AllocError>
+    ensures value { IfOk result (λ r. MatchOption r ((bytes : List ℕ) → ¬ Closes text.now bytes) (λ bytes. Closes text.now bytes.items)) }
+{
+    let mut rest = text;
+    let mut bytes = Vec::new(alloc);
+    while let Some((byte, after)) = first_of(rest) {
+        bytes.push(byte)?;
+        rest = after;
+    }
+    if is_quote(rest) {
+        Ok(Some(bytes))
+    } else {
+        Ok(None)
     }
 }
 
@@ -71,17 +125,8 @@ fn first_of(text: &[u8]) -> Option<(u8, &[u8])> {
 pub(crate) fn unquoted(alloc: Global, text: &[u8]) -> Result<Option<Vec<u8>>, AllocError>
     ensures value { IfOk result (λ r. MatchOption r ((bytes : List ℕ) → ¬ IsQuoteOf text.now bytes) (λ bytes. IsQuoteOf text.now bytes.items)) }
 {
-    let Some((b'"', mut rest)) = text.split_first() else {
-        return Ok(None);
-    };
-    let mut bytes = Vec::new(alloc);
-    while let Some((byte, after)) = first_of(rest) {
-        bytes.push(byte)?;
-        rest = after;
-    }
-    if let [b'"'] = rest {
-        Ok(Some(bytes))
-    } else {
-        Ok(None)
+    match text.split_first() {
+        Some((b'"', rest)) => closed(alloc, rest),
+        _ => Ok(None),
     }
 }

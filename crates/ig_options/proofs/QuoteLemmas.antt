@@ -1,0 +1,249 @@
+-- What a text between quotes begins with decides what it stands for.
+use Rattle.std.proofs.Common.{◌≡◌, ◌≢◌, ◌⊎◌, ◌∙◌, ¬, ℕ, ◌+◌, ◌*◌, ◌<◌, ◌==◌, ◌||◌, Bool, true, false, cond, eqb-true, List, [], ◌∷◌, ◌++◌, Option, None, Some, length, refl, sym, ap, subst, inl, inr, arith, suc, tt}
+use Rattle.std.proofs.lemmas.Bool.{false≢true}
+use Rattle.std.proofs.lemmas.Bool.Decides.{nat_tests}
+use Rattle.std.specs.List.{find}
+use Rattle.std.specs.Option.{option_map}
+use Rattle.ig_options.specs.Quotes.{StandsFor, as_it_is, by_digits, by_letter, none, letter_of, letters}
+use Rattle.ig_options.specs.QuoteSteps.{Closes, IsEscaped, IsFirst, IsOctal, NoEscaped, NoFirst, NoOctal, byte_of}
+
+-- Letters.
+
+-- the pairs hold this one: its first is what f gives, its second what g gives
+abbrev Has : (ℕ × ℕ → ℕ) → (ℕ × ℕ → ℕ) → List (ℕ × ℕ) → ℕ → ℕ → Type 0
+Has f g [] x y = ⊥
+Has f g (p ∷ ps) x y = ((f p ≡ x) × (g p ≡ y)) ⊎ Has f g ps x y
+
+found_first : (f g : ℕ × ℕ → ℕ) (p : ℕ × ℕ) (rest : Option (ℕ × ℕ)) (x y : ℕ) (Later : Type 0) → (option_map g rest ≡ Some y → Later)
+    → (test : Bool) → (f p == x) ≡ test → option_map g (cond test (Some p) rest) ≡ Some y → ((f p ≡ x) × (g p ≡ y)) ⊎ Later
+found_first f g p rest x y Later later true t e = inl (eqb-true (f p) x t, (cc))
+found_first f g p rest x y Later later false t e = inr (later e)
+
+has_found : (f g : ℕ × ℕ → ℕ) (ps : List (ℕ × ℕ)) (x y : ℕ) → option_map g (find (λ p. f p == x) ps) ≡ Some y → Has f g ps x y
+has_found f g [] x y e = cc
+has_found f g (p ∷ ps) x y e =
+    found_first f g p (find (λ q. f q == x) ps) x y (Has f g ps x y) (has_found f g ps x y) (f p == x) refl e
+
+-- this holds of each of the pairs
+abbrev Each : (ℕ → ℕ → Type 0) → List (ℕ × ℕ) → Type 0
+Each P [] = Unit {0}
+Each P (p ∷ ps) = P p.0 p.1 × Each P ps
+
+each_forth : (P : ℕ → ℕ → Type 0) (ps : List (ℕ × ℕ)) (byte letter : ℕ) → Each P ps → Has (λ p. p.0) (λ p. p.1) ps byte letter → P byte letter
+each_forth P (p ∷ ps) byte letter each (inl h) =
+    subst (λ (b : ℕ). P b letter) h.0 (subst (λ (l : ℕ). P p.0 l) h.1 each.0)
+each_forth P (p ∷ ps) byte letter each (inr h) = each_forth P ps byte letter each.1 h
+each_forth P [] byte letter each h = elim h [ ]
+
+each_back : (P : ℕ → ℕ → Type 0) (ps : List (ℕ × ℕ)) (byte letter : ℕ) → Each P ps → Has (λ p. p.1) (λ p. p.0) ps letter byte → P byte letter
+each_back P (p ∷ ps) byte letter each (inl h) =
+    subst (λ (b : ℕ). P b letter) h.1 (subst (λ (l : ℕ). P p.0 l) h.0 each.0)
+each_back P (p ∷ ps) byte letter each (inr h) = each_back P ps byte letter each.1 h
+each_back P [] byte letter each h = elim h [ ]
+
+-- a byte and its letter are each found by the other
+pub byte_of-letter : (byte letter : ℕ) → letter_of byte ≡ Some letter → byte_of letter ≡ Some byte
+byte_of-letter byte letter e =
+    each_forth (λ b l. byte_of l ≡ Some b) letters byte letter
+    (refl, (refl, (refl, (refl, (refl, (refl, (refl, (refl, (refl, tt)))))))))
+    (has_found (λ p. p.0) (λ p. p.1) letters byte letter e)
+
+pub letter_of-byte : (byte letter : ℕ) → byte_of letter ≡ Some byte → letter_of byte ≡ Some letter
+letter_of-byte byte letter e =
+    each_back (λ b l. letter_of b ≡ Some l) letters byte letter
+    (refl, (refl, (refl, (refl, (refl, (refl, (refl, (refl, (refl, tt)))))))))
+    (has_found (λ p. p.1) (λ p. p.0) letters letter byte e)
+
+one_byte : (b c letter : ℕ) → letter_of b ≡ Some letter → letter_of c ≡ Some letter → b ≡ c
+one_byte b c letter e f =
+    let g = byte_of-letter b letter e in
+    let h = byte_of-letter c letter f in
+    cc
+
+-- no letter is an octal digit
+no_digit : (byte letter : ℕ) → letter_of byte ≡ Some letter → (a : ℕ) → a < 4 → letter ≡ 48 + a → ⊥
+no_digit byte letter e =
+    each_forth (λ b l. (a : ℕ) → a < 4 → l ≡ 48 + a → ⊥) letters byte letter (
+      λ a low same. absurd (omega arith),
+      (
+        λ a low same. absurd (omega arith),
+        (
+          λ a low same. absurd (omega arith),
+          (
+            λ a low same. absurd (omega arith),
+            (
+              λ a low same. absurd (omega arith),
+              (
+                λ a low same. absurd (omega arith),
+                (
+                  λ a low same. absurd (omega arith),
+                  (
+                    λ a low same. absurd (omega arith),
+                    (λ a low same. absurd (omega arith), tt),
+                  ),
+                ),
+              ),
+            ),
+          ),
+        ),
+      ),
+    )
+    (has_found (λ p. p.0) (λ p. p.1) letters byte letter e)
+
+-- Escapes.
+
+parts : (x y : ℕ) (xs ys : List ℕ) → x ∷ xs ≡ y ∷ ys → (x ≡ y) × (xs ≡ ys)
+parts x y xs ys e = ((cc), (cc))
+
+-- a text has one escape at most
+pub one_escape : (text : List ℕ) (b c : ℕ) (after rest : List ℕ) → IsEscaped text b after → IsEscaped text c rest → (b ≡ c) × (after ≡ rest)
+one_escape text b c after rest (inl (l, (e, f))) (inl (m, (g, h))) =
+    let same = parts l m after rest (sym e ∙ g) in
+    (one_byte b c m (subst (λ (x : ℕ). letter_of b ≡ Some x) same.0 f) h, same.1)
+one_escape text b c after rest (inl (l, (e, f))) (inr o) =
+    absurd (no_digit b l f o.a o.a_fits (parts l (48 + o.a) after _ (sym e ∙ o.cut)).0)
+one_escape text b c after rest (inr o) (inl (m, (g, h))) =
+    absurd (no_digit c m h o.a o.a_fits (parts m (48 + o.a) rest _ (sym g ∙ o.cut)).0)
+one_escape text b c after rest (inr o) (inr q) =
+    let p = parts _ _ _ _ (sym o.cut ∙ q.cut) in
+    let r = parts _ _ _ _ p.1 in
+    let s = parts _ _ _ _ r.1 in
+    let a : o.a ≡ q.a = omega (arith, p.0) in
+    let d : o.b ≡ q.b = omega (arith, r.0) in
+    let e : o.c ≡ q.c = omega (arith, s.0) in
+    (omega (arith, o.value, q.value, a, d, e), s.1)
+
+-- The first byte.
+
+-- what a text that ends in a closing quote begins with, by its first byte
+abbrev Ended : ℕ → List ℕ → List ℕ → Type 0
+Ended x text bytes = (x ≡ 34) × (text ≡ []) × (bytes ≡ [])
+
+abbrev Plain : ℕ → List ℕ → List ℕ → Type 0
+Plain x text bytes = ((x == 34 || x == 92) ≡ false) × (rest : List ℕ) × (bytes ≡ x ∷ rest) × Closes text rest
+
+abbrev Escaped : ℕ → List ℕ → List ℕ → Type 0
+Escaped x text bytes =
+    (x ≡ 92) × (byte : ℕ) × (after rest : List ℕ) × IsEscaped text byte after × (bytes ≡ byte ∷ rest) × Closes after rest
+
+seen : (x : ℕ) (text inner bytes : List ℕ) → StandsFor inner bytes → x ∷ text ≡ inner ++ 34 ∷ []
+    → Ended x text bytes ⊎ (Plain x text bytes ⊎ Escaped x text bytes)
+seen x text _ _ none e =
+    let p = parts x 34 text [] e in
+    inl (p.0, (p.1, refl))
+seen x text _ _ (as_it_is byte inner bytes plain stands) e =
+    let p = parts x byte text (inner ++ 34 ∷ []) e in
+    inr (inl (subst (λ (y : ℕ). (y == 34 || y == 92) ≡ false) (sym p.0) plain, (bytes, (ap (λ y. y ∷ bytes) (sym p.0), (inner, (p.1, stands))))))
+seen x text _ _ (by_letter byte letter inner bytes l stands) e =
+    let p = parts x 92 text (letter ∷ (inner ++ 34 ∷ [])) e in
+    inr (inr (p.0, (byte, (inner ++ 34 ∷ [], (bytes, (inl (letter, (p.1, l)), (refl, (inner, (refl, stands)))))))))
+seen x text _ _ (by_digits a b c inner bytes fa fb fc stands) e =
+    let p = parts x 92 text ((48 + a) ∷ ((48 + b) ∷ ((48 + c) ∷ (inner ++ 34 ∷ [])))) e in
+    let octal : IsOctal text (a * 64 + (b * 8 + c)) (inner ++ 34 ∷ []) = record {
+      a = a;
+      b = b;
+      c = c;
+      a_fits = fa;
+      b_fits = fb;
+      c_fits = fc;
+      value = refl;
+      cut = p.1;
+    } in
+    inr (inr (p.0, (a * 64 + (b * 8 + c), (inner ++ 34 ∷ [], (bytes, (inr octal, (refl, (inner, (refl, stands)))))))))
+
+closes_by : (text : List ℕ) (x : ℕ) (rest bytes : List ℕ) → text ≡ x ∷ rest → Closes text bytes
+    → Ended x rest bytes ⊎ (Plain x rest bytes ⊎ Escaped x rest bytes)
+closes_by text x rest bytes cut (inner, (e, stands)) = seen x rest inner bytes stands (sym cut ∙ e)
+
+-- no text that ends in a closing quote is empty
+
+no_closing : (inner : List ℕ) → [] ≡ inner ++ 34 ∷ [] → ⊥
+no_closing [] e = cc
+no_closing (x ∷ xs) e = cc
+
+pub none_at_end : (text : List ℕ) → text ≡ [] → NoFirst text
+none_at_end text empty bytes (inner, (e, stands)) = absurd (no_closing inner (sym empty ∙ e))
+
+-- a quote ends it
+
+plain_no_quote : (x : ℕ) → x ≡ 34 → (x == 34 || x == 92) ≡ false → ⊥
+plain_no_quote x e f = let g : (34 == 34 || 34 == 92) ≡ false = subst (λ (y : ℕ). (y == 34 || y == 92) ≡ false) e f in false≢true (sym g)
+
+plain_no_backslash : (x : ℕ) → x ≡ 92 → (x == 34 || x == 92) ≡ false → ⊥
+plain_no_backslash x e f = let g : (92 == 34 || 92 == 92) ≡ false = subst (λ (y : ℕ). (y == 34 || y == 92) ≡ false) e f in false≢true (sym g)
+
+quote_by : (text : List ℕ) (x : ℕ) (rest bytes : List ℕ) → text ≡ x ∷ rest → x ≡ 34
+    → Ended x rest bytes ⊎ (Plain x rest bytes ⊎ Escaped x rest bytes) → (text ≡ 34 ∷ []) × (bytes ≡ [])
+quote_by text x rest bytes cut quote (inl ended) = (cut ∙ (ap (λ y. y ∷ rest) ended.0 ∙ ap (λ r. 34 ∷ r) ended.1), ended.2)
+quote_by text x rest bytes cut quote (inr (inl plain)) = absurd (plain_no_quote x quote plain.0)
+quote_by text x rest bytes cut quote (inr (inr escaped)) = absurd (omega (arith, escaped.0, quote))
+
+pub none_at_quote : (text : List ℕ) (x : ℕ) (rest : List ℕ) → text ≡ x ∷ rest → x ≡ 34 → NoFirst text
+none_at_quote text x rest cut quote bytes closes = quote_by text x rest bytes cut quote (closes_by text x rest bytes cut closes)
+
+-- a backslash begins an escape
+
+no_escape_by : (text : List ℕ) (x : ℕ) (rest bytes : List ℕ) → x ≡ 92 → NoEscaped rest
+    → Ended x rest bytes ⊎ (Plain x rest bytes ⊎ Escaped x rest bytes) → ⊥
+no_escape_by text x rest bytes slash no (inl ended) = omega (arith, ended.0, slash)
+no_escape_by text x rest bytes slash no (inr (inl plain)) = plain_no_backslash x slash plain.0
+no_escape_by text x rest bytes slash no (inr (inr escaped)) = no escaped.1 escaped.2 escaped.4
+
+pub none_at_backslash : (text : List ℕ) (x : ℕ) (rest : List ℕ) → text ≡ x ∷ rest → x ≡ 92 → NoEscaped rest → NoFirst text
+none_at_backslash text x rest cut slash no bytes closes =
+    absurd (no_escape_by text x rest bytes slash no (closes_by text x rest bytes cut closes))
+
+escape_closes : (text : List ℕ) (byte : ℕ) (after bytes : List ℕ) → IsEscaped text byte after → Closes after bytes
+    → Closes (92 ∷ text) (byte ∷ bytes)
+escape_closes text byte after bytes (inl (letter, (e, f))) (inner, (g, stands)) =
+    (92 ∷ (letter ∷ inner), (ap (λ t. 92 ∷ t) (e ∙ ap (λ t. letter ∷ t) g), by_letter byte letter inner bytes f stands))
+escape_closes text byte after bytes (inr o) (inner, (g, stands)) = (
+  92 ∷ ((48 + o.a) ∷ ((48 + o.b) ∷ ((48 + o.c) ∷ inner))),
+  (
+    ap (λ t. 92 ∷ t) (o.cut ∙ ap (λ t. (48 + o.a) ∷ ((48 + o.b) ∷ ((48 + o.c) ∷ t))) g),
+    subst (λ (b : ℕ). StandsFor (92 ∷ ((48 + o.a) ∷ ((48 + o.b) ∷ ((48 + o.c) ∷ inner)))) (b ∷ bytes)) (sym o.value)
+        (by_digits o.a o.b o.c inner bytes o.a_fits o.b_fits o.c_fits stands),
+  ),
+)
+
+escape_only : (x : ℕ) (rest : List ℕ) (byte : ℕ) (after bytes : List ℕ) → x ≡ 92 → IsEscaped rest byte after
+    → Ended x rest bytes ⊎ (Plain x rest bytes ⊎ Escaped x rest bytes) → (more : List ℕ) × (bytes ≡ byte ∷ more) × Closes after more
+escape_only x rest byte after bytes slash escape (inl ended) = absurd (omega (arith, ended.0, slash))
+escape_only x rest byte after bytes slash escape (inr (inl plain)) = absurd (plain_no_backslash x slash plain.0)
+escape_only x rest byte after bytes slash escape (inr (inr (s, (b, (a, (more, (e, (same, closes)))))))) =
+    let one = one_escape rest b byte a after e escape in
+    (more, (same ∙ ap (λ y. y ∷ more) one.0, subst (λ (t : List ℕ). Closes t more) one.1 closes))
+
+escape_shorter : (text : List ℕ) (byte : ℕ) (after : List ℕ) → IsEscaped text byte after → length after < length text
+escape_shorter text byte after (inl (letter, (e, f))) = let h : length text ≡ suc (length after) = ap length e in omega arith
+escape_shorter text byte after (inr o) = let h : length text ≡ suc (suc (suc (length after))) = ap length o.cut in omega arith
+
+pub first_escape : (text : List ℕ) (x : ℕ) (rest : List ℕ) (byte : ℕ) (after : List ℕ) → text ≡ x ∷ rest → x ≡ 92
+    → IsEscaped rest byte after → IsFirst text byte after
+first_escape text x rest byte after cut slash escape = record {
+  then_so = λ bytes closes. subst (λ (t : List ℕ). Closes t (byte ∷ bytes)) (sym (cut ∙ ap (λ y. y ∷ rest) slash))
+      (escape_closes rest byte after bytes escape closes);
+  only_so = λ bytes closes. escape_only x rest byte after bytes slash escape (closes_by text x rest bytes cut closes);
+  shorter = let h : length text ≡ suc (length rest) = ap length cut in omega (arith, escape_shorter rest byte after escape);
+}
+
+-- any other byte stands as it is
+
+plain_only : (x : ℕ) (rest bytes : List ℕ) → (x == 34 || x == 92) ≡ false
+    → Ended x rest bytes ⊎ (Plain x rest bytes ⊎ Escaped x rest bytes) → (more : List ℕ) × (bytes ≡ x ∷ more) × Closes rest more
+plain_only x rest bytes plain (inl ended) = absurd (plain_no_quote x ended.0 plain)
+plain_only x rest bytes plain (inr (inl (p, (more, (same, closes))))) = (more, (same, closes))
+plain_only x rest bytes plain (inr (inr escaped)) = absurd (plain_no_backslash x escaped.0 plain)
+
+plain_closes : (x : ℕ) (rest bytes : List ℕ) → (x == 34 || x == 92) ≡ false → Closes rest bytes → Closes (x ∷ rest) (x ∷ bytes)
+plain_closes x rest bytes plain (inner, (e, stands)) = (x ∷ inner, (ap (λ t. x ∷ t) e, as_it_is x inner bytes plain stands))
+
+neither : (x : ℕ) → x ≢ 34 → x ≢ 92 → (x == 34 || x == 92) ≡ false
+neither x a b = grind (arith, nat_tests)
+
+pub first_plain : (text : List ℕ) (x : ℕ) (rest : List ℕ) → text ≡ x ∷ rest → x ≢ 34 → x ≢ 92 → IsFirst text x rest
+first_plain text x rest cut a b = record {
+  then_so = λ bytes closes. subst (λ (t : List ℕ). Closes t (x ∷ bytes)) (sym cut) (plain_closes x rest bytes (neither x a b) closes);
+  only_so = λ bytes closes. plain_only x rest bytes (neither x a b) (closes_by text x rest bytes cut closes);
+  shorter = let h : length text ≡ suc (length rest) = ap length cut in omega arith;
+}
