@@ -1,5 +1,5 @@
 -- One step of a loop over texts: what is left of them leads where they all do.
-use Rattle.std.proofs.Common.{◌≡◌, ◌×◌, ◌∙◌, ℕ, ◌+◌, ◌<◌, ◌≤◌, Bool, List, [], ◌∷◌, ◌++◌, Option, None, length, drop, get_or, map, refl, sym, ap, subst, append_assoc, inl, inr}
+use Rattle.std.proofs.Common.{◌≡◌, ◌∙◌, ℕ, ◌+◌, ◌<◌, ◌≤◌, Bool, List, [], ◌∷◌, ◌++◌, Option, None, length, drop, get_or, map, refl, sym, ap, subst, append_assoc, inl, inr}
 use Rattle.std.proofs.lemmas.List.{append-nil, drop_more, drop_all}
 use Rattle.ignore_base.specs.Problem.{Problem, invalid_definition}
 use Rattle.ignore_files.specs.Tree.{Tree}
@@ -51,7 +51,7 @@ pub types_more : (items : List (List ℕ)) (i : ℕ) (text : List ℕ) (old next
     → Becomes old (after_request (request_of text) old.definitions) next → AddsTypes (drop (i + 1) items) next new
     → AddsTypes (drop i items) old new
 types_more items i text old next new h becomes adds =
-    subst (λ (ts : List (List ℕ)). AddsTypes ts old new) (sym h.cut) (next, (becomes, adds))
+    subst (λ (ts : List (List ℕ)). AddsTypes ts old new) (sym h.cut) (next, becomes, adds)
 
 pub types_done : (items : List (List ℕ)) (i : ℕ) (draft : Draft) → length items ≤ i → AddsTypes (drop i items) draft draft
 types_done items i draft all = subst (λ (ts : List (List ℕ)). AddsTypes ts draft draft) (sym (drop_all i items all)) refl
@@ -66,14 +66,14 @@ pub definitions_later : (items : List (List ℕ)) (i : ℕ) (text : List ℕ) (o
     → Becomes old (after_request (request_of text) old.definitions) next → RefusesDefinitions (drop (i + 1) items) next problem
     → RefusesDefinitions (drop i items) old problem
 definitions_later items i text old next problem h becomes refuses =
-    subst (λ (ts : List (List ℕ)). RefusesDefinitions ts old problem) (sym h.cut) (inr (next, (becomes, refuses)))
+    subst (λ (ts : List (List ℕ)). RefusesDefinitions ts old problem) (sym h.cut) (inr (next, becomes, refuses))
 
 -- Globs.
 
 pub globs_more : (items : List (List ℕ)) (i : ℕ) (text : List ℕ) (old next new : Building) → IsHere items i text
     → AddsLine old None text next → AddsGlobs (drop (i + 1) items) next new → AddsGlobs (drop i items) old new
 globs_more items i text old next new h added adds =
-    subst (λ (ts : List (List ℕ)). AddsGlobs ts old new) (sym h.cut) (next, (added, adds))
+    subst (λ (ts : List (List ℕ)). AddsGlobs ts old new) (sym h.cut) (next, added, adds)
 
 pub globs_done : (items : List (List ℕ)) (i : ℕ) (b : Building) → length items ≤ i → AddsGlobs (drop i items) b b
 globs_done items i b all = subst (λ (ts : List (List ℕ)). AddsGlobs ts b b) (sym (drop_all i items all)) refl
@@ -86,7 +86,7 @@ globs_here items i text old problem h refused =
 pub globs_later : (items : List (List ℕ)) (i : ℕ) (text : List ℕ) (old next : Building) (problem : Problem) → IsHere items i text
     → AddsLine old None text next → RefusesGlobs (drop (i + 1) items) next problem → RefusesGlobs (drop i items) old problem
 globs_later items i text old next problem h added refuses =
-    subst (λ (ts : List (List ℕ)). RefusesGlobs ts old problem) (sym h.cut) (inr (next, (added, refuses)))
+    subst (λ (ts : List (List ℕ)). RefusesGlobs ts old problem) (sym h.cut) (inr (next, added, refuses))
 
 -- Files of rules.
 
@@ -95,7 +95,7 @@ pub files_more : (tree : Tree) (env : Env) (items : List (List ℕ)) (i : ℕ) (
     → AddsFiles tree env (drop (i + 1) items) next new rest → AddsFiles tree env (drop i items) old new (first ∷ rest)
 files_more tree env items i text old next new first rest h added adds =
     subst (λ (ts : List (List ℕ)). AddsFiles tree env ts old new (first ∷ rest)) (sym h.cut)
-    (next, (first, (rest, (refl, (added, adds)))))
+    (next, first, rest, refl, added, adds)
 
 pub files_done : (tree : Tree) (env : Env) (items : List (List ℕ)) (i : ℕ) (w : WalkOptions) → length items ≤ i
     → AddsFiles tree env (drop i items) w w []

@@ -1,5 +1,5 @@
 -- Steps: how a text between quotes is read, a byte at a time.
-use Rattle.std.specs.Prelude.{◌≡◌, ◌⊎◌, ¬, ℕ, ◌+◌, ◌*◌, ◌<◌, ◌≤◌, ◌==◌, List, [], ◌∷◌, ◌++◌, Option, Some, length}
+use Rattle.std.specs.Prelude.{◌≡◌, ◌⊎◌, ¬, ℕ, ◌+◌, ◌*◌, ◌<◌, ◌==◌, List, [], ◌∷◌, ◌++◌, Option, Some, length}
 use Rattle.std.specs.List.{find}
 use Rattle.std.specs.Option.{option_map}
 use Rattle.ignore_base.specs.Text.{Bytes}
@@ -9,25 +9,30 @@ use Rattle.ig_options.specs.Quotes.{StandsFor, letter_of, letters}
 abbrev pub byte_of : ℕ → Option ℕ
 byte_of letter = option_map (λ p. p.0) (find (λ p. p.1 == letter) letters)
 
--- these are the octal digits of a byte
-pub record AreDigits (first second third : ℕ) : Type 0 where
-  pub first_low : 48 ≤ first
-  pub first_high : first < 52
-  pub second_low : 48 ≤ second
-  pub second_high : second < 56
-  pub third_low : 48 ≤ third
-  pub third_high : third < 56
-
--- a text begins with three octal digits of a byte, and this follows them
-pub record IsOctal (text : Bytes) (byte : ℕ) (after : Bytes) : Type 0 where
+-- three bytes are the octal digits of this one
+pub record IsValue (first second third byte : ℕ) : Type 0 where
   pub a : ℕ
   pub b : ℕ
   pub c : ℕ
   pub a_fits : a < 4
   pub b_fits : b < 8
   pub c_fits : c < 8
-  pub value : byte ≡ a * 64 + (b * 8 + c)
-  pub cut : text ≡ (48 + a) ∷ ((48 + b) ∷ ((48 + c) ∷ after))
+  pub first_is : first ≡ 48 + a
+  pub second_is : second ≡ 48 + b
+  pub third_is : third ≡ 48 + c
+  pub sum : byte ≡ a * 64 + (b * 8 + c)
+
+-- they are the digits of none
+abbrev pub NoValue : ℕ → ℕ → ℕ → Type 0
+NoValue first second third = (byte : ℕ) → ¬ IsValue first second third byte
+
+-- a text begins with three octal digits of a byte, and this follows them
+pub record IsOctal (text : Bytes) (byte : ℕ) (after : Bytes) : Type 0 where
+  pub first : ℕ
+  pub second : ℕ
+  pub third : ℕ
+  pub cut : text ≡ first ∷ (second ∷ (third ∷ after))
+  pub value : IsValue first second third byte
 
 -- it begins with no such digits
 abbrev pub NoOctal : Bytes → Type 0

@@ -1,8 +1,8 @@
 //! Quotes of paths, as git writes them: a byte as its letter or as three octal digits after a
 //! backslash.
-ghost use Rattle.std.specs.Prelude.{◌≡◌, ¬, IfOk, List, [], ◌∷◌, ℕ, MatchBool, MatchOption};
+ghost use Rattle.std.specs.Prelude.{◌≡◌, ◌≢◌, ◌<◌, ◌+◌, ¬, IfOk, List, [], ◌∷◌, ℕ, MatchBool, MatchOption};
 ghost use Rattle.ig_options.specs.Quotes.{IsQuoteOf, is_quoted, letter_of};
-ghost use Rattle.ig_options.specs.QuoteSteps.{AreDigits, Closes, IsEscaped, IsFirst, IsOctal, NoEscaped, NoFirst, NoOctal, byte_of};
+ghost use Rattle.ig_options.specs.QuoteSteps.{Closes, IsEscaped, IsFirst, IsOctal, IsValue, NoEscaped, NoFirst, NoOctal, NoValue, byte_of};
 
 use std::alloc::{AllocError, Global};
 
@@ -50,27 +50,41 @@ fn meaning_of(letter: u8) -> Option<u8>
     }
 }
 
-/// Whether three bytes are the octal digits of a byte.
-fn are_octal(first: u8, second: u8, third: u8) -> bool
-    ensures { MatchBool result (AreDigits first second third) (¬ AreDigits first second third) }
+/// The value of an octal digit.
+fn digit_of(byte: u8) -> Option<u8>
+    ensures { MatchOption result ((d : ℕ) → d < 8 → byte ≢ 48 + d) (λ d. (d < 8) × (byte ≡ 48 + d)) }
 {
-    (b'0'..=b'3').contains(&first)
-        && (b'0'..=b'7').contains(&second)
-        && (b'0'..=b'7').contains(&third)
+    if byte < b'0' {
+        return None;
+    }
+    if byte > b'7' {
+        return None;
+    }
+    Some(byte - b'0')
+}
+
+/// The byte of three octal digits.
+fn octal_value(first: u8, second: u8, third: u8) -> Option<u8>
+    ensures { MatchOption result (NoValue first second third) (IsValue first second third) }
+{
+    let a = digit_of(first)?;
+    let b = digit_of(second)?;
+    let c = digit_of(third)?;
+    if a > 3 {
+        return None;
+    }
+    Some(a * 64 + (b * 8 + c))
 }
 
 /// The byte of the three octal digits that a text begins with, and what follows them.
 fn octal_of(text: &[u8]) -> Option<(u8, &[u8])>
     ensures { MatchOption result (NoOctal text.now) (λ p. IsOctal text.now p.0 p.1.now) }
 {
-    let [a, b, c, rest @ ..] = text else {
-        return None;
-    };
-    if are_octal(*a, *b, *c) {
-        Some(((*a - b'0') * 64 + (*b - b'0') * 8 + (*c - b'0'), rest))
-    } else {
-        None
-    }
+    let (first, rest) = text.split_first()?;
+    let (second, rest) = rest.split_first()?;
+    let (third, rest) = rest.split_first()?;
+    let byte = octal_value(*first, *second, *third)?;
+    Some((byte, rest))
 }
 
 /// The byte for which a text stands that follows a backslash, and what follows that.
@@ -78,10 +92,10 @@ fn escaped_of(text: &[u8]) -> Option<(u8, &[u8])>
     ensures { MatchOption result (NoEscaped text.now) (λ p. IsEscaped text.now p.0 p.1.now) }
 {
     let (letter, rest) = text.split_first()?;
-    match meaning_of(*letter) {
-        Some(byte) => Some((byte, rest)),
-        None => octal_of(text),
+    if let Some(byte) = meaning_of(*letter) {
+        return Some((byte, rest));
     }
+    octal_of(text)
 }
 
 /// The first byte that a quoted text stands for, and what follows it. None at a quote, at the end,
@@ -90,23 +104,31 @@ fn first_of(text: &[u8]) -> Option<(u8, &[u8])>
     ensures { MatchOption result (NoFirst text.now) (λ p. IsFirst text.now p.0 p.1.now) }
 {
     let (byte, rest) = text.split_first()?;
-    match *byte {
-        b'"' => None,
-        b'\\' => escaped_of(rest),
-        byte => Some((byte, rest)),
+    if *byte == b'"' {
+        return None;
     }
+    if *byte == b'\\' {
+        return escaped_of(rest);
+    }
+    Some((*byte, rest))
 }
 
 /// Whether a text is one quote.
 fn is_quote(text: &[u8]) -> bool
-    ensures { MatchBool result (text.now ≡ 34 ∷ []) (¬ (text.now ≡ 34 ∷ [])) }
+    ensures { MatchBool result (text.now ≡ 34 ∷ []) (text.now ≢ 34 ∷ []) }
 {
-    matches!(text, [b'"'])
+    let Some((byte, rest)) = text.split_first() else {
+        return false;
+    };
+    if *byte != b'"' {
+        return false;
+    }
+    rest.is_empty()
 }
 
 /// The bytes for which a text stands that ends in a closing quote. None where it isn't one.
 fn closed(alloc: Global, text: &[u8]) -> Result<Option<Vec<u8>>, AllocError>
-    ensures value { IfOk result (λ r. MatchOption r ((bytes : List ℕ) → ¬ Closes text.now bytes) (λ bytes. Closes text.now bytes.items)) }
+    ensures { IfOk result (λ r. MatchOption r ((bytes : List ℕ) → ¬ Closes text.now bytes) (λ bytes. Closes text.now bytes.items)) }
 {
     let mut rest = text;
     let mut bytes = Vec::new(alloc);
@@ -115,18 +137,20 @@ fn closed(alloc: Global, text: &[u8]) -> Result<Option<Vec<u8>>, AllocError>
         rest = after;
     }
     if is_quote(rest) {
-        Ok(Some(bytes))
-    } else {
-        Ok(None)
+        return Ok(Some(bytes));
     }
+    Ok(None)
 }
 
 /// The bytes of a text between quotes. None where it isn't one.
 pub(crate) fn unquoted(alloc: Global, text: &[u8]) -> Result<Option<Vec<u8>>, AllocError>
-    ensures value { IfOk result (λ r. MatchOption r ((bytes : List ℕ) → ¬ IsQuoteOf text.now bytes) (λ bytes. IsQuoteOf text.now bytes.items)) }
+    ensures { IfOk result (λ r. MatchOption r ((bytes : List ℕ) → ¬ IsQuoteOf text.now bytes) (λ bytes. IsQuoteOf text.now bytes.items)) }
 {
-    match text.split_first() {
-        Some((b'"', rest)) => closed(alloc, rest),
-        _ => Ok(None),
+    let Some((first, rest)) = text.split_first() else {
+        return Ok(None);
+    };
+    if *first != b'"' {
+        return Ok(None);
     }
+    closed(alloc, rest)
 }
