@@ -1,5 +1,5 @@
 -- One step of a loop over texts: what is left of them leads where they all do.
-use Rattle.std.proofs.Common.{◌≡◌, ◌∙◌, ℕ, ◌+◌, ◌<◌, ◌≤◌, Bool, List, [], ◌∷◌, ◌++◌, Option, None, length, drop, get_or, map, refl, sym, ap, subst, append_assoc, inl, inr}
+use Rattle.std.proofs.Common.{◌≡◌, ◌∙◌, ℕ, ◌+◌, ◌<◌, ◌≤◌, Bool, true, false, if◌then◌else◌, List, [], ◌∷◌, ◌++◌, Option, None, length, drop, get_or, map, refl, sym, ap, subst, append_assoc, inl, inr}
 use Rattle.std.proofs.lemmas.List.{append-nil, drop_more, drop_all}
 use Rattle.ignore_base.specs.Problem.{Problem, invalid_definition}
 use Rattle.ignore_files.specs.Tree.{Tree}
@@ -40,6 +40,16 @@ names_done items i w all =
     ap (λ ns. with_names ns w) (drop_all i items all)
     ∙ ap (λ (ns : List (List ℕ)). let made : WalkOptions = record w { settings = record w.settings { custom = ns } } in made)
     (append-nil w.settings.custom)
+
+pub no_names : (none : Bool) (names : List (List ℕ)) (w : WalkOptions) → none ≡ true → w ≡ with_names (if none then [] else names) w
+no_names none names w e =
+    sym (ap (λ (b : Bool). with_names (if b then [] else names) w) e
+    ∙ ap (λ (ns : List (List ℕ)). let made : WalkOptions = record w { settings = record w.settings { custom = ns } } in made)
+    (append-nil w.settings.custom))
+
+pub some_names : (none : Bool) (names : List (List ℕ)) (old new : WalkOptions) → none ≡ false → new ≡ with_names names old
+    → new ≡ with_names (if none then [] else names) old
+some_names none names old new e added = added ∙ sym (ap (λ (b : Bool). with_names (if b then [] else names) old) e)
 
 -- File types.
 
