@@ -1,5 +1,5 @@
 //! The settings of a walk, option by option.
-ghost use Rattle.std.specs.Prelude.{◌≡◌, [], IfOk, IfErr, OnOk, if◌then◌else◌};
+ghost use Rattle.std.specs.Prelude.{◌≡◌, ◌&&◌, [], IfOk, IfErr, OnOk, not, if◌then◌else◌};
 ghost use Rattle.ignore_base.specs.Problem.{problem_of, memory};
 ghost use Rattle.ig_options.specs.Settings.{with_files, with_filters, with_limits, with_names, walk_options};
 
@@ -33,13 +33,20 @@ fn set_filters(walk: &mut WalkOptions, options: &Options)
     ensures { walk.new ≡ with_filters options.now walk.old }
 {
     let all = !options.no_ignore;
-    let vcs = all && !options.no_ignore_vcs;
+    let vcs = still(all, options.no_ignore_vcs);
     walk.hidden(!options.hidden);
-    walk.parents(all && !options.no_ignore_parent);
-    walk.ignore(all && !options.no_ignore_dot);
+    walk.parents(still(all, options.no_ignore_parent));
+    walk.ignore(still(all, options.no_ignore_dot));
     walk.git_ignore(vcs);
-    walk.git_global(vcs && !options.no_ignore_global);
-    walk.git_exclude(vcs && !options.no_ignore_exclude);
+    walk.git_global(still(vcs, options.no_ignore_global));
+    walk.git_exclude(still(vcs, options.no_ignore_exclude));
+}
+
+/// Whether something counts that an option may take out.
+fn still(counts: bool, taken_out: bool) -> bool
+    ensures { result ≡ (counts && not taken_out) }
+{
+    counts && !taken_out
 }
 
 /// How files of rules are read.
