@@ -1,6 +1,6 @@
 //! Quotes of paths, as git writes them: a byte as its letter or as three octal digits after a
 //! backslash.
-ghost use Rattle.std.specs.Prelude.{◌≡◌, ◌≢◌, ◌<◌, ◌+◌, ¬, IfOk, List, [], ◌∷◌, ℕ, MatchBool, MatchOption};
+ghost use Rattle.std.specs.Prelude.{◌≡◌, ◌≢◌, ◌<◌, ◌+◌, IfOk, List, [], ◌∷◌, ℕ, MatchBool, MatchOption};
 ghost use Rattle.ig_options.specs.Quotes.{IsQuoteOf, is_quoted, letter_of};
 ghost use Rattle.ig_options.specs.QuoteSteps.{Closes, IsEscaped, IsFirst, IsOctal, IsValue, NoEscaped, NoFirst, NoOctal, NoValue, byte_of};
 
