@@ -1,5 +1,5 @@
 -- What a text between quotes begins with decides what it stands for.
-use Rattle.std.proofs.Common.{◌≡◌, ◌≢◌, ◌⊎◌, ◌∙◌, ℕ, ◌+◌, ◌*◌, ◌<◌, ◌==◌, ◌||◌, Bool, true, false, cond, eq-eqb, eqb-true, MatchBool, List, [], ◌∷◌, ◌++◌, Option, None, Some, MatchOption, length, refl, sym, ap, subst, inl, inr, arith, suc, append_assoc}
+use Rattle.std.proofs.Common.{◌≡◌, ◌≢◌, ◌⊎◌, ◌∙◌, ℕ, ◌+◌, ◌*◌, ◌<◌, ◌≤◌, ◌==◌, ◌||◌, Bool, true, false, cond, eq-eqb, eqb-true, MatchBool, List, [], ◌∷◌, ◌++◌, Option, None, Some, MatchOption, length, refl, sym, ap, subst, inl, inr, arith, suc, append_assoc}
 use Rattle.std.proofs.lemmas.Bool.{false≢true}
 use Rattle.std.proofs.lemmas.Bool.Decides.{nat_tests}
 use Rattle.std.proofs.lemmas.List.{append-nil, nil_from_length}
@@ -61,35 +61,24 @@ one_byte b c letter e f =
     let h = byte_of-letter c letter f in
     cc
 
--- no letter is an octal digit
+-- no letter is one of the digits from 0 to 3
+
+abbrev IsAway : ℕ → Type 0
+IsAway letter = (letter < 48) ⊎ (52 ≤ letter)
+
+away : (letter a : ℕ) → IsAway letter → a < 4 → letter ≡ 48 + a → ⊥
+away letter a (inl below) low same = omega arith
+away letter a (inr above) low same = omega arith
+
+all_away : Each (λ b l. IsAway l) letters
+all_away =
+    let above : (n : ℕ) → IsAway (52 + n) = λ n. inr (omega arith) in
+    let quote : IsAway 34 = inl (omega arith) in
+    (above 45, (above 46, (above 64, (above 58, (above 66, (above 50, (above 62, (quote, (above 40, tt)))))))))
+
 no_digit : (byte letter : ℕ) → letter_of byte ≡ Some letter → (a : ℕ) → a < 4 → letter ≡ 48 + a → ⊥
-no_digit byte letter e =
-    each_forth (λ b l. (a : ℕ) → a < 4 → l ≡ 48 + a → ⊥) letters byte letter (
-      λ a low same. absurd (omega arith),
-      (
-        λ a low same. absurd (omega arith),
-        (
-          λ a low same. absurd (omega arith),
-          (
-            λ a low same. absurd (omega arith),
-            (
-              λ a low same. absurd (omega arith),
-              (
-                λ a low same. absurd (omega arith),
-                (
-                  λ a low same. absurd (omega arith),
-                  (
-                    λ a low same. absurd (omega arith),
-                    (λ a low same. absurd (omega arith), tt),
-                  ),
-                ),
-              ),
-            ),
-          ),
-        ),
-      ),
-    )
-    (has_found (λ p. p.0) (λ p. p.1) letters byte letter e)
+no_digit byte letter e a low same =
+    away letter a (each_forth (λ b l. IsAway l) letters byte letter all_away (has_found (λ p. p.0) (λ p. p.1) letters byte letter e)) low same
 
 -- Escapes.
 
