@@ -326,23 +326,3 @@ pub const TYPES: [&[Row]; 1] = [&[(
     WHAT,
     "Add a type, as web:*.css or web:include:js,html",
 )]];
-
-pub(crate) fn list_groups() -> &'static [&'static [Row]] {
-    &LIST
-}
-
-pub(crate) fn ignored_groups() -> &'static [&'static [Row]] {
-    &IGNORED
-}
-
-pub(crate) fn why_groups() -> &'static [&'static [Row]] {
-    &ASKED
-}
-
-pub(crate) fn unused_groups() -> &'static [&'static [Row]] {
-    &UNUSED
-}
-
-pub(crate) fn types_groups() -> &'static [&'static [Row]] {
-    &TYPES
-}

@@ -3,9 +3,7 @@
 use crate::given::given_words;
 use crate::options::Options;
 use crate::sizes::size_of;
-use crate::table::{
-    Row, Takes, ignored_groups, list_groups, types_groups, unused_groups, why_groups,
-};
+use crate::table::{ASKED, IGNORED, LIST, Row, TYPES, Takes, UNUSED};
 use clap::error::ErrorKind;
 use clap::{Arg, ArgAction, ArgMatches, Command, Error, value_parser};
 use ignore_dir::Names;
@@ -139,12 +137,6 @@ fn task_of(words: &[String]) -> (Task, &[String]) {
 
 /// The parser of a command.
 fn command_of<'a>(alloc: Global, task: Task) -> Result<Command<'a>, AllocError> {
-    let command = bare_command(alloc, task)?;
-    with_groups(alloc, command, groups_of(task))
-}
-
-/// The parser of a command, without its options.
-fn bare_command<'a>(alloc: Global, task: Task) -> Result<Command<'a>, AllocError> {
     match task {
         Task::List => list_command(alloc),
         Task::Ignored => ignored_command(alloc),
@@ -154,20 +146,9 @@ fn bare_command<'a>(alloc: Global, task: Task) -> Result<Command<'a>, AllocError
     }
 }
 
-/// The options of a command, in groups.
-fn groups_of(task: Task) -> &'static [&'static [Row]] {
-    match task {
-        Task::List => list_groups(),
-        Task::Ignored => ignored_groups(),
-        Task::Why => why_groups(),
-        Task::Unused => unused_groups(),
-        Task::Types => types_groups(),
-    }
-}
-
 /// The parser of `ig ls`.
 fn list_command<'a>(alloc: Global) -> Result<Command<'a>, AllocError> {
-    plain_command(alloc, "ig")?
+    let command = plain_command(alloc, "ig")?
         .about("Lists what the ignore rules of a tree keep.")
         .override_usage(USAGE)
         .after_help("ig --help has all options. A folder named like a command: ./types")
@@ -175,27 +156,30 @@ fn list_command<'a>(alloc: Global) -> Result<Command<'a>, AllocError> {
         .arg(roots_of(
             alloc,
             "What is walked; the working directory, where none is given",
-        ))
+        ))?;
+    with_groups(alloc, command, &LIST)
 }
 
 /// The parser of `ig ignored`.
 fn ignored_command<'a>(alloc: Global) -> Result<Command<'a>, AllocError> {
-    plain_command(alloc, "ig ignored")?
+    let command = plain_command(alloc, "ig ignored")?
         .about("Lists what the ignore rules of a tree leave out, but nothing inside of that.")
         .override_usage("ig ignored [OPTIONS] [ROOT]...")
         .after_help("ig ignored --help has all options.")
         .after_long_help(LONG_HELP)
-        .arg(roots_of(alloc, "Folders; the working directory, where none is given"))
+        .arg(roots_of(alloc, "Folders; the working directory, where none is given"))?;
+    with_groups(alloc, command, &IGNORED)
 }
 
 /// The parser of `ig why`.
 fn why_command<'a>(alloc: Global) -> Result<Command<'a>, AllocError> {
-    plain_command(alloc, "ig why")?
+    let command = plain_command(alloc, "ig why")?
         .about("Says why paths are ignored or not.")
         .override_usage("ig why [OPTIONS] PATH...\n       ig why [OPTIONS] --stdin")
         .after_help("ig why --help has all options.")
         .after_long_help(WHY_HELP)
-        .arg(roots_of(alloc, "A path").value_name("PATH"))
+        .arg(roots_of(alloc, "A path").value_name("PATH"))?;
+    with_groups(alloc, command, &ASKED)
 }
 
 /// The parser of `ig unused`.
@@ -204,21 +188,21 @@ fn unused_command<'a>(alloc: Global) -> Result<Command<'a>, AllocError> {
         .value_name("ROOT")
         .hide_short_help(true)
         .help("A folder; the working directory, where none is given");
-    plain_command(alloc, "ig unused")?
+    let command = plain_command(alloc, "ig unused")?
         .about("Lists the rules below a folder that decide on no entry there.")
         .override_usage("ig unused [OPTIONS] [ROOT]")
         .after_help("ig unused --help has all options.")
         .after_long_help(LONG_HELP)
-        .arg(root)
+        .arg(root)?;
+    with_groups(alloc, command, &UNUSED)
 }
 
 /// The parser of `ig types`.
 fn types_command<'a>(alloc: Global) -> Result<Command<'a>, AllocError> {
-    Ok(
-        plain_command(alloc, "ig types")?
-            .about("Lists the file types and their globs.")
-            .override_usage("ig types [--type-add DEF]..."),
-    )
+    let command = plain_command(alloc, "ig types")?
+        .about("Lists the file types and their globs.")
+        .override_usage("ig types [--type-add DEF]...");
+    with_groups(alloc, command, &TYPES)
 }
 
 /// The roots, or the paths.
