@@ -124,11 +124,11 @@ one_escape text b c after rest (inr o) (inr q) =
 -- Octal digits.
 
 pub no_octal : (text : List ℕ) (a b d : ℕ) (rest : List ℕ) → text ≡ a ∷ (b ∷ (d ∷ rest)) → NoValue a b d → NoOctal text
-no_octal text a b d rest cut no byte after o =
+no_octal text a b d rest cut never byte after o =
     let p = parts o.first a (o.second ∷ (o.third ∷ after)) (b ∷ (d ∷ rest)) (sym o.cut ∙ cut) in
     let q = parts o.second b (o.third ∷ after) (d ∷ rest) p.1 in
     let r = parts o.third d after rest q.1 in
-    no byte (same_value o.first o.second o.third a b d byte p.0 q.0 r.0 o.value)
+    never byte (same_value o.first o.second o.third a b d byte p.0 q.0 r.0 o.value)
 
 pub no_octal_of_none : (text : List ℕ) → text ≡ [] → NoOctal text
 no_octal_of_none text empty byte after o = let e : [] ≡ o.first ∷ (o.second ∷ (o.third ∷ after)) = sym empty ∙ o.cut in cc
@@ -153,18 +153,18 @@ no_escape_of_none text empty byte after (inl (l, e, f)) = let g : [] ≡ l ∷ a
 no_escape_of_none text empty byte after (inr o) = no_octal_of_none text empty byte after o
 
 no_escape : (text : List ℕ) (letter : ℕ) (rest : List ℕ) → text ≡ letter ∷ rest → byte_of letter ≡ None → NoOctal text → NoEscaped text
-no_escape text letter rest cut no octal byte after (inl (l, e, f)) =
+no_escape text letter rest cut never octal byte after (inl (l, e, f)) =
     let same = parts l letter after rest (sym e ∙ cut) in
     let g : byte_of letter ≡ Some byte = subst (λ (x : ℕ). byte_of x ≡ Some byte) same.0 (byte_of-letter byte l f) in
-    let h : None ≡ Some byte = sym no ∙ g in
+    let h : None ≡ Some byte = sym never ∙ g in
     cc
-no_escape text letter rest cut no octal byte after (inr o) = octal byte after o
+no_escape text letter rest cut never octal byte after (inr o) = octal byte after o
 
 pub escape_or_none : {B : Type 0} (now : B → List ℕ) (text : List ℕ) (letter : ℕ) (rest : List ℕ) (r : Option (ℕ × B))
     → text ≡ letter ∷ rest → byte_of letter ≡ None → MatchOption r (NoOctal text) (λ p. IsOctal text p.0 (now p.1))
     → MatchOption r (NoEscaped text) (λ p. IsEscaped text p.0 (now p.1))
-escape_or_none now text letter rest None cut no octal = no_escape text letter rest cut no octal
-escape_or_none now text letter rest (Some p) cut no octal = inr octal
+escape_or_none now text letter rest None cut never octal = no_escape text letter rest cut never octal
+escape_or_none now text letter rest (Some p) cut never octal = inr octal
 
 -- The first byte.
 
@@ -247,13 +247,13 @@ none_at_quote text x rest cut quote bytes closes = quote_by text x rest bytes cu
 
 no_escape_by : (text : List ℕ) (x : ℕ) (rest bytes : List ℕ) → x ≡ 92 → NoEscaped rest
     → Ended x rest bytes ⊎ (Plain x rest bytes ⊎ Escaped x rest bytes) → ⊥
-no_escape_by text x rest bytes slash no (inl ended) = omega (arith, ended.0, slash)
-no_escape_by text x rest bytes slash no (inr (inl plain)) = plain_no_backslash x slash plain.0
-no_escape_by text x rest bytes slash no (inr (inr escaped)) = no escaped.1 escaped.2 escaped.4
+no_escape_by text x rest bytes slash never (inl ended) = omega (arith, ended.0, slash)
+no_escape_by text x rest bytes slash never (inr (inl plain)) = plain_no_backslash x slash plain.0
+no_escape_by text x rest bytes slash never (inr (inr escaped)) = never escaped.1 escaped.2 escaped.4
 
 pub none_at_backslash : (text : List ℕ) (x : ℕ) (rest : List ℕ) → text ≡ x ∷ rest → x ≡ 92 → NoEscaped rest → NoFirst text
-none_at_backslash text x rest cut slash no bytes closes =
-    absurd (no_escape_by text x rest bytes slash no (closes_by text x rest bytes cut closes))
+none_at_backslash text x rest cut slash never bytes closes =
+    absurd (no_escape_by text x rest bytes slash never (closes_by text x rest bytes cut closes))
 
 digits_close : (text : List ℕ) (byte : ℕ) (after bytes inner : List ℕ) → IsOctal text byte after → after ≡ inner ++ 34 ∷ []
     → StandsFor inner bytes → Closes (92 ∷ text) (byte ∷ bytes)
@@ -349,19 +349,19 @@ closes_all whole rest before so quote =
 pub closes_none : (whole rest before : List ℕ)
     → ((all : List ℕ) → Closes whole all → (tail : List ℕ) × (all ≡ before ++ tail) × Closes rest tail) → NoFirst rest → rest ≢ 34 ∷ []
     → (all : List ℕ) → ¬ Closes whole all
-closes_none whole rest before only no other all closes = let h = only all closes in other (no h.0 h.2).0
+closes_none whole rest before only never other all closes = let h = only all closes in other (never h.0 h.2).0
 
 -- A text between quotes.
 
 no_quotes : (text : List ℕ) (x : ℕ) (rest : List ℕ) → text ≡ x ∷ rest → ((bytes : List ℕ) → ¬ Closes rest bytes)
     → (bytes : List ℕ) → ¬ IsQuoteOf text bytes
-no_quotes text x rest cut no bytes (inner, e, stands) =
-    no bytes (inner, (parts x 34 rest (inner ++ 34 ∷ []) (sym cut ∙ e)).1, stands)
+no_quotes text x rest cut never bytes (inner, e, stands) =
+    never bytes (inner, (parts x 34 rest (inner ++ 34 ∷ []) (sym cut ∙ e)).1, stands)
 
 pub quotes_by : (text : List ℕ) (x : ℕ) (rest : List ℕ) {X : Type 0} (items : X → List ℕ) (r : Option X) → text ≡ x ∷ rest → x ≡ 34
     → MatchOption r ((bytes : List ℕ) → ¬ Closes rest bytes) (λ bytes. Closes rest (items bytes))
     → MatchOption r ((bytes : List ℕ) → ¬ IsQuoteOf text bytes) (λ bytes. IsQuoteOf text (items bytes))
-quotes_by text x rest items None cut quote no = no_quotes text x rest cut no
+quotes_by text x rest items None cut quote never = no_quotes text x rest cut never
 quotes_by text x rest items (Some bytes) cut quote (inner, e, stands) =
     (inner, cut ∙ (ap (λ y. y ∷ rest) quote ∙ ap (λ t. 34 ∷ t) e), stands)
 

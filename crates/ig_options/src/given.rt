@@ -30,10 +30,12 @@ pub fn given_by(record: Vec<u8>, number: u64, has_nul: bool) -> Result<Given, Al
         return Ok(text_of(record, number));
     }
     let alloc = *record.allocator();
-    match unquoted(alloc, record.as_slice())? {
-        Some(bytes) => Ok(text_of(bytes, number)),
-        None => Ok(Given::BadlyQuoted(number)),
-    }
+    let quoted = record.as_slice();
+    let Some(bytes) = unquoted(alloc, quoted)? else {
+        return Ok(Given::BadlyQuoted(number));
+    };
+    let given = text_of(bytes, number);
+    Ok(given)
 }
 
 /// Whether a record is unquoted: it begins with a quote, and records don't end in NUL.

@@ -7,14 +7,14 @@ use Rattle.ig_options.proofs.choices.push_definitions.Goals as goal
 
 pub loop-definition-init : goal.loop-definition-init
 loop-definition-init c = record {
-  adds = λ new h. subst (λ (ts : List (List ℕ)). AddsTypes ts c.args.builder.now new) c.as_slice.ensures h;
-  refuses = λ problem h. subst (λ (ts : List (List ℕ)). RefusesDefinitions ts c.args.builder.now problem) c.as_slice.ensures h;
+  adds = λ new h. subst (λ (ts : List (List ℕ)). AddsTypes ts c.args.builder.now new) c.as_slice-definition-items.ensures h;
+  refuses = λ problem h. subst (λ (ts : List (List ℕ)). RefusesDefinitions ts c.args.builder.now problem) c.as_slice-definition-items.ensures h;
 }
 
 pub loop-definition-preserved : goal.loop-definition-preserved
 loop-definition-preserved c =
     let l = c.loop-definition in
-    let items = c.as_slice.result.now in
+    let items = c.as_slice-definition-items.result.now in
     let text = c.as_str.result.now in
     let next = c.add_def.new.builder in
     let at = here items l.definition-index c.definition-item.result text c.loop-definition-test.true c.definition-item.is c.as_str.ensures in
@@ -28,12 +28,12 @@ loop-definition-preserved c =
 pub returns-clause-added : goal.returns-clause-added
 returns-clause-added c =
     let l = c.loop-definition in
-    l.invariant.adds l.builder (types_done c.as_slice.result.now l.definition-index l.builder c.loop-definition-test.false)
+    l.invariant.adds l.builder (types_done c.as_slice-definition-items.result.now l.definition-index l.builder c.loop-definition-test.false)
 
 pub returns-in_err-add_def-clause-refused : goal.returns-in_err-add_def-clause-refused
 returns-in_err-add_def-clause-refused c =
     let l = c.loop-definition in
-    let items = c.as_slice.result.now in
+    let items = c.as_slice-definition-items.result.now in
     let text = c.as_str.result.now in
     let at = here items l.definition-index c.definition-item.result text c.loop-definition-test.true c.definition-item.is c.as_str.ensures in
     let p = err_from_is_err_and c.from_residual.result c.from_residual.ensures.1 in

@@ -7,12 +7,12 @@ use Rattle.ig_options.proofs.files.add_files.Goals as goal
 
 pub loop-path-init : goal.loop-path-init
 loop-path-init g c = λ tree new rest honest h.
-    subst (λ (ts : List (List ℕ)). AddsFiles tree c.args.env.now ts c.args.walk.now new rest) c.as_slice.ensures h
+    subst (λ (ts : List (List ℕ)). AddsFiles tree c.args.env.now ts c.args.walk.now new rest) c.as_slice-path-items.ensures h
 
 pub loop-path-preserved : goal.loop-path-preserved
 loop-path-preserved g c = λ tree new rest honest h.
     let l = c.loop-path in
-    let items = c.as_slice.result.now in
+    let items = c.as_slice-path-items.result.now in
     let text = c.as_str.result.now in
     let next = c.add_ignore.new.walk in
     let error = c.in_ok-error.error in
@@ -30,4 +30,4 @@ returns-clause-read g c = λ tree honest.
     let l = c.loop-path in
     subst (λ (ps : List (Option Problem)). AddsFiles tree c.args.env.now c.args.options.now.ignore_files c.args.walk.now l.walk ps)
     (append-nil (map (option_map problem_of) l.errors.items))
-    (l.invariant tree l.walk [] honest (files_done tree c.args.env.now c.as_slice.result.now l.path-index l.walk c.loop-path-test.false))
+    (l.invariant tree l.walk [] honest (files_done tree c.args.env.now c.as_slice-path-items.result.now l.path-index l.walk c.loop-path-test.false))

@@ -1,5 +1,6 @@
-use Rattle.std.proofs.Common.{◌≡◌, ◌∙◌, Bool, false, ap, subst, sym}
+use Rattle.std.proofs.Common.{◌≡◌, ◌∙◌, Bool, true, false, List, ℕ, ap, inl, inr, refl, subst, sym}
 use Rattle.ig_options.specs.Given.{Gives, is_opened}
+use Rattle.ig_options.specs.Quotes.{IsQuoteOf}
 use Rattle.ig_options.proofs.given.given_by.Goals as goal
 
 pub returns-then-not-is_opened : goal.returns-then-not-is_opened
@@ -7,4 +8,23 @@ returns-then-not-is_opened c =
     let items = c.args.record.items in
     let e : is_opened c.args.has_nul items ≡ false = ap (is_opened c.args.has_nul) (sym c.as_slice.ensures.value)
     ∙ (sym c.is_opened.ensures ∙ c.if-not-is_opened.true) in
-    subst (λ (b : Bool). Gives b items c.args.number c.text_of.result) (sym e) c.text_of.ensures
+    record { given = subst (λ (b : Bool). Gives b items c.args.number c.text_of.result) (sym e) c.text_of.ensures }
+
+pub returns-in_default : goal.returns-in_default
+returns-in_default c =
+    let items = c.args.record.items in
+    let e : is_opened c.args.has_nul items ≡ true = ap (is_opened c.args.has_nul) (sym c.as_slice.ensures.value)
+    ∙ (sym c.is_opened.ensures ∙ c.if-not-is_opened.false) in
+    let never = subst (λ (t : List ℕ). (bytes : List ℕ) → ¬ IsQuoteOf t bytes) c.as_slice-quoted.ensures.value c.in_default.ensures in
+    record { given = subst (λ (b : Bool). Gives b items c.args.number _) (sym e) (inr (never, refl)) }
+
+pub returns : goal.returns
+returns c =
+    let items = c.args.record.items in
+    let e : is_opened c.args.has_nul items ≡ true = ap (is_opened c.args.has_nul) (sym c.as_slice.ensures.value)
+    ∙ (sym c.is_opened.ensures ∙ c.if-not-is_opened.false) in
+    let quote = subst (λ (t : List ℕ). IsQuoteOf t c.in-Some.bytes.items) c.as_slice-quoted.ensures.value c.in-Some.ensures in
+    record {
+      given = subst (λ (b : Bool). Gives b items c.args.number c.text_of-given.result) (sym e)
+          (inl (c.in-Some.bytes.items, quote, c.text_of-given.ensures));
+    }

@@ -11,6 +11,6 @@ returns-clause-value c =
     let plain = c.push_globs.new.builder in
     let all = c.push_globs-2.new.builder in
     let first = subst (λ (b : Building). AddsGlobs o.globs b plain) c.in_ok-builder.ensures.value c.in_ok-push_globs.ensures.added in
-    let second = subst (λ (b : Building). AddsGlobs o.iglobs b all) c.in_ok-case_insensitive.ensures.value
+    let second = subst (λ (b : Building). AddsGlobs o.iglobs b all) c.in_ok-both.ensures.value
     c.in_ok-push_globs-2.ensures.added in
     IfOk-weaker c.build.result _ _ (λ rules made. (plain, all, first, second, made)) c.build.ensures.value

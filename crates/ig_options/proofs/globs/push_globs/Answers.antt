@@ -7,14 +7,14 @@ use Rattle.ig_options.proofs.globs.push_globs.Goals as goal
 
 pub loop-glob-init : goal.loop-glob-init
 loop-glob-init c = record {
-  adds = λ new h. subst (λ (ts : List (List ℕ)). AddsGlobs ts c.args.builder.now new) c.as_slice.ensures h;
-  refuses = λ problem h. subst (λ (ts : List (List ℕ)). RefusesGlobs ts c.args.builder.now problem) c.as_slice.ensures h;
+  adds = λ new h. subst (λ (ts : List (List ℕ)). AddsGlobs ts c.args.builder.now new) c.as_slice-glob-items.ensures h;
+  refuses = λ problem h. subst (λ (ts : List (List ℕ)). RefusesGlobs ts c.args.builder.now problem) c.as_slice-glob-items.ensures h;
 }
 
 pub loop-glob-preserved : goal.loop-glob-preserved
 loop-glob-preserved c =
     let l = c.loop-glob in
-    let items = c.as_slice.result.now in
+    let items = c.as_slice-glob-items.result.now in
     let text = c.as_str.result.now in
     let next = c.push.new.builder in
     let at = here items l.glob-index c.glob-item.result text c.loop-glob-test.true c.glob-item.is c.as_str.ensures in
@@ -27,12 +27,12 @@ loop-glob-preserved c =
 pub returns-clause-added : goal.returns-clause-added
 returns-clause-added c =
     let l = c.loop-glob in
-    l.invariant.adds l.builder (globs_done c.as_slice.result.now l.glob-index l.builder c.loop-glob-test.false)
+    l.invariant.adds l.builder (globs_done c.as_slice-glob-items.result.now l.glob-index l.builder c.loop-glob-test.false)
 
 pub returns-in_err-push-clause-refused : goal.returns-in_err-push-clause-refused
 returns-in_err-push-clause-refused c =
     let l = c.loop-glob in
-    let items = c.as_slice.result.now in
+    let items = c.as_slice-glob-items.result.now in
     let text = c.as_str.result.now in
     let at = here items l.glob-index c.glob-item.result text c.loop-glob-test.true c.glob-item.is c.as_str.ensures in
     let p = err_from_is_err_and c.from_residual.result c.from_residual.ensures.1 in

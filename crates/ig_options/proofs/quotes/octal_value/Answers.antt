@@ -1,4 +1,4 @@
-use Rattle.std.proofs.Common.{arith}
+use Rattle.std.proofs.Common.{arith, rules}
 use Rattle.ig_options.proofs.quotes.octal_value.Goals as goal
 
 pub returns-in_err-a : goal.returns-in_err-a
