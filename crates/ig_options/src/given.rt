@@ -31,7 +31,8 @@ pub fn given_by(record: Vec<u8>, number: u64, has_nul: bool) -> Result<Given, Al
     }
     let alloc = *record.allocator();
     let quoted = record.as_slice();
-    let Some(bytes) = unquoted(alloc, quoted)? else {
+    let found = unquoted(alloc, quoted)?;
+    let Some(bytes) = found else {
         return Ok(Given::BadlyQuoted(number));
     };
     let given = text_of(bytes, number);

@@ -15,7 +15,8 @@ returns-in_default c =
     let items = c.args.record.items in
     let e : is_opened c.args.has_nul items ≡ true = ap (is_opened c.args.has_nul) (sym c.as_slice.ensures.value)
     ∙ (sym c.is_opened.ensures ∙ c.if-not-is_opened.false) in
-    let never = subst (λ (t : List ℕ). (bytes : List ℕ) → ¬ IsQuoteOf t bytes) c.as_slice-quoted.ensures.value c.in_default.ensures in
+    let none = rw c.in_default.is at c.in_ok-found.ensures in
+    let never = subst (λ (t : List ℕ). (bytes : List ℕ) → ¬ IsQuoteOf t bytes) c.as_slice-quoted.ensures.value none in
     record { given = subst (λ (b : Bool). Gives b items c.args.number _) (sym e) (inr (never, refl)) }
 
 pub returns : goal.returns
@@ -23,7 +24,8 @@ returns c =
     let items = c.args.record.items in
     let e : is_opened c.args.has_nul items ≡ true = ap (is_opened c.args.has_nul) (sym c.as_slice.ensures.value)
     ∙ (sym c.is_opened.ensures ∙ c.if-not-is_opened.false) in
-    let quote = subst (λ (t : List ℕ). IsQuoteOf t c.in-Some.bytes.items) c.as_slice-quoted.ensures.value c.in-Some.ensures in
+    let some = rw c.in-Some.is at c.in_ok-found.ensures in
+    let quote = subst (λ (t : List ℕ). IsQuoteOf t c.in-Some.bytes.items) c.as_slice-quoted.ensures.value some in
     record {
       given = subst (λ (b : Bool). Gives b items c.args.number c.text_of-given.result) (sym e)
           (inl (c.in-Some.bytes.items, quote, c.text_of-given.ensures));
