@@ -16,7 +16,7 @@ loop-definition-preserved c =
     let l = c.loop-definition in
     let items = c.as_slice-definition-items.result.now in
     let text = c.as_str.result.now in
-    let next = c.add_def.new.builder in
+    let next = c.add_def.new.self in
     let at = here items l.definition-index c.definition-item.result text c.loop-definition-test.true c.definition-item.is c.as_str.ensures in
     let becomes = c.in_ok-add_def.ensures.added in
     record {

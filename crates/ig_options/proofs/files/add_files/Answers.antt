@@ -7,14 +7,16 @@ use Rattle.ig_options.proofs.files.add_files.Goals as goal
 
 pub loop-path-init : goal.loop-path-init
 loop-path-init g c = λ tree new rest honest h.
-    subst (λ (ts : List (List ℕ)). AddsFiles tree c.args.env.now ts c.args.walk.now new rest) c.as_slice-path-items.ensures h
+    let start = subst (λ (ts : List (List ℕ)). AddsFiles tree c.args.env.now ts c.args.walk.now new rest) c.as_slice-path-items.ensures h in
+    subst (λ (ps : List (Option Problem)). AddsFiles tree c.args.env.now c.args.options.now.ignore_files c.args.walk.now new ps)
+    (sym (ap (λ es. map (option_map problem_of) es ++ rest) c.new-errors.ensures.items)) start
 
 pub loop-path-preserved : goal.loop-path-preserved
 loop-path-preserved g c = λ tree new rest honest h.
     let l = c.loop-path in
     let items = c.as_slice-path-items.result.now in
     let text = c.as_str.result.now in
-    let next = c.add_ignore.new.walk in
+    let next = c.add_ignore.new.self in
     let error = c.in_ok-error.error in
     let first = option_map problem_of error in
     let at = here items l.path-index c.path-item.result text c.loop-path-test.true c.path-item.is c.as_str.ensures in

@@ -16,7 +16,7 @@ loop-glob-preserved c =
     let l = c.loop-glob in
     let items = c.as_slice-glob-items.result.now in
     let text = c.as_str.result.now in
-    let next = c.push.new.builder in
+    let next = c.push.new.self in
     let at = here items l.glob-index c.glob-item.result text c.loop-glob-test.true c.glob-item.is c.as_str.ensures in
     let added = c.in_ok-push.ensures.added in
     record {

@@ -1,4 +1,4 @@
-use Rattle.std.proofs.Common.{◌∙◌, ap, sym}
+use Rattle.std.proofs.Common.{◌∙◌, ◌+◌, ap, drop, sym}
 use Rattle.ig_options.specs.Settings.{with_names}
 use Rattle.ig_options.proofs.LoopLemmas.{here, names_done, names_more}
 use Rattle.ig_options.proofs.settings.push_names.Goals as goal
@@ -10,7 +10,7 @@ pub loop-name-preserved : goal.loop-name-preserved
 loop-name-preserved c =
     let at = here c.as_slice-name-items.result.now c.loop-name.name-index c.name-item.result c.as_str.result.now c.loop-name-test.true c.name-item.is
     c.as_str.ensures in
-    ap (λ w. with_names _ w) c.in_ok-push_custom_ignore_filename.ensures.added
+    ap (with_names (drop (c.loop-name.name-index + 1) c.as_slice-name-items.result.now)) c.in_ok-push_custom_ignore_filename.ensures.added
     ∙ (sym (names_more c.as_slice-name-items.result.now c.loop-name.name-index c.as_str.result.now c.loop-name.walk at) ∙ c.loop-name.invariant)
 
 pub returns-clause-added : goal.returns-clause-added
