@@ -1,6 +1,7 @@
 use Rattle.std.proofs.Common.{◌≡◌, ◌∙◌, Bool, true, false, List, ℕ, ap, inl, inr, refl, subst, sym}
 use Rattle.ig_options.specs.Given.{Gives, is_opened}
 use Rattle.ig_options.specs.Quotes.{IsQuoteOf}
+use Rattle.ig_options.specs.declared.given.Given.TheVariants.{BadlyQuoted}
 use Rattle.ig_options.proofs.given.given_by.Goals as goal
 
 pub returns-then-not-is_opened : goal.returns-then-not-is_opened
@@ -17,7 +18,7 @@ returns-in_default c =
     ∙ (sym c.is_opened.ensures ∙ c.if-not-is_opened.false) in
     let none = rw c.in_default.is at c.in_ok-found.ensures in
     let never = subst (λ (t : List ℕ). (bytes : List ℕ) → ¬ IsQuoteOf t bytes) c.as_slice-quoted.ensures.value none in
-    record { given = subst (λ (b : Bool). Gives b items c.args.number _) (sym e) (inr (never, refl)) }
+    record { given = subst (λ (b : Bool). Gives b items c.args.number (BadlyQuoted c.args.number)) (sym e) (inr (never, refl)) }
 
 pub returns : goal.returns
 returns c =
