@@ -1,5 +1,5 @@
-use Rattle.std.proofs.Common.{◌∙◌, ap, inl, inr, true}
-use Rattle.std.proofs.lemmas.Result.{IfOk-weaker, IfErr-weaker}
+use Rattle.std.proofs.Common.{◌∙◌, ap, true}
+use Rattle.std.proofs.lemmas.Result.{IfOk-weaker}
 use Rattle.ig_options.specs.Choices.{with_all_chosen}
 use Rattle.ig_options.proofs.choices.types_of.Goals as goal
 

@@ -1,8 +1,7 @@
-use Rattle.std.proofs.Common.{inl, inr, subst}
-use Rattle.std.proofs.lemmas.Result.{IfOk-weaker, err_from_is_err_and}
-use Rattle.ignore_base.specs.Problem.{problem_of}
+use Rattle.std.proofs.Common.{subst}
+use Rattle.std.proofs.lemmas.Result.{IfOk-weaker}
 use Rattle.ignore_rules.specs.Rules.{Building}
-use Rattle.ig_options.specs.Globs.{AddsGlobs, RefusesGlobs}
+use Rattle.ig_options.specs.Globs.{AddsGlobs}
 use Rattle.ig_options.proofs.globs.globs_of.Goals as goal
 
 pub returns-clause-value : goal.returns-clause-value
