@@ -1,5 +1,5 @@
 -- The paths that `why` is asked about.
-use Rattle.std.specs.Prelude.{◌≡◌, ◌⊎◌, ¬, ℕ, Bool, true, false, not, ◌&&◌, ◌==◌, slice_index}
+use Rattle.std.specs.Prelude.{◌≡◌, ◌⊎◌, ℕ, Bool, true, false, not, ◌&&◌, ◌==◌, slice_index}
 use Rattle.std.specs.Str.{IsUtf8}
 use Rattle.ignore_base.specs.Text.{Bytes}
 use Rattle.ig_options.specs.Quotes.{IsQuoteOf}

@@ -3,4 +3,5 @@ pub mod Globs
 pub mod Choices
 pub mod Files
 pub mod Quotes
+pub mod QuoteSteps
 pub mod Given

@@ -1,5 +1,5 @@
 -- Quotes of paths, as git writes them.
-use Rattle.std.specs.Prelude.{◌≡◌, ℕ, ◌+◌, ◌*◌, ◌/◌, ◌%◌, ◌<◌, ◌==◌, nat_lt, Bool, false, not, ◌||◌, List, [], ◌∷◌, ◌++◌, codes, Option, None, Some, if◌then◌else◌}
+use Rattle.std.specs.Prelude.{◌≡◌, ℕ, ◌+◌, ◌*◌, ◌/◌, ◌%◌, ◌<◌, ◌==◌, nat_lt, Bool, false, not, ◌||◌, List, [], ◌∷◌, ◌++◌, Option, None, Some, if◌then◌else◌}
 use Rattle.std.specs.List.{find, flat_map, list_any}
 use Rattle.std.specs.Option.{option_map}
 use Rattle.ignore_base.specs.Text.{Bytes}
@@ -39,11 +39,11 @@ quoted text = if list_any is_quoted text then 34 ∷ (flat_map quoted_byte text 
 -- quote nor a backslash, or after a backslash, as its letter or its three octal digits
 pub data StandsFor : Bytes → Bytes → Type 0 where
   none : StandsFor [] []
-  as_it_is : {byte : ℕ} {text bytes : Bytes} → (byte == 34 || byte == 92) ≡ false → StandsFor text bytes
+  as_it_is : (byte : ℕ) (text bytes : Bytes) → (byte == 34 || byte == 92) ≡ false → StandsFor text bytes
       → StandsFor (byte ∷ text) (byte ∷ bytes)
-  by_letter : {byte letter : ℕ} {text bytes : Bytes} → letter_of byte ≡ Some letter → StandsFor text bytes
+  by_letter : (byte letter : ℕ) (text bytes : Bytes) → letter_of byte ≡ Some letter → StandsFor text bytes
       → StandsFor (92 ∷ (letter ∷ text)) (byte ∷ bytes)
-  by_digits : {a b c : ℕ} {text bytes : Bytes} → a < 4 → b < 8 → c < 8 → StandsFor text bytes
+  by_digits : (a b c : ℕ) (text bytes : Bytes) → a < 4 → b < 8 → c < 8 → StandsFor text bytes
       → StandsFor (92 ∷ ((48 + a) ∷ ((48 + b) ∷ ((48 + c) ∷ text)))) ((a * 64 + (b * 8 + c)) ∷ bytes)
 
 -- a quoted text, with its quotes, stands for some bytes

@@ -1,7 +1,6 @@
 -- Which settings of a walk the options ask for, option by option.
 use Rattle.std.specs.Prelude.{ℕ, not, ◌&&◌, List, [], ◌++◌, if◌then◌else◌}
 use Rattle.ignore_base.specs.Text.{Bytes}
-use Rattle.ignore_dir.specs.declared.settings.Settings.{Settings}
 use Rattle.ignore.specs.Builder.{unset}
 use Rattle.ignore.specs.Depths.{lowered, raised}
 use Rattle.ignore.specs.declared.options.WalkOptions.{WalkOptions}

@@ -26,19 +26,35 @@ pub enum Given {
 pub fn given_by(record: Vec<u8>, number: u64, has_nul: bool) -> Result<Given, AllocError>
     ensures given { IfOk result (Gives (is_opened has_nul record.items) record.items number) }
 {
-    if has_nul || record.first() != Some(&b'"') {
+    if !is_opened(has_nul, record.as_slice()) {
         return Ok(text_of(record, number));
     }
     let alloc = *record.allocator();
-    match unquoted(alloc, record.as_slice())? {
-        Some(bytes) => Ok(text_of(bytes, number)),
-        None => Ok(Given::BadlyQuoted(number)),
+    let quoted = record.as_slice();
+    let found = unquoted(alloc, quoted)?;
+    let Some(bytes) = found else {
+        return Ok(Given::BadlyQuoted(number));
+    };
+    let given = text_of(bytes, number);
+    Ok(given)
+}
+
+/// Whether a record is unquoted: it begins with a quote, and records don't end in NUL.
+fn is_opened(has_nul: bool, record: &[u8]) -> bool
+    ensures { result ≡ is_opened has_nul record.now }
+{
+    if has_nul {
+        return false;
     }
+    let Some((byte, _)) = record.split_first() else {
+        return false;
+    };
+    *byte == b'"'
 }
 
 /// The path of these bytes.
 fn text_of(bytes: Vec<u8>, number: u64) -> Given
-    ensures given { IsText bytes.items number result }
+    ensures { IsText bytes.items number result }
 {
     match String::from_utf8(bytes) {
         Ok(text) => Given::Path(Name::new(text)),

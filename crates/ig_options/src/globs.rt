@@ -20,9 +20,9 @@ pub fn globs_of(alloc: Global, options: &Options, dir: &str) -> Result<Override,
 {
     let mut builder = OverrideBuilder::new(alloc, dir)?;
     push_globs(&mut builder, &options.globs)?;
-    builder.case_insensitive(true)?;
-    push_globs(&mut builder, &options.iglobs)?;
-    builder.build()
+    let both = builder.case_insensitive(true)?;
+    push_globs(both, &options.iglobs)?;
+    both.build()
 }
 
 /// Adds globs in turn, up to one that isn't valid.

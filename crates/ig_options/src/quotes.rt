@@ -1,7 +1,8 @@
 //! Quotes of paths, as git writes them: a byte as its letter or as three octal digits after a
 //! backslash.
-ghost use Rattle.std.specs.Prelude.{◌≡◌, ¬, IfOk, List, ℕ, MatchOption, true};
+ghost use Rattle.std.specs.Prelude.{◌≡◌, ◌≢◌, ◌<◌, ◌+◌, IfOk, List, [], ◌∷◌, ℕ, MatchBool, MatchOption};
 ghost use Rattle.ig_options.specs.Quotes.{IsQuoteOf, is_quoted, letter_of};
+ghost use Rattle.ig_options.specs.QuoteSteps.{Closes, IsEscaped, IsFirst, IsOctal, IsValue, NoEscaped, NoFirst, NoOctal, NoValue, byte_of};
 
 use std::alloc::{AllocError, Global};
 
@@ -32,7 +33,9 @@ pub fn is_quoted(byte: u8) -> bool
 }
 
 /// The byte for which a letter stands after a backslash.
-fn meaning_of(letter: u8) -> Option<u8> {
+fn meaning_of(letter: u8) -> Option<u8>
+    ensures { result ≡ byte_of letter }
+{
     match letter {
         b'a' => Some(7),
         b'b' => Some(8),
@@ -47,41 +50,107 @@ fn meaning_of(letter: u8) -> Option<u8> {
     }
 }
 
-/// Whether three bytes are octal digits of a byte.
-fn are_octal(first: u8, second: u8, third: u8) -> bool {
-    (b'0'..=b'3').contains(&first)
-        && (b'0'..=b'7').contains(&second)
-        && (b'0'..=b'7').contains(&third)
+/// The value of an octal digit.
+fn digit_of(byte: u8) -> Option<u8>
+    ensures { MatchOption result ((d : ℕ) → d < 8 → byte ≢ 48 + d) (λ d. (d < 8) × (byte ≡ 48 + d)) }
+{
+    if byte < b'0' {
+        return None;
+    }
+    if byte > b'7' {
+        return None;
+    }
+    Some(byte - b'0')
+}
+
+/// The byte of three octal digits.
+fn octal_value(first: u8, second: u8, third: u8) -> Option<u8>
+    ensures { MatchOption result (NoValue first second third) (IsValue first second third) }
+{
+    let a = digit_of(first)?;
+    let b = digit_of(second)?;
+    let c = digit_of(third)?;
+    if a > 3 {
+        return None;
+    }
+    Some(a * 64 + (b * 8 + c))
+}
+
+/// The byte of the three octal digits that a text begins with, and what follows them.
+fn octal_of(text: &[u8]) -> Option<(u8, &[u8])>
+    ensures { MatchOption result (NoOctal text.now) (λ p. IsOctal text.now p.0 p.1.now) }
+{
+    let (first, rest) = text.split_first()?;
+    let (second, rest) = rest.split_first()?;
+    let (third, rest) = rest.split_first()?;
+    let byte = octal_value(*first, *second, *third)?;
+    Some((byte, rest))
+}
+
+/// The byte for which a text stands that follows a backslash, and what follows that.
+fn escaped_of(text: &[u8]) -> Option<(u8, &[u8])>
+    ensures { MatchOption result (NoEscaped text.now) (λ p. IsEscaped text.now p.0 p.1.now) }
+{
+    let (letter, rest) = text.split_first()?;
+    if let Some(byte) = meaning_of(*letter) {
+        return Some((byte, rest));
+    }
+    octal_of(text)
 }
 
 /// The first byte that a quoted text stands for, and what follows it. None at a quote, at the end,
 /// and at a backslash before anything else.
-fn first_of(text: &[u8]) -> Option<(u8, &[u8])> {
-    match text {
-        [] | [b'"', ..] | [b'\\'] => None,
-        [b'\\', a, b, c, rest @ ..] if are_octal(*a, *b, *c) => {
-            Some(((*a - b'0') * 64 + (*b - b'0') * 8 + (*c - b'0'), rest))
-        }
-        [b'\\', letter, rest @ ..] => Some((meaning_of(*letter)?, rest)),
-        [byte, rest @ ..] => Some((*byte, rest)),
+fn first_of(text: &[u8]) -> Option<(u8, &[u8])>
+    ensures { MatchOption result (NoFirst text.now) (λ p. IsFirst text.now p.0 p.1.now) }
+{
+    let (byte, rest) = text.split_first()?;
+    if *byte == b'"' {
+        return None;
     }
+    if *byte == b'\\' {
+        return escaped_of(rest);
+    }
+    Some((*byte, rest))
 }
 
-/// The bytes of a text between quotes. None where it isn't one.
-pub(crate) fn unquoted(alloc: Global, text: &[u8]) -> Result<Option<Vec<u8>>, AllocError>
-    ensures value { IfOk result (λ r. MatchOption r ((bytes : List ℕ) → ¬ IsQuoteOf text.now bytes) (λ bytes. IsQuoteOf text.now bytes.items)) }
+/// Whether a text is one quote.
+fn is_quote(text: &[u8]) -> bool
+    ensures { MatchBool result (text.now ≡ 34 ∷ []) (text.now ≢ 34 ∷ []) }
 {
-    let Some((b'"', mut rest)) = text.split_first() else {
-        return Ok(None);
+    let Some((byte, rest)) = text.split_first() else {
+        return false;
     };
+    if *byte != b'"' {
+        return false;
+    }
+    rest.is_empty()
+}
+
+/// The bytes for which a text stands that ends in a closing quote. None where it isn't one.
+fn closed(alloc: Global, text: &[u8]) -> Result<Option<Vec<u8>>, AllocError>
+    ensures { IfOk result (λ r. MatchOption r ((bytes : List ℕ) → ¬ Closes text.now bytes) (λ bytes. Closes text.now bytes.items)) }
+{
+    let mut rest = text;
     let mut bytes = Vec::new(alloc);
     while let Some((byte, after)) = first_of(rest) {
         bytes.push(byte)?;
         rest = after;
     }
-    if let [b'"'] = rest {
-        Ok(Some(bytes))
-    } else {
-        Ok(None)
+    if is_quote(rest) {
+        return Ok(Some(bytes));
     }
+    Ok(None)
+}
+
+/// The bytes of a text between quotes. None where it isn't one.
+pub(crate) fn unquoted(alloc: Global, text: &[u8]) -> Result<Option<Vec<u8>>, AllocError>
+    ensures { IfOk result (λ r. MatchOption r ((bytes : List ℕ) → ¬ IsQuoteOf text.now bytes) (λ bytes. IsQuoteOf text.now bytes.items)) }
+{
+    let Some((first, rest)) = text.split_first() else {
+        return Ok(None);
+    };
+    if *first != b'"' {
+        return Ok(None);
+    }
+    closed(alloc, rest)
 }

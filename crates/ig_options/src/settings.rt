@@ -1,12 +1,12 @@
 //! The settings of a walk, option by option.
-ghost use Rattle.std.specs.Prelude.{◌≡◌, IfOk, IfErr, OnOk};
+ghost use Rattle.std.specs.Prelude.{◌≡◌, ◌&&◌, [], IfOk, IfErr, OnOk, not, if◌then◌else◌};
 ghost use Rattle.ignore_base.specs.Problem.{problem_of, memory};
-ghost use Rattle.ignore.specs.Builder.{unset};
 ghost use Rattle.ig_options.specs.Settings.{with_files, with_filters, with_limits, with_names, walk_options};
 
 use crate::options::Options;
 use ignore::WalkOptions;
 use ignore_base::Error;
+use ignore_dir::Names;
 use std::alloc::Global;
 
 /// How many steps a walk may take, so that one of links without end has an end.
@@ -24,9 +24,7 @@ pub fn walk_options(alloc: Global, options: &Options) -> Result<WalkOptions, Err
     set_filters(&mut walk, options);
     set_files(&mut walk, options);
     set_limits(&mut walk, options);
-    if !options.no_ignore {
-        push_names(&mut walk, options)?;
-    }
+    set_names(&mut walk, options)?;
     Ok(walk)
 }
 
@@ -35,13 +33,20 @@ fn set_filters(walk: &mut WalkOptions, options: &Options)
     ensures { walk.new ≡ with_filters options.now walk.old }
 {
     let all = !options.no_ignore;
-    let vcs = all && !options.no_ignore_vcs;
+    let vcs = still(all, options.no_ignore_vcs);
     walk.hidden(!options.hidden);
-    walk.parents(all && !options.no_ignore_parent);
-    walk.ignore(all && !options.no_ignore_dot);
+    walk.parents(still(all, options.no_ignore_parent));
+    walk.ignore(still(all, options.no_ignore_dot));
     walk.git_ignore(vcs);
-    walk.git_global(vcs && !options.no_ignore_global);
-    walk.git_exclude(vcs && !options.no_ignore_exclude);
+    walk.git_global(still(vcs, options.no_ignore_global));
+    walk.git_exclude(still(vcs, options.no_ignore_exclude));
+}
+
+/// Whether something counts that an option may take out.
+fn still(counts: bool, taken_out: bool) -> bool
+    ensures { result ≡ (counts && not taken_out) }
+{
+    counts && !taken_out
 }
 
 /// How files of rules are read.
@@ -65,12 +70,24 @@ fn set_limits(walk: &mut WalkOptions, options: &Options)
     walk.limit(MOST_STEPS);
 }
 
-/// Adds the names of further files of rules.
-fn push_names(walk: &mut WalkOptions, options: &Options) -> Result<(), Error>
-    ensures added { OnOk result (walk.new ≡ with_names options.now.ignore_names walk.old) }
+/// Which names further files of rules have: none where no file counts.
+fn set_names(walk: &mut WalkOptions, options: &Options) -> Result<(), Error>
+    ensures added { OnOk result (walk.new
+        ≡ with_names (if options.now.no_ignore then [] else options.now.ignore_names) walk.old) }
     ensures out_of_memory { IfErr result (λ e. problem_of e ≡ memory) }
 {
-    for name in options.ignore_names.as_slice() {
+    if options.no_ignore {
+        return Ok(());
+    }
+    push_names(walk, &options.ignore_names)
+}
+
+/// Adds the names of further files of rules.
+fn push_names(walk: &mut WalkOptions, names: &Names) -> Result<(), Error>
+    ensures added { OnOk result (walk.new ≡ with_names names.now walk.old) }
+    ensures out_of_memory { IfErr result (λ e. problem_of e ≡ memory) }
+{
+    for name in names.as_slice() {
         walk.push_custom_ignore_filename(name.as_str())?;
     }
     Ok(())

@@ -28,6 +28,9 @@ pub enum Task {
 /// The id of the roots, and of the paths of `why`.
 const ROOTS: &str = "root";
 
+/// The id of the size above which a file is ignored.
+const SIZE_LIMIT: &str = "max-filesize";
+
 /// How the commands are used.
 const USAGE: &str = "\
 ig [ls] [OPTIONS] [ROOT]...
@@ -71,20 +74,40 @@ pub fn read_words(alloc: Global, words: &[String]) -> Result<(Task, Options), Er
     let (task, rest) = task_of(words);
     let mut command = command_of(alloc, task)?;
     let matches = command.try_get_matches_from_mut(rest)?;
-    let mut options = read_options(alloc, &matches)?;
-    if let Some(text) = matches.get_str("max-filesize") {
+    let options = options_of(alloc, task, &matches)?;
+    match wrong_of(task, &options, &matches) {
+        Some((kind, text)) => Err(command.error(kind, text)?),
+        None => Ok((task, options)),
+    }
+}
+
+/// The options of a command that the parser found, with the size and the paths that it leaves as
+/// texts.
+fn options_of(alloc: Global, task: Task, matches: &ArgMatches<'_>) -> Result<Options, AllocError> {
+    let mut options = read_options(alloc, matches)?;
+    if let Some(text) = matches.get_str(SIZE_LIMIT) {
         options.max_filesize = size_of(text);
-        if options.max_filesize.is_none() {
-            return Err(command.error(ErrorKind::ValueValidation, WRONG_SIZE)?);
-        }
     }
     if task == Task::Why {
         options.paths = given_words(alloc, matches.get_strs(ROOTS).unwrap_or(&[]))?;
-        if let Some(text) = wrong_paths(&options) {
-            return Err(command.error(ErrorKind::ArgumentConflict, text)?);
-        }
     }
-    Ok((task, options))
+    Ok(options)
+}
+
+/// What is wrong with options that the parser accepts, and of which kind that is.
+fn wrong_of(
+    task: Task,
+    options: &Options,
+    matches: &ArgMatches<'_>,
+) -> Option<(ErrorKind, &'static str)> {
+    if matches.get_str(SIZE_LIMIT).is_some() && options.max_filesize.is_none() {
+        return Some((ErrorKind::ValueValidation, WRONG_SIZE));
+    }
+    if task == Task::Why {
+        let text = wrong_paths(options)?;
+        return Some((ErrorKind::ArgumentConflict, text));
+    }
+    None
 }
 
 /// What is wrong with the paths of `why`: they are either words or those of standard input.

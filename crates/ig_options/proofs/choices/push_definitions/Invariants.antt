@@ -7,7 +7,7 @@ use Rattle.ig_options.proofs.choices.push_definitions.Given as goal
 -- what is left of the definitions leads where all of them do
 abbrev pub invariant-loop-definition : goal.invariant-loop-definition
 invariant-loop-definition l = record {
-  adds : (new : Draft) → AddsTypes (drop l.definition-index l.definitions) l.builder new → AddsTypes l.definitions l.fn.builder new;
-  refuses : (problem : Problem) → RefusesDefinitions (drop l.definition-index l.definitions) l.builder problem
+  adds : (new : Draft) → AddsTypes (drop l.definition-index l.definition-items) l.builder new → AddsTypes l.definitions l.fn.builder new;
+  refuses : (problem : Problem) → RefusesDefinitions (drop l.definition-index l.definition-items) l.builder problem
       → RefusesDefinitions l.definitions l.fn.builder problem;
 }

@@ -10,5 +10,5 @@ use Rattle.ig_options.proofs.files.add_files.Given as goal
 abbrev pub invariant-loop-path : goal.invariant-loop-path
 invariant-loop-path g l =
     (tree : Tree) (new : WalkOptions) (rest : List (Option Problem)) → IsHonest g.F.Files l.files tree
-    → AddsFiles tree l.env (drop l.path-index l.options.ignore_files) l.walk new rest
+    → AddsFiles tree l.env (drop l.path-index l.path-items) l.walk new rest
     → AddsFiles tree l.env l.options.ignore_files l.fn.walk new (map (option_map problem_of) l.errors.items ++ rest)
