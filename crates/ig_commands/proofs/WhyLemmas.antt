@@ -57,7 +57,7 @@ first_of tree env b m all first rest said last w empty is right =
       old = m.cache;
       fresh = empty;
       new = last;
-      said = λ loads are. subst (λ (t : Settings × Outside × List ℕ × Option (List ℕ)).
+      says = λ loads are. subst (λ (t : Settings × Outside × List ℕ × Option (List ℕ)).
           AreSaid (scene tree loads t.0 t.1 t.2) t.3 first m.cache last said) asked
           (right loads (subst (λ (s : Settings). AreLoads tree s loads)
           (sym (ap (λ (t : Settings × Outside × List ℕ × Option (List ℕ)). t.0) w.4)) are));

@@ -1,6 +1,5 @@
 -- What a run of the program does.
-use denote.Bor.{Bor}
-use Rattle.std.specs.Prelude.{◌≡◌, ◌⊎◌, ⊤, ℕ, true, List, [], ◌++◌, map, Option, IfSome}
+use Rattle.std.specs.Prelude.{◌≡◌, ◌⊎◌, ⊤, ℕ, true, List, [], ◌++◌, Option, IfSome}
 use Rattle.std.specs.Io.KnownBytes.{Appends, Keeps}
 use Rattle.ignore_base.specs.Text.{Bytes}
 use Rattle.ignore_files.specs.declared.env.Env.{Env}
@@ -71,10 +70,6 @@ EndsBefore out err stop = EndsAfter [] [] out err stop ⊎ ((stop ≡ Read) × (
 abbrev pub EndsRead : Unread → Type 0
 EndsRead (unread.Words error) = ⊤
 EndsRead (unread.Input stop is_timed) = (stop ≡ Read) ⊎ (stop ≡ Memory)
-
--- the texts of a table of default types
-abbrev pub rows_of : List (Bor (List (Bor Bytes)) × Bor (List (Bor Bytes))) → List Row
-rows_of table = map (λ r. (map (λ n. n.now) r.0.now, map (λ g. g.now) r.1.now)) table
 
 -- the file types of a table of default types, and no choices
 abbrev pub types_at_first : List Row → Draft

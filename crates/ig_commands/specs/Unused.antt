@@ -95,7 +95,7 @@ pub record AreUnused (at : Path → QueryScene) (all : List OfRoot) (unused : Li
 abbrev pub AreUnusedIn : Tree → Env → Options → WalkOptions → List OfRoot → List FileRule → Type 0
 AreUnusedIn tree env o b all unused =
     (outside : Outside) × GoesBy tree env o b (map (λ r. r.0) all) outside
-    × ((loads : Path → Loaded) → AreLoads tree b.settings loads → let at = λ root. scene tree loads b.settings outside root in
+    × ((loads : Path → Loaded) → AreLoads tree b.settings loads → let at = λ (root : Path). scene tree loads b.settings outside root in
     All (λ r. IsWhole (at r.0) r.1) all × (All (λ r. HasList (at r.0)) all → AreUnused at all unused))
 
 -- what is written of a rule

@@ -155,7 +155,7 @@ pub record AreFirst (tree : Tree) (env : Env) (b : WalkOptions) (all : List Give
   pub old : Cache
   pub fresh : KeepsNothing old
   pub new : Cache
-  pub said : (loads : Path → Loaded) → AreLoads tree b.settings loads
+  pub says : (loads : Path → Loaded) → AreLoads tree b.settings loads
       → AreSaid (scene tree loads b.settings outside root) env.current_dir first old new said
 
 -- the same of all that is given
