@@ -1,5 +1,5 @@
 -- The folder of a folder is shorter, and has the nearest mark where the folder has none.
-use Rattle.std.proofs.Common.{◌≡◌, ◌<◌, ◌&&◌, ℕ, Bool, true, false, cond, eqb, eqb-true, List, [], ◌∷◌, ◌++◌, length, refl, sym, ap, subst, arith}
+use Rattle.std.proofs.Common.{◌≡◌, ◌≢◌, ◌∙◌, ◌<◌, ◌&&◌, ℕ, Bool, true, false, cond, eqb, eqb-true, List, [], ◌∷◌, ◌++◌, length, refl, sym, ap, subst, arith}
 use Rattle.std.proofs.lemmas.Bool.{and_parts, both_ways}
 use Rattle.std.proofs.lemmas.List.{length-append}
 use Rattle.std.proofs.lemmas.Slice.Eq.{bytes_eq-Decides}
@@ -52,3 +52,16 @@ by_root dir false some e = folder_shorter dir some e
 
 pub parent_shorter : (dir : List ℕ) → 0 < length dir → length (parent_of dir) < length dir
 parent_shorter dir some = by_root dir (bytes_eq dir (codes "/")) some refl
+
+-- a text that is empty, and one that isn't
+pub not_empty : (text : List ℕ) (b : Bool) → b ≡ eqb (length text) 0 → b ≡ false → text ≢ []
+not_empty [] b is h = λ e. cc (sym is ∙ h)
+not_empty (x ∷ xs) b is h = λ e. cc e
+
+pub some_left : (text : List ℕ) (b : Bool) → b ≡ eqb (length text) 0 → b ≡ false → 0 < length text
+some_left [] b is h = cc (sym is ∙ h)
+some_left (x ∷ xs) b is h = omega arith
+
+pub empty : (text : List ℕ) (b : Bool) → b ≡ eqb (length text) 0 → b ≡ true → text ≡ []
+empty [] b is h = refl
+empty (x ∷ xs) b is h = absurd (omega (arith, eqb-true (length (x ∷ xs)) 0 (sym is ∙ h)))
