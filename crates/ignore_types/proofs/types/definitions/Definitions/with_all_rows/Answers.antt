@@ -21,13 +21,16 @@ whole : (ds : List Definition) → with_rows (first_rows ++ (second_rows ++ (thi
 unfolding all_default_rows
 whole ds = refl
 
+step : (f g : List Row) (old new : List Definition) → new ≡ with_rows g old → g ≡ f → new ≡ with_rows f old
+step f g old new e h = e ∙ ap (λ rows. with_rows rows old) h
+
 pub returns : goal.returns
 returns c =
     let start = c.args.self.now in
     five first_rows second_rows third_rows fourth_rows fifth_rows start _ _ _ _ _
-    (c.in_ok-add_rows.ensures ∙ (ap (λ r. with_rows r _) c.first_rows.ensures ∙ ap (with_rows first_rows) c.in_ok-definitions.ensures))
-    (c.in_ok-add_rows-2.ensures ∙ ap (λ r. with_rows r _) c.second_rows.ensures)
-    (c.in_ok-add_rows-3.ensures ∙ ap (λ r. with_rows r _) c.third_rows.ensures)
-    (c.in_ok-add_rows-4.ensures ∙ ap (λ r. with_rows r _) c.fourth_rows.ensures)
-    (c.in_ok-add_rows-5.ensures ∙ ap (λ r. with_rows r _) c.fifth_rows.ensures)
+    (step first_rows _ _ _ c.in_ok-add_rows.ensures c.first_rows.ensures ∙ ap (with_rows first_rows) c.in_ok-definitions.ensures)
+    (step second_rows _ _ _ c.in_ok-add_rows-2.ensures c.second_rows.ensures)
+    (step third_rows _ _ _ c.in_ok-add_rows-3.ensures c.third_rows.ensures)
+    (step fourth_rows _ _ _ c.in_ok-add_rows-4.ensures c.fourth_rows.ensures)
+    (step fifth_rows _ _ _ c.in_ok-add_rows-5.ensures c.fifth_rows.ensures)
     ∙ whole start
