@@ -2,7 +2,7 @@
 ghost use Rattle.std.specs.Prelude.{◌≡◌, List, ℕ, length, map, string_bytes};
 ghost use Rattle.ignore_kept.specs.Kinds.{setup_in};
 ghost use Rattle.ignore_kept.specs.Rooms.{put_in};
-ghost use Rattle.ignore_kept.specs.Wishes.{Adds, TellsOf, Wished};
+ghost use Rattle.ignore_kept.specs.Wishes.{Adds, DefaultsAdded, TellsOf, Wished};
 ghost use Rattle.ignore_kept.specs.declared.wish.Wish.TheVariants as wish;
 
 use crate::handle::{Handle, close, give_back, lend, open};
@@ -14,7 +14,7 @@ use ignore_kept::room::put;
 use ignore_kept::wish::{self, Wish};
 
 fn told(builder: Handle, wish: Wish<'_>) -> (Handle, u32)
-    ensures { Wished (map (λ r. (map (λ n. n.now) r.0.now, map (λ g. g.now) r.1.now)) DEFAULT_TYPES) wish.entry builder.value result.1 result.0.value }
+    ensures { Wished wish.entry builder.value result.1 result.0.value }
 {
     let mut kept = open(builder);
     let alloc = *Box::allocator(&kept);
@@ -29,7 +29,7 @@ pub extern "C" fn ignore_builder_overrides(
     root: &[u8],
     both_cases: bool,
 ) -> u32
-    ensures { Wished (map (λ r. (map (λ n. n.now) r.0.now, map (λ g. g.now) r.1.now)) DEFAULT_TYPES) (wish.Overrides root.entry both_cases) builder.old.value result builder.new.value }
+    ensures { Wished (wish.Overrides root.entry both_cases) builder.old.value result builder.new.value }
 {
     mem::replace_with(builder, Wish::Overrides(root, both_cases), told)
 }
@@ -37,7 +37,7 @@ pub extern "C" fn ignore_builder_overrides(
 /// Adds a glob of the command line.
 #[unsafe(no_mangle)]
 pub extern "C" fn ignore_builder_add_override(builder: &mut Handle, glob: &[u8]) -> u32
-    ensures { Wished (map (λ r. (map (λ n. n.now) r.0.now, map (λ g. g.now) r.1.now)) DEFAULT_TYPES) (wish.Glob glob.entry) builder.old.value result builder.new.value }
+    ensures { Wished (wish.Glob glob.entry) builder.old.value result builder.new.value }
 {
     mem::replace_with(builder, Wish::Glob(glob), told)
 }
@@ -45,7 +45,7 @@ pub extern "C" fn ignore_builder_add_override(builder: &mut Handle, glob: &[u8])
 /// Has the globs of the command line count.
 #[unsafe(no_mangle)]
 pub extern "C" fn ignore_builder_set_overrides(builder: &mut Handle) -> u32
-    ensures { Wished (map (λ r. (map (λ n. n.now) r.0.now, map (λ g. g.now) r.1.now)) DEFAULT_TYPES) (wish.SetOverrides) builder.old.value result builder.new.value }
+    ensures { Wished wish.SetOverrides builder.old.value result builder.new.value }
 {
     mem::replace_with(builder, Wish::SetOverrides, told)
 }
@@ -53,7 +53,7 @@ pub extern "C" fn ignore_builder_set_overrides(builder: &mut Handle) -> u32
 /// Adds a glob to a file type.
 #[unsafe(no_mangle)]
 pub extern "C" fn ignore_builder_type_add(builder: &mut Handle, name: &[u8], glob: &[u8]) -> u32
-    ensures { Wished (map (λ r. (map (λ n. n.now) r.0.now, map (λ g. g.now) r.1.now)) DEFAULT_TYPES) (wish.TypeGlob name.entry glob.entry) builder.old.value result builder.new.value }
+    ensures { Wished (wish.TypeGlob name.entry glob.entry) builder.old.value result builder.new.value }
 {
     mem::replace_with(builder, Wish::TypeGlob(name, glob), told)
 }
@@ -61,7 +61,7 @@ pub extern "C" fn ignore_builder_type_add(builder: &mut Handle, name: &[u8], glo
 /// Adds a definition of a file type.
 #[unsafe(no_mangle)]
 pub extern "C" fn ignore_builder_type_add_def(builder: &mut Handle, text: &[u8]) -> u32
-    ensures { Wished (map (λ r. (map (λ n. n.now) r.0.now, map (λ g. g.now) r.1.now)) DEFAULT_TYPES) (wish.TypeDef text.entry) builder.old.value result builder.new.value }
+    ensures { Wished (wish.TypeDef text.entry) builder.old.value result builder.new.value }
 {
     mem::replace_with(builder, Wish::TypeDef(text), told)
 }
@@ -69,7 +69,7 @@ pub extern "C" fn ignore_builder_type_add_def(builder: &mut Handle, text: &[u8])
 /// Chooses a file type.
 #[unsafe(no_mangle)]
 pub extern "C" fn ignore_builder_type_select(builder: &mut Handle, name: &[u8]) -> u32
-    ensures { Wished (map (λ r. (map (λ n. n.now) r.0.now, map (λ g. g.now) r.1.now)) DEFAULT_TYPES) (wish.Select name.entry) builder.old.value result builder.new.value }
+    ensures { Wished (wish.Select name.entry) builder.old.value result builder.new.value }
 {
     mem::replace_with(builder, Wish::Select(name), told)
 }
@@ -77,7 +77,7 @@ pub extern "C" fn ignore_builder_type_select(builder: &mut Handle, name: &[u8]) 
 /// Chooses a file type to be ignored.
 #[unsafe(no_mangle)]
 pub extern "C" fn ignore_builder_type_negate(builder: &mut Handle, name: &[u8]) -> u32
-    ensures { Wished (map (λ r. (map (λ n. n.now) r.0.now, map (λ g. g.now) r.1.now)) DEFAULT_TYPES) (wish.Negate name.entry) builder.old.value result builder.new.value }
+    ensures { Wished (wish.Negate name.entry) builder.old.value result builder.new.value }
 {
     mem::replace_with(builder, Wish::Negate(name), told)
 }
@@ -85,7 +85,7 @@ pub extern "C" fn ignore_builder_type_negate(builder: &mut Handle, name: &[u8]) 
 /// Removes a file type.
 #[unsafe(no_mangle)]
 pub extern "C" fn ignore_builder_type_clear(builder: &mut Handle, name: &[u8]) -> u32
-    ensures { Wished (map (λ r. (map (λ n. n.now) r.0.now, map (λ g. g.now) r.1.now)) DEFAULT_TYPES) (wish.Clear name.entry) builder.old.value result builder.new.value }
+    ensures { Wished (wish.Clear name.entry) builder.old.value result builder.new.value }
 {
     mem::replace_with(builder, Wish::Clear(name), told)
 }
@@ -93,15 +93,23 @@ pub extern "C" fn ignore_builder_type_clear(builder: &mut Handle, name: &[u8]) -
 /// Adds the file types that are there by default.
 #[unsafe(no_mangle)]
 pub extern "C" fn ignore_builder_type_add_defaults(builder: &mut Handle) -> u32
-    ensures { Wished (map (λ r. (map (λ n. n.now) r.0.now, map (λ g. g.now) r.1.now)) DEFAULT_TYPES) (wish.Defaults) builder.old.value result builder.new.value }
+    ensures { DefaultsAdded (map (λ r. (map (λ n. n.now) r.0.now, map (λ g. g.now) r.1.now)) DEFAULT_TYPES) builder.old.value result builder.new.value }
 {
-    mem::replace_with(builder, Wish::Defaults, told)
+    mem::replace_with(builder, (), |builder, ()| defaults_added(builder))
+}
+
+fn defaults_added(builder: Handle) -> (Handle, u32)
+    ensures { DefaultsAdded (map (λ r. (map (λ n. n.now) r.0.now, map (λ g. g.now) r.1.now)) DEFAULT_TYPES) builder.value result.1 result.0.value }
+{
+    let mut kept = open(builder);
+    let code = done(wish::add_defaults(&mut kept));
+    (close(kept), code)
 }
 
 /// Has the chosen file types count.
 #[unsafe(no_mangle)]
 pub extern "C" fn ignore_builder_set_types(builder: &mut Handle) -> u32
-    ensures { Wished (map (λ r. (map (λ n. n.now) r.0.now, map (λ g. g.now) r.1.now)) DEFAULT_TYPES) (wish.SetTypes) builder.old.value result builder.new.value }
+    ensures { Wished wish.SetTypes builder.old.value result builder.new.value }
 {
     mem::replace_with(builder, Wish::SetTypes, told)
 }

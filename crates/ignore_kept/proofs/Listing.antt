@@ -8,6 +8,7 @@ use Rattle.std.specs.declared.cmp.Ordering.TheVariants.{Equal}
 use denote.Bor.{Bor}
 use Rattle.ignore.specs.Closures.{Compares, Filters, order_of}
 use Rattle.ignore.specs.Headline.{IsAboveLimit, IsListIn, IsSceneOf}
+use Rattle.ignore.specs.ItsList.{InItsScenes}
 use Rattle.ignore.specs.WalkWords.{Entry, Item, IsOutside, Outside, Scene, Whole, item_of}
 use Rattle.ignore.specs.FileWords.{Tree as Files}
 use Rattle.ignore.specs.declared.options.WalkOptions.{WalkOptions}
@@ -69,15 +70,26 @@ bare_scene calls owner b t o g bare p =
       sorted = (λ a b. Equal, bare.ties, record { one_way = λ x y is. refl; chain = λ x y z a b. refl }, p.order);
     }
 
+-- the list of the definition is there, by an owner
+abbrev IsThere : {S : Type 0} → Callbacks S → S → Memory → Env → WalkOptions → Order → List Item → Type 0
+IsThere calls owner tree env b order all =
+    InItsScenes (IsSceneOf calls owner b order (tree_of tree)) env b (tree_of tree) (λ g. (n : ℕ) × (n ≤ b.limit) × Whole g b.roots all n)
+
 -- the list by such an owner is the list of the definition
 pub listed : {S : Type 0} (calls : Callbacks S) (owner : S) (tree : Memory) (env : Env) (taken b : WalkOptions) (order : Order)
     (all : List Item) → taken ≡ b → order ≡ Listed → IsBare calls owner
-    → IsListIn calls owner env taken order (tree_of tree) all → IsListOf tree env b (Ok all)
-listed calls owner tree env taken b order all same plain bare h =
+    → IsListIn calls owner env taken order (tree_of tree) all → IsThere calls owner tree env taken order all
+    → IsListOf tree env b (Ok all)
+listed calls owner tree env taken b order all same plain bare h there =
     let l : IsListIn calls owner env b Listed (tree_of tree) all =
     subst (λ (o : WalkOptions). IsListIn calls owner env o Listed (tree_of tree) all) same
     (subst (λ (o : Order). IsListIn calls owner env taken o (tree_of tree) all) plain h) in
-    (l.0, l.1, λ g items n is whole. l.2 g items n (bare_scene calls owner b (tree_of tree) l.0 g bare is) whole)
+    let t : IsThere calls owner tree env b Listed all =
+    subst (λ (o : WalkOptions). IsThere calls owner tree env o Listed all) same
+    (subst (λ (o : Order). IsThere calls owner tree env taken o all) plain there) in (
+      (t.0, t.1, λ g is. t.2 g (bare_scene calls owner b (tree_of tree) t.0 g bare is)),
+      (l.0, l.1, λ g items n is whole. l.2 g items n (bare_scene calls owner b (tree_of tree) l.0 g bare is) whole),
+    )
 
 -- why there is no list by such an owner
 pub unlisted : {F S : Type 0} (files : FileCalls F) (calls : Callbacks S) (f : F) (owner : S) (tree : Memory) (env : Env)

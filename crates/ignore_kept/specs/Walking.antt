@@ -1,6 +1,7 @@
 -- Walks over a tree that C tells.
 use Rattle.std.specs.Prelude.{◌≡◌, ◌≢◌, ◌⊎◌, ◌≤◌, ◌<◌, ◌+◌, ℕ, Bool, true, false, List, [], ◌++◌, Option, Some, None, Result, Ok, Err, length, map, slice_get, if◌then◌else◌}
-use Rattle.ignore.specs.WalkWords.{AreLoads, Entry, Item, IsOutside, Outside, Scene, Whole, item_of}
+use Rattle.ignore.specs.ItsList.{ForItsList, InItsScenes}
+use Rattle.ignore.specs.WalkWords.{AreLoads, Entry, Item, Outside, Scene, Whole, item_of}
 use Rattle.ignore.specs.FileWords.{Tree as Files}
 use Rattle.ignore.specs.declared.options.WalkOptions.{WalkOptions}
 use Rattle.ignore_base.specs.Errors.{problem_text}
@@ -37,18 +38,14 @@ pub record IsPlain (b : WalkOptions) (t : Files) (o : Outside) (g : Scene) : Typ
   pub filter : (e : Entry) → g.keep e ≡ true
   pub order : g.order ≡ None
 
--- P holds of the list of the definition, and of its steps, in each scene of a walk of options in a
--- tree, by the rules from outside as they were read
-abbrev pub InWalk : Memory → Env → WalkOptions → (List Item → ℕ → Type 0) → Type 0
-InWalk tree env b P =
-    (o : Outside) × IsOutside (tree_of tree) env b o
-    × ((g : Scene) (items : List Item) (n : ℕ) → IsPlain b (tree_of tree) o g → Whole g b.roots items n → P items n)
-
--- the items are the list of the definition; or the limit of steps is too low for it; or memory ran
--- out
+-- the items are the list of the definition, which is there in each scene of a walk of options in a
+-- tree, by the rules from outside as they were read, and no others are; or the limit of steps is too
+-- low for it; or memory ran out
 abbrev pub IsListOf : Memory → Env → WalkOptions → Result (List Item) Stopped → Type 0
-IsListOf tree env b (Ok all) = InWalk tree env b (λ items n. (all ≡ items) × (n ≤ b.limit))
-IsListOf tree env b (Err Limit) = InWalk tree env b (λ items n. b.limit < n)
+IsListOf tree env b (Ok all) =
+    InItsScenes (IsPlain b (tree_of tree)) env b (tree_of tree) (λ g. (n : ℕ) × (n ≤ b.limit) × Whole g b.roots all n)
+    × ForItsList (IsPlain b (tree_of tree)) env b (tree_of tree) (λ g items n. (all ≡ items) × (n ≤ b.limit))
+IsListOf tree env b (Err Limit) = ForItsList (IsPlain b (tree_of tree)) env b (tree_of tree) (λ g items n. b.limit < n)
 IsListOf tree env b (Err Full) = Unit {0}
 IsListOf tree env b (Err NotUtf8) = ⊥
 IsListOf tree env b (Err Invalid) = ⊥

@@ -32,24 +32,22 @@ abbrev pub Asks : Request → Setup → Setup → Type 0
 Asks request old new =
     Becomes old.types (after_request request old.types.definitions) new.types × (new ≡ record (well old) { types = new.types })
 
--- what a builder is told leads from settings to settings, where it is as it should be; the types
--- that are there by default have these rows
-abbrev pub Step : List Row → Wish → Setup → Setup → Type 0
-Step rows (wish.Overrides root both_cases) old new =
+-- what a builder is told leads from settings to settings, where it is as it should be
+abbrev pub Step : Wish → Setup → Setup → Type 0
+Step (wish.Overrides root both_cases) old new =
     new ≡ record (well old) { globs = Some (with_case_insensitive (with_unclosed_class (begun root.now) false) both_cases) }
-Step rows (wish.Glob glob) old new =
+Step (wish.Glob glob) old new =
     (before after : Building) × (old.globs ≡ Some before) × AddsLine before None glob.now after
     × (new ≡ record (well old) { globs = Some after })
-Step rows wish.SetOverrides old new =
+Step wish.SetOverrides old new =
     (globs : Building) × (old.globs ≡ Some globs) × (new ≡ record (well old) { options = with_overrides old.options (built globs) })
-Step rows (wish.TypeGlob name glob) old new = Asks (one_glob name.now glob.now) old new
-Step rows (wish.TypeDef text) old new = Asks (request_of text.now) old new
-Step rows (wish.Select name) old new = new ≡ record (well old) { types = with_chosen false name.now old.types }
-Step rows (wish.Negate name) old new = new ≡ record (well old) { types = with_chosen true name.now old.types }
-Step rows (wish.Clear name) old new =
+Step (wish.TypeGlob name glob) old new = Asks (one_glob name.now glob.now) old new
+Step (wish.TypeDef text) old new = Asks (request_of text.now) old new
+Step (wish.Select name) old new = new ≡ record (well old) { types = with_chosen false name.now old.types }
+Step (wish.Negate name) old new = new ≡ record (well old) { types = with_chosen true name.now old.types }
+Step (wish.Clear name) old new =
     new ≡ record (well old) { types = record { definitions = without name.now old.types.definitions; choices = old.types.choices } }
-Step rows wish.Defaults old new = new ≡ record (well old) { types = with_defaults rows old.types }
-Step rows wish.SetTypes old new =
+Step wish.SetTypes old new =
     (types : Matcher) × IsBuilt old.types types × (new ≡ record (well old) { options = with_types old.options types })
 
 -- a request isn't allowed, and that is the problem
@@ -66,7 +64,6 @@ Faulty (wish.TypeDef text) old problem = IsDenied (request_of text.now) old prob
 Faulty (wish.Select name) old problem = ⊥
 Faulty (wish.Negate name) old problem = ⊥
 Faulty (wish.Clear name) old problem = ⊥
-Faulty wish.Defaults old problem = ⊥
 Faulty wish.SetTypes old problem = IsRefusedWith old.types problem
 
 -- a text that is told isn't UTF-8
@@ -79,7 +76,6 @@ IsNoText (wish.TypeDef text) = ¬ (IsUtf8 text.now)
 IsNoText (wish.Select name) = ¬ (IsUtf8 name.now)
 IsNoText (wish.Negate name) = ¬ (IsUtf8 name.now)
 IsNoText (wish.Clear name) = ¬ (IsUtf8 name.now)
-IsNoText wish.Defaults = ⊥
 IsNoText wish.SetTypes = ⊥
 
 -- globs are told, or are to count, and weren't begun
@@ -92,7 +88,6 @@ IsEarly (wish.TypeDef text) old = ⊥
 IsEarly (wish.Select name) old = ⊥
 IsEarly (wish.Negate name) old = ⊥
 IsEarly (wish.Clear name) old = ⊥
-IsEarly wish.Defaults old = ⊥
 IsEarly wish.SetTypes old = ⊥
 
 -- the settings are as before, but for this problem
@@ -101,27 +96,44 @@ Ails problem old new = (option_map problem_of new.problem ≡ Some problem) × (
 
 -- telling leads from settings to settings: done; or refused, and the problem kept; or nothing
 -- changed
-abbrev pub Takes : List Row → Wish → Setup → Result (Unit {0}) Stopped → Setup → Type 0
-Takes rows wish old (Ok done) new = Step rows wish old new
-Takes rows wish old (Err Invalid) new = (problem : Problem) × Faulty wish old problem × Ails problem old new
-Takes rows wish old (Err NotUtf8) new = (new ≡ old) × IsNoText wish
-Takes rows wish old (Err Misused) new = (new ≡ old) × IsEarly wish old
-Takes rows wish old (Err Full) new = new ≡ old
-Takes rows wish old (Err Limit) new = ⊥
-Takes rows wish old (Err (Tree error)) new = ⊥
+abbrev pub Takes : Wish → Setup → Result (Unit {0}) Stopped → Setup → Type 0
+Takes wish old (Ok done) new = Step wish old new
+Takes wish old (Err Invalid) new = (problem : Problem) × Faulty wish old problem × Ails problem old new
+Takes wish old (Err NotUtf8) new = (new ≡ old) × IsNoText wish
+Takes wish old (Err Misused) new = (new ≡ old) × IsEarly wish old
+Takes wish old (Err Full) new = new ≡ old
+Takes wish old (Err Limit) new = ⊥
+Takes wish old (Err (Tree error)) new = ⊥
 
 -- the same of a handle, which may keep no settings
-abbrev pub WishesOf : Option Setup → List Row → Wish → Kept → Result (Unit {0}) Stopped → Kept → Type 0
-WishesOf None rows wish old given new = (given ≡ Err Misused) × (new ≡ old)
-WishesOf (Some before) rows wish old given new = (after : Setup) × (new ≡ keeping after) × Takes rows wish before given after
+abbrev pub WishesOf : Option Setup → Wish → Kept → Result (Unit {0}) Stopped → Kept → Type 0
+WishesOf None wish old given new = (given ≡ Err Misused) × (new ≡ old)
+WishesOf (Some before) wish old given new = (after : Setup) × (new ≡ keeping after) × Takes wish before given after
 
-abbrev pub Wishes : List Row → Wish → Kept → Result (Unit {0}) Stopped → Kept → Type 0
-Wishes rows wish old given new = WishesOf (setup_in old) rows wish old given new
+abbrev pub Wishes : Wish → Kept → Result (Unit {0}) Stopped → Kept → Type 0
+Wishes wish old given new = WishesOf (setup_in old) wish old given new
 
 -- the same, by the number that C is told
-abbrev pub Wished : List Row → Wish → Kept → ℕ → Kept → Type 0
-Wished rows wish old code new =
-    (given : Result (Unit {0}) Stopped) × Wishes rows wish old given new × (code ≡ ended_code given)
+abbrev pub Wished : Wish → Kept → ℕ → Kept → Type 0
+Wished wish old code new =
+    (given : Result (Unit {0}) Stopped) × Wishes wish old given new × (code ≡ ended_code given)
+
+-- adding the types that are there by default, which have these rows, leads from what a handle kept
+-- to what it keeps: done, or nothing changed
+abbrev pub AddsDefaults : List Row → Kept → Result (Unit {0}) Stopped → Kept → Type 0
+AddsDefaults rows old (Ok done) new =
+    (before : Setup) × (setup_in old ≡ Some before) × (new ≡ keeping (record (well before) { types = with_defaults rows before.types }))
+AddsDefaults rows old (Err Misused) new = (new ≡ old) × (setup_in old ≡ None)
+AddsDefaults rows old (Err Full) new = new ≡ old
+AddsDefaults rows old (Err NotUtf8) new = ⊥
+AddsDefaults rows old (Err Limit) new = ⊥
+AddsDefaults rows old (Err Invalid) new = ⊥
+AddsDefaults rows old (Err (Tree error)) new = ⊥
+
+-- the same, by the number that C is told
+abbrev pub DefaultsAdded : List Row → Kept → ℕ → Kept → Type 0
+DefaultsAdded rows old code new =
+    (given : Result (Unit {0}) Stopped) × AddsDefaults rows old given new × (code ≡ ended_code given)
 
 -- a file of rules of a tree leads from settings to settings: its rules added, and what is wrong with
 -- it kept

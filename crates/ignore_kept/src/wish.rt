@@ -1,9 +1,9 @@
 //! What a builder is told besides settings: globs of a command line, file types, files of rules.
-ghost use Rattle.std.specs.Prelude.{◌≡◌, false, IfOk, List, map, string_bytes};
+ghost use Rattle.std.specs.Prelude.{◌≡◌, false, IfOk, OnOk, OnErr, map, string_bytes};
 ghost use Rattle.ignore_rules.specs.Rules.{begun, with_case_insensitive, with_unclosed_class};
-ghost use Rattle.ignore_types.specs.Defaults.{Row};
+ghost use Rattle.ignore_types.specs.Defaults.{with_defaults};
 ghost use Rattle.ignore_kept.specs.Kinds.{setup_in, tree_in};
-ghost use Rattle.ignore_kept.specs.Wishes.{AddsOf, AddsRules, Takes, TellsOf, Wishes};
+ghost use Rattle.ignore_kept.specs.Wishes.{AddsDefaults, AddsOf, AddsRules, Takes, TellsOf, Wishes, well};
 ghost use Rattle.ignore_kept.specs.declared.wish.Wish.TheVariants as wish;
 
 use crate::kept::Kept;
@@ -36,8 +36,6 @@ pub enum Wish<'w> {
     Negate(&'w [u8]),
     /// A type is no more.
     Clear(&'w [u8]),
-    /// The types that are there by default.
-    Defaults,
     /// The chosen types count from now on.
     SetTypes,
 }
@@ -45,7 +43,7 @@ pub enum Wish<'w> {
 /// Tells it to the builder that is kept.
 #[tactic(auto, using(crate::proofs::Wishing::wishes))]
 pub fn tell(alloc: Global, kept: &mut Kept, wish: Wish<'_>) -> Result<(), Stopped>
-    ensures { Wishes (map (λ r. (map (λ n. n.now) r.0.now, map (λ g. g.now) r.1.now)) DEFAULT_TYPES) wish.entry kept.old result kept.new }
+    ensures { Wishes wish.entry kept.old result kept.new }
 {
     let Kept::Setup(setup) = kept else {
         return Err(Stopped::Misused);
@@ -54,7 +52,7 @@ pub fn tell(alloc: Global, kept: &mut Kept, wish: Wish<'_>) -> Result<(), Stoppe
 }
 
 fn take(alloc: Global, setup: &mut Setup, wish: Wish<'_>) -> Result<(), Stopped>
-    ensures { Takes (map (λ r. (map (λ n. n.now) r.0.now, map (λ g. g.now) r.1.now)) DEFAULT_TYPES) wish.entry setup.old result setup.new }
+    ensures { Takes wish.entry setup.old result setup.new }
 {
     match wish {
         Wish::Overrides(root, both_cases) => begin_globs(alloc, setup, root, both_cases),
@@ -65,7 +63,6 @@ fn take(alloc: Global, setup: &mut Setup, wish: Wish<'_>) -> Result<(), Stopped>
         Wish::Select(name) => select(setup, name),
         Wish::Negate(name) => negate(setup, name),
         Wish::Clear(name) => clear(setup, name),
-        Wish::Defaults => defaults(setup),
         Wish::SetTypes => set_types(setup),
     }
 }
@@ -76,7 +73,7 @@ fn begin_globs(
     root: &[u8],
     both_cases: bool,
 ) -> Result<(), Stopped>
-    ensures { (rows : List Row) → Takes rows (wish.Overrides root.entry both_cases) setup.old result setup.new }
+    ensures { Takes (wish.Overrides root.entry both_cases) setup.old result setup.new }
 {
     let Ok(root) = text_of(root) else {
         return Err(Stopped::NotUtf8);
@@ -99,7 +96,7 @@ fn globs_of(alloc: Global, root: &str, both_cases: bool) -> Result<OverrideBuild
 
 #[tactic(auto, using(crate::proofs::Wishing::glob_added, crate::proofs::Wishing::glob_refused))]
 fn add_glob(setup: &mut Setup, glob: &[u8]) -> Result<(), Stopped>
-    ensures { (rows : List Row) → Takes rows (wish.Glob glob.entry) setup.old result setup.new }
+    ensures { Takes (wish.Glob glob.entry) setup.old result setup.new }
 {
     let Ok(glob) = text_of(glob) else {
         return Err(Stopped::NotUtf8);
@@ -123,7 +120,7 @@ fn add_glob(setup: &mut Setup, glob: &[u8]) -> Result<(), Stopped>
 }
 
 fn set_globs(setup: &mut Setup) -> Result<(), Stopped>
-    ensures { (rows : List Row) → Takes rows (wish.SetOverrides) setup.old result setup.new }
+    ensures { Takes wish.SetOverrides setup.old result setup.new }
 {
     let Some(globs) = &setup.globs else {
         return Err(Stopped::Misused);
@@ -137,7 +134,7 @@ fn set_globs(setup: &mut Setup) -> Result<(), Stopped>
 }
 
 fn type_glob(setup: &mut Setup, name: &[u8], glob: &[u8]) -> Result<(), Stopped>
-    ensures { (rows : List Row) → Takes rows (wish.TypeGlob name.entry glob.entry) setup.old result setup.new }
+    ensures { Takes (wish.TypeGlob name.entry glob.entry) setup.old result setup.new }
 {
     let Ok(name) = text_of(name) else {
         return Err(Stopped::NotUtf8);
@@ -161,7 +158,7 @@ fn type_glob(setup: &mut Setup, name: &[u8], glob: &[u8]) -> Result<(), Stopped>
 }
 
 fn type_def(setup: &mut Setup, text: &[u8]) -> Result<(), Stopped>
-    ensures { (rows : List Row) → Takes rows (wish.TypeDef text.entry) setup.old result setup.new }
+    ensures { Takes (wish.TypeDef text.entry) setup.old result setup.new }
 {
     let Ok(text) = text_of(text) else {
         return Err(Stopped::NotUtf8);
@@ -182,7 +179,7 @@ fn type_def(setup: &mut Setup, text: &[u8]) -> Result<(), Stopped>
 }
 
 fn select(setup: &mut Setup, name: &[u8]) -> Result<(), Stopped>
-    ensures { (rows : List Row) → Takes rows (wish.Select name.entry) setup.old result setup.new }
+    ensures { Takes (wish.Select name.entry) setup.old result setup.new }
 {
     let Ok(name) = text_of(name) else {
         return Err(Stopped::NotUtf8);
@@ -195,7 +192,7 @@ fn select(setup: &mut Setup, name: &[u8]) -> Result<(), Stopped>
 }
 
 fn negate(setup: &mut Setup, name: &[u8]) -> Result<(), Stopped>
-    ensures { (rows : List Row) → Takes rows (wish.Negate name.entry) setup.old result setup.new }
+    ensures { Takes (wish.Negate name.entry) setup.old result setup.new }
 {
     let Ok(name) = text_of(name) else {
         return Err(Stopped::NotUtf8);
@@ -208,7 +205,7 @@ fn negate(setup: &mut Setup, name: &[u8]) -> Result<(), Stopped>
 }
 
 fn clear(setup: &mut Setup, name: &[u8]) -> Result<(), Stopped>
-    ensures { (rows : List Row) → Takes rows (wish.Clear name.entry) setup.old result setup.new }
+    ensures { Takes (wish.Clear name.entry) setup.old result setup.new }
 {
     let Ok(name) = text_of(name) else {
         return Err(Stopped::NotUtf8);
@@ -218,18 +215,8 @@ fn clear(setup: &mut Setup, name: &[u8]) -> Result<(), Stopped>
     Ok(())
 }
 
-fn defaults(setup: &mut Setup) -> Result<(), Stopped>
-    ensures { Takes (map (λ r. (map (λ n. n.now) r.0.now, map (λ g. g.now) r.1.now)) DEFAULT_TYPES) wish.Defaults setup.old result setup.new }
-{
-    let Ok(()) = setup.types.push_defaults() else {
-        return Err(Stopped::Memory);
-    };
-    setup.problem = None;
-    Ok(())
-}
-
 fn set_types(setup: &mut Setup) -> Result<(), Stopped>
-    ensures { (rows : List Row) → Takes rows (wish.SetTypes) setup.old result setup.new }
+    ensures { Takes wish.SetTypes setup.old result setup.new }
 {
     match setup.types.build() {
         Ok(types) => {
@@ -245,6 +232,29 @@ fn set_types(setup: &mut Setup) -> Result<(), Stopped>
             Err(Stopped::Invalid)
         }
     }
+}
+
+/// Adds the types that are there by default to the builder that is kept.
+#[tactic(auto, using(crate::proofs::Wishing::adds_defaults, crate::proofs::Wishing::adds_no_defaults))]
+pub fn add_defaults(kept: &mut Kept) -> Result<(), Stopped>
+    ensures { AddsDefaults (map (λ r. (map (λ n. n.now) r.0.now, map (λ g. g.now) r.1.now)) DEFAULT_TYPES) kept.old result kept.new }
+{
+    let Kept::Setup(setup) = kept else {
+        return Err(Stopped::Misused);
+    };
+    match defaults(setup) {
+        Ok(()) => Ok(()),
+        Err(_) => Err(Stopped::Memory),
+    }
+}
+
+fn defaults(setup: &mut Setup) -> Result<(), Error>
+    ensures added { OnOk result (setup.new ≡ record (well setup.old) { types = with_defaults (map (λ r. (map (λ n. n.now) r.0.now, map (λ g. g.now) r.1.now)) DEFAULT_TYPES) setup.old.types }) }
+    ensures unchanged { OnErr result (setup.new ≡ setup.old) }
+{
+    setup.types.push_defaults()?;
+    setup.problem = None;
+    Ok(())
 }
 
 /// Reads a file of rules of a tree now, and adds it.

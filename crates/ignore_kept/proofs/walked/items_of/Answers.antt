@@ -10,6 +10,7 @@ returns-in-Ok-clause-listed c =
     listed _ _ c.args.tree.now c.args.env.now _ c.args.options _ _ o.options (unordered _ _ o.plain.0)
     (record { passes = λ keep all. passes_all b.filter _ keep o.plain.1 all; ties = all_tie b.sorter _ o.plain.0 })
     (c.in-Ok.ensures.headline (tree_of c.args.tree.now) c.is_honest.ensures)
+    (c.in-Ok.ensures.exists (tree_of c.args.tree.now) c.is_honest.ensures)
 
 pub returns-in-Err-clause-stopped : goal.returns-in-Err-clause-stopped
 returns-in-Err-clause-stopped c =
