@@ -7,6 +7,7 @@ use Rattle.ignore_base.specs.Problem.{Problem, invalid_definition, problem_of}
 use Rattle.ignore_base.specs.Text.{Bytes, Path}
 use Rattle.ignore_files.specs.Answers.{tree_of}
 use Rattle.ignore_files.specs.Memory.{Memory}
+use Rattle.ignore_rules.specs.RuleFile.{is_memory}
 use Rattle.ignore_rules.specs.Rules.{AddsLine, Building, Refuses, begun, built, with_case_insensitive, with_unclosed_class}
 use Rattle.ignore_types.specs.Building.{IsBuilt, IsRefusedWith}
 use Rattle.ignore_types.specs.Defaults.{Row, with_defaults}
@@ -93,6 +94,16 @@ IsEarly wish.SetTypes old = ⊥
 -- the settings are as before, but for this problem
 abbrev pub Ails : Problem → Setup → Setup → Type 0
 Ails problem old new = (option_map problem_of new.problem ≡ Some problem) × (new ≡ record old { problem = new.problem })
+
+-- a problem is kept, and the call refused; or it is that memory ran out, and nothing is changed
+abbrev pub Blames : Problem → Setup → Result (Unit {0}) Stopped → Setup → Type 0
+Blames problem old (Err Invalid) new = (is_memory problem ≡ false) × Ails problem old new
+Blames problem old (Err Full) new = new ≡ old
+Blames problem old (Ok done) new = ⊥
+Blames problem old (Err NotUtf8) new = ⊥
+Blames problem old (Err Misused) new = ⊥
+Blames problem old (Err Limit) new = ⊥
+Blames problem old (Err (Tree error)) new = ⊥
 
 -- telling leads from settings to settings: done; or refused, and the problem kept; or nothing
 -- changed

@@ -1,9 +1,10 @@
 //! What a builder is told besides settings: globs of a command line, file types, files of rules.
 ghost use Rattle.std.specs.Prelude.{◌≡◌, false, IfOk, OnOk, OnErr, map, string_bytes};
 ghost use Rattle.ignore_rules.specs.Rules.{begun, with_case_insensitive, with_unclosed_class};
+ghost use Rattle.ignore_base.specs.Problem.{problem_of};
 ghost use Rattle.ignore_types.specs.Defaults.{with_defaults};
 ghost use Rattle.ignore_kept.specs.Kinds.{setup_in, tree_in};
-ghost use Rattle.ignore_kept.specs.Wishes.{AddsDefaults, AddsOf, AddsRules, Takes, TellsOf, Wishes, well};
+ghost use Rattle.ignore_kept.specs.Wishes.{AddsDefaults, AddsOf, AddsRules, Blames, Takes, TellsOf, Wishes, well};
 ghost use Rattle.ignore_kept.specs.declared.wish.Wish.TheVariants as wish;
 
 use crate::kept::Kept;
@@ -109,14 +110,19 @@ fn add_glob(setup: &mut Setup, glob: &[u8]) -> Result<(), Stopped>
             setup.problem = None;
             Ok(())
         }
-        Err(error) => {
-            if is_memory(&error) {
-                return Err(Stopped::Memory);
-            }
-            setup.problem = Some(error);
-            Err(Stopped::Invalid)
-        }
+        Err(error) => refuse(setup, error),
     }
+}
+
+/// Keeps what is wrong, unless memory ran out.
+fn refuse(setup: &mut Setup, error: Error) -> Result<(), Stopped>
+    ensures { Blames (problem_of error) setup.old result setup.new }
+{
+    if is_memory(&error) {
+        return Err(Stopped::Memory);
+    }
+    setup.problem = Some(error);
+    Err(Stopped::Invalid)
 }
 
 fn set_globs(setup: &mut Setup) -> Result<(), Stopped>
@@ -133,6 +139,7 @@ fn set_globs(setup: &mut Setup) -> Result<(), Stopped>
     Ok(())
 }
 
+#[tactic(auto, using(crate::proofs::Wishing::type_asked, crate::proofs::Wishing::type_refused))]
 fn type_glob(setup: &mut Setup, name: &[u8], glob: &[u8]) -> Result<(), Stopped>
     ensures { Takes (wish.TypeGlob name.entry glob.entry) setup.old result setup.new }
 {
@@ -147,16 +154,11 @@ fn type_glob(setup: &mut Setup, name: &[u8], glob: &[u8]) -> Result<(), Stopped>
             setup.problem = None;
             Ok(())
         }
-        Err(error) => {
-            if is_memory(&error) {
-                return Err(Stopped::Memory);
-            }
-            setup.problem = Some(error);
-            Err(Stopped::Invalid)
-        }
+        Err(error) => refuse(setup, error),
     }
 }
 
+#[tactic(auto, using(crate::proofs::Wishing::def_asked, crate::proofs::Wishing::def_refused))]
 fn type_def(setup: &mut Setup, text: &[u8]) -> Result<(), Stopped>
     ensures { Takes (wish.TypeDef text.entry) setup.old result setup.new }
 {
@@ -168,13 +170,7 @@ fn type_def(setup: &mut Setup, text: &[u8]) -> Result<(), Stopped>
             setup.problem = None;
             Ok(())
         }
-        Err(error) => {
-            if is_memory(&error) {
-                return Err(Stopped::Memory);
-            }
-            setup.problem = Some(error);
-            Err(Stopped::Invalid)
-        }
+        Err(error) => refuse(setup, error),
     }
 }
 
@@ -215,6 +211,7 @@ fn clear(setup: &mut Setup, name: &[u8]) -> Result<(), Stopped>
     Ok(())
 }
 
+#[tactic(auto, using(crate::proofs::Wishing::types_refused))]
 fn set_types(setup: &mut Setup) -> Result<(), Stopped>
     ensures { Takes wish.SetTypes setup.old result setup.new }
 {
@@ -224,13 +221,7 @@ fn set_types(setup: &mut Setup) -> Result<(), Stopped>
             setup.problem = None;
             Ok(())
         }
-        Err(error) => {
-            if is_memory(&error) {
-                return Err(Stopped::Memory);
-            }
-            setup.problem = Some(error);
-            Err(Stopped::Invalid)
-        }
+        Err(error) => refuse(setup, error),
     }
 }
 
