@@ -9,7 +9,7 @@ use crate::kept::Kept;
 use crate::room::text_of;
 use crate::stopped::Stopped;
 use ignore::files::{Env, MemoryTree};
-use ignore::{IncrementalIgnore, IncrementalMatch, WalkBuilder, WalkOptions};
+use ignore::{Error, IncrementalIgnore, IncrementalMatch, WalkBuilder, WalkOptions};
 
 /// What becomes of a path besides the verdict: whether a walk would enter the directory, and whether
 /// the path is as deep as it must be.
@@ -50,27 +50,23 @@ fn matcher_of(
         return Err(Stopped::Memory);
     };
     let builder = WalkBuilder::from_options(options);
-    match matchers_of(&builder, tree, env) {
-        Ok(matchers) => only(matchers),
-        Err(stopped) => Err(stopped),
-    }
+    let Ok(matchers) = matchers_of(&builder, tree, env) else {
+        return Err(Stopped::Memory);
+    };
+    only(matchers)
 }
 
 fn matchers_of(
     builder: &WalkBuilder,
     tree: &MemoryTree,
     env: &Env,
-) -> Result<Vec<IncrementalIgnore>, Stopped>
+) -> Result<Vec<IncrementalIgnore>, Error>
     ensures made { IfOk result (λ ms. AreMatchers (tree_of tree.now) env.now builder.now.options ms.items) }
     ensures fresh { IfOk result (λ ms. All (λ m. KeepsNothing m.cache) ms.items) }
     ensures counted { IfOk result (λ ms. length ms.items ≡ length builder.now.options.roots) }
-    ensures out_of_memory { IfErr result (λ e. e ≡ Memory) }
 {
     tree.is_honest();
-    match builder.build_matchers(tree, env) {
-        Ok(matchers) => Ok(matchers),
-        Err(_) => Err(Stopped::Memory),
-    }
+    builder.build_matchers(tree, env)
 }
 
 /// The one matcher, if there is one alone.
