@@ -1,7 +1,11 @@
 -- What a builder is told is told to what the handle keeps.
-use Rattle.std.proofs.Common.{◌≡◌, ◌⊎◌, false, List, None, Some, Result, Ok, Err, inl, inr, refl, sym, ap, subst, ◌∙◌, Bor}
-use Rattle.ignore_base.specs.Problem.{Problem, invalid_definition, memory}
+use Rattle.std.proofs.Common.{◌≡◌, ◌⊎◌, false, List, Option, None, Some, Result, Ok, Err, inl, inr, refl, sym, ap, subst, option_map, ◌∙◌, Bor}
+use Rattle.ignore.specs.Asked.{AddsIgnore}
+use Rattle.ignore.specs.declared.options.WalkOptions.{WalkOptions}
+use Rattle.ignore_base.specs.Problem.{Problem, invalid_definition, memory, problem_of}
 use Rattle.ignore_base.specs.Text.{Bytes, Path}
+use Rattle.ignore_base.specs.declared.error.Error.{Error}
+use Rattle.ignore_files.specs.Answers.{tree_of}
 use Rattle.ignore_files.specs.Memory.{Memory}
 use Rattle.ignore_rules.specs.RuleFile.{is_memory}
 use Rattle.ignore_rules.specs.Rules.{AddsLine, Building, Refuses}
@@ -114,3 +118,24 @@ def_refused bytes text old mid problem r new is same (inr why) h =
 pub types_refused : (old : Setup) (problem : Problem) (r : Result (Unit {0}) Stopped) (new : Setup)
     → (problem ≡ memory) ⊎ IsRefusedWith old.types problem → Blames problem old r new → Takes wish.SetTypes old r new
 types_refused old problem r new why h = blamed wish.SetTypes old old problem r new refl why h
+
+-- the rules of a file at a text are added
+pub rules_added : (tree : Memory) (path text : Path) (old : Setup) (options : WalkOptions) (problem : Option Error) → text ≡ path
+    → problem ≡ None → AddsIgnore (tree_of tree) old.env text old.options options (option_map problem_of problem)
+    → AddsRules tree path old (Ok tt) (record old { options = options; problem = problem })
+rules_added tree path text old options problem is none h = (
+  subst (λ (p : Path). AddsIgnore (tree_of tree) old.env p old.options options None) is
+      (subst (λ (e : Option Error). AddsIgnore (tree_of tree) old.env text old.options options (option_map problem_of e)) none h),
+  ap (λ (e : Option Error). record old { options = options; problem = e }) none,
+)
+
+-- and what is wrong with it is kept
+pub rules_refused : (tree : Memory) (path text : Path) (old : Setup) (options : WalkOptions) (problem : Option Error) (error : Error)
+    → text ≡ path → problem ≡ Some error → AddsIgnore (tree_of tree) old.env text old.options options (option_map problem_of problem)
+    → AddsRules tree path old (Err Invalid) (record old { options = options; problem = problem })
+rules_refused tree path text old options problem error is one h = (
+  problem_of error,
+  subst (λ (p : Path). AddsIgnore (tree_of tree) old.env p old.options options (Some (problem_of error))) is
+      (subst (λ (e : Option Error). AddsIgnore (tree_of tree) old.env text old.options options (option_map problem_of e)) one h),
+  (ap (λ (e : Option Error). option_map problem_of e) one, refl),
+)

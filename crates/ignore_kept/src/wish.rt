@@ -262,6 +262,7 @@ pub fn add_ignore(kept: &mut Kept, tree: &Kept, path: &[u8]) -> Result<(), Stopp
     add_rules(setup, tree, path)
 }
 
+#[tactic(auto, using(crate::proofs::Wishing::rules_added, crate::proofs::Wishing::rules_refused))]
 fn add_rules(setup: &mut Setup, tree: &MemoryTree, path: &[u8]) -> Result<(), Stopped>
     ensures { AddsRules tree.now path.now setup.old result setup.new }
 {
