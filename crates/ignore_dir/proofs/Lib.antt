@@ -1,3 +1,4 @@
+pub mod AboveByLemmas
 pub mod AboveLemmas
 pub mod ChainLemmas
 pub mod LoadLemmas

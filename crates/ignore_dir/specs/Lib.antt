@@ -1,4 +1,5 @@
 pub mod Above
+pub mod AboveBy
 pub mod Chains
 pub mod Exclude
 pub mod Ground

@@ -4,9 +4,11 @@ ghost use Rattle.ignore_base.specs.Paths.{without_slash};
 ghost use Rattle.ignore_base.specs.Problem.{problem_of};
 ghost use Rattle.ignore_dir.specs.Above.{needs_above, directories_along, canonical_names, names_above, paths_above};
 ghost use Rattle.ignore_dir.specs.Above.{kept_above, dirs_above, problems_of_loads, rules_if};
+ghost use Rattle.ignore_dir.specs.AboveBy.{AreAlongBy, IsAboveBy};
 ghost use Rattle.ignore_dir.specs.Chains.{placed_along, slashed};
 ghost use Rattle.ignore_dir.specs.Ground.{InLoads, InTree};
 ghost use Rattle.ignore_dir.specs.Lists.{IsAfterSlash};
+ghost use Rattle.ignore_dir.specs.LoadsBy.{reads_of, stats_of};
 ghost use Rattle.ignore_dir.specs.Soft.{IsSoft};
 
 use crate::dir::{Dir, Placed};
@@ -123,6 +125,8 @@ fn load_along<F: Files>(ground: &Ground<'_, F>, names: &[&str]) -> Result<Above,
     ensures errors { InLoads F.Files ground.now (λ tree loads.
         IfOk result (λ a. map (option_map problem_of) a.errors.items
         ≡ problems_of_loads loads (directories_along (codes "/") (map (λ n. n.now) names.now)))) }
+    ensures answered { IfOk result (λ a. AreAlongBy (stats_of F.Files ground.now.files.now) (reads_of F.Files ground.now.files.now) ground.now.settings.now
+        (map (λ n. n.now) names.now) a.dirs.items (string_bytes a.base) (map (option_map problem_of) a.errors.items)) }
     ensures base { IfOk result (λ a. string_bytes a.base ≡ 47 ∷ slashed (map (λ n. n.now) names.now)) }
     ensures ends { IfOk result (λ a. IsAfterSlash (string_bytes a.base) (length (string_bytes a.base))) }
     ensures placed { IfOk result (λ a. All (λ p. IsAfterSlash (string_bytes a.base) p.1) a.dirs.items) }
@@ -154,6 +158,8 @@ pub fn load_above<F: Files>(ground: &Ground<'_, F>, root: &str) -> Result<Above,
         (names_above tree ground.now.settings.now root.now))) }
     ensures errors { InLoads F.Files ground.now (λ tree loads.
         IfOk result (λ a. map (option_map problem_of) a.errors.items ≡ problems_of_loads loads (paths_above tree ground.now.settings.now root.now))) }
+    ensures answered { IfOk result (λ a. IsAboveBy F.Files ground.now.files.now ground.now.settings.now root.now
+        a.dirs.items (string_bytes a.base) (map (option_map problem_of) a.errors.items)) }
     ensures base { InTree F.Files ground.now (λ tree.
         IfOk result (λ a. string_bytes a.base ≡ 47 ∷ slashed (names_above tree ground.now.settings.now root.now))) }
     ensures ends { IfOk result (λ a. IsAfterSlash (string_bytes a.base) (length (string_bytes a.base))) }

@@ -1,5 +1,5 @@
 -- A growing list of directories, and the chain that a place stands for.
-use Rattle.std.specs.Prelude.{◌≡◌, ℕ, ◌<◌, ◌≤◌, ◌==◌, Bool, not, ◌||◌, List, [], ◌∷◌, filter, Option, None, Some, length, slice_get, if◌then◌else◌, ◌⊎◌}
+use Rattle.std.specs.Prelude.{◌≡◌, ℕ, ◌<◌, ◌≤◌, ◌==◌, Bool, true, false, not, ◌||◌, List, [], ◌∷◌, filter, Option, None, Some, length, slice_get, if◌then◌else◌, ◌⊎◌}
 use Rattle.ignore_dir.specs.declared.dir.Dir.{Dir}
 use Rattle.ignore_dir.specs.Lists.{Placed}
 use Rattle.ignore_levels.specs.declared.list.Level.{Level}
@@ -86,6 +86,21 @@ pub data IsChain (slots : List Slot) : Option Place → List Placed → Type 0 w
       → level.ruled ≡ own_or (has_rules level.dir) place (ruled_at slots level.parent)
       → level.mark ≡ own_or level.dir.mark place (mark_at slots level.parent) → IsChain slots level.parent chain
       → IsChain slots (Some place) ((level.dir, level.offset) ∷ chain)
+
+-- a place is that of a level of its own for a directory below a parent, with this offset
+pub record HasLevel (slots : List Slot) (dir : Dir) (parent : Option Place) (offset : ℕ) (place : Option Place) : Type 0 where
+  pub own : Place
+  pub level : Level
+  pub same : place ≡ Some own
+  pub there : level_at slots own ≡ Some level
+  pub holds : level.dir ≡ dir
+  pub below : level.parent ≡ parent
+  pub begins : level.offset ≡ offset
+
+-- a directory below a place stands at its own where it counts, and else at that one
+pub record IsAdded (slots : List Slot) (dir : Dir) (parent : Option Place) (offset : ℕ) (place : Option Place) : Type 0 where
+  pub own : counts dir ≡ true → HasLevel slots dir parent offset place
+  pub shared : counts dir ≡ false → place ≡ parent
 
 -- the chain with a directory below it: one that doesn't count changes nothing
 abbrev pub counted : Dir → ℕ → List Placed → List Placed

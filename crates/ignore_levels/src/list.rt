@@ -6,7 +6,7 @@
 ghost use Rattle.std.specs.Prelude.{◌≡◌, ◌≤◌, ◌+◌, [], List, ℕ, length, take, slice_get, IfOk, IsOk, IsTrue, OnOk, Option};
 ghost use Rattle.std.specs.Option.{option_copied};
 ghost use Rattle.ignore_dir.specs.Lists.{Placed};
-ghost use Rattle.ignore_levels.specs.Levels.{IsBelow, IsBranch, IsChain, IsVacant, Keeps, Passes, counted, counts, floor_at};
+ghost use Rattle.ignore_levels.specs.Levels.{IsAdded, IsBelow, IsBranch, IsChain, IsVacant, Keeps, Passes, counted, counts, floor_at};
 ghost use Rattle.ignore_levels.specs.Levels.{has_rules, level_at, mark_at, next_of, own_or, ruled_at, slots_of};
 ghost use Rattle.ignore_levels.specs.declared.list.Level.{Level};
 ghost use Rattle.ignore_levels.specs.declared.list.Slot.TheVariants.{Free};
@@ -199,6 +199,7 @@ impl Levels {
         ensures kept { (place : Option Place) (chain : List Placed) → IsChain self.old.slots.items place chain
             → IsChain self.new.slots.items place chain }
         ensures levels { Keeps (slots_of self.old) (slots_of self.new) }
+        ensures added { IfOk result (λ place. IsAdded (slots_of self.new) dir parent offset place) }
         ensures below { IfOk result (λ place. IsBranch (slots_of self.old) (slots_of self.new) parent place) }
         ensures kept_within { (len : ℕ) (place : Option Place) (chain : List Placed) → IsChain (take len self.old.slots.items) place chain
             → IsChain (take len self.new.slots.items) place chain }

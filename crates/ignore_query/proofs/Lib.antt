@@ -20,4 +20,5 @@ pub mod TurnsOnly
 pub mod CopiesOnly
 pub mod WorkedKept
 pub mod WorkedRules
+pub mod KeptLoadLemmas
 pub mod LoadedLemmas

@@ -44,7 +44,7 @@ placed-within offset (d ∷ dirs) (n ∷ names) most le lt =
     All-cons (λ (p : Placed). p.1 ≤ most) (d, offset) (placed_along (offset + length n + 1) dirs names) (omega (arith, lt, size))
     (placed-within (offset + length n + 1) dirs names most (omega (arith, le)) (omega (arith, lt, size)))
 
-along-length : (dir : List ℕ) (names : List (List ℕ)) → length (directories_along dir names) ≡ length names
+pub along-length : (dir : List ℕ) (names : List (List ℕ)) → length (directories_along dir names) ≡ length names
 along-length dir [] = refl
 along-length dir (n ∷ names) = ap suc (along-length (join_of dir n) names)
 
@@ -135,7 +135,7 @@ abbrev pub placed_above : QueryScene → List Placed
 placed_above g =
     placed_along 1 (dirs_above g.loads g.settings (paths_above g.tree g.settings g.root)) (names_above g.tree g.settings g.root)
 
-rising-along : (floor offset : ℕ) (dirs : List Dir) (names : List (List ℕ)) → floor < offset → length dirs ≤ length names
+pub rising-along : (floor offset : ℕ) (dirs : List Dir) (names : List (List ℕ)) → floor < offset → length dirs ≤ length names
     → IsRising floor (placed_along offset dirs names)
 rising-along floor offset [] names lt le = tt
 rising-along floor offset (d ∷ dirs) [] lt le = absurd (omega arith)

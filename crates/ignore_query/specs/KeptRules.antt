@@ -13,21 +13,13 @@ use Rattle.ignore_levels.specs.declared.list.Level.{Level}
 use Rattle.ignore_query.specs.declared.kept.Cache.{Cache}
 use Rattle.ignore_query.specs.declared.kept.Kept.{Kept}
 use Rattle.ignore_query.specs.declared.kept.Kept.TheVariants.{Ignored, Loaded}
-use Rattle.ignore_why.specs.Cited.{Named}
+use Rattle.ignore_why.specs.Cited.{Named, named_rule}
 use Rattle.ignore_why.specs.declared.cause.RuleRank.{RuleRank}
 use Rattle.ignore_why.specs.declared.cause.RuleRank.TheVariants.{Custom, Ignore, Gitignore, Exclude}
 
 -- a rule of the list of a rank in a directory, by name
 abbrev pub named_in : Path → RuleRank → Rule → Named
-named_in dir rank rule =
-    record {
-      rank = rank;
-      directory = Some dir;
-      from = rule.from;
-      line = rule.line;
-      original = rule.original;
-      is_whitelist = rule.is_whitelist;
-    }
+named_in dir rank rule = named_rule rank (Some dir) rule
 
 -- the rules that a directory holds: the lists in the order of their ranks, each in the order of its
 -- lines

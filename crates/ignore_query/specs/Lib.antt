@@ -2,6 +2,7 @@ pub mod Agrees
 pub mod Forget
 pub mod Fresh
 pub mod InTurn
+pub mod KeptLoads
 pub mod KeptRules
 pub mod Keys
 pub mod Listed

@@ -10,6 +10,7 @@ ghost use Rattle.ignore_dir.specs.Soft.{AllSoft};
 ghost use Rattle.ignore_files.specs.Tree.{Tree};
 ghost use Rattle.ignore_query.specs.declared.kept.Kept as kept;
 ghost use Rattle.ignore_query.specs.Agrees.{Agrees, IsNext, is_loaded};
+ghost use Rattle.ignore_query.specs.KeptLoads.{KeepsLoads};
 ghost use Rattle.ignore_query.specs.Needs.{KeepsNeeded, Stays, is_known, needed};
 ghost use Rattle.ignore_query.specs.Reached.{scene_of};
 ghost use Rattle.ignore_query.specs.Reports.{new_above, new_below};
@@ -28,6 +29,7 @@ use std::alloc::AllocError;
 impl Cache {
     /// What the rules say of a path of names below a root that is a directory. What the answer
     /// needs is kept then: what isn't kept before is loaded.
+    #[tactic(auto, using(crate::proofs::KeptLoadLemmas::loads_nothing))]
     pub(crate) fn decide<F: Files>(
         &mut self,
         call: &Call<'_, F>,
@@ -37,6 +39,7 @@ impl Cache {
     ) -> Result<Verdict, AllocError>
         requires named { list_all is_proper (components path.now) ≡ true }
         ensures stays { Stays self.old self.new }
+        ensures loaded { KeepsLoads F.Files call.now.files.now call.now.asked.now self.old self.new }
         ensures kept { WhereAsked F.Files call.now self.old path.now (λ g.
             OnOk result (KeepsNeeded (needed g (components path.now)) self.old self.new)) }
         ensures agrees { WhereAsked F.Files call.now self.old path.now (λ g.
@@ -61,6 +64,7 @@ impl Cache {
 
     /// Keeps what the answer for a path of names below a root that is a directory needs. Returns
     /// what is kept of the directory in which it is, or of the first ignored one on the way.
+    #[tactic(auto, using(crate::proofs::KeptLoadLemmas::loads_nothing))]
     pub(crate) fn keep_for<F: Files>(
         &mut self,
         call: &Call<'_, F>,
@@ -69,6 +73,7 @@ impl Cache {
     ) -> Result<Kept, AllocError>
         requires named { list_all is_proper (components path.now) ≡ true }
         ensures stays { Stays self.old self.new }
+        ensures loaded { KeepsLoads F.Files call.now.files.now call.now.asked.now self.old self.new }
         ensures kept { WhereAsked F.Files call.now self.old path.now (λ g.
             OnOk result (KeepsNeeded (needed g (components path.now)) self.old self.new)) }
         ensures agrees { WhereAsked F.Files call.now self.old path.now (λ g.

@@ -10,6 +10,7 @@ ghost use Rattle.ignore_dir.specs.Load.{Loaded};
 ghost use Rattle.ignore_dir.specs.Query as queries;
 ghost use Rattle.ignore_dir.specs.Soft.{IsSoft};
 ghost use Rattle.ignore_query.specs.Agrees.{Agrees};
+ghost use Rattle.ignore_query.specs.KeptLoads.{KeepsLoads};
 ghost use Rattle.ignore_query.specs.Needs.{KeepsNeeded, Stays, is_decided, needed};
 ghost use Rattle.ignore_query.specs.Reached.{scene_of};
 ghost use Rattle.ignore_query.specs.Reports.{reported, reported_by_rules};
@@ -79,6 +80,7 @@ impl IncrementalIgnore {
         ensures value { WhereAgrees F.Files files.now self.old (λ g. IfOk result (λ r. r.0.answer ≡ (queries.query g path.now is_dir).0)) }
         ensures reports { WhereAgrees F.Files files.now self.old (λ g. IfOk result (λ r. option_map problem_of r.1 ≡ reported g self.old.cache path.now is_dir)) }
         ensures stays { Stays self.old.cache self.new.cache }
+        ensures loaded { KeepsLoads F.Files files.now self.old.asked self.old.cache self.new.cache }
         ensures kept { WhereAgrees F.Files files.now self.old (λ g. is_decided g path.now is_dir ≡ true
             → OnOk result (KeepsNeeded (needed g (queries.names_of path.now)) self.old.cache self.new.cache)) }
         ensures unchanged { WhereAgrees F.Files files.now self.old (λ g. is_decided g path.now is_dir ≢ true → self.new.cache ≡ self.old.cache) }
@@ -94,7 +96,7 @@ impl IncrementalIgnore {
     }
 
     /// The reason of an answer, with what is wrong with what this call read.
-    #[tactic(auto, unfolding(crate::specs::Reports::reported))]
+    #[tactic(auto, using(crate::proofs::KeptLoadLemmas::loads_nothing), unfolding(crate::specs::Reports::reported))]
     fn reason<F: Files>(
         &mut self,
         files: &F,
@@ -104,6 +106,7 @@ impl IncrementalIgnore {
         ensures why { WhereAgrees F.Files files.now self.old (λ g. IfOk result (λ r. query_why_of r.0 ≡ query_why g path.now is_dir)) }
         ensures reports { WhereAgrees F.Files files.now self.old (λ g. IfOk result (λ r. option_map problem_of r.1 ≡ reported g self.old.cache path.now is_dir)) }
         ensures stays { Stays self.old.cache self.new.cache }
+        ensures loaded { KeepsLoads F.Files files.now self.old.asked self.old.cache self.new.cache }
         ensures kept { WhereAgrees F.Files files.now self.old (λ g. is_decided g path.now is_dir ≡ true
             → OnOk result (KeepsNeeded (needed g (queries.names_of path.now)) self.old.cache self.new.cache)) }
         ensures unchanged { WhereAgrees F.Files files.now self.old (λ g. is_decided g path.now is_dir ≢ true → self.new.cache ≡ self.old.cache) }
@@ -141,6 +144,7 @@ impl IncrementalIgnore {
         ensures reports { WhereDecided F.Files files.now self.old path.now (λ g.
             IfOk result (λ r. option_map problem_of r.1 ≡ reported_by_rules g self.old.cache path.now is_dir)) }
         ensures stays { Stays self.old.cache self.new.cache }
+        ensures loaded { KeepsLoads F.Files files.now self.old.asked self.old.cache self.new.cache }
         ensures kept { WhereDecided F.Files files.now self.old path.now (λ g.
             OnOk result (KeepsNeeded (needed g (queries.names_of path.now)) self.old.cache self.new.cache)) }
         ensures agrees { WhereDecided F.Files files.now self.old path.now (λ g.

@@ -13,6 +13,7 @@ ghost use Rattle.ignore_dir.specs.Scene.{QueryScene};
 ghost use Rattle.ignore_dir.specs.Soft.{IsSoft};
 ghost use Rattle.ignore_query.specs.Agrees.{Agrees};
 ghost use Rattle.ignore_query.specs.Fresh.{KeepsNothing};
+ghost use Rattle.ignore_query.specs.KeptLoads.{KeepsLoads};
 ghost use Rattle.ignore_query.specs.Needs.{KeepsNeeded, Stays, is_decided, is_known, needed};
 ghost use Rattle.ignore_query.specs.Reached.{dir_of, scene_of};
 ghost use Rattle.ignore_query.specs.Reports.{reported, reported_by_rules};
@@ -122,6 +123,7 @@ impl IncrementalIgnore {
     ) -> Result<IncrementalMatch, Error>
         ensures value { WhereAgrees F.Files files.now self.old (λ g. IfOk result (λ m. m ≡ (queries.query g path.now is_dir).0)) }
         ensures stays { Stays self.old.cache self.new.cache }
+        ensures loaded { KeepsLoads F.Files files.now self.old.asked self.old.cache self.new.cache }
         ensures kept { WhereAgrees F.Files files.now self.old (λ g. is_decided g path.now is_dir ≡ true
             → OnOk result (KeepsNeeded (needed g (queries.names_of path.now)) self.old.cache self.new.cache)) }
         ensures unchanged { WhereAgrees F.Files files.now self.old (λ g. is_decided g path.now is_dir ≢ true → self.new.cache ≡ self.old.cache) }
@@ -141,7 +143,7 @@ impl IncrementalIgnore {
     ///
     /// # Errors
     /// `Error::Memory` alone. What was kept stays kept.
-    #[tactic(auto, unfolding(ignore_dir::specs::Query::query, crate::specs::Reports::reported))]
+    #[tactic(auto, using(crate::proofs::KeptLoadLemmas::loads_nothing), unfolding(ignore_dir::specs::Query::query, crate::specs::Reports::reported))]
     pub fn matched_with_errors<F: Files>(
         &mut self,
         files: &F,
@@ -151,6 +153,7 @@ impl IncrementalIgnore {
         ensures value { WhereAgrees F.Files files.now self.old (λ g. IfOk result (λ r. r.0 ≡ (queries.query g path.now is_dir).0)) }
         ensures reports { WhereAgrees F.Files files.now self.old (λ g. IfOk result (λ r. option_map problem_of r.1 ≡ reported g self.old.cache path.now is_dir)) }
         ensures stays { Stays self.old.cache self.new.cache }
+        ensures loaded { KeepsLoads F.Files files.now self.old.asked self.old.cache self.new.cache }
         ensures kept { WhereAgrees F.Files files.now self.old (λ g. is_decided g path.now is_dir ≡ true
             → OnOk result (KeepsNeeded (needed g (queries.names_of path.now)) self.old.cache self.new.cache)) }
         ensures unchanged { WhereAgrees F.Files files.now self.old (λ g. is_decided g path.now is_dir ≢ true → self.new.cache ≡ self.old.cache) }
@@ -194,6 +197,7 @@ impl IncrementalIgnore {
         ensures reports { WhereDecided F.Files files.now self.old path.now (λ g.
             IfOk result (λ r. option_map problem_of r.1 ≡ reported_by_rules g self.old.cache path.now is_dir)) }
         ensures stays { Stays self.old.cache self.new.cache }
+        ensures loaded { KeepsLoads F.Files files.now self.old.asked self.old.cache self.new.cache }
         ensures kept { WhereDecided F.Files files.now self.old path.now (λ g.
             OnOk result (KeepsNeeded (needed g (queries.names_of path.now)) self.old.cache self.new.cache)) }
         ensures from_kept { (tree : Tree) (loads : List ℕ → Loaded) → let g = scene_of self.old.asked tree loads in

@@ -6,16 +6,18 @@ ghost use Rattle.std.specs.List.{filter_map, list_all, list_any};
 ghost use Rattle.std.specs.Option.{option_to_list};
 ghost use Rattle.std.specs.Str.{bytes_eq};
 ghost use Rattle.ignore_base.specs.Paths.{IsName, components, is_proper};
-ghost use Rattle.ignore_base.specs.Problem.{problem_of};
+ghost use Rattle.ignore_base.specs.Problem.{Problem, problem_of};
 ghost use Rattle.ignore_dir.specs.Above.{path_along};
 ghost use Rattle.ignore_dir.specs.Chains.{slashed};
 ghost use Rattle.ignore_dir.specs.Load.{Loaded};
+ghost use Rattle.ignore_dir.specs.LoadsBy.{LoadsBy, reads_of, stats_of};
 ghost use Rattle.ignore_dir.specs.Query.{ancestors, is_ignored, rules_verdict};
 ghost use Rattle.ignore_dir.specs.Soft.{AllSoft};
 ghost use Rattle.ignore_files.specs.Tree.{Tree};
 ghost use Rattle.ignore_levels.specs.Levels.{Keeps, slots_of};
 ghost use Rattle.ignore_query.specs.declared.kept.Kept as kept;
 ghost use Rattle.ignore_query.specs.Agrees.{Agrees, IsNext, IsRight, is_loaded};
+ghost use Rattle.ignore_query.specs.KeptLoads.{IsFound, KeepsLoads};
 ghost use Rattle.ignore_query.specs.Keys.{IsKey};
 ghost use Rattle.ignore_query.specs.Listed.{IsBelow};
 ghost use Rattle.ignore_query.specs.Needs.{KeepsNeeded, Stays, is_known, needed};
@@ -67,6 +69,9 @@ fn load<F: Files>(call: &Call<'_, F>, key: &str, errors: &mut Vec<Error>) -> Res
         → IfOk result (λ dir. dir ≡ (g.loads (path_along g.root names)).0)) }
     ensures problems { InCall F.Files call.now (λ g. (names : List (List ℕ)) → All IsName names → key.now ≡ slashed names
         → OnOk result (map problem_of errors.new.items ≡ map problem_of errors.old.items ++ option_to_list (problem_in g names))) }
+    ensures loaded { (names : List (List ℕ)) → All IsName names → key.now ≡ slashed names
+        → IfOk result (λ dir. (problem : Option Problem) × LoadsBy (stats_of F.Files call.now.files.now) (reads_of F.Files call.now.files.now)
+        call.now.asked.now.settings (path_along (string_bytes call.now.asked.now.root) names) dir problem) }
     ensures soft { AllSoft (map problem_of errors.old.items) → OnOk result (AllSoft (map problem_of errors.new.items)) }
 {
     one_load();
@@ -105,6 +110,8 @@ impl Cache {
         ensures problems { WhereNext F.Files call.now self.old place key.now (λ g names.
             OnOk result (map problem_of errors.new.items
             ≡ map problem_of errors.old.items ++ (if is_ignored g names then [] else option_to_list (problem_in g names)))) }
+        ensures loaded { (names : List (List ℕ)) → All IsName names → key.now ≡ slashed names
+            → IfOk result (λ k. IsFound F.Files call.now.files.now call.now.asked.now self.new place names k) }
         ensures levels { Keeps (slots_of self.old.levels) (slots_of self.new.levels) }
         ensures below { IfOk result (λ k. IsBelow (slots_of self.old.levels) (slots_of self.new.levels) place k) }
         ensures above { (self.new.has_above ≡ self.old.has_above) × ((self.new.above ≡ self.old.above) × (self.new.base ≡ self.old.base)) }
@@ -123,6 +130,7 @@ impl Cache {
 
     /// Looks the directory with this key up, in one that stands at a place. Where nothing is kept
     /// of it, judges it, loads it unless it is ignored, and keeps it. Returns what is kept of it.
+    #[tactic(auto, using(crate::proofs::KeptLoadLemmas::loads_nothing))]
     fn keep<F: Files>(
         &mut self,
         call: &Call<'_, F>,
@@ -132,6 +140,8 @@ impl Cache {
     ) -> Result<Kept, AllocError>
         requires named { IsKey key.now }
         ensures stays { Stays self.old self.new }
+        ensures loaded { (names : List (List ℕ)) → All IsName names → key.now ≡ slashed names → IsNext self.old names place
+            → KeepsLoads F.Files call.now.files.now call.now.asked.now self.old self.new }
         ensures kept { OnOk result ((text : List ℕ) → is_some (get_by_text self.new.dirs.map text)
             ≡ (is_some (get_by_text self.old.dirs.map text) || bytes_eq key.now text)) }
         ensures others { (text : List ℕ) → text ≢ key.now → get_by_text self.new.dirs.map text ≡ get_by_text self.old.dirs.map text }
@@ -166,6 +176,7 @@ impl Cache {
     ) -> Result<Kept, AllocError>
         requires named { All IsName (map (λ n. n.now) names.now) }
         ensures stays { Stays self.old self.new }
+        ensures loaded { self.old.has_above ≡ true → KeepsLoads F.Files call.now.files.now call.now.asked.now self.old self.new }
         ensures kept { WhereRooted F.Files call.now self.old (map (λ n. n.now) names.now) (λ g all.
             OnOk result (KeepsNeeded (needed g all) self.old self.new)) }
         ensures agrees { WhereRooted F.Files call.now self.old (map (λ n. n.now) names.now) (λ g all.
@@ -199,6 +210,7 @@ impl Cache {
 
     /// What the rules say of a path of names. Its proper ancestors are kept then, down to the first
     /// ignored one.
+    #[tactic(auto, using(crate::proofs::KeptLoadLemmas::loads_nothing))]
     pub(crate) fn rules_verdict<F: Files>(
         &mut self,
         call: &Call<'_, F>,
@@ -208,6 +220,7 @@ impl Cache {
     ) -> Result<Verdict, AllocError>
         requires named { list_all is_proper (components path.now) ≡ true }
         ensures stays { Stays self.old self.new }
+        ensures loaded { self.old.has_above ≡ true → KeepsLoads F.Files call.now.files.now call.now.asked.now self.old self.new }
         ensures kept { WhereKept F.Files call.now self.old path.now (λ g.
             OnOk result (KeepsNeeded (needed g (components path.now)) self.old self.new)) }
         ensures agrees { WhereKept F.Files call.now self.old path.now (λ g.

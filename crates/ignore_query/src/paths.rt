@@ -8,6 +8,7 @@ ghost use Rattle.ignore_dir.specs.Query as queries;
 ghost use Rattle.ignore_dir.specs.Soft.{IsSoft};
 ghost use Rattle.ignore_query.specs.Agrees.{Agrees};
 ghost use Rattle.ignore_query.specs.InTurn.{ReportInTurn};
+ghost use Rattle.ignore_query.specs.KeptLoads.{KeepsLoads};
 ghost use Rattle.ignore_query.specs.Needs.{Stays};
 ghost use Rattle.ignore_query.specs.Where.{WhereAgrees};
 ghost use Rattle.ignore_why.specs.QueryWhy.{query_why, query_why_of};
@@ -26,6 +27,7 @@ use ignore_why::Explanation;
 ///
 /// # Errors
 /// `Error::Memory` alone. What was kept stays kept, and so does what was read before the error.
+#[tactic(auto, using(crate::proofs::KeptLoadLemmas::loads_nothing))]
 pub fn check_paths<F: Files>(
     matcher: &mut IncrementalIgnore,
     files: &F,
@@ -36,6 +38,7 @@ pub fn check_paths<F: Files>(
         (map (λ r. option_map problem_of r.1) rs.items) matcher.old.cache matcher.new.cache)) }
     ensures agrees { WhereAgrees F.Files files.now matcher.old (λ g. Agrees g matcher.new.cache) }
     ensures stays { Stays matcher.old.cache matcher.new.cache }
+    ensures loaded { KeepsLoads F.Files files.now matcher.old.asked matcher.old.cache matcher.new.cache }
     ensures soft { IfOk result (λ rs. All (λ r. IsSoft (option_map problem_of r.1)) rs.items) }
     ensures same { matcher.new.asked ≡ matcher.old.asked }
     ensures out_of_memory { IfErr result (λ e. problem_of e ≡ memory) }
@@ -54,6 +57,7 @@ pub fn check_paths<F: Files>(
 ///
 /// # Errors
 /// `Error::Memory` alone. What was kept stays kept, and so does what was read before the error.
+#[tactic(auto, using(crate::proofs::KeptLoadLemmas::loads_nothing))]
 pub fn explain_paths<F: Files>(
     matcher: &mut IncrementalIgnore,
     files: &F,
@@ -65,6 +69,7 @@ pub fn explain_paths<F: Files>(
         (map (λ r. option_map problem_of r.1) rs.items) matcher.old.cache matcher.new.cache)) }
     ensures agrees { WhereAgrees F.Files files.now matcher.old (λ g. Agrees g matcher.new.cache) }
     ensures stays { Stays matcher.old.cache matcher.new.cache }
+    ensures loaded { KeepsLoads F.Files files.now matcher.old.asked matcher.old.cache matcher.new.cache }
     ensures soft { IfOk result (λ rs. All (λ r. IsSoft (option_map problem_of r.1)) rs.items) }
     ensures same { matcher.new.asked ≡ matcher.old.asked }
     ensures out_of_memory { IfErr result (λ e. problem_of e ≡ memory) }

@@ -18,6 +18,7 @@ ghost use Rattle.ignore_files.specs.Gives.{IsHonest};
 ghost use Rattle.ignore_files.specs.Tree.{Tree};
 ghost use Rattle.ignore_query.specs.declared.kept.Kept as kept;
 ghost use Rattle.ignore_query.specs.Agrees.{Agrees, kept_at};
+ghost use Rattle.ignore_query.specs.KeptLoads.{KeepsLoads};
 ghost use Rattle.ignore_query.specs.Needs.{KeepsNeeded, Stays, is_known, needed};
 ghost use Rattle.ignore_query.specs.Reached.{scene_of};
 ghost use Rattle.ignore_query.specs.Reports.{new_above, new_below};
@@ -218,6 +219,7 @@ impl Cache {
         ensures why { WhereAsked F.Files call.now self.old path.now (λ g.
             IfOk result (λ r. query_why_of r ≡ why_by_rules g path.now is_dir)) }
         ensures stays { Stays self.old self.new }
+        ensures loaded { KeepsLoads F.Files call.now.files.now call.now.asked.now self.old self.new }
         ensures kept { WhereAsked F.Files call.now self.old path.now (λ g.
             OnOk result (KeepsNeeded (needed g (components path.now)) self.old self.new)) }
         ensures agrees { WhereAsked F.Files call.now self.old path.now (λ g.

@@ -8,6 +8,7 @@ ghost use Rattle.ignore_dir.specs.Soft.{AllSoft};
 ghost use Rattle.ignore_files.specs.Gives.{IsHonest};
 ghost use Rattle.ignore_files.specs.Tree.{Tree};
 ghost use Rattle.ignore_query.specs.Agrees.{Agrees};
+ghost use Rattle.ignore_query.specs.KeptLoads.{KeepsLoads};
 ghost use Rattle.ignore_query.specs.Needs.{Stays};
 ghost use Rattle.ignore_query.specs.Reached.{scene_of};
 ghost use Rattle.ignore_query.specs.Reports.{new_above};
@@ -56,6 +57,7 @@ impl Cache {
     }
 
     /// Keeps what is above the root, which is a directory.
+    #[tactic(auto, using(crate::proofs::KeptLoadLemmas::loads_nothing))]
     pub(crate) fn keep_above<F: Files>(
         &mut self,
         call: &Call<'_, F>,
@@ -64,6 +66,7 @@ impl Cache {
         ensures agrees { InCall F.Files call.now (λ g. queries.is_dir_there (g.tree.stat g.root true) ≡ true
             → Agrees g self.old → Agrees g self.new) }
         ensures stays { Stays self.old self.new }
+        ensures loaded { KeepsLoads F.Files call.now.files.now call.now.asked.now self.old self.new }
         ensures kept { OnOk result (self.new.has_above ≡ true) }
         ensures same { self.new.dirs ≡ self.old.dirs }
         ensures known { self.old.has_above ≡ true → (self.new ≡ self.old) × (errors.new ≡ errors.old) }

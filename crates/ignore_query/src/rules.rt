@@ -11,6 +11,7 @@ use ignore_dir::Dir;
 use ignore_dir::laws::steps_are_whole;
 use ignore_levels::Level;
 use ignore_rules::gitignore::Glob;
+use ignore_why::internal::named_rule;
 use ignore_why::{NamedRule, RuleRank};
 use std::alloc::{AllocError, Global};
 
@@ -18,20 +19,8 @@ use std::alloc::{AllocError, Global};
 fn named_in(alloc: Global, dir: &str, rank: RuleRank, glob: &Glob) -> Result<NamedRule, AllocError>
     ensures { IfOk result (λ rule. named_of rule ≡ named_in dir.now rank glob.now) }
 {
-    let source = match glob.from() {
-        Some(path) => Some(String::from_str(alloc, path)?),
-        None => None,
-    };
     let directory = String::from_str(alloc, dir)?;
-    let original = String::from_str(alloc, glob.original())?;
-    Ok(NamedRule {
-        rank,
-        directory: Some(directory),
-        source,
-        line: glob.line(),
-        original,
-        is_whitelist: glob.is_whitelist(),
-    })
+    named_rule(alloc, rank, Some(directory), glob)
 }
 
 /// Appends the rules of the list of a rank in a directory.

@@ -1,14 +1,16 @@
 -- What a matcher ensures holds of each scene that suits it.
-use Rattle.std.proofs.Common.{◌≡◌, Bool, true, false, not, ◌&&◌, [], codes, bytes_eq, sym, ◌∙◌, ap, subst}
+use Rattle.std.proofs.Common.{◌≡◌, ◌≢◌, Bool, true, false, not, ◌&&◌, [], codes, bytes_eq, sym, ◌∙◌, ap, subst}
 use Rattle.ignore_base.specs.Text.{Path}
 use Rattle.ignore_dir.specs.Load.{AreLoads}
-use Rattle.ignore_dir.specs.Query.{query}
+use Rattle.ignore_dir.specs.Limits.{is_beyond}
+use Rattle.ignore_dir.specs.Query.{depth_of_path, is_asked, query}
 use Rattle.ignore_dir.specs.Scene.{QueryScene}
 use Rattle.ignore_dir.specs.declared.incremental.IncrementalMatch.{IncrementalMatch}
 use Rattle.ignore_files.specs.Kinds.{is_dir}
 use Rattle.ignore_files.specs.declared.files.Files.{Ghosts as Files}
 use Rattle.ignore_files.specs.declared.types.FileType.{FileType}
 use Rattle.ignore_query.specs.Agrees.{Agrees}
+use Rattle.ignore_query.specs.Needs.{is_decided}
 use Rattle.ignore_query.specs.Reached.{scene_of}
 use Rattle.ignore_query.specs.Where.{WhereAgrees}
 use Rattle.ignore_query.specs.declared.asked.Asked.{Asked}
@@ -32,6 +34,15 @@ module _ {F : Type 0} (files : Files F) (f : F) (m : IncrementalIgnore) (g : Que
         scene = s.scene ∙ ap (λ (a : Asked). scene_of a g.tree g.loads) (sym same);
         agrees = agrees;
       }
+
+beside_false : (a b : Bool) → (a && (b && false)) ≢ true
+beside_false true true e = cc e
+beside_false true false e = cc e
+beside_false false b e = cc e
+
+-- the rules don't decide on the root
+pub root_undecided : (g : QueryScene) → is_decided g [] true ≢ true
+root_undecided g = beside_false (is_asked g.root []) (not (is_beyond g.settings (depth_of_path []) true))
 
 -- what an entry of a survey is, by what a matcher answers
 pub entry_is : (g : QueryScene) (path p : Path) (kind : FileType) (d : Bool) (a : IncrementalMatch) (why : QueryWhy) → p ≡ path → d ≡ is_dir kind

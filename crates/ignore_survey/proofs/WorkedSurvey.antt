@@ -1,6 +1,7 @@
 -- A worked survey, computed. `/t` lists the directories `a`, `b` and `c` and the hidden file `.h`.
--- `/t/.ignore` ignores `b`. `/t/a` lists the file `k`; `/t/c` can't be listed.
-use Rattle.std.proofs.Common.{◌≡◌, ℕ, true, false, Bool, List, [], ◌∷◌, codes, zero, suc, Some, None, Ok, Err, Result, refl, arith, if◌then◌else◌, IsSortedBy}
+-- `/t/.ignore` ignores `b`. `/t/a` lists the file `k`; `/t/c` can't be listed. Then walks of the same
+-- tree, one with which a survey agrees, and others.
+use Rattle.std.proofs.Common.{◌≡◌, ℕ, true, false, Bool, List, [], ◌∷◌, codes, zero, suc, Some, None, Ok, Err, Result, refl, sym, ◌∙◌, arith, if◌then◌else◌, IsSortedBy}
 use Rattle.std.proofs.lemmas.List.Sorted.{IsPermutation-refl}
 use Rattle.std.specs.Cmp.Lexicographic.{slice_cmp}
 use Rattle.std.specs.Ordering.{is_lt, nat_cmp}
@@ -26,7 +27,9 @@ use Rattle.ignore_why.specs.declared.cause.RuleRank.TheVariants.{Ignore}
 use Rattle.ignore_why.specs.Cited.Cited.{on_name, on_rule}
 use Rattle.ignore_why.specs.QueryWhy.{path_why, query_why, why_by_rules}
 use Rattle.ignore_why.specs.QueryWhy.QueryWhy.{decided}
+use Rattle.ignore_walk.specs.Scene.{Scene, queries}
 use Rattle.ignore_walk.specs.Walked.{comes_before}
+use Rattle.ignore_survey.specs.Agreement.{IsPlain}
 use Rattle.ignore_survey.specs.Survey.{Below, IsSurvey, entry_at, goes_on, is_open, unlisted, fails, lists, none, leaf, inner, of_root}
 
 abbrev pub rule_b : Rule
@@ -135,3 +138,35 @@ surveyed =
     let in_c : Below g (codes "c") (unlisted g (codes "c") PermissionDenied ∷ []) = fails refl in
     of_root ways.0 (lists {things = top_list} (top_list, refl, (IsPermutation-refl top_list, rises, λ z. refl))
     (leaf ways.1 (inner ways.2 in_a (leaf ways.4 (inner ways.5 in_c none)))))
+
+-- a walk of the same tree by some settings, without a filter and without an order
+abbrev pub walk : Settings → Scene
+walk s = record {
+  tree = tree;
+  loads = loads;
+  settings = s;
+  outside = g.outside;
+  same_file_system = false;
+  keep = λ e. true;
+  order = None;
+}
+
+-- by the settings of the survey it is plain, and its queries are those of the survey
+pub plain : IsPlain (walk settings) × (queries (walk settings) (codes "/t") ≡ g)
+plain = (
+  record {
+    is_open = record { keeps_all = λ e. refl; all_devices = refl };
+    no_links = refl;
+    no_least = refl;
+    no_greatest = refl;
+  },
+  refl,
+)
+
+-- one that follows links, or has a greatest depth, isn't
+
+pub links_not_plain : (s : Settings) → s.follow_links ≡ true → IsPlain (walk s) → ⊥
+links_not_plain s follows h = let e = sym follows ∙ h.no_links in cc (e)
+
+pub depth_not_plain : (s : Settings) (depth : ℕ) → s.max_depth ≡ Some depth → IsPlain (walk s) → ⊥
+depth_not_plain s depth limits h = let e = sym limits ∙ h.no_greatest in cc (e)

@@ -7,7 +7,7 @@ use Rattle.ignore_base.specs.Problem.{io, memory}
 use Rattle.ignore_dir.specs.Scene.{QueryScene}
 use Rattle.ignore_files.specs.declared.files.Files.{Ghosts as Files}
 use Rattle.ignore_survey.specs.Stands.{Stands}
-use Rattle.ignore_survey.specs.Suits.{ReportsNext, Suits}
+use Rattle.ignore_survey.specs.Suits.{LeavesNext, ReportsNext, Suits}
 use Rattle.ignore_survey.specs.Survey.{Item}
 use Rattle.ignore_survey.specs.Surveyed.{item_of}
 use Rattle.ignore_survey.specs.declared.survey.Survey.{Survey}
@@ -48,13 +48,14 @@ abbrev pub items_at_most : {F : Type 0} → Survey F → ℕ
 items_at_most s = if s.ended then 0 else s.left + 1
 
 -- what one `next` of a survey answers, and what it makes of the survey. For files that are
--- consistent with a tree it is an item of what remains, and what the matcher keeps still agrees with
--- the tree. For all files: an ended survey answers none; after none it is ended; and where it was
--- ended now, that was its last answer
+-- consistent with a tree it is an item of what remains, and what the matcher keeps then is what the
+-- query for that leaves, and still agrees with the tree. For all files: an ended survey answers none;
+-- after none it is ended; and where it was ended now, that was its last answer
 pub record NextGives {F : Type 0} (files : Files F) (a : Survey F) (answer : Option (Result Surveyed Error)) (b : Survey F)
     : Type 0 where
   pub given : (g : QueryScene) (items : List Item) → Remaining files g a items → Nexts files g a (option_map item_of answer) b items
   pub reports : (g : QueryScene) → Suits files a.files.now a.matcher g → ReportsNext g a.matcher.cache answer
+  pub leaves : (g : QueryScene) → Suits files a.files.now a.matcher g → LeavesNext g a.matcher.cache answer b.ended b.matcher.cache
   pub suits : (g : QueryScene) → Suits files a.files.now a.matcher g → Suits files b.files.now b.matcher g
   pub over : a.ended ≡ true → answer ≡ None
   pub none : answer ≡ None → b.ended ≡ true

@@ -1,49 +1,20 @@
 //! What a directory lists, in the order of the names.
 ghost use Rattle.std.specs.Cmp.Lexicographic.{slice_cmp};
 ghost use Rattle.std.specs.Ordering.{is_lt, nat_cmp};
-ghost use Rattle.std.specs.Prelude.{◌≡◌, Err, IfOk, MatchResult, OnOk, map, string_bytes};
+ghost use Rattle.std.specs.Prelude.{◌≡◌, IfOk, OnOk, map, string_bytes};
 ghost use Rattle.ignore_base.specs.Problem.{problem_of, at_path, io};
 ghost use Rattle.ignore_base.specs.Text.{Path};
-ghost use Rattle.ignore_files.specs.Gives.{IsHonest};
-ghost use Rattle.ignore_files.specs.Tree.{Tree};
-ghost use Rattle.ignore_survey.specs.Survey.{Lists, by_name, place};
+ghost use Rattle.ignore_survey.specs.Survey.{by_name, place};
 ghost use Rattle.ignore_walk.specs.Child.{named};
 ghost use Rattle.ignore_walk.specs.Walked.{IsArranged, comes_before};
 
 use ignore_base::internal::join;
-use ignore_base::text::{has_slash, is_proper};
 use ignore_base::{Error, Fault};
-use ignore_files::internal::answered;
-use ignore_files::{Files, Listed, Listing};
+use ignore_files::{Listed, Listing};
+use ignore_walk::internal::all_named;
 use std::alloc::{AllocError, Global};
 use std::cmp::Ordering;
 use std::collections::VecDeque;
-
-/// A listed thing, or a fault in its place where its name is no name.
-fn named(listed: Listed) -> Listed
-    ensures { result ≡ named listed }
-{
-    match listed {
-        Listed::Entry { name, file_type } => {
-            if is_proper(name.as_str()) && !has_slash(name.as_str()) {
-                return Listed::Entry { name, file_type };
-            }
-            Listed::Fault(Fault::BadName)
-        }
-        Listed::Fault(fault) => Listed::Fault(fault),
-    }
-}
-
-/// The same of each thing of a listing.
-fn all_named(alloc: Global, listing: Vec<Listed>) -> Result<Vec<Listed>, AllocError>
-    ensures { IfOk result (λ all. all.items ≡ map named listing.items) }
-{
-    let mut all = Vec::with_capacity(alloc, listing.len())?;
-    for listed in listing {
-        all.push(named(listed))?;
-    }
-    Ok(all)
-}
 
 /// How two listed things compare: faults come first, and entries compare as the bytes of their names.
 fn compare(a: &Listed, b: &Listed) -> Ordering
@@ -73,39 +44,12 @@ fn sort(listing: &mut Vec<Listed>) -> Result<(), AllocError>
 }
 
 /// A listing in the order of the names, each name that is none as a fault.
-fn in_order(alloc: Global, listing: Listing) -> Result<VecDeque<Listed>, AllocError>
+pub(crate) fn in_order(alloc: Global, listing: Listing) -> Result<VecDeque<Listed>, AllocError>
     ensures { (dir : Path) → IfOk result (λ things. IsArranged by_name dir (map named listing) things.items) }
 {
     let mut things = all_named(alloc, listing.into_vec())?;
     sort(&mut things)?;
     Ok(VecDeque::from_vec(things))
-}
-
-/// What the directory at a path lists, or the fault in place of that.
-fn answer_of<F: Files>(
-    alloc: Global,
-    files: &F,
-    path: &str,
-) -> Result<Result<Listing, Fault>, AllocError>
-    ensures { (tree : Tree) → IsHonest F.Files files.now tree → IfOk result (λ answer. tree.list path.now ≡ answer) }
-{
-    answered(files.list(alloc, path))
-}
-
-/// What the directory at a path lists, in the order of the names; or the fault of its listing.
-pub(crate) fn listed<F: Files>(
-    alloc: Global,
-    files: &F,
-    path: &str,
-) -> Result<Result<VecDeque<Listed>, Fault>, AllocError>
-    ensures { (tree : Tree) → IsHonest F.Files files.now tree → IfOk result (λ r. MatchResult r
-        (λ things. Lists tree path.now things.items)
-        (λ fault. tree.list path.now ≡ Err fault)) }
-{
-    match answer_of(alloc, files, path)? {
-        Ok(listing) => Ok(Ok(in_order(alloc, listing)?)),
-        Err(fault) => Ok(Err(fault)),
-    }
 }
 
 /// Where a directory is; the empty path is that of the root.

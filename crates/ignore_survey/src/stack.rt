@@ -6,10 +6,11 @@ ghost use Rattle.ignore_files.specs.Gives.{IsHonest};
 ghost use Rattle.ignore_survey.specs.Stands.{Enters, Finds, Hands, Left, Stands, Takes, found_at, found_of};
 ghost use Rattle.ignore_survey.specs.Survey.{Item as Yielded};
 
-use crate::listing::{listed, place, unlisted};
+use crate::listing::{in_order, place, unlisted};
 use ignore_base::Error;
 use ignore_base::internal::join;
 use ignore_files::{FileType, Files, Listed, Name};
+use ignore_walk::internal::answer_of;
 use std::alloc::{AllocError, Global};
 use std::collections::VecDeque;
 
@@ -58,9 +59,12 @@ fn enter<F: Files>(
     ensures { (g : QueryScene) → IsHonest F.Files files.now g.tree → g.root ≡ root.now → IfOk result (Enters g path) }
 {
     let place = place(alloc, root, path.as_str())?;
-    match listed(alloc, files, place.as_str())? {
-        Ok(rest) => Ok(Ok(Frame { path, rest })),
-        Err(fault) => Ok(Err(Error::Io(fault).with_path(alloc, place.as_str())?)),
+    match answer_of(alloc, files, place.as_str())? {
+        Ok(listing) => {
+            let rest = in_order(alloc, listing)?;
+            Ok(Ok(Frame { path, rest }))
+        }
+        Err(fault) => Ok(Err(unlisted(alloc, root, path.as_str(), fault)?)),
     }
 }
 

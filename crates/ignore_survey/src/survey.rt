@@ -6,7 +6,7 @@ ghost use Rattle.ignore_dir.specs.Scene.{QueryScene};
 ghost use Rattle.ignore_query.specs.declared.kept.Cache.{Cache};
 ghost use Rattle.ignore_survey.specs.Nexts.{IsLast, Nexts, Remaining, items_at_most};
 ghost use Rattle.ignore_survey.specs.Stands.{Finds, Hands, Stands, found_of};
-ghost use Rattle.ignore_survey.specs.Suits.{Reports, ReportsNext, Suits};
+ghost use Rattle.ignore_survey.specs.Suits.{LeavesKept, LeavesNext, Reports, ReportsNext, Suits};
 ghost use Rattle.ignore_survey.specs.Survey.{IsSurvey, Item as Yielded, is_open};
 ghost use Rattle.ignore_survey.specs.Surveyed.{item_of};
 
@@ -59,6 +59,7 @@ fn next_after(alloc: Global, entry: &Surveyed) -> Result<Option<Name>, AllocErro
 /// Whether the root is surveyed.
 fn is_open<F: Files>(files: &F, matcher: &mut IncrementalIgnore) -> Result<bool, Error>
     ensures value { (g : QueryScene) → Suits F.Files files.now matcher.old g → IfOk result (λ goes_on. goes_on ≡ is_open g) }
+    ensures kept { (g : QueryScene) → Suits F.Files files.now matcher.old g → matcher.new.cache ≡ matcher.old.cache }
     ensures suits { (g : QueryScene) → Suits F.Files files.now matcher.old g → Suits F.Files files.now matcher.new g }
     ensures out_of_memory { IfErr result (λ e. problem_of e ≡ memory) }
 {
@@ -89,6 +90,8 @@ impl<'a, F: Files> Survey<'a, F> {
     ) -> Result<Survey<'a, F>, Error>
         ensures whole { (g : QueryScene) (items : List Yielded) → Suits F.Files files.entry.now matcher g → IsSurvey g items
             → IfOk result (λ s. Remaining F.Files g s items) }
+        ensures suits { (g : QueryScene) → Suits F.Files files.entry.now matcher g → IfOk result (λ s. Suits F.Files s.files.now s.matcher g) }
+        ensures kept { (g : QueryScene) → Suits F.Files files.entry.now matcher g → IfOk result (λ s. s.matcher.cache ≡ matcher.cache) }
         ensures limit { IfOk result (λ s. s.left ≡ u64.MAX) }
         ensures goes_on { IfOk result (λ s. s.ended ≡ false) }
         ensures out_of_memory { IfErr result (λ e. problem_of e ≡ memory) }
@@ -130,6 +133,8 @@ impl<'a, F: Files> Survey<'a, F> {
             → IfOk result (λ s. Hands g self.new.stack (item_of (Ok s)) items) }
         ensures reports { (g : QueryScene) → Suits F.Files self.old.files.now self.old.matcher g
             → IfOk result (λ s. Reports g self.old.matcher.cache (Ok s)) }
+        ensures leaves { (g : QueryScene) → Suits F.Files self.old.files.now self.old.matcher g
+            → IfOk result (λ s. LeavesKept g self.old.matcher.cache (Ok s) self.new.matcher.cache) }
         ensures suits { (g : QueryScene) → Suits F.Files self.old.files.now self.old.matcher g
             → Suits F.Files self.new.files.now self.new.matcher g }
         ensures left { self.new.left ≡ self.old.left }
@@ -148,6 +153,8 @@ impl<'a, F: Files> Survey<'a, F> {
             → IfOk result (λ item. Hands g self.new.stack (item_of item) items) }
         ensures reports { (g : QueryScene) → Suits F.Files self.old.files.now self.old.matcher g
             → IfOk result (Reports g self.old.matcher.cache) }
+        ensures leaves { (g : QueryScene) → Suits F.Files self.old.files.now self.old.matcher g
+            → IfOk result (λ item. LeavesKept g self.old.matcher.cache item self.new.matcher.cache) }
         ensures suits { (g : QueryScene) → Suits F.Files self.old.files.now self.old.matcher g
             → Suits F.Files self.new.files.now self.new.matcher g }
         ensures left { self.new.left ≡ self.old.left }
@@ -167,6 +174,8 @@ impl<'a, F: Files> Survey<'a, F> {
             (λ item. Hands g self.new.stack (item_of item) items)) }
         ensures reports { (g : QueryScene) → Suits F.Files self.old.files.now self.old.matcher g
             → IfOk result (ReportsNext g self.old.matcher.cache) }
+        ensures leaves { (g : QueryScene) → Suits F.Files self.old.files.now self.old.matcher g
+            → IfOk result (λ next. LeavesNext g self.old.matcher.cache next self.new.ended self.new.matcher.cache) }
         ensures suits { (g : QueryScene) → Suits F.Files self.old.files.now self.old.matcher g
             → Suits F.Files self.new.files.now self.new.matcher g }
         ensures left { self.new.left ≡ self.old.left }
@@ -184,6 +193,7 @@ impl<'a, F: Files> Survey<'a, F> {
     fn end(&mut self, error: Error) -> Option<Item>
         ensures item { option_map item_of result ≡ Some (Err (problem_of error)) }
         ensures reports { (g : QueryScene) (c : Cache) → ReportsNext g c result }
+        ensures leaves { (g : QueryScene) (c d : Cache) → LeavesNext g c result true d }
         ensures files { self.new.files ≡ self.old.files }
         ensures matcher { self.new.matcher ≡ self.old.matcher }
         ensures left { self.new.left ≡ self.old.left }
@@ -200,6 +210,8 @@ impl<'a, F: Files> Survey<'a, F> {
             → Nexts F.Files g self.old (option_map item_of result) self.new items }
         ensures reports { (g : QueryScene) → Suits F.Files self.old.files.now self.old.matcher g
             → ReportsNext g self.old.matcher.cache result }
+        ensures leaves { (g : QueryScene) → Suits F.Files self.old.files.now self.old.matcher g
+            → LeavesNext g self.old.matcher.cache result self.new.ended self.new.matcher.cache }
         ensures suits { (g : QueryScene) → Suits F.Files self.old.files.now self.old.matcher g
             → Suits F.Files self.new.files.now self.new.matcher g }
         ensures over { self.old.ended ≡ true → result ≡ None }

@@ -2,6 +2,8 @@
 ghost use Rattle.std.specs.Prelude.{◌≡◌, IfErr, IfOk, Ok, string_bytes};
 ghost use Rattle.ignore_base.specs.Problem.{problem_of, memory};
 ghost use Rattle.ignore_dir.specs.Scene.{QueryScene};
+ghost use Rattle.ignore_files.specs.Kinds.{is_dir};
+ghost use Rattle.ignore_query.specs.InTurn.{Leaves};
 ghost use Rattle.ignore_survey.specs.Suits.{Reports, Suits};
 ghost use Rattle.ignore_survey.specs.Survey.{entry_at};
 ghost use Rattle.ignore_survey.specs.Surveyed.{entry_of};
@@ -35,6 +37,8 @@ pub(crate) fn explained<F: Files>(
 ) -> Result<Surveyed, Error>
     ensures entry { (g : QueryScene) → Suits F.Files files.now matcher.old g → IfOk result (λ s. entry_of s ≡ entry_at g (string_bytes path) file_type) }
     ensures reports { (g : QueryScene) → Suits F.Files files.now matcher.old g → IfOk result (λ s. Reports g matcher.old.cache (Ok s)) }
+    ensures leaves { (g : QueryScene) → Suits F.Files files.now matcher.old g
+        → IfOk result (λ s. Leaves g (string_bytes s.path, is_dir s.file_type) matcher.old.cache matcher.new.cache) }
     ensures suits { (g : QueryScene) → Suits F.Files files.now matcher.old g → Suits F.Files files.now matcher.new g }
     ensures out_of_memory { IfErr result (λ e. problem_of e ≡ memory) }
 {

@@ -72,8 +72,8 @@ fn named(listed: Listed) -> Listed
     }
 }
 
-/// The same of each thing of a listing.
-pub(crate) fn all_named(alloc: Global, listing: Vec<Listed>) -> Result<Vec<Listed>, AllocError>
+/// The things of a listing, each a fault in its place where its name is no name.
+pub fn all_named(alloc: Global, listing: Vec<Listed>) -> Result<Vec<Listed>, AllocError>
     ensures { IfOk result (λ all. all.items ≡ map named listing.items) }
 {
     if are_named(listing.as_slice()) {

@@ -10,6 +10,7 @@ mod entry;
 mod found;
 mod frame;
 mod ground;
+pub mod internal;
 pub mod laws;
 mod made;
 mod open;

@@ -3,7 +3,9 @@ ghost use Rattle.std.specs.Prelude.{◌≡◌, ℕ, Bool, List, Option, IfOk, Is
 ghost use Rattle.std.specs.Result.{result_err};
 ghost use Rattle.ignore_base.specs.Problem.{problem_of};
 ghost use Rattle.ignore_base.specs.Text.{Path};
+ghost use Rattle.ignore_files.specs.Gives.{IsHonest};
 ghost use Rattle.ignore_files.specs.Shown.{Shows};
+ghost use Rattle.ignore_files.specs.Tree.{Tree};
 ghost use Rattle.ignore_dir.specs.Ground.{InLoads, InTree};
 ghost use Rattle.ignore_dir.specs.Soft.{IsSoft};
 ghost use Rattle.ignore_walk.specs.Answered.{as_answer};
@@ -71,15 +73,16 @@ fn loaded_by<F: Files>(
     load_shown(ground, path, shown)
 }
 
-/// What a directory lists, or the fault in place of that.
-fn answer_of<F: Files>(
-    ground: &Ground<'_, F>,
+/// What the directory at a path lists, or the fault in place of that.
+pub fn answer_of<F: Files>(
+    alloc: Global,
+    files: &F,
     path: &str,
 ) -> Result<Result<Listing, Fault>, AllocError>
-    ensures value { InTree F.Files ground.now (λ tree. IfOk result (λ answer. tree.list path.now ≡ answer)) }
-    ensures answered { IfOk result (λ answer. F.list_gives ground.now.files.now path.now (as_answer answer)) }
+    ensures value { (tree : Tree) → IsHonest F.Files files.now tree → IfOk result (λ answer. tree.list path.now ≡ answer) }
+    ensures answered { IfOk result (λ answer. F.list_gives files.now path.now (as_answer answer)) }
 {
-    answered(ground.files.list(ground.alloc, path))
+    answered(files.list(alloc, path))
 }
 
 /// What an answer of these files shows of the names in a directory.
@@ -145,7 +148,7 @@ pub(crate) fn open<F: Files, S: Callbacks>(
     ensures listed { IfOk result (λ o. IsListed (F.list_gives ground.now.files.now) o.directory.path o.directory.rest.items) }
 {
     let at = path.as_str();
-    let answer = answer_of(ground, at)?;
+    let answer = answer_of(ground.alloc, ground.files, at)?;
     let shown = shown_by(ground, &answer);
     let (dir, error) = loaded_by(ground, at, &shown)?;
     let (rest, fault) = listed(ground.alloc, owner, order, at, answer)?;

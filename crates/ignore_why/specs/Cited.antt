@@ -41,17 +41,21 @@ directory_of text (in_directory rank past) = Some (take (length text - length pa
 directory_of text in_global = None
 directory_of text in_explicit = None
 
+-- a rule of the list of a rank, of a directory or of none, by name
+abbrev pub named_rule : RuleRank → Option Path → Rule → Named
+named_rule rank directory rule =
+    record {
+      rank = rank;
+      directory = directory;
+      from = rule.from;
+      line = rule.line;
+      original = rule.original;
+      is_whitelist = rule.is_whitelist;
+    }
+
 -- a rule where it stands, by name
 abbrev pub named : Path → Sited → Named
-named text s =
-    record {
-      rank = rank_of s.site;
-      directory = directory_of text s.site;
-      from = s.rule.from;
-      line = s.rule.line;
-      original = s.rule.original;
-      is_whitelist = s.rule.is_whitelist;
-    }
+named text s = named_rule (rank_of s.site) (directory_of text s.site) s.rule
 
 -- a file type by name, and one of its globs
 pub record Typed : Type 0 where

@@ -5,11 +5,12 @@ ghost use Rattle.std.specs.Option.{option_copied};
 ghost use Rattle.ignore_base.specs.Match.{match_map};
 ghost use Rattle.ignore_base.specs.Text.{Path};
 ghost use Rattle.ignore_levels.specs.Reasons.{IsAtBoundary, IsInside, IsReasonInside, site_of, sited_of, why_of};
-ghost use Rattle.ignore_why.specs.Cited.{directory_of, cited, cited_of, named, named_of, rank_of, typed, typed_of};
+ghost use Rattle.ignore_why.specs.Cited.{directory_of, cited, cited_of, named, named_of, named_rule, rank_of, typed, typed_of};
 
 use ignore_base::Match;
 use ignore_dir::Rank;
 use ignore_levels::{Origin, Reason, Ruling};
+use ignore_rules::gitignore::Glob;
 use ignore_rules::overrides;
 use ignore_types::types;
 use std::alloc::{AllocError, Global};
@@ -123,23 +124,34 @@ fn copied(alloc: Global, text: Option<&str>) -> Result<Option<String>, AllocErro
     }
 }
 
-/// The rule that decides, by name.
-fn named(alloc: Global, text: &str, ruling: &Ruling<'_>) -> Result<NamedRule, AllocError>
-    ensures { IsAtBoundary text.now ruling.now.origin
-        → IfOk result (λ rule. named_of rule ≡ named text.now (sited_of text.now ruling.now)) }
+/// A rule of the list of a rank, of a directory or of none, by name.
+pub fn named_rule(
+    alloc: Global,
+    rank: RuleRank,
+    directory: Option<String>,
+    glob: &Glob,
+) -> Result<NamedRule, AllocError>
+    ensures { IfOk result (λ rule. named_of rule ≡ named_rule rank (option_map string_bytes directory) glob.now) }
 {
-    let glob = ruling.glob;
-    let directory = directory_of(alloc, text, ruling.origin)?;
     let source = copied(alloc, glob.from())?;
     let original = String::from_str(alloc, glob.original())?;
     Ok(NamedRule {
-        rank: rank_of(ruling.origin),
+        rank,
         directory,
         source,
         line: glob.line(),
         original,
         is_whitelist: glob.is_whitelist(),
     })
+}
+
+/// The rule that decides, by name.
+fn named(alloc: Global, text: &str, ruling: &Ruling<'_>) -> Result<NamedRule, AllocError>
+    ensures { IsAtBoundary text.now ruling.now.origin
+        → IfOk result (λ rule. named_of rule ≡ named text.now (sited_of text.now ruling.now)) }
+{
+    let directory = directory_of(alloc, text, ruling.origin)?;
+    named_rule(alloc, rank_of(ruling.origin), directory, ruling.glob)
 }
 
 /// The glob of an override as it was written, if one matches.

@@ -4,6 +4,7 @@
 mod cause;
 mod display;
 mod explanation;
+pub mod internal;
 pub mod laws;
 
 pub use cause::{Cause, NamedRule, NamedType, RuleRank, causes};

@@ -3,7 +3,7 @@ use Rattle.std.specs.Prelude.{◌≡◌, ◌⊎◌, ◌↔◌, ℕ, Bool, List, 
 use Rattle.ignore.specs.FileWords.{Env, Tree}
 use Rattle.ignore.specs.Headline.{IsSceneOf}
 use Rattle.ignore.specs.WalkWords.{Branch, Callbacks, Entry, IncrementalIgnore, IsKeptByOne, IsMatcherIn, IsOpen, IsOutside, IsReached}
-use Rattle.ignore.specs.WalkWords.{IsYielded, Item, Order, Outside, QueryScene, WalkedOne, Whole, is_dir_kind, joined, matcher_root}
+use Rattle.ignore.specs.WalkWords.{IsYielded, Item, Order, Outside, Scene, WalkedOne, Whole, is_dir_kind, joined, matcher_root}
 use Rattle.ignore.specs.WalkWords.{root_entry, stdin_entry}
 use Rattle.ignore.specs.Words.{Path}
 use Rattle.ignore.specs.declared.options.WalkOptions.{WalkOptions}
@@ -13,12 +13,12 @@ use Rattle.ignore.specs.declared.options.WalkOptions.{WalkOptions}
 abbrev pub HoldsWhatTheyKeep : {S : Type 0} → Callbacks S → S → Env → WalkOptions → Order → Tree → List IncrementalIgnore → List Item → Type 0
 HoldsWhatTheyKeep calls owner env b order tree ms all =
     (o : Outside) × IsOutside tree env b o
-    × ((g : QueryScene) (items : List Item) (n : ℕ) (e : Entry) → IsSceneOf calls owner b order tree o g → IsOpen g → Whole g b.roots items n
+    × ((g : Scene) (items : List Item) (n : ℕ) (e : Entry) → IsSceneOf calls owner b order tree o g → IsOpen g → Whole g b.roots items n
     → IsYielded all e ↔ (((e ≡ stdin_entry) × Contains b.roots (codes "-")) ⊎ IsKeptByOne g ms e))
 
 -- a path and a kind are those of an entry that a walk reaches from the root of a matcher; this root
 -- gives these items
-pub record IsAbout (g : QueryScene) (m : IncrementalIgnore) (path : Path) (is_dir : Bool) (e : Entry) (items : List Item) : Type 0 where
+pub record IsAbout (g : Scene) (m : IncrementalIgnore) (path : Path) (is_dir : Bool) (e : Entry) (items : List Item) : Type 0 where
   pub place : Branch
   pub reached : IsReached g m place e
   pub asked : path ≡ joined (reverse place)

@@ -2,14 +2,14 @@
 //! path, a matcher answers without a walk.
 ghost use Rattle.std.specs.Prelude.{◌≡◌, ◌↔◌, IfErr, IfOk, List, Ok, Some, map, true};
 ghost use Rattle.ignore.specs.Closures.{order_of};
-ghost use Rattle.ignore.specs.FileWords.{Disk, IsHonest, IsTruthful, Tree, tree_on};
+ghost use Rattle.ignore.specs.FileWords.{Disk, IsHonest, IsTruthful, Tree, disk_of, tree_on};
 ghost use Rattle.ignore.specs.Headline.{Headline, IsListIn};
 ghost use Rattle.ignore.specs.WalkWords.{Agrees, AreLoads, AreMatchers, Entry, IncrementalIgnore, IsMatcherIn, IsOpen, IsYielded, Item};
-ghost use Rattle.ignore.specs.WalkWords.{QueryScene, item_of, keeps, scene_of};
+ghost use Rattle.ignore.specs.WalkWords.{Scene, item_of, keeps, scene_of};
 ghost use Rattle.ignore.specs.Words.{memory, problem_of};
 ghost use Rattle.uses.specs.Stored.{HoldsWhatTheyKeep, IsAbout};
 
-use ignore::files::{DiskFiles, Env, Files, Machine};
+use ignore::files::{DiskFiles, Env, Files, Machine, TableMachine};
 use ignore::walk_laws::walk_agrees_with_matchers;
 use ignore::{
     Callbacks, DirEntry, Error, IncrementalIgnore, IncrementalMatch, Item, Owner, WalkBuilder,
@@ -72,6 +72,24 @@ pub fn complete_entries_on_disk<R: Machine>(
     complete_entries(alloc, builder, &files, env)
 }
 
+/// The same of a machine by a table: the entries are the whole list in the tree of its rows,
+/// whatever they are.
+///
+/// # Errors
+/// As `complete_entries`.
+pub fn complete_entries_of_table(
+    alloc: Global,
+    builder: &WalkBuilder,
+    machine: &TableMachine,
+    env: &Env,
+) -> Result<Vec<DirEntry>, Error>
+    ensures complete { IfOk result (λ entries. IsListIn ⟦<Owner<'static> as Callbacks>⟧ (record { builder = Some builder.entry }) env.now builder.now.options
+        (order_of (λ s. s.order) builder.now.sorter) (tree_on (disk_of machine.now)) (map (λ e. item_of (Ok e)) entries.items)) }
+{
+    machine.is_truthful();
+    complete_entries_on_disk(alloc, builder, machine, env)
+}
+
 /// Whether a walk yields what a matcher answers this about.
 fn keeps(answer: &IncrementalMatch) -> bool
     ensures { result ≡ keeps answer.now }
@@ -92,7 +110,7 @@ pub fn is_stored<F: Files>(
     path: &str,
     is_dir: bool,
 ) -> Result<bool, Error>
-    ensures stored { (g : QueryScene) (e : Entry) (items : List Item) → IsHonest F.Files files.now g.tree → AreLoads g.tree g.settings g.loads
+    ensures stored { (g : Scene) (e : Entry) (items : List Item) → IsHonest F.Files files.now g.tree → AreLoads g.tree g.settings g.loads
         → IsOpen g → IsMatcherIn g matcher.old → Agrees (scene_of matcher.old.asked g.tree g.loads) matcher.old.cache
         → IsAbout g matcher.old path.now is_dir e items → IfOk result (λ yes. (yes ≡ true) ↔ IsYielded items e) }
     ensures out_of_memory { IfErr result (λ e. problem_of e ≡ memory) }

@@ -1,7 +1,7 @@
 //! What asks rules alone.
 use crate::trees::tree_of;
 use ignore::Error;
-use ignore::files::{Bytes, Identity, Row, RowKind, TableMachine};
+use ignore::files::{Bytes, FileType, Identity, Name, Row, RowEntry, RowKind, TableMachine};
 use ignore::gitignore::{Gitignore, GitignoreBuilder};
 use ignore::overrides::{Override, OverrideBuilder};
 use ignore::types::{Types, TypesBuilder};
@@ -137,6 +137,74 @@ pub(crate) fn machine(alloc: Global) -> Result<TableMachine, AllocError> {
     let mut rows = BTreeMap::new(alloc);
     let path = String::from_str(alloc, "/p/.gitignore")?;
     rows.insert(path, row(alloc)?)?;
+    Ok(TableMachine::new(alloc, rows))
+}
+
+/// Adds a row to a table.
+fn put(
+    alloc: Global,
+    rows: &mut BTreeMap<String, Row>,
+    path: &str,
+    kind: RowKind,
+) -> Result<(), AllocError> {
+    let inode = rows.len() as u64;
+    let identity = Identity { device: 1, inode };
+    rows.insert(String::from_str(alloc, path)?, Row { kind, identity })?;
+    Ok(())
+}
+
+/// Adds an entry to a directory of a table.
+fn list(
+    alloc: Global,
+    entries: &mut Vec<RowEntry>,
+    name: &str,
+    file_type: FileType,
+) -> Result<(), AllocError> {
+    let name = Name::from_str(alloc, name)?;
+    entries.push(RowEntry { name, file_type })?;
+    Ok(())
+}
+
+/// What the folder of the machine lists.
+fn folder(alloc: Global) -> Result<RowKind, AllocError> {
+    let mut entries = Vec::new(alloc);
+    for (name, file_type) in [
+        (".ignore", FileType::File),
+        ("a.c", FileType::File),
+        ("a.o", FileType::File),
+        ("l", FileType::Symlink),
+    ] {
+        list(alloc, &mut entries, name, file_type)?;
+    }
+    Ok(RowKind::Dir(entries))
+}
+
+/// A file with these bytes.
+fn file(alloc: Global, bytes: &[u8]) -> Result<RowKind, AllocError> {
+    Ok(RowKind::File(Bytes::new(Vec::from_slice(alloc, bytes)?)))
+}
+
+/// Adds the files of the folder.
+fn put_files(alloc: Global, rows: &mut BTreeMap<String, Row>) -> Result<(), AllocError> {
+    let all: [(&str, &[u8]); 3] = [("/p/.ignore", b"*.o\n"), ("/p/a.c", b""), ("/p/a.o", b"")];
+    for (path, bytes) in all {
+        put(alloc, rows, path, file(alloc, bytes)?)?;
+    }
+    Ok(())
+}
+
+/// Adds the folder and a link in it.
+fn put_others(alloc: Global, rows: &mut BTreeMap<String, Row>) -> Result<(), AllocError> {
+    put(alloc, rows, "/p", folder(alloc)?)?;
+    let target = Name::from_str(alloc, "/p/a.c")?;
+    put(alloc, rows, "/p/l", RowKind::Link(target))
+}
+
+/// A machine with a folder of files of which one is ignored, and a link.
+pub(crate) fn machine_with_folder(alloc: Global) -> Result<TableMachine, AllocError> {
+    let mut rows = BTreeMap::new(alloc);
+    put_files(alloc, &mut rows)?;
+    put_others(alloc, &mut rows)?;
     Ok(TableMachine::new(alloc, rows))
 }
 

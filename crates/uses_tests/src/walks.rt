@@ -1,11 +1,11 @@
 //! What asks about single paths, and what walks.
-use crate::rules::machine;
+use crate::rules::{machine, machine_with_folder};
 use crate::trees::{UNKNOWN, tree_of};
 use ignore::files::{MemoryTree, TreeError};
 use ignore::{DirEntry, Error, IncrementalIgnore, WalkBuilder};
 use std::alloc::{AllocError, Global};
 use std::test::Fail;
-use uses::backup::{complete_entries, complete_entries_on_disk};
+use uses::backup::{complete_entries, complete_entries_of_table, complete_entries_on_disk};
 use uses::explainer::left_out;
 use uses::search::{Found, search_below, show};
 use uses::single::{ask_once, matcher_below};
@@ -145,6 +145,30 @@ fn entries_by(alloc: Global, builder: &WalkBuilder) -> Result<Vec<DirEntry>, Err
 fn a_backup_of_a_machine(rt: HostRuntime) -> Result<(), Fail> {
     let text = backup_of_machine(rt.alloc())?;
     assert_eq!(rt; text.as_str(), "/p/.gitignore ");
+    Ok(())
+}
+
+fn entries_of_folder(alloc: Global, builder: &WalkBuilder) -> Result<Vec<DirEntry>, Error> {
+    let machine = machine_with_folder(alloc)?;
+    complete_entries_of_table(alloc, builder, &machine, &UNKNOWN)
+}
+
+/// The entries of a backup of a folder of a machine.
+fn entries_by_table(alloc: Global) -> Result<Vec<DirEntry>, Error> {
+    let builder = WalkBuilder::new(alloc, "/p")?;
+    entries_of_folder(alloc, &builder)
+}
+
+/// Their paths.
+fn backup_of_folder(alloc: Global) -> Result<String, Error> {
+    let entries = entries_by_table(alloc)?;
+    Ok(paths_of(alloc, entries.as_slice())?)
+}
+
+#[test]
+fn a_backup_of_a_folder_of_a_machine(rt: HostRuntime) -> Result<(), Fail> {
+    let text = backup_of_folder(rt.alloc())?;
+    assert_eq!(rt; text.as_str(), "/p /p/a.c /p/l ");
     Ok(())
 }
 

@@ -147,6 +147,9 @@ impl<'a, F: Files> Walk<'a, F> {
         ensures whole { IfOk result (λ w. (it : I.IntoIter) × (all : List P) × I.into_iter_gives paths it
             × Drains I.IntoIter.next_gives it all × IsWalkBy F.Files ⟦<Owner<'a> as Callbacks>⟧ files.now (record { builder = None })
             env.now (with_roots unset (map P.text all)) Listed w.inner) }
+        ensures starts { IfOk result (λ w. (it : I.IntoIter) × (all : List P) × I.into_iter_gives paths it
+            × Drains I.IntoIter.next_gives it all × IsNewWalkBy F.Files ⟦<Owner<'a> as Callbacks>⟧ files.now (record { builder = None })
+            env.now (with_roots unset (map P.text all)) Listed w.inner) }
         ensures limit { IfOk result (λ w. w.inner.left ≡ unset.limit) }
         ensures goes_on { IfOk result (λ w. w.inner.ended ≡ false) }
         ensures no_end { IfOk result (λ w. HasNoEnd w.inner.stack) }

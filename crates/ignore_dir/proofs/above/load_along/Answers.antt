@@ -1,5 +1,5 @@
 use Rattle.std.proofs.Common.{◌≡◌, ◌++◌, [], ◌∷◌, ◌+◌, take, get_or, map, ℕ, List, codes, sym, ap, ◌∙◌, append_assoc, subst}
-use Rattle.std.proofs.Common.{All, Bor, length}
+use Rattle.std.proofs.Common.{All, Bor, length, rules}
 use Rattle.std.proofs.lemmas.List.{map_more}
 use Rattle.std.proofs.lemmas.List.Elements.{All-push}
 use Rattle.std.specs.Option.{option_map}
@@ -8,12 +8,31 @@ use Rattle.ignore_base.specs.Paths.{join_of}
 use Rattle.ignore_base.specs.Problem.{problem_of}
 use Rattle.ignore_dir.specs.Above.{directories_along, dirs_above, kept_above, path_along, problems_of_loads}
 use Rattle.ignore_dir.specs.Chains.{placed_along, slashed}
+use Rattle.ignore_dir.specs.AboveBy.{AreAlongBy}
 use Rattle.ignore_dir.specs.Lists.{IsAfterSlash, Placed}
+use Rattle.ignore_dir.specs.LoadsBy.{reads_of, stats_of}
 use Rattle.ignore_dir.specs.Soft.{IsSoft}
+use Rattle.ignore_dir.proofs.AboveByLemmas.{along-more, along-none}
 use Rattle.ignore_dir.proofs.AboveLemmas.{above-more, path_along-more, problems-more}
 use Rattle.ignore_dir.proofs.ChainLemmas.{slashed-more}
 use Rattle.ignore_dir.proofs.SlashLemmas.{after_slash-end, after_slash-longer, placed-longer}
 use Rattle.ignore_dir.proofs.above.load_along.Goals as goal
+
+pub loop-name-init : goal.loop-name-init
+loop-name-init g c =
+    let none = c.in_ok-above.ensures.value in
+    record {
+      dir = search rules;
+      base = search rules;
+      ends = search rules;
+      placed = search rules;
+      along = along-none (stats_of g.F.Files c.args.ground.now.files.now) (reads_of g.F.Files c.args.ground.now.files.now) c.args.ground.now.settings.now
+          c.in_ok-above.above.dirs.items (string_bytes c.in_ok-above.above.base) (map (option_map problem_of) c.in_ok-above.above.errors.items)
+          none.0 none.2 (ap (map (option_map problem_of)) none.1);
+      soft = search rules;
+      dirs = search rules;
+      errors = search rules;
+    }
 
 pub loop-name-preserved : goal.loop-name-preserved
 loop-name-preserved g c =
@@ -42,6 +61,13 @@ loop-name-preserved g c =
           (subst (λ (ps : List Placed). All (λ p. IsAfterSlash (base ++ (name ++ 47 ∷ [])) p.1) ps) (sym c.in_ok-push.ensures.dirs)
           (All-push (λ p. IsAfterSlash (base ++ (name ++ 47 ∷ [])) p.1) dirs (c.kept_above.result, length base)
           (placed-longer base (name ++ 47 ∷ []) dirs inv.placed) (after_slash-longer base (name ++ 47 ∷ []) (length base) inv.ends)));
+      along = subst (λ ns. AreAlongBy (stats_of g.F.Files c.args.ground.now.files.now) (reads_of g.F.Files c.args.ground.now.files.now) s ns
+          c.push.new.self.dirs.items (string_bytes c.push.new.self.base) (map (option_map problem_of) c.push.new.self.errors.items)) (sym more)
+          (along-more (stats_of g.F.Files c.args.ground.now.files.now) (reads_of g.F.Files c.args.ground.now.files.now) s before name path
+          c.in_ok-loaded.loaded (option_map problem_of c.in_ok-loaded.error) dirs c.push.new.self.dirs.items base
+          (string_bytes c.push.new.self.base) (map (option_map problem_of) c.loop-name.above.errors.items)
+          (map (option_map problem_of) c.push.new.self.errors.items) inv.along at c.in_ok-loaded.ensures.answered
+          (c.in_ok-push.ensures.dirs ∙ ap (λ d. dirs ++ (d, length base) ∷ []) c.kept_above.ensures) grown c.in_ok-push.ensures.errors);
       soft = subst (All IsSoft) (sym c.in_ok-push.ensures.errors)
           (All-push IsSoft (map (option_map problem_of) c.loop-name.above.errors.items)
           (option_map problem_of c.in_ok-loaded.error) inv.soft c.in_ok-loaded.ensures.soft);

@@ -14,6 +14,8 @@ use Rattle.ignore_query.specs.Reports.{reported}
 use Rattle.ignore_query.proofs.NeedLemmas.{stays_then}
 use Rattle.ignore_query.proofs.TurnLemmas.{Answer, asked_next, asked_so, match_to, reported_by}
 use Rattle.ignore_query.proofs.WayLemmas.{map-map}
+use Rattle.ignore_query.specs.KeptLoads.{KeepsLoads}
+use Rattle.ignore_query.proofs.KeptLoadLemmas.{loads_then}
 use Rattle.ignore_query.proofs.paths.check_paths.Goals as goal
 
 pub returns-in_err-answer-clause-agrees : goal.returns-in_err-answer-clause-agrees
@@ -42,6 +44,10 @@ pub loop-path-preserved : goal.loop-path-preserved
 loop-path-preserved g c = record {
   same = c.matched_with_errors.ensures.same ∙ c.loop-path.invariant.same;
   stays = stays_then _ _ _ c.loop-path.invariant.stays c.matched_with_errors.ensures.stays;
+  loaded = loads_then g.F.Files c.args.files.now c.args.matcher.now.asked _ _ _ c.loop-path.invariant.loaded
+      c.matched_with_errors.ensures.stays
+      (subst (λ a. KeepsLoads g.F.Files c.args.files.now a c.loop-path.matcher.cache c.matched_with_errors.new.self.cache) c.loop-path.invariant.same
+      c.matched_with_errors.ensures.loaded);
   soft =
       let P : Answer → Type 0 = λ r. IsSoft (option_map problem_of r.1) in
       subst (All P) (sym c.in_ok-push.ensures.items)
@@ -87,3 +93,17 @@ returns-clause-value g c = λ tree loads honest are agrees.
     (c.loop-path.invariant.asked tree loads honest are agrees).value
     ∙ (map-map (match_to s) (λ p. (string_bytes p.0, p.1)) (take c.loop-path.path-index c.args.paths.now)
     ∙ ap (map (λ p. match_to s (string_bytes p.0, p.1))) (take_all _ _ c.loop-path-test.false))
+
+pub returns-in_err-answer-clause-loaded : goal.returns-in_err-answer-clause-loaded
+returns-in_err-answer-clause-loaded g c =
+    loads_then g.F.Files c.args.files.now c.args.matcher.now.asked _ _ _ c.loop-path.invariant.loaded
+    c.matched_with_errors.ensures.stays
+    (subst (λ a. KeepsLoads g.F.Files c.args.files.now a c.loop-path.matcher.cache c.matched_with_errors.new.self.cache) c.loop-path.invariant.same
+    c.matched_with_errors.ensures.loaded)
+
+pub returns-in_err-push-clause-loaded : goal.returns-in_err-push-clause-loaded
+returns-in_err-push-clause-loaded g c =
+    loads_then g.F.Files c.args.files.now c.args.matcher.now.asked _ _ _ c.loop-path.invariant.loaded
+    c.matched_with_errors.ensures.stays
+    (subst (λ a. KeepsLoads g.F.Files c.args.files.now a c.loop-path.matcher.cache c.matched_with_errors.new.self.cache) c.loop-path.invariant.same
+    c.matched_with_errors.ensures.loaded)

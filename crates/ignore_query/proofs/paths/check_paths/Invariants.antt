@@ -5,6 +5,7 @@ use Rattle.ignore_base.specs.Problem.{problem_of}
 use Rattle.ignore_dir.specs.Load.{Loaded, AreLoads}
 use Rattle.ignore_dir.specs.Soft.{IsSoft}
 use Rattle.ignore_query.specs.Agrees.{Agrees}
+use Rattle.ignore_query.specs.KeptLoads.{KeepsLoads}
 use Rattle.ignore_query.specs.Needs.{Stays}
 use Rattle.ignore_query.specs.Reached.{scene_of}
 use Rattle.ignore_query.proofs.TurnLemmas.{AreAsked}
@@ -15,6 +16,7 @@ abbrev pub invariant-loop-path : goal.invariant-loop-path
 invariant-loop-path g l = record {
   same : l.matcher.asked ≡ l.fn.matcher.asked;
   stays : Stays l.fn.matcher.cache l.matcher.cache;
+  loaded : KeepsLoads g.F.Files l.files l.fn.matcher.asked l.fn.matcher.cache l.matcher.cache;
   soft : All (λ r. IsSoft (option_map problem_of r.1)) l.answers.items;
   asked : (tree : Tree) (loads : List ℕ → Loaded) → IsHonest g.F.Files l.files tree
       → AreLoads tree l.fn.matcher.asked.settings loads → Agrees (scene_of l.fn.matcher.asked tree loads) l.fn.matcher.cache

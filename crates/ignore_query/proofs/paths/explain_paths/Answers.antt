@@ -14,6 +14,8 @@ use Rattle.ignore_query.specs.Reports.{reported}
 use Rattle.ignore_query.proofs.NeedLemmas.{stays_then}
 use Rattle.ignore_query.proofs.TurnLemmas.{Explained, IsExplained, explained_next, explained_so, match_to, told_by, why_by, why_to}
 use Rattle.ignore_query.proofs.WayLemmas.{map-map}
+use Rattle.ignore_query.specs.KeptLoads.{KeepsLoads}
+use Rattle.ignore_query.proofs.KeptLoadLemmas.{loads_then}
 use Rattle.ignore_query.proofs.paths.explain_paths.Goals as goal
 
 pub returns-in_err-explained-clause-agrees : goal.returns-in_err-explained-clause-agrees
@@ -42,6 +44,10 @@ pub loop-question-preserved : goal.loop-question-preserved
 loop-question-preserved g c = record {
   same = c.explain.ensures.same ∙ c.loop-question.invariant.same;
   stays = stays_then _ _ _ c.loop-question.invariant.stays c.explain.ensures.stays;
+  loaded = loads_then g.F.Files c.args.files.now c.args.matcher.now.asked _ _ _ c.loop-question.invariant.loaded
+      c.explain.ensures.stays
+      (subst (λ a. KeepsLoads g.F.Files c.args.files.now a c.loop-question.matcher.cache c.explain.new.self.cache) c.loop-question.invariant.same
+      c.explain.ensures.loaded);
   soft =
       let P : Explained → Type 0 = λ r. IsSoft (option_map problem_of r.1) in
       subst (All P) (sym c.in_ok-push.ensures.items)
@@ -99,3 +105,17 @@ returns-clause-why g c = λ tree loads honest are agrees.
     (c.loop-question.invariant.asked tree loads honest are agrees).why
     ∙ (map-map (why_to s) (λ p. (string_bytes p.0, p.1)) (take c.loop-question.question-index c.args.paths.now)
     ∙ ap (map (λ p. why_to s (string_bytes p.0, p.1))) (take_all _ _ c.loop-question-test.false))
+
+pub returns-in_err-explained-clause-loaded : goal.returns-in_err-explained-clause-loaded
+returns-in_err-explained-clause-loaded g c =
+    loads_then g.F.Files c.args.files.now c.args.matcher.now.asked _ _ _ c.loop-question.invariant.loaded
+    c.explain.ensures.stays
+    (subst (λ a. KeepsLoads g.F.Files c.args.files.now a c.loop-question.matcher.cache c.explain.new.self.cache) c.loop-question.invariant.same
+    c.explain.ensures.loaded)
+
+pub returns-in_err-push-clause-loaded : goal.returns-in_err-push-clause-loaded
+returns-in_err-push-clause-loaded g c =
+    loads_then g.F.Files c.args.files.now c.args.matcher.now.asked _ _ _ c.loop-question.invariant.loaded
+    c.explain.ensures.stays
+    (subst (λ a. KeepsLoads g.F.Files c.args.files.now a c.loop-question.matcher.cache c.explain.new.self.cache) c.loop-question.invariant.same
+    c.explain.ensures.loaded)

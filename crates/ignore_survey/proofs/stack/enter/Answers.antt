@@ -4,10 +4,11 @@ use Rattle.ignore_survey.specs.Survey.{Lists, place}
 use Rattle.ignore_survey.proofs.SurveyLemmas.{below_listed}
 use Rattle.ignore_survey.proofs.stack.enter.Goals as goal
 
-pub returns-in-Ok : goal.returns-in-Ok
-returns-in-Ok g c = λ s honest root items below.
+pub returns-in_ok-rest-in-Ok : goal.returns-in_ok-rest-in-Ok
+returns-in_ok-rest-in-Ok g c = λ s honest root items below.
     let there : c.as_str-2.result.now ≡ place s.root c.args.path =
     c.as_str-2.ensures.value ∙ (c.in_ok-place.ensures ∙ (ap (λ (p : Path). place c.args.root.now p) c.as_str.ensures
     ∙ ap (λ (r : Path). place r c.args.path) (sym root))) in
-    let lists = rw c.in-Ok.is at (c.in_ok-rest.ensures s.tree honest) in
-    below_listed s c.args.path items c.in-Ok.rest.items (subst (λ (p : Path). Lists s.tree p c.in-Ok.rest.items) there lists) below
+    let lists : Lists s.tree c.as_str-2.result.now c.in_ok-rest-in-Ok.rest.items =
+    (c.in-Ok.listing, c.in_ok-listing.ensures.value s.tree honest ∙ c.in-Ok.is, c.in_ok-rest-in-Ok.ensures c.as_str-2.result.now) in
+    below_listed s c.args.path items c.in_ok-rest-in-Ok.rest.items (subst (λ (p : Path). Lists s.tree p c.in_ok-rest-in-Ok.rest.items) there lists) below

@@ -1,4 +1,4 @@
-use Rattle.std.proofs.Common.{◌≡◌, inr, ◌∷◌, Bool, true, false, cond, List, Option, Some, Result, Ok, slice_get, sym, ap, ◌∙◌, subst}
+use Rattle.std.proofs.Common.{◌≡◌, inr, ◌∷◌, Bool, true, false, cond, List, Option, Some, Result, Ok, slice_get, refl, sym, ap, ◌∙◌, subst}
 use Rattle.std.proofs.lemmas.Bool.{false≢true}
 use Rattle.std.specs.declared.alloc.AllocError.{AllocError}
 use Rattle.ignore_dir.specs.Lists.{Placed}
@@ -76,3 +76,23 @@ returns-clause-filled c = λ place next free slot counts.
     let at = ap (λ (p : Place). slice_get c.args.self.now.slots.items p.index) same ∙ slot in
     let put = c.in_ok-put.ensures.filled next at in
     (ap {B = Result (Option Place) AllocError} (λ (p : Place). Ok (Some p)) same, put.1, put.2)
+
+pub returns-then-not-counts-clause-added : goal.returns-then-not-counts-clause-added
+returns-then-not-counts-clause-added c = record {
+  own = λ yes. absurd (false≢true (sym (sym c.counts.ensures ∙ c.if-not-counts.true) ∙ yes));
+  shared = λ no. refl;
+}
+
+pub returns-clause-added : goal.returns-clause-added
+returns-clause-added c = record {
+  own = λ yes. record {
+    own = c.vacant-place.result;
+    level = _;
+    same = refl;
+    there = c.in_ok-put.ensures.put c.vacant-place.ensures.vacant;
+    holds = refl;
+    below = refl;
+    begins = refl;
+  };
+  shared = λ no. absurd (false≢true (sym no ∙ (sym c.counts.ensures ∙ c.if-not-counts.false)));
+}

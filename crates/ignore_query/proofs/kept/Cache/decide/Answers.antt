@@ -13,6 +13,7 @@ use Rattle.ignore_query.specs.Reports.{new_above, new_below}
 use Rattle.ignore_query.proofs.KnownLemmas.{keeps_known, known_above, none_above, none_below}
 use Rattle.ignore_query.proofs.NeedLemmas.{keeps_after, stays_then}
 use Rattle.ignore_query.proofs.QueryLemmas.{ok_then, same_below, some_value}
+use Rattle.ignore_query.proofs.KeptLoadLemmas.{loads_then}
 use Rattle.ignore_query.proofs.kept.Cache.decide.Goals as goal
 
 pub returns-in-Some-clause-kept : goal.returns-in-Some-clause-kept
@@ -88,3 +89,8 @@ returns-clause-from_kept g c = λ tree loads agrees proper all.
     let r = c.rules_verdict.ensures.from_kept tree loads (subst (λ x. Agrees scene x) back agrees) proper
     (subst (λ (x : Cache). x.has_above ≡ true) back has) (subst (λ x. is_known scene x names ≡ true) back all) in
     (r.0 ∙ k.0, (r.1.0 ∙ k.1, r.1.1))
+
+pub returns-clause-loaded : goal.returns-clause-loaded
+returns-clause-loaded g c =
+    loads_then g.F.Files c.args.call.now.files.now c.args.call.now.asked.now c.args.self.now c.keep_above.new.self c.rules_verdict.new.self
+    c.in_ok-keep_above.ensures.loaded c.rules_verdict.ensures.stays (c.rules_verdict.ensures.loaded c.in_ok-keep_above.ensures.kept)

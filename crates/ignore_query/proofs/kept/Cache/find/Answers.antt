@@ -5,6 +5,7 @@ use Rattle.ignore_query.specs.Reached.{scene_of}
 use Rattle.ignore_query.proofs.ChainLemmas.{text-length}
 use Rattle.ignore_query.proofs.GrowLemmas.{Parent, grown_chain, parent_of}
 use Rattle.ignore_query.proofs.KeepLemmas.{ends}
+use Rattle.ignore_levels.specs.Levels.{IsAdded, slots_of}
 use Rattle.ignore_query.proofs.kept.Cache.find.Goals as goal
 
 pub returns-clause-value : goal.returns-clause-value
@@ -24,4 +25,16 @@ returns-clause-value g c = λ tree loads honest are names agrees clean key next.
       subst (IsChain c.add.new.self.slots.items c.in_ok-place.place)
           (grown_chain scene self names c.args.place c.in_ok-dir.dir _ parent.chain parent.whole dir at)
           (c.in_ok-place.ensures.chain (counting parent.chain) parent.is below),
+    )
+
+pub returns-clause-loaded : goal.returns-clause-loaded
+returns-clause-loaded g c = λ names clean key.
+    let self = c.args.self.now in
+    let l = c.in_ok-dir.ensures.loaded names clean key in
+    let size : string_len self.base ≡ length (string_bytes self.base) = omega (arith, self.base.bytes.ok.0) in
+    let at = ap (λ n. n + length c.args.key.now) (c.len.ensures ∙ size) ∙ ap (λ t. length (string_bytes self.base) + length t) key in (
+      c.in_ok-dir.dir,
+      l.0,
+      l.1,
+      subst (λ n. IsAdded (slots_of c.add.new.self) c.in_ok-dir.dir c.args.place n c.in_ok-place.place) at c.in_ok-place.ensures.added,
     )

@@ -10,6 +10,8 @@ use Rattle.ignore_query.specs.Reached.{scene_of}
 use Rattle.ignore_query.proofs.KeepLemmas.{AddsOne, Puts, problems_known, problems_new, put_agrees, puts_from, puts_key, puts_others, right_kept, right_loaded}
 use Rattle.ignore_query.proofs.ListLemmas.{grown_agrees, put_shared}
 use Rattle.ignore_query.proofs.NeedLemmas.{known_kept, put_kept, stays_put}
+use Rattle.ignore_dir.specs.Chains.{slashed}
+use Rattle.ignore_query.proofs.KeptLoadLemmas.{found_with, loads_put, loads_same}
 use Rattle.ignore_query.proofs.kept.Cache.keep.Goals as goal
 
 pub returns-in-Some-clause-value : goal.returns-in-Some-clause-value
@@ -123,3 +125,31 @@ returns-clause-problems g c = λ tree loads honest are names agrees clean key ne
 
 pub insert-requires : goal.insert-requires
 insert-requires g c = record { named = subst IsKey (sym c.in_ok-text.ensures.ok) c.requires.named }
+
+pub returns-in_err-kept-clause-loaded : goal.returns-in_err-kept-clause-loaded
+returns-in_err-kept-clause-loaded g c = λ names clean key next.
+    loads_same g.F.Files c.args.call.now.files.now c.args.call.now.asked.now c.args.self.now c.find.new.self
+    c.find.ensures.above.0 (λ q. ap (λ d. get_by_text d.map (slashed q)) c.find.ensures.dirs)
+
+pub returns-in_err-insert-clause-loaded : goal.returns-in_err-insert-clause-loaded
+returns-in_err-insert-clause-loaded g c = λ names clean key next.
+    let before = c.args.self.now in
+    let mid = c.find.new.self in
+    let after : Cache = record mid { dirs = c.insert.new.self } in
+    loads_same g.F.Files c.args.call.now.files.now c.args.call.now.asked.now before after
+    c.find.ensures.above.0 (λ q. c.in_err-insert.ensures.unchanged (slashed q) ∙ ap (λ d. get_by_text d.map (slashed q)) c.find.ensures.dirs)
+
+pub returns-clause-loaded : goal.returns-clause-loaded
+returns-clause-loaded g c = λ names clean key next.
+    let before = c.args.self.now in
+    let mid = c.find.new.self in
+    let after : Cache = record mid { dirs = c.insert.new.self } in
+    let k = c.in_ok-kept.kept in
+    let puts : Puts before after c.args.key.now k =
+    puts_from before mid after c.args.key.now k c.find.ensures.dirs
+    (λ cs. c.in_ok-insert.ensures.added cs
+    ∙ ap (λ t. cond (bytes_eq t cs) (Some k) (get_by_text mid.dirs.map cs)) c.in_ok-text.ensures.ok) in
+    let stays = stays_put before after c.args.key.now k puts (sym c.in_default.ensures.value) c.find.ensures.above c.find.ensures.levels in
+    loads_put g.F.Files c.args.call.now.files.now c.args.call.now.asked.now before after names c.args.place k clean
+    (subst (λ t. Puts before after t k) key puts) stays next
+    (found_with g.F.Files c.args.call.now.files.now c.args.call.now.asked.now mid c.insert.new.self c.args.place names k (c.in_ok-kept.ensures.loaded names clean key))

@@ -1,12 +1,16 @@
-use Rattle.std.proofs.Common.{◌≡◌, ◌∷◌, true, List, reverse, Option, None, Some, map, option_map, refl, sym, subst, ap, ◌∙◌}
+use Rattle.std.proofs.Common.{◌≡◌, ◌∷◌, true, List, reverse, Option, None, Some, map, option_map, refl, string_bytes, sym, subst, ap, ◌∙◌}
 use Rattle.ignore_dir.specs.Above.{dirs_above, names_above, paths_above}
+use Rattle.ignore_dir.specs.AboveBy.{IsAboveBy}
 use Rattle.ignore_dir.specs.Chains.{placed_along, slashed}
 use Rattle.ignore_dir.specs.Load.{AreLoads}
+use Rattle.ignore_dir.specs.LoadsBy.{reads_of, stats_of}
 use Rattle.ignore_files.specs.Gives.{IsHonest}
 use Rattle.ignore_query.specs.declared.kept.Cache.{Cache}
+use Rattle.ignore_query.specs.declared.kept.Kept.TheVariants.{Loaded}
 use Rattle.ignore_dir.specs.Lists.{Placed}
 use Rattle.ignore_levels.specs.Levels.{IsChain, IsRising, counting}
 use Rattle.ignore_query.specs.Reached.{scene_of}
+use Rattle.ignore_query.proofs.KeptLoadLemmas.{along-rising, loads_same}
 use Rattle.ignore_query.proofs.ListLemmas.{above-rising, first_agrees, grown_agrees, placed_above}
 use Rattle.std.specs.Option.{option_to_list}
 use Rattle.ignore_base.specs.Problem.{Problem, problem_of}
@@ -54,3 +58,32 @@ returns-clause-soft g c = λ soft.
     let one = subst IsSoft (sym c.in_ok-joined_some.ensures) (soft_from _ (joined_all-soft found c.in_ok-found.ensures.soft)) in
     subst AllSoft (sym c.in_ok-push_some.ensures.added) (more_soft (map problem_of c.args.errors.now.items)
     (option_map problem_of c.in_ok-joined_some.field-0) soft one)
+
+pub returns-in_err-self-clause-loaded : goal.returns-in_err-self-clause-loaded
+returns-in_err-self-clause-loaded g c =
+    loads_same g.F.Files c.args.call.now.files.now c.args.call.now.asked.now c.args.self.now
+    (record c.args.self.now { levels = c.add_all.new.self }) refl (λ q. refl)
+
+pub returns-clause-loaded : goal.returns-clause-loaded
+returns-clause-loaded g c =
+    let files = c.args.call.now.files.now in
+    let asked = c.args.call.now.asked.now in
+    let found = c.in_ok-found.found in
+    let dirs = found.dirs.items in
+    let base = string_bytes found.base in
+    let reported = map (option_map problem_of) found.errors.items in
+    let loads : IsAboveBy g.F.Files files asked.settings (string_bytes asked.root) dirs base reported =
+    subst (λ r. IsAboveBy g.F.Files files asked.settings r dirs base reported) c.as_str.ensures.value
+    (subst (λ s. IsAboveBy g.F.Files files s c.as_str.result.now dirs base reported) c.ground.ensures.settings
+    (subst (λ f. IsAboveBy g.F.Files f c.ground.result.settings.now c.as_str.result.now dirs base reported) c.ground.ensures.files
+    c.in_ok-found.ensures.answered)) in
+    record {
+      above = λ off on. record {
+        dirs = dirs;
+        reported = reported;
+        loads = loads;
+        stands = c.in_ok-self.ensures.chain
+            (along-rising (stats_of g.F.Files files) (reads_of g.F.Files files) asked.settings loads.0 dirs base reported loads.2);
+      };
+      dirs = λ names place clean none now. let is : None ≡ Some (Loaded place) = sym none ∙ now in absurd (cc (is));
+    }

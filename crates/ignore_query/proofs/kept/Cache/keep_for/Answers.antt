@@ -18,6 +18,7 @@ use Rattle.ignore_query.proofs.KnownLemmas.{keeps_known, known_above, last_of, n
 use Rattle.ignore_query.proofs.NeedLemmas.{keeps_after, stays_then}
 use Rattle.ignore_query.proofs.QueryLemmas.{ok_then, same_below}
 use Rattle.ignore_query.proofs.WhyLemmas.{parent_next, parent_says}
+use Rattle.ignore_query.proofs.KeptLoadLemmas.{loads_then}
 use Rattle.ignore_query.proofs.kept.Cache.keep_for.Goals as goal
 
 pub returns-in-Some-clause-kept : goal.returns-in-Some-clause-kept
@@ -132,3 +133,8 @@ keep_way-requires g c =
     let is = ap (map (λ n. n.now)) c.as_slice.ensures.value ∙ c.in_ok-names.ensures in record {
       named = subst (All IsName) (sym is) (names-components c.args.path.now c.requires.named);
     }
+
+pub returns-clause-loaded : goal.returns-clause-loaded
+returns-clause-loaded g c =
+    loads_then g.F.Files c.args.call.now.files.now c.args.call.now.asked.now c.args.self.now c.keep_above.new.self c.keep_way.new.self
+    c.in_ok-keep_above.ensures.loaded c.keep_way.ensures.stays (c.keep_way.ensures.loaded c.in_ok-keep_above.ensures.kept)

@@ -22,6 +22,7 @@ use Rattle.ignore_query.proofs.NeedLemmas.{kept_next, needed_way, or_false, stay
 use Rattle.ignore_query.proofs.WayLemmas.{any_ignored, below_is, collected, ignored_problems, left, left_all, left_at}
 use Rattle.ignore_query.proofs.WayLemmas.{left_end, longer_key, next_problems, no_problems, none_ignored, problems_of}
 use Rattle.ignore_query.proofs.WayLemmas.{no_last, same_problems}
+use Rattle.ignore_query.proofs.KeptLoadLemmas.{loads_same, loads_then}
 use Rattle.ignore_query.proofs.kept.Cache.keep_way.Goals as goal
 
 abbrev nothing : Bor (List ℕ)
@@ -51,6 +52,10 @@ loop-name-init g c =
       above = (refl, (refl, refl));
       others = λ j le. refl;
       soft = λ h. h;
+      loaded = λ rooted. record {
+        next = record { rooted = rooted; top = λ e. refl; inside = λ front name is. absurd (no_last front name is) };
+        loads = loads_same g.F.Files c.args.call.now.files.now c.args.call.now.asked.now c.args.self.now c.args.self.now refl (λ q. refl);
+      };
       asked = λ tree loads honest are agrees clean rooted. record {
         agrees = agrees;
         next = record { rooted = rooted; top = λ e. refl; inside = λ front name is. absurd (no_last front name is) };
@@ -313,6 +318,17 @@ loop-name-preserved g c =
           c.keep.ensures.others (slashed (take j p)) (λ e. longer_key p i j (omega arith) (omega (arith, le)) (e ∙ key))
           ∙ inv.others j (omega (arith, le));
       soft = λ h. c.in_ok-keep.ensures.soft (inv.soft h);
+      loaded = λ rooted.
+          let w = inv.loaded rooted in
+          record {
+            next = record {
+              rooted = above.0 ∙ (inv.above.0 ∙ rooted);
+              top = λ e. absurd (next_top (take i p) name (sym next ∙ e));
+              inside = λ front n is. next_inside c.keep.new.self (take i p) front name n c.in-Loaded.found (sym next ∙ is) found;
+            };
+            loads = loads_then g.F.Files c.args.call.now.files.now c.args.call.now.asked.now c.args.self.now c.loop-name.self c.keep.new.self w.loads
+                c.keep.ensures.stays (c.keep.ensures.loaded (take i p) (take_names p i c.requires.named) key w.next);
+          };
       asked = λ tree loads honest are agrees clean rooted.
           let scene = scene_of c.args.call.now.asked.now tree loads in
           let w = inv.asked tree loads honest are agrees clean rooted in
@@ -474,3 +490,42 @@ keep-requires g c =
     let i = c.loop-name.name-index in record {
       named = (take i p, take_names p i c.requires.named, c.as_str.ensures.value ∙ c.loop-name.invariant.key);
     }
+
+pub returns-in_err-keep-clause-loaded : goal.returns-in_err-keep-clause-loaded
+returns-in_err-keep-clause-loaded g c = λ rooted.
+    let p = map (λ n. n.now) c.args.names.now in
+    let i = c.loop-name.name-index in
+    let inv = c.loop-name.invariant in
+    let w = inv.loaded rooted in
+    loads_then g.F.Files c.args.call.now.files.now c.args.call.now.asked.now c.args.self.now c.loop-name.self c.keep.new.self w.loads c.keep.ensures.stays
+    (c.keep.ensures.loaded (take i p) (take_names p i c.requires.named) (c.as_str.ensures.value ∙ inv.key) w.next)
+
+pub returns-in-Ignored-clause-loaded : goal.returns-in-Ignored-clause-loaded
+returns-in-Ignored-clause-loaded g c = λ rooted.
+    let p = map (λ n. n.now) c.args.names.now in
+    let i = c.loop-name.name-index in
+    let inv = c.loop-name.invariant in
+    let w = inv.loaded rooted in
+    loads_then g.F.Files c.args.call.now.files.now c.args.call.now.asked.now c.args.self.now c.loop-name.self c.keep.new.self w.loads c.keep.ensures.stays
+    (c.keep.ensures.loaded (take i p) (take_names p i c.requires.named) (c.as_str.ensures.value ∙ inv.key) w.next)
+
+pub returns-in_err-push_str-clause-loaded : goal.returns-in_err-push_str-clause-loaded
+returns-in_err-push_str-clause-loaded g c = λ rooted.
+    let p = map (λ n. n.now) c.args.names.now in
+    let i = c.loop-name.name-index in
+    let inv = c.loop-name.invariant in
+    let w = inv.loaded rooted in
+    loads_then g.F.Files c.args.call.now.files.now c.args.call.now.asked.now c.args.self.now c.loop-name.self c.keep.new.self w.loads c.keep.ensures.stays
+    (c.keep.ensures.loaded (take i p) (take_names p i c.requires.named) (c.as_str.ensures.value ∙ inv.key) w.next)
+
+pub returns-in_err-push-clause-loaded : goal.returns-in_err-push-clause-loaded
+returns-in_err-push-clause-loaded g c = λ rooted.
+    let p = map (λ n. n.now) c.args.names.now in
+    let i = c.loop-name.name-index in
+    let inv = c.loop-name.invariant in
+    let w = inv.loaded rooted in
+    loads_then g.F.Files c.args.call.now.files.now c.args.call.now.asked.now c.args.self.now c.loop-name.self c.keep.new.self w.loads c.keep.ensures.stays
+    (c.keep.ensures.loaded (take i p) (take_names p i c.requires.named) (c.as_str.ensures.value ∙ inv.key) w.next)
+
+pub returns-clause-loaded : goal.returns-clause-loaded
+returns-clause-loaded g c = λ rooted. (c.loop-name.invariant.loaded rooted).loads

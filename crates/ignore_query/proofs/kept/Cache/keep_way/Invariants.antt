@@ -9,6 +9,7 @@ use Rattle.ignore_dir.specs.Soft.{AllSoft}
 use Rattle.ignore_files.specs.Gives.{IsHonest}
 use Rattle.ignore_files.specs.Tree.{Tree}
 use Rattle.ignore_query.specs.Agrees.{Agrees, IsNext}
+use Rattle.ignore_query.specs.KeptLoads.{KeepsLoads}
 use Rattle.ignore_query.specs.Listed.{kept_at}
 use Rattle.ignore_query.specs.Needs.{Stays, is_among, is_kept, is_known}
 use Rattle.ignore_query.specs.Reached.{scene_of}
@@ -25,6 +26,10 @@ invariant-loop-name g l = record {
   others : (j : ℕ) → l.name-index ≤ j
       → kept_at l.self (take j (map (λ n. n.now) l.names)) ≡ kept_at l.fn.self (take j (map (λ n. n.now) l.names));
   soft : AllSoft (map problem_of l.fn.errors.items) → AllSoft (map problem_of l.errors.items);
+  loaded : l.fn.self.has_above ≡ true → record {
+    next : IsNext l.self (take l.name-index (map (λ n. n.now) l.names)) l.place;
+    loads : KeepsLoads g.F.Files l.call.files.now l.call.asked.now l.fn.self l.self;
+  };
   asked : (tree : Tree) (loads : List ℕ → Loaded) → IsHonest g.F.Files l.call.files.now tree → AreLoads tree l.call.asked.now.settings loads
       → Agrees (scene_of l.call.asked.now tree loads) l.fn.self → All IsName (map (λ n. n.now) l.names) → l.fn.self.has_above ≡ true → record {
         agrees : Agrees (scene_of l.call.asked.now tree loads) l.self;

@@ -1,6 +1,6 @@
 use Rattle.std.proofs.Common.{None, subst}
 use Rattle.ignore_walk.specs.declared.callbacks.Order.TheVariants.{Listed}
-use Rattle.ignore.specs.Walks.{IsWalkBy}
+use Rattle.ignore.specs.Walks.{IsNewWalkBy, IsWalkBy}
 use Rattle.ignore.specs.declared.options.WalkOptions.{WalkOptions}
 use Rattle.ignore.specs.contracts.walk.OwnerCallbacks.TheImpl as calls
 use Rattle.ignore.proofs.HeadlineLemmas.{on_ok}
@@ -16,3 +16,14 @@ returns-clause-whole g c =
       o.3,
       subst (λ (b : WalkOptions). IsWalkBy g.F.Files (calls.ghosts g.dyn-1 g.dyn-2) c.args.files.now (record { builder = None }) c.args.env.now b Listed w.inner) o.4 by,
     )) c.walk.ensures.whole
+
+pub returns-clause-starts : goal.returns-clause-starts
+returns-clause-starts g c =
+    let o = c.in_ok-builder.ensures.options in
+    on_ok c.walk.result (λ w by. (
+      o.0,
+      o.1,
+      o.2,
+      o.3,
+      subst (λ (b : WalkOptions). IsNewWalkBy g.F.Files (calls.ghosts g.dyn-1 g.dyn-2) c.args.files.now (record { builder = None }) c.args.env.now b Listed w.inner) o.4 by,
+    )) c.walk.ensures.starts
