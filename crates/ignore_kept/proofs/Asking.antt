@@ -1,7 +1,7 @@
 -- A matcher is one of what the handle keeps.
 use Rattle.std.proofs.Common.{arith, ◌≡◌, ◌≢◌, ◌+◌, ℕ, suc, Bool, List, [], ◌∷◌, ◌++◌, length-append, Result, Ok, Err, IfOk, IfErr, inl, inr, refl, sym, ap, subst, ◌∙◌, length}
 use Rattle.std.specs.Prelude.{All}
-use Rattle.ignore.specs.WalkWords.{Agrees, AreMatchers, IncrementalIgnore, IncrementalMatch, KeepsNothing, query}
+use Rattle.ignore.specs.WalkWords.{Agrees, AreMatchers, IncrementalIgnore, IncrementalMatch, KeepsNothing, Stays, query}
 use Rattle.ignore.specs.declared.options.WalkOptions.{WalkOptions}
 use Rattle.ignore_files.specs.Answers.{tree_of}
 use Rattle.ignore_files.specs.declared.env.Env.{Env}
@@ -47,20 +47,20 @@ one_matcher tree env options copy taken ms (Err e) copied same are fresh counted
 answered : (kept files : Kept) (path : Path) (is_dir : Bool) (old : IncrementalIgnore) (told : Memory)
     (r : Result IncrementalMatch Stopped) (new : IncrementalIgnore) → kept ≡ keeping old → files ≡ tree.keeping told
     → InScene old told (λ g. IfOk r (λ m. m ≡ (query g path is_dir).0)) → InScene old told (λ g. Agrees g new.cache)
-    → new.asked ≡ old.asked → IfErr r (λ e. e ≡ Full) → Matches kept files path is_dir r (keeping new)
-answered kept files path is_dir old told (Ok m) new is t value agrees same memory =
-    (old, new, told, ap matcher_in is, ap tree_in t, refl, (agrees, same), value)
-answered kept files path is_dir old told (Err e) new is t value agrees same memory =
+    → Stays old.cache new.cache → new.asked ≡ old.asked → IfErr r (λ e. e ≡ Full) → Matches kept files path is_dir r (keeping new)
+answered kept files path is_dir old told (Ok m) new is t value agrees stays same memory =
+    (old, new, told, ap matcher_in is, ap tree_in t, refl, (agrees, stays, same), value)
+answered kept files path is_dir old told (Err e) new is t value agrees stays same memory =
     subst (λ (x : Stopped). Matches kept files path is_dir (Err x) (keeping new)) (sym memory)
-    (old, new, told, ap matcher_in is, ap tree_in t, refl, (agrees, same))
+    (old, new, told, ap matcher_in is, ap tree_in t, refl, (agrees, stays, same))
 
 pub matched : (kept files : Kept) (path text : Path) (is_dir : Bool) (old : IncrementalIgnore) (told : Memory)
     (r : Result IncrementalMatch Stopped) (new : IncrementalIgnore) → kept ≡ keeping old → files ≡ tree.keeping told → text ≡ path
     → InScene old told (λ g. IfOk r (λ m. m ≡ (query g text is_dir).0)) → InScene old told (λ g. Agrees g new.cache)
-    → new.asked ≡ old.asked → IfErr r (λ e. e ≡ Full) → Matches kept files path is_dir r (keeping new)
-matched kept files path text is_dir old told r new is t e value agrees same memory =
+    → Stays old.cache new.cache → new.asked ≡ old.asked → IfErr r (λ e. e ≡ Full) → Matches kept files path is_dir r (keeping new)
+matched kept files path text is_dir old told r new is t e value agrees stays same memory =
     subst (λ (p : Path). Matches kept files p is_dir r (keeping new)) e
-    (answered kept files text is_dir old told r new is t value agrees same memory)
+    (answered kept files text is_dir old told r new is t value agrees stays same memory)
 
 -- what is forgotten at a text that is the path
 pub forgets : (kept : Kept) (dir text : Path) (old : IncrementalIgnore) (count : ℕ) (new : IncrementalIgnore) → kept ≡ keeping old

@@ -6,7 +6,7 @@ use Rattle.std.specs.Str.{IsUtf8}
 use Rattle.std.specs.declared.string.String.{String}
 use Rattle.ignore.specs.WalkWords.{Agrees, AreLoads, AreMatchers, IncrementalIgnore, IncrementalMatch, KeepsNothing, Loaded, query, scene_of}
 use Rattle.ignore.specs.WalkWords.{QueryScene, dir_of, normalize_of}
-use Rattle.ignore.specs.WalkWords.{IsName, IsSameKept, is_asked, is_at_or_below, kept_at, names_of}
+use Rattle.ignore.specs.WalkWords.{IsName, IsSameKept, Stays, is_asked, is_at_or_below, kept_at, names_of}
 use Rattle.ignore.specs.FileWords.{Tree as Files}
 use Rattle.ignore.specs.declared.options.WalkOptions.{WalkOptions}
 use Rattle.ignore_base.specs.Text.{Bytes, Path}
@@ -63,9 +63,10 @@ InScene matcher tree P =
     (loads : Path → Loaded) → AreLoads (tree_of tree) matcher.asked.settings loads
     → let g = scene_of matcher.asked (tree_of tree) loads in Agrees g matcher.cache → P g
 
--- asking leads from a matcher to one that is asked by the same, and that agrees where it did
+-- asking leads from a matcher to one that is asked by the same, that agrees where it did, and that
+-- keeps what it kept
 abbrev pub StaysIn : IncrementalIgnore → Memory → IncrementalIgnore → Type 0
-StaysIn old tree new = InScene old tree (λ g. Agrees g new.cache) × (new.asked ≡ old.asked)
+StaysIn old tree new = InScene old tree (λ g. Agrees g new.cache) × Stays old.cache new.cache × (new.asked ≡ old.asked)
 
 -- asking a matcher's handle about a path, by a tree's, gives the answer of the definition in each
 -- scene of the tree with which what is kept agrees, or says why there is none

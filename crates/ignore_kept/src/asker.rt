@@ -1,6 +1,6 @@
 //! Matchers of single paths over a tree that its host tells.
 ghost use Rattle.std.specs.Prelude.{◌≡◌, ◌≢◌, ◌∷◌, [], All, IfOk, IfErr, length};
-ghost use Rattle.ignore.specs.WalkWords.{Agrees, AreMatchers, KeepsNothing, query};
+ghost use Rattle.ignore.specs.WalkWords.{Agrees, AreMatchers, KeepsNothing, Stays, query};
 ghost use Rattle.ignore_files.specs.Answers.{tree_of};
 ghost use Rattle.ignore_kept.specs.Matching.{bytes_given, Builds, Forgets, Forgot, InScene, IsBuilt, Matches, Normalizes, found_in, match_code, verdict_code};
 ghost use Rattle.ignore_kept.specs.declared.stopped.Stopped.TheVariants.{Memory, Misused};
@@ -117,6 +117,7 @@ fn query(
 ) -> Result<IncrementalMatch, Stopped>
     ensures value { InScene matcher.old tree.now (λ g. IfOk result (λ m. m ≡ (query g path.now is_dir).0)) }
     ensures agrees { InScene matcher.old tree.now (λ g. Agrees g matcher.new.cache) }
+    ensures stays { Stays matcher.old.cache matcher.new.cache }
     ensures same { matcher.new.asked ≡ matcher.old.asked }
     ensures out_of_memory { IfErr result (λ e. e ≡ Memory) }
 {
