@@ -1,7 +1,8 @@
-"""attack_run.py CRATE [WORD,..]: tries /work/wt/attack/attack/CRATE/*.edit over the clone, in rounds, without an
-unedited check (the libraries stand). Results are appended to /tmp/attack_results (crate, name, verdict)."""
+"""attack/run.py CRATE [WORD,..]: tries attack/CRATE/*.edit over a clone whose libraries stand (CLONE, /work/gate/a), in rounds,
+without an unedited check. Verdicts are appended to /tmp/attack_results (time, verdict, name, reason); with the file
+/tmp/attack_first the first round alone is run, which has one body of each function."""
 import sys, os, time, shutil, tempfile
-clone='/work/gate/a'; n=sys.argv[1]; words=[w for w in (sys.argv[2] if len(sys.argv)>2 else '').split(',') if w]
+clone=os.environ.get('CLONE','/work/gate/a'); n=sys.argv[1]; words=[w for w in (sys.argv[2] if len(sys.argv)>2 else '').split(',') if w]
 tempfile.tempdir='/work/wt/attack/.tmp'
 sys.path.insert(0, clone+'/tools'); sys.dont_write_bytecode=True
 os.chdir(clone)
