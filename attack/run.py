@@ -7,6 +7,7 @@ tempfile.tempdir='/work/wt/attack/.tmp'
 sys.path.insert(0, clone+'/tools'); sys.dont_write_bytecode=True
 os.chdir(clone)
 import checks
+checks.LIMIT = 4 * 3600
 from checks import Bench, Trial, only
 from edits import Crates, Mutant, edited, rounds_of
 crates=Crates(); crate=crates[n]
