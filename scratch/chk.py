@@ -3,7 +3,7 @@
 a lower crate that is the same as in BASE (default /work/gate/a, where rt ci left libraries), with all
 that it stands on, is taken as the library built there; another one as SOURCE. (With sources a plain
 check covers their functions too: give --only PATH.) TOP: worktree; J: jobs (1)."""
-import os,sys,subprocess,filecmp
+import os,sys,subprocess,filecmp,functools
 top=os.environ.get('TOP') or subprocess.check_output(['git','rev-parse','--show-toplevel'],text=True).strip()
 bases=os.environ.get('BASE','/work/gate/a').split(':')
 def table(t):
@@ -22,6 +22,7 @@ def visit(n):
             if d not in order: order.append(d)
         else: kit.add(d)
 visit(crate)
+@functools.lru_cache(None)
 def files(f):
     r={}
     for root,dirs,fs in os.walk(f):
@@ -29,6 +30,7 @@ def files(f):
         for x in fs: p=os.path.join(root,x); r[os.path.relpath(p,f)]=open(p,'rb').read()
     return {k:v for k,v in r.items() if k.split('/')[0] in('src','specs','proofs')}
 base_of={}
+@functools.lru_cache(None)
 def same(n,b):
     try: return table(b).get(n)==deps[n] and files(f'{top}/crates/{n}')==files(f'{b}/crates/{n}') and os.path.exists(f'{b}/crates/{n}/out/rlib/{n}.rlib') and all(same(d,b) for d in deps[n] if d in deps)
     except OSError: return False

@@ -4,12 +4,12 @@ while :; do
     d=$(readlink /proc/$p/cwd 2>/dev/null)
     grep -q clang /proc/$p/comm 2>/dev/null && d=/work/gate/x/crates/ignore
     case "$d" in
-      /work/gate/a/crates/*|/work/gate/a|/tmp/rt-copy*) n=-2;;
-      /work/gate/b/crates/*) n=-16;;
-      /work/gate/*|/tmp/rt-copy*|/tmp/rt-edit*) n=-12;;
-      /tmp/mutants-*) n=-13;;
-      /tmp/tmp*) n=-16;;
-      /work/wt/batch*|/work/wt/exists*) n=-4;; /work/wt/*) n=12;;
+      /work/gate/a/crates/*|/work/gate/a) n=-8;;
+      /work/gate/d/crates/walk_tests*) n=-9;; /work/gate/b/crates/*|/work/gate/b|/work/gate/c/crates/*|/work/gate/c|/tmp/rt-copy*|/work/gate/d/crates/*|/work/gate/d) n=-12;;
+      /work/gate/*|/tmp/rt-edit*) n=-12;;
+      /tmp/mutants-*) n=-9;;
+      /tmp/tmp*) n=-3;;
+      /work/wt/batch*) n=-14;; /work/wt/igc2x*) n=-2;; /work/wt/*) n=8;;
       /tmp/*) n=0;;
       *) continue;;
     esac
