@@ -3,6 +3,7 @@ pub mod Types
 pub mod PlaceSteps
 pub mod Refusals
 pub mod Defaults
+pub mod AllDefaults
 pub mod TypeMatch
 pub mod TypeIndex
 pub mod TypeCodes

@@ -8,6 +8,7 @@ mod glob;
 pub mod laws;
 mod matcher;
 mod name;
+mod rows;
 mod selection;
 
 pub use builder::TypesBuilder;

@@ -7,6 +7,8 @@ mod builders;
 #[cfg(test)]
 mod deep;
 #[cfg(test)]
+mod default_types;
+#[cfg(test)]
 mod failing_lists;
 #[cfg(test)]
 mod failing_writers;

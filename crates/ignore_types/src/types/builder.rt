@@ -7,6 +7,7 @@ ghost use Rattle.ignore_types.specs.Types.{after_request, Becomes, with_chosen, 
 ghost use Rattle.ignore_types.specs.Building.{IsBuilt, IsChosen, IsChoiceProblem, IsRefusedWith, FirstBad};
 ghost use Rattle.ignore_types.specs.Refusals.{IsRefusal};
 ghost use Rattle.ignore_types.specs.Defaults.{with_defaults};
+ghost use Rattle.ignore_types.specs.AllDefaults.{all_default_rows};
 
 use crate::default_types::DEFAULT_TYPES;
 use crate::types::chosen::{ChosenType, read_globs};
@@ -254,6 +255,30 @@ impl TypesBuilder {
         ensures unchanged { OnErr result (self.new ≡ self.old) }
     {
         self.types = self.types.with_rows(&DEFAULT_TYPES)?;
+        Ok(())
+    }
+
+    /// Adds all default types of the original: the 219 rows of its whole table, in its order.
+    ///
+    /// # Errors
+    /// `Memory` alone. What holds of the builder after it is proved of `push_all_defaults`, which
+    /// does the work, and not of this call.
+    pub fn add_all_defaults(&mut self) -> Result<&mut Self, Error>
+        ensures same_reference { IfOk result (λ b. b.ghost_name ≡ self.entry.ghost_name) }
+        ensures added { IfOk result (λ b. b.now ≡ with_defaults all_default_rows self.old) }
+        ensures out_of_memory { IfErr result (λ e. problem_of e ≡ memory) }
+    {
+        self.push_all_defaults()?;
+        Ok(self)
+    }
+
+    /// For dependents: as `add_all_defaults`, without the builder in the result.
+    pub fn push_all_defaults(&mut self) -> Result<(), Error>
+        ensures added { OnOk result (self.new ≡ with_defaults all_default_rows self.old) }
+        ensures out_of_memory { IfErr result (λ e. problem_of e ≡ memory) }
+        ensures unchanged { OnErr result (self.new ≡ self.old) }
+    {
+        self.types = self.types.with_all_rows()?;
         Ok(())
     }
 }

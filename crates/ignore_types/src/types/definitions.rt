@@ -6,9 +6,11 @@ ghost use Rattle.ignore_types.specs.Types.{without, IsSortedCopy};
 ghost use Rattle.std.specs.List.{AllZip};
 ghost use Rattle.ignore_types.specs.PlaceSteps.{IsPlace};
 ghost use Rattle.ignore_types.specs.Defaults.{with_rows};
+ghost use Rattle.ignore_types.specs.AllDefaults.{all_default_rows};
 
 use crate::default_types::DefaultType;
 use crate::types::definition::FileTypeDef;
+use crate::types::rows::{fifth_rows, first_rows, fourth_rows, second_rows, third_rows};
 use std::alloc::{AllocError, Global};
 use std::marker::Model;
 
@@ -125,10 +127,31 @@ impl Definitions {
         ensures { IfOk result (λ ds. ds ≡ with_rows (map (λ r. (map (λ n. n.now) r.0.now, map (λ g. g.now) r.1.now)) rows.now) self.now) }
     {
         let mut definitions = self.clone()?;
-        for (names, globs) in rows {
-            definitions.add_names(names, globs)?;
-        }
+        definitions.add_rows(rows)?;
         Ok(definitions)
+    }
+
+    /// These types with the globs of each row of the whole table, in turn, for each of its names.
+    pub(super) fn with_all_rows(&self) -> Result<Definitions, AllocError>
+        ensures { IfOk result (λ ds. ds ≡ with_rows all_default_rows self.now) }
+    {
+        let mut definitions = self.clone()?;
+        definitions.add_rows(first_rows())?;
+        definitions.add_rows(second_rows())?;
+        definitions.add_rows(third_rows())?;
+        definitions.add_rows(fourth_rows())?;
+        definitions.add_rows(fifth_rows())?;
+        Ok(definitions)
+    }
+
+    fn add_rows(&mut self, rows: &[DefaultType]) -> Result<(), AllocError>
+        ensures { OnOk result (self.new
+            ≡ with_rows (map (λ r. (map (λ n. n.now) r.0.now, map (λ g. g.now) r.1.now)) rows.now) self.old) }
+    {
+        for (names, globs) in rows {
+            self.add_names(names, globs)?;
+        }
+        Ok(())
     }
 
     /// Copies of these types, with the globs of each sorted.
