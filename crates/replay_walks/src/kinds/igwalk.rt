@@ -13,16 +13,16 @@ use vectors::{Trouble, list};
 const WORDS: &str = "words";
 
 /// The status of a run that ended early.
-const ENDED: u8 = 2;
+pub(super) const ENDED: u8 = 2;
 
 /// What a run leaves.
 #[derive(Drop)]
-struct Outcome {
-    status: u8,
-    out: Vec<u8>,
-    err: Vec<u8>,
+pub(super) struct Outcome {
+    pub(super) status: u8,
+    pub(super) out: Vec<u8>,
+    pub(super) err: Vec<u8>,
     /// What was too much of the calls of the files, if anything was.
-    excess: Option<&'static str>,
+    pub(super) excess: Option<&'static str>,
 }
 
 /// Answers `status`, and `stdout` and `stderr`, what was written: texts, or `null` for what is
@@ -39,7 +39,7 @@ fn left_by(alloc: Global, input: &Value, words: &[String]) -> Result<Outcome, Tr
     repeated(alloc, &machine, words)
 }
 
-fn shown(alloc: Global, left: &Outcome) -> Result<Value, AllocError> {
+pub(super) fn shown(alloc: Global, left: &Outcome) -> Result<Value, AllocError> {
     let mut answer = Answer::new(alloc);
     answer.put("status", left.status as u64);
     answer.put_value("stdout", text_of(alloc, left.out.as_slice()));
@@ -50,7 +50,7 @@ fn shown(alloc: Global, left: &Outcome) -> Result<Value, AllocError> {
     answer.value()
 }
 
-fn words_of(alloc: Global, items: &[Value]) -> Result<Vec<String>, Trouble> {
+pub(super) fn words_of(alloc: Global, items: &[Value]) -> Result<Vec<String>, Trouble> {
     let mut words = Vec::new(alloc);
     for item in items {
         match item.as_str() {

@@ -1,0 +1,103 @@
+//! The program `ig`: what the ignore rules of a tree keep, what they ignore, and why.
+#![tactic(auto)]
+
+use ig_commands::run::run;
+use ig_commands::{Stop, World, report_stop};
+use ignore_files::{DiskFiles, Env};
+use std::io::{BufReader, BufWriter, Write};
+use std::process::ExitCode;
+use std::rt::Env as _;
+use std::time::Instant;
+use std::{env, io, rt};
+
+/// How many bytes of the output are kept before they are written.
+const CAPACITY: usize = 64 * 1024;
+
+/// How many bytes the longest word has.
+const LONGEST: usize = 128 * 1024;
+
+/// The words after the program's name; none where one of them isn't UTF-8.
+fn words_after_name(rt: &(impl rt::Env + AllocGlobal)) -> io::Result<Option<Vec<String>>> {
+    let args = match env::args(rt) {
+        Ok(args) => args,
+        Err(error) if error.kind() == io::ErrorKind::InvalidData => return Ok(None),
+        Err(error) => return Err(error),
+    };
+    let mut words = Vec::new(rt.alloc());
+    for word in args.skip(1) {
+        words.push(word)?;
+    }
+    Ok(Some(words))
+}
+
+/// Runs the words over the machine's files, with a buffer before the output.
+fn run_buffered(rt: &HostRuntime, words: &[String], env: &Env) -> Result<u8, Stop> {
+    let mut err = rt.stderr();
+    let Ok(mut out) = BufWriter::with_capacity(rt.alloc(), CAPACITY, rt.stdout()) else {
+        return report_stop(&mut err, Stop::Memory);
+    };
+    let Ok(input) = BufReader::with_capacity(rt.alloc(), CAPACITY, rt.stdin()) else {
+        return report_stop(&mut err, Stop::Memory);
+    };
+    let files = DiskFiles::new(rt);
+    let world = World {
+        alloc: rt.alloc(),
+        files: &files,
+        env,
+    };
+    let begun = Instant::now(rt);
+    let ran = run(&world, words, input, &mut out, &mut err)?;
+    if ran.is_timed {
+        report_time(rt, begun)?;
+    }
+    Ok(ran.status)
+}
+
+/// Reports how long a run took, where the clock can be read.
+fn report_time(rt: &HostRuntime, begun: io::Result<Instant>) -> Result<(), Stop> {
+    let Ok(begun) = begun else {
+        return Ok(());
+    };
+    let Ok(time) = begun.elapsed(rt) else {
+        return Ok(());
+    };
+    let mut err = rt.stderr();
+    match writeln!(err, "ig: {} ms", time.as_millis()) {
+        Ok(()) => Ok(()),
+        Err(_) => Err(Stop::Silence),
+    }
+}
+
+/// Reports the place of the first word that isn't UTF-8, and returns the status.
+fn report_word(rt: &HostRuntime) -> Result<u8, Stop> {
+    let mut err = rt.stderr();
+    let Ok(place) = bad_place(rt) else {
+        return report_stop(&mut err, Stop::Memory);
+    };
+    match writeln!(err, "ig: word {place} is not UTF-8") {
+        Ok(()) => Ok(2),
+        Err(_) => Err(Stop::Silence),
+    }
+}
+
+/// The place of the first word after the program's name that isn't UTF-8; 0 where there is none.
+fn bad_place(rt: &(impl rt::Env + AllocGlobal)) -> io::Result<usize> {
+    let mut buffer = vec![in rt.alloc(); 0u8; LONGEST]?;
+    for place in 1..usize::MAX {
+        match rt.arg(place, buffer.as_mut_slice()) {
+            Ok(len) if std::str::from_utf8(&buffer[..len]).is_ok() => {}
+            Ok(_) => return Ok(place),
+            Err(_) => return Ok(0),
+        }
+    }
+    Ok(0)
+}
+
+fn main(rt: HostRuntime) -> ExitCode {
+    let status = match (words_after_name(&rt), Env::of_process(&rt)) {
+        (Ok(Some(words)), Ok(env)) => run_buffered(&rt, words.as_slice(), &env),
+        (Ok(None), _) => report_word(&rt),
+        _ => report_stop(&mut rt.stderr(), Stop::Memory),
+    };
+    ExitCode::from(status.unwrap_or(2))
+}

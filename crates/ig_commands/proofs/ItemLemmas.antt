@@ -1,0 +1,105 @@
+-- What is written and reported for the items of a walk, one more at a time.
+use Rattle.std.proofs.Common.{◌≡◌, ◌∙◌, ℕ, Bool, true, false, cond, eqb, eqb-true, eq-eqb, List, [], ◌∷◌, ◌++◌, Option, None, Some, Result, Ok, map, option_map, refl, sym, ap, subst, append_assoc, arith}
+use Rattle.std.proofs.lemmas.Bool.{false_from_ne_true}
+use Rattle.std.proofs.lemmas.Cmp.{ranked}
+use Rattle.std.proofs.lemmas.List.{append-nil, map-append}
+use Rattle.std.specs.BTreeMap.{BTreeMap, get}
+use Rattle.std.specs.Io.KnownBytes.{Appends}
+use Rattle.std.specs.Option.{option_or}
+use Rattle.std.specs.Ordering.{is_eq, nat_cmp}
+use Rattle.std.specs.declared.cmp.Ordering.{Ordering}
+use Rattle.std.specs.declared.cmp.Ordering.TheVariants.{Less, Equal, Greater}
+use Rattle.ignore_base.specs.declared.error.Error.{Error}
+use Rattle.ignore_walk.specs.Entry.{Item, item_of}
+use Rattle.ignore_walk.specs.declared.entry.DirEntry.{DirEntry}
+use Rattle.commands.proofs.LineLemmas.{appends_on}
+use Rattle.ig_commands.specs.Counts.{counted, one_more}
+use Rattle.ig_commands.specs.Reports.{Notes, last_at, last_in, path_at, path_of, reports_after, reports_of}
+
+or_none : {A : Type 0} (x : Option A) → option_or x None ≡ x
+or_none None = refl
+or_none (Some a) = refl
+
+or_assoc : {A : Type 0} (x y z : Option A) → option_or (option_or x y) z ≡ option_or x (option_or y z)
+or_assoc None y z = refl
+or_assoc (Some a) y z = refl
+
+-- the last entry at a depth among some items and one more
+last_more : (items : List Item) (item : Item) (depth : ℕ)
+    → last_at (items ++ item ∷ []) depth ≡ option_or (path_at depth item) (last_at items depth)
+last_more [] item depth = sym (or_none (path_at depth item))
+last_more (x ∷ xs) item depth =
+    ap (λ (o : Option (List ℕ)). option_or o (path_at depth x)) (last_more xs item depth)
+    ∙ or_assoc (path_at depth item) (last_at xs depth) (path_at depth x)
+
+-- what is reported of some items and one more
+reports_more : (before items : List Item) (item : Item)
+    → reports_after before (items ++ item ∷ []) ≡ reports_after before items ++ reports_of (last_at (before ++ items)) item
+reports_more before [] item =
+    append-nil (reports_of (last_at before) item)
+    ∙ ap (λ (bs : List Item). reports_of (last_at bs) item) (sym (append-nil before))
+reports_more before (x ∷ xs) item =
+    let here = reports_of (last_at before) x in
+    ap (λ (bs : List ℕ). here ++ bs) (reports_more (before ++ x ∷ []) xs item)
+    ∙ (sym (append_assoc here (reports_after (before ++ x ∷ []) xs) (reports_of (last_at ((before ++ x ∷ []) ++ xs)) item))
+    ∙ ap (λ (bs : List Item). (here ++ reports_after (before ++ x ∷ []) xs) ++ reports_of (last_at bs) item)
+    (append_assoc before (x ∷ []) xs))
+
+-- a table of the last entries keeps them by one item more
+pub notes_more : (items : List (Result DirEntry Error)) (item : Result DirEntry Error) (old new : ℕ → Option (List ℕ))
+    → ((depth : ℕ) → old depth ≡ last_at (map item_of items) depth) → Notes (item_of item) old new
+    → (depth : ℕ) → new depth ≡ last_at (map item_of (items ++ item ∷ [])) depth
+notes_more items item old new h k depth =
+    k depth
+    ∙ (ap (λ (o : Option (List ℕ)). option_or (path_at depth (item_of item)) o) (h depth)
+    ∙ (sym (last_more (map item_of items) (item_of item) depth)
+    ∙ ap (λ (is : List Item). last_at is depth) (sym (map-append item_of items (item ∷ [])))))
+
+-- one item more is reported
+pub told_more : (items : List (Result DirEntry Error)) (item : Result DirEntry Error) (table : ℕ → Option (List ℕ))
+    (a b c : Option (List ℕ)) → ((depth : ℕ) → table depth ≡ last_at (map item_of items) depth)
+    → Appends a b (reports_after [] (map item_of items)) → Appends b c (reports_of table (item_of item))
+    → Appends a c (reports_after [] (map item_of (items ++ item ∷ [])))
+told_more items item table a b c h before here =
+    let same : table ≡ last_at (map item_of items) = λ j depth. h depth j in
+    let told = subst (λ (t : ℕ → Option (List ℕ)). Appends b c (reports_of t (item_of item))) same here in
+    subst (Appends a c)
+    (sym (ap (reports_after []) (map-append item_of items (item ∷ [])) ∙ reports_more [] (map item_of items) (item_of item)))
+    (appends_on a b c _ _ before told)
+
+counted_more : (n : ℕ) (bs : List Bool) (b : Bool) → counted n (bs ++ b ∷ []) ≡ one_more (counted n bs) b
+counted_more n [] b = refl
+counted_more n (x ∷ bs) b = counted_more (one_more n x) bs b
+
+-- a count of one item more
+pub count_more : (f : Item → Bool) (items : List (Result DirEntry Error)) (item : Result DirEntry Error) (old new : ℕ) (holds : Bool)
+    → old ≡ counted 0 (map f (map item_of items)) → new ≡ one_more old holds → holds ≡ f (item_of item)
+    → new ≡ counted 0 (map f (map item_of (items ++ item ∷ [])))
+count_more f items item old new holds h k same =
+    k
+    ∙ (ap (λ n. one_more n holds) h
+    ∙ (ap (λ b. one_more (counted 0 (map f (map item_of items))) b) same
+    ∙ (sym (counted_more 0 (map f (map item_of items)) (f (item_of item)))
+    ∙ ap (counted 0) (sym (ap (map f) (map-append item_of items (item ∷ [])) ∙ map-append f (map item_of items) (item_of item ∷ []))))))
+
+-- ---- an entry that is noted at its depth
+
+at_depth : (old : Option DirEntry) (entry : DirEntry) (q d : ℕ) (o : Ordering) → o ≡ nat_cmp d q
+    → option_map path_of (cond (is_eq o) (Some entry) old)
+    ≡ option_or (cond (eqb q d) (Some (path_of entry)) None) (option_map path_of old)
+at_depth old entry q d Less e =
+    let other : eqb q d ≡ false = false_from_ne_true (eqb q d) (λ t. omega (arith, eqb-true q d t, ranked d q Less e)) in
+    sym (ap (λ (b : Bool). option_or (cond b (Some (path_of entry)) None) (option_map path_of old)) other)
+at_depth old entry q d Equal e =
+    sym (ap (λ (b : Bool). option_or (cond b (Some (path_of entry)) None) (option_map path_of old)) (eq-eqb q d (sym (ranked d q Equal e))))
+at_depth old entry q d Greater e =
+    let other : eqb q d ≡ false = false_from_ne_true (eqb q d) (λ t. omega (arith, eqb-true q d t, ranked d q Greater e)) in
+    sym (ap (λ (b : Bool). option_or (cond b (Some (path_of entry)) None) (option_map path_of old)) other)
+
+-- a table with an entry at its depth has it as the last one there
+pub noted : (old new : BTreeMap ℕ DirEntry) (entry : DirEntry)
+    → ((q : ℕ) → get nat_cmp new q ≡ cond (is_eq (nat_cmp entry.depth q)) (Some entry) (get nat_cmp old q))
+    → Notes (item_of (Ok entry)) (last_in old) (last_in new)
+noted old new entry h = λ q.
+    ap (λ (o : Option DirEntry). option_map path_of o) (h q)
+    ∙ at_depth (get nat_cmp old q) entry q entry.depth (nat_cmp entry.depth q) refl

@@ -1,0 +1,44 @@
+use Rattle.std.proofs.Common.{◌≡◌, ◌≢◌, ◌⊎◌, [], inl, inr, map, option_map}
+use Rattle.std.proofs.lemmas.Result.{IfErr-weaker, IfOk-weaker}
+use Rattle.ignore_base.specs.Problem.{memory, problem_of}
+use Rattle.commands.proofs.LineLemmas.{appends_nothing}
+use Rattle.ig_commands.proofs.StopLemmas.{ends_at_once, refused}
+use Rattle.ig_commands.proofs.listing.list.Goals as goal
+
+pub returns-in-Ok-clause-lists : goal.returns-in-Ok-clause-lists
+returns-in-Ok-clause-lists g c =
+    IfOk-weaker c.report_and_walk.result _ _
+    (λ status h. inl (
+      c.in-Ok.asked.walk,
+      map (option_map problem_of) c.in-Ok.asked.errors.items,
+      h.0,
+      h.1,
+      λ tree honest. (c.in-Ok.ensures.read tree honest, h.2 tree honest),
+    ))
+    c.report_and_walk.ensures.lists
+
+pub returns-in-Ok-clause-ended : goal.returns-in-Ok-clause-ended
+returns-in-Ok-clause-ended g c =
+    IfErr-weaker c.report_and_walk.result _ _
+    (λ stop h. inl (
+      c.in-Ok.asked.walk,
+      map (option_map problem_of) c.in-Ok.asked.errors.items,
+      h.0,
+      h.1,
+      λ tree honest. (c.in-Ok.ensures.read tree honest, h.2 tree honest),
+    ))
+    c.report_and_walk.ensures.ended
+
+-- the options are rejected
+pub returns-in-Err-clause-lists : goal.returns-in-Err-clause-lists
+returns-in-Err-clause-lists g c =
+    let e = c.in-Err.error in
+    refused c.refuse_or_end.result (problem_of e) _ _ _ c.in-Err.ensures.refused c.refuse_or_end.ensures.enough c.refuse_or_end.ensures.reports
+    (λ status other is h. inr (problem_of e, other, is, appends_nothing (g.W.Write.contents c.args.out.now), h))
+
+-- or memory ran out, or they can't be reported
+pub returns-in-Err-clause-ended : goal.returns-in-Err-clause-ended
+returns-in-Err-clause-ended g c =
+    let out = g.W.Write.contents c.args.out.now in
+    ends_at_once c.refuse_or_end.result out (g.E.Write.contents c.args.err.now) (g.E.Write.contents c.refuse_or_end.new.err)
+    c.refuse_or_end.ensures.ended c.refuse_or_end.ensures.kept _ (λ stop h. inr h)

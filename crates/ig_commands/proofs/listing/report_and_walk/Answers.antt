@@ -1,0 +1,53 @@
+use Rattle.std.proofs.Common.{[], inl, inr, map, option_map, refl, sym, subst, rules}
+use Rattle.std.proofs.lemmas.Result.{err_from_is_err_and}
+use Rattle.std.specs.Io.KnownBytes.{Appends}
+use Rattle.std.specs.List.{flat_map}
+use Rattle.ignore_base.specs.Problem.{problem_of}
+use Rattle.ig_commands.specs.Listing.{all_reports}
+use Rattle.ig_commands.specs.Reports.{report_of, reports_after}
+use Rattle.ig_commands.specs.Stops.{EndsAfter}
+use Rattle.ig_commands.specs.Writing.{lines_of}
+use Rattle.ig_commands.specs.declared.stop.Stop.{Stop}
+use Rattle.ig_commands.proofs.ListLemmas.{whole_list}
+use Rattle.ig_commands.proofs.StopLemmas.{ends_after_reports}
+use Rattle.ig_commands.proofs.listing.report_and_walk.Goals as goal
+
+pub returns-clause-lists : goal.returns-clause-lists
+returns-clause-lists g c =
+    let problems = map (option_map problem_of) c.args.asked.errors.items in
+    let h = c.in_ok-counts.ensures.lists in (
+      h.0,
+      whole_list c.args.options.now problems h.0 c.in_ok-reported.reported c.in_ok-counts.counts.reported c.in_ok-counts.counts.found
+          c.saturating_add.result c.status_of.result _ (g.E.Write.contents c.args.err.now) (g.E.Write.contents c.report_all.new.err)
+          (g.E.Write.contents c.walk_and_write.new.err) (g.E.Write.contents c.report_counts.new.err) c.in_ok-reported.ensures.reports.0
+          c.in_ok-reported.ensures.reports.1 h.1 (search rules) c.in_ok-report_counts.ensures.reports c.status_of.ensures,
+      h.2,
+    )
+
+-- the problems of the files that are named can't be reported
+pub returns-in_err-reported-clause-ended : goal.returns-in_err-reported-clause-ended
+returns-in_err-reported-clause-ended g c =
+    let p = err_from_is_err_and c.from_residual.result c.from_residual.ensures.1 in
+    rw (p.1, p.2) ([], rw c.in_err-reported.ensures.ended tt, λ tree honest. inl (inl refl))
+
+-- the walk ended early
+pub returns-in_err-counts-clause-ended : goal.returns-in_err-counts-clause-ended
+returns-in_err-counts-clause-ended g c =
+    let problems = map (option_map problem_of) c.args.asked.errors.items in
+    let h = c.in_err-counts.ensures.ended in
+    let p = err_from_is_err_and c.from_residual.result c.from_residual.ensures.1 in
+    rw (p.1, p.2) (
+      h.0,
+      ends_after_reports (flat_map (lines_of c.args.options.now) h.0) (flat_map report_of problems) (reports_after [] h.0)
+          (Appends (g.W.Write.contents c.args.out.now) (g.W.Write.contents c.walk_and_write.new.out)) (g.E.Write.contents c.args.err.now)
+          (g.E.Write.contents c.report_all.new.err) (g.E.Write.contents c.walk_and_write.new.err) c.in_err-counts.field-0.0
+          c.in_ok-reported.ensures.reports.1 h.1,
+      λ tree honest. inl (h.2 tree honest),
+    )
+
+-- the counts can't be reported
+pub returns-in_err-report_counts-clause-ended : goal.returns-in_err-report_counts-clause-ended
+returns-in_err-report_counts-clause-ended g c =
+    let h = c.in_ok-counts.ensures.lists in
+    let p = err_from_is_err_and c.from_residual.result c.from_residual.ensures.1 in
+    rw (p.1, p.2) (h.0, rw c.in_err-report_counts.ensures.ended tt, λ tree honest. inr (h.2 tree honest))

@@ -1,0 +1,24 @@
+use Rattle.std.proofs.Common.{◌≡◌, refl, rules, subst}
+use Rattle.ignore.specs.Asked.{IsOutside}
+use Rattle.ignore.specs.declared.options.WalkOptions.{WalkOptions}
+use Rattle.ig_commands.specs.Listing.{listing}
+use Rattle.ig_commands.proofs.WalkLemmas.{suits_listing}
+use Rattle.ig_commands.proofs.listing.walk_of.Goals as goal
+
+pub returns-clause-walks : goal.returns-clause-walks
+returns-clause-walks g c = λ tree honest.
+    let outside = c.in_ok-outside.outside in
+    let same : c.in_ok-settings.settings ≡ c.args.walk.settings = search rules in (
+      c.in_ok-names.names.items,
+      outside,
+      record {
+        trimmed = c.in_ok-names.ensures;
+        read = subst (λ (b : WalkOptions). IsOutside tree c.args.world.now.env.now b outside) c.from_options-builder.ensures.options
+            (c.in_ok-outside.ensures.read tree honest);
+      },
+      λ loads are.
+          let scene = listing c.args.options.now c.args.walk tree loads outside in
+          let suits = suits_listing g.F.Files _ c.args.world.now.files.now _ _ tree loads c.in_ok-settings.settings outside c.args.options.now
+          c.args.walk honest are same refl refl (λ e. refl) (λ a b. refl) in
+          record { starts = c.new.ensures.starts scene suits; whole = λ items n whole. c.new.ensures.whole scene items n suits whole },
+    )

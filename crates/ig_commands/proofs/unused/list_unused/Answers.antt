@@ -1,0 +1,54 @@
+use Rattle.std.proofs.Common.{inl, inr, map, option_map}
+use Rattle.std.proofs.lemmas.Result.{IfErr-weaker, IfOk-weaker}
+use Rattle.commands.proofs.LineLemmas.{appends_nothing}
+use Rattle.ignore_base.specs.Problem.{problem_of}
+use Rattle.ig_commands.proofs.AskedLemmas.{no_roots}
+use Rattle.ig_commands.proofs.StopLemmas.{ends_at_once, refused}
+use Rattle.ig_commands.proofs.unused.list_unused.Goals as goal
+
+pub returns-in-Ok-clause-lists : goal.returns-in-Ok-clause-lists
+returns-in-Ok-clause-lists g c =
+    let b = c.in-Ok.asked.walk in
+    let problems = map (option_map problem_of) c.in-Ok.asked.errors.items in
+    IfOk-weaker c.report_and_find.result _ _
+    (λ status h. inl (
+      b,
+      problems,
+      h.0,
+      h.1,
+      h.2,
+      λ tree honest.
+          let asked = c.in-Ok.ensures.read tree honest in
+          (asked, h.3 tree honest (no_roots tree c.args.world.now.env.now c.args.options.now c.args.first b problems asked)),
+    ))
+    c.report_and_find.ensures.lists
+
+pub returns-in-Ok-clause-ended : goal.returns-in-Ok-clause-ended
+returns-in-Ok-clause-ended g c =
+    let b = c.in-Ok.asked.walk in
+    let problems = map (option_map problem_of) c.in-Ok.asked.errors.items in
+    IfErr-weaker c.report_and_find.result _ _
+    (λ stop h. inl (
+      b,
+      problems,
+      h.0,
+      h.1,
+      λ tree honest.
+          let asked = c.in-Ok.ensures.read tree honest in
+          (asked, h.2 tree honest (no_roots tree c.args.world.now.env.now c.args.options.now c.args.first b problems asked)),
+    ))
+    c.report_and_find.ensures.ended
+
+-- the options are rejected
+pub returns-in-Err-clause-lists : goal.returns-in-Err-clause-lists
+returns-in-Err-clause-lists g c =
+    let e = c.in-Err.error in
+    refused c.refuse_or_end.result (problem_of e) _ _ _ c.in-Err.ensures.refused c.refuse_or_end.ensures.enough c.refuse_or_end.ensures.reports
+    (λ status other is h. inr (problem_of e, other, is, appends_nothing (g.W.Write.contents c.args.out.now), h))
+
+-- or memory ran out, or they can't be reported
+pub returns-in-Err-clause-ended : goal.returns-in-Err-clause-ended
+returns-in-Err-clause-ended g c =
+    let out = g.W.Write.contents c.args.out.now in
+    ends_at_once c.refuse_or_end.result out (g.E.Write.contents c.args.err.now) (g.E.Write.contents c.refuse_or_end.new.err)
+    c.refuse_or_end.ensures.ended c.refuse_or_end.ensures.kept _ (λ stop h. inr h)

@@ -1,0 +1,76 @@
+use Rattle.std.proofs.Common.{[], inl, inr, map, option_map, refl, string_bytes, subst, sym}
+use Rattle.std.proofs.lemmas.List.{append-nil}
+use Rattle.std.proofs.lemmas.Result.{err_from_is_err_and}
+use Rattle.std.specs.Io.KnownBytes.{Appends}
+use Rattle.std.specs.List.{flat_map}
+use Rattle.commands.proofs.LineLemmas.{appends_nothing, appends_on}
+use Rattle.ignore_base.specs.Problem.{problem_of}
+use Rattle.ig_commands.specs.Reports.{report_of}
+use Rattle.ig_commands.specs.Why.{reports, written}
+use Rattle.ig_commands.proofs.ReportLemmas.{reported_as, status_as, wrong_as}
+use Rattle.ig_commands.proofs.StopLemmas.{ends_after_reports}
+use Rattle.ig_commands.proofs.WhyLemmas.{first_of}
+use Rattle.ig_commands.proofs.why.report_and_ask.Goals as goal
+
+-- a report that can't be written ends it before it asks
+pub returns-in_err-reported-clause-ended : goal.returns-in_err-reported-clause-ended
+returns-in_err-reported-clause-ended g c =
+    let p = err_from_is_err_and c.from_residual.result c.from_residual.ensures.1 in
+    rw (p.1, p.2, c.in_err-reported.ensures.ended) ([], [], tt, λ tree honest. inl refl)
+
+-- and so does a lack of memory
+pub returns-in_default-clause-ended : goal.returns-in_default-clause-ended
+returns-in_default-clause-ended g c = (
+  [],
+  [],
+  (
+    appends_nothing (g.W.Write.contents c.args.out.now),
+    subst (Appends (g.E.Write.contents c.args.err.now) (g.E.Write.contents c.report_all.new.err))
+        (sym (append-nil (flat_map report_of (map (option_map problem_of) c.args.asked.errors.items))))
+        (reported_as c.deref.result.now c.args.asked.errors.items c.deref.ensures.value c.in_ok-reported.ensures.reports.1),
+  ),
+  λ tree honest. inl refl,
+)
+
+pub returns-in_err-counts-clause-ended : goal.returns-in_err-counts-clause-ended
+returns-in_err-counts-clause-ended g c =
+    let m = c.in-Ok.matcher in
+    let h = c.in_err-counts.ensures.ended in
+    let root = string_bytes m.asked.root in
+    let p = err_from_is_err_and c.from_residual-in_err-counts.result c.from_residual-in_err-counts.ensures.1 in
+    rw (p.1, p.2) (
+      root,
+      h.0,
+      ends_after_reports (flat_map (written c.args.options.now root) h.0)
+          (flat_map report_of (map (option_map problem_of) c.args.asked.errors.items)) (flat_map (reports root) h.0)
+          (Appends (g.W.Write.contents c.args.out.now) (g.W.Write.contents c.ask_all.new.out))
+          (g.E.Write.contents c.args.err.now) (g.E.Write.contents c.report_all.new.err) (g.E.Write.contents c.ask_all.new.err)
+          c.in_err-counts.field-0.0 (reported_as c.deref.result.now c.args.asked.errors.items c.deref.ensures.value c.in_ok-reported.ensures.reports.1) h.4,
+      λ tree honest. inr (first_of tree c.args.world.now.env.now c.args.asked.walk m c.args.options.now.paths.items h.1 h.2 h.0 h.3
+          (c.in-Ok.ensures.asked tree honest) c.in-Ok.ensures.empty h.5
+          (λ loads are. h.6 tree loads honest are (c.in-Ok.ensures.fresh tree loads))),
+    )
+
+-- all paths are answered, and the problems of the files that are named count with theirs
+pub returns-clause-answers : goal.returns-clause-answers
+returns-clause-answers g c =
+    let m = c.in-Ok.matcher in
+    let h = c.in_ok-counts.ensures.answers in
+    let all = c.args.options.now.paths.items in
+    let problems = map (option_map problem_of) c.args.asked.errors.items in (
+      string_bytes m.asked.root,
+      h.0,
+      record {
+        writes = h.1;
+        reports = appends_on _ _ _ (flat_map report_of problems) _ (reported_as c.deref.result.now c.args.asked.errors.items c.deref.ensures.value c.in_ok-reported.ensures.reports.1) h.2;
+        ends = status_as c.status_of.result c.saturating_add.result c.in_ok-counts.counts.found _ _ c.status_of.ensures
+            (wrong_as c.deref.result.now c.args.asked.errors.items c.saturating_add.result c.in_ok-counts.counts.reported c.in_ok-reported.reported _
+            c.deref.ensures.value c.saturating_add.ensures c.in_ok-reported.ensures.reports.0 h.3) h.4;
+      },
+      λ tree honest. (
+        first_of tree c.args.world.now.env.now c.args.asked.walk m all all [] h.0 c.ask_all.new.matcher.cache
+            (c.in-Ok.ensures.asked tree honest) c.in-Ok.ensures.empty (sym (append-nil all))
+            (λ loads are. h.5 tree loads honest are (c.in-Ok.ensures.fresh tree loads)),
+        refl,
+      ),
+    )

@@ -1,0 +1,16 @@
+pub mod Stops
+pub mod Counts
+pub mod Writing
+pub mod Reports
+pub mod Types
+pub mod Listing
+pub mod Form
+pub mod Root
+pub mod Why
+pub mod Surveys
+pub mod Ignored
+pub mod Unused
+pub mod Rules
+pub mod Found
+pub mod Input
+pub mod Run

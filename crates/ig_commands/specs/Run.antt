@@ -1,0 +1,85 @@
+-- What a run of the program does.
+use Rattle.std.specs.Prelude.{◌≡◌, ◌⊎◌, ⊤, ℕ, true, List, [], ◌++◌, Option, IfSome}
+use Rattle.std.specs.Io.KnownBytes.{Appends, Keeps}
+use Rattle.ignore_base.specs.Text.{Bytes}
+use Rattle.ignore_files.specs.declared.env.Env.{Env}
+use Rattle.ignore_files.specs.declared.files.Files.{Ghosts as Files}
+use Rattle.ignore_types.specs.Defaults.{Row, with_defaults}
+use Rattle.ignore_types.specs.Types.{Draft}
+use Rattle.ig_options.specs.declared.given.Given.{Given}
+use Rattle.ig_options.specs.declared.options.Options.{Options}
+use Rattle.ig_options.specs.declared.words.Task.{Task}
+use Rattle.ig_options.specs.declared.words.Task.TheVariants as command
+use Rattle.ig_commands.specs.Ignored.{IgnoredAsked, IgnoredEnds}
+use Rattle.ig_commands.specs.Input.{AreGiven}
+use Rattle.ig_commands.specs.Listing.{EndsAsked, ListsAsked}
+use Rattle.ig_commands.specs.Stops.{EndsAfter, reason, stop_status}
+use Rattle.ig_commands.specs.Types.{ListsTypes}
+use Rattle.ig_commands.specs.Unused.{UnusedAsked, UnusedEnds}
+use Rattle.ig_commands.specs.Why.{WhyAsked, WhyEnds}
+use Rattle.ig_commands.specs.declared.stop.Stop.{Stop}
+use Rattle.ig_commands.specs.declared.stop.Stop.TheVariants.{Memory, Read, Write, Closed}
+use Rattle.ig_commands.specs.declared.run.Unread.{Unread}
+use Rattle.ig_commands.specs.declared.run.Unread.TheVariants as unread
+
+-- a command was carried out, with this status; the draft has the file types that exist at first
+abbrev pub Does : {F : Type 0} → Files F → F → Env → Options → Draft → Task → ℕ → (Bytes → Type 0) → (Bytes → Type 0) → Type 0
+Does files f env o first command.List status out err = ListsAsked files f env o first status out err
+Does files f env o first command.Ignored status out err = IgnoredAsked files f env o first status out err
+Does files f env o first command.Why status out err = WhyAsked files f env o first status out err
+Does files f env o first command.Unused status out err = UnusedAsked files f env o first status out err
+Does files f env o first command.Types status out err = ListsTypes o.type_add first status out err
+
+-- a command ended early
+abbrev pub Ends : {F : Type 0} → Files F → F → Env → Options → Draft → Task → (Bytes → Type 0) → (Bytes → Type 0) → Stop → Type 0
+Ends files f env o first command.List out err stop = EndsAsked files f env o first out err stop
+Ends files f env o first command.Ignored out err stop = IgnoredEnds files f env o first out err stop
+Ends files f env o first command.Why out err stop = WhyEnds files f env o first out err stop
+Ends files f env o first command.Unused out err stop = UnusedEnds files f env o first out err stop
+Ends files f env o first command.Types out err stop = EndsAfter [] [] out err stop
+
+-- where the paths are to come from standard input, those that it gives stand last among them
+abbrev pub HasInput : Options → Option Bytes → Type 0
+HasInput o input =
+    o.stdin ≡ true → IfSome input (λ bytes. (words given : List Given) × AreGiven o bytes given × (o.paths.items ≡ words ++ given))
+
+-- a run has this status, of what it did up to some contents of both writers: that which it did has
+-- this status, and nothing more is written and reported; or it ended early, or what is kept of the
+-- output can't be written after it, and the reason is reported
+pub data Finishes (Done : ℕ → (Bytes → Type 0) → (Bytes → Type 0) → Type 0) (Ended : (Bytes → Type 0) → (Bytes → Type 0) → Stop → Type 0)
+    (status : ℕ) (out now err told : Option Bytes) : Type 0 where
+  whole : (written : Option Bytes) → Done status (Appends out written) (Appends err told) → Keeps written now
+      → Finishes Done Ended status out now err told
+  early : (written reported : Option Bytes) (stop : Stop) → Ended (Appends out written) (Appends err reported) stop → Keeps written now
+      → status ≡ stop_status stop → Appends reported told (reason stop) → Finishes Done Ended status out now err told
+  unwritten : (given : ℕ) (written reported : Option Bytes) (stop : Stop) → Done given (Appends out written) (Appends err reported)
+      → (stop ≡ Write) ⊎ (stop ≡ Closed) → Keeps written now → status ≡ stop_status stop → Appends reported told (reason stop)
+      → Finishes Done Ended status out now err told
+
+-- the parser of words had the last word: help or the version was written and nothing reported, or
+-- a mistake was reported and nothing written
+abbrev pub Shows : ℕ → (Bytes → Type 0) → (Bytes → Type 0) → Type 0
+Shows status out err = ((status ≡ 0) × err []) ⊎ ((status ≡ 2) × out [])
+
+-- it ended before a command began: standard input can't be read, and nothing is written or reported;
+-- out of memory; or what the parser has to say can't be written
+abbrev pub EndsBefore : (Bytes → Type 0) → (Bytes → Type 0) → Stop → Type 0
+EndsBefore out err stop = EndsAfter [] [] out err stop ⊎ ((stop ≡ Read) × (out [] × err []))
+
+-- what ends a run at standard input is that it can't be read, or out of memory
+abbrev pub EndsRead : Unread → Type 0
+EndsRead (unread.Words error) = ⊤
+EndsRead (unread.Input stop is_timed) = (stop ≡ Read) ⊎ (stop ≡ Memory)
+
+-- the file types of a table of default types, and no choices
+abbrev pub types_at_first : List Row → Draft
+types_at_first rows = with_defaults rows (record { definitions = []; choices = [] })
+
+-- a run did what one of the commands does, by some options, with these file types at first; or the
+-- parser of the words had the last word, or no command began. Which command and options words stand
+-- for isn't said
+abbrev pub Runs : {F : Type 0} → Files F → F → Env → List Row → Option Bytes → ℕ → (out now err told : Option Bytes) → Type 0
+Runs files f env rows input status out now err told =
+    ((task : Task) × (o : Options) × HasInput o input
+    × Finishes (Does files f env o (types_at_first rows) task) (Ends files f env o (types_at_first rows) task) status out now err told)
+    ⊎ Finishes Shows EndsBefore status out now err told

@@ -1,0 +1,42 @@
+-- Why a command ends early, and what was written and reported by then.
+use Rattle.std.specs.Prelude.{ℕ, [], ◌∷◌, ◌++◌, codes, ⊤}
+use Rattle.std.specs.declared.io.ErrorKind.{ErrorKind}
+use Rattle.std.specs.declared.io.ErrorKind.TheVariants.{BrokenPipe, OutOfMemory}
+use Rattle.ignore_base.specs.Text.{Bytes}
+use Rattle.ig_commands.specs.declared.stop.Stop.{Stop}
+use Rattle.ig_commands.specs.declared.stop.Stop.TheVariants.{Memory, Read, Write, Closed, Silence}
+
+-- the report of each early end; nothing of a closed pipe, and nothing where nothing can be written
+abbrev pub reason : Stop → Bytes
+reason Memory = codes "ig: out of memory" ++ 10 ∷ []
+reason Read = codes "ig: cannot read standard input" ++ 10 ∷ []
+reason Write = codes "ig: cannot write" ++ 10 ∷ []
+reason Closed = []
+reason Silence = []
+
+-- the status of each early end: that of a closed pipe is 0
+abbrev pub stop_status : Stop → ℕ
+stop_status Memory = 2
+stop_status Read = 2
+stop_status Write = 2
+stop_status Closed = 0
+stop_status Silence = 2
+
+-- why a failed write of this kind, and a failed read, ends a command
+abbrev pub write_stop : ErrorKind → Stop
+write_stop BrokenPipe = Closed
+write_stop _ = Write
+
+abbrev pub read_stop : ErrorKind → Stop
+read_stop OutOfMemory = Memory
+read_stop _ = Read
+
+-- a command ended early, at one more thing to write, after these bytes were written and these
+-- reported: out of memory, with nothing more written or reported; by a failed write or a closed
+-- pipe, with nothing more reported; or by a report that can't be written
+abbrev pub EndsAfter : Bytes → Bytes → (Bytes → Type 0) → (Bytes → Type 0) → Stop → Type 0
+EndsAfter written reported out err Memory = out written × err reported
+EndsAfter written reported out err Read = ⊥
+EndsAfter written reported out err Write = err reported
+EndsAfter written reported out err Closed = err reported
+EndsAfter written reported out err Silence = ⊤

@@ -1,0 +1,313 @@
+//! The command `ignored`: the topmost entries that are ignored.
+ghost use Rattle.std.specs.Prelude.{◌≡◌, ◌≢◌, ◌++◌, ◌∷◌, ◌&&◌, not, true, false, All, List, Ok, Err, Some, [], Result, IfErr, IfOk, OnOk, map, option_map, string_bytes, if◌then◌else◌};
+ghost use Rattle.std.specs.Io.KnownBytes.{Appends};
+ghost use Rattle.std.specs.Iterator.{Drains, IsFinite, YieldsThen};
+ghost use Rattle.std.specs.List.{AllZip, flat_map};
+ghost use Rattle.ignore_base.specs.Problem.{memory, problem_of};
+ghost use Rattle.ignore_base.specs.Text.{Path};
+ghost use Rattle.ignore_base.specs.declared.error.Error.{Error};
+ghost use Rattle.ignore_files.specs.Gives.{IsHonest};
+ghost use Rattle.ignore_files.specs.Tree.{Tree};
+ghost use Rattle.ignore_query.specs.Fresh.{KeepsNothing};
+ghost use Rattle.ignore_query.specs.declared.incremental.IncrementalIgnore.{IncrementalIgnore};
+ghost use Rattle.ignore_survey.specs.Surveyed.{entry_of, item_of};
+ghost use Rattle.ignore_survey.specs.declared.surveyed.Surveyed.{Surveyed};
+ghost use Rattle.ignore.specs.Builder.{with_roots};
+ghost use Rattle.ignore.specs.Matchers.{AreMatchers};
+ghost use Rattle.commands.specs.Walking.{IsTrimmed};
+ghost use Rattle.ig_commands.specs.Counts.{counted};
+ghost use Rattle.ig_commands.specs.Ignored.{IgnoredAsked, IgnoredEnds, Writes, all_written, entry_text, is_found, is_topmost, written};
+ghost use Rattle.ig_commands.specs.Reports.{report_line, report_of};
+ghost use Rattle.ig_commands.specs.Stops.{EndsAfter};
+ghost use Rattle.ig_commands.specs.Surveys.{AreBegun, AreSurveys, IsBegun, IsWhole, OfMatcher, OfRoot, all_seen, is_wrong, reports, seen_of};
+
+use crate::asking::{Asked, asked_for};
+use crate::counts::{Counts, Seen, report_counts, status_of};
+use crate::form::{Form, write_reasoned};
+use crate::reports::{report_all, report_some};
+use crate::stop::Stop;
+use crate::world::World;
+use crate::writing::{is_listed, refuse_or_end, report, write_path};
+use commands::internal::trimmed_roots;
+use ig_options::Options;
+use ignore::{IncrementalIgnore, WalkBuilder, WalkOptions, text};
+use ignore_base::Error;
+use ignore_files::Files;
+use ignore_survey::{Item, Survey, Surveyed};
+use ignore_types::types::TypesBuilder;
+use std::alloc::Global;
+use std::io::Write;
+
+/// Writes the path of each entry below the roots that is ignored, and that isn't in an ignored
+/// directory; with `-v` after its reason, as `why` writes it. What is wrong with an entry, or stands
+/// in its place, is reported on `err`, and so is what is wrong with the files of `--ignore-file`. It
+/// returns the status: 0 where such an entry was found, 1 where none was, 2 where something was
+/// reported, as where the options are rejected.
+///
+/// # Errors
+/// Why it ended early, of which nothing was reported.
+pub fn list_ignored<F: Files, W: Write, E: Write>(
+    world: &World<'_, F>,
+    options: &Options,
+    first: TypesBuilder,
+    out: &mut W,
+    err: &mut E,
+) -> Result<u8, Stop>
+    ensures lists { IfOk result (λ status. IgnoredAsked F.Files world.now.files.now world.now.env.now options.now first status
+        (Appends (W.contents out.old) (W.contents out.new)) (Appends (E.contents err.old) (E.contents err.new))) }
+    ensures ended { IfErr result (IgnoredEnds F.Files world.now.files.now world.now.env.now options.now first
+        (Appends (W.contents out.old) (W.contents out.new)) (Appends (E.contents err.old) (E.contents err.new))) }
+{
+    match asked_for(world, options, first) {
+        Ok(asked) => report_and_survey(world, options, asked, out, err),
+        Err(error) => refuse_or_end(&error, err),
+    }
+}
+
+/// Reports what is wrong with the files that are named, lists, and reports the counts.
+fn report_and_survey<F: Files, W: Write, E: Write>(
+    world: &World<'_, F>,
+    options: &Options,
+    asked: Asked,
+    out: &mut W,
+    err: &mut E,
+) -> Result<u8, Stop>
+    ensures lists { IfOk result (λ status. (all : List OfRoot)
+        × Writes options.now (map (option_map problem_of) asked.errors.items) all status (Appends (W.contents out.old) (W.contents out.new)) (Appends (E.contents err.old) (E.contents err.new))
+        × ((tree : Tree) → IsHonest F.Files world.now.files.now tree → asked.walk.roots ≡ [] → AreSurveys tree world.now.env.now options.now asked.walk all)) }
+    ensures ended { IfErr result (λ stop. (all : List OfRoot)
+        × EndsAfter (all_written options.now all) (flat_map report_of (map (option_map problem_of) asked.errors.items) ++ flat_map reports (all_seen all))
+        (Appends (W.contents out.old) (W.contents out.new)) (Appends (E.contents err.old) (E.contents err.new)) stop
+        × ((tree : Tree) → IsHonest F.Files world.now.files.now tree → asked.walk.roots ≡ [] → AreBegun tree world.now.env.now options.now asked.walk all)) }
+{
+    let reported = report_all(&asked.errors, err)?;
+    let Ok(matchers) = matchers_of(world, options, asked.walk) else {
+        return Err(Stop::Memory);
+    };
+    let counts = survey_all(world, options, matchers, out, err)?;
+    let counts = Counts {
+        reported: counts.reported.saturating_add(reported),
+        found: counts.found,
+    };
+    report_counts(options, counts, err)?;
+    Ok(status_of(counts))
+}
+
+/// A matcher for each root, without the slashes at its end, by these settings.
+pub(crate) fn matchers_of<F: Files>(
+    world: &World<'_, F>,
+    options: &Options,
+    mut walk: WalkOptions,
+) -> Result<Vec<IncrementalIgnore>, Error>
+    ensures made { (tree : Tree) → IsHonest F.Files world.now.files.now tree
+        → IfOk result (λ ms. (roots : List Path) × AllZip IsTrimmed (map string_bytes options.now.roots.items) roots
+        × AreMatchers tree world.now.env.now (with_roots walk roots) ms.items) }
+    ensures empty { IfOk result (λ ms. All (λ m. KeepsNothing m.cache) ms.items) }
+{
+    for root in trimmed_roots(world.alloc, &options.roots)? {
+        walk.push_root(root.as_str())?;
+    }
+    WalkBuilder::from_options(walk).build_matchers(world.files, world.env)
+}
+
+/// Surveys the root of each matcher, and writes.
+fn survey_all<F: Files, W: Write, E: Write>(
+    world: &World<'_, F>,
+    options: &Options,
+    matchers: Vec<IncrementalIgnore>,
+    out: &mut W,
+    err: &mut E,
+) -> Result<Counts, Stop>
+    ensures lists { IfOk result (λ counts. (all : List OfRoot) × AllZip (OfMatcher F.Files world.now.files.now IsWhole) matchers.items all
+        × Appends (W.contents out.old) (W.contents out.new) (all_written options.now all)
+        × Appends (E.contents err.old) (E.contents err.new) (flat_map reports (all_seen all))
+        × (counts.reported ≡ counted 0 (map is_wrong (all_seen all))) × (counts.found ≡ counted 0 (map (is_found options.now) (all_seen all)))) }
+    ensures ended { IfErr result (λ stop. (done : List OfRoot) × (last : OfRoot) × (first rest : List IncrementalIgnore) × (matcher : IncrementalIgnore)
+        × (matchers.items ≡ first ++ matcher ∷ rest) × AllZip (OfMatcher F.Files world.now.files.now IsWhole) first done
+        × OfMatcher F.Files world.now.files.now IsBegun matcher last
+        × EndsAfter (all_written options.now (done ++ last ∷ [])) (flat_map reports (all_seen (done ++ last ∷ [])))
+        (Appends (W.contents out.old) (W.contents out.new)) (Appends (E.contents err.old) (E.contents err.new)) stop) }
+{
+    let mut counts = Counts::begun(0);
+    for matcher in matchers {
+        counts = counts.and(survey_root(world, options, matcher, out, err)?);
+    }
+    Ok(counts)
+}
+
+/// Surveys the root of a matcher, and writes.
+fn survey_root<F: Files, W: Write, E: Write>(
+    world: &World<'_, F>,
+    options: &Options,
+    matcher: IncrementalIgnore,
+    out: &mut W,
+    err: &mut E,
+) -> Result<Counts, Stop>
+    ensures lists { IfOk result (λ counts. (r : OfRoot) × OfMatcher F.Files world.now.files.now IsWhole matcher r
+        × Appends (W.contents out.old) (W.contents out.new) (flat_map (written options.now r.0) r.1)
+        × Appends (E.contents err.old) (E.contents err.new) (flat_map reports r.1)
+        × (counts.reported ≡ counted 0 (map is_wrong r.1)) × (counts.found ≡ counted 0 (map (is_found options.now) r.1))) }
+    ensures ended { IfErr result (λ stop. (r : OfRoot) × OfMatcher F.Files world.now.files.now IsBegun matcher r
+        × EndsAfter (flat_map (written options.now r.0) r.1) (flat_map reports r.1)
+        (Appends (W.contents out.old) (W.contents out.new)) (Appends (E.contents err.old) (E.contents err.new)) stop) }
+{
+    let Ok(root) = String::from_str(world.alloc, matcher.root()) else {
+        return Err(Stop::Memory);
+    };
+    let Ok(survey) = Survey::new(world.alloc, world.files, matcher) else {
+        return Err(Stop::Memory);
+    };
+    let place = Place {
+        alloc: world.alloc,
+        options,
+        root: root.as_str(),
+    };
+    write_items(survey, &place, out, err)
+}
+
+/// Where entries are, and how they are written.
+#[derive(Drop)]
+struct Place<'a> {
+    alloc: Global,
+    options: &'a Options,
+    root: &'a str,
+}
+
+/// Writes the items of a survey.
+fn write_items<I: Iterator<Item = Item> + Drop, W: Write, E: Write>(
+    items: I,
+    place: &Place<'_>,
+    out: &mut W,
+    err: &mut E,
+) -> Result<Counts, Stop>
+    requires ends { I.can_next items × IsFinite (I.remaining items) }
+    ensures lists { IfOk result (λ counts. (all : List (Result Surveyed Error)) × Drains I.next_gives items all
+        × Appends (W.contents out.old) (W.contents out.new) (flat_map (written place.now.options.now place.now.root.now) (map seen_of all))
+        × Appends (E.contents err.old) (E.contents err.new) (flat_map reports (map seen_of all))
+        × (counts.reported ≡ counted 0 (map is_wrong (map seen_of all))) × (counts.found ≡ counted 0 (map (is_found place.now.options.now) (map seen_of all)))
+        × All (λ item. item_of item ≢ Err memory) all) }
+    ensures ended { IfErr result (λ stop. (all : List (Result Surveyed Error)) × (x : Result Surveyed Error) × (v : I)
+        × YieldsThen I.next_gives items all (Some x) v
+        × EndsAfter (flat_map (written place.now.options.now place.now.root.now) (map seen_of all)) (flat_map reports (map seen_of all))
+        (Appends (W.contents out.old) (W.contents out.new)) (Appends (E.contents err.old) (E.contents err.new)) stop
+        × All (λ item. item_of item ≢ Err memory) all) }
+{
+    let mut counts = Counts::begun(0);
+    for item in items {
+        counts = counts.with(write_item(item, place, out, err)?);
+    }
+    Ok(counts)
+}
+
+/// Writes what is listed of an item, and reports what is wrong.
+fn write_item<W: Write, E: Write>(
+    item: Item,
+    place: &Place<'_>,
+    out: &mut W,
+    err: &mut E,
+) -> Result<Seen, Stop>
+    ensures writes { OnOk result (Appends (W.contents out.old) (W.contents out.new) (written place.now.options.now place.now.root.now (seen_of item))) }
+    ensures reports { OnOk result (Appends (E.contents err.old) (E.contents err.new) (reports (seen_of item))) }
+    ensures counts { IfOk result (λ seen. (seen.reported ≡ is_wrong (seen_of item)) × (seen.found ≡ is_found place.now.options.now (seen_of item))) }
+    ensures enough { OnOk result (item_of item ≢ Err memory) }
+    ensures ended { IfErr result (EndsAfter [] [] (Appends (W.contents out.old) (W.contents out.new)) (Appends (E.contents err.old) (E.contents err.new))) }
+{
+    match item {
+        Ok(entry) => write_entry(&entry, place, out, err),
+        Err(error) => report_item(&error, err),
+    }
+}
+
+/// Reports what stands in the place of an entry.
+pub(crate) fn report_item<E: Write>(error: &Error, err: &mut E) -> Result<Seen, Stop>
+    ensures reports { OnOk result (Appends (E.contents err.old) (E.contents err.new) (report_line (problem_of error.now))) }
+    ensures seen { IfOk result (λ seen. (seen.reported ≡ true) × (seen.found ≡ false)) }
+    ensures enough { OnOk result (problem_of error.now ≢ memory) }
+    ensures ended { IfErr result (EndsAfter [] [] (λ bs. bs ≡ []) (Appends (E.contents err.old) (E.contents err.new))) }
+{
+    match error {
+        Error::Memory => Err(Stop::Memory),
+        _ => report_problem(error, err),
+    }
+}
+
+/// Reports a problem in the place of an entry.
+fn report_problem<E: Write>(error: &Error, err: &mut E) -> Result<Seen, Stop>
+    ensures reports { OnOk result (Appends (E.contents err.old) (E.contents err.new) (report_line (problem_of error.now))) }
+    ensures seen { IfOk result (λ seen. (seen.reported ≡ true) × (seen.found ≡ false)) }
+    ensures ended { IfErr result (λ stop. stop ≡ Stop.Silence) }
+{
+    report(error, err)?;
+    Ok(Seen {
+        reported: true,
+        found: false,
+    })
+}
+
+/// Writes an entry, where it is ignored, and reports what is wrong with the files of rules that were
+/// read for it.
+fn write_entry<W: Write, E: Write>(
+    entry: &Surveyed,
+    place: &Place<'_>,
+    out: &mut W,
+    err: &mut E,
+) -> Result<Seen, Stop>
+    ensures writes { OnOk result (Appends (W.contents out.old) (W.contents out.new) (written place.now.options.now place.now.root.now (seen_of (Ok entry.now)))) }
+    ensures reports { OnOk result (Appends (E.contents err.old) (E.contents err.new) (reports (seen_of (Ok entry.now)))) }
+    ensures counts { IfOk result (λ seen. (seen.reported ≡ is_wrong (seen_of (Ok entry.now)))
+        × (seen.found ≡ is_found place.now.options.now (seen_of (Ok entry.now)))) }
+    ensures ended { IfErr result (EndsAfter [] [] (Appends (W.contents out.old) (W.contents out.new)) (Appends (E.contents err.old) (E.contents err.new))) }
+{
+    let found = is_topmost(entry, place.options);
+    write_found(found, entry, place, out)?;
+    let reported = report_some(entry.error.as_ref(), err)?;
+    Ok(Seen { reported, found })
+}
+
+/// Whether an entry is listed: it is ignored, and of a kind that is chosen.
+fn is_topmost(entry: &Surveyed, options: &Options) -> bool
+    ensures { result ≡ is_topmost options.now (entry_of entry.now) }
+{
+    entry.explanation.answer.is_ignore() && is_listed(options, Some(entry.file_type))
+}
+
+/// Writes an entry, where it is listed, unless nothing is to be written.
+fn write_found<W: Write>(
+    found: bool,
+    entry: &Surveyed,
+    place: &Place<'_>,
+    out: &mut W,
+) -> Result<(), Stop>
+    ensures writes { OnOk result (Appends (W.contents out.old) (W.contents out.new)
+        (if found && not place.now.options.now.quiet then entry_text place.now.options.now place.now.root.now (entry_of entry.now) else [])) }
+    ensures ended { IfErr result (EndsAfter [] [] (Appends (W.contents out.old) (W.contents out.new)) (λ bs. bs ≡ [])) }
+{
+    if !found || place.options.quiet {
+        return Ok(());
+    }
+    write_ignored(entry, place, out)
+}
+
+/// Writes the path of an entry, after its reason where that is asked for.
+fn write_ignored<W: Write>(entry: &Surveyed, place: &Place<'_>, out: &mut W) -> Result<(), Stop>
+    ensures writes { OnOk result (Appends (W.contents out.old) (W.contents out.new) (entry_text place.now.options.now place.now.root.now (entry_of entry.now))) }
+    ensures ended { IfErr result (EndsAfter [] [] (Appends (W.contents out.old) (W.contents out.new)) (λ bs. bs ≡ [])) }
+{
+    let Ok(path) = text::join(place.alloc, place.root, entry.path.as_str()) else {
+        return Err(Stop::Memory);
+    };
+    let options = place.options;
+    if !options.reasons {
+        return write_path(options, path.as_str(), out);
+    }
+    let null = options.null;
+    if options.is_bare {
+        let form = Form {
+            base: Some("."),
+            null,
+        };
+        return write_reasoned(form, &entry.explanation, entry.path.as_str(), out);
+    }
+    let form = Form { base: None, null };
+    write_reasoned(form, &entry.explanation, path.as_str(), out)
+}

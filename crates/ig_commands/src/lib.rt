@@ -1,0 +1,27 @@
+//! The commands of the program `ig`, over files and writers that are handed in.
+#![tactic(auto)]
+
+mod asking;
+mod counts;
+mod form;
+mod ignored;
+mod input;
+mod listing;
+mod reports;
+mod root;
+mod rules;
+pub mod run;
+mod stop;
+mod types;
+mod unused;
+pub mod why;
+mod world;
+mod writing;
+
+pub use ignored::list_ignored;
+pub use listing::list;
+pub use run::{Ran, finish};
+pub use stop::{Stop, report_stop};
+pub use types::list_types;
+pub use unused::list_unused;
+pub use world::World;

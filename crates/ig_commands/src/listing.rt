@@ -1,0 +1,246 @@
+//! The command `ls`: the entries of a walk that the options choose.
+ghost use Rattle.std.specs.Prelude.{◌≡◌, ◌≢◌, List, Result, Ok, Err, Some, false, [], map, option_map, OnOk, IfOk, IfErr};
+ghost use Rattle.std.specs.Io.KnownBytes.{Appends};
+ghost use Rattle.std.specs.Iterator.{Drains, IsFinite, YieldsThen};
+ghost use Rattle.std.specs.List.{flat_map, list_any};
+ghost use Rattle.ignore_base.specs.Problem.{memory, problem_of};
+ghost use Rattle.ignore_base.specs.Text.{Path};
+ghost use Rattle.ignore_base.specs.declared.error.Error.{Error};
+ghost use Rattle.ignore_dir.specs.Load.{AreLoads, Loaded};
+ghost use Rattle.ignore_dir.specs.declared.outside.Outside.{Outside};
+ghost use Rattle.ignore_files.specs.Gives.{IsHonest};
+ghost use Rattle.ignore_files.specs.Tree.{Tree};
+ghost use Rattle.ignore_walk.specs.Entry.{Item, entry_of, item_of, problem_in};
+ghost use Rattle.ignore_walk.specs.GoesOn.{HasNoEnd};
+ghost use Rattle.ignore_walk.specs.declared.entry.DirEntry.{DirEntry};
+ghost use Rattle.ig_options.specs.Settings.{most_steps};
+ghost use Rattle.ig_commands.specs.Listing.{AreBegun, AreFirst, AreListed, Begins, EndsAsked, GoesBy, Lists, ListsAsked, Writes, all_reports, listing};
+ghost use Rattle.ig_commands.specs.Reports.{Notes, is_known, is_reported, last_in, report_of, reports_after, reports_of};
+ghost use Rattle.ig_commands.specs.Stops.{EndsAfter};
+ghost use Rattle.ig_commands.specs.Writing.{is_found, is_listed, lines_of};
+
+use crate::asking::{Asked, asked_for};
+use crate::counts::{Counts, Seen, report_counts, status_of};
+use crate::reports::{Folders, report_all, report_fault, report_some};
+use crate::stop::Stop;
+use crate::world::World;
+use crate::writing::{is_listed, refuse_or_end, write_path};
+use commands::internal::{ByName, trimmed_roots};
+use ig_options::Options;
+use ignore::{WalkBuilder, WalkOptions};
+use ignore_base::Error;
+use ignore_files::{FileType, Files};
+use ignore_types::types::TypesBuilder;
+use ignore_walk::{Callbacks, DirEntry, Ground, Item, Walk, runs};
+use std::alloc::Global;
+use std::collections::BTreeMap;
+use std::io::Write;
+
+/// How many steps a walk may take.
+const MOST_STEPS: u64 = 1_000_000_000;
+
+/// Writes the paths of the entries of the walk that the options ask for. `first` has the file types
+/// that exist without `--type-add`. What is wrong with an entry, or stands in its place, is reported
+/// on `err`, and so is what is wrong with the files of `--ignore-file`. It returns the status: 0
+/// where an entry was found, 1 where none was, 2 where something was reported, as where the options
+/// are rejected.
+///
+/// # Errors
+/// Why it ended early, of which nothing was reported.
+pub fn list<F: Files, W: Write, E: Write>(
+    world: &World<'_, F>,
+    options: &Options,
+    first: TypesBuilder,
+    out: &mut W,
+    err: &mut E,
+) -> Result<u8, Stop>
+    ensures lists { IfOk result (λ status. ListsAsked F.Files world.now.files.now world.now.env.now options.now first status
+        (Appends (W.contents out.old) (W.contents out.new)) (Appends (E.contents err.old) (E.contents err.new))) }
+    ensures ended { IfErr result (EndsAsked F.Files world.now.files.now world.now.env.now options.now first
+        (Appends (W.contents out.old) (W.contents out.new)) (Appends (E.contents err.old) (E.contents err.new))) }
+{
+    match asked_for(world, options, first) {
+        Ok(asked) => report_and_walk(world, options, asked, out, err),
+        Err(error) => refuse_or_end(&error, err),
+    }
+}
+
+/// Reports what is wrong with the files that are named, lists, and reports the counts.
+fn report_and_walk<F: Files, W: Write, E: Write>(
+    world: &World<'_, F>,
+    options: &Options,
+    asked: Asked,
+    out: &mut W,
+    err: &mut E,
+) -> Result<u8, Stop>
+    ensures lists { IfOk result (λ status. (items : List Item) × Lists options.now (map (option_map problem_of) asked.errors.items) items
+        status (Appends (W.contents out.old) (W.contents out.new)) (Appends (E.contents err.old) (E.contents err.new))
+        × ((tree : Tree) → IsHonest F.Files world.now.files.now tree → AreListed tree world.now.env.now options.now asked.walk items)) }
+    ensures ended { IfErr result (λ stop. (items : List Item) × EndsAfter (flat_map (lines_of options.now) items)
+        (all_reports (map (option_map problem_of) asked.errors.items) items) (Appends (W.contents out.old) (W.contents out.new)) (Appends (E.contents err.old) (E.contents err.new)) stop
+        × ((tree : Tree) → IsHonest F.Files world.now.files.now tree → AreFirst tree world.now.env.now options.now asked.walk items)) }
+{
+    let reported = report_all(&asked.errors, err)?;
+    let counts = walk_and_write(world, options, asked.walk, out, err)?;
+    let counts = Counts {
+        reported: counts.reported.saturating_add(reported),
+        found: counts.found,
+    };
+    report_counts(options, counts, err)?;
+    Ok(status_of(counts))
+}
+
+/// Walks and writes.
+fn walk_and_write<F: Files, W: Write, E: Write>(
+    world: &World<'_, F>,
+    options: &Options,
+    walk: WalkOptions,
+    out: &mut W,
+    err: &mut E,
+) -> Result<Counts, Stop>
+    ensures lists { IfOk result (λ counts. (items : List Item) × Writes options.now items counts.reported counts.found (Appends (W.contents out.old) (W.contents out.new)) (Appends (E.contents err.old) (E.contents err.new))
+        × ((tree : Tree) → IsHonest F.Files world.now.files.now tree → AreListed tree world.now.env.now options.now walk items)) }
+    ensures ended { IfErr result (λ stop. (items : List Item) × EndsAfter (flat_map (lines_of options.now) items)
+        (reports_after [] items) (Appends (W.contents out.old) (W.contents out.new)) (Appends (E.contents err.old) (E.contents err.new)) stop
+        × ((tree : Tree) → IsHonest F.Files world.now.files.now tree → AreBegun tree world.now.env.now options.now walk items)) }
+{
+    let Ok(steps) = walk_of(world, options, walk) else {
+        return Err(Stop::Memory);
+    };
+    runs::a_run_yields_the_list::<F, ByName>();
+    runs::a_finished_run_is_a_list::<F, ByName>();
+    runs::only_the_last_item_ends::<F, ByName>();
+    runs::a_run_begins_the_list::<F, ByName>();
+    write_items(steps, options, world.alloc, out, err)
+}
+
+/// The walk of the roots by these settings.
+fn walk_of<'a, F: Files>(
+    world: &World<'a, F>,
+    options: &Options,
+    walk: WalkOptions,
+) -> Result<Walk<'a, F, ByName>, Error>
+    ensures walks { (tree : Tree) → IsHonest F.Files world.now.files.now tree
+        → IfOk result (λ w. (roots : List Path) × (outside : Outside) × GoesBy tree world.now.env.now options.now walk roots outside
+        × ((loads : Path → Loaded) → AreLoads tree walk.settings loads
+        → Begins F.Files ⟦<ByName as Callbacks>⟧ (listing options.now walk tree loads outside) w roots)) }
+    ensures no_end { IfOk result (λ w. HasNoEnd w.stack) }
+    ensures limit { IfOk result (λ w. w.left ≡ most_steps) }
+    ensures goes_on { IfOk result (λ w. w.ended ≡ false) }
+{
+    let names = trimmed_roots(world.alloc, &options.roots)?;
+    let walk_options = ignore_walk::Options {
+        order: options.order,
+        same_file_system: options.one_file_system,
+        limit: MOST_STEPS,
+    };
+    let builder = WalkBuilder::from_options(walk);
+    let settings = builder.settings().clone()?;
+    let outside = builder.outside(world.files, world.env)?;
+    let ground = Ground {
+        alloc: world.alloc,
+        files: world.files,
+        owner: ByName,
+        settings,
+        outside,
+        options: walk_options,
+    };
+    Ok(Walk::new(ground, names))
+}
+
+/// Writes the items of a walk.
+fn write_items<I: Iterator<Item = Item>, W: Write, E: Write>(
+    items: I,
+    options: &Options,
+    alloc: Global,
+    out: &mut W,
+    err: &mut E,
+) -> Result<Counts, Stop>
+    requires ends { I.can_next items × IsFinite (I.remaining items) }
+    ensures lists { IfOk result (λ counts. (all : List (Result DirEntry Error)) × Drains I.next_gives items all
+        × Writes options.now (map item_of all) counts.reported counts.found (Appends (W.contents out.old) (W.contents out.new)) (Appends (E.contents err.old) (E.contents err.new))) }
+    ensures ended { IfErr result (λ stop. (all : List (Result DirEntry Error)) × (x : Result DirEntry Error) × (v : I)
+        × YieldsThen I.next_gives items all (Some x) v
+        × EndsAfter (flat_map (lines_of options.now) (map item_of all)) (reports_after [] (map item_of all)) (Appends (W.contents out.old) (W.contents out.new)) (Appends (E.contents err.old) (E.contents err.new)) stop) }
+{
+    let mut folders = BTreeMap::new(alloc);
+    let mut counts = Counts::begun(0);
+    for item in items {
+        let one = write_item(item, options, &mut folders, out, err)?;
+        counts = counts.with(one);
+    }
+    Ok(counts)
+}
+
+/// Writes an item, and notes it as the last one at its depth.
+fn write_item<W: Write, E: Write>(
+    item: Item,
+    options: &Options,
+    folders: &mut Folders,
+    out: &mut W,
+    err: &mut E,
+) -> Result<Seen, Stop>
+    ensures lists { IfOk result (λ seen. Appends (W.contents out.old) (W.contents out.new) (lines_of options.now (item_of item))
+        × Appends (E.contents err.old) (E.contents err.new) (reports_of (last_in folders.old) (item_of item))
+        × (seen.reported ≡ is_reported (item_of item)) × (seen.found ≡ is_found options.now (item_of item))) }
+    ensures notes { OnOk result (Notes (item_of item) (last_in folders.old) (last_in folders.new)) }
+    ensures ended { IfErr result (EndsAfter [] [] (Appends (W.contents out.old) (W.contents out.new)) (Appends (E.contents err.old) (E.contents err.new))) }
+    ensures enough { OnOk result (item_of item ≢ Err memory) }
+    ensures cause { item_of item ≡ Err memory → IfErr result (λ stop. stop ≡ Stop.Memory) }
+{
+    match item {
+        Ok(entry) => note_and_write(entry, options, folders, out, err),
+        Err(Error::Memory) => Err(Stop::Memory),
+        Err(error) => {
+            report_fault(&error, folders, err)?;
+            Ok(Seen {
+                reported: true,
+                found: false,
+            })
+        }
+    }
+}
+
+/// Notes an entry as the last one at its depth, and writes it.
+fn note_and_write<W: Write, E: Write>(
+    entry: DirEntry,
+    options: &Options,
+    folders: &mut Folders,
+    out: &mut W,
+    err: &mut E,
+) -> Result<Seen, Stop>
+    ensures lists { IfOk result (λ seen. Appends (W.contents out.old) (W.contents out.new) (lines_of options.now (item_of (Ok entry)))
+        × Appends (E.contents err.old) (E.contents err.new) (reports_of (last_in folders.old) (item_of (Ok entry)))
+        × (seen.reported ≡ is_reported (item_of (Ok entry))) × (seen.found ≡ is_found options.now (item_of (Ok entry)))) }
+    ensures notes { OnOk result (Notes (item_of (Ok entry)) (last_in folders.old) (last_in folders.new)) }
+    ensures ended { IfErr result (EndsAfter [] [] (Appends (W.contents out.old) (W.contents out.new)) (Appends (E.contents err.old) (E.contents err.new))) }
+{
+    let depth = entry.depth();
+    if folders.insert(depth, entry).is_err() {
+        return Err(Stop::Memory);
+    }
+    match folders.get(&depth) {
+        Some(entry) => write_entry(entry, options, out, err),
+        None => unreachable!(),
+    }
+}
+
+/// Writes an entry, where it is listed, and reports its problem, if it has one.
+fn write_entry<W: Write, E: Write>(
+    entry: &DirEntry,
+    options: &Options,
+    out: &mut W,
+    err: &mut E,
+) -> Result<Seen, Stop>
+    ensures lists { IfOk result (λ seen. Appends (W.contents out.old) (W.contents out.new) (lines_of options.now (item_of (Ok entry.now)))
+        × Appends (E.contents err.old) (E.contents err.new) (report_of (problem_in entry.now))
+        × (seen.reported ≡ is_known (problem_in entry.now)) × (seen.found ≡ is_listed options.now (entry_of entry.now).kind)) }
+    ensures ended { IfErr result (EndsAfter [] [] (Appends (W.contents out.old) (W.contents out.new)) (Appends (E.contents err.old) (E.contents err.new))) }
+{
+    let found = is_listed(options, entry.file_type());
+    if found && !options.quiet {
+        write_path(options, entry.path(), out)?;
+    }
+    let reported = report_some(entry.error(), err)?;
+    Ok(Seen { reported, found })
+}
