@@ -21,7 +21,7 @@ returns-clause-lists g c =
           c.saturating_add.result c.status_of.result _ (g.E.Write.contents c.args.err.now) (g.E.Write.contents c.report_all.new.err)
           (g.E.Write.contents c.walk_and_write.new.err) (g.E.Write.contents c.report_counts.new.err) (c.in_ok-reported.ensures.reports.0
           ∙ ap (λ (es : List (Option Error)). counted 0 (map is_known (map (option_map problem_of) es))) c.deref.ensures.value)
-          (reported_as c.deref.result.now c.args.asked.errors.items c.deref.ensures.value c.in_ok-reported.ensures.reports.1) h.1 (search rules) c.in_ok-report_counts.ensures.reports c.status_of.ensures,
+          (reported_as c.deref.result.now c.args.asked.errors.items _ _ c.deref.ensures.value c.in_ok-reported.ensures.reports.1) h.1 (search rules) c.in_ok-report_counts.ensures.reports c.status_of.ensures,
       h.2,
     )
 
@@ -42,7 +42,7 @@ returns-in_err-counts-clause-ended g c =
       ends_after_reports (flat_map (lines_of c.args.options.now) h.0) (flat_map report_of problems) (reports_after [] h.0)
           (Appends (g.W.Write.contents c.args.out.now) (g.W.Write.contents c.walk_and_write.new.out)) (g.E.Write.contents c.args.err.now)
           (g.E.Write.contents c.report_all.new.err) (g.E.Write.contents c.walk_and_write.new.err) c.in_err-counts.field-0.0
-          (reported_as c.deref.result.now c.args.asked.errors.items c.deref.ensures.value c.in_ok-reported.ensures.reports.1) h.1,
+          (reported_as c.deref.result.now c.args.asked.errors.items _ _ c.deref.ensures.value c.in_ok-reported.ensures.reports.1) h.1,
       λ tree honest. inl (h.2 tree honest),
     )
 

@@ -1,4 +1,4 @@
-use Rattle.std.proofs.Common.{◌≢◌, ℕ, [], Err, map, refl, rules, subst}
+use Rattle.std.proofs.Common.{◌≢◌, ℕ, [], Err, map, rules, subst}
 use Rattle.std.proofs.lemmas.List.Elements.{All-nil}
 use Rattle.std.proofs.lemmas.Result.{err_from_is_err_and}
 use Rattle.std.specs.List.{flat_map}
@@ -18,8 +18,8 @@ loop-item-init g c = record {
   lists = appends_nothing (g.W.Write.contents c.args.out.now);
   reports = appends_nothing (g.E.Write.contents c.args.err.now);
   notes = λ depth. search rules;
-  reported = refl;
-  found = refl;
+  reported = c.begun-counts.ensures.reported;
+  found = c.begun-counts.ensures.found;
   enough = All-nil (λ (item : Item). item ≢ Err memory);
 }
 
