@@ -4,7 +4,8 @@ use Rattle.std.specs.Io.KnownBytes.{Appends, Keeps}
 use Rattle.ignore_base.specs.Text.{Bytes}
 use Rattle.ignore_files.specs.declared.env.Env.{Env}
 use Rattle.ignore_files.specs.declared.files.Files.{Ghosts as Files}
-use Rattle.ignore_types.specs.Defaults.{Row, with_defaults}
+use Rattle.ignore_types.specs.AllDefaults.{all_default_rows}
+use Rattle.ignore_types.specs.Defaults.{with_defaults}
 use Rattle.ignore_types.specs.Types.{Draft}
 use Rattle.ig_options.specs.declared.given.Given.{Given}
 use Rattle.ig_options.specs.declared.options.Options.{Options}
@@ -71,15 +72,15 @@ abbrev pub EndsRead : Unread → Type 0
 EndsRead (unread.Words error) = ⊤
 EndsRead (unread.Input stop is_timed) = (stop ≡ Read) ⊎ (stop ≡ Memory)
 
--- the file types of a table of default types, and no choices
-abbrev pub types_at_first : List Row → Draft
-types_at_first rows = with_defaults rows (record { definitions = []; choices = [] })
+-- all default types, and no choices
+abbrev pub types_at_first : Draft
+types_at_first = with_defaults all_default_rows (record { definitions = []; choices = [] })
 
--- a run did what one of the commands does, by some options, with these file types at first; or the
+-- a run did what one of the commands does, by some options, with all default types at first; or the
 -- parser of the words had the last word, or no command began. Which command and options words stand
 -- for isn't said
-abbrev pub Runs : {F : Type 0} → Files F → F → Env → List Row → Option Bytes → ℕ → (out now err told : Option Bytes) → Type 0
-Runs files f env rows input status out now err told =
+abbrev pub Runs : {F : Type 0} → Files F → F → Env → Option Bytes → ℕ → (out now err told : Option Bytes) → Type 0
+Runs files f env input status out now err told =
     ((task : Task) × (o : Options) × HasInput o input
-    × Finishes (Does files f env o (types_at_first rows) task) (Ends files f env o (types_at_first rows) task) status out now err told)
+    × Finishes (Does files f env o types_at_first task) (Ends files f env o types_at_first task) status out now err told)
     ⊎ Finishes Shows EndsBefore status out now err told

@@ -1,5 +1,5 @@
 //! The run of the program, over any two writers.
-ghost use Rattle.std.specs.Prelude.{◌≡◌, ◌≢◌, ◌⊎◌, Ok, Err, [], IfOk, IfErr, map};
+ghost use Rattle.std.specs.Prelude.{◌≡◌, ◌≢◌, ◌⊎◌, Ok, Err, [], IfOk, IfErr};
 ghost use Rattle.std.specs.Io.KnownBytes.{Appends, Keeps};
 ghost use Rattle.ignore_base.specs.Problem.{memory, problem_of};
 ghost use Rattle.ig_commands.specs.Run.{Does, Ends, EndsRead, HasInput, Runs, Shows, types_at_first};
@@ -18,7 +18,6 @@ use clap::error::ErrorKind;
 use ig_options::{Options, Task, read_words};
 use ignore_base::Error;
 use ignore_files::Files;
-use ignore_types::default_types::DEFAULT_TYPES;
 use ignore_types::types::TypesBuilder;
 use std::alloc::Global;
 use std::io::{BufRead, Write};
@@ -45,7 +44,7 @@ pub fn run<F: Files, R: BufRead + Drop, W: Write, E: Write>(
     out: &mut W,
     err: &mut E,
 ) -> Result<Ran, Stop>
-    ensures runs { IfOk result (λ ran. Runs F.Files world.now.files.now world.now.env.now (map (λ r. (map (λ n. n.now) r.0.now, map (λ g. g.now) r.1.now)) DEFAULT_TYPES) (R.remaining input) ran.status
+    ensures runs { IfOk result (λ ran. Runs F.Files world.now.files.now world.now.env.now (R.remaining input) ran.status
         (W.contents out.old) (W.contents out.new) (E.contents err.old) (E.contents err.new)) }
     ensures unreported { IfErr result (λ stop. stop ≢ Stop.Closed) }
 {
@@ -158,9 +157,9 @@ fn run_task<F: Files, W: Write, E: Write>(
     out: &mut W,
     err: &mut E,
 ) -> Result<u8, Stop>
-    ensures done { IfOk result (λ status. Does F.Files world.now.files.now world.now.env.now options.now (types_at_first (map (λ r. (map (λ n. n.now) r.0.now, map (λ g. g.now) r.1.now)) DEFAULT_TYPES)) task
+    ensures done { IfOk result (λ status. Does F.Files world.now.files.now world.now.env.now options.now types_at_first task
         status (Appends (W.contents out.old) (W.contents out.new)) (Appends (E.contents err.old) (E.contents err.new))) }
-    ensures ended { IfErr result (Ends F.Files world.now.files.now world.now.env.now options.now (types_at_first (map (λ r. (map (λ n. n.now) r.0.now, map (λ g. g.now) r.1.now)) DEFAULT_TYPES)) task
+    ensures ended { IfErr result (Ends F.Files world.now.files.now world.now.env.now options.now types_at_first task
         (Appends (W.contents out.old) (W.contents out.new)) (Appends (E.contents err.old) (E.contents err.new))) }
 {
     let Ok(first) = default_types(world.alloc) else {
@@ -177,11 +176,11 @@ fn run_task<F: Files, W: Write, E: Write>(
 
 /// The file types that exist without `--type-add`.
 fn default_types(alloc: Global) -> Result<TypesBuilder, Error>
-    ensures value { IfOk result (λ types. types ≡ types_at_first (map (λ r. (map (λ n. n.now) r.0.now, map (λ g. g.now) r.1.now)) DEFAULT_TYPES)) }
+    ensures value { IfOk result (λ types. types ≡ types_at_first) }
     ensures out_of_memory { IfErr result (λ e. problem_of e ≡ memory) }
 {
     let mut builder = TypesBuilder::new(alloc);
-    builder.push_defaults()?;
+    builder.push_all_defaults()?;
     Ok(builder)
 }
 
