@@ -5,10 +5,12 @@ use Rattle.std.proofs.lemmas.List.{append-nil, map-append}
 use Rattle.std.specs.Option.{option_or, option_to_list}
 use Rattle.ignore_base.specs.declared.error.Error.{Error}
 use Rattle.ignore_survey.specs.declared.surveyed.Surveyed.{Surveyed}
-use Rattle.ignore_why.specs.Cited.{Named}
+use Rattle.ignore_why.specs.Cited.{Named, named_of}
+use Rattle.ignore_why.specs.QueryWhy.{query_why_of}
+use Rattle.ignore_why.specs.declared.cause.NamedRule.{NamedRule}
 use Rattle.ig_commands.specs.Found.{deciding, first_at, read_in}
 use Rattle.ig_commands.specs.Form.{rule_of}
-use Rattle.ig_commands.specs.Rules.{Grows, given_at, rule_at}
+use Rattle.ig_commands.specs.Rules.{Adds, Grows, given_at, rule_at}
 use Rattle.ig_commands.specs.Surveys.{OfRoot, Seen, all_seen, seen_of}
 use Rattle.ig_commands.specs.declared.rules.FileRules.{FileRules}
 use Rattle.ig_commands.proofs.SurveyLemmas.{all_seen_more}
@@ -62,6 +64,37 @@ grows_by all one a b c h k =
     grows_as _ _ a c
     (sym (ap deciding (map-append seen_of all (one ∷ [])) ∙ deciding_append (map seen_of all) (seen_of one ∷ [])))
     (grows_on (deciding (map seen_of all)) (deciding (seen_of one ∷ [])) a b c h k)
+
+-- a rule is noted as the only one of a list
+grows_first : (r : Named) (a b : FileRules) → Adds r a b → Grows (first_at (r ∷ [])) a b
+grows_first r a b h = λ source line.
+    h source line ∙ ap (λ (o : Option (List ℕ)). option_or (rule_at a source line) o) (sym (first_one r source line))
+
+-- one rule more is noted
+pub grows_push : (rules : List NamedRule) (one : NamedRule) (a b c : FileRules) → Grows (first_at (map named_of rules)) a b
+    → Adds (named_of one) b c → Grows (first_at (map named_of (rules ++ one ∷ []))) a c
+grows_push rules one a b c h k =
+    grows_as _ _ a c (sym (map-append named_of rules (one ∷ [])))
+    (grows_on (map named_of rules) (named_of one ∷ []) a b c h (grows_first (named_of one) b c k))
+
+-- the rule that decides is noted, if one does
+pub grows_cause : (o : Option Named) (r : Named) (a b : FileRules) → o ≡ Some r → Adds r a b → Grows (first_at (option_to_list o)) a b
+grows_cause o r a b is h =
+    subst (λ (x : Option Named). Grows (first_at (option_to_list x)) a b) (sym is) (grows_first r a b h)
+
+pub grows_no_cause : (o : Option Named) (a : FileRules) → o ≡ None → Grows (first_at (option_to_list o)) a a
+grows_no_cause o a is = subst (λ (x : Option Named). Grows (first_at (option_to_list x)) a a) (sym is) (grows_none a)
+
+-- that of an item of a survey
+pub grows_item : (item : Result Surveyed Error) (s : Surveyed) (a b : FileRules) → item ≡ Ok s
+    → Grows (first_at (option_to_list (rule_of (query_why_of s.explanation.reason)))) a b
+    → Grows (first_at (deciding (seen_of item ∷ []))) a b
+grows_item item s a b is h =
+    subst (λ (x : Result Surveyed Error). Grows (first_at (deciding (seen_of x ∷ []))) a b) (sym is)
+    (grows_as _ _ a b (sym (append-nil (option_to_list (rule_of (query_why_of s.explanation.reason))))) h)
+
+pub grows_fault : (item : Result Surveyed Error) (e : Error) (a : FileRules) → item ≡ Err e → Grows (first_at (deciding (seen_of item ∷ []))) a a
+grows_fault item e a is = subst (λ (x : Result Surveyed Error). Grows (first_at (deciding (seen_of x ∷ []))) a a) (sym is) (grows_none a)
 
 -- those that decide on the items of one root more
 pub grows_root : (all : List OfRoot) (r : OfRoot) (a b c : FileRules) → Grows (first_at (deciding (all_seen all))) a b

@@ -1,5 +1,6 @@
 -- What stands at a line of a file, by the table of a file's lines and the table of the files.
-use Rattle.std.proofs.Common.{◌≡◌, ◌∙◌, ◌==◌, ◌&&◌, ℕ, Bool, true, false, cond, eqb, eqb-true, List, [], ◌∷◌, ◌++◌, map, Option, None, Some, is_some, option_map, string_bytes, Bor, refl, sym, ap, subst}
+use Rattle.std.proofs.Common.{◌≡◌, ◌∙◌, ◌⊎◌, ◌==◌, ◌&&◌, ℕ, Bool, true, false, cond, eqb, eqb-true, List, [], ◌∷◌, ◌++◌, map, Option, None, Some, is_some, option_map, string_bytes, Bor, inl, inr, refl, sym, ap, subst}
+use Rattle.std.proofs.lemmas.Bool.{and_parts}
 use Rattle.std.proofs.lemmas.Grind.{flat_map-append}
 use Rattle.std.proofs.lemmas.List.{append-nil, map-append}
 use Rattle.std.proofs.lemmas.Slice.Eq.{bytes_eq-Decides}
@@ -10,7 +11,7 @@ use Rattle.std.specs.Option.{option_copied, option_or}
 use Rattle.std.specs.Ordering.{nat_cmp}
 use Rattle.std.specs.Str.{bytes_eq}
 use Rattle.std.specs.declared.string.String.{String}
-use Rattle.ig_commands.specs.Rules.{all_left, alone_at, file_rule, is_free, left_of, line_of}
+use Rattle.ig_commands.specs.Rules.{Grows, all_left, alone_at, file_rule, given_at, is_free, left_of, line_of, rule_at}
 use Rattle.ig_commands.specs.declared.rules.FileRules.{FileRules}
 use Rattle.ig_commands.proofs.FieldLemmas.{filter_push}
 
@@ -91,6 +92,54 @@ module _ {Y Z : Type 0} (old m n : BTreeMap (String Y) (BTreeMap ℕ (String Z))
       → line_of (get_by_text n s) line ≡ option_or (line_of (get_by_text old s) line) (alone_at source number text s line)
   added_line h s line =
       ap (λ (o : Option (BTreeMap ℕ (String Z))). line_of o line) (h s) ∙ by_source s line (bytes_eq source s) refl
+
+-- a rule that stands in no file, or at no line of it, adds nothing
+pub adds_nowhere : (from : Option (List ℕ)) (number : Option ℕ) (text : List ℕ) (rules : FileRules) → (from ≡ None) ⊎ (number ≡ None)
+    → Grows (given_at from number text) rules rules
+adds_nowhere None number text rules h = λ source line. sym (or_none (rule_at rules source line))
+adds_nowhere (Some f) None text rules h = λ source line. sym (or_none (rule_at rules source line))
+adds_nowhere (Some f) (Some n) text rules (inl e) = absurd (cc e)
+adds_nowhere (Some f) (Some n) text rules (inr e) = absurd (cc e)
+
+-- another is added at its line
+pub adds_there : (from : Option (List ℕ)) (number : Option ℕ) (text f : List ℕ) (n : ℕ) (t : List ℕ) (a b : FileRules) → from ≡ Some f
+    → number ≡ Some n → t ≡ text → Grows (alone_at f n t) a b → Grows (given_at from number text) a b
+adds_there from number text f n t a b is at same h =
+    subst (λ (o : Option (List ℕ)). Grows (given_at o number text) a b) (sym is)
+    (subst (λ (o : Option ℕ). Grows (given_at (Some f) o text) a b) (sym at)
+    (subst (λ (x : List ℕ). Grows (given_at (Some f) (Some n) x) a b) same h))
+
+over : (b : Bool) (before : Option (List ℕ)) (text : List ℕ) → (b ≡ true → is_some before ≡ true)
+    → before ≡ option_or before (cond b (Some text) None)
+over b (Some x) text h = refl
+over true None text h = absurd (cc (h refl))
+over false None text h = refl
+
+-- nothing is added over a rule that stands there
+pub adds_over : (f : List ℕ) (n : ℕ) (text : List ℕ) (rules : FileRules) (b : Bool) → b ≡ is_some (rule_at rules f n) → b ≡ true
+    → Grows (alone_at f n text) rules rules
+adds_over f n text rules b is taken = λ source line.
+    over (bytes_eq f source && n == line) (rule_at rules source line) text
+    (λ e. let both = and_parts (bytes_eq f source) (n == line) e in
+    subst (λ (s : List ℕ). is_some (rule_at rules s line) ≡ true) ((bytes_eq-Decides f source).0 both.0)
+    (subst (λ (k : ℕ). is_some (rule_at rules f k) ≡ true) (eqb-true n line both.1) (sym is ∙ taken)))
+
+-- what a look-up of a line finds
+copied_some : {X : Type 0} (o : Option (Bor X)) → is_some o ≡ is_some (option_copied o)
+copied_some None = refl
+copied_some (Some x) = refl
+
+mapped_some : {Y : Type 0} (o : Option (String Y)) → is_some o ≡ is_some (option_map string_bytes o)
+mapped_some None = refl
+mapped_some (Some x) = refl
+
+pub has_line : {Y : Type 0} (o : Option (BTreeMap ℕ (String Y))) (file : BTreeMap ℕ (String Y)) (line : ℕ) (r : Option (Bor (String Y)))
+    (b : Bool) → o ≡ Some file → option_copied r ≡ get nat_cmp file line → b ≡ is_some r → b ≡ is_some (line_of o line)
+has_line o file line r b there found is =
+    is
+    ∙ (copied_some r
+    ∙ (ap is_some found
+    ∙ (mapped_some (get nat_cmp file line) ∙ ap (λ (x : Option (BTreeMap ℕ (String _))). is_some (line_of x line)) (sym there))))
 
 -- one line more of a file, and one file more
 pub left_push : {Y : Type 0} (others : FileRules) (source : List ℕ) (es : List (ℕ × String Y)) (e : ℕ × String Y)

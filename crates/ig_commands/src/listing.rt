@@ -216,9 +216,9 @@ fn note_and_write<W: Write, E: Write>(
     ensures ended { IfErr result (EndsAfter [] [] (Appends (W.contents out.old) (W.contents out.new)) (Appends (E.contents err.old) (E.contents err.new))) }
 {
     let depth = entry.depth();
-    if folders.insert(depth, entry).is_err() {
+    let Ok(_) = folders.insert(depth, entry) else {
         return Err(Stop::Memory);
-    }
+    };
     match folders.get(&depth) {
         Some(entry) => write_entry(entry, options, out, err),
         None => unreachable!(),

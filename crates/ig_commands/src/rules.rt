@@ -45,7 +45,10 @@ impl FileRules {
     pub(crate) fn add(&mut self, rule: &NamedRule) -> Result<(), AllocError>
         ensures adds { OnOk result (Adds (named_of rule.now) self.old self.new) }
     {
-        let (Some(source), Some(line)) = (&rule.source, rule.line) else {
+        let Some(source) = &rule.source else {
+            return Ok(());
+        };
+        let Some(line) = rule.line else {
             return Ok(());
         };
         self.add_at(source.as_str(), line, rule.original.as_str())

@@ -246,12 +246,10 @@ fn find_by<E: Write>(item: Item, found: &mut Found, err: &mut E) -> Result<bool,
     ensures ended { IfErr result (EndsAfter [] [] (λ bs. bs ≡ []) (Appends (E.contents err.old) (E.contents err.new))) }
 {
     match item {
-        Ok(entry) => {
-            if found.note_used(&entry).is_err() {
-                return Err(Stop::Memory);
-            }
-            report_some(entry.error.as_ref(), err)
-        }
+        Ok(entry) => match found.note_used(&entry) {
+            Ok(()) => report_some(entry.error.as_ref(), err),
+            Err(_) => Err(Stop::Memory),
+        },
         Err(error) => Ok(report_item(&error, err)?.reported),
     }
 }

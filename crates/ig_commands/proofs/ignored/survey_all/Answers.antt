@@ -7,7 +7,7 @@ use Rattle.commands.proofs.LineLemmas.{appends_nothing}
 use Rattle.ignore_query.specs.declared.incremental.IncrementalIgnore.{IncrementalIgnore}
 use Rattle.ig_commands.specs.Ignored.{is_found, written}
 use Rattle.ig_commands.specs.Surveys.{IsWhole, OfMatcher, OfRoot, is_wrong, reports}
-use Rattle.ig_commands.proofs.SurveyLemmas.{seen_counts, seen_more, zip_push}
+use Rattle.ig_commands.proofs.SurveyLemmas.{all_yielded, seen_counts, seen_more, split_at, zip_push}
 use Rattle.ig_commands.proofs.EndLemmas.{ends_root}
 use Rattle.ig_commands.proofs.TurnLemmas.{text_more}
 use Rattle.ig_commands.proofs.ignored.survey_all.Goals as goal

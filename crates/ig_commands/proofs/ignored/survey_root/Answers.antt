@@ -1,4 +1,4 @@
-use Rattle.std.proofs.Common.{◌≡◌, [], map, refl, string_bytes}
+use Rattle.std.proofs.Common.{◌≡◌, ◌∙◌, [], map, refl, string_bytes}
 use Rattle.std.proofs.lemmas.Result.{IfErr-weaker, IfOk-weaker}
 use Rattle.commands.proofs.LineLemmas.{appends_nothing}
 use Rattle.ignore_query.specs.Reached.{scene_of}
@@ -29,7 +29,7 @@ returns-clause-lists g c =
     let m = c.args.matcher in
     let s = c.in-Ok-new.survey in
     let root = c.as_str.result.now in
-    let at : root ≡ string_bytes m.asked.root = cc (c.in-Ok.ensures) in
+    let at : root ≡ string_bytes m.asked.root = c.as_str.ensures.value ∙ (c.in-Ok.ensures.ok ∙ c.root.ensures) in
     IfOk-weaker c.write_items.result _ _
     (λ counts h. (
       (root, map seen_of h.0),
@@ -51,7 +51,7 @@ returns-clause-ended g c =
     let m = c.args.matcher in
     let s = c.in-Ok-new.survey in
     let root = c.as_str.result.now in
-    let at : root ≡ string_bytes m.asked.root = cc (c.in-Ok.ensures) in
+    let at : root ≡ string_bytes m.asked.root = c.as_str.ensures.value ∙ (c.in-Ok.ensures.ok ∙ c.root.ensures) in
     IfErr-weaker c.write_items.result _ _
     (λ stop h. (
       (root, map seen_of h.0),

@@ -36,9 +36,9 @@ returns-in-Ok-explain-clause-said g c = λ tree loads honest are agrees.
     ∙ (ap (λ (r : Path). is_dir_there (tree.stat (join_of r c.as_str.result.now) false) || ends_with_slash c.args.path.now) c.root.ensures
     ∙ ap (λ (x : Path). is_dir_there (tree.stat (join_of s.root x) false) || ends_with_slash c.args.path.now) c.as_str.ensures.value) in
     let leaves : Leaves s (p, d) m.cache c.explain.new.self.cache = record {
-      stays = c.explain.ensures.stays;
+      stays = c.explain.ensures.leaves.stays;
       kept = c.in-Ok-explain.ensures.kept tree loads honest are agrees;
-      unchanged = c.explain.ensures.unchanged tree loads honest are agrees;
+      unchanged = c.explain.ensures.leaves.unchanged tree loads honest are agrees;
     } in (
       refl,
       text,
