@@ -1,11 +1,11 @@
 -- What a backup stores, by the matchers of its builder.
-use Rattle.std.specs.Prelude.{◌≡◌, ◌⊎◌, ◌↔◌, ℕ, Bool, List, [], reverse, codes, Contains}
-use Rattle.ignore.specs.FileWords.{Env, Tree}
-use Rattle.ignore.specs.Headline.{IsSceneOf}
+use Rattle.std.specs.Prelude.{◌≡◌, ◌⊎◌, ◌↔◌, ℕ, Bool, List, Err, [], reverse, codes, Contains}
+use Rattle.ignore.specs.FileWords.{Env, Files, Tree}
+use Rattle.ignore.specs.Headline.{Headline, IsAboveLimit, IsSceneOf}
 use Rattle.ignore.specs.WalkWords.{Branch, Callbacks, Entry, IncrementalIgnore, IsKeptByOne, IsMatcherIn, IsOpen, IsOutside, IsReached}
 use Rattle.ignore.specs.WalkWords.{IsYielded, Item, Order, Outside, Scene, WalkedOne, Whole, is_dir_kind, joined, matcher_root}
 use Rattle.ignore.specs.WalkWords.{root_entry, stdin_entry}
-use Rattle.ignore.specs.Words.{Path}
+use Rattle.ignore.specs.Words.{Path, Problem, StepLimit, io, memory}
 use Rattle.ignore.specs.declared.options.WalkOptions.{WalkOptions}
 
 -- these items have an entry exactly where one of some matchers keeps it, or it is standard input
@@ -15,6 +15,13 @@ HoldsWhatTheyKeep calls owner env b order tree ms all =
     (o : Outside) × IsOutside tree env b o
     × ((g : Scene) (items : List Item) (n : ℕ) (e : Entry) → IsSceneOf calls owner b order tree o g → IsOpen g → Whole g b.roots items n
     → IsYielded all e ↔ (((e ≡ stdin_entry) × Contains b.roots (codes "-")) ⊎ IsKeptByOne g ms e))
+
+-- what ends a backup early: out of memory; that of the limit, where the list of the definition takes
+-- more steps; or an error that stands in that list in the place of an entry
+abbrev pub EndsBackup : {F S : Type 0} → Files F → Callbacks S → F → S → Env → WalkOptions → Order → Problem → Type 0
+EndsBackup files calls f owner env b order problem =
+    (problem ≡ memory) ⊎ (((problem ≡ io StepLimit) × IsAboveLimit files calls f owner env b order)
+    ⊎ ((all : List Item) × Headline files calls f owner env b order all × Contains all (Err problem)))
 
 -- a path and a kind are those of an entry that a walk reaches from the root of a matcher; this root
 -- gives these items

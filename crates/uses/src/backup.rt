@@ -1,13 +1,13 @@
 //! A backup: it ends well only with the complete list of what it is to store. Whether it stores a
 //! path, a matcher answers without a walk.
-ghost use Rattle.std.specs.Prelude.{◌≡◌, ◌↔◌, IfErr, IfOk, List, Ok, Some, map, true};
+ghost use Rattle.std.specs.Prelude.{◌≡◌, ◌↔◌, ◌⊎◌, Contains, Err, IfErr, IfOk, List, Ok, Some, map, true};
 ghost use Rattle.ignore.specs.Closures.{order_of};
 ghost use Rattle.ignore.specs.FileWords.{Disk, IsHonest, IsTruthful, Tree, disk_of, tree_on};
 ghost use Rattle.ignore.specs.Headline.{Headline, IsListIn};
 ghost use Rattle.ignore.specs.WalkWords.{Agrees, AreLoads, AreMatchers, Entry, IncrementalIgnore, IsMatcherIn, IsOpen, IsYielded, Item};
 ghost use Rattle.ignore.specs.WalkWords.{Scene, item_of, keeps, scene_of};
 ghost use Rattle.ignore.specs.Words.{memory, problem_of};
-ghost use Rattle.uses.specs.Stored.{HoldsWhatTheyKeep, IsAbout};
+ghost use Rattle.uses.specs.Stored.{EndsBackup, HoldsWhatTheyKeep, IsAbout};
 
 use ignore::files::{DiskFiles, Env, Files, Machine, TableMachine};
 use ignore::walk_laws::walk_agrees_with_matchers;
@@ -36,6 +36,8 @@ pub fn complete_entries<F: Files>(
     ensures agreed { (tree : Tree) (ms : List IncrementalIgnore) → IsHonest F.Files files.now tree → AreMatchers tree env.now builder.now.options ms
         → IfOk result (λ entries. HoldsWhatTheyKeep ⟦<Owner<'static> as Callbacks>⟧ (record { builder = Some builder.entry }) env.now
         builder.now.options (order_of (λ s. s.order) builder.now.sorter) tree ms (map (λ e. item_of (Ok e)) entries.items)) }
+    ensures ended { IfErr result (λ e. EndsBackup F.Files ⟦<Owner<'static> as Callbacks>⟧ files.now (record { builder = Some builder.entry }) env.now
+        builder.now.options (order_of (λ s. s.order) builder.now.sorter) (problem_of e)) }
 {
     walk_agrees_with_matchers::<Owner<'static>>();
     entries_of(alloc, collect_walk(builder, files, env)?)
@@ -44,6 +46,7 @@ pub fn complete_entries<F: Files>(
 /// The entries of some items, all of which are entries.
 fn entries_of(alloc: Global, items: Vec<Item>) -> Result<Vec<DirEntry>, Error>
     ensures all { IfOk result (λ entries. map item_of items.items ≡ map (λ e. item_of (Ok e)) entries.items) }
+    ensures first { IfErr result (λ e. (problem_of e ≡ memory) ⊎ Contains (map item_of items.items) (Err (problem_of e))) }
 {
     let mut entries = Vec::new(alloc);
     for item in items {

@@ -8,7 +8,7 @@ ghost use Rattle.ignore_walk.specs.declared.callbacks.Order.TheVariants.{Listed}
 ghost use Rattle.ignore.specs.Asked.{IsOutsideBy};
 ghost use Rattle.ignore.specs.Builder.{unset, with_root, with_roots};
 ghost use Rattle.ignore.specs.Closures.{options_of, order_of};
-ghost use Rattle.ignore.specs.Walks.{IsNewWalkBy, IsWalkBy};
+ghost use Rattle.ignore.specs.Walks.{GoesBy, IsNewWalkBy, IsWalkBy};
 
 use crate::builder::WalkBuilder;
 use crate::options::WalkOptions;
@@ -26,7 +26,8 @@ impl WalkBuilder {
     ///
     /// Over files that are consistent with a tree its items are those of the definition, by the
     /// rules from outside as they were read, and by the filter and the comparison that the closures
-    /// answer by. Over any files its rules from outside are by answers that the files gave.
+    /// answer by. Over any files it goes by the settings, the order, the closures and the roots of
+    /// the builder, and its rules from outside are by answers that the files gave.
     ///
     /// # Errors
     /// `Error::Memory` alone.
@@ -41,6 +42,8 @@ impl WalkBuilder {
         ensures no_end { IfOk result (λ w. HasNoEnd w.inner.stack) }
         ensures begins { IfOk result (λ w. work_of w.inner.stack ≡ work_at self.now.options.roots) }
         ensures files { IfOk result (λ w. w.inner.ground.files.now ≡ files.now) }
+        ensures goes_by { IfOk result (λ w. GoesBy F.Files files.now (record { builder = Some self.entry }) env.now self.now.options
+            (order_of (λ s. s.order) self.now.sorter) w.inner) }
         ensures out_of_memory { IfErr result (λ e. problem_of e ≡ memory) }
     {
         self.options.walk(
@@ -82,6 +85,7 @@ impl WalkOptions {
         ensures no_end { IfOk result (λ w. HasNoEnd w.inner.stack) }
         ensures begins { IfOk result (λ w. work_of w.inner.stack ≡ work_at self.now.roots) }
         ensures files { IfOk result (λ w. w.inner.ground.files.now ≡ files.now) }
+        ensures goes_by { IfOk result (λ w. GoesBy F.Files files.now owner.entry env.now self.now order w.inner) }
         ensures out_of_memory { IfErr result (λ e. problem_of e ≡ memory) }
     {
         let roots = self.root_names()?;
@@ -122,6 +126,7 @@ impl<'a, F: Files> Walk<'a, F> {
             (with_root unset path.now) Listed w.inner) }
         ensures starts { IfOk result (λ w. IsNewWalkBy F.Files ⟦<Owner<'a> as Callbacks>⟧ files.now (record { builder = None }) env.now
             (with_root unset path.now) Listed w.inner) }
+        ensures goes_by { IfOk result (λ w. GoesBy F.Files files.now (record { builder = None }) env.now (with_root unset path.now) Listed w.inner) }
         ensures limit { IfOk result (λ w. w.inner.left ≡ unset.limit) }
         ensures goes_on { IfOk result (λ w. w.inner.ended ≡ false) }
         ensures no_end { IfOk result (λ w. HasNoEnd w.inner.stack) }
@@ -150,6 +155,9 @@ impl<'a, F: Files> Walk<'a, F> {
         ensures starts { IfOk result (λ w. (it : I.IntoIter) × (all : List P) × I.into_iter_gives paths it
             × Drains I.IntoIter.next_gives it all × IsNewWalkBy F.Files ⟦<Owner<'a> as Callbacks>⟧ files.now (record { builder = None })
             env.now (with_roots unset (map P.text all)) Listed w.inner) }
+        ensures goes_by { IfOk result (λ w. (it : I.IntoIter) × (all : List P) × I.into_iter_gives paths it
+            × Drains I.IntoIter.next_gives it all
+            × GoesBy F.Files files.now (record { builder = None }) env.now (with_roots unset (map P.text all)) Listed w.inner) }
         ensures limit { IfOk result (λ w. w.inner.left ≡ unset.limit) }
         ensures goes_on { IfOk result (λ w. w.inner.ended ≡ false) }
         ensures no_end { IfOk result (λ w. HasNoEnd w.inner.stack) }

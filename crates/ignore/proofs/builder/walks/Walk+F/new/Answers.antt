@@ -1,6 +1,6 @@
 use Rattle.std.proofs.Common.{None, subst}
 use Rattle.ignore_walk.specs.declared.callbacks.Order.TheVariants.{Listed}
-use Rattle.ignore.specs.Walks.{IsNewWalkBy, IsWalkBy}
+use Rattle.ignore.specs.Walks.{GoesBy, IsNewWalkBy, IsWalkBy}
 use Rattle.ignore.specs.declared.options.WalkOptions.{WalkOptions}
 use Rattle.ignore.specs.contracts.walk.OwnerCallbacks.TheImpl as calls
 use Rattle.ignore.proofs.HeadlineLemmas.{on_ok}
@@ -17,3 +17,9 @@ returns-clause-starts g c =
     on_ok c.walk.result
     (λ w by. subst (λ (b : WalkOptions). IsNewWalkBy g.F.Files (calls.ghosts g.dyn-1 g.dyn-2) c.args.files.now (record { builder = None }) c.args.env.now b Listed w.inner)
     c.in_ok-builder.ensures.options by) c.walk.ensures.starts
+
+pub returns-clause-goes_by : goal.returns-clause-goes_by
+returns-clause-goes_by g c =
+    on_ok c.walk.result
+    (λ w by. subst (λ (b : WalkOptions). GoesBy g.F.Files c.args.files.now (record { builder = None }) c.args.env.now b Listed w.inner)
+    c.in_ok-builder.ensures.options by) c.walk.ensures.goes_by
