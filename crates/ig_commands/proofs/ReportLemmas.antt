@@ -10,9 +10,9 @@ use Rattle.ig_commands.specs.Counts.{capped, counted, stats_line, status_of}
 use Rattle.ig_commands.specs.Reports.{is_known, report_of}
 
 -- the reports of the same errors
-pub reported_as : (es fs : List (Option Error)) {a b : Option (List ℕ)} → es ≡ fs
+pub reported_as : (es fs : List (Option Error)) (a b : Option (List ℕ)) → es ≡ fs
     → Appends a b (flat_map report_of (map (option_map problem_of) es)) → Appends a b (flat_map report_of (map (option_map problem_of) fs))
-reported_as es fs {a} {b} same h = subst (λ (xs : List (Option Error)). Appends a b (flat_map report_of (map (option_map problem_of) xs))) same h
+reported_as es fs a b same h = subst (λ (xs : List (Option Error)). Appends a b (flat_map report_of (map (option_map problem_of) xs))) same h
 
 -- a count with those of the files that are named
 pub wrong_as : (es fs : List (Option Error)) (all more reported wrong : ℕ) → es ≡ fs → all ≡ capped (more + reported)

@@ -1,5 +1,6 @@
 -- How a run ends.
-use Rattle.std.proofs.Common.{◌≡◌, ◌⊎◌, ℕ, List, [], Option, None, Some, Result, Ok, Err, IfErr, IfOk, inl, inr, refl, sym, subst}
+use Rattle.std.proofs.Common.{◌≡◌, ◌≢◌, ◌⊎◌, ◌∙◌, ℕ, List, [], Option, None, Some, Result, Ok, Err, IfErr, IfOk, inl, inr, refl, sym, ap, subst}
+use Rattle.std.proofs.lemmas.Result.{IfOk-weaker}
 use Rattle.std.specs.Io.KnownBytes.{Appends, Keeps}
 use Rattle.commands.proofs.LineLemmas.{appends_nothing}
 use Rattle.ignore_files.specs.declared.env.Env.{Env}
@@ -13,7 +14,7 @@ use Rattle.ig_commands.specs.Run.Finishes.{whole, early as early_end, unwritten}
 use Rattle.ig_commands.specs.Stops.{EndsAfter, reason, stop_status}
 use Rattle.ig_commands.specs.declared.run.Ran.{Ran}
 use Rattle.ig_commands.specs.declared.stop.Stop.{Stop}
-use Rattle.ig_commands.specs.declared.stop.Stop.TheVariants.{Memory, Read, Write, Closed}
+use Rattle.ig_commands.specs.declared.stop.Stop.TheVariants.{Memory, Read, Write, Closed, Silence}
 
 -- each command may end before it begins
 pub ends_none : {F : Type 0} (files : Files F) (f : F) (env : Env) (o : Options) (first : Draft) (task : Task) (out err : List ℕ → Type 0)
@@ -67,3 +68,57 @@ pub ends_unread : (out err : Option (List ℕ)) (stop : Stop) → (stop ≡ Read
 ends_unread out err stop (inl read) = inr (read, (appends_nothing out, appends_nothing err))
 ends_unread out err stop (inr memory) =
     inl (subst (EndsAfter [] [] (Appends out out) (Appends err err)) (sym memory) (appends_nothing out, appends_nothing err))
+
+-- what is written at the end succeeds, or it fails
+abbrev pub IsWritten : ℕ → Result ℕ Stop → Type 0
+IsWritten given r = (r ≡ Ok given) ⊎ ((r ≡ Err Write) ⊎ (r ≡ Err Closed))
+
+-- a command that returned its status keeps it, where what is written at the end succeeds
+pub kept_ok : (ended r : Result ℕ Stop) (status : ℕ) (Same Late : Type 0) → r ≡ Ok status → IfOk ended (λ given. IsWritten given r) → Same
+    → IfOk ended (λ given. ((status ≡ given) × Same) ⊎ Late)
+kept_ok (Ok given) r status Same Late is (inl e) same =
+    let one : Ok status ≡ Ok given = sym is ∙ e in
+    let s : status ≡ given = cc one in inl (s, same)
+kept_ok (Ok given) r status Same Late is (inr (inl e)) same = let one : Ok status ≡ Err Write = sym is ∙ e in cc one
+kept_ok (Ok given) r status Same Late is (inr (inr e)) same = let one : Ok status ≡ Err Closed = sym is ∙ e in cc one
+kept_ok (Err stop) r status Same Late is h same = tt
+
+-- one that ended early reports why
+pub none_kept : (ended r : Result ℕ Stop) (status : ℕ) (Goal : Stop → Type 0) → r ≡ Ok status → IfErr ended (λ stop. r ≡ Err stop) → IfErr ended Goal
+none_kept (Ok given) r status Goal is h = tt
+none_kept (Err stop) r status Goal is h = let one : Ok status ≡ Err stop = sym is ∙ h in cc one
+
+late : (given : ℕ) (r : Result ℕ Stop) (stop : Stop) → r ≡ Err stop → IsWritten given r → (stop ≡ Write) ⊎ (stop ≡ Closed)
+late given r stop is (inl e) = let one : Err stop ≡ Ok given = sym is ∙ e in cc one
+late given r stop is (inr (inl e)) =
+    let one : Err stop ≡ Err Write = sym is ∙ e in
+    let s : stop ≡ Write = cc one in inl s
+late given r stop is (inr (inr e)) =
+    let one : Err stop ≡ Err Closed = sym is ∙ e in
+    let s : stop ≡ Closed = cc one in inr s
+
+-- what can't be written at the end is reported
+pub kept_err : (ended r told : Result ℕ Stop) (stop : Stop) (x y : Option (List ℕ)) → r ≡ Err stop → IfOk ended (λ given. IsWritten given r)
+    → IfOk told (λ status. (status ≡ stop_status stop) × (stop ≢ Silence) × Appends x y (reason stop))
+    → IfOk ended (λ given. IfOk told (λ status. ((status ≡ given) × (y ≡ x))
+    ⊎ ((s : Stop) × ((s ≡ Write) ⊎ (s ≡ Closed)) × (status ≡ stop_status s) × Appends x y (reason s))))
+kept_err (Ok given) r told stop x y is h k = IfOk-weaker told _ _ (λ status t. inr (stop, late given r stop is h, t.0, t.2)) k
+kept_err (Err s) r told stop x y is h k = tt
+
+pub told_err : (ended r told : Result ℕ Stop) (stop : Stop) (x y : Option (List ℕ)) → r ≡ Err stop → IfErr ended (λ s. r ≡ Err s)
+    → IfOk told (λ status. (status ≡ stop_status stop) × (stop ≢ Silence) × Appends x y (reason stop))
+    → IfErr ended (λ s. IfOk told (λ status. (status ≡ stop_status s) × Appends x y (reason s)))
+told_err (Ok given) r told stop x y is h k = tt
+told_err (Err s) r told stop x y is h k =
+    let one : Err stop ≡ Err s = sym is ∙ h in
+    let same : stop ≡ s = cc one in
+    IfOk-weaker told _ _ (λ status t. (t.0 ∙ ap stop_status same, subst (λ (u : Stop). Appends x y (reason u)) same t.2)) k
+
+-- what holds of each status holds of that of a command
+pub each_ok : {A B : Type 0} (r : Result A B) (P : A → Type 0) → ((x : A) → P x) → IfOk r P
+each_ok (Ok x) P h = h x
+each_ok (Err y) P h = tt
+
+pub each_err : {A B : Type 0} (r : Result A B) (P : B → Type 0) → ((y : B) → P y) → IfErr r P
+each_err (Ok x) P h = tt
+each_err (Err y) P h = h y

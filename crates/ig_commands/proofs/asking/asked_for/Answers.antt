@@ -38,5 +38,5 @@ returns-in_err-globs-clause-refused g c =
 -- so it is of a type
 pub returns-in_err-types-clause-refused : goal.returns-in_err-types-clause-refused
 returns-in_err-types-clause-refused g c =
-    let p = err_from_is_err_and c.from_residual.result c.from_residual.ensures.1 in
+    let p = err_from_is_err_and c.from_residual-in_err-types.result c.from_residual-in_err-types.ensures.1 in
     rw (p.1, p.2) (elim c.in_err-types.ensures.refused [ inl m ↦ inl m | inr r ↦ inr (inr r) ])

@@ -1,4 +1,8 @@
-use Rattle.std.proofs.Common.{◌≡◌, refl, rules, subst}
+use Rattle.std.proofs.Common.{◌≡◌, List, map, refl, rules, string_bytes, subst}
+use Rattle.std.specs.List.{AllZip}
+use Rattle.std.specs.declared.alloc.Global.{Global}
+use Rattle.std.specs.declared.string.String.{String}
+use Rattle.commands.specs.Walking.{IsTrimmed}
 use Rattle.ignore.specs.Asked.{IsOutside}
 use Rattle.ignore.specs.declared.options.WalkOptions.{WalkOptions}
 use Rattle.ig_commands.specs.Listing.{listing}
@@ -12,7 +16,8 @@ returns-clause-walks g c = λ tree honest.
       c.in_ok-names.names.items,
       outside,
       record {
-        trimmed = c.in_ok-names.ensures;
+        trimmed = subst (λ (rs : List (String Global)). AllZip IsTrimmed (map string_bytes rs) c.in_ok-names.names.items) c.deref.ensures.value
+            c.in_ok-names.ensures;
         read = subst (λ (b : WalkOptions). IsOutside tree c.args.world.now.env.now b outside) c.from_options-builder.ensures.options
             (c.in_ok-outside.ensures.read tree honest);
       },

@@ -1,4 +1,4 @@
-use Rattle.std.proofs.Common.{◌≢◌, ℕ, [], Err, map, refl, subst}
+use Rattle.std.proofs.Common.{◌≢◌, ℕ, [], Err, map, rules, subst}
 use Rattle.std.proofs.lemmas.List.Elements.{All-nil}
 use Rattle.std.proofs.lemmas.Result.{err_from_is_err_and}
 use Rattle.std.specs.List.{flat_map}
@@ -18,8 +18,8 @@ loop-item-init g c = record {
   lists = appends_nothing (g.W.Write.contents c.args.out.now);
   reports = appends_nothing (g.E.Write.contents c.args.err.now);
   notes = λ depth. search rules;
-  reported = refl;
-  found = refl;
+  reported = c.begun-counts.ensures.reported;
+  found = c.begun-counts.ensures.found;
   enough = All-nil (λ (item : Item). item ≢ Err memory);
 }
 
@@ -32,8 +32,8 @@ loop-item-preserved g c =
       reports = told_more l.yielded c.in-Some.item (last_in l.folders) _ _ _ l.invariant.notes l.invariant.reports h.1;
       notes = notes_more l.yielded c.in-Some.item (last_in l.folders) (last_in c.write_item.new.folders) l.invariant.notes
           c.in_ok-one.ensures.notes;
-      reported = count_more is_reported l.yielded c.in-Some.item _ _ _ l.invariant.reported c.with.ensures.reported h.2;
-      found = count_more (is_found c.args.options.now) l.yielded c.in-Some.item _ _ _ l.invariant.found c.with.ensures.found h.3;
+      reported = count_more is_reported l.yielded c.in-Some.item _ _ _ l.invariant.reported c.with-counts.ensures.reported h.2;
+      found = count_more (is_found c.args.options.now) l.yielded c.in-Some.item _ _ _ l.invariant.found c.with-counts.ensures.found h.3;
       enough = enough_more l.yielded c.in-Some.item l.invariant.enough c.in_ok-one.ensures.enough;
     }
 

@@ -5,13 +5,13 @@ use Rattle.ig_commands.proofs.RootLemmas.{empty, not_empty, parent_shorter, some
 use Rattle.ig_commands.proofs.root.nearest_marked.Goals as goal
 
 -- the folder has a mark
-pub returns-then-is_marked-clause-nearest : goal.returns-then-is_marked-clause-nearest
-returns-then-is_marked-clause-nearest g c = λ tree honest.
+pub returns-then-branch-clause-nearest : goal.returns-then-branch-clause-nearest
+returns-then-branch-clause-nearest g c = λ tree honest.
     let rest = c.loop-rest.rest.now in
     let left : c.is_empty.result ≡ false = search rules in
     c.loop-rest.invariant.nearest tree honest (Some rest)
     (here (not_empty rest c.is_empty.result c.is_empty.ensures left)
-    (sym (c.in_ok-is_marked.ensures.value tree honest) ∙ c.if-is_marked.true))
+    (sym (c.in_ok-is_marked.ensures.value tree honest) ∙ c.if-branch.true))
 
 -- it has none, and its folder is next
 pub loop-rest-preserved : goal.loop-rest-preserved
@@ -23,7 +23,7 @@ loop-rest-preserved g c =
       nearest = λ tree honest found h.
           c.loop-rest.invariant.nearest tree honest found
           (above (not_empty rest c.is_empty.result c.is_empty.ensures left)
-          (sym (c.in_ok-is_marked.ensures.value tree honest) ∙ c.if-is_marked.false)
+          (sym (c.in_ok-is_marked.ensures.value tree honest) ∙ c.if-branch.false)
           (subst (λ (d : List ℕ). Nearest tree d found) c.parent_of-rest.ensures h));
     }
 

@@ -1,6 +1,6 @@
 use Rattle.std.proofs.Common.{Err, inl, inr}
 use Rattle.std.proofs.lemmas.Result.{IfErr-weaker, IfOk-weaker}
-use Rattle.ig_commands.specs.Run.{Does, Ends, EndsBefore, Shows}
+use Rattle.ig_commands.specs.Run.{Does, Ends, EndsBefore, Shows, types_at_first}
 use Rattle.ig_commands.proofs.RunLemmas.{ends_unread, finishes}
 use Rattle.ig_commands.proofs.run.run.Goals as goal
 
@@ -11,7 +11,7 @@ returns-in-Ok-clause-runs g c =
     let task = c.in-Ok.task in
     let o = c.in-Ok.options in
     IfOk-weaker c.end_run.result _ _ (λ x h. inl (task, o, c.in-Ok.ensures.input, h))
-    (finishes (Does g.F.Files f env o _ task) (Ends g.F.Files f env o _ task) c.run_task-ended.result c.end_run.result
+    (finishes (Does g.F.Files f env o types_at_first task) (Ends g.F.Files f env o types_at_first task) c.run_task-ended.result c.end_run.result
     (g.W.Write.contents c.args.out.now) (g.W.Write.contents c.run_task-ended.new.out) (g.W.Write.contents c.end_run.new.out)
     (g.E.Write.contents c.args.err.now) (g.E.Write.contents c.run_task-ended.new.err) (g.E.Write.contents c.end_run.new.err)
     c.run_task-ended.ensures.done c.run_task-ended.ensures.ended c.end_run.ensures.kept c.end_run.ensures.reported c.end_run.ensures.written)
