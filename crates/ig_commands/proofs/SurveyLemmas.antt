@@ -1,5 +1,5 @@
 -- What is met, written, reported and counted of roots in turn, one more at a time.
-use Rattle.std.proofs.Common.{◌≡◌, ◌∙◌, ◌<◌, ◌≤◌, ℕ, ◌+◌, suc, length, take, drop, get_or, min, Bool, true, false, All, List, [], ◌∷◌, ◌++◌, Option, map, string_bytes, refl, sym, ap, subst, arith}
+use Rattle.std.proofs.Common.{◌≡◌, ◌∙◌, ◌<◌, ◌≤◌, ℕ, ◌+◌, suc, length, take, drop, get_or, min, Bool, true, false, All, List, [], ◌∷◌, ◌++◌, Option, None, Some, map, string_bytes, refl, sym, ap, subst, arith}
 use Rattle.std.proofs.lemmas.Grind.{flat_map-append}
 use Rattle.std.proofs.lemmas.List.Elements.{All-cons, All-head, All-nil, All-tail}
 use Rattle.std.proofs.lemmas.List.{append-nil, map-append}
@@ -18,6 +18,8 @@ use Rattle.ignore_files.specs.declared.env.Env.{Env}
 use Rattle.ignore_files.specs.declared.files.Files.{Ghosts as Files}
 use Rattle.ignore_query.specs.Fresh.{KeepsNothing}
 use Rattle.ignore_query.specs.declared.incremental.IncrementalIgnore.{IncrementalIgnore}
+use Rattle.ignore_rules.specs.Rules.{Ruleset}
+use Rattle.ignore.specs.Asked.{IsGlobalIf, base_dir}
 use Rattle.ignore.specs.Builder.{with_roots}
 use Rattle.ignore.specs.Matchers.{AreMatchers, asked_by}
 use Rattle.ignore.specs.declared.options.WalkOptions.{WalkOptions}
@@ -200,6 +202,13 @@ module _ {F X : Type 0} (files : Files F) (f : F) (view : X → OfRoot) (P : X �
         let rest = first_roots Q ms m others roots done last more tail zip.1 of in
         (All-cons Holds d done (one_root (P d) x root (view d) here none zip.0) rest.0, rest.1)
 
+-- the rules of the global file don't depend on the roots
+same_global : (asked : Bool) (tree : Tree) (env : Env) (b : WalkOptions) (roots : List (List ℕ)) (dir : Option (List ℕ)) (rules : Ruleset)
+    → IsGlobalIf asked tree env (with_roots b roots) dir rules → IsGlobalIf asked tree env b dir rules
+same_global false tree env b roots dir rules h = h
+same_global true tree env b roots None rules h = h
+same_global true tree env b roots (Some d) rules h = h
+
 -- matchers of the roots that are asked for, which keep nothing
 module _ {F X : Type 0} (files : Files F) (f : F) (view : X → OfRoot) (P : X → QueryScene → List Seen → Type 0) (tree : Tree) (env : Env)
     (o : Options) (b : WalkOptions) (honest : IsHonest files f tree) (none : b.roots ≡ []) (roots : List (List ℕ))
@@ -212,7 +221,8 @@ module _ {F X : Type 0} (files : Files F) (f : F) (view : X → OfRoot) (P : X �
   goes_by : (names : List (List ℕ)) → names ≡ roots → GoesBy tree env o b names made.0
   goes_by names same = record {
     trimmed = subst (λ (rs : List (List ℕ)). AllZip IsTrimmed (map string_bytes o.roots.items) rs) (sym same) trimmed;
-    read = record { overrides = made.1.overrides; types = made.1.types; explicit = made.1.explicit; global = made.1.global };
+    read = record { overrides = made.1.overrides; types = made.1.types; explicit = made.1.explicit;
+        global = same_global b.settings.git_global tree env b roots (base_dir b env) made.0.global made.1.global };
   }
 
   -- what holds of each matcher holds of each root

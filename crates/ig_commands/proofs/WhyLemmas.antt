@@ -1,6 +1,6 @@
 -- What `why` says of paths in turn, and its matcher.
 use Rattle.std.proofs.Common.{◌≡◌, ◌∙◌, ℕ, Bool, List, [], ◌∷◌, ◌++◌, Option, map, refl, sym, ap, subst}
-use Rattle.std.proofs.lemmas.List.{map-append}
+use Rattle.std.proofs.lemmas.List.{append-nil, map-append}
 use Rattle.ignore_dir.specs.Load.{AreLoads, Loaded}
 use Rattle.ignore_dir.specs.Query.{query}
 use Rattle.ignore_dir.specs.Scene.{QueryScene, scene}
@@ -23,7 +23,7 @@ use Rattle.ignore.specs.declared.options.WalkOptions.{WalkOptions}
 use Rattle.std.specs.Prelude.{string_bytes}
 use Rattle.ig_options.specs.declared.given.Given.{Given}
 use Rattle.ig_commands.specs.Root.{IsRoot}
-use Rattle.ig_commands.specs.Why.{Answered, AreFirst, AreSaid, IsAnswered, IsMatcherOf, IsSaid, Said, is_dir_at}
+use Rattle.ig_commands.specs.Why.{Answered, AreAll, AreFirst, AreSaid, IsAnswered, IsMatcherOf, IsSaid, Said, is_dir_at}
 
 -- the same is said of the paths up to one more
 pub said_more : (g : QueryScene) (dir : Option (List ℕ)) (all : List Given) (given : Given) (old middle new : Cache)
@@ -31,8 +31,8 @@ pub said_more : (g : QueryScene) (dir : Option (List ℕ)) (all : List Given) (g
     → AreSaid g dir (all ++ given ∷ []) old new (said ++ one ∷ [])
 said_more g dir [] given old middle new [] one same is =
     (new, subst (λ (c : Cache). IsSaid g dir given c new one) same is, refl)
-said_more g dir [] given old middle new (s ∷ said) one no is = absurd no
-said_more g dir (x ∷ all) given old middle new [] one no is = absurd no
+said_more g dir [] given old middle new (s ∷ said) one h is = absurd h
+said_more g dir (x ∷ all) given old middle new [] one h is = absurd h
 said_more g dir (x ∷ all) given old middle new (s ∷ said) one h is =
     (h.0, h.1, said_more g dir all given h.0 middle new said one h.2 is)
 
@@ -63,6 +63,15 @@ first_of tree env b m all first rest said last w empty is right =
           (sym (ap (λ (t : Settings × Outside × List ℕ × Option (List ℕ)). t.0) w.4)) are));
     }
 
+-- what is said of all of them
+pub all_of : (tree : Tree) (env : Env) (b : WalkOptions) (m : IncrementalIgnore) (all : List Given) (said : List Said) (last : Cache)
+    → IsMatcherOf tree env b m → KeepsNothing m.cache
+    → ((loads : List ℕ → Loaded) → AreLoads tree m.asked.settings loads
+    → AreSaid (scene_of m.asked tree loads) (dir_of m.asked) all m.cache last said)
+    → AreAll tree env b all (string_bytes m.asked.root) said
+unfolding first_of
+all_of tree env b m all said last w empty right = (first_of tree env b m all all [] said last w empty (sym (append-nil all)) right, refl)
+
 abbrev last_or : {A : Type 0} → A → List A → A
 last_or d [] = d
 last_or d (x ∷ xs) = last_or x xs
@@ -89,4 +98,4 @@ answered g text p d old new t same is why ignored leaves reports =
     let all = subst
     (λ (b : Bool). (t.why ≡ query_why g text b) × ((t.is_ignored ≡ is_ignore (query g text b).0.verdict)
     × (Leaves g (text, b) old new × (t.problem ≡ reported g old text b)))) is at_text in
-    record { why = all.0; is_ignored = all.1; leaves = all.2; reports = all.3 }
+    record { why = all.0; is_ignored = all.1.0; leaves = all.1.1.0; reports = all.1.1.1 }

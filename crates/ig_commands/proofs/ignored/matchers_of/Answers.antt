@@ -13,6 +13,6 @@ loop-root-preserved g c =
     let l = c.loop-root in
     c.in_ok-push_root.ensures.added
     ∙ (ap (λ (b : WalkOptions). with_root b c.as_str.result.now) l.invariant
-    ∙ (ap (with_root (with_roots c.args.walk l.yielded)) c.as_str.ensures.value
+    ∙ (ap (with_root (with_roots c.args.walk l.yielded)) c.as_str.ensures
     ∙ ap (λ rs. let b : WalkOptions = record c.args.walk { roots = rs } in b)
     (append_assoc c.args.walk.roots l.yielded (c.in-Some.root ∷ []))))

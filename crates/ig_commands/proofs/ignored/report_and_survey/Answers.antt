@@ -28,7 +28,7 @@ returns-in_default-clause-ended g c = (
     appends_nothing (g.W.Write.contents c.args.out.now),
     subst (Appends (g.E.Write.contents c.args.err.now) (g.E.Write.contents c.report_all.new.err))
         (sym (append-nil (flat_map report_of (map (option_map problem_of) c.args.asked.errors.items))))
-        (reported_as c.deref.result.now c.args.asked.errors.items c.deref.ensures.value c.in_ok-reported.ensures.reports.1),
+        (reported_as c.deref.result.now c.args.asked.errors.items (g.E.Write.contents c.args.err.now) (g.E.Write.contents c.report_all.new.err) c.deref.ensures.value c.in_ok-reported.ensures.reports.1),
   ),
   λ tree honest none. inl refl,
 )
@@ -44,7 +44,7 @@ returns-in_err-counts-clause-ended g c =
       ends_after_reports (all_written o all) (flat_map report_of (map (option_map problem_of) c.args.asked.errors.items))
           (flat_map reports (all_seen all)) (Appends (g.W.Write.contents c.args.out.now) (g.W.Write.contents c.survey_all.new.out))
           (g.E.Write.contents c.args.err.now) (g.E.Write.contents c.report_all.new.err) (g.E.Write.contents c.survey_all.new.err)
-          c.in_err-counts.field-0.0 (reported_as c.deref.result.now c.args.asked.errors.items c.deref.ensures.value c.in_ok-reported.ensures.reports.1) h.8,
+          c.in_err-counts.field-0.0 (reported_as c.deref.result.now c.args.asked.errors.items (g.E.Write.contents c.args.err.now) (g.E.Write.contents c.report_all.new.err) c.deref.ensures.value c.in_ok-reported.ensures.reports.1) h.8,
       λ tree honest none.
           let made = c.in-Ok.ensures.made tree honest in
           let begun = begun_of g.F.Files c.args.world.now.files.now (λ (r : OfRoot). r) (λ (r : OfRoot). IsWhole) tree c.args.world.now.env.now o c.args.asked.walk honest none made.0
@@ -70,9 +70,10 @@ returns-clause-lists g c =
       h.0,
       record {
         writes = h.2;
-        reports = counts_told o.stats (flat_map report_of problems ++ flat_map reports (all_seen h.0)) _ _ _ _ _ _ _
-            (appends_on _ _ _ (flat_map report_of problems) (flat_map reports (all_seen h.0))
-            (reported_as c.deref.result.now c.args.asked.errors.items c.deref.ensures.value c.in_ok-reported.ensures.reports.1) h.3)
+        reports = counts_told o.stats (flat_map report_of problems ++ flat_map reports (all_seen h.0)) _ _ _ _ (g.E.Write.contents c.args.err.now)
+            (g.E.Write.contents c.survey_all.new.err) (g.E.Write.contents c.report_counts.new.err)
+            (appends_on (g.E.Write.contents c.args.err.now) (g.E.Write.contents c.report_all.new.err) (g.E.Write.contents c.survey_all.new.err) (flat_map report_of problems) (flat_map reports (all_seen h.0))
+            (reported_as c.deref.result.now c.args.asked.errors.items (g.E.Write.contents c.args.err.now) (g.E.Write.contents c.report_all.new.err) c.deref.ensures.value c.in_ok-reported.ensures.reports.1) h.3)
             c.in_ok-report_counts.ensures.reports wrong h.5;
         ends = status_as c.status_of.result c.saturating_add.result c.in_ok-counts.counts.found _ _ c.status_of.ensures wrong h.5;
       },

@@ -18,8 +18,8 @@ loop-matcher-init g c = (
   tt,
   appends_nothing (g.W.Write.contents c.args.out.now),
   appends_nothing (g.E.Write.contents c.args.err.now),
-  c.begun.ensures.reported,
-  c.begun.ensures.found,
+  c.begun-counts.ensures.reported,
+  c.begun-counts.ensures.found,
 )
 
 pub loop-matcher-preserved : goal.loop-matcher-preserved
@@ -43,7 +43,7 @@ returns-clause-lists g c =
     let so = l.invariant in
     let gives = c.into_iter-matcher-iterator.ensures.into_iter_gives in
     let list = YieldsList-from_vec {s = c.into_iter-matcher-iterator.result} c.args.matchers.items gives.0 (gives.1 ∙ c.args.matchers.ok.0) in
-    let all = (YieldsList-end list l.yielded _ l.yielded_by _ _ c.in-None.is c.next.ensures.steps).0 in (
+    let all = (YieldsList-end list l.yielded l.matcher-iterator l.yielded_by _ c.next.new.self c.in-None.is c.next.ensures.steps).0 in (
       so.0,
       subst (λ (ms : List IncrementalIgnore). AllZip (OfMatcher g.F.Files c.args.world.now.files.now IsWhole) ms so.0)
           (all_yielded c.args.matchers.items l.yielded all) so.1,
@@ -64,8 +64,8 @@ returns-in_err-survey_root-clause-ended g c =
     let o = c.args.options.now in
     let gives = c.into_iter-matcher-iterator.ensures.into_iter_gives in
     let list = YieldsList-from_vec {s = c.into_iter-matcher-iterator.result} all gives.0 (gives.1 ∙ c.args.matchers.ok.0) in
-    let turn = YieldsList-turn list l.yielded _ l.yielded_by _ _ c.in-Some.matcher c.in-Some.is c.next.ensures.steps in
-    let front = YieldsList-so_far list l.yielded _ l.yielded_by in
+    let turn = YieldsList-turn list l.yielded l.matcher-iterator l.yielded_by _ c.next.new.self c.in-Some.matcher c.in-Some.is c.next.ensures.steps in
+    let front = YieldsList-so_far list l.yielded l.matcher-iterator l.yielded_by in
     let p = err_from_is_err_and c.from_residual.result c.from_residual.ensures.1 in
     rw (p.1, p.2) (
       so.0,

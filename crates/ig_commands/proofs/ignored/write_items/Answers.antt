@@ -18,8 +18,8 @@ pub loop-item-init : goal.loop-item-init
 loop-item-init g c = record {
   writes = appends_nothing (g.W.Write.contents c.args.out.now);
   reports = appends_nothing (g.E.Write.contents c.args.err.now);
-  reported = c.begun.ensures.reported;
-  found = c.begun.ensures.found;
+  reported = c.begun-counts.ensures.reported;
+  found = c.begun-counts.ensures.found;
   enough = All-nil (λ (x : Result Surveyed Error). item_of x ≢ Err memory);
 }
 

@@ -3,6 +3,7 @@ use Rattle.std.proofs.lemmas.Result.{IfErr-weaker, IfOk-weaker}
 use Rattle.commands.proofs.LineLemmas.{appends_nothing}
 use Rattle.ignore_base.specs.Problem.{problem_of}
 use Rattle.ig_commands.proofs.AskedLemmas.{no_roots}
+use Rattle.ig_commands.specs.Listing.{RefusesOptions}
 use Rattle.ig_commands.proofs.StopLemmas.{ends_at_once, refused}
 use Rattle.ig_commands.proofs.unused.list_unused.Goals as goal
 
@@ -43,7 +44,7 @@ returns-in-Ok-clause-ended g c =
 pub returns-in-Err-clause-lists : goal.returns-in-Err-clause-lists
 returns-in-Err-clause-lists g c =
     let e = c.in-Err.error in
-    refused c.refuse_or_end.result (problem_of e) _ _ _ c.in-Err.ensures.refused c.refuse_or_end.ensures.enough c.refuse_or_end.ensures.reports
+    refused c.refuse_or_end.result (problem_of e) (RefusesOptions c.args.world.now.env.now c.args.options.now c.args.first) _ _ c.in-Err.ensures.refused c.refuse_or_end.ensures.enough c.refuse_or_end.ensures.reports
     (λ status other is h. inr (problem_of e, other, is, appends_nothing (g.W.Write.contents c.args.out.now), h))
 
 -- or memory ran out, or they can't be reported

@@ -34,7 +34,7 @@ returns-in_default-clause-ended g c = (
     appends_nothing (g.W.Write.contents c.args.out.now),
     subst (Appends (g.E.Write.contents c.args.err.now) (g.E.Write.contents c.report_all.new.err))
         (sym (append-nil (flat_map report_of (map (option_map problem_of) c.args.asked.errors.items))))
-        (reported_as c.deref.result.now c.args.asked.errors.items c.deref.ensures.value c.in_ok-reported.ensures.reports.1),
+        (reported_as c.deref.result.now c.args.asked.errors.items (g.E.Write.contents c.args.err.now) (g.E.Write.contents c.report_all.new.err) c.deref.ensures.value c.in_ok-reported.ensures.reports.1),
   ),
   λ tree honest none. inl (inl refl),
 )
@@ -52,7 +52,7 @@ returns-in_err-more-clause-ended g c =
           (flat_map reports (all_seen all)) (Appends out out)
           (g.E.Write.contents c.args.err.now) (g.E.Write.contents c.report_all.new.err) (g.E.Write.contents c.find_all.new.err)
           c.in_err-more.field-0.0
-          (reported_as c.deref.result.now c.args.asked.errors.items c.deref.ensures.value c.in_ok-reported.ensures.reports.1)
+          (reported_as c.deref.result.now c.args.asked.errors.items (g.E.Write.contents c.args.err.now) (g.E.Write.contents c.report_all.new.err) c.deref.ensures.value c.in_ok-reported.ensures.reports.1)
           (ends_out (flat_map reports (all_seen all)) out _ c.in_err-more.field-0.0 h.8),
       λ tree honest none.
           let made = c.in-Ok.ensures.made tree honest in
@@ -77,12 +77,16 @@ pub returns-in_err-unused-clause-ended : goal.returns-in_err-unused-clause-ended
 returns-in_err-unused-clause-ended g c =
     let h = c.in_ok-more.ensures.found in
     let o = c.args.options.now in
+    let problems = map (option_map problem_of) c.args.asked.errors.items in
     let p = err_from_is_err_and c.from_residual-in_err-unused.result c.from_residual-in_err-unused.ensures.1 in
     rw (p.1, p.2) (
       met h.0,
-      ends_write _ _ _ c.in_err-unused.field-0.0 c.in_err-unused.ensures.ended
-          (appends_on _ _ _ _ _
-          (reported_as c.deref.result.now c.args.asked.errors.items c.deref.ensures.value c.in_ok-reported.ensures.reports.1) h.2),
+      ends_write (flat_map report_of problems ++ flat_map reports (all_seen (met h.0)))
+          (Appends (g.W.Write.contents c.args.out.now) (g.W.Write.contents c.write_without.new.out))
+          (Appends (g.E.Write.contents c.args.err.now) (g.E.Write.contents c.find_all.new.err)) c.in_err-unused.field-0.0 c.in_err-unused.ensures.ended
+          (appends_on (g.E.Write.contents c.args.err.now) (g.E.Write.contents c.report_all.new.err) (g.E.Write.contents c.find_all.new.err)
+          (flat_map report_of problems) (flat_map reports (all_seen (met h.0)))
+          (reported_as c.deref.result.now c.args.asked.errors.items (g.E.Write.contents c.args.err.now) (g.E.Write.contents c.report_all.new.err) c.deref.ensures.value c.in_ok-reported.ensures.reports.1) h.2),
       λ tree honest none.
           let made = c.in-Ok.ensures.made tree honest in
           let roots = roots_of g.F.Files c.args.world.now.files.now (λ (x : OfRoot × List Named). x.0) (λ (x : OfRoot × List Named). Finds x.1)
@@ -113,10 +117,11 @@ returns-clause-lists g c =
       met h.0,
       w.0,
       record {
-        writes = written_as o w.0 _ _ _ _ c.form_of.ensures.base c.form_of.ensures.null w.3;
-        reports = counts_told o.stats (flat_map report_of problems ++ flat_map reports (all_seen (met h.0))) _ _ _ _ _ _ _
-            (appends_on _ _ _ (flat_map report_of problems) (flat_map reports (all_seen (met h.0)))
-            (reported_as c.deref.result.now c.args.asked.errors.items c.deref.ensures.value c.in_ok-reported.ensures.reports.1) h.2)
+        writes = written_as o w.0 _ _ (g.W.Write.contents c.args.out.now) (g.W.Write.contents c.write_without.new.out) c.form_of.ensures.base c.form_of.ensures.null w.3;
+        reports = counts_told o.stats (flat_map report_of problems ++ flat_map reports (all_seen (met h.0))) _ _ _ _ (g.E.Write.contents c.args.err.now)
+            (g.E.Write.contents c.find_all.new.err) (g.E.Write.contents c.report_counts.new.err)
+            (appends_on (g.E.Write.contents c.args.err.now) (g.E.Write.contents c.report_all.new.err) (g.E.Write.contents c.find_all.new.err) (flat_map report_of problems) (flat_map reports (all_seen (met h.0)))
+            (reported_as c.deref.result.now c.args.asked.errors.items (g.E.Write.contents c.args.err.now) (g.E.Write.contents c.report_all.new.err) c.deref.ensures.value c.in_ok-reported.ensures.reports.1) h.2)
             c.in_ok-report_counts.ensures.reports wrong w.2;
         ends = status_as c.status_of.result c.saturating_add.result c.in_ok-unused.unused _ _ c.status_of.ensures wrong w.2;
       },

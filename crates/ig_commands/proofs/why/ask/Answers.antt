@@ -24,10 +24,10 @@ pub returns-in-NotText-clause-said : goal.returns-in-NotText-clause-said
 returns-in-NotText-clause-said g c = λ tree loads honest are agrees.
     let m = c.args.matcher.now in
     let s = scene_of m.asked tree loads in
-    subst (λ (x : Given). IsSaid s (dir_of m.asked) x m.cache m.cache (no_text c.in-NotText.number.now)) (sym c.in-NotText.is) (refl, refl)
+    subst (λ (x : Given). IsSaid s (dir_of m.asked) x m.cache m.cache (no_text c.in-NotText.number)) (sym c.in-NotText.is) (refl, refl)
 
 pub returns-in-BadlyQuoted-clause-said : goal.returns-in-BadlyQuoted-clause-said
 returns-in-BadlyQuoted-clause-said g c = λ tree loads honest are agrees.
     let m = c.args.matcher.now in
     let s = scene_of m.asked tree loads in
-    subst (λ (x : Given). IsSaid s (dir_of m.asked) x m.cache m.cache (ill_quoted c.in-BadlyQuoted.number.now)) (sym c.in-BadlyQuoted.is) (refl, refl)
+    subst (λ (x : Given). IsSaid s (dir_of m.asked) x m.cache m.cache (ill_quoted c.in-BadlyQuoted.number)) (sym c.in-BadlyQuoted.is) (refl, refl)

@@ -23,8 +23,8 @@ loop-given-init g c = record {
     [],
     appends_nothing (g.W.Write.contents c.args.out.now),
     appends_nothing (g.E.Write.contents c.args.err.now),
-    c.begun.ensures.reported,
-    c.begun.ensures.found,
+    c.begun-counts.ensures.reported,
+    c.begun-counts.ensures.found,
     λ tree loads honest are agrees. refl,
   );
   agrees = λ tree loads honest are agrees. agrees;

@@ -13,9 +13,9 @@ use Rattle.ig_commands.proofs.WhyLemmas.{answered}
 use Rattle.ig_commands.proofs.why.ask_path.Goals as goal
 
 -- a path that has no text below the root
-pub returns-in_default-2-clause-said : goal.returns-in_default-2-clause-said
-returns-in_default-2-clause-said g c = λ tree loads honest are agrees.
-    (refl, sym c.in-Ok.ensures.value ∙ ap (option_map string_bytes) c.in_default-2.is, refl)
+pub returns-in_default-below-clause-said : goal.returns-in_default-below-clause-said
+returns-in_default-below-clause-said g c = λ tree loads honest are agrees.
+    (refl, sym c.in-Ok.ensures.value ∙ ap (option_map string_bytes) c.in_default-below.is, refl)
 
 pub returns-in-Ok-explain-clause-said : goal.returns-in-Ok-explain-clause-said
 returns-in-Ok-explain-clause-said g c = λ tree loads honest are agrees.

@@ -12,8 +12,8 @@ use Rattle.ig_commands.proofs.WhyLemmas.{last_mapped}
 use Rattle.ig_commands.proofs.why.matcher_of.Goals as goal
 
 -- the matcher of the root, which was added last
-pub returns-in-Some-clause-asked : goal.returns-in-Some-clause-asked
-returns-in-Some-clause-asked g c = λ tree honest.
+pub returns-clause-asked : goal.returns-clause-asked
+returns-clause-asked g c = λ tree honest.
     let root : List ℕ = string_bytes c.in_ok-root.root in
     let b = c.args.walk in
     let env = c.args.world.now.env.now in
@@ -32,20 +32,20 @@ returns-in-Some-clause-asked g c = λ tree honest.
           (subst (λ (xs : List IncrementalIgnore). map asked_by xs ≡ map by (b.roots ++ root ∷ [])) items ms.2),
     )
 
-pub returns-in-Some-clause-fresh : goal.returns-in-Some-clause-fresh
-returns-in-Some-clause-fresh g c = λ tree loads.
+pub returns-clause-fresh : goal.returns-clause-fresh
+returns-clause-fresh g c = λ tree loads.
     let s = scene_of c.in-Some.matcher.asked tree loads in
     rw c.in-Some.is at (All-pop (λ (m : IncrementalIgnore). Agrees s m.cache) c.in_ok-matchers.matchers.items c.pop.new.self.items c.pop.result
     c.pop.ensures.items (c.in_ok-matchers.ensures.fresh s)).1
 
-pub returns-in-Some-clause-empty : goal.returns-in-Some-clause-empty
-returns-in-Some-clause-empty g c =
+pub returns-clause-empty : goal.returns-clause-empty
+returns-clause-empty g c =
     rw c.in-Some.is at (All-pop (λ (m : IncrementalIgnore). KeepsNothing m.cache) c.in_ok-matchers.matchers.items c.pop.new.self.items c.pop.result
     c.pop.ensures.items c.in_ok-matchers.ensures.empty).1
 
 -- there is at least the one
-pub prove-unreachable-requires : goal.prove-unreachable-requires
-prove-unreachable-requires g c =
+pub unreachable-requires : goal.unreachable-requires
+unreachable-requires g c =
     let root : List ℕ = string_bytes c.in_ok-root.root in
     let b = c.args.walk in
     let made : c.from_options.result.options ≡ with_root b root =

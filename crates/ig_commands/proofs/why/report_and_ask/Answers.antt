@@ -9,7 +9,7 @@ use Rattle.ig_commands.specs.Reports.{report_of}
 use Rattle.ig_commands.specs.Why.{reports, written}
 use Rattle.ig_commands.proofs.ReportLemmas.{reported_as, status_as, wrong_as}
 use Rattle.ig_commands.proofs.StopLemmas.{ends_after_reports}
-use Rattle.ig_commands.proofs.WhyLemmas.{first_of}
+use Rattle.ig_commands.proofs.WhyLemmas.{all_of, first_of}
 use Rattle.ig_commands.proofs.why.report_and_ask.Goals as goal
 
 -- a report that can't be written ends it before it asks
@@ -27,7 +27,7 @@ returns-in_default-clause-ended g c = (
     appends_nothing (g.W.Write.contents c.args.out.now),
     subst (Appends (g.E.Write.contents c.args.err.now) (g.E.Write.contents c.report_all.new.err))
         (sym (append-nil (flat_map report_of (map (option_map problem_of) c.args.asked.errors.items))))
-        (reported_as c.deref.result.now c.args.asked.errors.items c.deref.ensures.value c.in_ok-reported.ensures.reports.1),
+        (reported_as c.deref.result.now c.args.asked.errors.items (g.E.Write.contents c.args.err.now) (g.E.Write.contents c.report_all.new.err) c.deref.ensures.value c.in_ok-reported.ensures.reports.1),
   ),
   λ tree honest. inl refl,
 )
@@ -45,7 +45,7 @@ returns-in_err-counts-clause-ended g c =
           (flat_map report_of (map (option_map problem_of) c.args.asked.errors.items)) (flat_map (reports root) h.0)
           (Appends (g.W.Write.contents c.args.out.now) (g.W.Write.contents c.ask_all.new.out))
           (g.E.Write.contents c.args.err.now) (g.E.Write.contents c.report_all.new.err) (g.E.Write.contents c.ask_all.new.err)
-          c.in_err-counts.field-0.0 (reported_as c.deref.result.now c.args.asked.errors.items c.deref.ensures.value c.in_ok-reported.ensures.reports.1) h.4,
+          c.in_err-counts.field-0.0 (reported_as c.deref.result.now c.args.asked.errors.items (g.E.Write.contents c.args.err.now) (g.E.Write.contents c.report_all.new.err) c.deref.ensures.value c.in_ok-reported.ensures.reports.1) h.4,
       λ tree honest. inr (first_of tree c.args.world.now.env.now c.args.asked.walk m c.args.options.now.paths.items h.1 h.2 h.0 h.3
           (c.in-Ok.ensures.asked tree honest) c.in-Ok.ensures.empty h.5
           (λ loads are. h.6 tree loads honest are (c.in-Ok.ensures.fresh tree loads))),
@@ -62,15 +62,13 @@ returns-clause-answers g c =
       h.0,
       record {
         writes = h.1;
-        reports = appends_on _ _ _ (flat_map report_of problems) _ (reported_as c.deref.result.now c.args.asked.errors.items c.deref.ensures.value c.in_ok-reported.ensures.reports.1) h.2;
+        reports = appends_on (g.E.Write.contents c.args.err.now) (g.E.Write.contents c.report_all.new.err) (g.E.Write.contents c.ask_all.new.err)
+            (flat_map report_of problems) (flat_map (reports (string_bytes m.asked.root)) h.0) (reported_as c.deref.result.now c.args.asked.errors.items (g.E.Write.contents c.args.err.now) (g.E.Write.contents c.report_all.new.err) c.deref.ensures.value c.in_ok-reported.ensures.reports.1) h.2;
         ends = status_as c.status_of.result c.saturating_add.result c.in_ok-counts.counts.found _ _ c.status_of.ensures
             (wrong_as c.deref.result.now c.args.asked.errors.items c.saturating_add.result c.in_ok-counts.counts.reported c.in_ok-reported.reported _
             c.deref.ensures.value c.saturating_add.ensures c.in_ok-reported.ensures.reports.0 h.3) h.4;
       },
-      λ tree honest. (
-        first_of tree c.args.world.now.env.now c.args.asked.walk m all all [] h.0 c.ask_all.new.matcher.cache
-            (c.in-Ok.ensures.asked tree honest) c.in-Ok.ensures.empty (sym (append-nil all))
-            (λ loads are. h.5 tree loads honest are (c.in-Ok.ensures.fresh tree loads)),
-        refl,
-      ),
+      λ tree honest. all_of tree c.args.world.now.env.now c.args.asked.walk m all h.0 c.ask_all.new.matcher.cache
+          (c.in-Ok.ensures.asked tree honest) c.in-Ok.ensures.empty
+          (λ loads are. h.5 tree loads honest are (c.in-Ok.ensures.fresh tree loads)),
     )

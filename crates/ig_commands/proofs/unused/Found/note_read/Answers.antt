@@ -26,6 +26,6 @@ returns-clause-read c =
     let all = c.in_ok-rules.field-0.items in
     let gives = c.into_iter-rule-iterator.ensures.into_iter_gives in
     let list = YieldsList-from_vec {s = c.into_iter-rule-iterator.result} all gives.0 (gives.1 ∙ c.in_ok-rules.field-0.ok.0) in
-    let end = (YieldsList-end list l.yielded _ l.yielded_by _ _ c.in-None.is c.next.ensures.steps).0 in
+    let end = (YieldsList-end list l.yielded l.rule-iterator l.yielded_by _ c.next.new.self c.in-None.is c.next.ensures.steps).0 in
     subst (λ (rs : List Named). Grows (first_at rs) c.args.self.now.read l.self.read)
     (ap (map named_of) (all_yielded all l.yielded end) ∙ c.in_ok-rules.ensures.rules) l.invariant.read
