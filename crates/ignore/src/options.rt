@@ -2,6 +2,7 @@
 ghost use Rattle.std.specs.Prelude.{◌≡◌, IfOk};
 ghost use Rattle.ignore.specs.Builder.{unset};
 
+mod copy;
 mod filters;
 mod limits;
 mod matchers;
