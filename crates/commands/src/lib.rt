@@ -5,6 +5,7 @@
 
 mod by_name;
 mod checking;
+pub mod internal;
 mod listing;
 mod program;
 pub mod run;

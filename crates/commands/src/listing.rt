@@ -111,7 +111,7 @@ fn outside_of<F: Files>(alloc: Global, files: &F, env: &Env) -> Result<Outside, 
 }
 
 /// The roots without the slashes at their ends.
-fn trimmed_roots(alloc: Global, roots: &[String]) -> Result<Vec<Name>, AllocError>
+pub fn trimmed_roots(alloc: Global, roots: &[String]) -> Result<Vec<Name>, AllocError>
     ensures { IfOk result (λ names. AllZip IsTrimmed (map string_bytes roots.now) names.items) }
 {
     let mut names = Vec::new(alloc);

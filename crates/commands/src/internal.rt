@@ -1,0 +1,4 @@
+//! What dependents need beside the surface.
+
+pub use crate::by_name::ByName;
+pub use crate::listing::trimmed_roots;
