@@ -19,10 +19,10 @@ read_of read a = read a.settings a.outside (string_bytes a.root) (dir_of a)
 -- each reader reads the same of a copy
 pub IsSame-reads : {R : Type 0} (read : Reader R) (a b : Asked) → IsSame a b → read_of read b ≡ read_of read a
 IsSame-reads read a b h =
-    ap (λ s. read s b.outside (string_bytes b.root) (dir_of b)) h.0
-    ∙ (ap (λ o. read a.settings o (string_bytes b.root) (dir_of b)) h.1.0
-    ∙ (ap (λ r. read a.settings a.outside r (dir_of b)) h.1.1.0
-    ∙ ap (λ d. read a.settings a.outside (string_bytes a.root) d) h.1.1.1))
+    ap (λ s. read s b.outside (string_bytes b.root) (dir_of b)) h.settings
+    ∙ (ap (λ o. read a.settings o (string_bytes b.root) (dir_of b)) h.outside
+    ∙ (ap (λ r. read a.settings a.outside r (dir_of b)) h.root
+    ∙ ap (λ d. read a.settings a.outside (string_bytes a.root) d) h.dir))
 
 -- the working directory of a copy is the same, and so is the scene over each tree
 pub IsSame-dir : (a b : Asked) → IsSame a b → dir_of b ≡ dir_of a
@@ -35,11 +35,16 @@ IsSame-scene a b tree loads h = IsSame-reads (λ s o r d. scene tree loads s o r
 pub IsSame-each : {F : Type 0} (files : Files F) (f : F) (a b : Asked) (P : QueryScene → Type 0) → IsSame a b → InEachScene files f a P
     → InEachScene files f b P
 IsSame-each files f a b P h all tree loads honest are =
-    subst P (sym (IsSame-scene a b tree loads h)) (all tree loads honest (subst (λ s. AreLoads tree s loads) h.0 are))
+    subst P (sym (IsSame-scene a b tree loads h)) (all tree loads honest (subst (λ s. AreLoads tree s loads) h.settings are))
 
 -- each is a copy of itself, and a copy of a copy is one of the first
 pub IsSame-itself : (a : Asked) → IsSame a a
-IsSame-itself a = (refl, (refl, (refl, refl)))
+IsSame-itself a = record { settings = refl; outside = refl; root = refl; dir = refl }
 
 pub IsSame-then : (a b c : Asked) → IsSame a b → IsSame b c → IsSame a c
-IsSame-then a b c h k = (k.0 ∙ h.0, (k.1.0 ∙ h.1.0, (k.1.1.0 ∙ h.1.1.0, k.1.1.1 ∙ h.1.1.1)))
+IsSame-then a b c h k = record {
+  settings = k.settings ∙ h.settings;
+  outside = k.outside ∙ h.outside;
+  root = k.root ∙ h.root;
+  dir = k.dir ∙ h.dir;
+}

@@ -5,6 +5,7 @@ pub mod InTurn
 pub mod KeptLoads
 pub mod KeptRules
 pub mod Keys
+pub mod Left
 pub mod Listed
 pub mod Needs
 pub mod Plain

@@ -23,7 +23,8 @@ dir_of a = option_map string_bytes a.current_dir
 
 -- these ask about the same: they have the same settings, rules from outside, root and working
 -- directory
-abbrev pub IsSame : Asked → Asked → Type 0
-IsSame a b =
-    (b.settings ≡ a.settings)
-    × ((b.outside ≡ a.outside) × ((string_bytes b.root ≡ string_bytes a.root) × (dir_of b ≡ dir_of a)))
+pub record IsSame (a b : Asked) : Type 0 where
+  pub settings : b.settings ≡ a.settings
+  pub outside : b.outside ≡ a.outside
+  pub root : string_bytes b.root ≡ string_bytes a.root
+  pub dir : dir_of b ≡ dir_of a

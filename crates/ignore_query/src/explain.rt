@@ -11,6 +11,7 @@ ghost use Rattle.ignore_dir.specs.Query as queries;
 ghost use Rattle.ignore_dir.specs.Soft.{IsSoft};
 ghost use Rattle.ignore_query.specs.Agrees.{Agrees};
 ghost use Rattle.ignore_query.specs.KeptLoads.{KeepsLoads};
+ghost use Rattle.ignore_query.specs.Left.{LeavesMatcher};
 ghost use Rattle.ignore_query.specs.Needs.{KeepsNeeded, Stays, is_decided, needed};
 ghost use Rattle.ignore_query.specs.Reached.{scene_of};
 ghost use Rattle.ignore_query.specs.Reports.{reported, reported_by_rules};
@@ -79,14 +80,10 @@ impl IncrementalIgnore {
         ensures why { WhereAgrees F.Files files.now self.old (λ g. IfOk result (λ r. query_why_of r.0.reason ≡ query_why g path.now is_dir)) }
         ensures value { WhereAgrees F.Files files.now self.old (λ g. IfOk result (λ r. r.0.answer ≡ (queries.query g path.now is_dir).0)) }
         ensures reports { WhereAgrees F.Files files.now self.old (λ g. IfOk result (λ r. option_map problem_of r.1 ≡ reported g self.old.cache path.now is_dir)) }
-        ensures stays { Stays self.old.cache self.new.cache }
-        ensures loaded { KeepsLoads F.Files files.now self.old.asked self.old.cache self.new.cache }
+        ensures leaves { LeavesMatcher F.Files files.now (path.now, is_dir) self.old self.new }
         ensures kept { WhereAgrees F.Files files.now self.old (λ g. is_decided g path.now is_dir ≡ true
             → OnOk result (KeepsNeeded (needed g (queries.names_of path.now)) self.old.cache self.new.cache)) }
-        ensures unchanged { WhereAgrees F.Files files.now self.old (λ g. is_decided g path.now is_dir ≢ true → self.new.cache ≡ self.old.cache) }
-        ensures agrees { WhereAgrees F.Files files.now self.old (λ g. Agrees g self.new.cache) }
         ensures soft { IfOk result (λ r. IsSoft (option_map problem_of r.1)) }
-        ensures same { self.new.asked ≡ self.old.asked }
         ensures out_of_memory { IfErr result (λ e. problem_of e ≡ memory) }
     {
         let (reason, error) = self.reason(files, path, is_dir)?;

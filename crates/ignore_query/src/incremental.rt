@@ -14,6 +14,7 @@ ghost use Rattle.ignore_dir.specs.Soft.{IsSoft};
 ghost use Rattle.ignore_query.specs.Agrees.{Agrees};
 ghost use Rattle.ignore_query.specs.Fresh.{KeepsNothing};
 ghost use Rattle.ignore_query.specs.KeptLoads.{KeepsLoads};
+ghost use Rattle.ignore_query.specs.Left.{LeavesMatcher};
 ghost use Rattle.ignore_query.specs.Needs.{KeepsNeeded, Stays, is_decided, is_known, needed};
 ghost use Rattle.ignore_query.specs.Reached.{dir_of, scene_of};
 ghost use Rattle.ignore_query.specs.Reports.{reported, reported_by_rules};
@@ -122,17 +123,13 @@ impl IncrementalIgnore {
         is_dir: bool,
     ) -> Result<IncrementalMatch, Error>
         ensures value { WhereAgrees F.Files files.now self.old (λ g. IfOk result (λ m. m ≡ (queries.query g path.now is_dir).0)) }
-        ensures stays { Stays self.old.cache self.new.cache }
-        ensures loaded { KeepsLoads F.Files files.now self.old.asked self.old.cache self.new.cache }
+        ensures leaves { LeavesMatcher F.Files files.now (path.now, is_dir) self.old self.new }
         ensures kept { WhereAgrees F.Files files.now self.old (λ g. is_decided g path.now is_dir ≡ true
             → OnOk result (KeepsNeeded (needed g (queries.names_of path.now)) self.old.cache self.new.cache)) }
-        ensures unchanged { WhereAgrees F.Files files.now self.old (λ g. is_decided g path.now is_dir ≢ true → self.new.cache ≡ self.old.cache) }
         ensures from_kept { (tree : Tree) (loads : List ℕ → Loaded) → let g = scene_of self.old.asked tree loads in
             Agrees g self.old.cache → is_known g self.old.cache (queries.names_of path.now) ≡ true
             → queries.limit_of g path.now is_dir ≡ None → (self.new.cache ≡ self.old.cache)
             × IfOk result (λ m. m ≡ (queries.query g path.now is_dir).0) }
-        ensures agrees { WhereAgrees F.Files files.now self.old (λ g. Agrees g self.new.cache) }
-        ensures same { self.new.asked ≡ self.old.asked }
         ensures out_of_memory { IfErr result (λ e. problem_of e ≡ memory) }
     {
         let (answer, _) = self.matched_with_errors(files, path, is_dir)?;
@@ -143,13 +140,35 @@ impl IncrementalIgnore {
     ///
     /// # Errors
     /// `Error::Memory` alone. What was kept stays kept.
-    #[tactic(auto, using(crate::proofs::KeptLoadLemmas::loads_nothing), unfolding(ignore_dir::specs::Query::query, crate::specs::Reports::reported))]
     pub fn matched_with_errors<F: Files>(
         &mut self,
         files: &F,
         path: &str,
         is_dir: bool,
     ) -> Result<(IncrementalMatch, Option<Error>), Error>
+        ensures value { WhereAgrees F.Files files.now self.old (λ g. IfOk result (λ r. r.0 ≡ (queries.query g path.now is_dir).0)) }
+        ensures reports { WhereAgrees F.Files files.now self.old (λ g. IfOk result (λ r. option_map problem_of r.1 ≡ reported g self.old.cache path.now is_dir)) }
+        ensures leaves { LeavesMatcher F.Files files.now (path.now, is_dir) self.old self.new }
+        ensures kept { WhereAgrees F.Files files.now self.old (λ g. is_decided g path.now is_dir ≡ true
+            → OnOk result (KeepsNeeded (needed g (queries.names_of path.now)) self.old.cache self.new.cache)) }
+        ensures from_kept { (tree : Tree) (loads : List ℕ → Loaded) → let g = scene_of self.old.asked tree loads in
+            Agrees g self.old.cache → is_known g self.old.cache (queries.names_of path.now) ≡ true
+            → queries.limit_of g path.now is_dir ≡ None → (self.new.cache ≡ self.old.cache)
+            × IfOk result (λ r. (r.0 ≡ (queries.query g path.now is_dir).0) × (r.1 ≡ None)) }
+        ensures soft { IfOk result (λ r. IsSoft (option_map problem_of r.1)) }
+        ensures out_of_memory { IfErr result (λ e. problem_of e ≡ memory) }
+    {
+        Ok(self.answer(files, path, is_dir)?)
+    }
+
+    /// The answer, with what is wrong with what this call read.
+    #[tactic(auto, using(crate::proofs::KeptLoadLemmas::loads_nothing), unfolding(ignore_dir::specs::Query::query, crate::specs::Reports::reported))]
+    fn answer<F: Files>(
+        &mut self,
+        files: &F,
+        path: &str,
+        is_dir: bool,
+    ) -> Result<(IncrementalMatch, Option<Error>), AllocError>
         ensures value { WhereAgrees F.Files files.now self.old (λ g. IfOk result (λ r. r.0 ≡ (queries.query g path.now is_dir).0)) }
         ensures reports { WhereAgrees F.Files files.now self.old (λ g. IfOk result (λ r. option_map problem_of r.1 ≡ reported g self.old.cache path.now is_dir)) }
         ensures stays { Stays self.old.cache self.new.cache }
@@ -164,7 +183,6 @@ impl IncrementalIgnore {
         ensures agrees { WhereAgrees F.Files files.now self.old (λ g. Agrees g self.new.cache) }
         ensures soft { IfOk result (λ r. IsSoft (option_map problem_of r.1)) }
         ensures same { self.new.asked ≡ self.old.asked }
-        ensures out_of_memory { IfErr result (λ e. problem_of e ≡ memory) }
     {
         if !is_asked(self.root(), path) {
             return Ok((IncrementalMatch::no_match(is_dir), None));

@@ -22,32 +22,32 @@ pub returns-in_err-answer-clause-agrees : goal.returns-in_err-answer-clause-agre
 returns-in_err-answer-clause-agrees g c = λ tree loads honest are agrees.
     let P : Asked → Type 0 = λ a. AreLoads tree a.settings loads → Agrees (scene_of a tree loads) c.loop-path.matcher.cache
     → Agrees (scene_of a tree loads) c.matched_with_errors.new.self.cache in
-    subst P c.loop-path.invariant.same (λ l h. c.matched_with_errors.ensures.agrees tree loads honest l h) are
+    subst P c.loop-path.invariant.same (λ l h. c.matched_with_errors.ensures.leaves.agrees tree loads honest l h) are
     (c.loop-path.invariant.asked tree loads honest are agrees).agrees
 
 pub returns-in_err-answer-clause-stays : goal.returns-in_err-answer-clause-stays
 returns-in_err-answer-clause-stays g c =
-    stays_then _ _ _ c.loop-path.invariant.stays c.matched_with_errors.ensures.stays
+    stays_then _ _ _ c.loop-path.invariant.stays c.matched_with_errors.ensures.leaves.stays
 
 pub returns-in_err-push-clause-agrees : goal.returns-in_err-push-clause-agrees
 returns-in_err-push-clause-agrees g c = λ tree loads honest are agrees.
     let P : Asked → Type 0 = λ a. AreLoads tree a.settings loads → Agrees (scene_of a tree loads) c.loop-path.matcher.cache
     → Agrees (scene_of a tree loads) c.matched_with_errors.new.self.cache in
-    subst P c.loop-path.invariant.same (λ l h. c.matched_with_errors.ensures.agrees tree loads honest l h) are
+    subst P c.loop-path.invariant.same (λ l h. c.matched_with_errors.ensures.leaves.agrees tree loads honest l h) are
     (c.loop-path.invariant.asked tree loads honest are agrees).agrees
 
 pub returns-in_err-push-clause-stays : goal.returns-in_err-push-clause-stays
 returns-in_err-push-clause-stays g c =
-    stays_then _ _ _ c.loop-path.invariant.stays c.matched_with_errors.ensures.stays
+    stays_then _ _ _ c.loop-path.invariant.stays c.matched_with_errors.ensures.leaves.stays
 
 pub loop-path-preserved : goal.loop-path-preserved
 loop-path-preserved g c = record {
-  same = c.matched_with_errors.ensures.same ∙ c.loop-path.invariant.same;
-  stays = stays_then _ _ _ c.loop-path.invariant.stays c.matched_with_errors.ensures.stays;
+  same = c.matched_with_errors.ensures.leaves.same ∙ c.loop-path.invariant.same;
+  stays = stays_then _ _ _ c.loop-path.invariant.stays c.matched_with_errors.ensures.leaves.stays;
   loaded = loads_then g.F.Files c.args.files.now c.args.matcher.now.asked _ _ _ c.loop-path.invariant.loaded
-      c.matched_with_errors.ensures.stays
+      c.matched_with_errors.ensures.leaves.stays
       (subst (λ a. KeepsLoads g.F.Files c.args.files.now a c.loop-path.matcher.cache c.matched_with_errors.new.self.cache) c.loop-path.invariant.same
-      c.matched_with_errors.ensures.loaded);
+      c.matched_with_errors.ensures.leaves.loaded);
   soft =
       let P : Answer → Type 0 = λ r. IsSoft (option_map problem_of r.1) in
       subst (All P) (sym c.in_ok-push.ensures.items)
@@ -71,9 +71,9 @@ loop-path-preserved g c = record {
       let Agreeing : Asked → Type 0 = λ a. AreLoads tree a.settings loads → Agrees (scene_of a tree loads) old
       → Agrees (scene_of a tree loads) new in
       let leaves : Leaves s q old new = record {
-        stays = c.matched_with_errors.ensures.stays;
+        stays = c.matched_with_errors.ensures.leaves.stays;
         kept = subst Kept same (λ l h. c.in_ok-answer.ensures.kept tree loads honest l h) are before.agrees;
-        unchanged = subst Unchanged same (λ l h. c.matched_with_errors.ensures.unchanged tree loads honest l h) are before.agrees;
+        unchanged = subst Unchanged same (λ l h. c.matched_with_errors.ensures.leaves.unchanged tree loads honest l h) are before.agrees;
       } in
       asked_so s _ _ _ _ c.args.matcher.now.cache new
       (map_more (λ p. (string_bytes p.0, p.1)) c.args.paths.now c.loop-path.path-index c.path-item.result c.loop-path-test.true
@@ -84,7 +84,7 @@ loop-path-preserved g c = record {
       (subst Value same (λ l h. c.in_ok-answer.ensures.value tree loads honest l h) are before.agrees)
       (subst Problem same (λ l h. c.in_ok-answer.ensures.reports tree loads honest l h) are before.agrees)
       leaves
-      (subst Agreeing same (λ l h. c.matched_with_errors.ensures.agrees tree loads honest l h) are before.agrees));
+      (subst Agreeing same (λ l h. c.matched_with_errors.ensures.leaves.agrees tree loads honest l h) are before.agrees));
 }
 
 pub returns-clause-value : goal.returns-clause-value
@@ -97,13 +97,13 @@ returns-clause-value g c = λ tree loads honest are agrees.
 pub returns-in_err-answer-clause-loaded : goal.returns-in_err-answer-clause-loaded
 returns-in_err-answer-clause-loaded g c =
     loads_then g.F.Files c.args.files.now c.args.matcher.now.asked _ _ _ c.loop-path.invariant.loaded
-    c.matched_with_errors.ensures.stays
+    c.matched_with_errors.ensures.leaves.stays
     (subst (λ a. KeepsLoads g.F.Files c.args.files.now a c.loop-path.matcher.cache c.matched_with_errors.new.self.cache) c.loop-path.invariant.same
-    c.matched_with_errors.ensures.loaded)
+    c.matched_with_errors.ensures.leaves.loaded)
 
 pub returns-in_err-push-clause-loaded : goal.returns-in_err-push-clause-loaded
 returns-in_err-push-clause-loaded g c =
     loads_then g.F.Files c.args.files.now c.args.matcher.now.asked _ _ _ c.loop-path.invariant.loaded
-    c.matched_with_errors.ensures.stays
+    c.matched_with_errors.ensures.leaves.stays
     (subst (λ a. KeepsLoads g.F.Files c.args.files.now a c.loop-path.matcher.cache c.matched_with_errors.new.self.cache) c.loop-path.invariant.same
-    c.matched_with_errors.ensures.loaded)
+    c.matched_with_errors.ensures.leaves.loaded)

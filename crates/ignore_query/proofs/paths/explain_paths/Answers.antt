@@ -22,32 +22,32 @@ pub returns-in_err-explained-clause-agrees : goal.returns-in_err-explained-claus
 returns-in_err-explained-clause-agrees g c = λ tree loads honest are agrees.
     let P : Asked → Type 0 = λ a. AreLoads tree a.settings loads → Agrees (scene_of a tree loads) c.loop-question.matcher.cache
     → Agrees (scene_of a tree loads) c.explain.new.self.cache in
-    subst P c.loop-question.invariant.same (λ l h. c.explain.ensures.agrees tree loads honest l h) are
+    subst P c.loop-question.invariant.same (λ l h. c.explain.ensures.leaves.agrees tree loads honest l h) are
     (c.loop-question.invariant.asked tree loads honest are agrees).agrees
 
 pub returns-in_err-explained-clause-stays : goal.returns-in_err-explained-clause-stays
 returns-in_err-explained-clause-stays g c =
-    stays_then _ _ _ c.loop-question.invariant.stays c.explain.ensures.stays
+    stays_then _ _ _ c.loop-question.invariant.stays c.explain.ensures.leaves.stays
 
 pub returns-in_err-push-clause-agrees : goal.returns-in_err-push-clause-agrees
 returns-in_err-push-clause-agrees g c = λ tree loads honest are agrees.
     let P : Asked → Type 0 = λ a. AreLoads tree a.settings loads → Agrees (scene_of a tree loads) c.loop-question.matcher.cache
     → Agrees (scene_of a tree loads) c.explain.new.self.cache in
-    subst P c.loop-question.invariant.same (λ l h. c.explain.ensures.agrees tree loads honest l h) are
+    subst P c.loop-question.invariant.same (λ l h. c.explain.ensures.leaves.agrees tree loads honest l h) are
     (c.loop-question.invariant.asked tree loads honest are agrees).agrees
 
 pub returns-in_err-push-clause-stays : goal.returns-in_err-push-clause-stays
 returns-in_err-push-clause-stays g c =
-    stays_then _ _ _ c.loop-question.invariant.stays c.explain.ensures.stays
+    stays_then _ _ _ c.loop-question.invariant.stays c.explain.ensures.leaves.stays
 
 pub loop-question-preserved : goal.loop-question-preserved
 loop-question-preserved g c = record {
-  same = c.explain.ensures.same ∙ c.loop-question.invariant.same;
-  stays = stays_then _ _ _ c.loop-question.invariant.stays c.explain.ensures.stays;
+  same = c.explain.ensures.leaves.same ∙ c.loop-question.invariant.same;
+  stays = stays_then _ _ _ c.loop-question.invariant.stays c.explain.ensures.leaves.stays;
   loaded = loads_then g.F.Files c.args.files.now c.args.matcher.now.asked _ _ _ c.loop-question.invariant.loaded
-      c.explain.ensures.stays
+      c.explain.ensures.leaves.stays
       (subst (λ a. KeepsLoads g.F.Files c.args.files.now a c.loop-question.matcher.cache c.explain.new.self.cache) c.loop-question.invariant.same
-      c.explain.ensures.loaded);
+      c.explain.ensures.leaves.loaded);
   soft =
       let P : Explained → Type 0 = λ r. IsSoft (option_map problem_of r.1) in
       subst (All P) (sym c.in_ok-push.ensures.items)
@@ -73,16 +73,16 @@ loop-question-preserved g c = record {
       let Agreeing : Asked → Type 0 = λ a. AreLoads tree a.settings loads → Agrees (scene_of a tree loads) old
       → Agrees (scene_of a tree loads) new in
       let leaves : Leaves s q old new = record {
-        stays = c.explain.ensures.stays;
+        stays = c.explain.ensures.leaves.stays;
         kept = subst Kept same (λ l h. c.in_ok-explained.ensures.kept tree loads honest l h) are before.agrees;
-        unchanged = subst Unchanged same (λ l h. c.explain.ensures.unchanged tree loads honest l h) are before.agrees;
+        unchanged = subst Unchanged same (λ l h. c.explain.ensures.leaves.unchanged tree loads honest l h) are before.agrees;
       } in
       let is : IsExplained s q r old new = record {
         why = subst Why same (λ l h. c.in_ok-explained.ensures.why tree loads honest l h) are before.agrees;
         value = subst Value same (λ l h. c.in_ok-explained.ensures.value tree loads honest l h) are before.agrees;
         problem = subst Problem same (λ l h. c.in_ok-explained.ensures.reports tree loads honest l h) are before.agrees;
         leaves = leaves;
-        agrees = subst Agreeing same (λ l h. c.explain.ensures.agrees tree loads honest l h) are before.agrees;
+        agrees = subst Agreeing same (λ l h. c.explain.ensures.leaves.agrees tree loads honest l h) are before.agrees;
       } in
       explained_so s _ _ _ _ c.args.matcher.now.cache new
       (map_more (λ p. (string_bytes p.0, p.1)) c.args.paths.now c.loop-question.question-index c.question-item.result c.loop-question-test.true
@@ -109,13 +109,13 @@ returns-clause-why g c = λ tree loads honest are agrees.
 pub returns-in_err-explained-clause-loaded : goal.returns-in_err-explained-clause-loaded
 returns-in_err-explained-clause-loaded g c =
     loads_then g.F.Files c.args.files.now c.args.matcher.now.asked _ _ _ c.loop-question.invariant.loaded
-    c.explain.ensures.stays
+    c.explain.ensures.leaves.stays
     (subst (λ a. KeepsLoads g.F.Files c.args.files.now a c.loop-question.matcher.cache c.explain.new.self.cache) c.loop-question.invariant.same
-    c.explain.ensures.loaded)
+    c.explain.ensures.leaves.loaded)
 
 pub returns-in_err-push-clause-loaded : goal.returns-in_err-push-clause-loaded
 returns-in_err-push-clause-loaded g c =
     loads_then g.F.Files c.args.files.now c.args.matcher.now.asked _ _ _ c.loop-question.invariant.loaded
-    c.explain.ensures.stays
+    c.explain.ensures.leaves.stays
     (subst (λ a. KeepsLoads g.F.Files c.args.files.now a c.loop-question.matcher.cache c.explain.new.self.cache) c.loop-question.invariant.same
-    c.explain.ensures.loaded)
+    c.explain.ensures.leaves.loaded)

@@ -9,27 +9,27 @@ use Rattle.ignore_survey.proofs.survey.is_open.Goals as goal
 pub returns-in_err-answer-clause-suits : goal.returns-in_err-answer-clause-suits
 returns-in_err-answer-clause-suits g c = λ s suits.
     let m = c.args.matcher.now in
-    suits_still g.F.Files c.args.files.now m s c.matched.new.self suits c.matched.ensures.same
-    (where_suits g.F.Files c.args.files.now m s (λ x. Agrees x c.matched.new.self.cache) suits c.matched.ensures.agrees)
+    suits_still g.F.Files c.args.files.now m s c.matched.new.self suits c.matched.ensures.leaves.same
+    (where_suits g.F.Files c.args.files.now m s (λ x. Agrees x c.matched.new.self.cache) suits c.matched.ensures.leaves.agrees)
 
 pub returns-clause-suits : goal.returns-clause-suits
 returns-clause-suits g c = λ s suits.
     let m = c.args.matcher.now in
-    suits_still g.F.Files c.args.files.now m s c.matched.new.self suits c.matched.ensures.same
-    (where_suits g.F.Files c.args.files.now m s (λ x. Agrees x c.matched.new.self.cache) suits c.matched.ensures.agrees)
+    suits_still g.F.Files c.args.files.now m s c.matched.new.self suits c.matched.ensures.leaves.same
+    (where_suits g.F.Files c.args.files.now m s (λ x. Agrees x c.matched.new.self.cache) suits c.matched.ensures.leaves.agrees)
 
 -- the query for the root reads nothing
 pub returns-in_err-answer-clause-kept : goal.returns-in_err-answer-clause-kept
 returns-in_err-answer-clause-kept g c = λ s suits.
     let m = c.args.matcher.now in
     where_suits g.F.Files c.args.files.now m s (λ x. is_decided x [] true ≢ true → c.matched.new.self.cache ≡ m.cache) suits
-    c.matched.ensures.unchanged (root_undecided s)
+    c.matched.ensures.leaves.unchanged (root_undecided s)
 
 pub returns-clause-kept : goal.returns-clause-kept
 returns-clause-kept g c = λ s suits.
     let m = c.args.matcher.now in
     where_suits g.F.Files c.args.files.now m s (λ x. is_decided x [] true ≢ true → c.matched.new.self.cache ≡ m.cache) suits
-    c.matched.ensures.unchanged (root_undecided s)
+    c.matched.ensures.leaves.unchanged (root_undecided s)
 
 pub returns-then-eq-clause-value : goal.returns-then-eq-clause-value
 returns-then-eq-clause-value g c = λ s suits.

@@ -13,14 +13,14 @@ use Rattle.ignore_survey.proofs.surveyed.explained.Goals as goal
 pub returns-in_err-explanation-clause-suits : goal.returns-in_err-explanation-clause-suits
 returns-in_err-explanation-clause-suits g c = λ s suits.
     let m = c.args.matcher.now in
-    suits_still g.F.Files c.args.files.now m s c.explain.new.self suits c.explain.ensures.same
-    (where_suits g.F.Files c.args.files.now m s (λ x. Agrees x c.explain.new.self.cache) suits c.explain.ensures.agrees)
+    suits_still g.F.Files c.args.files.now m s c.explain.new.self suits c.explain.ensures.leaves.same
+    (where_suits g.F.Files c.args.files.now m s (λ x. Agrees x c.explain.new.self.cache) suits c.explain.ensures.leaves.agrees)
 
 pub returns-clause-suits : goal.returns-clause-suits
 returns-clause-suits g c = λ s suits.
     let m = c.args.matcher.now in
-    suits_still g.F.Files c.args.files.now m s c.explain.new.self suits c.explain.ensures.same
-    (where_suits g.F.Files c.args.files.now m s (λ x. Agrees x c.explain.new.self.cache) suits c.explain.ensures.agrees)
+    suits_still g.F.Files c.args.files.now m s c.explain.new.self suits c.explain.ensures.leaves.same
+    (where_suits g.F.Files c.args.files.now m s (λ x. Agrees x c.explain.new.self.cache) suits c.explain.ensures.leaves.agrees)
 
 pub returns-clause-entry : goal.returns-clause-entry
 returns-clause-entry g c = λ s suits.
@@ -50,11 +50,11 @@ returns-clause-leaves g c = λ s suits.
     let d = c.is_dir.result in
     let n = c.explain.new.self in
     let leaves : Leaves s (p, d) m.cache n.cache = record {
-      stays = c.explain.ensures.stays;
+      stays = c.explain.ensures.leaves.stays;
       kept = where_suits g.F.Files c.args.files.now m s (λ x. is_decided x p d ≡ true → KeepsNeeded (needed x (names_of p)) m.cache n.cache)
           suits c.in_ok-explanation.ensures.kept;
       unchanged = where_suits g.F.Files c.args.files.now m s (λ x. is_decided x p d ≢ true → n.cache ≡ m.cache)
-          suits c.explain.ensures.unchanged;
+          suits c.explain.ensures.leaves.unchanged;
     } in
     subst (λ (b : Bool). Leaves s (string_bytes c.args.path, b) m.cache n.cache) c.is_dir.ensures
     (subst (λ (x : Path). Leaves s (x, d) m.cache n.cache) c.as_str.ensures.value leaves)

@@ -22,13 +22,13 @@ returns-clause-agrees g c = λ before after loads later honest are agreed change
     (λ names clean. c.forget.ensures.forgotten names clean changed.asked) in
     let P : Asked → Type 0 = λ a. AreLoads after a.settings later → Agrees (scene_of a after later) kept
     → Agrees (scene_of a after later) c.matched_with_errors.new.self.cache in
-    subst P c.forget.ensures.same (λ l h. c.matched_with_errors.ensures.agrees after later honest l h) are
+    subst P c.forget.ensures.same (λ l h. c.matched_with_errors.ensures.leaves.agrees after later honest l h) are
     (c.forget.ensures.agrees before after loads later agreed same)
 
 pub returns-clause-stays : goal.returns-clause-stays
 returns-clause-stays g c = λ names k clean out kept.
     let old = c.args.matcher.now in
     let dir = c.args.dir.now in
-    c.matched_with_errors.ensures.stays.dirs names k
+    c.matched_with_errors.ensures.leaves.stays.dirs names k
     (stays_outside (is_asked (string_bytes old.asked.root) dir) old.cache c.forget.new.self.cache (names_of dir) names k
     (λ asked. c.forget.ensures.forgotten names clean asked) c.forget.ensures.unchanged out kept)

@@ -18,3 +18,21 @@ returns-clause-value g c = λ tree loads honest are agrees.
     ∙ (ap (λ (a : Asked). answer_of a.settings (depth_of_path path) is_dir why) c.reason.ensures.same
     ∙ (ap (answer_of scene.settings (depth_of_path path) is_dir) (c.in_ok-reason.ensures.why tree loads honest are agrees)
     ∙ sym (answers-by_reason scene path is_dir))))
+
+pub returns-in_err-reason-clause-leaves : goal.returns-in_err-reason-clause-leaves
+returns-in_err-reason-clause-leaves g c = record {
+  same = c.reason.ensures.same;
+  stays = c.reason.ensures.stays;
+  loaded = c.reason.ensures.loaded;
+  agrees = c.reason.ensures.agrees;
+  unchanged = c.reason.ensures.unchanged;
+}
+
+pub returns-clause-leaves : goal.returns-clause-leaves
+returns-clause-leaves g c = record {
+  same = c.reason.ensures.same;
+  stays = c.reason.ensures.stays;
+  loaded = c.reason.ensures.loaded;
+  agrees = c.reason.ensures.agrees;
+  unchanged = c.reason.ensures.unchanged;
+}
