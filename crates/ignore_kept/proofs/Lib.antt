@@ -1,4 +1,5 @@
 pub mod Adding
+pub mod Others
 pub mod Telling
 pub mod Asking
 pub mod Listing

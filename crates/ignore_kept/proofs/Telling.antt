@@ -1,20 +1,38 @@
 -- A change of a tree is one of what the handle keeps.
-use Rattle.std.proofs.Common.{◌≡◌, Result, Ok, Err, inl, inr, refl, sym, ap, subst, ◌∙◌}
+use Rattle.std.proofs.Common.{◌≡◌, ◌⊎◌, Result, Ok, Err, inl, inr, refl, sym, ap, subst, ◌∙◌}
 use Rattle.std.specs.Str.{IsUtf8}
 use Rattle.ignore_base.specs.Text.{Bytes, Path}
-use Rattle.ignore_files.specs.Changes.{Leaves, LeavesIfRoom, link_added}
+use Rattle.ignore_files.specs.Changes.{Leaves, LeavesIfRoom, MakesIfRoom, link_added, made}
 use Rattle.ignore_files.specs.Memory.{Memory}
 use Rattle.ignore_files.specs.declared.tree_error.TreeError.{TreeError}
+use Rattle.ignore_files.specs.declared.tree_error.TreeError.TheVariants.{Memory as NoMemory}
 use Rattle.ignore_kept.specs.Kinds.{setup_in, tree_in}
 use Rattle.ignore_kept.specs.Setups as setup
 use Rattle.ignore_kept.specs.Setups.{Sets, SetsText, with_text}
-use Rattle.ignore_kept.specs.Trees.{Applies, AppliesAs, Changes, keeping, told_of}
+use Rattle.ignore_kept.specs.Trees.{Applies, AppliesAs, Begins, Changes, keeping, told_of}
 use Rattle.ignore_kept.specs.declared.change.Change.{Change}
 use Rattle.ignore_kept.specs.declared.kept.Kept.{Kept}
 use Rattle.ignore_kept.specs.declared.setup.Setup.{Setup}
 use Rattle.ignore_kept.specs.declared.setup.Text.{Text}
 use Rattle.ignore_kept.specs.declared.stopped.Stopped.{Stopped}
 use Rattle.ignore_kept.specs.declared.stopped.Stopped.TheVariants.{NotUtf8, Memory as Full, Limit, Invalid, Misused, Tree}
+
+begins_as : (due : Result Memory TreeError) (tree : Memory) → MakesIfRoom due (Ok tree) → due ≡ Ok tree
+begins_as (Ok made) tree h = ap Ok (sym h)
+begins_as (Err refused) tree h = absurd h
+
+-- a tree that is made at a text that is the working directory is what the handle keeps
+pub begins : (cwd text : Bytes) (tree : Memory) → text ≡ cwd → MakesIfRoom (made text) (Ok tree) → Begins cwd (Ok (keeping tree))
+begins cwd text tree is h =
+    (tree, subst (λ (t : Bytes). made t ≡ Ok tree) is (begins_as (made text) tree h), refl)
+
+refuses_as : (due : Result Memory TreeError) (e : TreeError) → MakesIfRoom due (Err e) → (e ≡ NoMemory) ⊎ (due ≡ Err e)
+refuses_as (Ok made) e h = inl h
+refuses_as (Err refused) e h = inr (ap Err (sym h))
+
+pub begins_none : (cwd text : Bytes) (e : TreeError) → text ≡ cwd → MakesIfRoom (made text) (Err e) → Begins cwd (Err (Tree e))
+begins_none cwd text e is h =
+    subst (λ (t : Bytes). (e ≡ NoMemory) ⊎ (made t ≡ Err e)) is (refuses_as (made text) e h)
 
 leaves_room : (due : Result Memory TreeError) (text : Bytes) (r : Result (Unit {0}) TreeError) (old new : Memory)
     → LeavesIfRoom due r old new → AppliesAs due text old (told_of r) new

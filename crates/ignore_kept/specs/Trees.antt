@@ -26,20 +26,16 @@ abbrev pub told_of : {A : Type 0} → Result A TreeError → Result A Stopped
 told_of (Ok done) = Ok done
 told_of (Err error) = Err (Tree error)
 
--- a tree begins as this one, or is out of memory, or is refused; a text that isn't UTF-8 is told
-abbrev pub BeginsAs : Result Memory TreeError → Bytes → Result Kept Stopped → Type 0
-BeginsAs (Ok tree) cwd (Ok kept) = kept ≡ keeping tree
-BeginsAs (Err error) cwd (Ok kept) = ⊥
-BeginsAs begun cwd (Err (Tree error)) = (error ≡ NoMemory) ⊎ (begun ≡ Err error)
-BeginsAs begun cwd (Err NotUtf8) = ¬ (IsUtf8 cwd)
-BeginsAs begun cwd (Err Full) = Unit {0}
-BeginsAs begun cwd (Err Limit) = ⊥
-BeginsAs begun cwd (Err Invalid) = ⊥
-BeginsAs begun cwd (Err Misused) = ⊥
-
--- beginning a tree gives what a handle keeps, or says why it doesn't
+-- beginning a tree gives what a handle keeps; or it is out of memory, or refuses what is to be
+-- refused, or the text isn't UTF-8
 abbrev pub Begins : Bytes → Result Kept Stopped → Type 0
-Begins cwd given = BeginsAs (made cwd) cwd given
+Begins cwd (Ok kept) = (tree : Memory) × (made cwd ≡ Ok tree) × (kept ≡ keeping tree)
+Begins cwd (Err (Tree error)) = (error ≡ NoMemory) ⊎ (made cwd ≡ Err error)
+Begins cwd (Err NotUtf8) = ¬ (IsUtf8 cwd)
+Begins cwd (Err Full) = Unit {0}
+Begins cwd (Err Limit) = ⊥
+Begins cwd (Err Invalid) = ⊥
+Begins cwd (Err Misused) = ⊥
 
 -- the text that C gives with a change, if there is one
 abbrev pub text_in : Change → Bytes

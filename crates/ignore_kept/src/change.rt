@@ -38,6 +38,7 @@ pub enum Change<'c> {
 }
 
 /// A tree whose working directory is that.
+#[tactic(auto, using(crate::proofs::Telling::begins, crate::proofs::Telling::begins_none))]
 pub fn begin(alloc: Global, cwd: &[u8]) -> Result<Kept, Stopped>
     ensures { Begins cwd.now result }
 {
