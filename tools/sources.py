@@ -25,6 +25,8 @@ class Call:
         # `path` is the name by which a check prints it, `name` the one by which it is called.
         self.crate, self.path, self.name, self.file = crate, path, name, file
         self.doc, self.head, self.clauses = "", "", []
+        # Whether a trait has it, so that it may be called without its name.
+        self.is_of_trait = False
 
     def key(self):
         return f"{self.crate}::{self.path}"
@@ -240,6 +242,7 @@ def calls_of(crate):
                 if members:
                     name = "::".join(types[of]) + (f": {trait}" if trait else "")
                     call = Call(crate.name, "::".join((*modules, of + trait)), name, file)
+                    call.is_of_trait = True
                     call.doc, call.clauses = doc_above(lines, at), members
                     call.head = block_of(lines, at).removesuffix("{").strip()
                     found.append(call)
@@ -253,6 +256,7 @@ def calls_of(crate):
             path = "::".join((*modules, *([of + trait] if of else []), head[2]))
             name = "::".join((*shown, *([head[2]] if of else [])))
             call = Call(crate.name, path, f"{name} ({trait})" if trait else name, file)
+            call.is_of_trait = bool(trait or is_declared)
             call.doc = doc_above(lines, at)
             call.head, call.clauses = call_at(lines, at, head[1], is_declared)
             if call.clauses or not trait:

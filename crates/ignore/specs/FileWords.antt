@@ -9,6 +9,7 @@ pub use Rattle.ignore_files.specs.Disk.{tree_on}
 pub use Rattle.ignore_files.specs.Machine.{Disk, IsTruthful}
 pub use Rattle.ignore_files.specs.Table.{disk_of}
 pub use Rattle.ignore_files.specs.declared.env.Env.{Env}
+pub use Rattle.ignore_files.specs.declared.files.Files.{Ghosts as Files}
 pub use Rattle.ignore_files.specs.declared.types.Contents.{Contents}
 pub use Rattle.ignore_files.specs.declared.types.FileType.{FileType}
 pub use Rattle.ignore_files.specs.declared.types.Refusal.{Refusal}
