@@ -34,11 +34,10 @@ pub one_matcher : (tree : Memory) (env : Env) (options copy taken : WalkOptions)
     → All (λ m. KeepsNothing m.cache) ms → length ms ≡ length taken.roots → IfOk r (λ m. ms ≡ m ∷ [])
     → IfErr r (λ e. (e ≡ Misused) × (length ms ≢ 1)) → IsBuilt tree env options r
 one_matcher tree env options copy taken ms (Ok m) copied same are fresh counted one misused =
-    let alone : All (λ m. KeepsNothing m.cache) (m ∷ []) =
-    subst (λ (l : List IncrementalIgnore). All (λ m. KeepsNothing m.cache) l) one fresh in (
+    let alone : All (λ m. KeepsNothing m.cache) (m ∷ []) = subst (λ (l : List IncrementalIgnore). All (λ m. KeepsNothing m.cache) l) one fresh in (
       subst (λ (b : WalkOptions). AreMatchers (tree_of tree) env b (m ∷ [])) (same ∙ copied)
           (subst (λ (l : List IncrementalIgnore). AreMatchers (tree_of tree) env taken l) one are),
-      alone.0,
+      alone 0 m (omega arith),
     )
 one_matcher tree env options copy taken ms (Err e) copied same are fresh counted one misused =
     subst (λ (s : Stopped). IsBuilt tree env options (Err s)) (sym misused.0)

@@ -1,5 +1,4 @@
 pub mod Adding
-pub mod Others
 pub mod Telling
 pub mod Asking
 pub mod Listing

@@ -153,7 +153,7 @@ not_handed room walk (Some item) code entry text (inr (is, none, empty)) other =
 pub withheld : (room : ℕ) (walk : Walked) (item : Option Item) (code : ℕ) (entry : WalkEntry) (text : Bytes)
     → IsNext item code entry text → code ≡ 0 → room < length text → TellsNext room walk item 15 entry text walk
 withheld room walk None code entry text h ok more = absurd (told_one code ok h.0)
-withheld room walk (Some item) code entry text (inl (is, how, what)) ok more = inr (inl (refl, how, what, more, refl))
+withheld room walk (Some item) code entry text (inl (is, (how, what))) ok more = inr (inl (refl, how, what, more, refl))
 withheld room walk (Some item) code entry text (inr h) ok more = absurd (told_five code ok h.0)
 
 -- and one whose texts fit is handed out
@@ -161,7 +161,7 @@ pub handed : (room : ℕ) (walk : Walked) (item : Option Item) (code : ℕ) (ent
     → IsNext item code entry text → code ≡ 0 → length text ≤ room → new ≡ record walk { given = walk.given + 1 }
     → TellsNext room walk item code entry text new
 handed room walk None code entry text new h ok fits on = absurd (told_one code ok h.0)
-handed room walk (Some item) code entry text new (inl (is, how, what)) ok fits on = inl (is, how, what, fits, on)
+handed room walk (Some item) code entry text new (inl (is, (how, what))) ok fits on = inl (is, how, what, fits, on)
 handed room walk (Some item) code entry text new (inr h) ok fits on = absurd (told_five code ok h.0)
 
 -- an item that is told is one of the list

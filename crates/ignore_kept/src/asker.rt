@@ -122,10 +122,8 @@ fn query(
     ensures out_of_memory { IfErr result (λ e. e ≡ Memory) }
 {
     tree.is_honest();
-    match matcher.matched(tree, path, is_dir) {
-        Ok(found) => Ok(found),
-        Err(_) => Err(Stopped::Memory),
-    }
+    let found = matcher.matched(tree, path, is_dir)?;
+    Ok(found)
 }
 
 /// The number of a match.

@@ -59,8 +59,14 @@ fn items_of(options: WalkOptions, tree: &MemoryTree, env: &Env) -> Result<Vec<It
     tree.is_honest();
     match collect_walk(&builder, tree, env) {
         Ok(items) => Ok(items),
-        Err(error) => Err(end_of(&error)),
+        Err(error) => Err(ended(error)),
     }
+}
+
+fn ended(error: Error) -> Stopped
+    ensures { result ≡ end_of (problem_of error) }
+{
+    end_of(&error)
 }
 
 /// Why a walk has no list.

@@ -12,10 +12,10 @@ returns-in-Ok-clause-listed c =
     (c.in-Ok.ensures.headline (tree_of c.args.tree.now) c.is_honest.ensures)
     (c.in-Ok.ensures.exists (tree_of c.args.tree.now) c.is_honest.ensures)
 
-pub returns-in-Err-clause-stopped : goal.returns-in-Err-clause-stopped
-returns-in-Err-clause-stopped c =
+pub returns-clause-stopped : goal.returns-in-Err-clause-stopped
+returns-clause-stopped c =
     let b = c.from_options-builder.result in
     let o = c.from_options-builder.ensures in
     unlisted _ _ _ _ c.args.tree.now c.args.env.now _ c.args.options _ _ _ c.is_honest.ensures o.options (unordered _ _ o.plain.0)
-    (record { passes = λ keep all. passes_all b.filter _ keep o.plain.1 all; ties = all_tie b.sorter _ o.plain.0 }) c.end_of.ensures
+    (record { passes = λ keep all. passes_all b.filter _ keep o.plain.1 all; ties = all_tie b.sorter _ o.plain.0 }) c.ended.ensures
     c.in-Err.ensures.ended
