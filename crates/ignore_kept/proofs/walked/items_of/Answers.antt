@@ -12,7 +12,7 @@ returns-in-Ok-clause-listed c =
     (c.in-Ok.ensures.headline (tree_of c.args.tree.now) c.is_honest.ensures)
     (c.in-Ok.ensures.exists (tree_of c.args.tree.now) c.is_honest.ensures)
 
-pub returns-clause-stopped : goal.returns-in-Err-clause-stopped
+pub returns-clause-stopped : goal.returns-clause-stopped
 returns-clause-stopped c =
     let b = c.from_options-builder.result in
     let o = c.from_options-builder.ensures in
