@@ -1,5 +1,5 @@
 //! The exports of matchers of single paths.
-ghost use Rattle.std.specs.Prelude.{◌≡◌, List, ℕ, Result, Ok, Err, IfOk, IfErr, Option, length, string_bytes};
+ghost use Rattle.std.specs.Prelude.{◌≡◌, List, ℕ, Result, Ok, Err, IfOk, IfErr, length, string_bytes};
 ghost use Rattle.ignore_kept.specs.Matching.{Asks, Builds, ForgetsTold, NormalText};
 ghost use Rattle.ignore_kept.specs.Rooms.{put_in};
 ghost use Rattle.ignore_kept.specs.Stops.{ended_code};

@@ -1,11 +1,11 @@
 -- A matcher is one of what the handle keeps.
-use Rattle.std.proofs.Common.{arith, ◌≡◌, ◌≢◌, ◌+◌, ℕ, suc, Bool, List, [], ◌∷◌, ◌++◌, length-append, Result, Ok, Err, IfOk, IfErr, inl, inr, refl, sym, ap, subst, ◌∙◌, length}
+use Rattle.std.proofs.Common.{arith, ◌≡◌, ◌≢◌, ◌+◌, ℕ, suc, Bool, List, [], ◌∷◌, ◌++◌, length-append, Result, Ok, Err, IfOk, IfErr, inr, refl, sym, ap, subst, ◌∙◌, length}
 use Rattle.std.specs.Prelude.{All}
 use Rattle.ignore.specs.WalkWords.{Agrees, AreMatchers, IncrementalIgnore, IncrementalMatch, KeepsNothing, Stays, query}
 use Rattle.ignore.specs.declared.options.WalkOptions.{WalkOptions}
 use Rattle.ignore_files.specs.Answers.{tree_of}
 use Rattle.ignore_files.specs.declared.env.Env.{Env}
-use Rattle.ignore_base.specs.Text.{Bytes, Path}
+use Rattle.ignore_base.specs.Text.{Path}
 use Rattle.ignore_files.specs.Memory.{Memory}
 use Rattle.ignore_kept.specs.Kinds.{matcher_in, setup_in, tree_in}
 use Rattle.ignore_kept.specs.Matching.{Builds, Forgets, Forgot, InScene, IsBuilt, Matches, keeping}

@@ -9,7 +9,7 @@ use denote.Bor.{Bor}
 use Rattle.ignore.specs.Closures.{Compares, Filters, order_of}
 use Rattle.ignore.specs.Headline.{IsAboveLimit, IsListIn, IsSceneOf}
 use Rattle.ignore.specs.ItsList.{InItsScenes}
-use Rattle.ignore.specs.WalkWords.{Entry, Item, IsOutside, Outside, Scene, Whole, item_of}
+use Rattle.ignore.specs.WalkWords.{Entry, Item, Outside, Scene, Whole, item_of}
 use Rattle.ignore.specs.FileWords.{Tree as Files}
 use Rattle.ignore.specs.declared.options.WalkOptions.{WalkOptions}
 use Rattle.ignore_base.specs.Errors.{problem_text}

@@ -1,6 +1,5 @@
 -- A change of a tree is one of what the handle keeps.
 use Rattle.std.proofs.Common.{◌≡◌, ◌⊎◌, Result, Ok, Err, inl, inr, refl, sym, ap, subst, ◌∙◌}
-use Rattle.std.specs.Str.{IsUtf8}
 use Rattle.ignore_base.specs.Text.{Bytes, Path}
 use Rattle.ignore_files.specs.Changes.{Leaves, LeavesIfRoom, MakesIfRoom, link_added, made}
 use Rattle.ignore_files.specs.Memory.{Memory}

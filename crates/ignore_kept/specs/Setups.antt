@@ -1,5 +1,5 @@
 -- Builders that C sets.
-use Rattle.std.specs.Prelude.{◌≡◌, ℕ, [], Option, Some, None, Result, Ok, Err}
+use Rattle.std.specs.Prelude.{◌≡◌, ℕ, [], Some, None, Result, Ok, Err}
 use Rattle.std.specs.Str.{IsUtf8}
 use Rattle.ignore.specs.Builder.{unset, with_root, with_custom, with_current_dir, with_standard_filters, with_hidden, with_parents, with_ignore}
 use Rattle.ignore.specs.Builder.{with_git_ignore, with_git_global, with_git_exclude, with_require_git, with_case_insensitive}

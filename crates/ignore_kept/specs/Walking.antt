@@ -1,12 +1,12 @@
 -- Walks over a tree that C tells.
-use Rattle.std.specs.Prelude.{◌≡◌, ◌≢◌, ◌⊎◌, ◌≤◌, ◌<◌, ◌+◌, ℕ, Bool, true, false, List, [], ◌++◌, Option, Some, None, Result, Ok, Err, length, map, slice_get, if◌then◌else◌}
+use Rattle.std.specs.Prelude.{◌≡◌, ◌⊎◌, ◌≤◌, ◌<◌, ◌+◌, ℕ, true, false, List, [], ◌++◌, Option, Some, None, Result, Ok, Err, length, map, slice_get, if◌then◌else◌}
 use Rattle.ignore.specs.ItsList.{ForItsList, InItsScenes}
 use Rattle.ignore.specs.WalkWords.{AreLoads, Entry, Item, Outside, Scene, Whole, item_of}
 use Rattle.ignore.specs.FileWords.{Tree as Files}
 use Rattle.ignore.specs.declared.options.WalkOptions.{WalkOptions}
 use Rattle.ignore_base.specs.Errors.{problem_text}
 use Rattle.ignore_base.specs.Problem.{Problem}
-use Rattle.ignore_base.specs.Text.{Bytes, Path}
+use Rattle.ignore_base.specs.Text.{Bytes}
 use Rattle.ignore_files.specs.Answers.{tree_of}
 use Rattle.ignore_rules.specs.RuleFile.{is_memory}
 use Rattle.ignore_files.specs.Memory.{Memory}
@@ -14,7 +14,7 @@ use Rattle.ignore_files.specs.declared.env.Env.{Env}
 use Rattle.ignore_files.specs.declared.types.FileType.{FileType}
 use Rattle.ignore_files.specs.declared.types.FileType.TheVariants.{File, Dir, Symlink, Other}
 use Rattle.ignore_kept.specs.Kinds.{setup_in, tree_in, walk_in}
-use Rattle.ignore_kept.specs.Stops.{ended_code, stop_code}
+use Rattle.ignore_kept.specs.Stops.{stop_code}
 use Rattle.ignore_kept.specs.declared.kept.Kept.{Kept}
 use Rattle.ignore_kept.specs.declared.kept.Kept.TheVariants as keeps
 use Rattle.ignore_kept.specs.declared.setup.Setup.{Setup}

@@ -1,7 +1,7 @@
 //! What a host tells of a path of its tree.
 ghost use Rattle.std.specs.Prelude.{◌≡◌, Result};
-ghost use Rattle.ignore_files.specs.Changes.{LeavesIfRoom, link_added};
-ghost use Rattle.ignore_kept.specs.Trees.{Applies, AppliesAs, Begins, Changes, text_in, change_of, told_of};
+ghost use Rattle.ignore_files.specs.Changes.{link_added};
+ghost use Rattle.ignore_kept.specs.Trees.{Applies, AppliesAs, Begins, Changes, told_of};
 
 use crate::kept::Kept;
 use crate::room::text_of;

@@ -1,6 +1,5 @@
 -- The list is made of what the two handles keep.
 use Rattle.ignore_kept.proofs.Listing.{walks}
-use Rattle.ignore_kept.specs.declared.walked.Walked.{Walked}
 use Rattle.ignore_kept.proofs.walked.build.Goals as goal
 use Rattle.std.proofs.Common.{refl}
 
