@@ -13,8 +13,9 @@
    - At most one call at a time has a handle, and the handle stays on the thread that made it.
    - `malloc`, `realloc` and `free` are of one allocator, which aligns as C asks.
    - No call is made from a signal handler, nor in the forked child of a process with threads.
+   - Two handles that one call is given are two: a matcher and a tree, say, and not one twice.
    - Where a call answers IGNORE_NO_MEMORY, or IGNORE_NOT_UTF8, or IGNORE_MISUSED, it has changed
-     nothing of its handle. */
+     nothing of its handles; a matcher may have read more directories, by which no answer changes. */
 #ifndef IGNORE_PROVED_H
 #define IGNORE_PROVED_H
 
@@ -34,11 +35,16 @@ enum {
     IGNORE_WHITELIST = 3, /* the path is whitelisted */
     IGNORE_NOT_UTF8 = 4,  /* a text isn't UTF-8 */
     IGNORE_NO_MEMORY = 5, /* out of memory */
+    IGNORE_LIMIT = 6,     /* a walk took more steps than it may */
     IGNORE_REFUSED = 7,   /* a line is invalid, or some lines of a file: the problem says why */
     IGNORE_MISUSED = 9,   /* a handle that keeps something else, or isn't so far */
-    IGNORE_OUTSIDE = 10   /* the path isn't below the root */
-    /* 6 and 8 are for a fault of the file system, and for a handle that another one uses: no call
-       answers them yet. */
+    IGNORE_OUTSIDE = 10,  /* the path isn't below the root */
+    IGNORE_NOT_CLEAN = 11, /* a path of a tree isn't `/`, or `/` and names joined by single slashes */
+    IGNORE_NO_PARENT = 12, /* what a path of a tree should be in isn't a directory there */
+    IGNORE_EXISTS = 13,    /* something is at a path of a tree already */
+    IGNORE_MISSING = 14,   /* nothing of the kind is at a path of a tree */
+    IGNORE_ROOM = 15       /* the room is too small for an item of a walk, which stays the next */
+    /* 8 is for a handle that another one uses: no call answers it, since a walk is made at once. */
 };
 
 /* Rules of gitignore files. Lines and files are added, `ignore_rules_build` makes the matcher of
@@ -58,7 +64,7 @@ typedef struct ignore_rule_options {
 
 /* The rule that decided. */
 typedef struct ignore_reason {
-    uint64_t line;     /* the number of its line; 0 where that isn't known, as yet always */
+    uint64_t line;     /* the number of its line in its file; 0 where it was added by itself */
     size_t source;     /* bytes of its source: the file of the rule, as it was given */
     size_t pattern;    /* bytes of its line, without white space at the end */
     size_t glob;       /* bytes of the glob that the line stands for */
@@ -130,6 +136,248 @@ uint32_t ignore_rules_counts(ignore_rules *rules, ignore_counts *counts);
 
 /* Frees rules, also before they were built. */
 void ignore_rules_free(ignore_rules rules);
+
+/* A tree of files, as its host tells it: directories, files with their bytes, symbolic links.
+   Matchers and walks see nothing else, and never the disk. Paths of a tree are absolute and clean:
+   `/`, or `/` and names joined by single slashes; they pass through no links. */
+typedef struct ignore_tree {
+    uint8_t *at;
+} ignore_tree;
+
+/* The faults of a file system, for ignore_tree_fault_stat, _fault_list and _cut_contents. */
+enum {
+    IGNORE_FAULT_NOT_FOUND = 0,
+    IGNORE_FAULT_PERMISSION_DENIED = 1,
+    IGNORE_FAULT_NOT_A_DIRECTORY = 2,
+    IGNORE_FAULT_IS_A_DIRECTORY = 3,
+    IGNORE_FAULT_INVALID_DATA = 4,
+    IGNORE_FAULT_BAD_NAME = 5,
+    IGNORE_FAULT_LINK_LIMIT = 6,
+    IGNORE_FAULT_NO_IDENTITY = 7,
+    IGNORE_FAULT_NO_CURRENT_DIR = 8,
+    IGNORE_FAULT_STEP_LIMIT = 9,
+    IGNORE_FAULT_NO_METADATA = 10,
+    IGNORE_FAULT_OTHER = 11
+};
+
+/* A tree with the directory `/` alone, and this working directory, which needn't exist. IGNORE_OK,
+   IGNORE_NOT_CLEAN, IGNORE_NOT_UTF8 or IGNORE_NO_MEMORY. */
+uint32_t ignore_tree_new(const uint8_t *cwd, size_t cwd_length, ignore_tree *tree);
+
+/* Adds an empty directory, a file with these bytes, or a link whose target needn't exist.
+   IGNORE_NOT_CLEAN, IGNORE_NO_PARENT or IGNORE_EXISTS say why nothing was added; also
+   IGNORE_NOT_UTF8, IGNORE_NO_MEMORY, IGNORE_MISUSED. After another answer than IGNORE_OK the tree is
+   as before. So it is of each call on a tree. */
+uint32_t ignore_tree_add_dir(ignore_tree *tree, const uint8_t *path, size_t path_length);
+uint32_t ignore_tree_add_file(ignore_tree *tree, const uint8_t *path, size_t path_length,
+                              const uint8_t *bytes, size_t bytes_length);
+uint32_t ignore_tree_add_link(ignore_tree *tree, const uint8_t *path, size_t path_length,
+                              const uint8_t *target, size_t target_length);
+
+/* Adds something whose name isn't UTF-8 to a directory: its listing has a fault there.
+   IGNORE_MISSING where no directory is at the path. */
+uint32_t ignore_tree_add_nameless(ignore_tree *tree, const uint8_t *path, size_t path_length);
+
+/* The size that is reported for a file, which at first is that of its bytes. IGNORE_MISSING where no
+   file is at the path. */
+uint32_t ignore_tree_set_size(ignore_tree *tree, const uint8_t *path, size_t path_length,
+                              uint64_t size);
+
+/* The identity that is reported for what is at a path, by which loops of links are found, or that it
+   is unknown. At first each path has one of its own. IGNORE_MISSING where nothing is there. */
+uint32_t ignore_tree_set_identity(ignore_tree *tree, const uint8_t *path, size_t path_length,
+                                  uint64_t device, uint64_t inode);
+uint32_t ignore_tree_clear_identity(ignore_tree *tree, const uint8_t *path, size_t path_length);
+
+/* Writes a file anew: it has these bytes, and their number as its size. IGNORE_MISSING where no file
+   is at the path. A matcher that has read the file goes on with what it read, until
+   ignore_matcher_forget is told its directory. */
+uint32_t ignore_tree_rewrite_file(ignore_tree *tree, const uint8_t *path, size_t path_length,
+                                  const uint8_t *bytes, size_t bytes_length);
+
+/* Removes what is at a path, with all that is below it. IGNORE_MISSING where nothing is there, and
+   for `/`. What was removed takes memory until the tree is freed: a file that changes is written
+   anew instead. */
+uint32_t ignore_tree_remove(ignore_tree *tree, const uint8_t *path, size_t path_length);
+
+/* Has a question fail: what is at a path; what a directory lists; what a file holds, after its first
+   bytes. IGNORE_MISUSED where the fault has no such number. */
+uint32_t ignore_tree_fault_stat(ignore_tree *tree, const uint8_t *path, size_t path_length,
+                                uint32_t fault);
+uint32_t ignore_tree_fault_list(ignore_tree *tree, const uint8_t *path, size_t path_length,
+                                uint32_t fault);
+uint32_t ignore_tree_cut_contents(ignore_tree *tree, const uint8_t *path, size_t path_length,
+                                  size_t length, uint32_t fault);
+
+/* Frees a tree. */
+void ignore_tree_free(ignore_tree tree);
+
+/* Which files of rules are read, and what else matchers and walks go by. At first the six standard
+   filters (hidden, parents, ignore, git_ignore, git_global, git_exclude) and require_git are on, and
+   all else is off or unset. */
+typedef struct ignore_builder {
+    uint8_t *at;
+} ignore_builder;
+
+/* A builder with one root: IGNORE_OK, IGNORE_NOT_UTF8 or IGNORE_NO_MEMORY. */
+uint32_t ignore_builder_new(const uint8_t *root, size_t root_length, ignore_builder *builder);
+
+/* One root more; a name of custom files of rules; the directory that the global file is relative to;
+   what is known of the environment: the working directory, HOME, XDG_CONFIG_HOME, GIT_CONFIG_GLOBAL,
+   GIT_CONFIG_SYSTEM. At first nothing is. IGNORE_OK, IGNORE_NOT_UTF8, IGNORE_NO_MEMORY or
+   IGNORE_MISUSED. */
+uint32_t ignore_builder_add(ignore_builder *builder, const uint8_t *text, size_t text_length);
+uint32_t ignore_builder_add_custom_ignore_filename(ignore_builder *builder, const uint8_t *text,
+                                                   size_t text_length);
+uint32_t ignore_builder_current_dir(ignore_builder *builder, const uint8_t *text,
+                                    size_t text_length);
+uint32_t ignore_builder_env_current_dir(ignore_builder *builder, const uint8_t *text,
+                                        size_t text_length);
+uint32_t ignore_builder_env_home(ignore_builder *builder, const uint8_t *text, size_t text_length);
+uint32_t ignore_builder_env_xdg_config_home(ignore_builder *builder, const uint8_t *text,
+                                            size_t text_length);
+uint32_t ignore_builder_env_git_config_global(ignore_builder *builder, const uint8_t *text,
+                                              size_t text_length);
+uint32_t ignore_builder_env_git_config_system(ignore_builder *builder, const uint8_t *text,
+                                              size_t text_length);
+
+/* The settings of the original's builder, under its names: IGNORE_OK or IGNORE_MISUSED. */
+uint32_t ignore_builder_standard_filters(ignore_builder *builder, bool on);
+uint32_t ignore_builder_hidden(ignore_builder *builder, bool on);
+uint32_t ignore_builder_parents(ignore_builder *builder, bool on);
+uint32_t ignore_builder_ignore(ignore_builder *builder, bool on);
+uint32_t ignore_builder_git_ignore(ignore_builder *builder, bool on);
+uint32_t ignore_builder_git_global(ignore_builder *builder, bool on);
+uint32_t ignore_builder_git_exclude(ignore_builder *builder, bool on);
+uint32_t ignore_builder_require_git(ignore_builder *builder, bool on);
+uint32_t ignore_builder_ignore_case_insensitive(ignore_builder *builder, bool on);
+uint32_t ignore_builder_git_trailing_spaces(ignore_builder *builder, bool on);
+uint32_t ignore_builder_follow_links(ignore_builder *builder, bool on);
+uint32_t ignore_builder_same_file_system(ignore_builder *builder, bool on);
+
+/* The limits; none where `is_set` is false. `limit` is of the steps of a walk. */
+uint32_t ignore_builder_max_depth(ignore_builder *builder, bool is_set, size_t most);
+uint32_t ignore_builder_min_depth(ignore_builder *builder, bool is_set, size_t most);
+uint32_t ignore_builder_max_filesize(ignore_builder *builder, bool is_set, uint64_t most);
+uint32_t ignore_builder_limit(ignore_builder *builder, uint64_t steps);
+
+/* The globs of a command line, which decide before all other rules: a glob whitelists what it
+   matches, one with a leading `!` ignores it. They begin anew, relative to a directory; each is
+   added; then they count. IGNORE_REFUSED where a glob is invalid: nothing is added, and the problem
+   is kept. IGNORE_MISUSED, too, where they weren't begun. */
+uint32_t ignore_builder_overrides(ignore_builder *builder, const uint8_t *root, size_t root_length,
+                                  bool case_insensitive);
+uint32_t ignore_builder_add_override(ignore_builder *builder, const uint8_t *glob,
+                                     size_t glob_length);
+uint32_t ignore_builder_set_overrides(ignore_builder *builder);
+
+/* File types: a glob more of one, a definition (`html:*.html`, `web:include:html,css`), the types
+   that are there by default, none of a name; which are chosen, and which are to be ignored (`all`
+   stands for those that are there). The choice counts from ignore_builder_set_types on, which
+   answers IGNORE_REFUSED where no type has a chosen name, or a glob of one is invalid. */
+uint32_t ignore_builder_type_add(ignore_builder *builder, const uint8_t *name, size_t name_length,
+                                 const uint8_t *glob, size_t glob_length);
+uint32_t ignore_builder_type_add_def(ignore_builder *builder, const uint8_t *definition,
+                                     size_t definition_length);
+uint32_t ignore_builder_type_add_defaults(ignore_builder *builder);
+uint32_t ignore_builder_type_clear(ignore_builder *builder, const uint8_t *name,
+                                   size_t name_length);
+uint32_t ignore_builder_type_select(ignore_builder *builder, const uint8_t *name,
+                                    size_t name_length);
+uint32_t ignore_builder_type_negate(ignore_builder *builder, const uint8_t *name,
+                                    size_t name_length);
+uint32_t ignore_builder_set_types(ignore_builder *builder);
+
+/* Reads a file of rules of a tree now, and adds it after the others that were added so. It is
+   relative to the directory of ignore_builder_current_dir, or else to the working directory.
+   IGNORE_REFUSED where something is wrong with the file: its other lines are added, and the problem
+   is kept. */
+uint32_t ignore_builder_add_ignore(ignore_builder *builder, ignore_tree *tree, const uint8_t *path,
+                                   size_t path_length);
+
+/* What is wrong with what the builder was told last of globs, types and files: as
+   ignore_rules_problem. */
+uint32_t ignore_builder_problem(ignore_builder *builder, uint8_t *room, size_t room_length,
+                                size_t *whole);
+
+/* Frees a builder. */
+void ignore_builder_free(ignore_builder builder);
+
+/* A matcher of single paths below a root: whether a walk from the root would yield them. It keeps
+   what it loads of the tree: the directories above the root, and those on the way to a path that was
+   asked about. The tree is handed in at each question, and may be added to between two:
+
+   Before a path is asked about, the tree has, of each directory on the way to it from `/`, all that
+   decides there: the files of rules (`.gitignore`, `.ignore`, custom names), `.git` with its
+   `info/exclude` (or the file `.git` and where it leads), `.jj`, and links on the way. A directory
+   that is told by halves is read by halves, and what was read is kept: after the rest is told,
+   ignore_matcher_forget is called for it. Where each directory is told whole before something below
+   it is asked about, each answer is the one that the whole tree gives. */
+typedef struct ignore_matcher {
+    uint8_t *at;
+} ignore_matcher;
+
+/* What becomes of a path besides: whether a walk would enter the directory, and whether the path is
+   as deep as `min_depth` and `max_depth` ask. */
+typedef struct ignore_found {
+    bool should_descend;
+    bool is_within_depth;
+} ignore_found;
+
+/* The matcher of a builder with one root. The global file is read now, from the tree. The builder
+   and the tree stay as they are, and may be freed before the matcher. IGNORE_OK, IGNORE_NO_MEMORY,
+   or IGNORE_MISUSED, also where the builder has more roots than one. */
+uint32_t ignore_matcher_new(ignore_builder *builder, ignore_tree *tree, ignore_matcher *matcher);
+
+/* What becomes of a path, which is relative to the root and clean (`src/a.o`): IGNORE_NONE,
+   IGNORE_IGNORE or IGNORE_WHITELIST, and the rest in `found`. Also IGNORE_NOT_UTF8,
+   IGNORE_NO_MEMORY (what was kept stays kept) and IGNORE_MISUSED. */
+uint32_t ignore_matcher_matched(ignore_matcher *matcher, ignore_tree *tree, const uint8_t *path,
+                                size_t path_length, bool is_dir, ignore_found *found);
+
+/* Forgets what is kept of the directory at a path below the root, and of those below it, so that
+   they are read anew, and counts them. The empty path is the root. */
+uint32_t ignore_matcher_forget(ignore_matcher *matcher, const uint8_t *dir, size_t dir_length,
+                               size_t *count);
+
+/* The text by which the matcher knows a path, relative to its root: IGNORE_OK, its length in
+   `whole`, and its first bytes; or IGNORE_NONE where the path isn't at or below the root. */
+uint32_t ignore_matcher_normalize(ignore_matcher *matcher, const uint8_t *path,
+                                  size_t path_length, uint8_t *room, size_t room_length,
+                                  size_t *whole);
+
+/* Frees a matcher. */
+void ignore_matcher_free(ignore_matcher matcher);
+
+/* The items of a walk of a builder over a tree. They are made at once, so the tree and the builder
+   may change, or be freed, while they are handed out. */
+typedef struct ignore_walk {
+    uint8_t *at;
+} ignore_walk;
+
+/* An item: an entry with its path, and the text of what is wrong with its files of rules, if
+   anything; or, where `is_entry` is false, the text of an error in an entry's place. */
+typedef struct ignore_walk_entry {
+    size_t path;      /* bytes of the path: the root as it was given, joined with the names below */
+    size_t error;     /* bytes of the text of the error */
+    size_t depth;     /* how many names below its root */
+    uint32_t kind;    /* 1 a file, 2 a directory, 3 a symbolic link, 4 something else, 0 none */
+    bool is_entry;
+    bool is_followed; /* whether the path is a link that was followed */
+} ignore_walk_entry;
+
+/* IGNORE_OK, IGNORE_NO_MEMORY, IGNORE_LIMIT where the walk takes more steps than the builder's limit,
+   or IGNORE_MISUSED. */
+uint32_t ignore_walk_new(ignore_builder *builder, ignore_tree *tree, ignore_walk *walk);
+
+/* The next item: IGNORE_OK, and in `room` its path and the text of its error, one after the other;
+   IGNORE_NONE after the last; IGNORE_ROOM where the room is too small, and then the item stays the
+   next. Also IGNORE_NO_MEMORY and IGNORE_MISUSED. */
+uint32_t ignore_walk_next(ignore_walk *walk, ignore_walk_entry *entry, uint8_t *room,
+                          size_t room_length);
+
+/* Frees a walk. */
+void ignore_walk_free(ignore_walk walk);
 
 #ifdef __cplusplus
 }

@@ -4,24 +4,44 @@
     answer = rules.match("project/build/a.o")
     if answer.is_ignore:
         print(answer.reason.pattern, answer.reason.source)
+
+    with Matcher("project") as matcher:
+        matcher.is_ignored("build/a.o")
+    for entry in walk("project"):
+        print(entry.path)
 """
 from ._errors import (
     IgnoreError,
     InvalidRuleError,
+    LimitError,
     MisusedError,
     NotUtf8Error,
     OutsideError,
+    TreeError,
 )
+from .matcher import Match, Matcher, TreeMatcher
 from .rules import Answer, Decision, Reason, Rules
+from .tree import Builder, Tree
+from .walk import Item, TreeWalk, walk
 
 __all__ = [
     "Answer",
+    "Builder",
     "Decision",
     "IgnoreError",
     "InvalidRuleError",
+    "Item",
+    "LimitError",
+    "Match",
+    "Matcher",
     "MisusedError",
     "NotUtf8Error",
     "OutsideError",
     "Reason",
     "Rules",
+    "Tree",
+    "TreeError",
+    "TreeMatcher",
+    "TreeWalk",
+    "walk",
 ]

@@ -24,7 +24,20 @@ class OutsideError(IgnoreError, ValueError):
     """The path isn't below the root."""
 
 
+class TreeError(IgnoreError, ValueError):
+    """A tree isn't changed: the text says why."""
+
+
+class LimitError(IgnoreError):
+    """A walk took more steps than it may."""
+
+
 KINDS = {
+    lib.LIMIT: LimitError("the walk took more steps than it may"),
+    lib.NOT_CLEAN: TreeError("the path isn't `/`, or `/` and names joined by single slashes"),
+    lib.NO_PARENT: TreeError("what the path should be in isn't a directory of the tree"),
+    lib.EXISTS: TreeError("something is at the path already"),
+    lib.MISSING: TreeError("nothing of the kind is at the path"),
     lib.NOT_UTF8: NotUtf8Error("a text isn't UTF-8"),
     lib.MISUSED: MisusedError("the object isn't so far, or is of another kind"),
     lib.OUTSIDE: OutsideError("the path isn't below the root"),

@@ -6,7 +6,8 @@ import os
 from ctypes import POINTER, Structure, c_bool, c_char_p, c_size_t, c_uint32, c_uint64
 
 OK, NONE, IGNORE, WHITELIST, NOT_UTF8, NO_MEMORY = range(6)
-REFUSED, MISUSED, OUTSIDE = 7, 9, 10
+LIMIT, REFUSED, MISUSED, OUTSIDE = 6, 7, 9, 10
+NOT_CLEAN, NO_PARENT, EXISTS, MISSING, ROOM = range(11, 16)
 
 #: The name of the shared object, and the variable of the environment that may give its path.
 NAME = "libignore_proved.so"
@@ -48,6 +49,25 @@ class Counts(Structure):
     _fields_ = [("ignores", c_uint64), ("whitelists", c_uint64)]
 
 
+class Found(Structure):
+    """`ignore_found`."""
+
+    _fields_ = [("should_descend", c_bool), ("is_within_depth", c_bool)]
+
+
+class WalkEntry(Structure):
+    """`ignore_walk_entry`."""
+
+    _fields_ = [
+        ("path", c_size_t),
+        ("error", c_size_t),
+        ("depth", c_size_t),
+        ("kind", c_uint32),
+        ("is_entry", c_bool),
+        ("is_followed", c_bool),
+    ]
+
+
 TEXT = [c_char_p, c_size_t]
 ONE = [POINTER(Handle)]
 CALLS = {
@@ -64,8 +84,57 @@ CALLS = {
         *ONE, *TEXT, c_bool, POINTER(ReasonParts), c_char_p, c_size_t,
     ],
     "rules_counts": [*ONE, POINTER(Counts)],
+    "tree_new": [*TEXT, *ONE],
+    "tree_add_dir": [*ONE, *TEXT],
+    "tree_add_file": [*ONE, *TEXT, *TEXT],
+    "tree_add_link": [*ONE, *TEXT, *TEXT],
+    "tree_add_nameless": [*ONE, *TEXT],
+    "tree_set_size": [*ONE, *TEXT, c_uint64],
+    "tree_set_identity": [*ONE, *TEXT, c_uint64, c_uint64],
+    "tree_clear_identity": [*ONE, *TEXT],
+    "tree_rewrite_file": [*ONE, *TEXT, *TEXT],
+    "tree_remove": [*ONE, *TEXT],
+    "tree_fault_stat": [*ONE, *TEXT, c_uint32],
+    "tree_fault_list": [*ONE, *TEXT, c_uint32],
+    "tree_cut_contents": [*ONE, *TEXT, c_size_t, c_uint32],
+    "builder_new": [*TEXT, *ONE],
+    "builder_max_depth": [*ONE, c_bool, c_size_t],
+    "builder_min_depth": [*ONE, c_bool, c_size_t],
+    "builder_max_filesize": [*ONE, c_bool, c_uint64],
+    "builder_limit": [*ONE, c_uint64],
+    "builder_overrides": [*ONE, *TEXT, c_bool],
+    "builder_add_override": [*ONE, *TEXT],
+    "builder_set_overrides": ONE,
+    "builder_type_add": [*ONE, *TEXT, *TEXT],
+    "builder_type_add_def": [*ONE, *TEXT],
+    "builder_type_select": [*ONE, *TEXT],
+    "builder_type_negate": [*ONE, *TEXT],
+    "builder_type_clear": [*ONE, *TEXT],
+    "builder_type_add_defaults": ONE,
+    "builder_set_types": ONE,
+    "builder_add_ignore": [*ONE, *ONE, *TEXT],
+    "builder_problem": [*ONE, c_char_p, c_size_t, POINTER(c_size_t)],
+    "matcher_new": [*ONE, *ONE, *ONE],
+    "matcher_matched": [*ONE, *ONE, *TEXT, c_bool, POINTER(Found)],
+    "matcher_forget": [*ONE, *TEXT, POINTER(c_size_t)],
+    "matcher_normalize": [*ONE, *TEXT, c_char_p, c_size_t, POINTER(c_size_t)],
+    "walk_new": [*ONE, *ONE, *ONE],
+    "walk_next": [*ONE, POINTER(WalkEntry), c_char_p, c_size_t],
 }
-FREES = ["rules_free"]
+#: The settings of a builder that are on or off.
+SWITCHES = [
+    "standard_filters", "hidden", "parents", "ignore", "git_ignore", "git_global", "git_exclude",
+    "require_git", "ignore_case_insensitive", "git_trailing_spaces", "follow_links",
+    "same_file_system",
+]
+#: What a builder is told by a text.
+LABELS = [
+    "add", "add_custom_ignore_filename", "current_dir", "env_current_dir", "env_home",
+    "env_xdg_config_home", "env_git_config_global", "env_git_config_system",
+]
+CALLS.update({f"builder_{name}": [*ONE, c_bool] for name in SWITCHES})
+CALLS.update({f"builder_{name}": [*ONE, *TEXT] for name in LABELS})
+FREES = ["rules_free", "tree_free", "builder_free", "matcher_free", "walk_free"]
 
 
 def places() -> list[str]:

@@ -248,22 +248,22 @@ fn glob_of(reason: &Reason, room: &[u8]) -> Result<Glob, Error> {
     })
 }
 
-fn bytes_of(path: &Path) -> &[u8] {
+pub(crate) fn bytes_of(path: &Path) -> &[u8] {
     path.as_os_str().as_bytes()
 }
 
-fn text_of(bytes: &[u8]) -> Result<String, Error> {
+pub(crate) fn text_of(bytes: &[u8]) -> Result<String, Error> {
     String::from_utf8(bytes.to_vec()).map_err(|_| Error::NotUtf8)
 }
 
-fn done(code: u32) -> Result<(), Error> {
+pub(crate) fn done(code: u32) -> Result<(), Error> {
     if code == library::OK {
         return Ok(());
     }
     Err(error_of(code))
 }
 
-fn error_of(code: u32) -> Error {
+pub(crate) fn error_of(code: u32) -> Error {
     match code {
         library::NOT_UTF8 => Error::NotUtf8,
         library::NO_MEMORY => Error::Memory,

@@ -4,9 +4,14 @@
 
 mod error;
 pub mod gitignore;
+mod host;
+mod incremental;
 mod library;
+mod walk;
 
 pub use error::Error;
+pub use incremental::{IncrementalIgnore, IncrementalMatch, WalkBuilder};
+pub use walk::{DirEntry, Walk};
 
 /// The answer of rules for a path, with what decided.
 #[derive(Clone, Debug, PartialEq, Eq)]

@@ -48,7 +48,114 @@ pub struct Counts {
     pub whitelists: u64,
 }
 
+/// What becomes of a path besides the verdict.
+#[repr(C)]
+#[derive(Clone, Copy, Default)]
+pub struct Found {
+    pub should_descend: bool,
+    pub is_within_depth: bool,
+}
+
+type TextCall = unsafe extern "C" fn(*mut Handle, *const u8, usize) -> u32;
+type TwoTextsCall = unsafe extern "C" fn(*mut Handle, *const u8, usize, *const u8, usize) -> u32;
+type SwitchCall = unsafe extern "C" fn(*mut Handle, bool) -> u32;
+type LimitCall = unsafe extern "C" fn(*mut Handle, bool, usize) -> u32;
+
 extern "C" {
+    fn ignore_tree_new(cwd: *const u8, length: usize, tree: *mut Handle) -> u32;
+    fn ignore_tree_add_dir(tree: *mut Handle, path: *const u8, length: usize) -> u32;
+    fn ignore_tree_add_file(
+        tree: *mut Handle,
+        path: *const u8,
+        length: usize,
+        bytes: *const u8,
+        bytes_length: usize,
+    ) -> u32;
+    fn ignore_tree_add_link(
+        tree: *mut Handle,
+        path: *const u8,
+        length: usize,
+        target: *const u8,
+        target_length: usize,
+    ) -> u32;
+    fn ignore_tree_rewrite_file(
+        tree: *mut Handle,
+        path: *const u8,
+        length: usize,
+        bytes: *const u8,
+        bytes_length: usize,
+    ) -> u32;
+    fn ignore_tree_set_size(tree: *mut Handle, path: *const u8, length: usize, size: u64) -> u32;
+    fn ignore_tree_remove(tree: *mut Handle, path: *const u8, length: usize) -> u32;
+    fn ignore_tree_cut_contents(
+        tree: *mut Handle,
+        path: *const u8,
+        length: usize,
+        bytes: usize,
+        fault: u32,
+    ) -> u32;
+    fn ignore_tree_free(tree: Handle);
+    fn ignore_builder_new(root: *const u8, length: usize, builder: *mut Handle) -> u32;
+    fn ignore_builder_add_custom_ignore_filename(
+        builder: *mut Handle,
+        text: *const u8,
+        length: usize,
+    ) -> u32;
+    fn ignore_builder_env_current_dir(builder: *mut Handle, text: *const u8, length: usize) -> u32;
+    fn ignore_builder_env_home(builder: *mut Handle, text: *const u8, length: usize) -> u32;
+    fn ignore_builder_env_xdg_config_home(
+        builder: *mut Handle,
+        text: *const u8,
+        length: usize,
+    ) -> u32;
+    fn ignore_builder_env_git_config_global(
+        builder: *mut Handle,
+        text: *const u8,
+        length: usize,
+    ) -> u32;
+    fn ignore_builder_env_git_config_system(
+        builder: *mut Handle,
+        text: *const u8,
+        length: usize,
+    ) -> u32;
+    fn ignore_builder_standard_filters(builder: *mut Handle, on: bool) -> u32;
+    fn ignore_builder_hidden(builder: *mut Handle, on: bool) -> u32;
+    fn ignore_builder_parents(builder: *mut Handle, on: bool) -> u32;
+    fn ignore_builder_ignore(builder: *mut Handle, on: bool) -> u32;
+    fn ignore_builder_git_ignore(builder: *mut Handle, on: bool) -> u32;
+    fn ignore_builder_git_global(builder: *mut Handle, on: bool) -> u32;
+    fn ignore_builder_git_exclude(builder: *mut Handle, on: bool) -> u32;
+    fn ignore_builder_require_git(builder: *mut Handle, on: bool) -> u32;
+    fn ignore_builder_ignore_case_insensitive(builder: *mut Handle, on: bool) -> u32;
+    fn ignore_builder_git_trailing_spaces(builder: *mut Handle, on: bool) -> u32;
+    fn ignore_builder_max_depth(builder: *mut Handle, is_set: bool, most: usize) -> u32;
+    fn ignore_builder_min_depth(builder: *mut Handle, is_set: bool, most: usize) -> u32;
+    fn ignore_builder_max_filesize(builder: *mut Handle, is_set: bool, most: u64) -> u32;
+    fn ignore_builder_free(builder: Handle);
+    fn ignore_matcher_new(builder: *mut Handle, tree: *mut Handle, matcher: *mut Handle) -> u32;
+    fn ignore_matcher_matched(
+        matcher: *mut Handle,
+        tree: *mut Handle,
+        path: *const u8,
+        length: usize,
+        is_dir: bool,
+        found: *mut Found,
+    ) -> u32;
+    fn ignore_matcher_forget(
+        matcher: *mut Handle,
+        dir: *const u8,
+        length: usize,
+        count: *mut usize,
+    ) -> u32;
+    fn ignore_matcher_normalize(
+        matcher: *mut Handle,
+        path: *const u8,
+        length: usize,
+        room: *mut u8,
+        room_length: usize,
+        whole: *mut usize,
+    ) -> u32;
+    fn ignore_matcher_free(matcher: Handle);
     fn ignore_rules_new(
         root: *const u8,
         length: usize,
@@ -195,5 +302,194 @@ impl Rules {
 impl Drop for Rules {
     fn drop(&mut self) {
         unsafe { ignore_rules_free(self.0) }
+    }
+}
+
+/// A handle that is made by a call, or the code of why there is none.
+fn made(call: impl FnOnce(*mut Handle) -> u32) -> Result<Handle, u32> {
+    let mut handle = Handle { at: null_mut() };
+    match call(&mut handle) {
+        OK => Ok(handle),
+        code => Err(code),
+    }
+}
+
+/// A tree of files, which it owns.
+pub struct Tree(Handle);
+
+impl Tree {
+    /// A tree with this working directory.
+    pub fn new(cwd: &[u8]) -> Result<Tree, u32> {
+        made(|at| unsafe { ignore_tree_new(cwd.as_ptr(), cwd.len(), at) }).map(Tree)
+    }
+
+    fn text(&mut self, call: TextCall, path: &[u8]) -> u32 {
+        unsafe { call(&mut self.0, path.as_ptr(), path.len()) }
+    }
+
+    fn two(&mut self, call: TwoTextsCall, path: &[u8], text: &[u8]) -> u32 {
+        unsafe {
+            call(
+                &mut self.0,
+                path.as_ptr(),
+                path.len(),
+                text.as_ptr(),
+                text.len(),
+            )
+        }
+    }
+
+    pub fn add_dir(&mut self, path: &[u8]) -> u32 {
+        self.text(ignore_tree_add_dir, path)
+    }
+
+    pub fn add_file(&mut self, path: &[u8], bytes: &[u8]) -> u32 {
+        self.two(ignore_tree_add_file, path, bytes)
+    }
+
+    pub fn add_link(&mut self, path: &[u8], target: &[u8]) -> u32 {
+        self.two(ignore_tree_add_link, path, target)
+    }
+
+    pub fn rewrite_file(&mut self, path: &[u8], bytes: &[u8]) -> u32 {
+        self.two(ignore_tree_rewrite_file, path, bytes)
+    }
+
+    pub fn remove(&mut self, path: &[u8]) -> u32 {
+        self.text(ignore_tree_remove, path)
+    }
+
+    pub fn set_size(&mut self, path: &[u8], size: u64) -> u32 {
+        unsafe { ignore_tree_set_size(&mut self.0, path.as_ptr(), path.len(), size) }
+    }
+
+    /// Has the reading of a file be refused.
+    pub fn deny(&mut self, path: &[u8]) -> u32 {
+        unsafe { ignore_tree_cut_contents(&mut self.0, path.as_ptr(), path.len(), 0, 1) }
+    }
+}
+
+impl Drop for Tree {
+    fn drop(&mut self) {
+        unsafe { ignore_tree_free(self.0) }
+    }
+}
+
+/// A setting that is on or off.
+#[derive(Clone, Copy)]
+pub enum Switch {
+    StandardFilters,
+    Hidden,
+    Parents,
+    Ignore,
+    GitIgnore,
+    GitGlobal,
+    GitExclude,
+    RequireGit,
+    CaseInsensitive,
+    TrailingSpaces,
+}
+
+/// A text that is told of a builder.
+#[derive(Clone, Copy)]
+pub enum Label {
+    Custom,
+    CurrentDir,
+    Home,
+    ConfigHome,
+    GitGlobal,
+    GitSystem,
+}
+
+/// A builder, which it owns.
+pub struct Builder(Handle);
+
+impl Builder {
+    /// A builder with one root.
+    pub fn new(root: &[u8]) -> Result<Builder, u32> {
+        made(|at| unsafe { ignore_builder_new(root.as_ptr(), root.len(), at) }).map(Builder)
+    }
+
+    pub fn switch(&mut self, which: Switch, on: bool) -> u32 {
+        let call: SwitchCall = match which {
+            Switch::StandardFilters => ignore_builder_standard_filters,
+            Switch::Hidden => ignore_builder_hidden,
+            Switch::Parents => ignore_builder_parents,
+            Switch::Ignore => ignore_builder_ignore,
+            Switch::GitIgnore => ignore_builder_git_ignore,
+            Switch::GitGlobal => ignore_builder_git_global,
+            Switch::GitExclude => ignore_builder_git_exclude,
+            Switch::RequireGit => ignore_builder_require_git,
+            Switch::CaseInsensitive => ignore_builder_ignore_case_insensitive,
+            Switch::TrailingSpaces => ignore_builder_git_trailing_spaces,
+        };
+        unsafe { call(&mut self.0, on) }
+    }
+
+    pub fn label(&mut self, which: Label, text: &[u8]) -> u32 {
+        let call: TextCall = match which {
+            Label::Custom => ignore_builder_add_custom_ignore_filename,
+            Label::CurrentDir => ignore_builder_env_current_dir,
+            Label::Home => ignore_builder_env_home,
+            Label::ConfigHome => ignore_builder_env_xdg_config_home,
+            Label::GitGlobal => ignore_builder_env_git_config_global,
+            Label::GitSystem => ignore_builder_env_git_config_system,
+        };
+        unsafe { call(&mut self.0, text.as_ptr(), text.len()) }
+    }
+
+    pub fn depth(&mut self, is_greatest: bool, depth: Option<usize>) -> u32 {
+        let call: LimitCall = match is_greatest {
+            true => ignore_builder_max_depth,
+            false => ignore_builder_min_depth,
+        };
+        unsafe { call(&mut self.0, depth.is_some(), depth.unwrap_or(0)) }
+    }
+
+    pub fn max_filesize(&mut self, size: Option<u64>) -> u32 {
+        unsafe { ignore_builder_max_filesize(&mut self.0, size.is_some(), size.unwrap_or(0)) }
+    }
+}
+
+impl Drop for Builder {
+    fn drop(&mut self) {
+        unsafe { ignore_builder_free(self.0) }
+    }
+}
+
+/// A matcher of single paths, which it owns.
+pub struct Matcher(Handle);
+
+impl Matcher {
+    /// The matcher of a builder with one root.
+    pub fn new(builder: &mut Builder, tree: &mut Tree) -> Result<Matcher, u32> {
+        made(|at| unsafe { ignore_matcher_new(&mut builder.0, &mut tree.0, at) }).map(Matcher)
+    }
+
+    pub fn matched(
+        &mut self,
+        tree: &mut Tree,
+        path: &[u8],
+        is_dir: bool,
+        found: &mut Found,
+    ) -> u32 {
+        let (at, length) = (path.as_ptr(), path.len());
+        unsafe { ignore_matcher_matched(&mut self.0, &mut tree.0, at, length, is_dir, found) }
+    }
+
+    pub fn forget(&mut self, dir: &[u8], count: &mut usize) -> u32 {
+        unsafe { ignore_matcher_forget(&mut self.0, dir.as_ptr(), dir.len(), count) }
+    }
+
+    pub fn normalize(&mut self, path: &[u8], room: &mut [u8], whole: &mut usize) -> u32 {
+        let (at, length) = (path.as_ptr(), path.len());
+        let (to, most) = (room.as_mut_ptr(), room.len());
+        unsafe { ignore_matcher_normalize(&mut self.0, at, length, to, most, whole) }
+    }
+}
+
+impl Drop for Matcher {
+    fn drop(&mut self) {
+        unsafe { ignore_matcher_free(self.0) }
     }
 }

@@ -10,9 +10,9 @@ use Rattle.std.proofs.alloc.Global.TheLaws as heap_laws
 use Rattle.std.specs.contracts.impls.GlobalAllocator.TheImpl.{ghosts}
 use Rattle.std_alloc.proofs.BoxSteps.Form.{Bx}
 use Rattle.ignore_c.specs.contracts.handle.Handle as handle
-use Rattle.ignore_c.specs.contracts.handle.Kept as kept
+use Rattle.ignore_kept.specs.contracts.kept.Kept as kept
 use Rattle.ignore_c.specs.contracts.loose.Loose as loose
-use Rattle.ignore_c.proofs.handle.Kept.TheLaws as kept_laws
+use Rattle.ignore_kept.proofs.kept.Kept.TheLaws as kept_laws
 
 -- a box of a value of any type, by any allocator
 abbrev pub boxed : (T A : RattleType) → Laws T → Laws A → Ghosts A.Denot → Dict → Dict → Bx

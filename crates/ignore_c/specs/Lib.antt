@@ -1,5 +1,1 @@
 pub mod Owned
-pub mod Rooms
-pub mod Codes
-pub mod Lines
-pub mod Asks

@@ -1,30 +1,14 @@
 //! What C holds: a pointer to a box, which it owns.
 ghost use Rattle.std.specs.Prelude.{◌≡◌};
 ghost use Rattle.std.specs.Box.Ownership.{box_owns};
-ghost use Rattle.ignore_c.specs.declared.handle.Kept.{Kept};
+ghost use Rattle.ignore_kept.specs.declared.kept.Kept.{Kept};
 ghost use Rattle.ignore_c.specs.Owned.{kept_code};
 
 use crate::loose::Loose;
-use ignore::Error;
-use ignore::gitignore::{Gitignore, GitignoreBuilder};
+use ignore_kept::Kept;
 use std::alloc::Global;
 use std::marker::Model;
-
-/// Rules that lines are added to, and what is wrong with the line or the file that was added last.
-#[derive(Drop)]
-pub struct Lines {
-    pub(crate) builder: GitignoreBuilder,
-    pub(crate) problem: Option<Error>,
-}
-
-/// What a handle keeps.
-#[derive(Drop)]
-pub enum Kept {
-    /// Rules that lines are added to.
-    Lines(Lines),
-    /// Rules that are asked.
-    Rules(Gitignore),
-}
+use std::mem;
 
 /// A handle, as C holds it: one pointer, to what it keeps.
 #[repr(C)]
@@ -76,4 +60,22 @@ pub(crate) fn close(kept: Box<Kept>) -> Handle
     ensures { result.value ≡ kept.value }
 {
     seal(Loose::of_box(kept))
+}
+
+/// What a handle keeps, while a call has it.
+pub(crate) fn lend(handle: Handle) -> (Handle, Kept)
+    ensures { result.1 ≡ handle.value }
+{
+    let mut kept = open(handle);
+    let lent = mem::replace(&mut *kept, Kept::Lent);
+    (close(kept), lent)
+}
+
+/// A handle that keeps again what a call had.
+pub(crate) fn give_back(handle: Handle, lent: Kept) -> (Handle, ())
+    ensures { result.0.value ≡ lent }
+{
+    let mut kept = open(handle);
+    *kept = lent;
+    (close(kept), ())
 }

@@ -2,16 +2,14 @@
 //! header `include/ignore_proved.h`.
 #![tactic(auto)]
 
-mod ask;
+mod builder;
+mod choice;
 mod handle;
-mod lines;
 mod loose;
-mod refused;
-mod room;
+mod matcher;
 mod rules;
-mod text;
+mod tree;
+mod walk;
 
-pub use handle::{Handle, Kept, Lines};
+pub use handle::Handle;
 pub(crate) use loose::Loose;
-pub use refused::Refused;
-pub use rules::{Counts, Reason, RuleOptions};

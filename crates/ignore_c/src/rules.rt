@@ -1,49 +1,19 @@
 //! The exports of rules.
 ghost use Rattle.std.specs.Prelude.{◌≡◌, false, true, IfOk, IfErr, List, ℕ, Result, Ok, Err, length, string_bytes};
-ghost use Rattle.ignore_c.specs.Asks.{AsksCode, Counted, Explains};
-ghost use Rattle.ignore_c.specs.Codes.{done_code};
-ghost use Rattle.ignore_c.specs.Lines.{Begins, Builds, FileAdds, LineAdds, SetsOptions, TellsProblem};
-ghost use Rattle.ignore_c.specs.Rooms.{put_in};
-ghost use Rattle.ignore_c.specs.declared.handle.Kept.{Kept};
-ghost use Rattle.ignore_c.specs.declared.refused.Refused.{Refused};
+ghost use Rattle.ignore_kept.specs.Asks.{AsksCode, Counted, Explains};
+ghost use Rattle.ignore_kept.specs.Codes.{done_code};
+ghost use Rattle.ignore_kept.specs.Lines.{Begins, Builds, FileAdds, LineAdds, SetsOptions, TellsProblem};
+ghost use Rattle.ignore_kept.specs.Rooms.{put_in};
+ghost use Rattle.ignore_kept.specs.declared.kept.Kept.{Kept};
+ghost use Rattle.ignore_kept.specs.declared.refused.Refused.{Refused};
 
-use crate::ask::{self, Question, Told, alone, with_parents};
-use crate::handle::{Handle, Kept, close, open};
-use crate::lines::{self, Problem};
-use crate::refused::Refused;
-use crate::room::put;
+use crate::handle::{Handle, close, open};
 use core::mem;
+use ignore_kept::ask::{self, Question, Told, alone, with_parents};
+use ignore_kept::lines::{self, Problem};
+use ignore_kept::room::put;
+use ignore_kept::{Counts, Kept, Reason, Refused, RuleOptions};
 use std::alloc::Global;
-
-/// How the lines of rules are read.
-#[repr(C)]
-#[derive(Clone, Copy, Drop)]
-pub struct RuleOptions {
-    pub case_insensitive: bool,
-    pub allow_unclosed_class: bool,
-    pub git_trailing_spaces: bool,
-}
-
-/// The rule that decided: its line's number, 0 where that isn't known; how many bytes its source, its
-/// line and its glob have; whether it has a source, and whether it applies to directories only.
-#[repr(C)]
-#[derive(Clone, Copy, Drop)]
-pub struct Reason {
-    pub line: u64,
-    pub source: usize,
-    pub pattern: usize,
-    pub glob: usize,
-    pub has_source: bool,
-    pub is_only_dir: bool,
-}
-
-/// How many rules ignore, and how many whitelist.
-#[repr(C)]
-#[derive(Clone, Copy, Drop)]
-pub struct Counts {
-    pub ignores: u64,
-    pub whitelists: u64,
-}
 
 /// Begins rules of a root, without lines, and hands out their handle.
 #[unsafe(no_mangle)]

@@ -1,0 +1,318 @@
+//! The disk, as it is told to a tree: of each directory what decides there, and nothing else.
+
+use crate::gitignore::{bytes_of, done, error_of};
+use crate::library::Tree;
+use crate::Error;
+use std::collections::{HashMap, HashSet};
+use std::ffi::OsString;
+use std::os::unix::ffi::OsStringExt;
+use std::path::{Component, Path, PathBuf};
+use std::{env, fs};
+
+/// The files of a directory that decide, besides the custom ones.
+const DECIDING: [&str; 4] = [".gitignore", ".ignore", ".git", ".jj"];
+
+/// What is known of the environment.
+pub struct Known {
+    pub current_dir: PathBuf,
+    pub home: Option<PathBuf>,
+    pub config_home: Option<PathBuf>,
+    pub git_global: Option<PathBuf>,
+    pub git_system: Option<PathBuf>,
+}
+
+impl Known {
+    /// That of this process.
+    pub fn of_process() -> Result<Known, Error> {
+        let known = |name: &str| env::var_os(name).map(PathBuf::from);
+        let filled = |name: &str| known(name).filter(|path| !path.as_os_str().is_empty());
+        Ok(Known {
+            current_dir: fs::canonicalize(env::current_dir()?)?,
+            home: filled("HOME"),
+            config_home: filled("XDG_CONFIG_HOME"),
+            git_global: known("GIT_CONFIG_GLOBAL"),
+            git_system: known("GIT_CONFIG_SYSTEM"),
+        })
+    }
+}
+
+/// What a tree was told of a path.
+enum Told {
+    Dir,
+    File(Vec<u8>),
+    Link(PathBuf),
+}
+
+/// Tells a tree what the disk has, once for each directory, and again after `forget`.
+pub struct Host {
+    pub tree: Tree,
+    pub root: PathBuf,
+    names: Vec<OsString>,
+    known: Known,
+    paths: HashMap<PathBuf, Told>,
+    told: HashSet<PathBuf>,
+}
+
+impl Host {
+    /// The host of a root, which has no links on its way, and of what is above it.
+    pub fn new(root: PathBuf, custom: &[String], known: Known) -> Result<Host, Error> {
+        let tree = Tree::new(bytes_of(&known.current_dir)).map_err(error_of)?;
+        let names = DECIDING.iter().map(|name| name.to_string());
+        let mut host = Host {
+            tree,
+            root,
+            names: names
+                .chain(custom.iter().cloned())
+                .map(OsString::from)
+                .collect(),
+            known,
+            paths: HashMap::from([(PathBuf::from("/"), Told::Dir)]),
+            told: HashSet::new(),
+        };
+        let root = host.root.clone();
+        host.path(&root)?;
+        host.global_files()?;
+        for above in root.ancestors().skip(1) {
+            host.directory(above, None)?;
+        }
+        Ok(host)
+    }
+
+    /// Tells the directories from the root down to one, whole.
+    pub fn way(&mut self, below: &Path) -> Result<(), Error> {
+        let mut folder = PathBuf::new();
+        self.listed(&folder, None)?;
+        for name in below.components() {
+            folder.push(name);
+            self.listed(&folder, None)?;
+        }
+        Ok(())
+    }
+
+    /// Tells a directory below the root, of which all names may be known.
+    pub fn listed(&mut self, below: &Path, names: Option<&HashSet<OsString>>) -> Result<(), Error> {
+        if !self.told.insert(below.to_path_buf()) {
+            return Ok(());
+        }
+        self.directory(&self.root.join(below), names)
+    }
+
+    /// Tells the size of a file.
+    pub fn size(&mut self, below: &Path) -> Result<(), Error> {
+        let path = self.root.join(below);
+        let Ok(found) = fs::symlink_metadata(&path) else {
+            return Ok(());
+        };
+        if !self.paths.contains_key(&path) && found.is_file() {
+            let folder = path.parent().map(Path::to_path_buf);
+            folder.map_or(Ok(PathBuf::new()), |folder| self.folder(&folder))?;
+            self.file(&path, Vec::new())?;
+        }
+        match self.paths.get(&path) {
+            Some(Told::File(_)) => done(self.tree.set_size(bytes_of(&path), found.len())),
+            _ => Ok(()),
+        }
+    }
+
+    /// Has a directory and those below it told anew when they are needed.
+    pub fn forget(&mut self, below: &Path) {
+        self.told.retain(|it| !it.starts_with(below));
+    }
+
+    fn directory(&mut self, folder: &Path, names: Option<&HashSet<OsString>>) -> Result<(), Error> {
+        for name in self.names.clone() {
+            let path = folder.join(&name);
+            if names.is_some_and(|all| !all.contains(&name)) && !self.paths.contains_key(&path) {
+                continue;
+            }
+            let path = self.path(&path)?;
+            if name == ".git" {
+                self.repository(&path)?;
+            }
+        }
+        Ok(())
+    }
+
+    /// The exclude file of a repository's folder, or of the one that a file names.
+    fn repository(&mut self, git: &Path) -> Result<(), Error> {
+        if let Some(Told::Dir) = self.paths.get(git) {
+            self.path(&git.join("info/exclude"))?;
+            return Ok(());
+        }
+        let Some(line) = self.first_line(git) else {
+            return Ok(());
+        };
+        let Some(named) = line.strip_prefix("gitdir: ") else {
+            return Ok(());
+        };
+        let folder = clean(&self.known.current_dir.join(named));
+        let common = self.path(&folder.join("commondir"))?;
+        if let Some(named) = self.first_line(&common) {
+            let base = match named.starts_with('.') {
+                true => &folder,
+                false => &self.known.current_dir,
+            };
+            let exclude = clean(&base.join(named).join("info/exclude"));
+            self.path(&exclude)?;
+        }
+        Ok(())
+    }
+
+    fn first_line(&self, path: &Path) -> Option<String> {
+        match self.paths.get(path) {
+            Some(Told::File(bytes)) => {
+                let text = String::from_utf8_lossy(bytes);
+                text.lines().next().map(str::to_string)
+            }
+            _ => None,
+        }
+    }
+
+    /// git's configuration, and each file that it may name.
+    fn global_files(&mut self) -> Result<(), Error> {
+        let home = self.known.home.clone();
+        let system = self.known.git_system.clone();
+        let mut configs = vec![system.unwrap_or_else(|| PathBuf::from("/etc/gitconfig"))];
+        configs.extend(self.known.git_global.clone());
+        configs.extend(home.as_ref().map(|home| home.join(".gitconfig")));
+        let config_home = self.known.config_home.clone();
+        if let Some(folder) = config_home.or_else(|| home.as_ref().map(|it| it.join(".config"))) {
+            configs.push(folder.join("git/config"));
+            let path = clean(&self.known.current_dir.join(folder.join("git/ignore")));
+            self.path(&path)?;
+        }
+        for config in configs {
+            let path = self.path(&clean(&self.known.current_dir.join(config)))?;
+            for named in excludes_in(self.paths.get(&path)) {
+                let whole = match (named.strip_prefix("~"), &home) {
+                    (Some(rest), Some(home)) => format!("{}{rest}", home.display()),
+                    _ => named,
+                };
+                self.path(&clean(&self.known.current_dir.join(whole)))?;
+            }
+        }
+        Ok(())
+    }
+
+    /// Tells what is at a path, and the links on its way: a file with its bytes, a folder, a link and
+    /// what it leads to. It returns the path without links on the way to it.
+    fn path(&mut self, path: &Path) -> Result<PathBuf, Error> {
+        let Ok(found) = fs::symlink_metadata(path) else {
+            self.gone(path)?;
+            return Ok(path.to_path_buf());
+        };
+        let path = match (path.parent(), path.file_name()) {
+            (Some(folder), Some(name)) => self.folder(folder)?.join(name),
+            _ => return Ok(path.to_path_buf()),
+        };
+        if found.is_symlink() {
+            self.link(&path)?;
+        } else if found.is_dir() {
+            self.folder(&path)?;
+        } else if found.is_file() {
+            match fs::read(&path) {
+                Ok(bytes) => self.file(&path, bytes)?,
+                Err(_) => {
+                    self.file(&path, Vec::new())?;
+                    done(self.tree.deny(bytes_of(&path)))?;
+                }
+            }
+        }
+        Ok(path)
+    }
+
+    fn file(&mut self, path: &Path, bytes: Vec<u8>) -> Result<(), Error> {
+        match self.paths.get(path) {
+            Some(Told::File(had)) if *had == bytes => return Ok(()),
+            Some(Told::File(_)) => done(self.tree.rewrite_file(bytes_of(path), &bytes))?,
+            _ => {
+                self.gone(path)?;
+                done(self.tree.add_file(bytes_of(path), &bytes))?;
+            }
+        }
+        self.paths.insert(path.to_path_buf(), Told::File(bytes));
+        Ok(())
+    }
+
+    fn link(&mut self, path: &Path) -> Result<(), Error> {
+        let target = fs::read_link(path)?;
+        match self.paths.get(path) {
+            Some(Told::Link(had)) if *had == target => {}
+            _ => {
+                self.gone(path)?;
+                done(self.tree.add_link(bytes_of(path), bytes_of(&target)))?;
+                self.paths.insert(path.to_path_buf(), Told::Link(target));
+            }
+        }
+        if let Ok(led) = fs::canonicalize(path) {
+            self.path(&led)?;
+        }
+        Ok(())
+    }
+
+    /// Tells a folder, and those above it; it returns its path without links.
+    fn folder(&mut self, path: &Path) -> Result<PathBuf, Error> {
+        let mut real = PathBuf::from("/");
+        for name in path.components().skip(1) {
+            let here = real.join(name);
+            if let Some(Told::Dir) = self.paths.get(&here) {
+                real = here;
+            } else if fs::symlink_metadata(&here).is_ok_and(|found| found.is_symlink()) {
+                self.link(&here)?;
+                real = fs::canonicalize(&here)?;
+            } else {
+                self.gone(&here)?;
+                done(self.tree.add_dir(bytes_of(&here)))?;
+                self.paths.insert(here.clone(), Told::Dir);
+                real = here;
+            }
+        }
+        Ok(real)
+    }
+
+    fn gone(&mut self, path: &Path) -> Result<(), Error> {
+        if !self.paths.contains_key(path) {
+            return Ok(());
+        }
+        done(self.tree.remove(bytes_of(path)))?;
+        self.paths.retain(|it, _| !it.starts_with(path));
+        Ok(())
+    }
+}
+
+/// The values of `excludesfile` in a configuration: at least those by which git goes.
+fn excludes_in(config: Option<&Told>) -> Vec<String> {
+    let Some(Told::File(bytes)) = config else {
+        return Vec::new();
+    };
+    let mut values = Vec::new();
+    for line in String::from_utf8_lossy(bytes).lines() {
+        let Some((key, value)) = line.split_once('=') else {
+            continue;
+        };
+        if key.trim().eq_ignore_ascii_case("excludesfile") {
+            values.push(value.trim().trim_matches('"').to_string());
+        }
+    }
+    values
+}
+
+/// A path without `.` and `..`, which are read as names.
+pub fn clean(path: &Path) -> PathBuf {
+    let mut whole = PathBuf::new();
+    for part in path.components() {
+        match part {
+            Component::CurDir => {}
+            Component::ParentDir => {
+                whole.pop();
+            }
+            other => whole.push(other),
+        }
+    }
+    whole
+}
+
+/// A text from the library as a path.
+pub fn path_of(bytes: &[u8]) -> PathBuf {
+    PathBuf::from(OsString::from_vec(bytes.to_vec()))
+}

@@ -1,0 +1,5 @@
+pub mod Adding
+pub mod Telling
+pub mod Asking
+pub mod Listing
+pub mod Wishing

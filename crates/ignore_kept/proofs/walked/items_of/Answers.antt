@@ -1,0 +1,21 @@
+-- The list of a walk is that of a builder without closures.
+use Rattle.ignore_files.specs.Answers.{tree_of}
+use Rattle.ignore_kept.proofs.Listing.{all_tie, listed, passes_all, unlisted, unordered}
+use Rattle.ignore_kept.proofs.walked.items_of.Goals as goal
+
+pub returns-in-Ok-clause-listed : goal.returns-in-Ok-clause-listed
+returns-in-Ok-clause-listed c =
+    let b = c.from_options-builder.result in
+    let o = c.from_options-builder.ensures in
+    listed _ _ c.args.tree.now c.args.env.now _ c.args.options _ _ o.options (unordered _ _ o.plain.0)
+    (record { passes = λ keep all. passes_all b.filter _ keep o.plain.1 all; ties = all_tie b.sorter _ o.plain.0 })
+    (c.in-Ok.ensures.headline (tree_of c.args.tree.now) c.is_honest.ensures)
+    (c.in-Ok.ensures.exists (tree_of c.args.tree.now) c.is_honest.ensures)
+
+pub returns-clause-stopped : goal.returns-clause-stopped
+returns-clause-stopped c =
+    let b = c.from_options-builder.result in
+    let o = c.from_options-builder.ensures in
+    unlisted _ _ _ _ c.args.tree.now c.args.env.now _ c.args.options _ _ _ c.is_honest.ensures o.options (unordered _ _ o.plain.0)
+    (record { passes = λ keep all. passes_all b.filter _ keep o.plain.1 all; ties = all_tie b.sorter _ o.plain.0 }) c.ended.ensures
+    c.in-Err.ensures.ended

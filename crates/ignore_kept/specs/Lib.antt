@@ -1,0 +1,11 @@
+pub mod Rooms
+pub mod Codes
+pub mod Lines
+pub mod Asks
+pub mod Kinds
+pub mod Stops
+pub mod Trees
+pub mod Setups
+pub mod Matching
+pub mod Walking
+pub mod Wishes

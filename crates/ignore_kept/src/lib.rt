@@ -1,0 +1,23 @@
+//! What the handles of the library for C keep, and what each call makes of it: `ignore_c` has the
+//! handles and the exports.
+#![tactic(auto)]
+
+pub mod ask;
+pub mod asker;
+pub mod change;
+mod kept;
+pub mod lines;
+mod refused;
+pub mod room;
+mod rule;
+pub mod setting;
+pub mod setup;
+mod stopped;
+mod text;
+pub mod walked;
+pub mod wish;
+
+pub use kept::{Kept, Lines};
+pub use refused::Refused;
+pub use rule::{Counts, Reason, RuleOptions};
+pub use stopped::{Stopped, done};
