@@ -115,9 +115,9 @@ opened_kept g ((Err q, p) ∷ more) old new names h o =
 
 -- rules at their places
 
-pub record StandsAt (rule : Named) (source : List ℕ) (line : ℕ) : Type 0 where
-  pub source : rule.from ≡ Some source
-  pub line : rule.line ≡ Some line
+pub record StandsAt (rule : Named) (file : List ℕ) (number : ℕ) : Type 0 where
+  pub source : rule.from ≡ Some file
+  pub line : rule.line ≡ Some number
 
 given_stands : (b : Bool) (text p : List ℕ) → cond b (Some text) None ≡ Some p → (b ≡ true) × (text ≡ p)
 given_stands true text p e = (refl, cc e)
@@ -183,14 +183,18 @@ decider [] e p rule h is = absurd (contains_none _ h)
 decider ((Ok x, q) ∷ more) e p rule h is =
     elim (contains_cons (Ok x, q) more (Ok e, p) h) [
       | inl same ↦
-          let here : x ≡ e = cc same in
+          let first = ap (λ (s : Seen). s.0) same in
+          let here : x ≡ e = cc first in
           let o : rule_of x.why ≡ Some rule = ap (λ (y : Entry). rule_of y.why) here ∙ is in
           Contains-append_left (option_to_list (rule_of x.why)) (deciding more) rule
           (subst (λ (o : Option Named). Contains (option_to_list o) rule) (sym o) (contains_here rule []))
       | inr rest ↦ Contains-append_right (option_to_list (rule_of x.why)) (deciding more) rule (decider more e p rule rest is)
     ]
 decider ((Err x, q) ∷ more) e p rule h is =
-    elim (contains_cons (Err x, q) more (Ok e, p) h) [ inl same ↦ absurd (cc same) | inr rest ↦ decider more e p rule rest is ]
+    elim (contains_cons (Err x, q) more (Ok e, p) h) [
+      | inl same ↦ let first = ap (λ (s : Seen). s.0) same in absurd (cc first)
+      | inr rest ↦ decider more e p rule rest is
+    ]
 
 pub decided_by : (seen : List Seen) (rule : Named) → Contains (deciding seen) rule
     → (e : Entry) × (p : Option Problem) × Contains seen (Ok e, p) × (rule_of e.why ≡ Some rule)

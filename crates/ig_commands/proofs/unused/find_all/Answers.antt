@@ -42,8 +42,8 @@ loop-matcher-preserved g c =
           (sym same) (seen_more reports (met all) r.0 _ _ _ so.2 h.2),
       seen_counts is_wrong (met all) r.0 _ _ _ so.3 h.3 c.saturating_add-reported.ensures ∙ ap (λ (xs : List OfRoot). counted 0 (map is_wrong (all_seen xs))) (sym same),
       subst (λ (xs : List OfRoot). Grows (first_at (deciding (all_seen xs))) c.args.found.now.used c.find_below.new.found.used) (sym same)
-          (grows_root (met all) r.0 _ _ _ so.4 h.4),
-      grows_read all r _ _ _ so.5 h.5,
+          (grows_root (met all) r.0 c.args.found.now.used l.found.used c.find_below.new.found.used so.4 h.4),
+      grows_read all r c.args.found.now.read l.found.read c.find_below.new.found.read so.5 h.5,
     )
 
 -- all roots are surveyed

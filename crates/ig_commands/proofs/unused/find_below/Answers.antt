@@ -69,8 +69,8 @@ returns-in-Ok-note_read-clause-found g c =
     )
 
 -- out of memory for those, all items are met
-pub returns-in-Err-clause-ended : goal.returns-in-Err-clause-ended
-returns-in-Err-clause-ended g c =
+pub returns-clause-ended : goal.returns-clause-ended
+returns-clause-ended g c =
     let m = c.args.matcher in
     let s = c.in-Ok.survey in
     let u = c.find_items.new.items in

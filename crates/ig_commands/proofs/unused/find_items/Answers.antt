@@ -42,7 +42,7 @@ loop-item-preserved g c =
         text_more_by seen_of reports runs.seen item _ _ _ runs.holds.0 h.reports,
         counts_more_by seen_of is_wrong runs.seen item _ _ _ runs.holds.1 (search rules) h.wrong,
         All-push (λ x. item_of x ≢ Err memory) runs.seen item runs.holds.2 h.enough,
-        grows_by runs.seen item _ _ _ runs.holds.3 h.used,
+        grows_by runs.seen item c.args.found.now.used l.found.used c.find_by.new.found.used runs.holds.3 h.used,
       );
       read = h.read ∙ l.invariant.read;
     }

@@ -53,7 +53,8 @@ returns-in_err-more-clause-ended g c =
           (g.E.Write.contents c.args.err.now) (g.E.Write.contents c.report_all.new.err) (g.E.Write.contents c.find_all.new.err)
           c.in_err-more.field-0.0
           (reported_as c.deref.result.now c.args.asked.errors.items (g.E.Write.contents c.args.err.now) (g.E.Write.contents c.report_all.new.err) c.deref.ensures.value c.in_ok-reported.ensures.reports.1)
-          (ends_out (flat_map reports (all_seen all)) out _ c.in_err-more.field-0.0 h.8),
+          (ends_out (flat_map reports (all_seen all)) out
+          (Appends (g.E.Write.contents c.report_all.new.err) (g.E.Write.contents c.find_all.new.err)) c.in_err-more.field-0.0 h.8),
       λ tree honest none.
           let made = c.in-Ok.ensures.made tree honest in
           let begun = begun_of g.F.Files c.args.world.now.files.now (λ (x : OfRoot × List Named). x.0) (λ (x : OfRoot × List Named). Finds x.1)
@@ -136,9 +137,9 @@ returns-clause-lists g c =
                 let at = λ (root : List _). scene tree loads c.args.asked.walk.settings roots.0 root in (
                   whole_met at h.0 (roots.2 loads are),
                   λ lists. are_unused at h.0 c.find_all.new.found.read c.find_all.new.found.used (roots.2 loads are) lists
-                      (grown_at (read_in h.0) c.new.result.read c.find_all.new.found.read (λ source line. (c.new.ensures.none source line).0) h.5)
-                      (grown_at (deciding (all_seen (met h.0))) c.new.result.used c.find_all.new.found.used
-                      (λ source line. (c.new.ensures.none source line).1) h.4)
+                      (grown_at (read_in h.0) c.new-found.result.read c.find_all.new.found.read (λ source line. (c.new-found.ensures.none source line).0) h.5)
+                      (grown_at (deciding (all_seen (met h.0))) c.new-found.result.used c.find_all.new.found.used
+                      (λ source line. (c.new-found.ensures.none source line).1) h.4)
                       w.0 w.1,
                 ),
           ),

@@ -1,6 +1,8 @@
 use Rattle.std.proofs.Common.{◌≡◌, ◌∙◌, ◌∷◌, ◌++◌, ℕ, [], List, Option, ap, arith, length, length-append, map, string_bytes, subst}
 use Rattle.std.proofs.lemmas.List.Elements.{All-pop}
 use Rattle.std.specs.Option.{option_to_list}
+use Rattle.ignore_dir.specs.declared.outside.Outside.{Outside}
+use Rattle.ignore_dir.specs.declared.settings.Settings.{Settings}
 use Rattle.ignore_query.specs.Agrees.{Agrees}
 use Rattle.ignore_query.specs.Fresh.{KeepsNothing}
 use Rattle.ignore_query.specs.Reached.{scene_of}
@@ -23,7 +25,7 @@ returns-clause-asked g c = λ tree honest.
     let ms = subst (λ (o : WalkOptions). AreMatchers tree env o all) made (c.in_ok-matchers.ensures.read tree honest) in
     let items : all ≡ c.pop.new.self.items ++ c.in-Some.matcher ∷ [] =
     c.pop.ensures.items ∙ ap (λ (o : Option IncrementalIgnore). c.pop.new.self.items ++ option_to_list o) c.in-Some.is in
-    let by = λ (r : List ℕ). (b.settings, ms.0, r, env.current_dir) in (
+    let by : List ℕ → Settings × Outside × List ℕ × Option (List ℕ) = λ r. (b.settings, ms.0, r, env.current_dir) in (
       ms.0,
       root,
       c.in_ok-root.ensures.root tree honest,
