@@ -1,5 +1,5 @@
 -- Rules of files in the order of files and lines, and which of them are left without others.
-use Rattle.std.proofs.Common.{◌≡◌, ◌∙◌, ◌⊎◌, ◌<◌, ◌==◌, ◌↔◌, ◌&&◌, not, ℕ, suc, zero, All, Bool, true, false, cond, List, [], ◌∷◌, ◌++◌, length, get_or, map, Contains, Option, None, Some, is_some, option_map, string_bytes, refl, sym, ap, subst, inl, inr, arith}
+use Rattle.std.proofs.Common.{◌≡◌, ◌∙◌, ◌⊎◌, not, ℕ, suc, zero, All, Bool, true, false, cond, List, [], ◌∷◌, ◌++◌, map, Contains, Option, None, Some, is_some, option_map, string_bytes, refl, sym, ap, subst, inl, inr, arith}
 use Rattle.std.proofs.lemmas.Cmp.{nat_cmp_total, ranked}
 use Rattle.std.proofs.lemmas.List.Elements.{All-contains, All-head, All-tail}
 use Rattle.std.proofs.lemmas.Map.Text.{is_eq-slice_cmp}

@@ -221,8 +221,12 @@ module _ {F X : Type 0} (files : Files F) (f : F) (view : X → OfRoot) (P : X �
   goes_by : (names : List (List ℕ)) → names ≡ roots → GoesBy tree env o b names made.0
   goes_by names same = record {
     trimmed = subst (λ (rs : List (List ℕ)). AllZip IsTrimmed (map string_bytes o.roots.items) rs) (sym same) trimmed;
-    read = record { overrides = made.1.overrides; types = made.1.types; explicit = made.1.explicit;
-        global = same_global b.settings.git_global tree env b roots (base_dir b env) made.0.global made.1.global };
+    read = record {
+      overrides = made.1.overrides;
+      types = made.1.types;
+      explicit = made.1.explicit;
+      global = same_global b.settings.git_global tree env b roots (base_dir b env) made.0.global made.1.global;
+    };
   }
 
   -- what holds of each matcher holds of each root

@@ -1,5 +1,5 @@
 -- Rules of files, by where they stand.
-use Rattle.std.specs.Prelude.{◌≡◌, ◌↔◌, ℕ, ◌==◌, ◌&&◌, not, Bool, List, [], ◌∷◌, ◌++◌, map, Contains, Option, None, Some, is_some, option_map, string_bytes, if◌then◌else◌}
+use Rattle.std.specs.Prelude.{◌≡◌, ◌↔◌, ℕ, ◌==◌, ◌&&◌, not, Bool, List, [], ◌++◌, map, Contains, Option, None, Some, is_some, option_map, string_bytes, if◌then◌else◌}
 use Rattle.std.specs.BTreeMap.{BTreeMap, get, get_by_text}
 use Rattle.std.specs.List.{filter, flat_map}
 use Rattle.std.specs.Option.{option_or}

@@ -1,10 +1,10 @@
 -- What the program writes for an entry.
-use Rattle.std.specs.Prelude.{ℕ, Bool, true, false, ◌||◌, ◌&&◌, not, List, [], ◌∷◌, ◌++◌, Option, None, Some, Ok, Err, if◌then◌else◌}
+use Rattle.std.specs.Prelude.{Bool, false, ◌||◌, ◌&&◌, not, [], ◌∷◌, ◌++◌, Option, None, Some, Ok, Err, if◌then◌else◌}
 use Rattle.ignore_base.specs.Paths.{trim_of}
 use Rattle.ignore_base.specs.Text.{Bytes, Path}
 use Rattle.ignore_files.specs.declared.types.FileType.{FileType}
 use Rattle.ignore_files.specs.declared.types.FileType.TheVariants.{File, Dir, Symlink, Other}
-use Rattle.ignore_walk.specs.Entry.{Entry, Item}
+use Rattle.ignore_walk.specs.Entry.{Item}
 use Rattle.ig_options.specs.declared.options.Options.{Options}
 
 -- the path as it is written: where no root is given, without one leading `./`

@@ -1,11 +1,8 @@
-use Rattle.std.proofs.Common.{◌≡◌, ◌∙◌, List, ◌∷◌, ◌++◌, [], map, option_map, take, sym, ap, subst, rules}
-use Rattle.std.proofs.lemmas.Grind.{flat_map-append}
-use Rattle.std.proofs.lemmas.List.{append-nil, map-append}
+use Rattle.std.proofs.Common.{◌≡◌, ◌∙◌, map, option_map, take, sym, ap, subst, rules}
 use Rattle.std.specs.Io.KnownBytes.{Appends}
 use Rattle.std.specs.List.{flat_map}
 use Rattle.ignore_base.specs.Problem.{problem_of}
 use Rattle.commands.proofs.CheckLemmas.{map-take-push}
-use Rattle.commands.proofs.LineLemmas.{appends_on}
 use Rattle.ig_commands.specs.Counts.{counted, one_more}
 use Rattle.ig_commands.specs.Reports.{is_known, report_of}
 use Rattle.ig_commands.proofs.FieldLemmas.{problem_through, reported_more}
