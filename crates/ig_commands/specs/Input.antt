@@ -1,5 +1,5 @@
 -- The paths of standard input.
-use Rattle.std.specs.Prelude.{◌≡◌, ◌≢◌, ℕ, ◌+◌, List, [], ◌∷◌, ◌++◌, Contains, if◌then◌else◌}
+use Rattle.std.specs.Prelude.{◌≢◌, ℕ, ◌+◌, List, [], ◌∷◌, ◌++◌, Contains, if◌then◌else◌}
 use Rattle.ignore_base.specs.Text.{Bytes}
 use Rattle.ig_options.specs.Given.{Gives, is_opened}
 use Rattle.ig_options.specs.declared.given.Given.{Given}

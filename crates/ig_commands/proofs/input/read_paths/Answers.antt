@@ -1,4 +1,4 @@
-use Rattle.std.proofs.Common.{◌≡◌, ◌∙◌, ◌+◌, ℕ, Bool, cond, Some, rules, refl, sym, ap, subst}
+use Rattle.std.proofs.Common.{◌≡◌, ◌∙◌, ◌+◌, Bool, cond, rules, refl, sym, ap, subst}
 use Rattle.std.specs.Io.Iter.{split_known_bytes}
 use Rattle.ig_options.specs.Given.{Gives, is_opened}
 use Rattle.ig_options.specs.declared.options.Options.{Options}

@@ -1,6 +1,6 @@
-use Rattle.std.proofs.Common.{◌≡◌, ◌≢◌, ◌⊎◌, [], inl, inr, map, option_map}
+use Rattle.std.proofs.Common.{inl, inr, map, option_map}
 use Rattle.std.proofs.lemmas.Result.{IfErr-weaker, IfOk-weaker}
-use Rattle.ignore_base.specs.Problem.{memory, problem_of}
+use Rattle.ignore_base.specs.Problem.{problem_of}
 use Rattle.commands.proofs.LineLemmas.{appends_nothing}
 use Rattle.ig_commands.specs.Listing.{RefusesOptions}
 use Rattle.ig_commands.proofs.StopLemmas.{ends_at_once, refused}

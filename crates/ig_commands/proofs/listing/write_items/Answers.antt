@@ -1,4 +1,4 @@
-use Rattle.std.proofs.Common.{◌≢◌, ℕ, [], Err, map, rules, subst}
+use Rattle.std.proofs.Common.{◌≢◌, [], Err, map, rules, subst}
 use Rattle.std.proofs.lemmas.List.Elements.{All-nil}
 use Rattle.std.proofs.lemmas.Result.{err_from_is_err_and}
 use Rattle.std.specs.List.{flat_map}

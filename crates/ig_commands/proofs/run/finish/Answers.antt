@@ -1,5 +1,4 @@
-use Rattle.std.proofs.Common.{◌∙◌, refl, sym}
-use Rattle.std.proofs.lemmas.Result.{IfErr-weaker}
+use Rattle.std.proofs.Common.{refl}
 use Rattle.ig_commands.proofs.RunLemmas.{kept_err, kept_ok, none_kept, told_err}
 use Rattle.ig_commands.proofs.run.finish.Goals as goal
 
