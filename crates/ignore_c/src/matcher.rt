@@ -14,7 +14,6 @@ use ignore_kept::{Kept, Stopped};
 use std::alloc::Global;
 
 /// Makes the matcher of a builder with one root, and hands out its handle.
-#[tactic(auto, using(crate::proofs::Making::matcher_made, crate::proofs::Making::matcher_unmade))]
 #[unsafe(no_mangle)]
 pub extern "C" fn ignore_matcher_new(
     alloc: Global,

@@ -14,7 +14,6 @@ use ignore_kept::{Kept, Stopped};
 use std::alloc::Global;
 
 /// Makes all items of a walk of a builder over a tree, and hands out their handle.
-#[tactic(auto, using(crate::proofs::Making::walk_made, crate::proofs::Making::walk_unmade))]
 #[unsafe(no_mangle)]
 pub extern "C" fn ignore_walk_new(
     alloc: Global,
