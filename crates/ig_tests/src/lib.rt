@@ -1,8 +1,5 @@
-//! Tests of the program `ig`: its completions name each of its options, and it ends as it says where
-//! nothing can be written or read.
+//! Tests of the program `ig`: it ends as it says where nothing can be written or read.
 #![tactic(auto)]
 
-#[cfg(test)]
-mod completions;
 #[cfg(test)]
 mod ends;
