@@ -71,6 +71,7 @@ pub fn explain_paths<F: Files>(
     ensures agrees { WhereAgrees F.Files files.now matcher.old (λ g. Agrees g matcher.new.cache) }
     ensures stays { Stays matcher.old.cache matcher.new.cache }
     ensures loaded { KeepsLoads F.Files files.now matcher.old.asked matcher.old.cache matcher.new.cache }
+    ensures each { IfOk result (λ rs. length rs.items ≡ length paths.now) }
     ensures soft { IfOk result (λ rs. All (λ r. IsSoft (option_map problem_of r.1)) rs.items) }
     ensures same { matcher.new.asked ≡ matcher.old.asked }
     ensures out_of_memory { IfErr result (λ e. problem_of e ≡ memory) }
