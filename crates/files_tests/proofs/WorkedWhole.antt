@@ -40,9 +40,12 @@ everywhere = record {
   identity = λ p follow. Err NotFound;
 }
 
+-- the same, where everything is a link that leads nowhere
+abbrev links : Tree
+links = record everywhere { stat = λ p follow. if follow then Err NotFound else Ok (record { file_type = kind.Symlink; len = 1 }) }
+
 -- a link that leads nowhere isn't found: the `stat` that counts follows links
-pub link_to_nowhere : (is_found (record everywhere { stat = λ p follow. if follow then Err NotFound else Ok (record { file_type = kind.Symlink; len = 1 }) }) (codes "/t/l") ≡ false)
-    × (is_found everywhere (codes "/t/l") ≡ true)
+pub link_to_nowhere : (is_found links (codes "/t/l") ≡ false) × (is_found everywhere (codes "/t/l") ≡ true)
 link_to_nowhere = (refl, refl)
 
 -- where no answers are given, a tree may have listings that aren't whole
