@@ -5,4 +5,6 @@ pub mod LeftLemmas
 pub mod OneSurvey
 pub mod SuitLemmas
 pub mod SurveyLemmas
+pub mod WorkedFaults
+pub mod WorkedNexts
 pub mod WorkedSurvey

@@ -1,0 +1,141 @@
+-- What the answers of a survey's `next` may be, in small cases, and what a stack stands for.
+use Rattle.std.proofs.Common.{◌≡◌, ◌≢◌, ◌⊎◌, ◌+◌, ℕ, suc, true, false, List, [], ◌∷◌, ◌++◌, Option, None, Some, option_map, Result, Ok, Err, inl, inr, codes, refl, sym, ◌∙◌, ap}
+use Rattle.std.proofs.Common.{Bool, string_bytes, if◌then◌else◌}
+use Rattle.ignore_base.specs.Paths.{join_of}
+use Rattle.ignore_base.specs.Problem.{at_path, io, memory, problem_of}
+use Rattle.ignore_base.specs.declared.error.Error.{Error}
+use Rattle.ignore_base.specs.declared.fault.Fault.TheVariants.{BadName, StepLimit}
+use Rattle.ignore_dir.specs.Scene.{QueryScene}
+use Rattle.ignore_files.specs.Kinds.{is_dir}
+use Rattle.ignore_files.specs.declared.files.Files.{Ghosts as Files}
+use Rattle.ignore_files.specs.declared.types.FileType.TheVariants.{Dir as dir_kind, File as file_kind}
+use Rattle.ignore_files.specs.declared.types.Listed.TheVariants as thing
+use Rattle.ignore_query.specs.declared.kept.Cache.{Cache}
+use Rattle.ignore_query.specs.Reports.{reported}
+use Rattle.ignore_survey.specs.Nexts.{EndsBy, IsLast, NextGives, Nexts, Remaining, items_at_most}
+use Rattle.ignore_survey.specs.Stands.{InTurn, Left, Waits, found_at, next_dir}
+use Rattle.ignore_survey.specs.Suits.{LeavesNext, Reports}
+use Rattle.ignore_survey.specs.Survey.{Entry, Item}
+use Rattle.ignore_survey.specs.Surveyed.{item_of}
+use Rattle.ignore_survey.specs.declared.survey.Survey.{Survey}
+use Rattle.ignore_survey.specs.declared.surveyed.Surveyed.{Surveyed}
+use Rattle.ignore_survey.proofs.WorkedSurvey.{g as whole, ways}
+
+-- the limit, as an item
+abbrev limit : Item
+limit = Err (io StepLimit)
+
+abbrev out_of_memory : Item
+out_of_memory = Err memory
+
+not_memory : limit ≡ out_of_memory → ⊥
+not_memory h = cc (h)
+
+-- the limit ends a survey where no item may follow and some remained
+
+pub limit_told : (item : Item) (items : List Item) → EndsBy limit 0 (item ∷ items)
+limit_told item items = inr (refl, (refl, some))
+  where
+    some : item ∷ items ≢ []
+    some e = cc (e)
+
+pub not_before_the_limit : (left : ℕ) (items : List Item) → EndsBy limit (suc left) items → ⊥
+not_before_the_limit left items (inl h) = not_memory h
+not_before_the_limit left items (inr h) = let e = h.1.0 in cc (e)
+
+pub not_where_none_remain : (left : ℕ) → EndsBy limit left [] → ⊥
+not_where_none_remain left (inl h) = not_memory h
+not_where_none_remain left (inr h) = h.1.1 refl
+
+-- and no entry does
+pub no_entry_ends : (e : Entry) (left : ℕ) (items : List Item) → EndsBy (Ok e) left items → ⊥
+no_entry_ends e left items (inl h) = by h
+  where
+    by : let x : Item = Ok e in x ≡ out_of_memory → ⊥
+    by h = cc (h)
+no_entry_ends e left items (inr h) = by h.0
+  where
+    by : let x : Item = Ok e in x ≡ limit → ⊥
+    by h = cc (h)
+
+pub last_is_no_entry : (e : Entry) (left : ℕ) → IsLast (Some (Ok e)) left → ⊥
+last_is_no_entry e left (inl h) = no_entry_ends e left [] (inl h)
+last_is_no_entry e left (inr h) = by h.0
+  where
+    by : let x : Item = Ok e in x ≡ limit → ⊥
+    by h = cc (h)
+
+pub last_within_the_limit : (left : ℕ) → IsLast (Some limit) (suc left) → ⊥
+last_within_the_limit left (inl h) = not_memory h
+last_within_the_limit left (inr h) = let e = h.1 in cc (e)
+
+-- an ended survey has no item to come, and another has one more than those that may follow
+pub how_many : {F : Type 0} (s : Survey F) → (s.ended ≡ true → items_at_most s ≡ 0) × (s.ended ≡ false → items_at_most s ≡ s.left + 1)
+how_many s = (λ e. ap (λ (b : Bool). if b then 0 else s.left + 1) e, λ e. ap (λ (b : Bool). if b then 0 else s.left + 1) e)
+
+module _ {F : Type 0} (files : Files F) (g : QueryScene) (a b : Survey F) where
+  -- none is answered where none remains; else it is the first of them, or the survey ends
+
+  pub none_where_some_remain : (item : Item) (items : List Item) → Nexts files g a None b (item ∷ items) → ⊥
+  none_where_some_remain item items h = cc (h)
+
+  pub the_first_or_the_end : (x item : Item) (items : List Item) → Nexts files g a (Some x) b (item ∷ items) → (item ≡ x) ⊎ (b.ended ≡ true)
+  the_first_or_the_end x item items (inl h) = inl (head h.others h.are)
+    where
+      head : (others : List Item) → item ∷ items ≡ x ∷ others → item ≡ x
+      head others e = cc (e)
+  the_first_or_the_end x item items (inr h) = inr h.1
+
+  some_where_none_remain : (x : Item) → Nexts files g a (Some x) b [] → x ≡ out_of_memory
+  some_where_none_remain x (inl h) = absurd (no h.others h.are)
+    where
+      no : (others : List Item) → [] ≡ x ∷ others → ⊥
+      no others e = cc (e)
+  some_where_none_remain x (inr (inl h, over)) = h
+  some_where_none_remain x (inr (inr h, over)) = absurd (h.1.1 refl)
+
+  pub where_none_remain : (answer : Option (Result Surveyed Error)) → NextGives files a answer b → Remaining files g a []
+      → (option_map item_of answer ≡ None) ⊎ (option_map item_of answer ≡ Some out_of_memory)
+  where_none_remain answer h r = by (option_map item_of answer) (h.given g [] r)
+    where
+      by : (o : Option Item) → Nexts files g a o b [] → (o ≡ None) ⊎ (o ≡ Some out_of_memory)
+      by None n = inl refl
+      by (Some x) n = inr (ap Some (some_where_none_remain x n))
+
+  -- an ended survey answers none, and stays ended
+  pub after_the_end : (answer : Option (Result Surveyed Error)) → NextGives files a answer b → a.ended ≡ true
+      → (answer ≡ None) × (b.ended ≡ true)
+  after_the_end answer h over = (h.over over, h.none (h.over over))
+
+  -- a fault among the items leaves what is kept as it was
+  pub kept_at_a_fault : (old new : Cache) (e : Error) → LeavesNext g old (Some (Err e)) false new → new ≡ old
+  kept_at_a_fault old new e (inl h) = absurd (no h)
+    where
+      no : false ≡ true → ⊥
+      no over = cc (over)
+  kept_at_a_fault old new e (inr h) = h
+
+  -- the error beside an entry is that of its query
+  pub error_of_the_query : (c : Cache) (s : Surveyed) (e : Error) → Reports g c (Ok s) → s.error ≡ Some e
+      → reported g c (string_bytes s.path) (is_dir s.file_type) ≡ Some (problem_of e)
+  error_of_the_query c s e h is = sym h ∙ ap (λ (o : Option Error). option_map problem_of o) is
+
+-- an empty stack gives nothing
+
+pub empty_stack : (g : QueryScene) → InTurn (Waits g None) (Left g []) []
+empty_stack g = record { own = []; outer = []; first = refl; rest = refl; are = refl }
+
+pub nothing_more : (g : QueryScene) (items : List Item) → InTurn (Waits g None) (Left g []) items → items ≡ []
+nothing_more g items h =
+    h.are ∙ (ap (λ (l : List Item). l ++ h.outer) h.first ∙ h.rest)
+
+-- of the survey of `/t` what is below `a` is to be listed next, and what is below `b` isn't; what a
+-- directory lists has the path of that before it
+pub next_dirs : (next_dir whole (codes "a") dir_kind ≡ Some (codes "a")) × (next_dir whole (codes "b") dir_kind ≡ None)
+next_dirs = (ap (λ (b : Bool). if b then Some (codes "a") else None) ways.2, ap (λ (b : Bool). if b then Some (codes "b") else None) ways.4)
+
+pub found_in_a : (found_at (codes "/t") (codes "a") (thing.Entry (codes "k") file_kind) ≡ Ok (codes "a/k", file_kind))
+    × (found_at (codes "/t") (codes "a") (thing.Fault BadName) ≡ Err (at_path (codes "/t/a") (io BadName)))
+    × (found_at (codes "/t") [] (thing.Fault BadName) ≡ Err (at_path (codes "/t") (io BadName)))
+unfolding join_of
+found_in_a = (refl, refl, refl)
