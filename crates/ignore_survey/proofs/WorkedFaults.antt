@@ -8,7 +8,6 @@ use Rattle.std.specs.Ordering.{is_lt, nat_cmp}
 use Rattle.std.specs.Str.{chars}
 use Rattle.ignore_base.specs.Paths.{below, file_name_of, join_of, strip_prefix_of}
 use Rattle.ignore_base.specs.Problem.{at_path, io}
-use Rattle.ignore_base.specs.declared.fault.Fault.{Fault}
 use Rattle.ignore_base.specs.declared.fault.Fault.TheVariants.{BadName, NotFound, PermissionDenied}
 use Rattle.ignore_files.specs.Tree.{Tree}
 use Rattle.ignore_files.specs.declared.types.FileType.TheVariants.{Dir as dir_kind, File as file_kind}
