@@ -113,7 +113,13 @@ pub entry : ((entry_at whole (codes "b") dir_kind).path ≡ codes "b")
 unfolding query answer_of_rules is_ignored path_verdict rules_verdict join_of file_name_of below strip_prefix_of does_match chars
 entry = (refl, refl, refl, refl)
 
--- a walk yields it as this, where it isn't ignored
+-- the answer and the reason of an entry are those for its kind
+pub by_kind : (q : QueryScene) (path : List ℕ) → let file = entry_at q path file_kind in let dir = entry_at q path dir_kind in
+    (file.answer ≡ (query q path false).0) × (file.why ≡ query_why q path false)
+    × (dir.answer ≡ (query q path true).0) × (dir.why ≡ query_why q path true)
+by_kind q path = (refl, refl, refl, refl)
+
+-- a walk yields one as this, where it isn't ignored
 pub as_walked : walked (codes "/t") (entry_at whole (codes "a/k") file_kind)
     ≡ record { path = codes "/t/a/k"; depth = 2; kind = Some file_kind; followed = false }
 unfolding join_of

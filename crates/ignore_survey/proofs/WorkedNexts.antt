@@ -10,11 +10,14 @@ use Rattle.ignore_files.specs.Kinds.{is_dir}
 use Rattle.ignore_files.specs.declared.files.Files.{Ghosts as Files}
 use Rattle.ignore_files.specs.declared.types.FileType.TheVariants.{Dir as dir_kind, File as file_kind}
 use Rattle.ignore_files.specs.declared.types.Listed.TheVariants as thing
+use Rattle.ignore_files.specs.Gives.{IsHonest}
 use Rattle.ignore_query.specs.declared.kept.Cache.{Cache}
+use Rattle.ignore_query.specs.Agrees.{Agrees}
+use Rattle.ignore_query.specs.Needs.{Stays}
 use Rattle.ignore_query.specs.Reports.{reported}
 use Rattle.ignore_survey.specs.Nexts.{EndsBy, IsLast, NextGives, Nexts, Remaining, items_at_most}
 use Rattle.ignore_survey.specs.Stands.{InTurn, Left, Waits, found_at, next_dir}
-use Rattle.ignore_survey.specs.Suits.{LeavesNext, Reports}
+use Rattle.ignore_survey.specs.Suits.{LeavesNext, ReportsNext, Suits}
 use Rattle.ignore_survey.specs.Survey.{Entry, Item}
 use Rattle.ignore_survey.specs.Surveyed.{item_of}
 use Rattle.ignore_survey.specs.declared.survey.Survey.{Survey}
@@ -107,6 +110,21 @@ module _ {F : Type 0} (files : Files F) (g : QueryScene) (a b : Survey F) where
       → (answer ≡ None) × (b.ended ≡ true)
   after_the_end answer h over = (h.over over, h.none (h.over over))
 
+  -- where an entry is handed out one fewer may follow, and the survey goes on in the same scene
+  pub after_an_entry : (e : Entry) (items : List Item) → Nexts files g a (Some (Ok e)) b items
+      → (a.left ≡ suc b.left) × (b.ended ≡ false) × Suits files b.files.now b.matcher g
+  after_an_entry e items (inl h) = (h.left, h.rest.goes_on, h.rest.suits)
+  after_an_entry e items (inr h) = absurd (no_entry_ends e a.left items h.0)
+
+  -- a scene that suits is over a tree with which the files are consistent, and what is kept agrees
+  pub what_suits : Suits files a.files.now a.matcher g → IsHonest files a.files.now g.tree × Agrees g a.matcher.cache
+  what_suits h = (h.honest, h.agrees)
+
+  -- an entry leaves what was kept, and where none is answered, all stays as it was
+  pub kept_after : (old new : Cache) (over : Bool) → ((s : Surveyed) → LeavesNext g old (Some (Ok s)) over new → Stays old new)
+      × (LeavesNext g old None over new → new ≡ old)
+  kept_after old new over = (λ s h. h.stays, λ h. h)
+
   -- a fault among the items leaves what is kept as it was
   pub kept_at_a_fault : (old new : Cache) (e : Error) → LeavesNext g old (Some (Err e)) false new → new ≡ old
   kept_at_a_fault old new e (inl h) = absurd (no h)
@@ -116,7 +134,7 @@ module _ {F : Type 0} (files : Files F) (g : QueryScene) (a b : Survey F) where
   kept_at_a_fault old new e (inr h) = h
 
   -- the error beside an entry is that of its query
-  pub error_of_the_query : (c : Cache) (s : Surveyed) (e : Error) → Reports g c (Ok s) → s.error ≡ Some e
+  pub error_of_the_query : (c : Cache) (s : Surveyed) (e : Error) → ReportsNext g c (Some (Ok s)) → s.error ≡ Some e
       → reported g c (string_bytes s.path) (is_dir s.file_type) ≡ Some (problem_of e)
   error_of_the_query c s e h is = sym h ∙ ap (λ (o : Option Error). option_map problem_of o) is
 
