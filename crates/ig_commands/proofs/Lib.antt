@@ -22,3 +22,4 @@ pub mod TypeLemmas
 pub mod UnusedLemmas
 pub mod WalkLemmas
 pub mod WhyLemmas
+pub mod WorkedUnused
