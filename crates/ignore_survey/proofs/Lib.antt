@@ -2,6 +2,7 @@ pub mod AgreeLemmas
 pub mod FoundLemmas
 pub mod KeptEntries
 pub mod LeftLemmas
+pub mod MiddleLemmas
 pub mod OneSurvey
 pub mod SuitLemmas
 pub mod SurveyLemmas

@@ -1,5 +1,5 @@
 -- What a matcher ensures holds of each scene that suits it.
-use Rattle.std.proofs.Common.{◌≡◌, ◌≢◌, Bool, true, false, not, ◌&&◌, [], codes, bytes_eq, sym, ◌∙◌, ap, subst}
+use Rattle.std.proofs.Common.{◌≡◌, ◌≢◌, Bool, true, false, not, ◌&&◌, [], codes, bytes_eq, refl, sym, ◌∙◌, ap, subst}
 use Rattle.ignore_base.specs.Text.{Path}
 use Rattle.ignore_dir.specs.Load.{AreLoads}
 use Rattle.ignore_dir.specs.Limits.{is_beyond}
@@ -10,12 +10,15 @@ use Rattle.ignore_files.specs.Kinds.{is_dir}
 use Rattle.ignore_files.specs.declared.files.Files.{Ghosts as Files}
 use Rattle.ignore_files.specs.declared.types.FileType.{FileType}
 use Rattle.ignore_query.specs.Agrees.{Agrees}
+use Rattle.ignore_query.proofs.KeptLoadLemmas.{loads_nothing}
+use Rattle.ignore_query.specs.InTurn.{Question}
+use Rattle.ignore_query.specs.Left.{LeavesMatcher}
 use Rattle.ignore_query.specs.Needs.{is_decided}
 use Rattle.ignore_query.specs.Reached.{scene_of}
 use Rattle.ignore_query.specs.Where.{WhereAgrees}
 use Rattle.ignore_query.specs.declared.asked.Asked.{Asked}
 use Rattle.ignore_query.specs.declared.incremental.IncrementalIgnore.{IncrementalIgnore}
-use Rattle.ignore_survey.specs.Suits.{Suits}
+use Rattle.ignore_survey.specs.Suits.{Grows, Suits}
 use Rattle.ignore_survey.specs.Survey.{Entry, entry_at, is_open}
 use Rattle.ignore_why.specs.QueryWhy.{QueryWhy, query_why}
 
@@ -34,6 +37,19 @@ module _ {F : Type 0} (files : Files F) (f : F) (m : IncrementalIgnore) (g : Que
         scene = s.scene ∙ ap (λ (a : Asked). scene_of a g.tree g.loads) (sym same);
         agrees = agrees;
       }
+
+-- a matcher that wasn't asked grows by nothing
+pub grows_not : {F : Type 0} (files : Files F) (f : F) (m : IncrementalIgnore) → Grows files f m m
+grows_not files f m = record {
+  same = refl;
+  stays = record { above = λ on. (on, (refl, refl)); dirs = λ names k kept. kept; levels = λ place level there. there };
+  loaded = loads_nothing files f m.asked m.cache;
+}
+
+-- it grows by a question
+pub grows_asked : {F : Type 0} (files : Files F) (f : F) (m n : IncrementalIgnore) (q : Question) → LeavesMatcher files f q m n
+    → Grows files f m n
+grows_asked files f m n q left = record { same = left.same; stays = left.stays; loaded = left.loaded }
 
 beside_false : (a b : Bool) → (a && (b && false)) ≢ true
 beside_false true true e = cc e

@@ -1,13 +1,14 @@
 -- What a survey still gives, and what its `next` answers.
 use Rattle.std.specs.Prelude.{◌≡◌, ◌≢◌, ◌⊎◌, ⊤, ℕ, suc, ◌+◌, true, false, List, [], ◌∷◌, Option, None, Some, option_map, Result, Err}
-use Rattle.std.specs.Prelude.{if◌then◌else◌}
+use Rattle.std.specs.Prelude.{IfSome, if◌then◌else◌, string_bytes}
 use Rattle.ignore_base.specs.declared.error.Error.{Error}
 use Rattle.ignore_base.specs.declared.fault.Fault.TheVariants.{StepLimit}
 use Rattle.ignore_base.specs.Problem.{io, memory}
 use Rattle.ignore_dir.specs.Scene.{QueryScene}
 use Rattle.ignore_files.specs.declared.files.Files.{Ghosts as Files}
+use Rattle.ignore_survey.specs.Middle.{GoesOn}
 use Rattle.ignore_survey.specs.Stands.{Stands}
-use Rattle.ignore_survey.specs.Suits.{LeavesNext, ReportsNext, Suits}
+use Rattle.ignore_survey.specs.Suits.{Grows, LeavesNext, ReportsNext, Suits}
 use Rattle.ignore_survey.specs.Survey.{Item}
 use Rattle.ignore_survey.specs.Surveyed.{item_of}
 use Rattle.ignore_survey.specs.declared.survey.Survey.{Survey}
@@ -49,14 +50,20 @@ items_at_most s = if s.ended then 0 else s.left + 1
 
 -- what one `next` of a survey answers, and what it makes of the survey. For files that are
 -- consistent with a tree it is an item of what remains, and what the matcher keeps then is what the
--- query for that leaves, and still agrees with the tree. For all files: an ended survey answers none;
--- after none it is ended; and where it was ended now, that was its last answer
+-- query for that leaves, and still agrees with the tree. For all files: it stays over these, and its
+-- matcher keeps what it kept; an ended survey answers none; after none it is ended; unless it is ended
+-- then, one item fewer may follow, and the item is an entry without out of memory in its error, or the
+-- fault of a directory; and where it was ended now, that was its last answer
 pub record NextGives {F : Type 0} (files : Files F) (a : Survey F) (answer : Option (Result Surveyed Error)) (b : Survey F)
     : Type 0 where
   pub given : (g : QueryScene) (items : List Item) → Remaining files g a items → Nexts files g a (option_map item_of answer) b items
   pub reports : (g : QueryScene) → Suits files a.files.now a.matcher g → ReportsNext g a.matcher.cache answer
   pub leaves : (g : QueryScene) → Suits files a.files.now a.matcher g → LeavesNext g a.matcher.cache answer b.ended b.matcher.cache
   pub suits : (g : QueryScene) → Suits files a.files.now a.matcher g → Suits files b.files.now b.matcher g
+  pub same_files : b.files ≡ a.files
+  pub grows : Grows files a.files.now a.matcher b.matcher
   pub over : a.ended ≡ true → answer ≡ None
   pub none : answer ≡ None → b.ended ≡ true
+  pub counted : a.left ≡ (if b.ended then b.left else suc b.left)
+  pub goes_on : b.ended ≡ false → IfSome answer (GoesOn (string_bytes a.matcher.asked.root))
   pub last : a.ended ≡ false → b.ended ≡ true → IsLast (option_map item_of answer) b.left

@@ -9,6 +9,8 @@ use Rattle.ignore_files.specs.Kinds.{is_dir}
 use Rattle.ignore_files.specs.declared.files.Files.{Ghosts as Files}
 use Rattle.ignore_query.specs.Agrees.{Agrees}
 use Rattle.ignore_query.specs.InTurn.{Leaves}
+use Rattle.ignore_query.specs.KeptLoads.{KeepsLoads}
+use Rattle.ignore_query.specs.Needs.{Stays}
 use Rattle.ignore_query.specs.Reached.{scene_of}
 use Rattle.ignore_query.specs.Reports.{reported}
 use Rattle.ignore_query.specs.declared.incremental.IncrementalIgnore.{IncrementalIgnore}
@@ -22,6 +24,13 @@ pub record Suits {F : Type 0} (files : Files F) (f : F) (m : IncrementalIgnore) 
   pub loads : AreLoads g.tree g.settings g.loads
   pub scene : g ≡ scene_of m.asked g.tree g.loads
   pub agrees : Agrees g m.cache
+
+-- a matcher still asks about the same, what it kept stays kept, and what comes to it was loaded by
+-- answers of the files
+pub record Grows {F : Type 0} (files : Files F) (f : F) (old new : IncrementalIgnore) : Type 0 where
+  pub same : new.asked ≡ old.asked
+  pub stays : Stays old.cache new.cache
+  pub loaded : KeepsLoads files f old.asked old.cache new.cache
 
 -- the error beside an entry is what the query for it reports, by what the matcher kept before
 abbrev pub Reports : QueryScene → Cache → Result Surveyed Error → Type 0

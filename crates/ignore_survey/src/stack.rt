@@ -1,8 +1,9 @@
 //! What a survey has in hand: directories whose listings are half read, and one that is to be listed.
-ghost use Rattle.std.specs.Prelude.{◌≡◌, [], Err, IfOk, List, MatchOption, None};
+ghost use Rattle.std.specs.Prelude.{◌≡◌, [], Err, IfErr, IfOk, IfSome, List, MatchOption, None};
 ghost use Rattle.ignore_base.specs.Problem.{problem_of};
 ghost use Rattle.ignore_dir.specs.Scene.{QueryScene};
 ghost use Rattle.ignore_files.specs.Gives.{IsHonest};
+ghost use Rattle.ignore_survey.specs.Middle.{IsUnlisted};
 ghost use Rattle.ignore_survey.specs.Stands.{Enters, Finds, Hands, Left, Stands, Takes, found_at, found_of};
 ghost use Rattle.ignore_survey.specs.Survey.{Item as Yielded};
 
@@ -50,13 +51,15 @@ fn take_listed(frames: &mut VecDeque<Frame>) -> Option<(Frame, Listed)>
 }
 
 /// The directory at a path below the root, with what it lists; or the error in the place of that.
+#[tactic(auto, using(crate::proofs::MiddleLemmas::is_unlisted))]
 fn enter<F: Files>(
     alloc: Global,
     files: &F,
     root: &str,
     path: Name,
 ) -> Result<Result<Frame, Error>, AllocError>
-    ensures { (g : QueryScene) → IsHonest F.Files files.now g.tree → g.root ≡ root.now → IfOk result (Enters g path) }
+    ensures enters { (g : QueryScene) → IsHonest F.Files files.now g.tree → g.root ≡ root.now → IfOk result (Enters g path) }
+    ensures unlisted { IfOk result (λ r. IfErr r (λ e. IsUnlisted root.now (problem_of e))) }
 {
     let place = place(alloc, root, path.as_str())?;
     match answer_of(alloc, files, place.as_str())? {
@@ -76,8 +79,9 @@ impl Stack {
         files: &F,
         root: &str,
     ) -> Result<Option<Found>, AllocError>
-        ensures { (g : QueryScene) (items : List Yielded) → IsHonest F.Files files.now g.tree → g.root ≡ root.now → Stands g self.old items
+        ensures finds { (g : QueryScene) (items : List Yielded) → IsHonest F.Files files.now g.tree → g.root ≡ root.now → Stands g self.old items
             → IfOk result (λ r. MatchOption r (items ≡ []) (λ found. Finds g self.new (found_of found) items)) }
+        ensures unlisted { IfOk result (λ r. IfSome r (λ found. IfErr found (λ e. IsUnlisted root.now (problem_of e)))) }
     {
         if let Some(error) = self.open(alloc, files, root)? {
             return Ok(Some(Err(error)));
@@ -93,10 +97,11 @@ impl Stack {
         files: &F,
         root: &str,
     ) -> Result<Option<Error>, AllocError>
-        ensures { (g : QueryScene) (items : List Yielded) → IsHonest F.Files files.now g.tree → g.root ≡ root.now → Stands g self.old items
+        ensures opens { (g : QueryScene) (items : List Yielded) → IsHonest F.Files files.now g.tree → g.root ≡ root.now → Stands g self.old items
             → IfOk result (λ r. MatchOption r
             ((self.new.waiting ≡ None) × Left g self.new.frames.items items)
             (λ e. Hands g self.new (Err (problem_of e)) items)) }
+        ensures unlisted { IfOk result (λ r. IfSome r (λ e. IsUnlisted root.now (problem_of e))) }
     {
         let Some(path) = self.waiting.take() else {
             return Ok(None);
@@ -112,8 +117,9 @@ impl Stack {
 
     /// What is listed next in the directories that were entered.
     fn take(&mut self, alloc: Global, root: &str) -> Result<Option<Found>, AllocError>
-        ensures { (g : QueryScene) (items : List Yielded) → g.root ≡ root.now → self.old.waiting ≡ None → Left g self.old.frames.items items
+        ensures finds { (g : QueryScene) (items : List Yielded) → g.root ≡ root.now → self.old.waiting ≡ None → Left g self.old.frames.items items
             → IfOk result (λ r. MatchOption r (items ≡ []) (λ found. Finds g self.new (found_of found) items)) }
+        ensures unlisted { IfOk result (λ r. IfSome r (λ found. IfErr found (λ e. IsUnlisted root.now (problem_of e)))) }
     {
         let Some((frame, listed)) = take_listed(&mut self.frames) else {
             return Ok(None);

@@ -1,12 +1,14 @@
 //! A survey, as an iterator.
-ghost use Rattle.std.specs.Prelude.{◌≡◌, ◌<◌, List, [], true, false, None, Some, Ok, Err, IfErr, IfOk, IfSome, MatchOption, option_map, string_bytes, if◌then◌else◌};
+ghost use Rattle.std.specs.Prelude.{◌≡◌, ◌<◌, List, [], ℕ, suc, true, false, None, Some, Ok, Err, IfErr, IfOk, IfSome, MatchOption, option_map, string_bytes, if◌then◌else◌};
 ghost use Rattle.ignore_base.specs.declared.fault.Fault.TheVariants.{StepLimit};
 ghost use Rattle.ignore_base.specs.Problem.{problem_of, io, memory};
 ghost use Rattle.ignore_dir.specs.Scene.{QueryScene};
+ghost use Rattle.ignore_dir.specs.Soft.{IsSoft};
 ghost use Rattle.ignore_query.specs.declared.kept.Cache.{Cache};
+ghost use Rattle.ignore_survey.specs.Middle.{GoesOn, IsUnlisted};
 ghost use Rattle.ignore_survey.specs.Nexts.{IsLast, Nexts, Remaining, items_at_most};
 ghost use Rattle.ignore_survey.specs.Stands.{Finds, Hands, Stands, found_of};
-ghost use Rattle.ignore_survey.specs.Suits.{LeavesKept, LeavesNext, Reports, ReportsNext, Suits};
+ghost use Rattle.ignore_survey.specs.Suits.{Grows, LeavesKept, LeavesNext, Reports, ReportsNext, Suits};
 ghost use Rattle.ignore_survey.specs.Survey.{IsSurvey, Item as Yielded, is_open};
 ghost use Rattle.ignore_survey.specs.Surveyed.{item_of};
 
@@ -57,10 +59,12 @@ fn next_after(alloc: Global, entry: &Surveyed) -> Result<Option<Name>, AllocErro
 }
 
 /// Whether the root is surveyed.
+#[tactic(auto, using(crate::proofs::SuitLemmas::grows_not))]
 fn is_open<F: Files>(files: &F, matcher: &mut IncrementalIgnore) -> Result<bool, Error>
     ensures value { (g : QueryScene) → Suits F.Files files.now matcher.old g → IfOk result (λ goes_on. goes_on ≡ is_open g) }
     ensures kept { (g : QueryScene) → Suits F.Files files.now matcher.old g → matcher.new.cache ≡ matcher.old.cache }
     ensures suits { (g : QueryScene) → Suits F.Files files.now matcher.old g → Suits F.Files files.now matcher.new g }
+    ensures grows { Grows F.Files files.now matcher.old matcher.new }
     ensures out_of_memory { IfErr result (λ e. problem_of e ≡ memory) }
 {
     if matcher.root() == "-" {
@@ -92,6 +96,8 @@ impl<'a, F: Files> Survey<'a, F> {
             → IfOk result (λ s. Remaining F.Files g s items) }
         ensures suits { (g : QueryScene) → Suits F.Files files.entry.now matcher g → IfOk result (λ s. Suits F.Files s.files.now s.matcher g) }
         ensures kept { (g : QueryScene) → Suits F.Files files.entry.now matcher g → IfOk result (λ s. s.matcher.cache ≡ matcher.cache) }
+        ensures files { IfOk result (λ s. s.files ≡ files.entry) }
+        ensures grows { IfOk result (λ s. Grows F.Files files.entry.now matcher s.matcher) }
         ensures limit { IfOk result (λ s. s.left ≡ u64.MAX) }
         ensures goes_on { IfOk result (λ s. s.ended ≡ false) }
         ensures out_of_memory { IfErr result (λ e. problem_of e ≡ memory) }
@@ -137,8 +143,11 @@ impl<'a, F: Files> Survey<'a, F> {
             → IfOk result (λ s. LeavesKept g self.old.matcher.cache (Ok s) self.new.matcher.cache) }
         ensures suits { (g : QueryScene) → Suits F.Files self.old.files.now self.old.matcher g
             → Suits F.Files self.new.files.now self.new.matcher g }
+        ensures files { self.new.files ≡ self.old.files }
+        ensures grows { Grows F.Files self.old.files.now self.old.matcher self.new.matcher }
         ensures left { self.new.left ≡ self.old.left }
         ensures ended { self.new.ended ≡ self.old.ended }
+        ensures soft { IfOk result (λ s. IsSoft (option_map problem_of s.error)) }
         ensures out_of_memory { IfErr result (λ e. problem_of e ≡ memory) }
     {
         let entry = explained(self.files, &mut self.matcher, path, file_type)?;
@@ -147,6 +156,7 @@ impl<'a, F: Files> Survey<'a, F> {
     }
 
     /// The item of what was listed.
+    #[tactic(auto, using(crate::proofs::SuitLemmas::grows_not))]
     fn item(&mut self, found: Found) -> Result<Item, Error>
         ensures hands { (g : QueryScene) (items : List Yielded) → Suits F.Files self.old.files.now self.old.matcher g
             → Finds g self.old.stack (found_of found) items
@@ -157,8 +167,11 @@ impl<'a, F: Files> Survey<'a, F> {
             → IfOk result (λ item. LeavesKept g self.old.matcher.cache item self.new.matcher.cache) }
         ensures suits { (g : QueryScene) → Suits F.Files self.old.files.now self.old.matcher g
             → Suits F.Files self.new.files.now self.new.matcher g }
+        ensures files { self.new.files ≡ self.old.files }
+        ensures grows { Grows F.Files self.old.files.now self.old.matcher self.new.matcher }
         ensures left { self.new.left ≡ self.old.left }
         ensures ended { self.new.ended ≡ self.old.ended }
+        ensures goes_on { (root : List ℕ) → IfErr found (λ e. IsUnlisted root (problem_of e)) → IfOk result (GoesOn root) }
         ensures out_of_memory { IfErr result (λ e. problem_of e ≡ memory) }
     {
         match found {
@@ -168,6 +181,7 @@ impl<'a, F: Files> Survey<'a, F> {
     }
 
     /// The next item, whatever the limit is.
+    #[tactic(auto, using(crate::proofs::SuitLemmas::grows_not))]
     fn step(&mut self) -> Result<Option<Item>, Error>
         ensures given { (g : QueryScene) (items : List Yielded) → Suits F.Files self.old.files.now self.old.matcher g
             → Stands g self.old.stack items → IfOk result (λ next. MatchOption next (items ≡ [])
@@ -178,8 +192,11 @@ impl<'a, F: Files> Survey<'a, F> {
             → IfOk result (λ next. LeavesNext g self.old.matcher.cache next self.new.ended self.new.matcher.cache) }
         ensures suits { (g : QueryScene) → Suits F.Files self.old.files.now self.old.matcher g
             → Suits F.Files self.new.files.now self.new.matcher g }
+        ensures files { self.new.files ≡ self.old.files }
+        ensures grows { Grows F.Files self.old.files.now self.old.matcher self.new.matcher }
         ensures left { self.new.left ≡ self.old.left }
         ensures ended { self.new.ended ≡ self.old.ended }
+        ensures goes_on { IfOk result (λ next. IfSome next (GoesOn (string_bytes self.old.matcher.asked.root))) }
         ensures out_of_memory { IfErr result (λ e. problem_of e ≡ memory) }
     {
         let root = self.matcher.root();
@@ -204,6 +221,7 @@ impl<'a, F: Files> Survey<'a, F> {
     }
 
     /// The next item.
+    #[tactic(auto, using(crate::proofs::SuitLemmas::grows_not))]
     fn advance(&mut self) -> Option<Item>
         ensures fewer { IfSome result (λ _. items_at_most self.new < items_at_most self.old) }
         ensures given { (g : QueryScene) (items : List Yielded) → Remaining F.Files g self.old items
@@ -214,8 +232,12 @@ impl<'a, F: Files> Survey<'a, F> {
             → LeavesNext g self.old.matcher.cache result self.new.ended self.new.matcher.cache }
         ensures suits { (g : QueryScene) → Suits F.Files self.old.files.now self.old.matcher g
             → Suits F.Files self.new.files.now self.new.matcher g }
+        ensures same_files { self.new.files ≡ self.old.files }
+        ensures grows { Grows F.Files self.old.files.now self.old.matcher self.new.matcher }
         ensures over { self.old.ended ≡ true → result ≡ None }
         ensures none { result ≡ None → self.new.ended ≡ true }
+        ensures counted { self.old.left ≡ (if self.new.ended then self.new.left else suc self.new.left) }
+        ensures goes_on { self.new.ended ≡ false → IfSome result (GoesOn (string_bytes self.old.matcher.asked.root)) }
         ensures last { self.old.ended ≡ false → self.new.ended ≡ true → IsLast (option_map item_of result) self.new.left }
     {
         if self.ended {

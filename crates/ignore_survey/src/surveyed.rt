@@ -1,10 +1,11 @@
 //! What a survey yields.
-ghost use Rattle.std.specs.Prelude.{◌≡◌, IfErr, IfOk, Ok, string_bytes};
+ghost use Rattle.std.specs.Prelude.{◌≡◌, IfErr, IfOk, Ok, option_map, string_bytes};
 ghost use Rattle.ignore_base.specs.Problem.{problem_of, memory};
 ghost use Rattle.ignore_dir.specs.Scene.{QueryScene};
+ghost use Rattle.ignore_dir.specs.Soft.{IsSoft};
 ghost use Rattle.ignore_files.specs.Kinds.{is_dir};
 ghost use Rattle.ignore_query.specs.InTurn.{Leaves};
-ghost use Rattle.ignore_survey.specs.Suits.{Reports, Suits};
+ghost use Rattle.ignore_survey.specs.Suits.{Grows, Reports, Suits};
 ghost use Rattle.ignore_survey.specs.Survey.{entry_at};
 ghost use Rattle.ignore_survey.specs.Surveyed.{entry_of};
 
@@ -40,6 +41,8 @@ pub(crate) fn explained<F: Files>(
     ensures leaves { (g : QueryScene) → Suits F.Files files.now matcher.old g
         → IfOk result (λ s. Leaves g (string_bytes s.path, is_dir s.file_type) matcher.old.cache matcher.new.cache) }
     ensures suits { (g : QueryScene) → Suits F.Files files.now matcher.old g → Suits F.Files files.now matcher.new g }
+    ensures grows { Grows F.Files files.now matcher.old matcher.new }
+    ensures soft { IfOk result (λ s. IsSoft (option_map problem_of s.error)) }
     ensures out_of_memory { IfErr result (λ e. problem_of e ≡ memory) }
 {
     let (explanation, error) = matcher.explain(files, path.as_str(), file_type.is_dir())?;

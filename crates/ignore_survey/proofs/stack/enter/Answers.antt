@@ -4,8 +4,8 @@ use Rattle.ignore_survey.specs.Survey.{Lists, place}
 use Rattle.ignore_survey.proofs.SurveyLemmas.{below_listed}
 use Rattle.ignore_survey.proofs.stack.enter.Goals as goal
 
-pub returns-in_ok-rest-in-Ok : goal.returns-in_ok-rest-in-Ok
-returns-in_ok-rest-in-Ok g c = λ s honest root items below.
+pub returns-in_ok-rest-in-Ok-clause-enters : goal.returns-in_ok-rest-in-Ok-clause-enters
+returns-in_ok-rest-in-Ok-clause-enters g c = λ s honest root items below.
     let there : c.as_str-2.result.now ≡ place s.root c.args.path =
     c.as_str-2.ensures.value ∙ (c.in_ok-place.ensures ∙ (ap (λ (p : Path). place c.args.root.now p) c.as_str.ensures
     ∙ ap (λ (r : Path). place r c.args.path) (sym root))) in

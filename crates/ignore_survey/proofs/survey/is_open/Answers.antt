@@ -3,7 +3,7 @@ use Rattle.ignore_dir.specs.Query.{query}
 use Rattle.ignore_dir.specs.Scene.{QueryScene}
 use Rattle.ignore_query.specs.Agrees.{Agrees}
 use Rattle.ignore_query.specs.Needs.{is_decided}
-use Rattle.ignore_survey.proofs.SuitLemmas.{opens_as, root_undecided, stdin_is_shut, suits_still, where_suits}
+use Rattle.ignore_survey.proofs.SuitLemmas.{grows_asked, opens_as, root_undecided, stdin_is_shut, suits_still, where_suits}
 use Rattle.ignore_survey.proofs.survey.is_open.Goals as goal
 
 pub returns-in_err-answer-clause-suits : goal.returns-in_err-answer-clause-suits
@@ -30,6 +30,14 @@ returns-clause-kept g c = λ s suits.
     let m = c.args.matcher.now in
     where_suits g.F.Files c.args.files.now m s (λ x. is_decided x [] true ≢ true → c.matched.new.self.cache ≡ m.cache) suits
     c.matched.ensures.leaves.unchanged (root_undecided s)
+
+pub returns-in_err-answer-clause-grows : goal.returns-in_err-answer-clause-grows
+returns-in_err-answer-clause-grows g c =
+    grows_asked g.F.Files c.args.files.now c.args.matcher.now c.matched.new.self ([], true) c.matched.ensures.leaves
+
+pub returns-clause-grows : goal.returns-clause-grows
+returns-clause-grows g c =
+    grows_asked g.F.Files c.args.files.now c.args.matcher.now c.matched.new.self ([], true) c.matched.ensures.leaves
 
 pub returns-then-eq-clause-value : goal.returns-then-eq-clause-value
 returns-then-eq-clause-value g c = λ s suits.

@@ -7,7 +7,7 @@ use Rattle.ignore_query.specs.InTurn.{Leaves}
 use Rattle.ignore_query.specs.Needs.{KeepsNeeded, is_decided, needed}
 use Rattle.ignore_query.specs.Reports.{reported}
 use Rattle.ignore_why.specs.QueryWhy.{query_why, query_why_of}
-use Rattle.ignore_survey.proofs.SuitLemmas.{entry_is, suits_still, where_suits}
+use Rattle.ignore_survey.proofs.SuitLemmas.{entry_is, grows_asked, suits_still, where_suits}
 use Rattle.ignore_survey.proofs.surveyed.explained.Goals as goal
 
 pub returns-in_err-explanation-clause-suits : goal.returns-in_err-explanation-clause-suits
@@ -21,6 +21,14 @@ returns-clause-suits g c = λ s suits.
     let m = c.args.matcher.now in
     suits_still g.F.Files c.args.files.now m s c.explain.new.self suits c.explain.ensures.leaves.same
     (where_suits g.F.Files c.args.files.now m s (λ x. Agrees x c.explain.new.self.cache) suits c.explain.ensures.leaves.agrees)
+
+pub returns-in_err-explanation-clause-grows : goal.returns-in_err-explanation-clause-grows
+returns-in_err-explanation-clause-grows g c =
+    grows_asked g.F.Files c.args.files.now c.args.matcher.now c.explain.new.self (c.as_str.result.now, c.is_dir.result) c.explain.ensures.leaves
+
+pub returns-clause-grows : goal.returns-clause-grows
+returns-clause-grows g c =
+    grows_asked g.F.Files c.args.files.now c.args.matcher.now c.explain.new.self (c.as_str.result.now, c.is_dir.result) c.explain.ensures.leaves
 
 pub returns-clause-entry : goal.returns-clause-entry
 returns-clause-entry g c = λ s suits.

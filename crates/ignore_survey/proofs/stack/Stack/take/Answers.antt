@@ -3,10 +3,11 @@ use Rattle.ignore_base.specs.Text.{Path}
 use Rattle.ignore_survey.specs.Stands.{Finds, Found, found_at, found_of}
 use Rattle.ignore_survey.specs.declared.stack.Stack.{Stack}
 use Rattle.ignore_survey.proofs.LeftLemmas.{found}
+use Rattle.ignore_survey.proofs.MiddleLemmas.{found_unlisted}
 use Rattle.ignore_survey.proofs.stack.Stack.take.Goals as goal
 
-pub returns : goal.returns
-returns c = λ s items root empty left.
+pub returns-clause-finds : goal.returns-clause-finds
+returns-clause-finds c = λ s items root empty left.
     let t : Stack = record { waiting = c.args.self.now.waiting; frames = c.push_front.new.self } in
     let f = c.in-Some.frame in
     let x = c.in-Some.listed in
@@ -15,3 +16,7 @@ returns c = λ s items root empty left.
     ∙ ap (λ (r : Path). found_at r f.path x) (sym root)) in
     subst (λ (o : Found). Finds s t o items) (sym is)
     (found s f c.take_listed.new.frames.items t x items empty c.in_ok-push_front.ensures.items (c.in-Some.ensures s items left))
+
+pub returns-clause-unlisted : goal.returns-clause-unlisted
+returns-clause-unlisted c =
+    found_unlisted c.args.root.now c.as_str.result.now c.in-Some.listed c.in_ok-found.found c.in_ok-found.ensures

@@ -1,4 +1,4 @@
-use Rattle.std.proofs.Common.{◌≡◌, Err, Option, inl, inr, sym, ap, subst, arith, ◌∙◌}
+use Rattle.std.proofs.Common.{◌≡◌, Err, Option, inl, inr, refl, sym, ap, subst, arith, ◌∙◌}
 use Rattle.ignore_survey.specs.Nexts.{Nexts}
 use Rattle.ignore_survey.specs.Survey.{Item}
 use Rattle.ignore_survey.proofs.survey.Survey.advance.Goals as goal
@@ -30,3 +30,21 @@ returns-else-self-eq0-clause-given g c = λ s items r.
       rest = record { suits = c.step.ensures.suits s r.suits; goes_on = c.step.ensures.ended ∙ r.goes_on; stands = h.rest };
       left = omega (c.step.ensures.left, c.if-self-eq0.false, arith);
     })
+
+pub returns-then-self-clause-counted : goal.returns-then-self-clause-counted
+returns-then-self-clause-counted g c = rw c.if-self.true refl
+
+pub returns-in-Err-clause-counted : goal.returns-in-Err-clause-counted
+returns-in-Err-clause-counted g c = rw c.end.ensures.ended (sym (c.end.ensures.left ∙ c.step.ensures.left))
+
+pub returns-then-self-eq0-clause-counted : goal.returns-then-self-eq0-clause-counted
+returns-then-self-eq0-clause-counted g c =
+    rw c.end-then-self-eq0.ensures.ended (sym (c.end-then-self-eq0.ensures.left ∙ c.step.ensures.left))
+
+pub returns-else-self-eq0-clause-counted : goal.returns-else-self-eq0-clause-counted
+returns-else-self-eq0-clause-counted g c =
+    let on = c.step.ensures.ended ∙ c.if-self.false in
+    rw on (omega (c.step.ensures.left, c.if-self-eq0.false, arith))
+
+pub returns-else-self-eq0-clause-goes_on : goal.returns-else-self-eq0-clause-goes_on
+returns-else-self-eq0-clause-goes_on g c = λ on. rw c.in-Ok-Some.field-0-is at c.in-Ok-Some.ensures.goes_on

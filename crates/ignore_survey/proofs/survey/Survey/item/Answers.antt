@@ -7,3 +7,9 @@ returns-in-Err-clause-hands g c = λ s items suits finds. finds_as s c.args.self
 pub returns-in_ok-visit-in-Ok-clause-hands : goal.returns-in_ok-visit-in-Ok-clause-hands
 returns-in_ok-visit-in-Ok-clause-hands g c = λ s items suits finds.
     c.in_ok-visit-in-Ok.ensures.hands s items suits (finds_as s c.args.self.now.stack c.args.found _ items c.in-Ok.is finds)
+
+pub returns-in-Err-clause-goes_on : goal.returns-in-Err-clause-goes_on
+returns-in-Err-clause-goes_on g c = λ root fault. rw c.in-Err.is at fault
+
+pub returns-in_ok-visit-in-Ok-clause-goes_on : goal.returns-in_ok-visit-in-Ok-clause-goes_on
+returns-in_ok-visit-in-Ok-clause-goes_on g c = λ root fault. c.in_ok-visit-in-Ok.ensures.soft
