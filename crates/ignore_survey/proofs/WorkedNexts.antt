@@ -3,6 +3,7 @@ use Rattle.std.proofs.Common.{◌≡◌, ◌≢◌, ◌⊎◌, ◌+◌, ℕ, suc
 use Rattle.std.proofs.Common.{Bool, string_bytes, if◌then◌else◌}
 use Rattle.ignore_base.specs.Paths.{join_of}
 use Rattle.ignore_base.specs.Problem.{at_path, io, memory, problem_of}
+use Rattle.ignore_base.specs.Text.{Path}
 use Rattle.ignore_base.specs.declared.error.Error.{Error}
 use Rattle.ignore_base.specs.declared.fault.Fault.TheVariants.{BadName, StepLimit}
 use Rattle.ignore_dir.specs.Scene.{QueryScene}
@@ -15,6 +16,7 @@ use Rattle.ignore_query.specs.declared.kept.Cache.{Cache}
 use Rattle.ignore_query.specs.Agrees.{Agrees}
 use Rattle.ignore_query.specs.Needs.{Stays}
 use Rattle.ignore_query.specs.Reports.{reported}
+use Rattle.ignore_survey.specs.Middle.{GoesOn}
 use Rattle.ignore_survey.specs.Nexts.{EndsBy, IsLast, NextGives, Nexts, Remaining, items_at_most}
 use Rattle.ignore_survey.specs.Stands.{InTurn, Left, Waits, found_at, next_dir}
 use Rattle.ignore_survey.specs.Suits.{LeavesNext, ReportsNext, Suits}
@@ -110,6 +112,13 @@ module _ {F : Type 0} (files : Files F) (g : QueryScene) (a b : Survey F) where
       → (answer ≡ None) × (b.ended ≡ true)
   after_the_end answer h over = (h.over over, h.none (h.over over))
 
+  -- over any files: a survey that goes on stays over these and its matcher keeps what it kept, and what
+  -- was answered counts
+  pub over_any_files : (answer : Option (Result Surveyed Error)) → NextGives files a answer b → b.ended ≡ false
+      → (b.files ≡ a.files) × (b.matcher.asked ≡ a.matcher.asked) × Stays a.matcher.cache b.matcher.cache × (a.left ≡ suc b.left)
+  over_any_files answer h on =
+      (h.same_files, h.grows.same, h.grows.stays, h.counted ∙ ap (λ (over : Bool). if over then b.left else suc b.left) on)
+
   -- where an entry is handed out one fewer may follow, and the survey goes on in the same scene
   pub after_an_entry : (e : Entry) (items : List Item) → Nexts files g a (Some (Ok e)) b items
       → (a.left ≡ suc b.left) × (b.ended ≡ false) × Suits files b.files.now b.matcher g
@@ -137,6 +146,18 @@ module _ {F : Type 0} (files : Files F) (g : QueryScene) (a b : Survey F) where
   pub error_of_the_query : (c : Cache) (s : Surveyed) (e : Error) → ReportsNext g c (Some (Ok s)) → s.error ≡ Some e
       → reported g c (string_bytes s.path) (is_dir s.file_type) ≡ Some (problem_of e)
   error_of_the_query c s e h is = sym h ∙ ap (λ (o : Option Error). option_map problem_of o) is
+
+-- a survey goes on after the fault of a directory, and neither after the limit nor after out of memory
+
+pub on_after_a_fault : (e : Error) → problem_of e ≡ at_path (codes "/t/a") (io BadName) → GoesOn (codes "/t") (Err e)
+unfolding join_of
+on_after_a_fault e is = record { dir = codes "a"; fault = BadName; is = is }
+
+pub not_after_the_limit : (root : Path) (e : Error) → problem_of e ≡ io StepLimit → GoesOn root (Err e) → ⊥
+not_after_the_limit root e is h = let same = sym is ∙ h.is in cc (same)
+
+pub not_after_out_of_memory : (root : Path) (e : Error) → problem_of e ≡ memory → GoesOn root (Err e) → ⊥
+not_after_out_of_memory root e is h = let same = sym is ∙ h.is in cc (same)
 
 -- an empty stack gives nothing
 
