@@ -17,7 +17,8 @@ ghost use Rattle.commands.specs.Words.{Question, command_of, of_check, of_list, 
 
 use crate::run::run;
 use crate::stop::{Stop, report_stop};
-use ignore_files::{Env, Files};
+use crate::world::World;
+use ignore_files::Files;
 use std::alloc::{AllocError, Global};
 use std::io::{BufWriter, Write};
 
@@ -58,9 +59,7 @@ fn all_words<T: Drop, I: Iterator<Item = T>>(alloc: Global, words: I) -> Result<
 /// # Errors
 /// Why the run ended, where that can't be written to `err`. The status is then 2 too.
 pub fn run_buffered<F: Files, W: Write + Drop, E: Write>(
-    alloc: Global,
-    files: &F,
-    env: &Env,
+    world: &World<'_, F>,
     words: &[String],
     out: W,
     err: &mut E,
@@ -75,25 +74,25 @@ pub fn run_buffered<F: Files, W: Write + Drop, E: Write>(
     ensures lists { (roots : List Path) → command_of (map string_bytes words.now) ≡ Some (of_list roots)
         → IfOk result (λ r. IfSome r.1 (λ w. ((items : List Item) × Lists items r.0
         (Appends (W.contents out) (W.contents w)) (Appends (E.contents err.old) (E.contents err.new))
-        × ((tree : Tree) → IsHonest F.Files files.now tree → AreListed tree env.now roots items))
+        × ((tree : Tree) → IsHonest F.Files world.now.files.now tree → AreListed tree world.now.env.now roots items))
         ⊎ ((r.0 ≡ 2) × (items : List Item) × (next : Option Item) × EndsReportedAfter lines_of reports_of items next
         (Appends (W.contents out) (W.contents w)) (Appends (E.contents err.old) (E.contents err.new))
-        × ((tree : Tree) → IsHonest F.Files files.now tree → AreBegun tree env.now roots items next)))) }
+        × ((tree : Tree) → IsHonest F.Files world.now.files.now tree → AreBegun tree world.now.env.now roots items next)))) }
     ensures checks { (root : Path) (paths : List Path) → command_of (map string_bytes words.now) ≡ Some (of_check root paths)
         → IfOk result (λ r. IfSome r.1 (λ w. ((all : List Checked) × Checks paths all r.0
         (Appends (W.contents out) (W.contents w)) (Appends (E.contents err.old) (E.contents err.new))
-        × ((tree : Tree) → IsHonest F.Files files.now tree → AreAnswers tree env.now root all))
+        × ((tree : Tree) → IsHonest F.Files world.now.files.now tree → AreAnswers tree world.now.env.now root all))
         ⊎ ((r.0 ≡ 2) × (all : List Checked) × (next : Option Checked) × AreFirst paths (with_next all next)
         × EndsReportedAfter line_for report_for all next (Appends (W.contents out) (W.contents w))
         (Appends (E.contents err.old) (E.contents err.new))
-        × ((tree : Tree) → IsHonest F.Files files.now tree → AreAnswersSoFar tree env.now root (with_next all next))))) }
+        × ((tree : Tree) → IsHonest F.Files world.now.files.now tree → AreAnswersSoFar tree world.now.env.now root (with_next all next))))) }
     ensures flushed { IfOk result (λ r. r.1 ≡ None → r.0 ≡ 2) }
     ensures status { IfOk result (λ r. r.0 ≤ 2) }
 {
-    let Ok(mut buffered) = BufWriter::with_capacity(alloc, CAPACITY, out) else {
+    let Ok(mut buffered) = BufWriter::with_capacity(world.alloc, CAPACITY, out) else {
         return Ok((report_stop(err, Stop::Memory)?, None));
     };
-    let status = run(alloc, files, env, words, &mut buffered, err)?;
+    let status = run(world, words, &mut buffered, err)?;
     match flushed(buffered) {
         Some(out) => Ok((status, Some(out))),
         None if status < 2 => Ok((report_stop(err, Stop::Write)?, None)),
