@@ -1,6 +1,6 @@
 //! What the `main` of a program does around a run: the words after its name, and a buffer before its
 //! output.
-ghost use Rattle.std.specs.Prelude.{◌≡◌, ◌≤◌, ◌⊎◌, List, [], Option, None, Some, IfOk, IfSome, drop, map, string_bytes};
+ghost use Rattle.std.specs.Prelude.{◌≡◌, ◌≤◌, ◌⊎◌, List, [], Option, None, Some, IfErr, IfOk, IfSome, drop, map, string_bytes};
 ghost use Rattle.std.specs.Io.Buffered.{writer_contents};
 ghost use Rattle.std.specs.Io.KnownBytes.{Appends, Keeps};
 ghost use Rattle.std.specs.Iterator.{Drains, IsFinite};
@@ -11,7 +11,7 @@ ghost use Rattle.ignore_walk.specs.Entry.{Item};
 ghost use Rattle.commands.specs.Checking.{AreAnswers, AreAnswersSoFar, AreFirst, Checked, Checks, line_for, report_for, with_next};
 ghost use Rattle.commands.specs.Listing.{Lists, lines_of, reports_of};
 ghost use Rattle.commands.specs.Matching.{Prints};
-ghost use Rattle.commands.specs.Stops.{EndsReported, EndsReportedAfter};
+ghost use Rattle.commands.specs.Stops.{BreaksOff, EndsReported, EndsReportedAfter, GoneReported, GoneReportedAfter, GoneUnreported, GoneUnreportedAfter, reason};
 ghost use Rattle.commands.specs.Walking.{AreBegun, AreListed};
 ghost use Rattle.commands.specs.Words.{Question, command_of, of_check, of_list, of_match};
 
@@ -54,7 +54,7 @@ fn all_words<T: Drop, I: Iterator<Item = T>>(alloc: Global, words: I) -> Result<
 
 /// Runs the words as [`run`] does, with a buffer before the output. It returns the status, and the
 /// output where all that was written stands on it. Where memory doesn't suffice for the buffer, or
-/// it can't be written, there is none, and the status is 2.
+/// it can't be written, there is none, the status is 2, and the reason is reported last.
 ///
 /// # Errors
 /// Why the run ended, where that can't be written to `err`. The status is then 2 too.
@@ -86,6 +86,34 @@ pub fn run_buffered<F: Files, W: Write + Drop, E: Write>(
         × EndsReportedAfter line_for report_for all next (Appends (W.contents out) (W.contents w))
         (Appends (E.contents err.old) (E.contents err.new))
         × ((tree : Tree) → IsHonest F.Files world.now.files.now tree → AreAnswersSoFar tree world.now.env.now root (with_next all next))))) }
+    ensures usage { command_of (map string_bytes words.now) ≡ None
+        → IfOk result (λ r. Appends (E.contents err.old) (E.contents err.new) (reason Stop.Usage)
+        ⊎ ((r.1 ≡ None) × Appends (E.contents err.old) (E.contents err.new) (reason Stop.Memory))) }
+    ensures usage_unreported { command_of (map string_bytes words.now) ≡ None
+        → IfErr result (λ stop. ((stop ≡ Stop.Usage) ⊎ (stop ≡ Stop.Memory))
+        × BreaksOff [] (reason stop) (Appends (E.contents err.old) (E.contents err.new))) }
+    ensures gone { (question : Question) → command_of (map string_bytes words.now) ≡ Some (of_match question)
+        → IfOk result (λ r. r.1 ≡ None → GoneReported question (Appends (E.contents err.old) (E.contents err.new))) }
+    ensures unreported { (question : Question) → command_of (map string_bytes words.now) ≡ Some (of_match question)
+        → IfErr result (GoneUnreported question (Appends (E.contents err.old) (E.contents err.new))) }
+    ensures gone_list { (roots : List Path) → command_of (map string_bytes words.now) ≡ Some (of_list roots)
+        → IfOk result (λ r. r.1 ≡ None → (items : List Item) × (next : Option Item)
+        × GoneReportedAfter reports_of items next (Appends (E.contents err.old) (E.contents err.new))
+        × ((tree : Tree) → IsHonest F.Files world.now.files.now tree
+        → AreBegun tree world.now.env.now roots items next ⊎ AreListed tree world.now.env.now roots items)) }
+    ensures unreported_list { (roots : List Path) → command_of (map string_bytes words.now) ≡ Some (of_list roots)
+        → IfErr result (λ stop. (items : List Item) × (next : Option Item)
+        × GoneUnreportedAfter reports_of items next (Appends (E.contents err.old) (E.contents err.new)) stop
+        × ((tree : Tree) → IsHonest F.Files world.now.files.now tree
+        → AreBegun tree world.now.env.now roots items next ⊎ AreListed tree world.now.env.now roots items)) }
+    ensures gone_check { (root : Path) (paths : List Path) → command_of (map string_bytes words.now) ≡ Some (of_check root paths)
+        → IfOk result (λ r. r.1 ≡ None → (all : List Checked) × (next : Option Checked) × AreFirst paths (with_next all next)
+        × GoneReportedAfter report_for all next (Appends (E.contents err.old) (E.contents err.new))
+        × ((tree : Tree) → IsHonest F.Files world.now.files.now tree → AreAnswersSoFar tree world.now.env.now root (with_next all next))) }
+    ensures unreported_check { (root : Path) (paths : List Path) → command_of (map string_bytes words.now) ≡ Some (of_check root paths)
+        → IfErr result (λ stop. (all : List Checked) × (next : Option Checked) × AreFirst paths (with_next all next)
+        × GoneUnreportedAfter report_for all next (Appends (E.contents err.old) (E.contents err.new)) stop
+        × ((tree : Tree) → IsHonest F.Files world.now.files.now tree → AreAnswersSoFar tree world.now.env.now root (with_next all next))) }
     ensures flushed { IfOk result (λ r. r.1 ≡ None → r.0 ≡ 2) }
     ensures status { IfOk result (λ r. r.0 ≤ 2) }
 {
