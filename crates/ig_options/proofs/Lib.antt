@@ -1,2 +1,3 @@
 pub mod LoopLemmas
 pub mod QuoteLemmas
+pub mod SizeLemmas
