@@ -1,9 +1,9 @@
 -- The texts of sizes.
-use Rattle.std.proofs.Common.{◌≡◌, ◌≢◌, ◌⊎◌, ◌∙◌, ℕ, ◌*◌, ◌<◌, ◌≤◌, ◌==◌, Bool, true, false, cond, eqb-true, List, [], ◌∷◌, ◌++◌, Option, None, Some, MatchOption, length, refl, sym, ap, subst, inl, inr, arith}
+use Rattle.std.proofs.Common.{◌≡◌, ◌≢◌, ◌⊎◌, ◌∙◌, ℕ, ◌==◌, Bool, true, false, cond, eqb-true, List, [], ◌∷◌, ◌++◌, Option, None, Some, MatchOption, refl, sym, ap, subst, inl, inr, arith}
 use Rattle.std.proofs.lemmas.Str.Parse.{digit_from_value}
 use Rattle.std.specs.Int.{IsInRange}
-use Rattle.std.specs.Str.Parse.{AllDigits, IsNumeral, digits_value}
-use Rattle.ig_options.specs.Sizes.{IsSize, IsTimes, most_bytes, unit_of}
+use Rattle.std.specs.Str.Parse.{AllDigits}
+use Rattle.ig_options.specs.Sizes.{IsSize, IsTimes, unit_of}
 
 -- the letters of units
 letter_by : (c f : ℕ) (k m g : Bool) → (c == 75) ≡ k → (c == 77) ≡ m → (c == 71) ≡ g

@@ -1,5 +1,5 @@
 //! Sizes in bytes, as they are written on a command line.
-ghost use Rattle.std.specs.Prelude.{◌≡◌, ◌<◌, ℕ, MatchOption};
+ghost use Rattle.std.specs.Prelude.{◌<◌, ℕ, MatchOption};
 ghost use Rattle.ig_options.specs.Sizes.{IsSize, IsTimes};
 
 /// The size of a text: a whole number, and then nothing, or `K`, `M` or `G` for 2 to the power of
