@@ -3,7 +3,7 @@
 use std::io::Read;
 use std::rt::Env;
 use std::{env, fs, io};
-use vectors::{Kinds, Tally, replay};
+use vectors::{File, Kinds, Reports, Tally, replay};
 
 /// The name of standard input in reports.
 const STDIN: &str = "stdin";
@@ -61,9 +61,12 @@ fn replay_bytes<'w, K: Kinds>(
     bytes: &[u8],
     tally: &mut Tally,
 ) -> Result<(), Stop<'w>> {
-    let mut out = rt.stdout();
-    let mut err = rt.stderr();
-    match replay(rt.alloc(), kinds, name, bytes, tally, &mut out, &mut err) {
+    let file = File { name, bytes };
+    let mut reports = Reports {
+        out: rt.stdout(),
+        err: rt.stderr(),
+    };
+    match replay(rt.alloc(), kinds, file, tally, &mut reports) {
         Ok(()) => Ok(()),
         Err(vectors::Stop::Memory) => Err(Stop::Memory),
         Err(vectors::Stop::Write) => Err(Stop::Write),

@@ -1,2 +1,3 @@
 mod WorkedChanges
 mod WorkedListings
+mod WorkedWhole

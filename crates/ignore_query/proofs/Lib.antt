@@ -19,6 +19,7 @@ pub mod TurnLemmas
 pub mod TurnsOnly
 pub mod CopiesOnly
 pub mod WorkedKept
+pub mod WorkedLoads
 pub mod WorkedRules
 pub mod KeptLoadLemmas
 pub mod LoadedLemmas

@@ -4,10 +4,11 @@ use Rattle.std.proofs.Common.{◌≢◌, Option, None, Some, Result, Ok, Err, On
 use Rattle.std.proofs.Math.Dec.{eqb-suc-zero}
 use Rattle.std.specs.BTreeMap.{get_by_text}
 use Rattle.std.specs.List.{filter_map, list_all}
-use Rattle.std.specs.Option.{option_to_list}
+use Rattle.std.specs.Option.{option_map, option_to_list}
 use Rattle.std.specs.Str.{bytes_eq}
 use Rattle.ignore_base.specs.Paths.{components, is_proper}
-use Rattle.ignore_base.specs.Problem.{Problem}
+use Rattle.ignore_base.specs.declared.error.Error.{Error}
+use Rattle.ignore_base.specs.Problem.{Problem, problem_of}
 use Rattle.ignore_dir.specs.Chains.{slashed}
 use Rattle.ignore_dir.specs.declared.incremental.IncrementalMatch.{IncrementalMatch}
 use Rattle.ignore_dir.specs.declared.verdict.Verdict.TheVariants as v
@@ -67,6 +68,10 @@ collected_three None b d = collected_more b d
 collected_three (Some q) b d = ap (λ (l : List Problem). q ∷ l) (collected_more b d)
 
 -- Results.
+
+pub no_error : (e : Option Error) → option_map problem_of e ≡ None → e ≡ None
+no_error None h = refl
+no_error (Some e) h = cc
 
 pub ok_then : {A E P Q : Type 0} (r : Result A E) → (P → Q) → OnOk r P → OnOk r Q
 ok_then (Ok a) f h = f h

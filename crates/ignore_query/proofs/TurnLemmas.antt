@@ -1,6 +1,6 @@
 -- Questions asked in turn, and one more.
-use Rattle.std.proofs.Common.{◌≡◌, List, [], ◌∷◌, ◌++◌, Option, map, option_map, refl, sym, ap, ◌∙◌, subst}
-use Rattle.std.proofs.lemmas.List.{map-append}
+use Rattle.std.proofs.Common.{◌≡◌, ◌+◌, List, [], ◌∷◌, ◌++◌, Option, length, map, option_map, refl, sym, ap, ◌∙◌, subst}
+use Rattle.std.proofs.lemmas.List.{length_push, map-append}
 use Rattle.ignore_base.specs.declared.error.Error.{Error}
 use Rattle.ignore_base.specs.Problem.{Problem, problem_of}
 use Rattle.ignore_dir.specs.declared.incremental.IncrementalMatch.{IncrementalMatch}
@@ -12,6 +12,12 @@ use Rattle.ignore_query.specs.InTurn.{Leaves, Question, ReportInTurn}
 use Rattle.ignore_query.specs.Reports.{reported}
 use Rattle.ignore_why.specs.declared.explanation.Explanation.{Explanation}
 use Rattle.ignore_why.specs.QueryWhy.{QueryWhy, query_why, query_why_of}
+
+-- with one more each, two lists stay as long as each other
+pub one_more_each : {A B : Type 0} (xs xs' : List A) (ys ys' : List B) (x : A) (y : B) → xs' ≡ xs ++ x ∷ [] → ys' ≡ ys ++ y ∷ []
+    → length xs ≡ length ys → length xs' ≡ length ys'
+one_more_each xs xs' ys ys' x y e f h =
+    ap length e ∙ (length_push xs x ∙ (ap (λ n. n + 1) h ∙ (sym (length_push ys y) ∙ sym (ap length f))))
 
 turn_next : (g : QueryScene) (qs : List Question) (ps : List (Option Problem)) (old c c' : Cache) (q : Question)
     → ReportInTurn g qs ps old c → Leaves g q c c' → ReportInTurn g (qs ++ q ∷ []) (ps ++ reported g c q.0 q.1 ∷ []) old c'

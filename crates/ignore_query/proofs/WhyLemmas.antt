@@ -16,7 +16,7 @@ use Rattle.ignore_dir.specs.Lists.{Asked, asked_in}
 use Rattle.ignore_dir.specs.declared.settings.Settings.{Settings}
 use Rattle.ignore_dir.specs.declared.verdict.Verdict.{Verdict}
 use Rattle.ignore_dir.specs.declared.verdict.Verdict.TheVariants as v
-use Rattle.ignore_dir.specs.Limits.{is_beyond, limited, size_limit, size_problem}
+use Rattle.ignore_dir.specs.Limits.{beyond, is_beyond, limited, size_limit, size_problem}
 use Rattle.ignore_dir.specs.Query.{ancestors, depth_of_path, has_rules, is_asked, is_ignored, limit_of, names_of, rules_verdict}
 use Rattle.ignore_dir.specs.Query.{size_of}
 use Rattle.ignore_dir.specs.Scene.{QueryScene, chain}
@@ -308,6 +308,11 @@ answer_at s depth deep is_dir too_deep same = refl
 answer_at s depth deep is_dir (decided said) same = same (verdict_of said)
 answer_at s depth deep is_dir (larger size most) same = same v.Ignore
 answer_at s depth deep is_dir (inside dir said) same = same v.Ignore
+
+-- the answer that goes with a depth beyond the limits, whichever of them that is
+pub far_beyond : (s : Settings) (depth : ℕ) (is_dir b : Bool) → answer_of s depth is_dir (cond b too_deep too_shallow) ≡ beyond
+far_beyond s depth is_dir true = refl
+far_beyond s depth is_dir false = refl
 
 -- what holds anyway holds on `Ok`
 pub always : {A E : Type 0} {P : Type 0} (r : Result A E) → P → OnOk r P

@@ -85,6 +85,11 @@ impl Cache {
         ensures problems { WhereAsked F.Files call.now self.old path.now (λ g.
             OnOk result (map problem_of errors.new.items ≡ map problem_of errors.old.items
             ++ (option_to_list (new_above g self.old) ++ filter_map (λ p. p) (new_below g self.old (components path.now))))) }
+        ensures from_kept { (tree : Tree) (loads : List ℕ → Loaded) → let g = scene_of call.now.asked.now tree loads in
+            Agrees g self.old → list_all is_proper (components path.now) ≡ true → is_known g self.old (components path.now) ≡ true
+            → (self.new ≡ self.old) × ((errors.new ≡ errors.old)
+            × IfOk result (λ k. (is_loaded k ≡ not (list_any (queries.is_ignored g) (queries.ancestors (components path.now))))
+            × ((place : Option Place) → k ≡ kept.Kept.Loaded place → IsNext self.old (components path.now) place))) }
         ensures soft { AllSoft (map problem_of errors.old.items) → OnOk result (AllSoft (map problem_of errors.new.items)) }
     {
         if let Some(kept) = self.dirs.map.get(parent_key(path)) {

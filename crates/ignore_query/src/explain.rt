@@ -1,5 +1,5 @@
 //! Why a path is ignored, whitelisted or neither.
-ghost use Rattle.std.specs.Prelude.{◌≡◌, ◌≢◌, true, ℕ, List, IfOk, IfErr, OnOk, option_map};
+ghost use Rattle.std.specs.Prelude.{◌≡◌, ◌≢◌, true, false, ℕ, List, None, IfOk, IfErr, OnOk, option_map, string_bytes};
 ghost use Rattle.std.specs.List.{list_all};
 ghost use Rattle.ignore_files.specs.Gives.{IsHonest};
 ghost use Rattle.ignore_files.specs.Tree.{Tree};
@@ -12,11 +12,12 @@ ghost use Rattle.ignore_dir.specs.Soft.{IsSoft};
 ghost use Rattle.ignore_query.specs.Agrees.{Agrees};
 ghost use Rattle.ignore_query.specs.KeptLoads.{KeepsLoads};
 ghost use Rattle.ignore_query.specs.Left.{LeavesMatcher};
-ghost use Rattle.ignore_query.specs.Needs.{KeepsNeeded, Stays, is_decided, needed};
+ghost use Rattle.ignore_query.specs.Needs.{KeepsNeeded, Stays, is_decided, is_known, needed};
 ghost use Rattle.ignore_query.specs.Reached.{scene_of};
 ghost use Rattle.ignore_query.specs.Reports.{reported, reported_by_rules};
 ghost use Rattle.ignore_query.specs.Where.{WhereAgrees, WhereDecided};
 ghost use Rattle.ignore_why.specs.QueryWhy.{answer_of, query_why, query_why_of, why_beyond, why_by_rules};
+ghost use Rattle.ignore_why.specs.QueryWhy.QueryWhy.{unasked as not_asked};
 
 use crate::asked::Call;
 use crate::clean::{depth_for, is_asked};
@@ -83,6 +84,17 @@ impl IncrementalIgnore {
         ensures leaves { LeavesMatcher F.Files files.now (path.now, is_dir) self.old self.new }
         ensures kept { WhereAgrees F.Files files.now self.old (λ g. is_decided g path.now is_dir ≡ true
             → OnOk result (KeepsNeeded (needed g (queries.names_of path.now)) self.old.cache self.new.cache)) }
+        ensures from_kept { (tree : Tree) (loads : List ℕ → Loaded) → let g = scene_of self.old.asked tree loads in
+            Agrees g self.old.cache → is_known g self.old.cache (queries.names_of path.now) ≡ true
+            → queries.limit_of g path.now is_dir ≡ None → (self.new.cache ≡ self.old.cache)
+            × IfOk result (λ r. (query_why_of r.0.reason ≡ query_why g path.now is_dir)
+            × ((r.0.answer ≡ (queries.query g path.now is_dir).0) × (r.1 ≡ None))) }
+        ensures unasked { queries.is_asked (string_bytes self.old.asked.root) path.now ≡ false → (self.new.cache ≡ self.old.cache)
+            × IfOk result (λ r. (query_why_of r.0.reason ≡ not_asked) × ((r.0.answer ≡ limits.no_match is_dir) × (r.1 ≡ None))) }
+        ensures beyond { queries.is_asked (string_bytes self.old.asked.root) path.now ≡ true
+            → limits.is_beyond self.old.asked.settings (queries.depth_of_path path.now) is_dir ≡ true → (self.new.cache ≡ self.old.cache)
+            × IfOk result (λ r. (query_why_of r.0.reason ≡ why_beyond self.old.asked.settings (queries.depth_of_path path.now))
+            × ((r.0.answer ≡ limits.beyond) × (r.1 ≡ None))) }
         ensures soft { IfOk result (λ r. IsSoft (option_map problem_of r.1)) }
         ensures out_of_memory { IfErr result (λ e. problem_of e ≡ memory) }
     {
@@ -107,6 +119,15 @@ impl IncrementalIgnore {
         ensures kept { WhereAgrees F.Files files.now self.old (λ g. is_decided g path.now is_dir ≡ true
             → OnOk result (KeepsNeeded (needed g (queries.names_of path.now)) self.old.cache self.new.cache)) }
         ensures unchanged { WhereAgrees F.Files files.now self.old (λ g. is_decided g path.now is_dir ≢ true → self.new.cache ≡ self.old.cache) }
+        ensures from_kept { (tree : Tree) (loads : List ℕ → Loaded) → let g = scene_of self.old.asked tree loads in
+            Agrees g self.old.cache → is_known g self.old.cache (queries.names_of path.now) ≡ true
+            → queries.limit_of g path.now is_dir ≡ None → (self.new.cache ≡ self.old.cache)
+            × IfOk result (λ r. (query_why_of r.0 ≡ query_why g path.now is_dir) × (r.1 ≡ None)) }
+        ensures unasked { queries.is_asked (string_bytes self.old.asked.root) path.now ≡ false → (self.new.cache ≡ self.old.cache)
+            × IfOk result (λ r. (query_why_of r.0 ≡ not_asked) × (r.1 ≡ None)) }
+        ensures beyond { queries.is_asked (string_bytes self.old.asked.root) path.now ≡ true
+            → limits.is_beyond self.old.asked.settings (queries.depth_of_path path.now) is_dir ≡ true → (self.new.cache ≡ self.old.cache)
+            × IfOk result (λ r. (query_why_of r.0 ≡ why_beyond self.old.asked.settings (queries.depth_of_path path.now)) × (r.1 ≡ None)) }
         ensures agrees { WhereAgrees F.Files files.now self.old (λ g. Agrees g self.new.cache) }
         ensures soft { IfOk result (λ r. IsSoft (option_map problem_of r.1)) }
         ensures same { self.new.asked ≡ self.old.asked }
@@ -144,6 +165,11 @@ impl IncrementalIgnore {
         ensures loaded { KeepsLoads F.Files files.now self.old.asked self.old.cache self.new.cache }
         ensures kept { WhereDecided F.Files files.now self.old path.now (λ g.
             OnOk result (KeepsNeeded (needed g (queries.names_of path.now)) self.old.cache self.new.cache)) }
+        ensures from_kept { (tree : Tree) (loads : List ℕ → Loaded) → let g = scene_of self.old.asked tree loads in
+            Agrees g self.old.cache → queries.is_asked g.root path.now ≡ true → queries.has_rules tree g.root path.now ≡ true
+            → is_known g self.old.cache (queries.names_of path.now) ≡ true → queries.limit_of g path.now is_dir ≡ None
+            → (self.new.cache ≡ self.old.cache)
+            × IfOk result (λ r. (query_why_of r.0 ≡ why_by_rules g path.now is_dir) × (r.1 ≡ None)) }
         ensures agrees { WhereDecided F.Files files.now self.old path.now (λ g.
             Agrees g self.new.cache) }
         ensures soft { IfOk result (λ r. IsSoft (option_map problem_of r.1)) }

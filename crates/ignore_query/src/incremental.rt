@@ -1,5 +1,5 @@
 //! A matcher of single paths below a root.
-ghost use Rattle.std.specs.Prelude.{◌≡◌, ◌≢◌, true, ℕ, List, None, IfOk, IfErr, OnOk, option_map, string_bytes};
+ghost use Rattle.std.specs.Prelude.{◌≡◌, ◌≢◌, true, false, ℕ, List, None, IfOk, IfErr, OnOk, option_map, string_bytes};
 ghost use Rattle.ignore_files.specs.Gives.{IsHonest};
 ghost use Rattle.ignore_files.specs.Tree.{Tree};
 ghost use Rattle.std.specs.List.{list_all};
@@ -7,6 +7,7 @@ ghost use Rattle.std.specs.Option.{option_copied};
 ghost use Rattle.ignore_base.specs.Normalize.{normalize_of};
 ghost use Rattle.ignore_base.specs.Paths.{components, is_proper};
 ghost use Rattle.ignore_base.specs.Problem.{problem_of, memory};
+ghost use Rattle.ignore_dir.specs.Limits as limits;
 ghost use Rattle.ignore_dir.specs.Load.{Loaded, AreLoads};
 ghost use Rattle.ignore_dir.specs.Query as queries;
 ghost use Rattle.ignore_dir.specs.Scene.{QueryScene};
@@ -130,6 +131,11 @@ impl IncrementalIgnore {
             Agrees g self.old.cache → is_known g self.old.cache (queries.names_of path.now) ≡ true
             → queries.limit_of g path.now is_dir ≡ None → (self.new.cache ≡ self.old.cache)
             × IfOk result (λ m. m ≡ (queries.query g path.now is_dir).0) }
+        ensures unasked { queries.is_asked (string_bytes self.old.asked.root) path.now ≡ false → (self.new.cache ≡ self.old.cache)
+            × IfOk result (λ m. m ≡ limits.no_match is_dir) }
+        ensures beyond { queries.is_asked (string_bytes self.old.asked.root) path.now ≡ true
+            → limits.is_beyond self.old.asked.settings (queries.depth_of_path path.now) is_dir ≡ true → (self.new.cache ≡ self.old.cache)
+            × IfOk result (λ m. m ≡ limits.beyond) }
         ensures out_of_memory { IfErr result (λ e. problem_of e ≡ memory) }
     {
         let (answer, _) = self.matched_with_errors(files, path, is_dir)?;
@@ -155,6 +161,11 @@ impl IncrementalIgnore {
             Agrees g self.old.cache → is_known g self.old.cache (queries.names_of path.now) ≡ true
             → queries.limit_of g path.now is_dir ≡ None → (self.new.cache ≡ self.old.cache)
             × IfOk result (λ r. (r.0 ≡ (queries.query g path.now is_dir).0) × (r.1 ≡ None)) }
+        ensures unasked { queries.is_asked (string_bytes self.old.asked.root) path.now ≡ false → (self.new.cache ≡ self.old.cache)
+            × IfOk result (λ r. (r.0 ≡ limits.no_match is_dir) × (r.1 ≡ None)) }
+        ensures beyond { queries.is_asked (string_bytes self.old.asked.root) path.now ≡ true
+            → limits.is_beyond self.old.asked.settings (queries.depth_of_path path.now) is_dir ≡ true → (self.new.cache ≡ self.old.cache)
+            × IfOk result (λ r. (r.0 ≡ limits.beyond) × (r.1 ≡ None)) }
         ensures soft { IfOk result (λ r. IsSoft (option_map problem_of r.1)) }
         ensures out_of_memory { IfErr result (λ e. problem_of e ≡ memory) }
     {
@@ -180,6 +191,11 @@ impl IncrementalIgnore {
             Agrees g self.old.cache → is_known g self.old.cache (queries.names_of path.now) ≡ true
             → queries.limit_of g path.now is_dir ≡ None → (self.new.cache ≡ self.old.cache)
             × IfOk result (λ r. (r.0 ≡ (queries.query g path.now is_dir).0) × (r.1 ≡ None)) }
+        ensures unasked { queries.is_asked (string_bytes self.old.asked.root) path.now ≡ false → (self.new.cache ≡ self.old.cache)
+            × IfOk result (λ r. (r.0 ≡ limits.no_match is_dir) × (r.1 ≡ None)) }
+        ensures beyond { queries.is_asked (string_bytes self.old.asked.root) path.now ≡ true
+            → limits.is_beyond self.old.asked.settings (queries.depth_of_path path.now) is_dir ≡ true → (self.new.cache ≡ self.old.cache)
+            × IfOk result (λ r. (r.0 ≡ limits.beyond) × (r.1 ≡ None)) }
         ensures agrees { WhereAgrees F.Files files.now self.old (λ g. Agrees g self.new.cache) }
         ensures soft { IfOk result (λ r. IsSoft (option_map problem_of r.1)) }
         ensures same { self.new.asked ≡ self.old.asked }
@@ -196,7 +212,7 @@ impl IncrementalIgnore {
             asked: &self.asked,
         };
         if self.cache.has_rules(&call, path)? {
-            return Ok(self.answer_of_rules(files, path, is_dir)?);
+            return self.answer_of_rules(files, path, is_dir);
         }
         let answer = IncrementalMatch::limited(&self.asked.settings, depth, is_dir, Verdict::None);
         Ok((answer, None))

@@ -1,5 +1,5 @@
 //! Several paths, asked about in turn.
-ghost use Rattle.std.specs.Prelude.{◌≡◌, ℕ, List, All, IfOk, IfErr, map, option_map, string_bytes};
+ghost use Rattle.std.specs.Prelude.{◌≡◌, ℕ, List, All, IfOk, IfErr, length, map, option_map, string_bytes};
 ghost use Rattle.ignore_files.specs.Gives.{IsHonest};
 ghost use Rattle.ignore_files.specs.Tree.{Tree};
 ghost use Rattle.ignore_base.specs.Problem.{problem_of, memory};
@@ -39,6 +39,7 @@ pub fn check_paths<F: Files>(
     ensures agrees { WhereAgrees F.Files files.now matcher.old (λ g. Agrees g matcher.new.cache) }
     ensures stays { Stays matcher.old.cache matcher.new.cache }
     ensures loaded { KeepsLoads F.Files files.now matcher.old.asked matcher.old.cache matcher.new.cache }
+    ensures each { IfOk result (λ rs. length rs.items ≡ length paths.now) }
     ensures soft { IfOk result (λ rs. All (λ r. IsSoft (option_map problem_of r.1)) rs.items) }
     ensures same { matcher.new.asked ≡ matcher.old.asked }
     ensures out_of_memory { IfErr result (λ e. problem_of e ≡ memory) }
@@ -70,6 +71,7 @@ pub fn explain_paths<F: Files>(
     ensures agrees { WhereAgrees F.Files files.now matcher.old (λ g. Agrees g matcher.new.cache) }
     ensures stays { Stays matcher.old.cache matcher.new.cache }
     ensures loaded { KeepsLoads F.Files files.now matcher.old.asked matcher.old.cache matcher.new.cache }
+    ensures each { IfOk result (λ rs. length rs.items ≡ length paths.now) }
     ensures soft { IfOk result (λ rs. All (λ r. IsSoft (option_map problem_of r.1)) rs.items) }
     ensures same { matcher.new.asked ≡ matcher.old.asked }
     ensures out_of_memory { IfErr result (λ e. problem_of e ≡ memory) }

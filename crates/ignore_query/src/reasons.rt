@@ -1,5 +1,5 @@
 //! The reason of an answer, from what is kept.
-ghost use Rattle.std.specs.Prelude.{◌≡◌, ◌++◌, ◌∷◌, [], ℕ, Bool, List, All, Option, Some, true, map, option_map, IfOk, IfSome, OnOk, string_bytes};
+ghost use Rattle.std.specs.Prelude.{◌≡◌, ◌++◌, ◌∷◌, [], ℕ, Bool, List, All, Option, None, Some, true, map, option_map, IfOk, IfSome, OnOk, string_bytes};
 ghost use Rattle.std.specs.BTreeMap.{get_by_text};
 ghost use Rattle.std.specs.List.{filter_map, list_all, list_any};
 ghost use Rattle.std.specs.Option.{option_to_list};
@@ -26,7 +26,7 @@ ghost use Rattle.ignore_query.specs.Shut.{is_shut, open_in};
 ghost use Rattle.ignore_query.specs.Where.{WhereAsked};
 ghost use Rattle.ignore_why.specs.Cited.{cited_of};
 ghost use Rattle.ignore_why.specs.QueryWhy.{first_ignored, path_cited, why_by_rules, why_by_size, query_why_of};
-ghost use Rattle.ignore_why.specs.QueryWhy.QueryWhy.{inside};
+ghost use Rattle.ignore_why.specs.QueryWhy.QueryWhy.{decided, inside};
 
 use crate::asked::{Asked, Call};
 use crate::kept::{Cache, Kept};
@@ -74,6 +74,8 @@ fn by_size<F: Files>(
         let file = join_of (string_bytes call.now.asked.now.root) path.now in OnOk result (map problem_of errors.new.items
         ≡ map problem_of errors.old.items ++ option_to_list (limits.size_problem file
         (limits.size_limit s is_dir (verdicts.verdict_of said)) (tree.stat file s.follow_links))) }
+    ensures unasked { limits.size_limit call.now.asked.now.settings is_dir (verdicts.verdict_of said) ≡ None
+        → (errors.new ≡ errors.old) × IfOk result (λ r. query_why_of r ≡ decided (match_map cited_of said)) }
     ensures soft { AllSoft (map problem_of errors.old.items) → OnOk result (AllSoft (map problem_of errors.new.items)) }
 {
     let settings = &call.asked.settings;
@@ -228,6 +230,10 @@ impl Cache {
             OnOk result (map problem_of errors.new.items ≡ (map problem_of errors.old.items
             ++ (option_to_list (new_above g self.old) ++ filter_map (λ p. p) (new_below g self.old (components path.now))))
             ++ option_to_list (limits.size_problem (join_of g.root path.now) (queries.limit_of g path.now is_dir) (queries.size_of g path.now)))) }
+        ensures from_kept { (tree : Tree) (loads : List ℕ → Loaded) → let g = scene_of call.now.asked.now tree loads in
+            Agrees g self.old → list_all is_proper (components path.now) ≡ true → is_known g self.old (components path.now) ≡ true
+            → queries.limit_of g path.now is_dir ≡ None → (self.new ≡ self.old) × ((errors.new ≡ errors.old)
+            × IfOk result (λ r. query_why_of r ≡ why_by_rules g path.now is_dir)) }
         ensures soft { AllSoft (map problem_of errors.old.items) → OnOk result (AllSoft (map problem_of errors.new.items)) }
     {
         match self.keep_for(call, path, errors)? {

@@ -1,4 +1,5 @@
 pub mod TextLemmas
 pub mod DecidesLemmas
 pub mod QueryWhyLemmas
+pub mod WorkedDecides
 pub mod WorkedWhy

@@ -2,12 +2,13 @@
 -- `.ignore`, `3` by `.gitignore` at any depth, `4` by the exclude file, `5` by the global file and
 -- `6` by a file that was added by name; `7` is whitelisted by the custom file. Each rule stands on
 -- the line of its number. `/t/n/.gitignore` whitelists `3`, and `/t/m` is a repository of its own.
-use Rattle.std.proofs.Common.{◌≡◌, ℕ, true, false, Bool, List, [], ◌∷◌, ◌++◌, codes, Option, None, Some, Ok, Err, refl}
+use Rattle.std.proofs.Common.{◌≡◌, ℕ, true, false, Bool, List, [], ◌∷◌, ◌++◌, codes, Option, None, Some, Ok, Err, option_map, string_bytes, refl, ap, ◌∙◌}
 use Rattle.std.specs.Fmt.{decimal}
 use Rattle.std.specs.Str.{bytes_eq, chars}
 use Rattle.std.specs.Prelude.{if◌then◌else◌}
 use Rattle.ignore_base.specs.Paths.{below, file_name_of, join_of, strip_prefix_of}
 use Rattle.ignore_base.specs.declared.fault.Fault.TheVariants.{NotFound}
+use Rattle.ignore_base.specs.declared.match_result.Match.{Match}
 use Rattle.ignore_base.specs.declared.match_result.Match.TheVariants as m
 use Rattle.ignore_files.specs.Tree.{Tree}
 use Rattle.ignore_files.specs.declared.types.FileType.TheVariants.{Dir as dir_kind, File as file_kind}
@@ -17,27 +18,34 @@ use Rattle.ignore_glob.specs.Reading.{Reading}
 use Rattle.ignore_types.specs.TypeMatch.{Matcher, no_types}
 use Rattle.ignore_rules.specs.Rules.{Rule, Ruleset, empty}
 use Rattle.ignore_dir.specs.declared.dir.Dir.{Dir}
+use Rattle.ignore_dir.specs.declared.incremental.IncrementalMatch.{IncrementalMatch}
 use Rattle.ignore_dir.specs.declared.settings.Settings.{Settings}
+use Rattle.ignore_dir.specs.declared.verdict.Verdict.TheVariants as v
+use Rattle.ignore_dir.specs.Limits.{beyond}
 use Rattle.ignore_dir.specs.Load.{Loaded}
-use Rattle.ignore_dir.specs.Query.{is_ignored, rules_verdict}
+use Rattle.ignore_dir.specs.Query.{depth_of_path, is_ignored, query, rules_verdict}
 use Rattle.ignore_dir.specs.Scene.{QueryScene, path_verdict, scene}
+use Rattle.ignore_why.specs.declared.cause.Cause.TheVariants as cause
+use Rattle.ignore_why.specs.declared.cause.NamedRule.{NamedRule}
+use Rattle.ignore_why.specs.declared.cause.NamedType.{NamedType}
 use Rattle.ignore_why.specs.declared.cause.RuleRank.{RuleRank}
 use Rattle.ignore_why.specs.declared.cause.RuleRank.TheVariants.{Custom, Ignore, Gitignore, Exclude, Global, Explicit}
-use Rattle.ignore_why.specs.Cited.{Cited, Typed}
+use Rattle.ignore_why.specs.declared.explanation.Reason.TheVariants as reason
+use Rattle.ignore_why.specs.Cited.{Cited, Typed, named_of, typed_of}
 use Rattle.ignore_why.specs.Cited.Cited.{on_name, on_override, on_rule, on_type}
-use Rattle.ignore_why.specs.QueryWhy.{path_why, query_why, why_by_rules}
+use Rattle.ignore_why.specs.QueryWhy.{AnswersByReason, answer_of, path_why, query_why, query_why_of, why_by_rules, why_by_size}
 use Rattle.ignore_why.specs.QueryWhy.QueryWhy.{decided, inside, larger, too_deep, too_shallow, unasked, unruled}
-use Rattle.ignore_why.specs.Texts.{query_why_text}
+use Rattle.ignore_why.specs.Texts.{query_why_text, rule_text}
 
 -- the pattern of one character, and the same at any depth
-abbrev only : ℕ → Reading
+abbrev pub only : ℕ → Reading
 only c = record { tokens = next (literal c) done; case_insensitive = false }
 
 abbrev deep : ℕ → Reading
 deep c = record { tokens = next start (next (literal c) done); case_insensitive = false }
 
 -- the rule of one character, on a line of the file `f`
-abbrev rule : Reading → ℕ → ℕ → Bool → Rule
+abbrev pub rule : Reading → ℕ → ℕ → Bool → Rule
 rule reading c line whitelist = record {
   from = Some (codes "f");
   line = Some line;
@@ -48,7 +56,7 @@ rule reading c line whitelist = record {
   reading = reading;
 }
 
-abbrev rules : List Rule → Ruleset
+abbrev pub rules : List Rule → Ruleset
 rules list = record { root = codes "/t"; rules = list }
 
 abbrev top : Dir
@@ -83,7 +91,7 @@ tree = record {
   identity = λ p follow. Err NotFound;
 }
 
-abbrev settings : Option ℕ → Option ℕ → Settings
+abbrev pub settings : Option ℕ → Option ℕ → Settings
 settings least most = record {
   custom = [];
   hidden = true;
@@ -175,6 +183,32 @@ pub by_directories : (query_why g (codes "n/3") false ≡ decided (m.Whitelist (
 unfolding query_why why_by_rules path_why is_ignored path_verdict rules_verdict join_of file_name_of below strip_prefix_of does_match chars
 by_directories = (refl, refl, refl, refl)
 
+-- of two ignored directories on the way, `1` and `1/3`, the outer one is the reason
+pub outer_directory : query_why g (codes "1/3/k") false ≡ inside (codes "1") (m.Ignore (named Custom top_path 49 1 false))
+unfolding query_why why_by_rules path_why is_ignored path_verdict rules_verdict join_of file_name_of below strip_prefix_of does_match chars
+outer_directory = refl
+
+-- a size of nine bytes isn't above the limit of nine, and one that isn't known is above none
+pub at_the_limit : (why_by_size (Some 9) (Ok (record { file_type = file_kind; len = 9 })) m.None ≡ decided m.None)
+    × (why_by_size (Some 9) (Err NotFound) m.None ≡ decided m.None)
+at_the_limit = (refl, refl)
+
+-- the answers by reasons: what isn't asked and what no rule is asked for have no match; what is beyond
+-- the depths, too large or in an ignored directory is ignored; else it is as what decides says
+pub answers : let by = answer_of (settings None None) 1 false in
+    ((by unasked).verdict ≡ v.None) × ((by unruled).verdict ≡ v.None) × (by too_shallow ≡ beyond) × (by too_deep ≡ beyond)
+    × ((by (larger 10 9)).verdict ≡ v.Ignore) × ((by (inside (codes "1") (m.Whitelist on_name))).verdict ≡ v.Ignore)
+    × ((by (decided m.None)).verdict ≡ v.None) × ((by (decided (m.Ignore on_name))).verdict ≡ v.Ignore)
+    × ((by (decided (m.Whitelist on_name))).verdict ≡ v.Whitelist)
+answers = (refl, refl, refl, refl, refl, refl, refl, refl, refl)
+
+-- by the law a path in an ignored directory is ignored, whatever decides on the directory
+pub ignored_inside : AnswersByReason → (q : QueryScene) (path dir : List ℕ) (is_dir : Bool) (said : Match Cited)
+    → query_why q path is_dir ≡ inside dir said → (query q path is_dir).0.verdict ≡ v.Ignore
+ignored_inside law q path dir is_dir said h =
+    let answer = answer_of q.settings (depth_of_path path) is_dir in
+    ap (λ (a : IncrementalMatch). a.verdict) (law q path is_dir ∙ ap answer h)
+
 -- the type `r` by one of its globs
 abbrev by_glob : List ℕ → Option Typed
 by_glob glob = Some (record { name = codes "r"; glob = glob })
@@ -203,4 +237,28 @@ pub texts : (query_why_text (decided (m.Ignore (named Custom top_path 49 12 fals
     × (query_why_text (decided (m.Ignore (on_type (by_glob (codes "7"))))) ≡ codes "type r")
     × (query_why_text (decided (m.Whitelist (on_override (Some (codes "*.rs"))))) ≡ codes "override *.rs")
     × (query_why_text (decided (m.Ignore on_name)) ≡ codes "hidden") × (query_why_text unasked ≡ codes "not asked")
-texts = (refl, refl, refl, refl, refl, refl, refl, refl)
+    × (query_why_text unruled ≡ codes "not asked") × (query_why_text too_shallow ≡ codes "above the least depth")
+    × (query_why_text too_deep ≡ codes "below the greatest depth") × (query_why_text (decided (m.Ignore (on_type None))) ≡ codes "no type")
+    × (query_why_text (decided (m.Ignore (on_override None))) ≡ codes "no override")
+texts = (refl, refl, refl, refl, refl, refl, refl, refl, refl, refl, refl, refl, refl)
+
+-- the text of a rule without a source or a number has the colons
+pub unknown_line : rule_text (record { rank = Explicit; directory = None; from = None; line = None; original = codes "*.o"; is_whitelist = true })
+    ≡ codes "::*.o"
+unknown_line = refl
+
+-- what the code's reasons stand for
+pub of_code : (query_why_of reason.Unasked ≡ unasked) × (query_why_of reason.Unruled ≡ unruled) × (query_why_of reason.TooShallow ≡ too_shallow)
+    × (query_why_of reason.TooDeep ≡ too_deep) × (query_why_of (reason.Larger 10 9) ≡ larger 10 9)
+    × (query_why_of (reason.Decided (m.Ignore cause.Hidden)) ≡ decided (m.Ignore on_name))
+    × (query_why_of (reason.Decided (m.Whitelist (cause.Type None))) ≡ decided (m.Whitelist (on_type None)))
+    × (query_why_of (reason.Decided (m.Ignore (cause.Override None))) ≡ decided (m.Ignore (on_override None)))
+of_code = (refl, refl, refl, refl, refl, refl, refl, refl)
+
+pub rule_of_code : (r : NamedRule) → ((named_of r).rank ≡ r.rank) × ((named_of r).directory ≡ option_map string_bytes r.directory)
+    × ((named_of r).from ≡ option_map string_bytes r.source) × ((named_of r).line ≡ r.line) × ((named_of r).original ≡ string_bytes r.original)
+    × ((named_of r).is_whitelist ≡ r.is_whitelist)
+rule_of_code r = (refl, refl, refl, refl, refl, refl)
+
+pub type_of_code : (t : NamedType) → ((typed_of t).name ≡ string_bytes t.name) × ((typed_of t).glob ≡ string_bytes t.glob)
+type_of_code t = (refl, refl)

@@ -17,7 +17,7 @@ pub use agree::agrees;
 pub use equal::is_equal;
 pub use fields::{field, flag, flag_at, item, list, members, object, text, text_at};
 pub use kinds::Kinds;
-pub use run::{Stop, replay};
+pub use run::{File, Reports, Stop, replay};
 pub use tally::Tally;
 pub use trouble::Trouble;
 pub use vector::Vector;

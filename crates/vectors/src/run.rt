@@ -19,6 +19,24 @@ pub enum Stop {
     Write,
 }
 
+/// A file of vectors.
+#[derive(Clone, Copy)]
+pub struct File<'f> {
+    /// Its name in reports.
+    pub name: &'f str,
+    /// What it holds.
+    pub bytes: &'f [u8],
+}
+
+/// Where a run reports.
+#[derive(Drop)]
+pub struct Reports<W: Write, E: Write> {
+    /// Takes the vectors with another answer than the wanted one.
+    pub out: W,
+    /// Takes the lines that are no vectors.
+    pub err: E,
+}
+
 /// The place of a line: the name of its file, and its number, counted from 1.
 #[derive(Clone, Copy)]
 struct Place<'n> {
@@ -26,26 +44,33 @@ struct Place<'n> {
     number: u64,
 }
 
+/// A line, and its place.
+#[derive(Clone, Copy)]
+struct Line<'l> {
+    place: Place<'l>,
+    bytes: &'l [u8],
+}
+
 /// Runs each vector of a file. A vector with another answer than the wanted one is reported on
-/// `out`, and a line that is no vector on `err`; both are counted.
+/// the output, and a line that is no vector as an error; both are counted.
 pub fn replay<K: Kinds, W: Write, E: Write>(
     alloc: Global,
     kinds: &K,
-    name: &str,
-    bytes: &[u8],
+    file: File<'_>,
     tally: &mut Tally,
-    out: &mut W,
-    err: &mut E,
+    reports: &mut Reports<W, E>,
 ) -> Result<(), Stop>
     ensures counts { OnOk result
-        (CountsLines (K.gives kinds.now) (K.waits kinds.now) (slice_split (λ b. b == 10) bytes.now) tally.old tally.new) }
+        (CountsLines (K.gives kinds.now) (K.waits kinds.now) (slice_split (λ b. b == 10) file.entry.bytes.now) tally.old tally.new) }
 {
+    let name = file.name;
     let mut number = 0u64;
-    let mut rest = Some(bytes);
+    let mut rest = Some(file.bytes);
     while let Some(left) = rest {
-        let (line, later) = first_line(left);
+        let (bytes, later) = first_line(left);
         number = number.saturating_add(1);
-        count_line(alloc, kinds, Place { name, number }, line, tally, out, err)?;
+        let place = Place { name, number };
+        count_line(alloc, kinds, Line { place, bytes }, tally, reports)?;
         rest = later;
     }
     Ok(())
@@ -72,20 +97,18 @@ fn newline(bytes: &[u8]) -> Option<usize>
 fn count_line<K: Kinds, W: Write, E: Write>(
     alloc: Global,
     kinds: &K,
-    place: Place<'_>,
-    line: &[u8],
+    line: Line<'_>,
     tally: &mut Tally,
-    out: &mut W,
-    err: &mut E,
+    reports: &mut Reports<W, E>,
 ) -> Result<(), Stop>
-    ensures { OnOk result (CountsLine (K.gives kinds.now) (K.waits kinds.now) line.now tally.old tally.new) }
+    ensures { OnOk result (CountsLine (K.gives kinds.now) (K.waits kinds.now) line.entry.bytes.now tally.old tally.new) }
 {
-    if line.is_empty() {
+    if line.bytes.is_empty() {
         return Ok(());
     }
-    match judged(alloc, kinds, line) {
-        Ok(verdict) => write_result(tally.count(verdict, out)),
-        Err(flaw) => refuse(flaw, place, tally, err),
+    match judged(alloc, kinds, line.bytes) {
+        Ok(verdict) => write_result(tally.count(verdict, &mut reports.out)),
+        Err(flaw) => refuse(flaw, line.place, tally, &mut reports.err),
     }
 }
 

@@ -1,4 +1,4 @@
-use Rattle.std.proofs.Common.{◌≡◌, ℕ, List, All, map, option_map, take, string_bytes}
+use Rattle.std.proofs.Common.{◌≡◌, ℕ, List, All, length, map, option_map, take, string_bytes}
 use Rattle.ignore_files.specs.Gives.{IsHonest}
 use Rattle.ignore_files.specs.Tree.{Tree}
 use Rattle.ignore_base.specs.Problem.{problem_of}
@@ -17,6 +17,7 @@ invariant-loop-path g l = record {
   same : l.matcher.asked ≡ l.fn.matcher.asked;
   stays : Stays l.fn.matcher.cache l.matcher.cache;
   loaded : KeepsLoads g.F.Files l.files l.fn.matcher.asked l.fn.matcher.cache l.matcher.cache;
+  each : length l.answers.items ≡ length (take l.path-index l.paths);
   soft : All (λ r. IsSoft (option_map problem_of r.1)) l.answers.items;
   asked : (tree : Tree) (loads : List ℕ → Loaded) → IsHonest g.F.Files l.files tree
       → AreLoads tree l.fn.matcher.asked.settings loads → Agrees (scene_of l.fn.matcher.asked tree loads) l.fn.matcher.cache

@@ -1,5 +1,5 @@
-use Rattle.std.proofs.Common.{◌≡◌, ◌≢◌, ◌∷◌, ◌++◌, [], All, true, map, option_map, string_bytes, take, sym, ap, ◌∙◌, subst}
-use Rattle.std.proofs.lemmas.List.{map_more, take_all}
+use Rattle.std.proofs.Common.{◌≡◌, ◌≢◌, ◌∷◌, ◌++◌, [], All, true, length, map, option_map, string_bytes, take, sym, ap, ◌∙◌, subst}
+use Rattle.std.proofs.lemmas.List.{map_more, take_all, take_more}
 use Rattle.std.proofs.lemmas.List.Elements.{All-push}
 use Rattle.ignore_base.specs.Problem.{problem_of}
 use Rattle.ignore_dir.specs.Load.{AreLoads}
@@ -12,7 +12,7 @@ use Rattle.ignore_query.specs.Needs.{KeepsNeeded, is_decided, needed}
 use Rattle.ignore_query.specs.Reached.{scene_of}
 use Rattle.ignore_query.specs.Reports.{reported}
 use Rattle.ignore_query.proofs.NeedLemmas.{stays_then}
-use Rattle.ignore_query.proofs.TurnLemmas.{Explained, IsExplained, explained_next, explained_so, match_to, told_by, why_by, why_to}
+use Rattle.ignore_query.proofs.TurnLemmas.{Explained, IsExplained, explained_next, explained_so, match_to, one_more_each, told_by, why_by, why_to}
 use Rattle.ignore_query.proofs.WayLemmas.{map-map}
 use Rattle.ignore_query.specs.KeptLoads.{KeepsLoads}
 use Rattle.ignore_query.proofs.KeptLoadLemmas.{loads_then}
@@ -48,6 +48,8 @@ loop-question-preserved g c = record {
       c.explain.ensures.leaves.stays
       (subst (λ a. KeepsLoads g.F.Files c.args.files.now a c.loop-question.matcher.cache c.explain.new.self.cache) c.loop-question.invariant.same
       c.explain.ensures.leaves.loaded);
+  each = one_more_each _ _ _ _ _ _ c.in_ok-push.ensures.items
+      (take_more c.args.paths.now c.loop-question.question-index c.question-item.result c.loop-question-test.true) c.loop-question.invariant.each;
   soft =
       let P : Explained → Type 0 = λ r. IsSoft (option_map problem_of r.1) in
       subst (All P) (sym c.in_ok-push.ensures.items)
@@ -105,6 +107,9 @@ returns-clause-why g c = λ tree loads honest are agrees.
     (c.loop-question.invariant.asked tree loads honest are agrees).why
     ∙ (map-map (why_to s) (λ p. (string_bytes p.0, p.1)) (take c.loop-question.question-index c.args.paths.now)
     ∙ ap (map (λ p. why_to s (string_bytes p.0, p.1))) (take_all _ _ c.loop-question-test.false))
+
+pub returns-clause-each : goal.returns-clause-each
+returns-clause-each g c = c.loop-question.invariant.each ∙ ap length (take_all _ _ c.loop-question-test.false)
 
 pub returns-in_err-explained-clause-loaded : goal.returns-in_err-explained-clause-loaded
 returns-in_err-explained-clause-loaded g c =

@@ -9,7 +9,7 @@ abbrev pub invariant-loop-rest : goal.invariant-loop-rest
 invariant-loop-rest g l =
     (c : Counts) → CountsLines (g.K.Kinds.gives l.kinds) (g.K.Kinds.waits l.kinds)
     (lines_left (option_map (λ (r : Bor (List ℕ)). r.now) l.rest)) l.tally c
-    → CountsLines (g.K.Kinds.gives l.kinds) (g.K.Kinds.waits l.kinds) (slice_split (λ b. b == 10) l.bytes) l.fn.tally c
+    → CountsLines (g.K.Kinds.gives l.kinds) (g.K.Kinds.waits l.kinds) (slice_split (λ b. b == 10) l.file.bytes.now) l.fn.tally c
 
 abbrev pub decreases-loop-rest : goal.decreases-loop-rest
 decreases-loop-rest g l = unwrap_or (option_map (λ (r : Bor (List ℕ)). length r.now + 1) l.rest) 0

@@ -1,9 +1,8 @@
-use Rattle.std.proofs.Common.{◌≡◌, ◌++◌, List, Option, None, Some, map, refl, sym, ap, ◌∙◌, subst, string_bytes, rules}
+use Rattle.std.proofs.Common.{◌≡◌, ◌++◌, List, Option, None, map, sym, ap, ◌∙◌, subst, string_bytes, rules}
 use Rattle.std.specs.List.{filter_map}
-use Rattle.std.specs.Option.{option_map, option_to_list}
+use Rattle.std.specs.Option.{option_to_list}
 use Rattle.ignore_base.specs.Paths.{components, join_of}
 use Rattle.ignore_base.specs.Problem.{Problem, joined_problems, problem_of}
-use Rattle.ignore_base.specs.declared.error.Error.{Error}
 use Rattle.ignore_dir.specs.Limits.{limited, size_limit, size_problem, sized}
 use Rattle.ignore_dir.specs.Query.{answer_of_rules, depth_of_path, names_of, rules_verdict}
 use Rattle.ignore_dir.specs.Soft.{AllSoft, IsSoft}
@@ -11,7 +10,7 @@ use Rattle.ignore_dir.proofs.SoftLemmas.{joined-soft}
 use Rattle.ignore_query.specs.Needs.{KeepsNeeded, is_known, needed}
 use Rattle.ignore_query.specs.Reached.{scene_of}
 use Rattle.ignore_query.specs.Reports.{new_above, new_below, reported_by_rules}
-use Rattle.ignore_query.proofs.QueryLemmas.{asked_names, collected_three, names_are, root_dir}
+use Rattle.ignore_query.proofs.QueryLemmas.{asked_names, collected_three, names_are, no_error, root_dir}
 use Rattle.ignore_query.proofs.incremental.IncrementalIgnore.answer_of_rules.Goals as goal
 
 pub returns-in_err-verdict-2-clause-agrees : goal.returns-in_err-verdict-2-clause-agrees
@@ -92,10 +91,6 @@ returns-clause-soft g c =
     subst IsSoft (sym c.joined.ensures) (joined-soft _ (c.in_ok-verdict-2.ensures.soft (c.in_ok-verdict.ensures.soft none)))
 
 -- From what is kept.
-
-no_error : (e : Option Error) → option_map problem_of e ≡ None → e ≡ None
-no_error None h = refl
-no_error (Some e) h = cc
 
 pub returns-in_err-verdict-clause-from_kept : goal.returns-in_err-verdict-clause-from_kept
 returns-in_err-verdict-clause-from_kept g c = λ tree loads agrees asked ruled known unasked.

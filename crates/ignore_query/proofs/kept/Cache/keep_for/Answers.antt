@@ -1,4 +1,4 @@
-use Rattle.std.proofs.Common.{◌≡◌, ℕ, ◌++◌, not, All, IfOk, List, Option, Some, map, sym, ap, ◌∙◌, subst, append_assoc}
+use Rattle.std.proofs.Common.{rules, ◌≡◌, ℕ, ◌++◌, true, not, All, IfOk, List, Option, Some, map, refl, sym, ap, ◌∙◌, subst, append_assoc}
 use Rattle.std.proofs.lemmas.List.{append-nil}
 use Rattle.std.specs.BTreeMap.{get_by_text}
 use Rattle.std.specs.List.{filter_map, list_any}
@@ -9,7 +9,8 @@ use Rattle.ignore_base.proofs.CleanLemmas.{names-components}
 use Rattle.ignore_dir.specs.Query.{ancestors, is_ignored}
 use Rattle.ignore_levels.specs.declared.list.Place.{Place}
 use Rattle.ignore_query.specs.declared.kept.Kept.TheVariants.{Loaded}
-use Rattle.ignore_query.specs.Agrees.{IsNext, is_loaded}
+use Rattle.ignore_query.specs.declared.kept.Cache.{Cache}
+use Rattle.ignore_query.specs.Agrees.{Agrees, IsNext, is_loaded}
 use Rattle.ignore_query.specs.Listed.{kept_at}
 use Rattle.ignore_query.specs.Needs.{is_known}
 use Rattle.ignore_query.specs.Reached.{scene_of}
@@ -138,3 +139,53 @@ pub returns-clause-loaded : goal.returns-clause-loaded
 returns-clause-loaded g c =
     loads_then g.F.Files c.args.call.now.files.now c.args.call.now.asked.now c.args.self.now c.keep_above.new.self c.keep_way.new.self
     c.in_ok-keep_above.ensures.loaded c.keep_way.ensures.stays (c.keep_way.ensures.loaded c.in_ok-keep_above.ensures.kept)
+
+-- From what is kept.
+
+pub returns-in-Some-clause-from_kept : goal.returns-in-Some-clause-from_kept
+returns-in-Some-clause-from_kept g c = λ tree loads agrees proper all.
+    let scene = scene_of c.args.call.now.asked.now tree loads in
+    let path = c.args.path.now in
+    let end = last_of path in
+    let clean = subst (All IsName) end.1.1 (names-components path proper) in
+    let found : kept_at c.args.self.now end.0 ≡ Some c.in-Some.kept.now =
+    ap (λ t. get_by_text c.args.self.now.dirs.map t) (sym (c.parent_key.ensures end.0 end.1.0 end.1.1)) ∙ sym c.in-Some.ensures.value in (
+      refl,
+      (
+        refl,
+        (
+          parent_says scene c.args.self.now end.0 end.1.0 c.in-Some.kept.now agrees clean found
+              ∙ ap (λ l. not (list_any (is_ignored scene) (ancestors l))) (sym end.1.1),
+          λ place is. parent_next scene c.args.self.now (components path) end.0 end.1.0 c.in-Some.kept.now place agrees end.1.1 found is,
+        ),
+      ),
+    )
+
+pub returns-in_err-keep_above-clause-from_kept : goal.returns-in_err-keep_above-clause-from_kept
+returns-in_err-keep_above-clause-from_kept g c = λ tree loads agrees proper all.
+    let scene = scene_of c.args.call.now.asked.now tree loads in
+    let k = c.keep_above.ensures.known (known_above scene c.args.self.now c.args.path.now agrees all) in
+    (k.0, (k.1, search rules))
+
+pub returns-in_err-names-clause-from_kept : goal.returns-in_err-names-clause-from_kept
+returns-in_err-names-clause-from_kept g c = λ tree loads agrees proper all.
+    let scene = scene_of c.args.call.now.asked.now tree loads in
+    let k = c.keep_above.ensures.known (known_above scene c.args.self.now c.args.path.now agrees all) in
+    (k.0, (k.1, search rules))
+
+pub returns-clause-from_kept : goal.returns-clause-from_kept
+returns-clause-from_kept g c = λ tree loads agrees proper all.
+    let scene = scene_of c.args.call.now.asked.now tree loads in
+    let names = components c.args.path.now in
+    let given = map (λ n. n.now) c.as_slice.result.now in
+    let is = ap (map (λ n. n.now)) c.as_slice.ensures.value ∙ c.in_ok-names.ensures in
+    let clean = subst (All IsName) (sym is) (names-components c.args.path.now proper) in
+    let has = known_above scene c.args.self.now c.args.path.now agrees all in
+    let k = c.keep_above.ensures.known has in
+    let back = sym k.0 in
+    let w = c.keep_way.ensures.known tree loads (subst (λ x. Agrees scene x) back agrees) clean
+    (subst (λ (x : Cache). x.has_above ≡ true) back has)
+    (subst (λ x. is_known scene x given ≡ true) back (ap (is_known scene c.args.self.now) is ∙ all)) in
+    let Found : Cache → List (List ℕ) → Type 0 = λ x l. IfOk c.keep_way.result (λ k. (is_loaded k ≡ not (list_any (is_ignored scene) (ancestors l)))
+    × ((place : Option Place) → k ≡ Loaded place → IsNext x l place)) in
+    (w.0 ∙ k.0, (w.1.0 ∙ k.1, subst (Found c.args.self.now) is (subst (λ x. Found x given) k.0 w.1.1)))
