@@ -11,3 +11,4 @@ mod ListsOnly
 mod PromisesOnly
 pub mod WriteLemmas
 pub mod BufferLemmas
+pub mod GoneLemmas

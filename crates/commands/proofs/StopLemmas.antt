@@ -86,7 +86,7 @@ cut_on a b c xs ys h k = (
 )
 
 -- a line was cut after others were written
-cut_after : (a b c : Option (List ℕ)) (written line : List ℕ) → Appends a b written → BreaksOff [] line (Appends b c)
+pub cut_after : (a b c : Option (List ℕ)) (written line : List ℕ) → Appends a b written → BreaksOff [] line (Appends b c)
     → BreaksOff written line (Appends a c)
 cut_after a b c written line h k = (k.0, k.1, k.2, k.3, appends_on a b c written k.0 h k.4)
 

@@ -123,3 +123,32 @@ IsUnreported err Usage = BreaksOff [] (reason Usage) err
 IsUnreported err Memory = BreaksOff [] (reason Memory) err
 IsUnreported err Write = BreaksOff [] (reason Write) err
 IsUnreported err Silence = err []
+
+-- the run of a question ended early, its output is gone, and the reason was reported after the
+-- rejected lines
+abbrev pub GoneReported : Question → (Bytes → Type 0) → Type 0
+GoneReported question err =
+    (stop : Stop) × (stop ≢ Silence) × ReportedOf question (λ reported. err (reported ++ reason stop)) stop
+
+-- the same, and of the reason only a beginning was written
+abbrev pub GoneUnreported : Question → (Bytes → Type 0) → Stop → Type 0
+GoneUnreported question err stop = ReportedOf question (λ reported. BreaksOff reported (reason stop) err) stop
+
+-- a list or a check ended early whose output is gone, after the reports of some things, and at the
+-- next one if there is one: out of memory, or by a failed write; or by a report of it that can't be
+-- written
+abbrev pub GoneAfter : {T : Type 0} → (T → Bytes) → List T → Option T → (Bytes → Type 0) → Stop → Type 0
+GoneAfter report all next err Usage = ⊥
+GoneAfter report all next err Memory = err (flat_map report all)
+GoneAfter report all next err Write = err (flat_map report all)
+GoneAfter report all None err Silence = ⊥
+GoneAfter report all (Some x) err Silence = report x ≢ []
+
+-- the same, and the reason was reported after the other reports
+abbrev pub GoneReportedAfter : {T : Type 0} → (T → Bytes) → List T → Option T → (Bytes → Type 0) → Type 0
+GoneReportedAfter report all next err =
+    (stop : Stop) × (stop ≢ Silence) × GoneAfter report all next (λ bs. err (bs ++ reason stop)) stop
+
+-- the same, and of the reason only a beginning was written
+abbrev pub GoneUnreportedAfter : {T : Type 0} → (T → Bytes) → List T → Option T → (Bytes → Type 0) → Stop → Type 0
+GoneUnreportedAfter report all next err stop = GoneAfter report all next (λ bs. BreaksOff bs (reason stop) err) stop

@@ -18,11 +18,11 @@ ghost use Rattle.commands.specs.Stops.{BreaksOff, EndsAfter, EndsReportedAfter, 
 
 use crate::listing::report;
 use crate::stop::{Stop, report_stop};
+use crate::world::World;
 use crate::writing::{write_bytes, write_line};
 use ignore::{IncrementalIgnore, IncrementalMatch, WalkBuilder, text};
 use ignore_base::Error;
-use ignore_files::{Env, Files, Refusal};
-use std::alloc::Global;
+use ignore_files::{Files, Refusal};
 use std::io::Write;
 
 /// Writes what becomes of each of these paths below a root, by the settings of a new builder: the
@@ -32,9 +32,7 @@ use std::io::Write;
 /// # Errors
 /// Why the run ended, where that can't be written to `err`.
 pub fn check<F: Files, W: Write, E: Write>(
-    alloc: Global,
-    files: &F,
-    env: &Env,
+    world: &World<'_, F>,
     root: &str,
     paths: &[String],
     out: &mut W,
@@ -42,19 +40,19 @@ pub fn check<F: Files, W: Write, E: Write>(
 ) -> Result<u8, Stop>
     ensures checks { IfOk result (λ status. ((all : List Checked) × Checks (map string_bytes paths.now) all status
         (Appends (W.contents out.old) (W.contents out.new)) (Appends (E.contents err.old) (E.contents err.new))
-        × ((tree : Tree) → IsHonest F.Files files.now tree → AreAnswers tree env.now root.now all))
+        × ((tree : Tree) → IsHonest F.Files world.now.files.now tree → AreAnswers tree world.now.env.now root.now all))
         ⊎ ((status ≡ 2) × (all : List Checked) × (next : Option Checked) × AreFirst (map string_bytes paths.now) (with_next all next)
         × EndsReportedAfter line_for report_for all next (Appends (W.contents out.old) (W.contents out.new))
         (Appends (E.contents err.old) (E.contents err.new))
-        × ((tree : Tree) → IsHonest F.Files files.now tree → AreAnswersSoFar tree env.now root.now (with_next all next)))) }
+        × ((tree : Tree) → IsHonest F.Files world.now.files.now tree → AreAnswersSoFar tree world.now.env.now root.now (with_next all next)))) }
     ensures unreported { IfErr result (λ stop. (all : List Checked) × (next : Option Checked)
         × AreFirst (map string_bytes paths.now) (with_next all next)
         × EndsUnreportedAfter line_for report_for all next (Appends (W.contents out.old) (W.contents out.new))
         (Appends (E.contents err.old) (E.contents err.new)) stop
-        × ((tree : Tree) → IsHonest F.Files files.now tree → AreAnswersSoFar tree env.now root.now (with_next all next))) }
+        × ((tree : Tree) → IsHonest F.Files world.now.files.now tree → AreAnswersSoFar tree world.now.env.now root.now (with_next all next))) }
     ensures status { IfOk result (λ status. status ≤ 2) }
 {
-    match ask_and_write(alloc, files, env, root, paths, out, err) {
+    match ask_and_write(world, root, paths, out, err) {
         Ok(false) => Ok(0),
         Ok(true) => Ok(1),
         Err(stop) => report_stop(err, stop),
@@ -63,9 +61,7 @@ pub fn check<F: Files, W: Write, E: Write>(
 
 /// Asks a new matcher, and writes. It returns whether something was reported.
 fn ask_and_write<F: Files, W: Write, E: Write>(
-    alloc: Global,
-    files: &F,
-    env: &Env,
+    world: &World<'_, F>,
     root: &str,
     paths: &[String],
     out: &mut W,
@@ -73,32 +69,27 @@ fn ask_and_write<F: Files, W: Write, E: Write>(
 ) -> Result<bool, Stop>
     ensures checks { IfOk result (λ any. (all : List Checked) × Checks (map string_bytes paths.now) all (if any then 1 else 0)
         (Appends (W.contents out.old) (W.contents out.new)) (Appends (E.contents err.old) (E.contents err.new))
-        × ((tree : Tree) → IsHonest F.Files files.now tree → AreAnswers tree env.now root.now all)) }
+        × ((tree : Tree) → IsHonest F.Files world.now.files.now tree → AreAnswers tree world.now.env.now root.now all)) }
     ensures ended { IfErr result (λ stop. (all : List Checked) × (next : Option Checked)
         × AreFirst (map string_bytes paths.now) (with_next all next)
         × EndsAfter line_for report_for all next (Appends (W.contents out.old) (W.contents out.new))
         (Appends (E.contents err.old) (E.contents err.new)) stop
-        × ((tree : Tree) → IsHonest F.Files files.now tree → AreAnswersSoFar tree env.now root.now (with_next all next))) }
+        × ((tree : Tree) → IsHonest F.Files world.now.files.now tree → AreAnswersSoFar tree world.now.env.now root.now (with_next all next))) }
 {
-    let Ok(mut matcher) = matcher_below(alloc, files, env, root) else {
+    let Ok(mut matcher) = matcher_below(world, root) else {
         return Err(Stop::Memory);
     };
-    check_paths(alloc, files, &mut matcher, paths, out, err)
+    check_paths(world, &mut matcher, paths, out, err)
 }
 
 /// A matcher of the paths below a root, by the settings of a new builder.
-fn matcher_below<F: Files>(
-    alloc: Global,
-    files: &F,
-    env: &Env,
-    root: &str,
-) -> Result<IncrementalIgnore, Error>
-    ensures asked { (tree : Tree) → IsHonest F.Files files.now tree → IfOk result (λ m. IsMatcher tree env.now root.now m) }
+fn matcher_below<F: Files>(world: &World<'_, F>, root: &str) -> Result<IncrementalIgnore, Error>
+    ensures asked { (tree : Tree) → IsHonest F.Files world.now.files.now tree → IfOk result (λ m. IsMatcher tree world.now.env.now root.now m) }
     ensures fresh { (tree : Tree) (loads : List ℕ → Loaded) → IfOk result (λ m. Agrees (scene_of m.asked tree loads) m.cache) }
     ensures empty { IfOk result (λ m. KeepsNothing m.cache) }
 {
-    let builder = WalkBuilder::new(alloc, root)?;
-    let mut matchers = builder.build_matchers(files, env)?;
+    let builder = WalkBuilder::new(world.alloc, root)?;
+    let mut matchers = builder.build_matchers(world.files, world.env)?;
     match matchers.pop() {
         Some(matcher) => Ok(matcher),
         None => unreachable!(),
@@ -107,8 +98,7 @@ fn matcher_below<F: Files>(
 
 /// Asks a matcher about paths, and writes. It returns whether something was reported.
 fn check_paths<F: Files, W: Write, E: Write>(
-    alloc: Global,
-    files: &F,
+    world: &World<'_, F>,
     matcher: &mut IncrementalIgnore,
     paths: &[String],
     out: &mut W,
@@ -116,26 +106,25 @@ fn check_paths<F: Files, W: Write, E: Write>(
 ) -> Result<bool, Stop>
     ensures checks { IfOk result (λ any. (all : List Checked) × Checks (map string_bytes paths.now) all (if any then 1 else 0)
         (Appends (W.contents out.old) (W.contents out.new)) (Appends (E.contents err.old) (E.contents err.new))
-        × InEachScene F.Files files.now matcher.old.asked (λ g. Agrees g matcher.old.cache
+        × InEachScene F.Files world.now.files.now matcher.old.asked (λ g. Agrees g matcher.old.cache
         → All (IsAnswer g) all × ReportsInTurn g all matcher.old.cache matcher.new.cache)) }
     ensures ended { IfErr result (λ stop. (all : List Checked) × (next : Option Checked) × (last : Cache)
         × AreFirst (map string_bytes paths.now) (with_next all next)
         × EndsAfter line_for report_for all next (Appends (W.contents out.old) (W.contents out.new))
         (Appends (E.contents err.old) (E.contents err.new)) stop
-        × InEachScene F.Files files.now matcher.old.asked (λ g. Agrees g matcher.old.cache
+        × InEachScene F.Files world.now.files.now matcher.old.asked (λ g. Agrees g matcher.old.cache
         → All (IsAnswer g) (with_next all next) × ReportsInTurn g (with_next all next) matcher.old.cache last)) }
 {
     let mut any = false;
     for path in paths {
-        any |= check_path(alloc, files, matcher, path.as_str(), out, err)?;
+        any |= check_path(world, matcher, path.as_str(), out, err)?;
     }
     Ok(any)
 }
 
 /// Asks a matcher about a path, and writes. It returns whether something was reported.
 fn check_path<F: Files, W: Write, E: Write>(
-    alloc: Global,
-    files: &F,
+    world: &World<'_, F>,
     matcher: &mut IncrementalIgnore,
     path: &str,
     out: &mut W,
@@ -144,16 +133,16 @@ fn check_path<F: Files, W: Write, E: Write>(
     ensures checks { IfOk result (λ any. (c : Checked) × (c.path ≡ path.now)
         × Appends (W.contents out.old) (W.contents out.new) (line_for c)
         × Appends (E.contents err.old) (E.contents err.new) (report_for c) × (any ≡ is_wrong c)
-        × InEachScene F.Files files.now matcher.old.asked (λ g. Agrees g matcher.old.cache
+        × InEachScene F.Files world.now.files.now matcher.old.asked (λ g. Agrees g matcher.old.cache
         → IsAnswer g c × IsReport g matcher.old.cache matcher.new.cache c.path c.problem)) }
     ensures ended { IfErr result (λ stop. (next : Option Checked) × EndsAfter line_for report_for [] next
         (Appends (W.contents out.old) (W.contents out.new)) (Appends (E.contents err.old) (E.contents err.new)) stop
-        × IfSome next (λ c. (c.path ≡ path.now) × InEachScene F.Files files.now matcher.old.asked (λ g. Agrees g matcher.old.cache
+        × IfSome next (λ c. (c.path ≡ path.now) × InEachScene F.Files world.now.files.now matcher.old.asked (λ g. Agrees g matcher.old.cache
         → IsAnswer g c × IsReport g matcher.old.cache matcher.new.cache c.path c.problem))) }
-    ensures agrees { InEachScene F.Files files.now matcher.old.asked (λ g. Agrees g matcher.old.cache → Agrees g matcher.new.cache) }
+    ensures agrees { InEachScene F.Files world.now.files.now matcher.old.asked (λ g. Agrees g matcher.old.cache → Agrees g matcher.new.cache) }
     ensures same { matcher.new.asked ≡ matcher.old.asked }
 {
-    let (found, error) = ask(alloc, files, matcher, path)?;
+    let (found, error) = ask(world, matcher, path)?;
     write_checked(path, found, error, out, err)
 }
 
@@ -179,36 +168,35 @@ fn write_checked<W: Write, E: Write>(
 
 /// What becomes of a path, and what is wrong with the files of rules that were read for it.
 fn ask<F: Files>(
-    alloc: Global,
-    files: &F,
+    world: &World<'_, F>,
     matcher: &mut IncrementalIgnore,
     path: &str,
 ) -> Result<(IncrementalMatch, Option<Error>), Stop>
-    ensures value { InEachScene F.Files files.now matcher.old.asked (λ g. Agrees g matcher.old.cache
+    ensures value { InEachScene F.Files world.now.files.now matcher.old.asked (λ g. Agrees g matcher.old.cache
         → IfOk result (λ r. r.0 ≡ answer_at g path.now)) }
-    ensures reports { InEachScene F.Files files.now matcher.old.asked (λ g. Agrees g matcher.old.cache
+    ensures reports { InEachScene F.Files world.now.files.now matcher.old.asked (λ g. Agrees g matcher.old.cache
         → IfOk result (λ r. IsReport g matcher.old.cache matcher.new.cache path.now (option_map problem_of r.1))) }
     ensures ended { IfErr result (λ stop. stop ≡ Stop.Memory) }
-    ensures agrees { InEachScene F.Files files.now matcher.old.asked (λ g. Agrees g matcher.old.cache → Agrees g matcher.new.cache) }
+    ensures agrees { InEachScene F.Files world.now.files.now matcher.old.asked (λ g. Agrees g matcher.old.cache → Agrees g matcher.new.cache) }
     ensures same { matcher.new.asked ≡ matcher.old.asked }
 {
-    let is_dir = is_dir_at(alloc, files, matcher.root(), path)?;
-    match matcher.matched_with_errors(files, path, is_dir) {
+    let is_dir = is_dir_at(world, matcher.root(), path)?;
+    match matcher.matched_with_errors(world.files, path, is_dir) {
         Ok(answer) => Ok(answer),
         Err(_) => Err(Stop::Memory),
     }
 }
 
 /// Whether there is a directory at a path below a root, which isn't a link to one.
-fn is_dir_at<F: Files>(alloc: Global, files: &F, root: &str, path: &str) -> Result<bool, Stop>
-    ensures value { (tree : Tree) → IsHonest F.Files files.now tree
+fn is_dir_at<F: Files>(world: &World<'_, F>, root: &str, path: &str) -> Result<bool, Stop>
+    ensures value { (tree : Tree) → IsHonest F.Files world.now.files.now tree
         → IfOk result (λ yes. yes ≡ is_dir_there (tree.stat (join_of root.now path.now) false)) }
     ensures ended { IfErr result (λ stop. stop ≡ Stop.Memory) }
 {
-    let Ok(joined) = text::join(alloc, root, path) else {
+    let Ok(joined) = text::join(world.alloc, root, path) else {
         return Err(Stop::Memory);
     };
-    match files.stat(alloc, joined.as_str(), false) {
+    match world.files.stat(world.alloc, joined.as_str(), false) {
         Ok(metadata) => Ok(metadata.is_dir()),
         Err(Refusal::Fault(_)) => Ok(false),
         Err(Refusal::Memory) => Err(Stop::Memory),

@@ -11,7 +11,9 @@ mod program;
 pub mod run;
 mod stop;
 mod words;
+mod world;
 mod writing;
 
 pub use program::{run_buffered, words_after_name};
 pub use stop::{Stop, report_stop};
+pub use world::World;

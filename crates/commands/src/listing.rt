@@ -17,11 +17,12 @@ ghost use Rattle.commands.specs.Walking.{AreBegun, AreListed, IsTrimmed};
 
 use crate::by_name::ByName;
 use crate::stop::{Stop, report_stop};
+use crate::world::World;
 use crate::writing::write_line;
 use ignore::WalkBuilder;
 use ignore_base::Error;
 use ignore_dir::{Outside, Settings};
-use ignore_files::{Env, Files, Name};
+use ignore_files::{Files, Name};
 use ignore_walk::{DirEntry, Ground, Item, Options, Order, Walk, runs};
 use std::alloc::{AllocError, Global};
 use std::io::Write;
@@ -40,26 +41,24 @@ const OPTIONS: Options = Options {
 /// # Errors
 /// Why the run ended, where that can't be written to `err`.
 pub fn list<F: Files, W: Write, E: Write>(
-    alloc: Global,
-    files: &F,
-    env: &Env,
+    world: &World<'_, F>,
     roots: &[String],
     out: &mut W,
     err: &mut E,
 ) -> Result<u8, Stop>
     ensures lists { IfOk result (λ status. ((items : List Item) × Lists items status
         (Appends (W.contents out.old) (W.contents out.new)) (Appends (E.contents err.old) (E.contents err.new))
-        × ((tree : Tree) → IsHonest F.Files files.now tree → AreListed tree env.now (map string_bytes roots.now) items))
+        × ((tree : Tree) → IsHonest F.Files world.now.files.now tree → AreListed tree world.now.env.now (map string_bytes roots.now) items))
         ⊎ ((status ≡ 2) × (items : List Item) × (next : Option Item) × EndsReportedAfter lines_of reports_of items next
         (Appends (W.contents out.old) (W.contents out.new)) (Appends (E.contents err.old) (E.contents err.new))
-        × ((tree : Tree) → IsHonest F.Files files.now tree → AreBegun tree env.now (map string_bytes roots.now) items next))) }
+        × ((tree : Tree) → IsHonest F.Files world.now.files.now tree → AreBegun tree world.now.env.now (map string_bytes roots.now) items next))) }
     ensures unreported { IfErr result (λ stop. (items : List Item) × (next : Option Item)
         × EndsUnreportedAfter lines_of reports_of items next (Appends (W.contents out.old) (W.contents out.new))
         (Appends (E.contents err.old) (E.contents err.new)) stop
-        × ((tree : Tree) → IsHonest F.Files files.now tree → AreBegun tree env.now (map string_bytes roots.now) items next)) }
+        × ((tree : Tree) → IsHonest F.Files world.now.files.now tree → AreBegun tree world.now.env.now (map string_bytes roots.now) items next)) }
     ensures status { IfOk result (λ status. status ≤ 2) }
 {
-    match walk_and_write(alloc, files, env, roots, out, err) {
+    match walk_and_write(world, roots, out, err) {
         Ok(false) => Ok(0),
         Ok(true) => Ok(1),
         Err(stop) => report_stop(err, stop),
@@ -68,31 +67,29 @@ pub fn list<F: Files, W: Write, E: Write>(
 
 /// Walks and writes. It returns whether something was reported.
 fn walk_and_write<F: Files, W: Write, E: Write>(
-    alloc: Global,
-    files: &F,
-    env: &Env,
+    world: &World<'_, F>,
     roots: &[String],
     out: &mut W,
     err: &mut E,
 ) -> Result<bool, Stop>
     ensures lists { IfOk result (λ any. (items : List Item) × Lists items (if any then 1 else 0)
         (Appends (W.contents out.old) (W.contents out.new)) (Appends (E.contents err.old) (E.contents err.new))
-        × ((tree : Tree) → IsHonest F.Files files.now tree → AreListed tree env.now (map string_bytes roots.now) items)) }
+        × ((tree : Tree) → IsHonest F.Files world.now.files.now tree → AreListed tree world.now.env.now (map string_bytes roots.now) items)) }
     ensures ended { IfErr result (λ stop. (items : List Item) × (next : Option Item) × EndsAfter lines_of reports_of items next
         (Appends (W.contents out.old) (W.contents out.new)) (Appends (E.contents err.old) (E.contents err.new)) stop
-        × ((tree : Tree) → IsHonest F.Files files.now tree → AreBegun tree env.now (map string_bytes roots.now) items next)) }
+        × ((tree : Tree) → IsHonest F.Files world.now.files.now tree → AreBegun tree world.now.env.now (map string_bytes roots.now) items next)) }
 {
-    let Ok(names) = trimmed_roots(alloc, roots) else {
+    let Ok(names) = trimmed_roots(world.alloc, roots) else {
         return Err(Stop::Memory);
     };
-    let Ok(outside) = outside_of(alloc, files, env) else {
+    let Ok(outside) = outside_of(world) else {
         return Err(Stop::Memory);
     };
     let ground = Ground {
-        alloc,
-        files,
+        alloc: world.alloc,
+        files: world.files,
         owner: ByName,
-        settings: Settings::standard(alloc),
+        settings: Settings::standard(world.alloc),
         outside,
         options: OPTIONS,
     };
@@ -103,11 +100,11 @@ fn walk_and_write<F: Files, W: Write, E: Write>(
 }
 
 /// The rules from outside of the directories, by the settings of a new builder.
-fn outside_of<F: Files>(alloc: Global, files: &F, env: &Env) -> Result<Outside, Error>
-    ensures read { (tree : Tree) → IsHonest F.Files files.now tree → IfOk result (IsOutside tree env.now unset) }
+fn outside_of<F: Files>(world: &World<'_, F>) -> Result<Outside, Error>
+    ensures read { (tree : Tree) → IsHonest F.Files world.now.files.now tree → IfOk result (IsOutside tree world.now.env.now unset) }
 {
-    let builder = WalkBuilder::empty(alloc);
-    builder.outside(files, env)
+    let builder = WalkBuilder::empty(world.alloc);
+    builder.outside(world.files, world.env)
 }
 
 /// The roots without the slashes at their ends.

@@ -21,8 +21,9 @@ use crate::checking::check;
 use crate::listing::list;
 use crate::stop::{Stop, report_stop};
 use crate::words::{Command, Request, read_command};
+use crate::world::World;
 use ignore_base::{Error, Match};
-use ignore_files::{Env, Files};
+use ignore_files::Files;
 use ignore_rules::gitignore::{Gitignore, GitignoreBuilder};
 use std::alloc::Global;
 use std::io::Write;
@@ -167,9 +168,7 @@ fn answer_or_report<W: Write, E: Write>(
 /// # Errors
 /// Why the run ended, where that can't be written to `err`. The status is then 2 too.
 pub fn run<F: Files, W: Write, E: Write>(
-    alloc: Global,
-    files: &F,
-    env: &Env,
+    world: &World<'_, F>,
     words: &[String],
     out: &mut W,
     err: &mut E,
@@ -190,34 +189,34 @@ pub fn run<F: Files, W: Write, E: Write>(
     ensures lists { (roots : List Path) → command_of (map string_bytes words.now) ≡ Some (of_list roots)
         → IfOk result (λ status. ((items : List Item) × Lists items status
         (Appends (W.contents out.old) (W.contents out.new)) (Appends (E.contents err.old) (E.contents err.new))
-        × ((tree : Tree) → IsHonest F.Files files.now tree → AreListed tree env.now roots items))
+        × ((tree : Tree) → IsHonest F.Files world.now.files.now tree → AreListed tree world.now.env.now roots items))
         ⊎ ((status ≡ 2) × (items : List Item) × (next : Option Item) × EndsReportedAfter lines_of reports_of items next
         (Appends (W.contents out.old) (W.contents out.new)) (Appends (E.contents err.old) (E.contents err.new))
-        × ((tree : Tree) → IsHonest F.Files files.now tree → AreBegun tree env.now roots items next))) }
+        × ((tree : Tree) → IsHonest F.Files world.now.files.now tree → AreBegun tree world.now.env.now roots items next))) }
     ensures unreported_list { (roots : List Path) → command_of (map string_bytes words.now) ≡ Some (of_list roots)
         → IfErr result (λ stop. (items : List Item) × (next : Option Item)
         × EndsUnreportedAfter lines_of reports_of items next (Appends (W.contents out.old) (W.contents out.new))
         (Appends (E.contents err.old) (E.contents err.new)) stop
-        × ((tree : Tree) → IsHonest F.Files files.now tree → AreBegun tree env.now roots items next)) }
+        × ((tree : Tree) → IsHonest F.Files world.now.files.now tree → AreBegun tree world.now.env.now roots items next)) }
     ensures checks { (root : Path) (paths : List Path) → command_of (map string_bytes words.now) ≡ Some (of_check root paths)
         → IfOk result (λ status. ((all : List Checked) × Checks paths all status
         (Appends (W.contents out.old) (W.contents out.new)) (Appends (E.contents err.old) (E.contents err.new))
-        × ((tree : Tree) → IsHonest F.Files files.now tree → AreAnswers tree env.now root all))
+        × ((tree : Tree) → IsHonest F.Files world.now.files.now tree → AreAnswers tree world.now.env.now root all))
         ⊎ ((status ≡ 2) × (all : List Checked) × (next : Option Checked) × AreFirst paths (with_next all next)
         × EndsReportedAfter line_for report_for all next (Appends (W.contents out.old) (W.contents out.new))
         (Appends (E.contents err.old) (E.contents err.new))
-        × ((tree : Tree) → IsHonest F.Files files.now tree → AreAnswersSoFar tree env.now root (with_next all next)))) }
+        × ((tree : Tree) → IsHonest F.Files world.now.files.now tree → AreAnswersSoFar tree world.now.env.now root (with_next all next)))) }
     ensures unreported_check { (root : Path) (paths : List Path) → command_of (map string_bytes words.now) ≡ Some (of_check root paths)
         → IfErr result (λ stop. (all : List Checked) × (next : Option Checked) × AreFirst paths (with_next all next)
         × EndsUnreportedAfter line_for report_for all next (Appends (W.contents out.old) (W.contents out.new))
         (Appends (E.contents err.old) (E.contents err.new)) stop
-        × ((tree : Tree) → IsHonest F.Files files.now tree → AreAnswersSoFar tree env.now root (with_next all next))) }
+        × ((tree : Tree) → IsHonest F.Files world.now.files.now tree → AreAnswersSoFar tree world.now.env.now root (with_next all next))) }
     ensures status { IfOk result (λ status. status ≤ 2) }
 {
     match read_command(words) {
-        Some(Command::Match(request)) => answer_or_report(alloc, request, out, err),
-        Some(Command::List(roots)) => list(alloc, files, env, roots, out, err),
-        Some(Command::Check(root, paths)) => check(alloc, files, env, root, paths, out, err),
+        Some(Command::Match(request)) => answer_or_report(world.alloc, request, out, err),
+        Some(Command::List(roots)) => list(world, roots, out, err),
+        Some(Command::Check(root, paths)) => check(world, root, paths, out, err),
         None => report_stop(err, Stop::Usage),
     }
 }

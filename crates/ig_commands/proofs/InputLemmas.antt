@@ -45,7 +45,7 @@ strip_none text end other true e =
 strip_none text end other false e = refl
 
 -- a byte that some bytes and those before them have
-contains_front : (x end : ℕ) (xs : List ℕ) → Contains (x ∷ xs) end → (x ≡ end) ⊎ Contains xs end
+pub contains_front : (x end : ℕ) (xs : List ℕ) → Contains (x ∷ xs) end → (x ≡ end) ⊎ Contains xs end
 contains_front x end xs (zero, within, is) = inl is
 contains_front x end xs (suc k, within, is) = inr (k, omega (arith, within), is)
 
@@ -77,7 +77,7 @@ cut end [] = inr ((λ c. omega (arith, c.1)), refl, refl)
 cut end (x ∷ xs) = cut_first end x xs (eqb x end) refl (cut end xs)
 
 -- no bytes have no records
-nothing_more : (end : ℕ) (bytes : List ℕ) (records : List (List ℕ)) → AreRecords end bytes records → bytes ≡ [] → records ≡ []
+pub nothing_more : (end : ℕ) (bytes : List ℕ) (records : List (List ℕ)) → AreRecords end bytes records → bytes ≡ [] → records ≡ []
 nothing_more end bytes records none e = refl
 nothing_more end bytes records (last some other) e = absurd (some e)
 nothing_more end bytes records (more other rest) e = absurd (omega (arith, length-append {A = ℕ}, ap length e))
@@ -157,9 +157,7 @@ known_more o start (Some bytes) known next byte number more_number text paths mo
     )
 
 pub known_all : (o new : Options) (remaining known : Option (List ℕ)) (number : ℕ) → Known o o.paths.items remaining known number new.paths.items
-    → IsAtEnd known → new ≡ record o { paths = new.paths }
-    → IfSome remaining (λ bytes. (all : List Given) × AreGiven o bytes all × (new ≡ record o { paths = new.paths })
-    × (new.paths.items ≡ o.paths.items ++ all))
-known_all o new None known number h ended same = tt
-known_all o new (Some bytes) known number (rest, all, left, so, on) ended same =
-    (all, gives_all o number bytes rest all on (subst IsAtEnd left ended), same, so)
+    → IsAtEnd known → IfSome remaining (λ bytes. (all : List Given) × AreGiven o bytes all × (new.paths.items ≡ o.paths.items ++ all))
+known_all o new None known number h ended = tt
+known_all o new (Some bytes) known number (rest, all, left, so, on) ended =
+    (all, gives_all o number bytes rest all on (subst IsAtEnd left ended), so)

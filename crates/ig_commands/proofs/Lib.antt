@@ -3,7 +3,6 @@ pub mod EndLemmas
 pub mod FaultLemmas
 pub mod FieldLemmas
 pub mod FoundLemmas
-pub mod GivenLemmas
 pub mod GrowLemmas
 pub mod InputLemmas
 pub mod ItemLemmas
@@ -22,4 +21,5 @@ pub mod TypeLemmas
 pub mod UnusedLemmas
 pub mod WalkLemmas
 pub mod WhyLemmas
+pub mod WorkedLines
 pub mod WorkedUnused

@@ -114,6 +114,11 @@ told_err (Err s) r told stop x y is h k =
     let same : stop ≡ s = cc one in
     IfOk-weaker told _ _ (λ status t. (t.0 ∙ ap stop_status same, subst (λ (u : Stop). Appends x y (reason u)) same t.2)) k
 
+-- two facts of what is returned
+pub both_ok : {A B : Type 0} (r : Result A B) (P Q : A → Type 0) → IfOk r P → IfOk r Q → IfOk r (λ x. P x × Q x)
+both_ok (Ok x) P Q h k = (h, k)
+both_ok (Err y) P Q h k = tt
+
 -- what holds of each status holds of that of a command
 pub each_ok : {A B : Type 0} (r : Result A B) (P : A → Type 0) → ((x : A) → P x) → IfOk r P
 each_ok (Ok x) P h = h x

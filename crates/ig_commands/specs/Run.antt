@@ -1,5 +1,5 @@
 -- What a run of the program does.
-use Rattle.std.specs.Prelude.{◌≡◌, ◌⊎◌, ⊤, ℕ, true, List, [], ◌++◌, Option, IfSome}
+use Rattle.std.specs.Prelude.{◌≡◌, ◌⊎◌, ⊤, ℕ, Bool, false, true, List, [], ◌++◌, Option, IfSome}
 use Rattle.std.specs.Io.KnownBytes.{Appends, Keeps}
 use Rattle.ignore_base.specs.Text.{Bytes}
 use Rattle.ignore_files.specs.declared.env.Env.{Env}
@@ -39,10 +39,13 @@ Ends files f env o first command.Why out err stop = WhyEnds files f env o first 
 Ends files f env o first command.Unused out err stop = UnusedEnds files f env o first out err stop
 Ends files f env o first command.Types out err stop = EndsAfter [] [] out err stop
 
--- where the paths are to come from standard input, those that it gives stand last among them
-abbrev pub HasInput : Options → Option Bytes → Type 0
-HasInput o input =
-    o.stdin ≡ true → IfSome input (λ bytes. (words given : List Given) × AreGiven o bytes given × (o.paths.items ≡ words ++ given))
+-- options are as they were read; but where the paths are to come from standard input, those that it
+-- gives stand last among them
+pub record HasInput (read o : Options) (input : Option Bytes) : Type 0 where
+  pub kept : o ≡ record read { paths = o.paths }
+  pub unasked : read.stdin ≡ false → o ≡ read
+  pub gives : read.stdin ≡ true
+      → IfSome input (λ bytes. (given : List Given) × AreGiven read bytes given × (o.paths.items ≡ read.paths.items ++ given))
 
 -- a run has this status, of what it did up to some contents of both writers: that which it did has
 -- this status, and nothing more is written and reported; or it ended early, or what is kept of the
@@ -76,11 +79,11 @@ EndsRead (unread.Input stop is_timed) = (stop ≡ Read) ⊎ (stop ≡ Memory)
 abbrev pub types_at_first : Draft
 types_at_first = with_defaults all_default_rows (record { definitions = []; choices = [] })
 
--- a run did what one of the commands does, by some options, with all default types at first; or the
--- parser of the words had the last word, or no command began. Which command and options words stand
--- for isn't said
-abbrev pub Runs : {F : Type 0} → Files F → F → Env → Option Bytes → ℕ → (out now err told : Option Bytes) → Type 0
-Runs files f env input status out now err told =
-    ((task : Task) × (o : Options) × HasInput o input
+-- a run did what one of the commands does, by some options that were read, with all default types at
+-- first, and its time is asked for where these say so; or the parser of the words had the last word,
+-- or no command began. Which command and options words stand for isn't said
+abbrev pub Runs : {F : Type 0} → Files F → F → Env → Option Bytes → ℕ → Bool → (out now err told : Option Bytes) → Type 0
+Runs files f env input status is_timed out now err told =
+    ((task : Task) × (read o : Options) × HasInput read o input × (is_timed ≡ o.stats)
     × Finishes (Does files f env o types_at_first task) (Ends files f env o types_at_first task) status out now err told)
     ⊎ Finishes Shows EndsBefore status out now err told

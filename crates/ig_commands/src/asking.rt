@@ -6,7 +6,7 @@ ghost use Rattle.ignore_files.specs.Tree.{Tree};
 ghost use Rattle.ignore.specs.Builder.{with_overrides, with_types};
 ghost use Rattle.ig_commands.specs.Listing.{IsAsked, RefusesOptions, base_of};
 
-use crate::world::World;
+use commands::World;
 use ig_options::{Options, add_files, globs_of, types_of, walk_options};
 use ignore::WalkOptions;
 use ignore::overrides::Override;

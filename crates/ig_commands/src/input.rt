@@ -19,7 +19,8 @@ pub(crate) fn read_paths<R: BufRead + Drop>(
     options: &mut Options,
 ) -> Result<(), Stop>
     ensures given { options.old.stdin ≡ true → OnOk result (IfSome (R.remaining input) (λ bytes. (all : List Given) × AreGiven options.old bytes all
-        × (options.new ≡ record options.old { paths = options.new.paths }) × (options.new.paths.items ≡ options.old.paths.items ++ all))) }
+        × (options.new.paths.items ≡ options.old.paths.items ++ all))) }
+    ensures kept { OnOk result (options.new ≡ record options.old { paths = options.new.paths }) }
     ensures unasked { options.old.stdin ≡ false → OnOk result (options.new ≡ options.old) }
     ensures ended { IfErr result (λ stop. (stop ≡ Stop.Read) ⊎ (stop ≡ Stop.Memory)) }
 {

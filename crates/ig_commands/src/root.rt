@@ -8,7 +8,7 @@ ghost use Rattle.ignore_files.specs.Gives.{IsHonest};
 ghost use Rattle.ignore_files.specs.Tree.{Tree};
 ghost use Rattle.ig_commands.specs.Root.{IsRoot, Nearest, is_marked, parent_of};
 
-use crate::world::World;
+use commands::World;
 use ignore_base::Error;
 use ignore_base::text::{folder_of, join};
 use ignore_files::{Files, Refusal};

@@ -4,6 +4,7 @@ ghost use Rattle.std.specs.Io.KnownBytes.{Appends, Keeps};
 ghost use Rattle.ignore_base.specs.Problem.{memory, problem_of};
 ghost use Rattle.ig_commands.specs.Run.{Does, Ends, EndsRead, HasInput, Runs, Shows, types_at_first};
 ghost use Rattle.ig_commands.specs.Stops.{EndsAfter, reason, stop_status};
+ghost use Rattle.ig_options.specs.declared.options.Options.{Options};
 
 use crate::ignored::list_ignored;
 use crate::input::read_paths;
@@ -12,9 +13,9 @@ use crate::stop::{Stop, report_stop};
 use crate::types::list_types;
 use crate::unused::list_unused;
 use crate::why::why;
-use crate::world::World;
 use crate::writing::write_stop;
 use clap::error::ErrorKind;
+use commands::World;
 use ig_options::{Options, Task, read_words};
 use ignore_base::Error;
 use ignore_files::Files;
@@ -44,7 +45,7 @@ pub fn run<F: Files, R: BufRead + Drop, W: Write, E: Write>(
     out: &mut W,
     err: &mut E,
 ) -> Result<Ran, Stop>
-    ensures runs { IfOk result (λ ran. Runs F.Files world.now.files.now world.now.env.now (R.remaining input) ran.status
+    ensures runs { IfOk result (λ ran. Runs F.Files world.now.files.now world.now.env.now (R.remaining input) ran.status ran.is_timed
         (W.contents out.old) (W.contents out.new) (E.contents err.old) (E.contents err.new)) }
     ensures unreported { IfErr result (λ stop. stop ≢ Stop.Closed) }
 {
@@ -75,6 +76,7 @@ fn end_run<W: Write, E: Write>(
         × Appends (E.contents err.old) (E.contents err.new) (reason stop))) }
     ensures unreported { IfErr result (λ stop. stop ≢ Stop.Closed) }
     ensures written { Keeps (W.contents out.old) (W.contents out.new) }
+    ensures timed { IfOk result (λ ran. ran.is_timed ≡ is_timed) }
 {
     let status = finish(ended, out, err)?;
     Ok(Ran { status, is_timed })
@@ -133,13 +135,27 @@ fn read_task<R: BufRead + Drop>(
     words: &[String],
     input: R,
 ) -> Result<(Task, Options), Unread>
-    ensures input { IfOk result (λ r. HasInput r.1 (R.remaining input)) }
+    ensures input { IfOk result (λ r. (read : Options) × HasInput read r.1 (R.remaining input)) }
     ensures unread { IfErr result EndsRead }
 {
-    let (task, mut options) = match read_words(alloc, words) {
-        Ok(read) => read,
-        Err(error) => return Err(Unread::Words(error)),
-    };
+    match read_words(alloc, words) {
+        Ok((task, options)) => with_input(alloc, task, options, input),
+        Err(error) => Err(Unread::Words(error)),
+    }
+}
+
+/// A command and its options as they are, but with the paths of standard input where they are to
+/// come from there.
+fn with_input<R: BufRead + Drop>(
+    alloc: Global,
+    task: Task,
+    mut options: Options,
+    input: R,
+) -> Result<(Task, Options), Unread>
+    ensures task { IfOk result (λ r. r.0 ≡ task) }
+    ensures input { IfOk result (λ r. HasInput options r.1 (R.remaining input)) }
+    ensures unread { IfErr result EndsRead }
+{
     match read_paths(alloc, input, &mut options) {
         Ok(()) => Ok((task, options)),
         Err(stop) => Err(Unread::Input {

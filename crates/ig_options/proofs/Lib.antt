@@ -1,2 +1,4 @@
 pub mod LoopLemmas
 pub mod QuoteLemmas
+pub mod SizeLemmas
+pub mod WorkedOptions

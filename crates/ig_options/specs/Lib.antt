@@ -5,3 +5,4 @@ pub mod Files
 pub mod Quotes
 pub mod QuoteSteps
 pub mod Given
+pub mod Sizes

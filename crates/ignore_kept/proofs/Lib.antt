@@ -3,3 +3,4 @@ pub mod Telling
 pub mod Asking
 pub mod Listing
 pub mod Wishing
+pub mod WorkedRooms

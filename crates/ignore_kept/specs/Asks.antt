@@ -33,7 +33,9 @@ said rules true path is_dir = answer_with_parents rules.root rules.rules path is
 
 -- asking a handle, with parents or without, about a path gives this match, or this reason why not
 abbrev pub Asks : Kept → Bool → Bytes → Bool → Result (Match Rule) Refused → Type 0
-Asks kept parents path is_dir (Ok found) = (rules : Ruleset) × (rules_of kept ≡ Some rules) × (found ≡ said rules parents path is_dir)
+Asks kept parents path is_dir (Ok found) =
+    (rules : Ruleset) × (rules_of kept ≡ Some rules) × (parents ≡ true → is_under_root rules path ≡ true)
+    × (found ≡ said rules parents path is_dir)
 Asks kept parents path is_dir (Err NotUtf8) = ¬ (IsUtf8 path)
 Asks kept parents path is_dir (Err Memory) = Unit {0}
 Asks kept parents path is_dir (Err Misused) = rules_of kept ≡ None

@@ -2,7 +2,7 @@
 //! of a tree, and answers about paths below a root.
 #![tactic(auto)]
 
-use commands::{Stop, report_stop, run_buffered, words_after_name};
+use commands::{Stop, World, report_stop, run_buffered, words_after_name};
 use ignore_files::{DiskFiles, Env};
 use std::process::ExitCode;
 use std::{env, io, rt};
@@ -20,7 +20,12 @@ fn words(rt: &(impl rt::Env + AllocGlobal)) -> io::Result<Vec<String>> {
 fn status(rt: &HostRuntime, words: &[String], env: &Env) -> Result<u8, Stop> {
     let files = DiskFiles::new(rt);
     let mut err = rt.stderr();
-    let (status, _) = run_buffered(rt.alloc(), &files, env, words, rt.stdout(), &mut err)?;
+    let world = World {
+        alloc: rt.alloc(),
+        files: &files,
+        env,
+    };
+    let (status, _) = run_buffered(&world, words, rt.stdout(), &mut err)?;
     Ok(status)
 }
 

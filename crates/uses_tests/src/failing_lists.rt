@@ -2,6 +2,7 @@
 use crate::failing_writers::{Failing, words_of, writer_of};
 use crate::refused_runs::{RUNS, folder};
 use crate::trees::at_home;
+use commands::World;
 use commands::run::run;
 use ignore::files::MemoryTree;
 use std::alloc::{AllocError, Global};
@@ -31,7 +32,12 @@ fn left(
 ) -> Result<Outcome, AllocError> {
     let env = at_home(alloc)?;
     let words = words_of(alloc, texts)?;
-    let ran = run(alloc, tree, &env, words.as_slice(), &mut out, &mut err);
+    let world = World {
+        alloc,
+        files: tree,
+        env: &env,
+    };
+    let ran = run(&world, words.as_slice(), &mut out, &mut err);
     Ok(Outcome {
         status: ran.unwrap_or(2),
         out: out.kept,

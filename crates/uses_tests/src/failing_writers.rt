@@ -1,7 +1,7 @@
 //! Runs of the commands of which a write fails. Vectors say what other runs write.
 use crate::trees::UNKNOWN;
-use commands::Stop;
 use commands::run::run;
+use commands::{Stop, World};
 use ignore::files::MemoryTree;
 use std::alloc::{AllocError, Global};
 use std::io;
@@ -23,10 +23,15 @@ fn run_words<W: Write, E: Write>(
     out: &mut W,
     err: &mut E,
 ) -> Result<u8, Stop> {
-    match MemoryTree::new(alloc, "/") {
-        Ok(tree) => run(alloc, &tree, &UNKNOWN, words, out, err),
-        Err(_) => Err(Stop::Memory),
-    }
+    let Ok(tree) = MemoryTree::new(alloc, "/") else {
+        return Err(Stop::Memory);
+    };
+    let world = World {
+        alloc,
+        files: &tree,
+        env: &UNKNOWN,
+    };
+    run(&world, words, out, err)
 }
 
 /// A writer of which some of its calls fail: all from one number on, or that one alone.

@@ -2,6 +2,7 @@
 use crate::failing_writers::words_of;
 use crate::refusing::Refusing;
 use crate::trees::{at_home, tree_of};
+use commands::World;
 use commands::run::run;
 use ignore::Fault;
 use ignore::files::{Env, Files, MemoryTree, Refusal, TreeError};
@@ -35,7 +36,8 @@ pub(crate) fn folder(alloc: Global) -> Result<MemoryTree, TreeError> {
 fn end<F: Files>(alloc: Global, files: &F, env: &Env, words: &[String]) -> (u8, bool) {
     let mut out: Vec<u8> = Vec::new(alloc);
     let mut err: Vec<u8> = Vec::new(alloc);
-    let status = run(alloc, files, env, words, &mut out, &mut err).unwrap_or(2);
+    let world = World { alloc, files, env };
+    let status = run(&world, words, &mut out, &mut err).unwrap_or(2);
     (status, err.ends_with(b"igwalk: out of memory\n"))
 }
 

@@ -3,6 +3,7 @@
 use super::query::is_dir_there;
 use crate::settings::{Machine, machine_of};
 use answers::{Answer, Bounds, Calls, Counting, Questions};
+use commands::World;
 use commands::run::run;
 use serde_json::Value;
 use std::alloc::{AllocError, Global};
@@ -80,7 +81,12 @@ fn left(alloc: Global, machine: &Machine, words: &[String]) -> Result<Outcome, T
     let mut out: Vec<u8> = Vec::new(alloc);
     let mut err: Vec<u8> = Vec::new(alloc);
     let files = Counting::new(alloc, &machine.tree);
-    let ran = run(alloc, &files, &machine.env, words, &mut out, &mut err);
+    let world = World {
+        alloc,
+        files: &files,
+        env: &machine.env,
+    };
+    let ran = run(&world, words, &mut out, &mut err);
     Ok(Outcome {
         status: ran.unwrap_or(ENDED),
         out,

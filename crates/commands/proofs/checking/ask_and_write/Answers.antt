@@ -11,7 +11,7 @@ returns-clause-checks g c =
     (λ any h. (
       h.0,
       h.1,
-      λ tree honest. answers_of tree c.args.env.now c.args.root.now c.in-Ok.matcher c.check_paths.new.matcher.cache h.0
+      λ tree honest. answers_of tree c.args.world.now.env.now c.args.root.now c.in-Ok.matcher c.check_paths.new.matcher.cache h.0
           (c.in-Ok.ensures.asked tree honest) c.in-Ok.ensures.empty
           (λ loads are. h.2 tree loads honest are (c.in-Ok.ensures.fresh tree loads)),
     ))
@@ -26,7 +26,7 @@ returns-clause-ended g c =
       h.1,
       h.3,
       h.4,
-      λ tree honest. inr (answers_of tree c.args.env.now c.args.root.now c.in-Ok.matcher h.2 (with_next h.0 h.1)
+      λ tree honest. inr (answers_of tree c.args.world.now.env.now c.args.root.now c.in-Ok.matcher h.2 (with_next h.0 h.1)
           (c.in-Ok.ensures.asked tree honest) c.in-Ok.ensures.empty
           (λ loads are. h.5 tree loads honest are (c.in-Ok.ensures.fresh tree loads))),
     ))

@@ -37,11 +37,11 @@ loop-path-preserved g c =
     let path = string_bytes c.path-item.result in
     let named : one.path ≡ path = h.1 ∙ c.as_str.ensures.value in
     let right = subst
-    (λ (a : Asked). (tree : Tree) (loads : List ℕ → Loaded) → IsHonest g.F.Files c.args.files.now tree → AreLoads tree a.settings loads
+    (λ (a : Asked). (tree : Tree) (loads : List ℕ → Loaded) → IsHonest g.F.Files c.args.world.now.files.now tree → AreLoads tree a.settings loads
     → Agrees (scene_of a tree loads) l.matcher.cache → IsAnswer (scene_of a tree loads) one
     × IsReport (scene_of a tree loads) l.matcher.cache c.check_path.new.matcher.cache one.path one.problem) l.invariant.same h.5 in
     let keeps = subst
-    (λ (a : Asked). (tree : Tree) (loads : List ℕ → Loaded) → IsHonest g.F.Files c.args.files.now tree → AreLoads tree a.settings loads
+    (λ (a : Asked). (tree : Tree) (loads : List ℕ → Loaded) → IsHonest g.F.Files c.args.world.now.files.now tree → AreLoads tree a.settings loads
     → Agrees (scene_of a tree loads) l.matcher.cache → Agrees (scene_of a tree loads) c.check_path.new.matcher.cache) l.invariant.same
     c.in_ok-any.ensures.agrees in
     record {
@@ -85,7 +85,7 @@ returns-in_err-any-clause-ended g c =
     let path = string_bytes c.path-item.result in
     let named = IfSome_then h.0 h.2 (λ one k. k.0 ∙ c.as_str.ensures.value) in
     let right = subst
-    (λ (a : Asked). IfSome h.0 (λ one. (tree : Tree) (loads : List ℕ → Loaded) → IsHonest g.F.Files c.args.files.now tree
+    (λ (a : Asked). IfSome h.0 (λ one. (tree : Tree) (loads : List ℕ → Loaded) → IsHonest g.F.Files c.args.world.now.files.now tree
     → AreLoads tree a.settings loads → Agrees (scene_of a tree loads) l.matcher.cache → IsAnswer (scene_of a tree loads) one
     × IsReport (scene_of a tree loads) l.matcher.cache c.check_path.new.matcher.cache one.path one.problem)) l.invariant.same
     (IfSome_then h.0 h.2 (λ one k. k.1)) in

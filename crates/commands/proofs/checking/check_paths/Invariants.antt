@@ -14,10 +14,10 @@ abbrev pub invariant-loop-path : goal.invariant-loop-path
 invariant-loop-path g l = record {
   checks : (all : List Checked) × Checks (map string_bytes (take l.path-index l.paths)) all (cond l.any 1 0)
       (Appends (g.W.Write.contents l.fn.out) (g.W.Write.contents l.out)) (Appends (g.E.Write.contents l.fn.err) (g.E.Write.contents l.err))
-      × ((tree : Tree) (loads : List ℕ → Loaded) → IsHonest g.F.Files l.files tree → AreLoads tree l.fn.matcher.asked.settings loads
+      × ((tree : Tree) (loads : List ℕ → Loaded) → IsHonest g.F.Files l.world.files.now tree → AreLoads tree l.fn.matcher.asked.settings loads
       → Agrees (scene_of l.fn.matcher.asked tree loads) l.fn.matcher.cache → All (IsAnswer (scene_of l.fn.matcher.asked tree loads)) all
       × ReportsInTurn (scene_of l.fn.matcher.asked tree loads) all l.fn.matcher.cache l.matcher.cache);
-  agrees : (tree : Tree) (loads : List ℕ → Loaded) → IsHonest g.F.Files l.files tree → AreLoads tree l.fn.matcher.asked.settings loads
+  agrees : (tree : Tree) (loads : List ℕ → Loaded) → IsHonest g.F.Files l.world.files.now tree → AreLoads tree l.fn.matcher.asked.settings loads
       → Agrees (scene_of l.fn.matcher.asked tree loads) l.fn.matcher.cache
       → Agrees (scene_of l.fn.matcher.asked tree loads) l.matcher.cache;
   same : l.matcher.asked ≡ l.fn.matcher.asked;

@@ -19,7 +19,7 @@ returns-clause-lists g c =
         c.in-Ok-outside_of.ensures.read tree honest,
         λ loads items n are whole.
             let scene = listing tree loads c.in-Ok-outside_of.outside in
-            let suits = suits_listing g.F.Files _ c.args.files.now _ _ tree loads c.standard.result c.in-Ok-outside_of.outside honest are
+            let suits = suits_listing g.F.Files _ c.args.world.now.files.now _ _ tree loads c.standard.result c.in-Ok-outside_of.outside honest are
             c.standard.ensures refl refl (λ e. refl) (λ a b. refl) in
             within (map item_of h.0) items c.new-walk.result.left n c.new-walk.ensures.limit h.2.enough
             (c.a_run_yields_the_list.ensures scene c.new-walk.result h.0 items n h.1 (c.new-walk.ensures.whole scene items n suits whole)),
@@ -42,7 +42,7 @@ returns-clause-ended g c =
         c.in-Ok-outside_of.ensures.read tree honest,
         λ loads items n are whole.
             let scene = listing tree loads c.in-Ok-outside_of.outside in
-            let suits = suits_listing g.F.Files _ c.args.files.now _ _ tree loads c.standard.result c.in-Ok-outside_of.outside honest are
+            let suits = suits_listing g.F.Files _ c.args.world.now.files.now _ _ tree loads c.standard.result c.in-Ok-outside_of.outside honest are
             c.standard.ensures refl refl (λ e. refl) (λ a b. refl) in
             let begun = c.a_run_begins_the_list.ensures scene c.new-walk.result h.2 h.0 h.1 items n h.3
             (c.new-walk.ensures.whole scene items n suits whole) in (

@@ -42,9 +42,9 @@ returns-in-Some-List-clause-lists g c = λ roots is.
     let err = Appends (g.E.Write.contents c.args.err.now) (g.E.Write.contents c.list.new.err) in
     subst (λ (rs : List (List ℕ)). IfOk c.list.result (λ status.
     ((items : List Item) × Lists items status out err
-    × ((tree : Tree) → IsHonest g.F.Files c.args.files.now tree → AreListed tree c.args.env.now rs items))
+    × ((tree : Tree) → IsHonest g.F.Files c.args.world.now.files.now tree → AreListed tree c.args.world.now.env.now rs items))
     ⊎ ((status ≡ 2) × (items : List Item) × (next : Option Item) × EndsReportedAfter lines_of reports_of items next out err
-    × ((tree : Tree) → IsHonest g.F.Files c.args.files.now tree → AreBegun tree c.args.env.now rs items next)))) same c.list.ensures.lists
+    × ((tree : Tree) → IsHonest g.F.Files c.args.world.now.files.now tree → AreBegun tree c.args.world.now.env.now rs items next)))) same c.list.ensures.lists
 
 pub returns-in-Some-List-clause-unreported_list : goal.returns-in-Some-List-clause-unreported_list
 returns-in-Some-List-clause-unreported_list g c = λ roots is.
@@ -55,7 +55,7 @@ returns-in-Some-List-clause-unreported_list g c = λ roots is.
     let err = Appends (g.E.Write.contents c.args.err.now) (g.E.Write.contents c.list.new.err) in
     subst (λ (rs : List (List ℕ)). IfErr c.list.result (λ stop. (items : List Item) × (next : Option Item)
     × EndsUnreportedAfter lines_of reports_of items next out err stop
-    × ((tree : Tree) → IsHonest g.F.Files c.args.files.now tree → AreBegun tree c.args.env.now rs items next))) same c.list.ensures.unreported
+    × ((tree : Tree) → IsHonest g.F.Files c.args.world.now.files.now tree → AreBegun tree c.args.world.now.env.now rs items next))) same c.list.ensures.unreported
 
 -- the paths that are asked about are those of the words
 pub returns-in-Some-Check-clause-checks : goal.returns-in-Some-Check-clause-checks
@@ -69,10 +69,10 @@ returns-in-Some-Check-clause-checks g c = λ root paths is.
     let err = Appends (g.E.Write.contents c.args.err.now) (g.E.Write.contents c.check.new.err) in
     subst (λ (q : List ℕ × List (List ℕ)). IfOk c.check.result (λ status.
     ((all : List Checked) × Checks q.1 all status out err
-    × ((tree : Tree) → IsHonest g.F.Files c.args.files.now tree → AreAnswers tree c.args.env.now q.0 all))
+    × ((tree : Tree) → IsHonest g.F.Files c.args.world.now.files.now tree → AreAnswers tree c.args.world.now.env.now q.0 all))
     ⊎ ((status ≡ 2) × (all : List Checked) × (next : Option Checked) × AreFirst q.1 (with_next all next)
     × EndsReportedAfter line_for report_for all next out err
-    × ((tree : Tree) → IsHonest g.F.Files c.args.files.now tree → AreAnswersSoFar tree c.args.env.now q.0 (with_next all next))))) same
+    × ((tree : Tree) → IsHonest g.F.Files c.args.world.now.files.now tree → AreAnswersSoFar tree c.args.world.now.env.now q.0 (with_next all next))))) same
     c.check.ensures.checks
 
 pub returns-in-Some-Check-clause-unreported_check : goal.returns-in-Some-Check-clause-unreported_check
@@ -86,5 +86,5 @@ returns-in-Some-Check-clause-unreported_check g c = λ root paths is.
     let err = Appends (g.E.Write.contents c.args.err.now) (g.E.Write.contents c.check.new.err) in
     subst (λ (q : List ℕ × List (List ℕ)). IfErr c.check.result (λ stop. (all : List Checked) × (next : Option Checked)
     × AreFirst q.1 (with_next all next) × EndsUnreportedAfter line_for report_for all next out err stop
-    × ((tree : Tree) → IsHonest g.F.Files c.args.files.now tree → AreAnswersSoFar tree c.args.env.now q.0 (with_next all next)))) same
+    × ((tree : Tree) → IsHonest g.F.Files c.args.world.now.files.now tree → AreAnswersSoFar tree c.args.world.now.env.now q.0 (with_next all next)))) same
     c.check.ensures.unreported

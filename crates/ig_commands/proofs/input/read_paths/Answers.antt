@@ -48,4 +48,7 @@ pub returns-clause-given : goal.returns-clause-given
 returns-clause-given g c = λ asked.
     let l = c.loop-record in
     known_all c.args.options.now l.options (g.R.Read.remaining c.args.input) (split_known_bytes g.R.Read.remaining l.record-iterator) l.number
-    l.invariant.4 (rw c.in-None.is at c.next.ensures.steps.2) l.invariant.3
+    l.invariant.4 (rw c.in-None.is at c.next.ensures.steps.2)
+
+pub returns-clause-kept : goal.returns-clause-kept
+returns-clause-kept g c = c.loop-record.invariant.3

@@ -1,7 +1,7 @@
 use Rattle.std.proofs.Common.{Err, inl, inr}
 use Rattle.std.proofs.lemmas.Result.{IfErr-weaker, IfOk-weaker}
 use Rattle.ig_commands.specs.Run.{Does, Ends, EndsBefore, Shows, types_at_first}
-use Rattle.ig_commands.proofs.RunLemmas.{ends_unread, finishes}
+use Rattle.ig_commands.proofs.RunLemmas.{both_ok, ends_unread, finishes}
 use Rattle.ig_commands.proofs.run.run.Goals as goal
 
 pub returns-in-Ok-clause-runs : goal.returns-in-Ok-clause-runs
@@ -10,11 +10,11 @@ returns-in-Ok-clause-runs g c =
     let env = c.args.world.now.env.now in
     let task = c.in-Ok.task in
     let o = c.in-Ok.options in
-    IfOk-weaker c.end_run.result _ _ (λ x h. inl (task, o, c.in-Ok.ensures.input, h))
-    (finishes (Does g.F.Files f env o types_at_first task) (Ends g.F.Files f env o types_at_first task) c.run_task-ended.result c.end_run.result
+    IfOk-weaker c.end_run.result _ _ (λ x h. inl (task, c.in-Ok.ensures.input.0, o, c.in-Ok.ensures.input.1, h.0, h.1))
+    (both_ok c.end_run.result _ _ c.end_run.ensures.timed (finishes (Does g.F.Files f env o types_at_first task) (Ends g.F.Files f env o types_at_first task) c.run_task-ended.result c.end_run.result
     (g.W.Write.contents c.args.out.now) (g.W.Write.contents c.run_task-ended.new.out) (g.W.Write.contents c.end_run.new.out)
     (g.E.Write.contents c.args.err.now) (g.E.Write.contents c.run_task-ended.new.err) (g.E.Write.contents c.end_run.new.err)
-    c.run_task-ended.ensures.done c.run_task-ended.ensures.ended c.end_run.ensures.kept c.end_run.ensures.reported c.end_run.ensures.written)
+    c.run_task-ended.ensures.done c.run_task-ended.ensures.ended c.end_run.ensures.kept c.end_run.ensures.reported c.end_run.ensures.written))
 
 -- the parser had the last word
 pub returns-in-Err-Words-clause-runs : goal.returns-in-Err-Words-clause-runs
