@@ -1,4 +1,4 @@
-//! A matcher of single paths over a tree of which one call is refused.
+//! A matcher of single paths over a tree of which one call is refused: what it answers, and why.
 use crate::refusing::Refusing;
 use crate::trees::tree_of;
 use ignore_base::{Error, Fault};
@@ -44,6 +44,21 @@ fn word(found: IncrementalMatch) -> &'static str {
     } else {
         "another answer"
     }
+}
+
+/// What a matcher answers for a file with the reason, as a text.
+fn reason<F: Files>(
+    alloc: Global,
+    matcher: &mut IncrementalIgnore,
+    files: &F,
+) -> anyhow::Result<String> {
+    Ok(match matcher.explain(files, "p/q/foo", false) {
+        Ok((explained, _)) => {
+            let answer = word(explained.answer);
+            format!(in alloc; "{answer}: {explained}")?
+        }
+        Err(error) => format!(in alloc; "({error})")?,
+    })
 }
 
 /// What a new matcher answers where the call with this number is refused, what it answers then over
@@ -97,6 +112,63 @@ fn each_call_with_a_fault(rt: HostRuntime) -> anyhow::Result<()> {
         assert!(rt;
             first == "whitelist" || made && first == "another answer",
             "{turn}: {first}"
+        );
+    }
+    Ok(())
+}
+
+/// The rule that decides on that file, where no call is refused.
+const WHY: &str = "whitelist: /w/t/p/.ignore:1:!foo";
+
+/// The reasons of a new matcher where the call with this number is refused, and then over the tree,
+/// and whether that call was made.
+fn refused_reasons(
+    alloc: Global,
+    refusal: Refusal,
+    turn: u64,
+) -> anyhow::Result<(String, String, bool)> {
+    let tree = tree_of(alloc, TREE)?;
+    let files = Refusing {
+        tree: &tree,
+        refusal,
+        turn: Cell::new(turn),
+    };
+    let mut matcher = matcher(alloc)?;
+    let first = reason(alloc, &mut matcher, &files)?;
+    let second = reason(alloc, &mut matcher, &tree)?;
+    Ok((first, second, files.turn.get() == 0))
+}
+
+/// Each call of a question with its reason is refused in turn, and at last none is.
+#[test]
+fn each_call_of_a_reason_out_of_memory(rt: HostRuntime) -> anyhow::Result<()> {
+    let mut calls = 0u64;
+    for turn in 1..100u64 {
+        let (first, second, made) = refused_reasons(rt.alloc(), Refusal::Memory, turn)?;
+        let wanted = if made { "(out of memory)" } else { WHY };
+        assert!(rt;
+            first.as_str() == wanted && second.as_str() == WHY,
+            "{turn}: {first}, {second}"
+        );
+        if made {
+            calls = turn;
+        }
+    }
+    assert!(rt; calls > 10 && calls < 99, "{calls}");
+    Ok(())
+}
+
+/// A fault is no error of a question with its reason, which answers as one without.
+#[test]
+fn each_call_of_a_reason_with_a_fault(rt: HostRuntime) -> anyhow::Result<()> {
+    let refusal = Refusal::Fault(Fault::PermissionDenied);
+    for turn in 1..100u64 {
+        let (first, _, made) = refused(rt.alloc(), refusal, turn)?;
+        let (why, _, made_too) = refused_reasons(rt.alloc(), refusal, turn)?;
+        let wanted = if first == "whitelist" { WHY } else { first };
+        assert!(rt;
+            made == made_too && why.as_str().starts_with(wanted),
+            "{turn}: {first}, {why}"
         );
     }
     Ok(())

@@ -1,12 +1,15 @@
-//! Surveys of trees in memory.
+//! Surveys of trees in memory, also where one call of the tree is refused.
 ghost use Rattle.std.specs.Iterator.{IsFinite};
 
+use crate::refusing::Refusing;
 use crate::trees::tree_of;
+use ignore_base::Fault;
 use ignore_dir::{Outside, Settings};
-use ignore_files::{Files, MemoryTree};
+use ignore_files::{Files, MemoryTree, Refusal};
 use ignore_query::IncrementalIgnore;
 use ignore_survey::{Item, Survey};
 use std::alloc::{AllocError, Global};
+use std::cell::Cell;
 
 /// An item as text: the path of an entry and the reason, or an error in brackets.
 fn text_of(alloc: Global, item: &Item) -> Result<String, AllocError> {
@@ -83,13 +86,14 @@ fn surveyed(alloc: Global, root: &str, limit: u64) -> anyhow::Result<String> {
     items_of(alloc, survey)
 }
 
+/// All items of that survey of `/t`.
+const ITEMS: &str =
+    ".ignore: hidden; a: no rule; a/.ignore: hidden; a/x.o: /t/a/.ignore:1:!x.o; b: /t/.ignore:1:b; c: no rule; l: no rule; ";
+
 #[test]
 fn parents_come_first(rt: HostRuntime) -> anyhow::Result<()> {
     let text = surveyed(rt.alloc(), "/t", 100)?;
-    assert_eq!(rt;
-        text.as_str(),
-        ".ignore: hidden; a: no rule; a/.ignore: hidden; a/x.o: /t/a/.ignore:1:!x.o; b: /t/.ignore:1:b; c: no rule; l: no rule; "
-    );
+    assert_eq!(rt; text.as_str(), ITEMS);
     Ok(())
 }
 
@@ -121,5 +125,60 @@ fn a_root_that_is_a_file(rt: HostRuntime) -> anyhow::Result<()> {
 fn standard_input_has_nothing_below(rt: HostRuntime) -> anyhow::Result<()> {
     let text = surveyed(rt.alloc(), "-", 100)?;
     assert_eq!(rt; text.as_str(), "");
+    Ok(())
+}
+
+/// The items of that survey where the call with this number is refused, and whether it was made.
+fn refused(alloc: Global, refusal: Refusal, turn: u64) -> anyhow::Result<(String, bool)> {
+    let tree = tree(alloc)?;
+    let files = Refusing {
+        tree: &tree,
+        refusal,
+        turn: Cell::new(turn),
+    };
+    let survey = survey_of(alloc, &files, "/t", 100)?;
+    let text = items_of(alloc, survey)?;
+    Ok((text, files.turn.get() == 0))
+}
+
+/// Whether a survey that was out of memory gave a beginning of all items and then that.
+fn is_beginning(text: &str) -> bool {
+    match text.strip_suffix("(out of memory); ") {
+        Some(items) => ITEMS.starts_with(items),
+        None => false,
+    }
+}
+
+/// Each call that is made is refused in turn, and at last none is.
+#[test]
+fn each_call_out_of_memory(rt: HostRuntime) -> anyhow::Result<()> {
+    let mut calls = 0u64;
+    for turn in 1..100u64 {
+        let (text, made) = refused(rt.alloc(), Refusal::Memory, turn)?;
+        let is_right = if made {
+            is_beginning(text.as_str())
+        } else {
+            text.as_str() == ITEMS
+        };
+        assert!(rt; is_right, "{turn}: {text}");
+        if made {
+            calls = turn;
+        }
+    }
+    assert!(rt; calls > 10 && calls < 99, "{calls}");
+    Ok(())
+}
+
+/// A fault is an item in the place of what can't be listed, or leaves out rules; it ends no survey.
+#[test]
+fn each_call_with_a_fault(rt: HostRuntime) -> anyhow::Result<()> {
+    let refusal = Refusal::Fault(Fault::PermissionDenied);
+    for turn in 1..100u64 {
+        let (text, made) = refused(rt.alloc(), refusal, turn)?;
+        let text = text.as_str();
+        let is_right = text == ITEMS
+            || made && (text == "(/t: permission denied); " || text.ends_with("l: no rule; "));
+        assert!(rt; is_right, "{turn}: {text}");
+    }
     Ok(())
 }
