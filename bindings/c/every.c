@@ -149,6 +149,8 @@ static void ask_all(ignore_matcher *matcher, ignore_tree *tree) {
     CALL(IGNORE_IGNORE, ignore_matcher_matched(matcher, tree, TEXT("x.tmp"), false, &found));
     CALL(IGNORE_IGNORE, ignore_matcher_matched(matcher, tree, TEXT("x.bak"), false, &found));
     CALL(IGNORE_IGNORE, ignore_matcher_matched(matcher, tree, TEXT("big"), false, &found));
+    CALL(IGNORE_NONE, ignore_matcher_matched(matcher, tree, TEXT("./f"), false, &found));
+    CALL(IGNORE_NONE, ignore_matcher_matched(matcher, tree, TEXT("/t/f"), false, &found));
     CALL(IGNORE_NONE, ignore_matcher_matched(matcher, tree, TEXT("odd/deep"), true, &found));
     HOLDS(found.should_descend && found.is_within_depth);
     CALL(IGNORE_NOT_UTF8, ignore_matcher_forget(matcher, NOT_UTF8, &whole));
@@ -252,8 +254,47 @@ static void tree_round(void) {
     ignore_builder_free(chosen);
 }
 
+/* The text of each fault, by its number. */
+static void faults_round(void) {
+    static const char *const texts[] = {
+        [IGNORE_FAULT_NOT_FOUND] = "not found",
+        [IGNORE_FAULT_PERMISSION_DENIED] = "permission denied",
+        [IGNORE_FAULT_NOT_A_DIRECTORY] = "not a directory",
+        [IGNORE_FAULT_IS_A_DIRECTORY] = "is a directory",
+        [IGNORE_FAULT_INVALID_DATA] = "invalid data",
+        [IGNORE_FAULT_BAD_NAME] = "file name is not UTF-8",
+        [IGNORE_FAULT_LINK_LIMIT] = "too many links",
+        [IGNORE_FAULT_NO_IDENTITY] = "identity unknown",
+        [IGNORE_FAULT_NO_CURRENT_DIR] = "current directory unknown",
+        [IGNORE_FAULT_STEP_LIMIT] = "step limit reached",
+        [IGNORE_FAULT_NO_METADATA] = "<stdin> has no metadata",
+        [IGNORE_FAULT_OTHER] = "input or output failed",
+    };
+    for (uint32_t fault = 0; fault < sizeof texts / sizeof *texts; fault++) {
+        ignore_tree tree;
+        ignore_builder builder;
+        ignore_walk items;
+        ignore_walk_entry entry;
+        uint8_t room[64];
+        CALL(IGNORE_OK, ignore_tree_new(TEXT("/"), &tree));
+        CALL(IGNORE_OK, ignore_tree_add_dir(&tree, TEXT("/d")));
+        CALL(IGNORE_OK, ignore_tree_fault_list(&tree, TEXT("/d"), fault));
+        CALL(IGNORE_OK, ignore_builder_new(TEXT("/d"), &builder));
+        CALL(IGNORE_OK, ignore_walk_new(&builder, &tree, &items));
+        CALL(IGNORE_OK, ignore_walk_next(&items, &entry, room, sizeof room));
+        HOLDS(entry.is_entry && entry.kind == 2 && entry.depth == 0);
+        CALL(IGNORE_OK, ignore_walk_next(&items, &entry, room, sizeof room));
+        HOLDS(!entry.is_entry && entry.path == 0 && entry.error > 4);
+        same(texts[fault], room + 4, entry.error - 4);
+        ignore_walk_free(items);
+        ignore_builder_free(builder);
+        ignore_tree_free(tree);
+    }
+}
+
 int main(void) {
     unsigned long whole = each_fails(rules_round);
+    whole += each_fails(faults_round);
     whole += each_fails(tree_round);
     printf("%lu allocations failed in turn, %lu wrong answers\n", whole, wrong);
     return wrong > 0 || whole == 0;
