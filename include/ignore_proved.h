@@ -5,7 +5,10 @@
 
    - A text is a pointer and a length in bytes. The pointer is valid for the length, and never null:
      an empty text may have any other address, as that of "". What is lent for reading isn't written
-     meanwhile. Texts aren't ended by a zero.
+     meanwhile. Texts aren't ended by a zero, and may have zeros inside.
+   - A room is the same, for writing. It overlaps nothing else that the call is given, and neither
+     does what else the call writes: a handle that is made, a struct, a number. Pointers to these
+     aren't null.
    - A handle is the struct, which holds one pointer. It is made by `.._new`, passed by its address,
      and freed once, by `.._free`, to which it is passed by value. After that it isn't used, nor is
      a copy of it. A handle that wasn't made isn't passed: after another answer than IGNORE_OK
@@ -100,7 +103,8 @@ uint32_t ignore_rules_add_file(ignore_rules *rules, const uint8_t *path, size_t 
 
 /* What is wrong with the line or file that was added last: IGNORE_OK, its text's length in `whole`,
    and its first bytes, as many as there is room for; or IGNORE_NONE where nothing is. Also
-   IGNORE_NO_MEMORY and IGNORE_MISUSED. With another answer than IGNORE_OK `whole` is 0. */
+   IGNORE_NO_MEMORY, and IGNORE_MISUSED after `ignore_rules_build`. With another answer than IGNORE_OK
+   `whole` is 0. */
 uint32_t ignore_rules_problem(ignore_rules *rules, uint8_t *room, size_t room_length,
                               size_t *whole);
 
@@ -120,8 +124,8 @@ uint32_t ignore_rules_matched_path_or_any_parents(ignore_rules *rules, const uin
                                                   size_t path_length, bool is_dir);
 
 /* The same two, with the rule that decided: `reason`, and in `room` the first bytes, as many as
-   there is room for, of its source, its line and its glob, one after the other. Where no rule
-   decides the reason is all zeros, and the room is as before. */
+   there is room for, of its source, its line and its glob, one after the other. With another answer
+   than IGNORE_IGNORE and IGNORE_WHITELIST the reason is all zeros, and the room is as before. */
 uint32_t ignore_rules_decided(ignore_rules *rules, const uint8_t *path, size_t path_length,
                               bool is_dir, ignore_reason *reason, uint8_t *room,
                               size_t room_length);
@@ -201,7 +205,8 @@ uint32_t ignore_tree_rewrite_file(ignore_tree *tree, const uint8_t *path, size_t
 uint32_t ignore_tree_remove(ignore_tree *tree, const uint8_t *path, size_t path_length);
 
 /* Has a question fail: what is at a path; what a directory lists; what a file holds, after its first
-   bytes. IGNORE_MISUSED where the fault has no such number. */
+   bytes. IGNORE_MISSING where nothing, no directory, no file is there; IGNORE_MISUSED where the fault
+   has no such number. */
 uint32_t ignore_tree_fault_stat(ignore_tree *tree, const uint8_t *path, size_t path_length,
                                 uint32_t fault);
 uint32_t ignore_tree_fault_list(ignore_tree *tree, const uint8_t *path, size_t path_length,
@@ -255,7 +260,10 @@ uint32_t ignore_builder_git_trailing_spaces(ignore_builder *builder, bool on);
 uint32_t ignore_builder_follow_links(ignore_builder *builder, bool on);
 uint32_t ignore_builder_same_file_system(ignore_builder *builder, bool on);
 
-/* The limits; none where `is_set` is false. `limit` is of the steps of a walk. */
+/* The limits; none where `is_set` is false. `limit` is of the steps of a walk, and at first it is one
+   that no walk reaches. A walk that follows links lists a directory once for each way there, so a
+   tree that isn't trusted wants a limit: forty folders with two links each may have more items than
+   fit in memory. */
 uint32_t ignore_builder_max_depth(ignore_builder *builder, bool is_set, size_t most);
 uint32_t ignore_builder_min_depth(ignore_builder *builder, bool is_set, size_t most);
 uint32_t ignore_builder_max_filesize(ignore_builder *builder, bool is_set, uint64_t most);
@@ -273,8 +281,10 @@ uint32_t ignore_builder_set_overrides(ignore_builder *builder);
 
 /* File types: a glob more of one, a definition (`html:*.html`, `web:include:html,css`), the types
    that are there by default, none of a name; which are chosen, and which are to be ignored (`all`
-   stands for those that are there). The choice counts from ignore_builder_set_types on, which
-   answers IGNORE_REFUSED where no type has a chosen name, or a glob of one is invalid. */
+   stands for those that are there). IGNORE_REFUSED where the name of a type or a definition is
+   invalid: nothing is added, and the problem is kept. The choice counts from ignore_builder_set_types
+   on, which answers IGNORE_REFUSED where no type has a chosen name, or a glob of one is invalid, and
+   then changes nothing but the problem. */
 uint32_t ignore_builder_type_add(ignore_builder *builder, const uint8_t *name, size_t name_length,
                                  const uint8_t *glob, size_t glob_length);
 uint32_t ignore_builder_type_add_def(ignore_builder *builder, const uint8_t *definition,
@@ -330,18 +340,24 @@ typedef struct ignore_found {
 uint32_t ignore_matcher_new(ignore_builder *builder, ignore_tree *tree, ignore_matcher *matcher);
 
 /* What becomes of a path, which is relative to the root and clean (`src/a.o`): IGNORE_NONE,
-   IGNORE_IGNORE or IGNORE_WHITELIST, and the rest in `found`. Also IGNORE_NOT_UTF8,
-   IGNORE_NO_MEMORY (what was kept stays kept) and IGNORE_MISUSED. */
+   IGNORE_IGNORE or IGNORE_WHITELIST, and the rest in `found`. A path that isn't clean, as `./a`, `a/`
+   or `/root/a`, has no match: ignore_matcher_normalize makes it clean. Also IGNORE_NOT_UTF8,
+   IGNORE_NO_MEMORY (what was kept stays kept) and IGNORE_MISUSED, and then `found` is all false. */
 uint32_t ignore_matcher_matched(ignore_matcher *matcher, ignore_tree *tree, const uint8_t *path,
                                 size_t path_length, bool is_dir, ignore_found *found);
 
 /* Forgets what is kept of the directory at a path below the root, and of those below it, so that
-   they are read anew, and counts them. The empty path is the root. */
+   they are read anew, and counts them: IGNORE_OK, IGNORE_NOT_UTF8 or IGNORE_MISUSED. The empty path is
+   the root; of a path that isn't clean nothing is kept. With another answer than IGNORE_OK `count` is
+   0. */
 uint32_t ignore_matcher_forget(ignore_matcher *matcher, const uint8_t *dir, size_t dir_length,
                                size_t *count);
 
 /* The text by which the matcher knows a path, relative to its root: IGNORE_OK, its length in
-   `whole`, and its first bytes; or IGNORE_NONE where the path isn't at or below the root. */
+   `whole`, and its first bytes; or IGNORE_NONE where the path is empty, isn't at or below the root,
+   or is relative and the builder wasn't told the working directory, from which it is. Also
+   IGNORE_NOT_UTF8, IGNORE_NO_MEMORY and IGNORE_MISUSED. With another answer than IGNORE_OK `whole` is
+   0. */
 uint32_t ignore_matcher_normalize(ignore_matcher *matcher, const uint8_t *path,
                                   size_t path_length, uint8_t *room, size_t room_length,
                                   size_t *whole);
@@ -360,7 +376,7 @@ typedef struct ignore_walk {
 typedef struct ignore_walk_entry {
     size_t path;      /* bytes of the path: the root as it was given, joined with the names below */
     size_t error;     /* bytes of the text of the error */
-    size_t depth;     /* how many names below its root */
+    size_t depth;     /* how many names an entry is below its root; else 0 */
     uint32_t kind;    /* 1 a file, 2 a directory, 3 a symbolic link, 4 something else, 0 none */
     bool is_entry;
     bool is_followed; /* whether the path is a link that was followed */
@@ -371,8 +387,10 @@ typedef struct ignore_walk_entry {
 uint32_t ignore_walk_new(ignore_builder *builder, ignore_tree *tree, ignore_walk *walk);
 
 /* The next item: IGNORE_OK, and in `room` its path and the text of its error, one after the other;
-   IGNORE_NONE after the last; IGNORE_ROOM where the room is too small, and then the item stays the
-   next. Also IGNORE_NO_MEMORY and IGNORE_MISUSED. */
+   IGNORE_NONE after the last; IGNORE_ROOM where the room is too small: the item stays the next, the
+   entry is its own, so that its lengths are known, and the room has its first bytes. Also
+   IGNORE_NO_MEMORY, and then the item stays the next, and IGNORE_MISUSED. With another answer than
+   IGNORE_OK and IGNORE_ROOM the entry is all zeros. */
 uint32_t ignore_walk_next(ignore_walk *walk, ignore_walk_entry *entry, uint8_t *room,
                           size_t room_length);
 

@@ -1,52 +1,9 @@
 /* Makes rules and asks them with each allocation failing in turn: a call that answers
    IGNORE_NO_MEMORY is made again, and must then answer as it does where none fails. Then asks one
    handle a million questions, by which the process must not grow. */
-#include "ignore_proved.h"
+#include "failing.h"
 
-#include <stdio.h>
-#include <stdlib.h>
-#include <string.h>
 #include <sys/resource.h>
-
-#define TEXT(text) (const uint8_t *)(text), strlen(text)
-
-/* The allocation that fails, counted from 1; 0 for none. How many there were. */
-static unsigned long failing, allocations;
-
-void *__real_malloc(size_t size);
-void *__real_realloc(void *at, size_t size);
-void *__wrap_malloc(size_t size);
-void *__wrap_realloc(void *at, size_t size);
-
-void *__wrap_malloc(size_t size) {
-    return ++allocations == failing ? NULL : __real_malloc(size);
-}
-
-void *__wrap_realloc(void *at, size_t size) {
-    return ++allocations == failing ? NULL : __real_realloc(at, size);
-}
-
-static unsigned long wrong;
-
-/* Makes a call, and again where it is out of memory; its answer must be the one that is wanted. */
-#define CALL(wanted, call)                                                                         \
-    do {                                                                                           \
-        uint32_t code = (call);                                                                    \
-        if (code == IGNORE_NO_MEMORY && failing)                                                   \
-            code = (call);                                                                         \
-        if (code != (wanted)) {                                                                    \
-            wrong++;                                                                               \
-            printf("line %d, allocation %lu fails: %u, and not %d\n", __LINE__, failing, code,     \
-                   (int)(wanted));                                                                 \
-        }                                                                                          \
-    } while (0)
-
-static void same(const char *wanted, const uint8_t *room, size_t length) {
-    if (length != strlen(wanted) || memcmp(wanted, room, length)) {
-        wrong++;
-        printf("allocation %lu fails: %.*s, and not %s\n", failing, (int)length, room, wanted);
-    }
-}
 
 static void ask_all(ignore_rules *rules) {
     uint8_t room[256];
@@ -119,15 +76,10 @@ static void many_questions(void) {
     ignore_rules_free(rules);
 }
 
-int main(void) {
-    round_of_calls();
-    unsigned long whole = allocations;
-    for (failing = 1; failing <= whole; failing++) {
-        allocations = 0;
-        round_of_calls();
-    }
-    failing = 0;
-    many_questions();
+int main(int count, char **words) {
+    unsigned long whole = each_fails(round_of_calls);
+    if (count < 2 || strcmp(words[1], "few"))
+        many_questions();
     printf("%lu allocations failed in turn, %lu wrong answers\n", whole, wrong);
     return wrong > 0 || whole == 0;
 }

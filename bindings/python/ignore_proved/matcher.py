@@ -8,9 +8,10 @@ from typing import NamedTuple, Optional
 
 from . import _library as lib
 from ._errors import checked, error_of
+from ._owner import Owner, handle_of
 from .host import Host
 from .rules import Decision, Path, encoded
-from .tree import Builder, Owner, Tree, text
+from .tree import Builder, Tree, text
 
 
 class Match(NamedTuple):
@@ -50,17 +51,17 @@ class TreeMatcher(Owner):
     _kind = "matcher"
 
     def __init__(self, builder: Builder, tree: Tree) -> None:
-        super().__init__()
         handle = lib.Handle()
-        checked(lib.library.ignore_matcher_new(builder.handle, tree.handle, byref(handle)))
-        self._handle = handle
+        words = handle_of(Builder, builder), handle_of(Tree, tree), byref(handle)
+        checked(lib.library.ignore_matcher_new(*words))
+        self._own(handle)
         self._found = lib.Found()
 
     def match(self, tree: Tree, path: Path, is_dir: bool) -> Match:
         """What becomes of a clean path below the root."""
-        given, found = encoded(path), self._found
+        given, is_dir, found = encoded(path), bool(is_dir), self._found
         code = lib.library.ignore_matcher_matched(
-            self.handle, tree.handle, given, len(given), is_dir, byref(found)
+            self.handle, handle_of(Tree, tree), given, len(given), is_dir, byref(found)
         )
         kind = DECISIONS.get(code)
         if kind is None:
@@ -75,10 +76,10 @@ class TreeMatcher(Owner):
 
     def normalize(self, path: Path) -> Optional[str]:
         """The text by which the matcher knows a path; None where it isn't at or below the root."""
-        room, whole = ctypes.create_string_buffer(512), c_size_t()
+        given, room, whole = text(path), ctypes.create_string_buffer(512), c_size_t()
         while True:
             code = lib.library.ignore_matcher_normalize(
-                self.handle, *text(path), room, len(room), byref(whole)
+                self.handle, *given, room, len(room), byref(whole)
             )
             if code == lib.NONE:
                 return None

@@ -8,7 +8,8 @@ from enum import Enum
 from typing import Iterable, NamedTuple, Optional, Union
 
 from . import _library as lib
-from ._errors import InvalidRuleError, MisusedError, checked, error_of
+from ._errors import InvalidRuleError, checked, error_of
+from ._owner import Owner
 
 Path = Union[str, bytes, "os.PathLike[str]", "os.PathLike[bytes]"]
 
@@ -63,18 +64,22 @@ NO_MATCH = Answer(Decision.NONE, None)
 
 
 def encoded(path: Path) -> bytes:
-    """The bytes of a path."""
+    """The bytes of a path, as plain `bytes`, whose length is theirs."""
     path = os.fspath(path)
-    return path if isinstance(path, bytes) else path.encode("utf-8", "surrogateescape")
+    if isinstance(path, str):
+        return str.encode(path, "utf-8", "surrogateescape")
+    return path if type(path) is bytes else bytes(memoryview(path))
 
 
-class Rules:
+class Rules(Owner):
     """Rules relative to a root, as lines of gitignore files give them, in order.
 
     Lines and files are added first. The first question builds the matcher, and after that no line
     is added. It is a context manager; without `with` it is freed when it is collected. An object is
     for the thread that made it.
     """
+
+    _kind = "rules"
 
     def __init__(
         self,
@@ -85,13 +90,12 @@ class Rules:
         allow_unclosed_class: bool = True,
         git_trailing_spaces: bool = False,
     ) -> None:
-        self._handle: Optional[lib.Handle] = None
         self._is_built = False
         self._room = ctypes.create_string_buffer(1024)
         name, handle = encoded(root), lib.Handle()
         options = lib.RuleOptions(case_insensitive, allow_unclosed_class, git_trailing_spaces)
         checked(lib.library.ignore_rules_new(name, len(name), byref(options), byref(handle)))
-        self._handle = handle
+        self._own(handle)
         for line in lines:
             self.add_line(line)
 
@@ -120,7 +124,7 @@ class Rules:
     ) -> "Rules":
         """Sets how later lines are read; what isn't given is as at first."""
         options = lib.RuleOptions(case_insensitive, allow_unclosed_class, git_trailing_spaces)
-        checked(lib.library.ignore_rules_set_options(self._open(), byref(options)))
+        self._call("set_options", byref(options))
         return self
 
     def add_line(self, line: str, source: str = "") -> "Rules":
@@ -131,7 +135,7 @@ class Rules:
         text, origin = encoded(line), encoded(source)
         self._added(
             lib.library.ignore_rules_add_line(
-                self._open(), origin, len(origin), text, len(text)
+                self.handle, origin, len(origin), text, len(text)
             )
         )
         return self
@@ -144,7 +148,7 @@ class Rules:
         name, content = encoded(path), encoded(text)
         self._added(
             lib.library.ignore_rules_add_file(
-                self._open(), name, len(name), content, len(content)
+                self.handle, name, len(name), content, len(content)
             )
         )
         return self
@@ -166,7 +170,7 @@ class Rules:
 
     def is_ignored(self, path: Path, is_dir: bool = False) -> bool:
         """Whether the rules ignore this path, without the rule that decided."""
-        text = encoded(path)
+        text, is_dir = encoded(path), bool(is_dir)
         code = lib.library.ignore_rules_matched(self._built(), text, len(text), is_dir)
         if code not in (lib.NONE, lib.IGNORE, lib.WHITELIST):
             raise error_of(code)
@@ -186,33 +190,11 @@ class Rules:
         counts = self._counts()
         return counts.ignores + counts.whitelists
 
-    def close(self) -> None:
-        """Frees the rules. After that they aren't used."""
-        if self._handle is not None:
-            lib.library.ignore_rules_free(self._handle)
-            self._handle = None
-
-    def __enter__(self) -> "Rules":
-        return self
-
-    def __exit__(self, *raised: object) -> None:
-        self.close()
-
-    def __del__(self) -> None:
-        if getattr(self, "_handle", None) is not None:
-            self.close()
-
-    def _open(self) -> "ctypes._CArgObject":
-        if self._handle is None:
-            raise MisusedError("the rules are closed")
-        return byref(self._handle)
-
     def _built(self) -> "ctypes._CArgObject":
-        handle = self._open()
         if not self._is_built:
-            checked(lib.library.ignore_rules_build(handle))
+            self._call("build")
             self._is_built = True
-        return handle
+        return self.handle
 
     def _added(self, code: int) -> None:
         if code == lib.REFUSED:
@@ -223,7 +205,7 @@ class Rules:
         whole = c_size_t()
         while True:
             code = lib.library.ignore_rules_problem(
-                self._open(), self._room, len(self._room), byref(whole)
+                self.handle, self._room, len(self._room), byref(whole)
             )
             checked(code)
             if whole.value <= len(self._room):
@@ -231,7 +213,8 @@ class Rules:
             self._room = ctypes.create_string_buffer(whole.value)
 
     def _answer(self, ask: "ctypes._NamedFuncPointer", path: Path, is_dir: bool) -> Answer:
-        handle, text, parts = self._built(), encoded(path), lib.ReasonParts()
+        text, is_dir, parts = encoded(path), bool(is_dir), lib.ReasonParts()
+        handle = self._built()
         while True:
             room = self._room
             code = ask(handle, text, len(text), is_dir, byref(parts), room, len(room))

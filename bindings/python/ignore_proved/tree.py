@@ -6,7 +6,8 @@ from ctypes import byref, c_size_t
 from typing import Iterable, Optional
 
 from . import _library as lib
-from ._errors import InvalidRuleError, MisusedError, checked
+from ._errors import InvalidRuleError, checked
+from ._owner import Owner, handle_of, number
 from .rules import Path, encoded
 
 #: The faults of a file system, by their names.
@@ -14,41 +15,6 @@ FAULTS = (
     "NotFound", "PermissionDenied", "NotADirectory", "IsADirectory", "InvalidData", "BadName",
     "LinkLimit", "NoIdentity", "NoCurrentDir", "StepLimit", "NoMetadata", "Other",
 )
-
-
-class Owner:
-    """A handle, which is freed once: by `close`, by `with`, or where it is collected."""
-
-    _kind = ""
-
-    def __init__(self) -> None:
-        self._handle: Optional[lib.Handle] = None
-
-    def close(self) -> None:
-        """Frees it. After that it isn't used."""
-        if self._handle is not None:
-            getattr(lib.library, f"ignore_{self._kind}_free")(self._handle)
-            self._handle = None
-
-    def __enter__(self):
-        return self
-
-    def __exit__(self, *raised: object) -> None:
-        self.close()
-
-    def __del__(self) -> None:
-        if getattr(self, "_handle", None) is not None:
-            self.close()
-
-    @property
-    def handle(self):
-        """The handle's address, for a call."""
-        if self._handle is None:
-            raise MisusedError(f"the {self._kind} is closed")
-        return byref(self._handle)
-
-    def _call(self, name: str, *words: object) -> None:
-        checked(getattr(lib.library, f"ignore_{self._kind}_{name}")(self.handle, *words))
 
 
 def text(path: Path) -> tuple:
@@ -63,10 +29,9 @@ class Tree(Owner):
     _kind = "tree"
 
     def __init__(self, cwd: Path = "/") -> None:
-        super().__init__()
         handle = lib.Handle()
         checked(lib.library.ignore_tree_new(*text(cwd), byref(handle)))
-        self._handle = handle
+        self._own(handle)
 
     def add_dir(self, path: Path) -> None:
         """Adds an empty directory."""
@@ -86,11 +51,11 @@ class Tree(Owner):
 
     def set_size(self, path: Path, size: int) -> None:
         """Sets the size that is reported for a file."""
-        self._call("set_size", *text(path), size)
+        self._call("set_size", *text(path), number(size))
 
     def set_identity(self, path: Path, device: int, inode: int) -> None:
         """Sets the identity that is reported for a path."""
-        self._call("set_identity", *text(path), device, inode)
+        self._call("set_identity", *text(path), number(device), number(inode))
 
     def clear_identity(self, path: Path) -> None:
         """Says that the identity of a path is unknown."""
@@ -114,7 +79,7 @@ class Tree(Owner):
 
     def cut_contents(self, path: Path, length: int, fault: str) -> None:
         """Ends the reading of a file by a fault, after so many bytes."""
-        self._call("cut_contents", *text(path), length, FAULTS.index(fault))
+        self._call("cut_contents", *text(path), number(length), FAULTS.index(fault))
 
 
 class Builder(Owner):
@@ -126,10 +91,9 @@ class Builder(Owner):
     _kind = "builder"
 
     def __init__(self, root: Path, **settings: object) -> None:
-        super().__init__()
         handle = lib.Handle()
         checked(lib.library.ignore_builder_new(*text(root), byref(handle)))
-        self._handle = handle
+        self._own(handle)
         self.set(**settings)
 
     def set(self, **settings: object) -> "Builder":
@@ -140,9 +104,9 @@ class Builder(Owner):
             if name in lib.SWITCHES:
                 self._call(name, bool(value))
             elif name in ("max_depth", "min_depth", "max_filesize"):
-                self._call(name, value is not None, value or 0)
+                self._call(name, value is not None, number(value or 0))
             elif name == "limit":
-                self._call(name, value)
+                self._call(name, number(value))
             elif name == "custom_ignore_filenames":
                 for custom in value:
                     self._call("add_custom_ignore_filename", *text(custom))
@@ -197,7 +161,7 @@ class Builder(Owner):
 
     def begin_overrides(self, root: Path, *, case_insensitive: bool = False) -> "Builder":
         """Begins the globs of a command line anew, relative to a directory."""
-        self._call("overrides", *text(root), case_insensitive)
+        self._call("overrides", *text(root), bool(case_insensitive))
         return self
 
     def add_override(self, glob: str) -> "Builder":
@@ -259,5 +223,6 @@ class Builder(Owner):
         """Reads a file of rules of a tree, and adds it after the others that were added so. Raises
         InvalidRuleError where something is wrong with it; its other lines are added then.
         """
-        self._tried("add_ignore", tree.handle, *text(path))
+        given = text(path)
+        self._tried("add_ignore", handle_of(Tree, tree), *given)
         return self

@@ -8,9 +8,10 @@ from typing import Callable, Iterator, List, NamedTuple, Optional
 
 from . import _library as lib
 from ._errors import checked, error_of
+from ._owner import Owner, handle_of
 from .matcher import Matcher
 from .rules import Path
-from .tree import Builder, Owner, Tree
+from .tree import Builder, Tree
 
 
 class Item(NamedTuple):
@@ -33,10 +34,10 @@ class TreeWalk(Owner):
     _kind = "walk"
 
     def __init__(self, builder: Builder, tree: Tree) -> None:
-        super().__init__()
         handle = lib.Handle()
-        checked(lib.library.ignore_walk_new(builder.handle, tree.handle, byref(handle)))
-        self._handle = handle
+        words = handle_of(Builder, builder), handle_of(Tree, tree), byref(handle)
+        checked(lib.library.ignore_walk_new(*words))
+        self._own(handle)
         self._room = ctypes.create_string_buffer(1024)
 
     def __iter__(self) -> "TreeWalk":

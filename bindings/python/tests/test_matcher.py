@@ -83,6 +83,38 @@ class Trees(unittest.TestCase):
         self.assertEqual([(it.depth, it.kind) for it in items], [(0, 2), (1, 1), (1, 2)])
 
 
+class Hostile(unittest.TestCase):
+    def test_folders_inside_folders(self):
+        depth = 1000
+        with tree_of() as tree, Builder("/") as builder:
+            tree.add_file("/.ignore", b"x\n")
+            for level in range(depth):
+                tree.add_dir("/d" * (level + 1))
+            below = "d/" * depth
+            with TreeMatcher(builder, tree) as matcher:
+                self.assertTrue(matcher.match(tree, below + "x", False))
+                self.assertTrue(matcher.match(tree, below * 5 + "x", False))
+                self.assertEqual(matcher.normalize("/" + below), below[:-1])
+                self.assertEqual(matcher.forget("d"), depth * 5)
+            with TreeWalk(builder, tree) as found:
+                self.assertEqual(max(it.depth for it in found), depth)
+
+    def test_links_in_circles(self):
+        with tree_of() as tree, Builder("/t") as builder:
+            tree.add_dir("/t/d")
+            for name, target in [("a", "b"), ("b", "a"), ("self", "self"), ("d/up", "..")]:
+                tree.add_link(f"/t/{name}", target)
+            with TreeWalk(builder, tree) as found:
+                self.assertEqual([it.kind for it in found], [2, 2, 3, 3, 3, 3])
+            builder.set(follow_links=True)
+            with TreeWalk(builder, tree) as found:
+                errors = [it.error for it in found if it.path is None]
+        self.assertEqual(errors, [
+            "File system loop found: /t/d/up points to an ancestor /t", "/t/a: too many links",
+            "/t/b: too many links", "/t/self: too many links",
+        ])
+
+
 class Disk(unittest.TestCase):
     def setUp(self):
         self.room = tempfile.TemporaryDirectory()
@@ -164,6 +196,16 @@ class Disk(unittest.TestCase):
             self.assertTrue(matcher.is_ignored("global"))
             self.assertTrue(matcher.is_ignored("l/x"))
             self.assertFalse(matcher.is_ignored("l/y"))
+
+    def test_links_in_circles(self):
+        self.put("d/.ignore", "x\n")
+        for name, target in [("a", "b"), ("b", "a"), ("self", "self"), ("d/up", "..")]:
+            os.symlink(target, self.top / name)
+        self.assertEqual(self.paths(), ["a", "b", "d", "d/up", "self"])
+        with Matcher(self.top) as matcher:
+            for path in ("a/x", "self/self/x", "d/up/y", "d/up/d/up/y", "d/" * 5000 + "y"):
+                self.assertFalse(matcher.is_ignored(path))
+            self.assertTrue(matcher.is_ignored("d/up/x"))
 
 
 if __name__ == "__main__":

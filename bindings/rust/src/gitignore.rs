@@ -178,12 +178,8 @@ impl Gitignore {
 
     /// What the rules say of a path, without the rule that decided, which costs less.
     pub fn kind<P: AsRef<Path>>(&self, path: P, is_dir: bool) -> Result<Match<()>, Error> {
-        match self
-            .asked
-            .borrow_mut()
-            .rules
-            .matched(bytes_of(path.as_ref()), is_dir)
-        {
+        let path = bytes_of(path.as_ref());
+        match self.asked.borrow_mut().rules.matched(path, is_dir) {
             library::NONE => Ok(Match::None),
             library::IGNORE => Ok(Match::Ignore(())),
             library::WHITELIST => Ok(Match::Whitelist(())),

@@ -7,6 +7,8 @@ pub mod gitignore;
 mod host;
 mod incremental;
 mod library;
+#[cfg(doctest)]
+mod misuse;
 mod walk;
 
 pub use error::Error;

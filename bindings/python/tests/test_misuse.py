@@ -1,0 +1,234 @@
+"""What the header forbids isn't reached through the package: each attempt is an ordinary error."""
+import copy
+import gc
+import os
+import pathlib
+import pickle
+import subprocess
+import sys
+import tempfile
+import threading
+import unittest
+from unittest import mock
+
+from ignore_proved import (
+    Builder, Matcher, MisusedError, NotUtf8Error, Rules, Tree, TreeError, TreeMatcher, TreeWalk,
+    walk,
+)
+from ignore_proved import _library as lib
+from ignore_proved import _owner
+
+
+def each_kind():
+    """One object of each kind, and a call of it."""
+    tree, builder, rules = Tree("/"), Builder("/"), Rules("", ["a"])
+    matcher, items = TreeMatcher(builder, tree), TreeWalk(builder, tree)
+    return [
+        (tree, lambda: tree.add_dir("/a")),
+        (builder, lambda: builder.add("/a")),
+        (rules, lambda: rules.is_ignored("a")),
+        (matcher, lambda: matcher.match(Tree("/"), "a", False)),
+        (items, lambda: next(items)),
+    ]
+
+
+class Freed:
+    """Counts the calls that free, by the handles that they are given."""
+
+    def __init__(self, kind):
+        self.kind, self.given = kind, []
+
+    def __enter__(self):
+        call = getattr(lib.library, f"ignore_{self.kind}_free")
+
+        def free(handle):
+            self.given.append(handle.at)
+            call(handle)
+
+        self.patch = mock.patch.object(lib.library, f"ignore_{self.kind}_free", free)
+        self.patch.start()
+        return self
+
+    def __exit__(self, *raised):
+        self.patch.stop()
+
+
+class Misuse(unittest.TestCase):
+    def test_a_closed_object_answers_no_call(self):
+        for it, call in each_kind():
+            it.close()
+            it.close()
+            it.__del__()
+            with self.assertRaises(MisusedError):
+                call()
+
+    def test_no_object_is_copied(self):
+        for it, call in each_kind():
+            for way in (copy.copy, copy.deepcopy, pickle.dumps):
+                with self.assertRaises(TypeError):
+                    way(it)
+            call()
+        with tempfile.TemporaryDirectory() as folder, Matcher(folder) as matcher:
+            with self.assertRaises(TypeError):
+                copy.deepcopy(matcher)
+
+    def test_a_close_that_is_interrupted_frees_once(self):
+        with Freed("tree") as freed:
+            tree = Tree("/")
+
+            def stop(kind, handle):
+                getattr(lib.library, f"ignore_{kind}_free")(handle)
+                raise KeyboardInterrupt
+
+            with mock.patch.object(_owner, "free", stop), self.assertRaises(KeyboardInterrupt):
+                tree.close()
+            tree.close()
+            del tree
+        self.assertEqual(len(freed.given), 1)
+
+    def test_a_failed_or_second_init(self):
+        with Freed("tree") as freed:
+            for cwd in ("x", b"/\xff"):
+                with self.assertRaises((TreeError, NotUtf8Error)):
+                    Tree(cwd)
+            tree = Tree("/")
+            with self.assertRaises(TreeError):
+                tree.__init__("x")
+            tree.add_dir("/a")
+            tree.__init__("/")
+            tree.add_dir("/a")
+            tree.close()
+            Tree.__new__(Tree).close()
+            with self.assertRaises(MisusedError):
+                Tree.__new__(Tree).add_dir("/a")
+        self.assertEqual(len(freed.given), 2)
+        with self.assertRaises(TypeError):
+            Builder("/", no_such_setting=True)
+
+    def test_a_text_or_a_bool_that_closes(self):
+        for kind in ("path", "bool"):
+            for ask in ("match", "is_ignored", "match_path_or_any_parents"):
+                rules = Rules("", ["a"])
+                rules.match("a")
+
+                class Closing:
+                    def __fspath__(self):
+                        rules.close()
+                        return "a"
+
+                    def __bool__(self):
+                        rules.close()
+                        return True
+
+                words = (Closing(), False) if kind == "path" else ("a", Closing())
+                with self.assertRaises(MisusedError):
+                    getattr(rules, ask)(*words)
+
+    def test_a_text_with_another_length(self):
+        class Long(bytes):
+            def __len__(self):
+                return 1 << 40
+
+        class Text(str):
+            def encode(self, *words):
+                return Long(b"b")
+
+        rules = Rules("", ["a"])
+        self.assertTrue(rules.is_ignored(Long(b"a")))
+        self.assertTrue(rules.is_ignored(Text("a")))
+        for other in (bytearray(b"a"), memoryview(b"a"), None, 1):
+            with self.assertRaises(TypeError):
+                rules.is_ignored(other)
+
+    def test_one_handle_for_two(self):
+        tree, builder = Tree("/"), Builder("/")
+        matcher = TreeMatcher(builder, tree)
+        for call in (
+            lambda: TreeMatcher(builder, builder), lambda: TreeMatcher(tree, tree),
+            lambda: TreeWalk(builder, builder), lambda: TreeWalk(tree, tree),
+            lambda: builder.add_ignore(builder, "/x"), lambda: matcher.match(matcher, "a", False),
+        ):
+            with self.assertRaises(TypeError):
+                call()
+        self.assertFalse(TreeMatcher(builder, tree).match(tree, "a", False))
+
+    def test_another_thread_has_no_object(self):
+        found = []
+
+        def run(calls):
+            for call in calls:
+                try:
+                    call()
+                except MisusedError:
+                    found.append(True)
+
+        for it, call in each_kind():
+            thread = threading.Thread(target=run, args=([call, it.close],))
+            thread.start()
+            thread.join()
+            call()
+        self.assertEqual(len(found), 10)
+
+    def test_what_another_thread_collects_is_freed_by_its_own(self):
+        with Freed("tree") as freed:
+            held = [Tree("/") for _ in range(5)]
+            thread = threading.Thread(target=held.clear)
+            thread.start()
+            thread.join()
+            gc.collect()
+            self.assertEqual(freed.given, [])
+            with Tree("/"):
+                self.assertEqual(len(freed.given), 5)
+
+    def test_numbers_that_do_not_fit(self):
+        tree, builder = Tree("/"), Builder("/")
+        tree.add_file("/f")
+        for value in (-1, 1 << 64):
+            for call in (
+                lambda: builder.set(max_depth=value), lambda: builder.set(min_depth=value),
+                lambda: builder.set(max_filesize=value), lambda: builder.set(limit=value),
+                lambda: tree.set_size("/f", value), lambda: tree.set_identity("/f", value, 0),
+                lambda: tree.set_identity("/f", 0, value),
+                lambda: tree.cut_contents("/f", value, "Other"),
+            ):
+                with self.assertRaises(OverflowError):
+                    call()
+        builder.set(max_depth=(1 << 64) - 1, min_depth=None, limit=1)
+        for wrong in ("1", 1.5):
+            with self.assertRaises(TypeError):
+                builder.set(limit=wrong)
+
+    def test_walks_outlive_what_they_are_of(self):
+        tree, builder = Tree("/"), Builder("/")
+        tree.add_dir("/a")
+        items = TreeWalk(builder, tree)
+        tree.close()
+        builder.close()
+        self.assertEqual([it.path for it in items], ["/", "/a"])
+        self.assertEqual(list(items), [])
+        with tempfile.TemporaryDirectory() as folder:
+            pathlib.Path(folder, "x").write_text("")
+            entries = walk(folder)
+            next(entries)
+            entries.close()
+            self.assertEqual(list(entries), [])
+            matcher = Matcher(folder)
+            matcher.close()
+            with self.assertRaises(MisusedError):
+                matcher.match("x")
+
+    def test_objects_at_the_end_of_the_interpreter(self):
+        code = (
+            "import sys\nfrom ignore_proved import *\n"
+            "class Held: pass\nheld = Held()\nheld.self, held.tree = held, Tree('/')\n"
+            "builder = Builder('/')\nheld.items = TreeWalk(builder, held.tree)\n"
+            "rules = Rules('', ['a'])\nentries = walk('/')\nnext(entries, None)\n"
+            "sys.modules['held'] = held\n"
+        )
+        ran = subprocess.run([sys.executable, "-c", code], capture_output=True, text=True,
+                             env=dict(os.environ), check=False)
+        self.assertEqual((ran.returncode, ran.stderr), (0, ""))
+
+
+if __name__ == "__main__":
+    unittest.main()
