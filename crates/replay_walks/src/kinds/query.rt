@@ -226,21 +226,24 @@ fn explained(
     step: &Value,
 ) -> Result<Value, Trouble> {
     let (path, is_dir) = (text_at(step, 1, STEPS)?, flag_at(step, 2, STEPS)?);
-    let explanation = explain(tree, matcher, path, is_dir)?;
+    let (explanation, _) = explain(alloc, tree, matcher, path, is_dir)?;
     Ok(Value::String(format!(in alloc; "{explanation}")?))
 }
 
 fn explain(
+    alloc: Global,
     tree: &Counting<'_, MemoryTree>,
     matcher: &mut IncrementalIgnore,
     path: &str,
     is_dir: bool,
-) -> Result<Explanation, Trouble> {
-    let (explanation, _) = match matcher.explain(tree, path, is_dir) {
-        Ok(answer) => answer,
-        Err(_) => but_for_memory(matcher.explain(tree, path, is_dir))?,
-    };
-    Ok(explanation)
+) -> Result<(Explanation, Option<Error>), Trouble> {
+    match matcher.explain(tree, path, is_dir) {
+        Ok(answer) => Ok(answer),
+        Err(_) => {
+            tree.forget(alloc);
+            but_for_memory(matcher.explain(tree, path, is_dir))
+        }
+    }
 }
 
 /// How many directories were forgotten.
