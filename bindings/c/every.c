@@ -187,10 +187,26 @@ static void walk_all(ignore_builder *builder, ignore_tree *tree) {
     ignore_walk_free(items);
 }
 
+static void ask_rules(ignore_rules *rules) {
+    ignore_reason reason;
+    uint8_t room[64];
+    CALL(IGNORE_IGNORE, ignore_rules_decided_path_or_any_parents(
+                            rules, TEXT("/r/build/z"), false, &reason, room, sizeof room));
+    same("BUILD/**/BUILD", room, reason.source + reason.pattern + reason.glob);
+    HOLDS(reason.is_only_dir && !reason.has_source && reason.line == 0);
+    CALL(IGNORE_OUTSIDE, ignore_rules_decided_path_or_any_parents(
+                             rules, TEXT("/else"), false, &reason, room, sizeof room));
+    CALL(IGNORE_OUTSIDE, ignore_rules_matched_path_or_any_parents(rules, TEXT("/else"), false));
+    HOLDS(reason.pattern == 0 && !reason.is_only_dir);
+    CALL(IGNORE_IGNORE, ignore_rules_decided(rules, TEXT("x"), true, &reason, room, sizeof room));
+    HOLDS(reason.line == 1 && reason.has_source);
+    CALL(IGNORE_NONE, ignore_rules_matched(rules, TEXT("y"), false));
+    CALL(IGNORE_NOT_UTF8, ignore_rules_matched(rules, NOT_UTF8, false));
+}
+
 static void rules_round(void) {
     ignore_rule_options options = {true, false, true};
     ignore_counts counts = {9, 9};
-    ignore_reason reason;
     uint8_t room[64];
     size_t whole = 9;
     ignore_rules rules;
@@ -216,18 +232,7 @@ static void rules_round(void) {
     CALL(IGNORE_MISUSED, ignore_rules_add_line(&rules, TEXT(""), TEXT("a")));
     CALL(IGNORE_MISUSED, ignore_rules_problem(&rules, room, sizeof room, &whole));
     HOLDS(whole == 0);
-    CALL(IGNORE_IGNORE, ignore_rules_decided_path_or_any_parents(
-                            &rules, TEXT("/r/build/z"), false, &reason, room, sizeof room));
-    same("BUILD/**/BUILD", room, reason.source + reason.pattern + reason.glob);
-    HOLDS(reason.is_only_dir && !reason.has_source && reason.line == 0);
-    CALL(IGNORE_OUTSIDE, ignore_rules_decided_path_or_any_parents(
-                             &rules, TEXT("/else"), false, &reason, room, sizeof room));
-    CALL(IGNORE_OUTSIDE, ignore_rules_matched_path_or_any_parents(&rules, TEXT("/else"), false));
-    HOLDS(reason.pattern == 0 && !reason.is_only_dir);
-    CALL(IGNORE_IGNORE, ignore_rules_decided(&rules, TEXT("x"), true, &reason, room, sizeof room));
-    HOLDS(reason.line == 1 && reason.has_source);
-    CALL(IGNORE_NONE, ignore_rules_matched(&rules, TEXT("y"), false));
-    CALL(IGNORE_NOT_UTF8, ignore_rules_matched(&rules, NOT_UTF8, false));
+    ask_rules(&rules);
     ignore_rules_free(rules);
 }
 

@@ -221,60 +221,68 @@ static void texts(void) {
     ignore_tree_free(tree);
 }
 
-/* The texts of a rule, of a problem, of a path and of an item, for rooms from nothing on: the first
-   bytes, as many as there is room for, and the length of all. */
-static void rooms(void) {
-    ignore_rule_options options = {false, true, false};
+/* What has texts to hand out. */
+static struct {
     ignore_rules rules;
-    ignore_reason reason;
     ignore_tree tree;
     ignore_builder builder;
     ignore_matcher matcher;
-    ignore_walk items;
-    ignore_walk_entry entry;
+} kept;
+
+/* Has a text of one of four kinds put into a room: the length of all of it. */
+static size_t put(int kind, size_t all, uint8_t *room, size_t size) {
     size_t whole = 0;
-    CALL(IGNORE_OK, ignore_rules_new(TEXT(""), &options, &rules));
-    CALL(IGNORE_OK, ignore_rules_add_line(&rules, TEXT("source"), TEXT("a.o")));
-    CALL(IGNORE_REFUSED, ignore_rules_add_line(&rules, TEXT(""), TEXT("{")));
-    const char *const told[] = {
+    if (kind == 0) {
+        CALL(IGNORE_OK, ignore_rules_problem(&kept.rules, room, size, &whole));
+    } else if (kind == 1) {
+        ignore_reason reason;
+        CALL(IGNORE_IGNORE,
+             ignore_rules_decided(&kept.rules, TEXT("a.o"), false, &reason, room, size));
+        whole = reason.source + reason.pattern + reason.glob;
+    } else if (kind == 2) {
+        CALL(IGNORE_OK,
+             ignore_matcher_normalize(&kept.matcher, TEXT("/t/./a//b/"), room, size, &whole));
+    } else {
+        ignore_walk items;
+        ignore_walk_entry entry;
+        CALL(IGNORE_OK, ignore_walk_new(&kept.builder, &kept.tree, &items));
+        CALL(size < all ? IGNORE_ROOM : IGNORE_OK, ignore_walk_next(&items, &entry, room, size));
+        whole = entry.path + entry.error;
+        ignore_walk_free(items);
+    }
+    return whole;
+}
+
+/* The texts of a problem, of a rule, of a path and of an item, for rooms from nothing on: the first
+   bytes, as many as there is room for, and the length of all. */
+static void rooms(void) {
+    static const char *const told[] = {
         "error parsing glob '{': unclosed alternates", "sourcea.o**/a.o", "a/b", "/t",
     };
-    CALL(IGNORE_OK, ignore_tree_new(TEXT("/"), &tree));
-    CALL(IGNORE_OK, ignore_tree_add_dir(&tree, TEXT("/t")));
-    CALL(IGNORE_OK, ignore_builder_new(TEXT("/t"), &builder));
-    CALL(IGNORE_OK, ignore_matcher_new(&builder, &tree, &matcher));
-    for (size_t kind = 0; kind < 4; kind++) {
+    ignore_rule_options options = {false, true, false};
+    CALL(IGNORE_OK, ignore_rules_new(TEXT(""), &options, &kept.rules));
+    CALL(IGNORE_OK, ignore_rules_add_line(&kept.rules, TEXT("source"), TEXT("a.o")));
+    CALL(IGNORE_REFUSED, ignore_rules_add_line(&kept.rules, TEXT(""), TEXT("{")));
+    CALL(IGNORE_OK, ignore_tree_new(TEXT("/"), &kept.tree));
+    CALL(IGNORE_OK, ignore_tree_add_dir(&kept.tree, TEXT("/t")));
+    CALL(IGNORE_OK, ignore_builder_new(TEXT("/t"), &kept.builder));
+    CALL(IGNORE_OK, ignore_matcher_new(&kept.builder, &kept.tree, &kept.matcher));
+    for (int kind = 0; kind < 4; kind++) {
         size_t all = strlen(told[kind]);
         if (kind == 1)
-            CALL(IGNORE_OK, ignore_rules_build(&rules));
+            CALL(IGNORE_OK, ignore_rules_build(&kept.rules));
         for (size_t size = 0; size <= all + 1; size++) {
             uint8_t *room = room_of(size);
-            size_t put = size < all ? size : all;
-            if (kind == 0) {
-                CALL(IGNORE_OK, ignore_rules_problem(&rules, room, size, &whole));
-            } else if (kind == 1) {
-                CALL(IGNORE_IGNORE,
-                     ignore_rules_decided(&rules, TEXT("a.o"), false, &reason, room, size));
-                whole = reason.source + reason.pattern + reason.glob;
-            } else if (kind == 2) {
-                CALL(IGNORE_OK, ignore_matcher_normalize(&matcher, TEXT("/t/./a//b/"), room, size,
-                                                         &whole));
-            } else {
-                CALL(IGNORE_OK, ignore_walk_new(&builder, &tree, &items));
-                CALL(size < all ? IGNORE_ROOM : IGNORE_OK,
-                     ignore_walk_next(&items, &entry, room, size));
-                whole = entry.path + entry.error;
-                ignore_walk_free(items);
-            }
-            HOLDS(whole == all && !memcmp(room, told[kind], put));
+            HOLDS(put(kind, all, room, size) == all);
+            HOLDS(!memcmp(room, told[kind], size < all ? size : all));
             HOLDS(size <= all || room[all] == '#');
             free(room);
         }
     }
-    ignore_matcher_free(matcher);
-    ignore_builder_free(builder);
-    ignore_tree_free(tree);
-    ignore_rules_free(rules);
+    ignore_matcher_free(kept.matcher);
+    ignore_builder_free(kept.builder);
+    ignore_tree_free(kept.tree);
+    ignore_rules_free(kept.rules);
 }
 
 /* Long lines: what is put again and again, and after the half of it something else. */

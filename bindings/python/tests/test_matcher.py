@@ -203,7 +203,7 @@ class Disk(unittest.TestCase):
             os.symlink(target, self.top / name)
         self.assertEqual(self.paths(), ["a", "b", "d", "d/up", "self"])
         with Matcher(self.top) as matcher:
-            for path in ("a/x", "self/self/x", "d/up/y", "d/up/d/up/y", "d/" * 5000 + "y"):
+            for path in ("a/x", "self/self/x", "d/up/y", "d/up/d/up/y", "d/" * 300 + "y"):
                 self.assertFalse(matcher.is_ignored(path))
             self.assertTrue(matcher.is_ignored("d/up/x"))
 

@@ -88,3 +88,28 @@ fn a_walk_yields_what_no_rule_ignores() {
     );
     assert!(WalkBuilder::new(Path::new("/none/such")).is_err());
 }
+
+#[test]
+fn links_in_circles_end() {
+    use std::os::unix::fs::symlink;
+    let folder = Folder::new("circles");
+    folder.put("d/.ignore", "x\n");
+    for (name, target) in [("a", "b"), ("b", "a"), ("self", "self"), ("d/up", "..")] {
+        symlink(target, folder.0.join(name)).expect("a link");
+    }
+    let mut builder = WalkBuilder::new(&folder.0).expect("a root");
+    let names = ["a", "b", "d", "d/up", "self"];
+    assert_eq!(folder.listed(&mut builder), names.map(PathBuf::from));
+    let mut matcher = folder.matcher();
+    let deep = "d/".repeat(300) + "y";
+    for path in ["a/x", "self/self/x", "d/up/y", "d/up/d/up/y", &deep] {
+        assert!(
+            matcher.matched(path, false).expect("memory").is_none(),
+            "{path}"
+        );
+    }
+    assert!(matcher
+        .matched("d/up/x", false)
+        .expect("memory")
+        .is_ignore());
+}
