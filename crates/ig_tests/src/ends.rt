@@ -79,11 +79,11 @@ fn tree_of(alloc: Global) -> Result<MemoryTree, ignore_files::TreeError> {
     Ok(tree)
 }
 
-fn env_of(alloc: Global) -> Result<Env, AllocError> {
+pub(crate) fn env_of(alloc: Global) -> Result<Env, AllocError> {
     Ok(Env::empty().with_current_dir(String::from_str(alloc, "/t")?))
 }
 
-fn words_of(alloc: Global, texts: &[&str]) -> Result<Vec<String>, AllocError> {
+pub(crate) fn words_of(alloc: Global, texts: &[&str]) -> Result<Vec<String>, AllocError> {
     let mut words = Vec::new(alloc);
     for text in texts {
         words.push(String::from_str(alloc, text)?)?;
