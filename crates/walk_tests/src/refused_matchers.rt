@@ -4,7 +4,7 @@ use crate::trees::tree_of;
 use ignore_base::{Error, Fault};
 use ignore_dir::{IncrementalMatch, Outside, Settings};
 use ignore_files::{Files, Refusal};
-use ignore_query::IncrementalIgnore;
+use ignore_query::{Explanation, IncrementalIgnore};
 use std::alloc::Global;
 use std::cell::Cell;
 
@@ -52,13 +52,15 @@ fn reason<F: Files>(
     matcher: &mut IncrementalIgnore,
     files: &F,
 ) -> anyhow::Result<String> {
-    Ok(match matcher.explain(files, "p/q/foo", false) {
-        Ok((explained, _)) => {
-            let answer = word(explained.answer);
-            format!(in alloc; "{answer}: {explained}")?
-        }
-        Err(error) => format!(in alloc; "({error})")?,
-    })
+    match matcher.explain(files, "p/q/foo", false) {
+        Ok((explained, _error)) => shown(alloc, &explained),
+        Err(error) => Ok(format!(in alloc; "({error})")?),
+    }
+}
+
+fn shown(alloc: Global, explained: &Explanation) -> anyhow::Result<String> {
+    let answer = word(explained.answer);
+    Ok(format!(in alloc; "{answer}: {explained}")?)
 }
 
 /// What a new matcher answers where the call with this number is refused, what it answers then over
