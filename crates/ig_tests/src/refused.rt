@@ -65,7 +65,7 @@ struct Left {
     err: Vec<u8>,
 }
 
-fn left<F: Files>(alloc: Global, files: &F, env: &Env, words: &[String]) -> Left {
+fn run_over<F: Files>(alloc: Global, files: &F, env: &Env, words: &[String]) -> Left {
     let mut out: Vec<u8> = Vec::new(alloc);
     let mut err: Vec<u8> = Vec::new(alloc);
     let world = World { alloc, files, env };
@@ -78,10 +78,10 @@ fn left<F: Files>(alloc: Global, files: &F, env: &Env, words: &[String]) -> Left
 }
 
 /// What a run of these words leaves in `/t`.
-fn left_in<F: Files>(alloc: Global, files: &F, texts: &[&str]) -> Result<Left, AllocError> {
+fn run_in<F: Files>(alloc: Global, files: &F, texts: &[&str]) -> Result<Left, AllocError> {
     let env = env_of(alloc)?;
     let words = words_of(alloc, texts)?;
-    Ok(left(alloc, files, &env, words.as_slice()))
+    Ok(run_over(alloc, files, &env, words.as_slice()))
 }
 
 /// The same over the folder where the call with this number is refused, and whether it was made.
@@ -97,7 +97,7 @@ fn refused(
         refusal,
         turn: Cell::new(turn),
     };
-    let left = left_in(alloc, &files, texts)?;
+    let left = run_in(alloc, &files, texts)?;
     Ok((left, files.turn.get() == 0))
 }
 
