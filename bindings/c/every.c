@@ -259,6 +259,32 @@ static void tree_round(void) {
     ignore_builder_free(chosen);
 }
 
+/* What is answered where there are no rules, and where the working directory isn't told. */
+static void untold_round(void) {
+    static const ignore_rule_options options = {false, true, false};
+    ignore_rules rules;
+    ignore_tree tree;
+    ignore_builder builder;
+    ignore_matcher matcher;
+    uint8_t room[8];
+    size_t whole = 1;
+    CALL(IGNORE_OK, ignore_rules_new(TEXT("r"), &options, &rules));
+    CALL(IGNORE_REFUSED, ignore_rules_add_file(&rules, TEXT("f"), BYTES("\xff\na\n")));
+    CALL(IGNORE_OK, ignore_rules_build(&rules));
+    CALL(IGNORE_NONE, ignore_rules_matched_path_or_any_parents(&rules, TEXT("/x"), false));
+    ignore_rules_free(rules);
+    CALL(IGNORE_OK, ignore_tree_new(TEXT("/"), &tree));
+    CALL(IGNORE_OK, ignore_tree_add_file(&tree, TEXT("/rules"), TEXT("a\n")));
+    CALL(IGNORE_OK, ignore_builder_new(TEXT("r"), &builder));
+    CALL(IGNORE_REFUSED, ignore_builder_add_ignore(&builder, &tree, TEXT("/rules")));
+    CALL(IGNORE_OK, ignore_matcher_new(&builder, &tree, &matcher));
+    CALL(IGNORE_NONE, ignore_matcher_normalize(&matcher, TEXT("/r/a"), room, sizeof room, &whole));
+    HOLDS(whole == 0);
+    ignore_matcher_free(matcher);
+    ignore_builder_free(builder);
+    ignore_tree_free(tree);
+}
+
 /* The text of each fault, by its number. */
 static void faults_round(void) {
     static const char *const texts[] = {
@@ -300,6 +326,7 @@ static void faults_round(void) {
 int main(void) {
     unsigned long whole = each_fails(rules_round);
     whole += each_fails(faults_round);
+    whole += each_fails(untold_round);
     whole += each_fails(tree_round);
     printf("%lu allocations failed in turn, %lu wrong answers\n", whole, wrong);
     return wrong > 0 || whole == 0;

@@ -5,13 +5,14 @@ import ctypes
 import os
 from ctypes import byref, c_size_t
 from enum import Enum
-from typing import Iterable, NamedTuple, Optional, Union
+from typing import Any, Iterable, Iterator, NamedTuple, Optional, Tuple, TypeVar, Union
 
 from . import _library as lib
 from ._errors import InvalidRuleError, checked, error_of
 from ._owner import Owner
 
 Path = Union[str, bytes, "os.PathLike[str]", "os.PathLike[bytes]"]
+T = TypeVar("T")
 
 
 class Decision(Enum):
@@ -20,6 +21,9 @@ class Decision(Enum):
     NONE = lib.NONE
     IGNORE = lib.IGNORE
     WHITELIST = lib.WHITELIST
+
+
+DECISIONS = {kind.value: kind for kind in Decision}
 
 
 class Reason(NamedTuple):
@@ -61,14 +65,23 @@ class Answer(NamedTuple):
 
 
 NO_MATCH = Answer(Decision.NONE, None)
+ALONE = lib.library.ignore_rules_matched
+WITH_PARENTS = lib.library.ignore_rules_matched_path_or_any_parents
 
 
 def encoded(path: Path) -> bytes:
     """The bytes of a path, as plain `bytes`, whose length is theirs."""
-    path = os.fspath(path)
+    path = path if type(path) is str else os.fspath(path)
     if isinstance(path, str):
         return str.encode(path, "utf-8", "surrogateescape")
     return path if type(path) is bytes else bytes(memoryview(path))
+
+
+def several(texts: Iterable[T]) -> Iterable[T]:
+    """Several texts. Raises TypeError where it is one text, whose characters would be meant."""
+    if isinstance(texts, (str, bytes)):
+        raise TypeError(f"several texts are wanted, and not the text {texts!r}")
+    return texts
 
 
 class Rules(Owner):
@@ -91,16 +104,18 @@ class Rules(Owner):
         git_trailing_spaces: bool = False,
     ) -> None:
         self._is_built = False
+        self._ignores_root = False
+        self._root = encoded(root)
         self._room = ctypes.create_string_buffer(1024)
-        name, handle = encoded(root), lib.Handle()
+        name, handle = self._root, lib.Handle()
         options = lib.RuleOptions(case_insensitive, allow_unclosed_class, git_trailing_spaces)
         checked(lib.library.ignore_rules_new(name, len(name), byref(options), byref(handle)))
         self._own(handle)
-        for line in lines:
+        for line in several(lines):
             self.add_line(line)
 
     @classmethod
-    def from_file(cls, path: Path, **options: bool) -> "Rules":
+    def from_file(cls, path: Path, **options: Any) -> "Rules":
         """The rules of a file on disk, relative to its directory.
 
         Raises OSError where it can't be read, and InvalidRuleError where some line is invalid.
@@ -169,31 +184,87 @@ class Rules(Owner):
         return self._answer(ask, path, is_dir)
 
     def is_ignored(self, path: Path, is_dir: bool = False) -> bool:
-        """Whether the rules ignore this path, without the rule that decided."""
+        """Whether the rules ignore the path, or a folder that it is in, as git does.
+
+        The folders below the root are asked from the top down, and an ignored one decides, whatever
+        is said of what it holds. The root itself isn't asked.
+        """
         text, is_dir = encoded(path), bool(is_dir)
-        code = lib.library.ignore_rules_matched(self._built(), text, len(text), is_dir)
-        if code not in (lib.NONE, lib.IGNORE, lib.WHITELIST):
+        # (the nearest match decides, unless it may be of the root or have an ignored one above it)
+        code = WITH_PARENTS(self._built(), text, len(text), is_dir)
+        if code == lib.NONE:
+            return False
+        if code == lib.IGNORE and not self._ignores_root:
+            return True
+        if code not in (lib.IGNORE, lib.WHITELIST, lib.OUTSIDE):
             raise error_of(code)
-        return code == lib.IGNORE
+        return self._is_ignored_from_the_top(text, is_dir)
+
+    def may_match(self, path: Path, is_dir: bool = False) -> bool:
+        """False where no rule matches the path, or a folder that it is in; one call for them."""
+        text = encoded(path)
+        code: int = WITH_PARENTS(self._built(), text, len(text), bool(is_dir))
+        if code not in (lib.NONE, lib.IGNORE, lib.WHITELIST, lib.OUTSIDE):
+            raise error_of(code)
+        return code != lib.NONE
+
+    def match_line(self, path: Path, is_dir: bool = False) -> Tuple[Decision, int]:
+        """What the rules say of this path alone, with the number of the line that decided, as it
+        stood in the text of `add_file`, and else 0; without its texts, which costs less.
+        """
+        text, parts = encoded(path), lib.ReasonParts()
+        code = lib.library.ignore_rules_decided(
+            self._built(), text, len(text), bool(is_dir), byref(parts), b"", 0
+        )
+        kind = DECISIONS.get(code)
+        if kind is None:
+            raise error_of(code)
+        return kind, parts.line
+
+    def match_as_git(self, path: Path, is_dir: bool = False) -> Answer:
+        """What git says of a path: that of the first ignored folder on the way from the root, which
+        isn't asked itself, and else that of the path.
+        """
+        text, is_dir = encoded(path), bool(is_dir)
+        if not self.may_match(text, is_dir):
+            return NO_MATCH
+        for folder in folders_of(self._root, text):
+            answer = self.match(folder, True)
+            if answer.is_ignore:
+                return answer
+        return self.match(text, is_dir)
 
     @property
     def num_ignores(self) -> int:
         """How many rules ignore what they match."""
-        return self._counts().ignores
+        return int(self._counts().ignores)
 
     @property
     def num_whitelists(self) -> int:
         """How many rules whitelist what they match."""
-        return self._counts().whitelists
+        return int(self._counts().whitelists)
 
     def __len__(self) -> int:
         counts = self._counts()
-        return counts.ignores + counts.whitelists
+        return int(counts.ignores + counts.whitelists)
 
-    def _built(self) -> "ctypes._CArgObject":
+    def _is_ignored_from_the_top(self, text: bytes, is_dir: bool) -> bool:
+        for folder in folders_of(self._root, text):
+            if self._alone(folder, True) == lib.IGNORE:
+                return True
+        return self._alone(text, is_dir) == lib.IGNORE
+
+    def _alone(self, text: bytes, is_dir: bool) -> int:
+        code: int = ALONE(self._built(), text, len(text), is_dir)
+        if code not in (lib.NONE, lib.IGNORE, lib.WHITELIST):
+            raise error_of(code)
+        return code
+
+    def _built(self) -> Any:
         if not self._is_built:
             self._call("build")
             self._is_built = True
+            self._ignores_root = self._alone(b"", True) == lib.IGNORE
         return self.handle
 
     def _added(self, code: int) -> None:
@@ -212,7 +283,7 @@ class Rules(Owner):
                 return self._room.raw[: whole.value].decode("utf-8")
             self._room = ctypes.create_string_buffer(whole.value)
 
-    def _answer(self, ask: "ctypes._NamedFuncPointer", path: Path, is_dir: bool) -> Answer:
+    def _answer(self, ask: Any, path: Path, is_dir: bool) -> Answer:
         text, is_dir, parts = encoded(path), bool(is_dir), lib.ReasonParts()
         handle = self._built()
         while True:
@@ -231,6 +302,27 @@ class Rules(Owner):
         counts = lib.Counts()
         checked(lib.library.ignore_rules_counts(self._built(), byref(counts)))
         return counts
+
+
+def below_root(root: bytes, path: bytes) -> int:
+    """Where a path begins below the root: after the root, if it is written with the path."""
+    begin = 2 if path.startswith(b"./") else 0
+    root = root[2:] if root.startswith(b"./") else root
+    is_here = root.startswith(b".") and not root.strip(b"./")
+    if is_here or b"/" not in path[begin:] or not path.startswith(root, begin):
+        return begin
+    end = begin + len(root)
+    if root and not root.endswith(b"/") and path[end:end + 1] not in (b"", b"/"):
+        return begin
+    return end + path.startswith(b"/", end)
+
+
+def folders_of(root: bytes, path: bytes) -> Iterator[bytes]:
+    """The folders that a path is in, below the root, from the top down."""
+    end = path.find(b"/", below_root(root, path) + 1)
+    while end >= 0:
+        yield path[:end]
+        end = path.find(b"/", end + 1)
 
 
 def reason_of(parts: lib.ReasonParts, texts: bytes) -> Reason:

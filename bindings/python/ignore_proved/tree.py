@@ -3,12 +3,12 @@ from __future__ import annotations
 
 import ctypes
 from ctypes import byref, c_size_t
-from typing import Iterable, Optional
+from typing import Any, Iterable, Optional, Tuple
 
 from . import _library as lib
 from ._errors import InvalidRuleError, checked
 from ._owner import Owner, handle_of, number
-from .rules import Path, encoded
+from .rules import Path, encoded, several
 
 #: The faults of a file system, by their names.
 FAULTS = (
@@ -17,7 +17,7 @@ FAULTS = (
 )
 
 
-def text(path: Path) -> tuple:
+def text(path: Path) -> Tuple[bytes, int]:
     """A text as two arguments: its bytes, and their number."""
     given = encoded(path)
     return given, len(given)
@@ -90,13 +90,13 @@ class Builder(Owner):
 
     _kind = "builder"
 
-    def __init__(self, root: Path, **settings: object) -> None:
+    def __init__(self, root: Path, **settings: Any) -> None:
         handle = lib.Handle()
         checked(lib.library.ignore_builder_new(*text(root), byref(handle)))
         self._own(handle)
         self.set(**settings)
 
-    def set(self, **settings: object) -> "Builder":
+    def set(self, **settings: Any) -> "Builder":
         """Sets what is given: switches by a bool, limits by a number or None, and
         `custom_ignore_filenames` by names.
         """
@@ -108,7 +108,7 @@ class Builder(Owner):
             elif name == "limit":
                 self._call(name, number(value))
             elif name == "custom_ignore_filenames":
-                for custom in value:
+                for custom in several(value):
                     self._call("add_custom_ignore_filename", *text(custom))
             else:
                 raise TypeError(f"there is no setting {name}")
@@ -155,7 +155,7 @@ class Builder(Owner):
         one is invalid; then nothing is set.
         """
         self.begin_overrides(root, case_insensitive=case_insensitive)
-        for glob in globs:
+        for glob in several(globs):
             self.add_override(glob)
         return self.set_overrides()
 
@@ -185,7 +185,7 @@ class Builder(Owner):
         return self
 
     def add_default_types(self) -> "Builder":
-        """Adds the file types that are there by default."""
+        """Adds the file types that are there by default, as `rust` and `c`. ripgrep lists more."""
         self._tried("type_add_defaults")
         return self
 
@@ -195,12 +195,12 @@ class Builder(Owner):
         return self
 
     def choose_types(self, select: Iterable[str] = (), negate: Iterable[str] = ()) -> "Builder":
-        """Chooses file types, and some to be ignored. Raises InvalidRuleError where there is no such
-        type, or one has an invalid glob; then the types that counted before count on.
+        """Chooses file types, and some to be ignored. Raises InvalidRuleError where there is none
+        of a name, or one has an invalid glob; then the types that counted before count on.
         """
-        for name in select:
+        for name in several(select):
             self.select_type(name)
-        for name in negate:
+        for name in several(negate):
             self.negate_type(name)
         return self.set_types()
 

@@ -1,17 +1,23 @@
 """Walks of a directory on disk."""
 from __future__ import annotations
 
-import os
 import ctypes
+import os
 from ctypes import byref
-from typing import Callable, Iterator, List, NamedTuple, Optional
+from errno import EILSEQ
+from itertools import repeat
+from typing import Any, Callable, Iterator, List, NamedTuple, Optional
 
 from . import _library as lib
 from ._errors import checked, error_of
-from ._owner import Owner, handle_of
+from ._names import is_utf8
+from ._owner import Owner, handle_of, number
 from .matcher import Matcher
 from .rules import Path
 from .tree import Builder, Tree
+
+
+Entries = Iterator["os.DirEntry[str]"]
 
 
 class Item(NamedTuple):
@@ -69,26 +75,79 @@ def walk(
     *,
     sort: bool = False,
     onerror: Optional[Callable[[OSError], object]] = None,
-    **settings: object,
+    **settings: Any,
 ) -> Iterator["os.DirEntry[str]"]:
     """Yields the entries below a directory that no rule ignores, a directory before what is in it.
 
     The entries are those of `os.scandir`, and come as the system lists them, or by their names with
-    `sort`. Links aren't followed. A directory that can't be listed is told to `onerror`, and else
-    left out. The settings are those of `Builder.set`, as `hidden=False` or `max_depth=2`.
+    `sort`. Their paths are full, and without links. Links aren't followed.
+
+    The settings are those of `Matcher`, as `hidden=False`, `max_depth=2`, `overrides=["*.c"]`. With
+    `same_file_system` no directory of another file system is listed. With `limit` LimitError comes
+    after so many steps: one for the root, one for each entry of a directory that is listed, one for
+    its end.
+
+    Raises OSError where the root isn't a directory that can be listed. Another one is reported to
+    `onerror`, and so is an entry whose name isn't UTF-8 (as an OSError of its path, with EILSEQ),
+    which isn't yielded; what is in it is. Without `onerror` these are left out.
     """
-    if settings.get("follow_links"):
+    if settings.pop("follow_links", False):
         raise TypeError("walk follows no links")
-    with Matcher(root, **settings) as matcher:
-        folders: List[Iterator["os.DirEntry[str]"]] = [
-            iter(listed(matcher, matcher.root, "", sort, onerror))
-        ]
-        ways = [""]
+    same, limit = settings.pop("same_file_system", False), settings.pop("limit", None)
+    left = None if limit is None else number(limit)
+    matcher = Matcher(root, **settings)
+    try:
+        device = os.stat(matcher.root).st_dev if same else None
+        found = listed(matcher, matcher.root, "", sort)
+    except BaseException:
+        matcher.close()
+        raise
+    return entries_below(matcher, Listing(found, sort, onerror, device, left))
+
+
+class Listing(NamedTuple):
+    """The entries of a root, and how those below it are listed."""
+
+    entries: List["os.DirEntry[str]"]
+    sort: bool
+    onerror: Optional[Callable[[OSError], object]]
+    device: Optional[int]
+    limit: Optional[int]
+
+    def report(self, error: OSError) -> None:
+        """Reports an error."""
+        if self.onerror is not None:
+            self.onerror(error)
+
+    def steps(self) -> Iterator[None]:
+        """The steps that may be taken, after which it raises LimitError."""
+        yield from repeat(None) if self.limit is None else repeat(None, self.limit)
+        raise error_of(lib.LIMIT)
+
+    def below(self, matcher: Matcher, entry: "os.DirEntry[str]", below: str) -> Optional[Entries]:
+        """The entries of a directory, unless it is of another file system, or can't be listed."""
+        try:
+            if self.device is not None and self.device != os.lstat(entry.path).st_dev:
+                return None
+            return iter(listed(matcher, entry.path, below, self.sort))
+        except OSError as error:
+            self.report(error)
+            return None
+
+
+def entries_below(matcher: Matcher, how: Listing) -> Iterator["os.DirEntry[str]"]:
+    """Yields the entries below a root. What the matcher keeps of a directory is forgotten as it is
+    left.
+    """
+    with matcher:
+        folders, ways, steps = [iter(how.entries)], [""], how.steps()
+        next(steps)
         while folders:
             entry = next(folders[-1], None)
+            next(steps)
             if entry is None:
                 folders.pop()
-                ways.pop()
+                matcher.left(ways.pop())
                 continue
             below = f"{ways[-1]}/{entry.name}" if ways[-1] else entry.name
             is_dir = entry.is_dir(follow_symlinks=False)
@@ -96,28 +155,22 @@ def walk(
             if found.is_ignore:
                 continue
             if found.is_within_depth:
-                yield entry
+                if is_utf8(entry.name):
+                    yield entry
+                else:
+                    how.report(OSError(EILSEQ, "the name isn't UTF-8", entry.path))
             if is_dir and found.should_descend:
-                folders.append(iter(listed(matcher, entry.path, below, sort, onerror)))
-                ways.append(below)
+                inside = how.below(matcher, entry, below)
+                if inside is not None:
+                    folders.append(inside)
+                    ways.append(below)
 
 
-def listed(
-    matcher: Matcher,
-    path: str,
-    below: str,
-    sort: bool,
-    onerror: Optional[Callable[[OSError], object]],
-) -> List["os.DirEntry[str]"]:
+def listed(matcher: Matcher, path: str, below: str, sort: bool) -> List["os.DirEntry[str]"]:
     """The entries of a directory, which the matcher is told."""
-    try:
-        with os.scandir(path) as entries:
-            found = list(entries)
-    except OSError as error:
-        if onerror is not None:
-            onerror(error)
-        return []
-    matcher.entered(below, {entry.name for entry in found})
+    with os.scandir(path) as entries:
+        found = list(entries)
+    matcher.entered(below, (entry.name for entry in found))
     if sort:
         found.sort(key=lambda entry: os.fsencode(entry.name))
     return found

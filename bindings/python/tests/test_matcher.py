@@ -1,11 +1,15 @@
 """What the package adds to the library: trees, matchers of paths on disk, walks."""
+import errno
 import os
 import pathlib
+import sys
 import tempfile
 import unittest
+from unittest import mock
 
 from ignore_proved import (
-    Builder, Decision, Matcher, MisusedError, Tree, TreeError, TreeMatcher, TreeWalk, walk,
+    Builder, Decision, InvalidRuleError, LimitError, Matcher, MisusedError, Tree, TreeError,
+    TreeMatcher, TreeWalk, _names, walk,
 )
 
 
@@ -206,6 +210,177 @@ class Disk(unittest.TestCase):
             for path in ("a/x", "self/self/x", "d/up/y", "d/up/d/up/y", "d/" * 300 + "y"):
                 self.assertFalse(matcher.is_ignored(path))
             self.assertTrue(matcher.is_ignored("d/up/x"))
+
+    def link(self, name, target):
+        path = self.top / name
+        path.parent.mkdir(parents=True, exist_ok=True)
+        path.symlink_to(target)
+
+    def test_rules_through_links(self):
+        """A file of rules behind two links or through a linked folder; a `.git` that is a link."""
+        self.put("n2/ignore", "*.log\n")
+        self.link("n1/ignore", self.top / "n2" / "ignore")
+        self.link("h/.config/git/ignore", self.top / "n1" / "ignore")
+        self.put("real/rules", "*.a\n")
+        self.link("w/d", "../real")
+        self.link("w/.gitignore", "d/rules")
+        self.put("store/info/exclude", "*.b\n")
+        self.link("between", "store")
+        self.link("w/.git", "../between")
+        self.link("w/sub/.ignore", "../one")
+        self.link("w/one", "sub/../two")
+        self.put("w/two", "*.c\n")
+        for name in ("x.log", "x.a", "x.b", "sub/x.c", "sub/y"):
+            self.put(f"w/{name}")
+        os.environ.pop("XDG_CONFIG_HOME", None)
+        with mock.patch.dict(os.environ, HOME=str(self.top / "h")):
+            found = sorted(os.path.relpath(it.path, self.top / "w") for it in walk(self.top / "w"))
+            self.assertEqual(found, ["d", "one", "sub", "sub/y", "two"])
+            with Matcher(self.top / "w") as matcher:
+                for name in ("x.log", "x.a", "x.b", "sub/x.c"):
+                    self.assertTrue(matcher.is_ignored(name), name)
+                self.put("n2/ignore", "")
+                self.link("n3", "n2/ignore")
+                (self.top / "w" / "two").unlink()
+                self.link("w/two", "../n3")
+                matcher.forget("sub")
+                self.assertFalse(matcher.is_ignored("sub/x.c"))
+
+    def test_names_that_are_not_utf8(self):
+        """They are reported, and what is in them is asked and yielded; one to one."""
+        odd = os.fsencode(self.top) + b"/a\xff"
+        os.makedirs(odd + b"/in\xc3\xa9\xfe")
+        for name in (b"/x.o", b"/y", b"/in\xc3\xa9\xfe/z", b"/.ignore"):
+            with open(odd + name, "wb") as file:
+                file.write(b"in*?\n" if name == b"/.ignore" else b"")
+        open(os.fsencode(self.top) + b"/b\xfe.o", "w").close()
+        self.put("z")
+        self.put(".ignore", "*.o\n")
+        errors, found = [], []
+        found = [it.path for it in walk(self.top, sort=True, onerror=errors.append)]
+        top = str(self.top)
+        self.assertEqual(found, [top + "/a\udcff/y", top + "/z"])
+        self.assertEqual([(it.errno, it.filename) for it in errors],
+                         [(errno.EILSEQ, os.fsdecode(odd))])
+        self.assertEqual([it.name for it in walk(self.top)].count("y"), 1)
+        self.assertEqual([it.name for it in walk(odd)], ["y"])
+        with Matcher(self.top) as matcher:
+            self.assertTrue(matcher.is_ignored(b"b\xfe.o"))
+            self.assertTrue(matcher.is_ignored(odd + b"/in\xc3\xa9\xfe/z"))
+            self.assertFalse(matcher.is_ignored(b"a\xff/y"))
+            self.assertEqual(matcher.forget(b"a\xff"), 2)
+        texts = [b"a", b"\xff", "\uf7ff".encode(), b"\xef\x9f\xbf", b"\xef\x9f", b"\xc3\xc3\xa9",
+                 "\ue000\uf77f\uf800\u00e9".encode(), b"\xed\xa0\x80/\xef\x9e\x80\x80"]
+        for text in texts:
+            known = _names.told(os.fsdecode(text))
+            self.assertEqual(os.fsencode(_names.of_disk(known)), text)
+            known.encode("utf-8")
+        self.assertEqual(_names.told("\uf7ff"), "\uf7ef\uf79f\uf7bf")
+        self.assertEqual(_names.told("\udcffa\u00e9"), "\uf7ffa\u00e9")
+
+    def test_a_root_that_cannot_be_listed(self):
+        self.put("file")
+        for name, error in [("none", FileNotFoundError), ("file", NotADirectoryError)]:
+            with self.assertRaises(error):
+                walk(self.top / name)
+
+    def test_sizes_are_those_of_links_too(self):
+        for name in ("a" * 9, "b" * 3):
+            self.link(name + ".l", name)
+            self.put(name, name)
+        self.put("d" * 9 + "/x")
+        self.assertEqual(self.paths(max_filesize=5), ["bbb", "bbb.l", "d" * 9, "d" * 9 + "/x"])
+        with Matcher(self.top, max_filesize=5) as matcher:
+            self.assertTrue(matcher.is_ignored("a" * 9 + ".l"))
+            self.assertFalse(matcher.is_ignored("b" * 3 + ".l/x"))
+
+    def test_another_file_system_is_not_listed(self):
+        for name in ("a/x", "b/y"):
+            self.put(name)
+        plain = os.lstat
+
+        def lstat(path, **how):
+            found = plain(path, **how)
+            if os.fspath(path) != str(self.top / "b"):
+                return found
+            return os.stat_result([*found[:2], found.st_dev + 1, *found[3:]])
+
+        self.assertEqual(self.paths(same_file_system=True), ["a", "a/x", "b", "b/y"])
+        with mock.patch("os.lstat", lstat):
+            self.assertEqual(self.paths(same_file_system=True), ["a", "a/x", "b"])
+            self.assertEqual(self.paths(same_file_system=False), ["a", "a/x", "b", "b/y"])
+
+    def test_a_limit_is_of_the_steps_of_the_library(self):
+        for name in ("a/x", "b", ".h/x"):
+            self.put(name)
+        with Tree("/") as tree:
+            for name in ("/r", "/r/a", "/r/.h"):
+                tree.add_dir(name)
+            for name in ("/r/a/x", "/r/b", "/r/.h/x"):
+                tree.add_file(name)
+            for limit in range(10):
+                try:
+                    with Builder("/r", limit=limit) as builder, TreeWalk(builder, tree) as items:
+                        wanted = [it.path[3:] for it in items][1:]
+                except LimitError:
+                    wanted = None
+                try:
+                    found = self.paths(limit=limit)
+                except LimitError:
+                    found = None
+                self.assertEqual(found, wanted, limit)
+        self.assertIsNotNone(wanted)
+        self.assertEqual(next(walk(self.top, sort=True, limit=3)).name, "a")
+        with self.assertRaises(OverflowError):
+            walk(self.top, limit=-1)
+
+    def test_globs_types_lines_and_files_that_are_given(self):
+        for name in ("a.rs", "b.py", "c.web", "d/e.rs", "d/f.txt"):
+            self.put(name)
+        self.put("rules", "d\n")
+        self.put("other/mine", "/b.py\n")
+        rows = [
+            ({"overrides": ["*.rs"]}, ["a.rs", "d", "d/e.rs", "other"]),
+            ({"overrides": ["!*.rs"], "max_depth": 1}, ["b.py", "c.web", "d", "other", "rules"]),
+            ({"types": ["rust"]}, ["a.rs", "d", "d/e.rs", "other"]),
+            ({"types_not": ["rust"], "max_depth": 1}, ["b.py", "c.web", "d", "other", "rules"]),
+            ({"types": ["web"], "type_defs": ["web:*.web"]}, ["c.web", "d", "other"]),
+            ({"lines": ["d/f.txt", "/*.rs", "other", "rules"]}, ["b.py", "c.web", "d", "d/e.rs"]),
+            ({"ignore_files": [self.top / "rules"], "max_depth": 1},
+             ["a.rs", "b.py", "c.web", "other", "rules"]),
+            ({"lines": ["a.rs", "e.rs", "!/d/e.rs"], "overrides": iter(["!other"]),
+              "types": iter(["rust"])}, ["d", "d/e.rs"]),
+        ]
+        for settings, wanted in rows:
+            self.assertEqual(self.paths(**settings), wanted, settings)
+        home = os.getcwd()
+        os.chdir(self.top)
+        try:
+            found = self.paths(ignore_files=[b"other/mine"], max_depth=1)
+        finally:
+            os.chdir(home)
+        self.assertEqual(found, ["a.rs", "c.web", "d", "other", "rules"])
+        with Matcher(self.top, lines=["x/"]) as matcher:
+            self.assertTrue(matcher.is_ignored("d/x/y"))
+        for wrong in ({"overrides": ["{"]}, {"types": ["no such type"]}, {"lines": ["a", "{"]},
+                      {"ignore_files": [self.top / "none"]}, {"type_defs": ["x"], "types": ["c"]}):
+            with self.assertRaises(InvalidRuleError):
+                walk(self.top, **wrong)
+        for name in ("overrides", "types", "lines", "ignore_files"):
+            with self.assertRaises(TypeError):
+                walk(self.top, **{name: "*.rs"})
+
+    def test_a_directory_is_forgotten_as_it_is_left(self):
+        for number in range(30):
+            self.put(f"{number}/in/.ignore", "x\n")
+        seen = []
+        with mock.patch.object(sys.modules["ignore_proved.walk"], "Matcher",
+                               lambda *words: seen.append(Matcher(*words)) or seen[0]):
+            for entry in walk(self.top, sort=True):
+                depth = os.path.relpath(entry.path, self.top).count("/") + 1
+                self.assertLessEqual(len(seen[0]._host._told), depth)
+                if entry.name == "9":
+                    self.assertEqual(seen[0].forget(), 1)
 
 
 if __name__ == "__main__":

@@ -58,7 +58,6 @@ class Misuse(unittest.TestCase):
         for it, call in each_kind():
             it.close()
             it.close()
-            it.__del__()
             with self.assertRaises(MisusedError):
                 call()
 
@@ -80,11 +79,50 @@ class Misuse(unittest.TestCase):
                 getattr(lib.library, f"ignore_{kind}_free")(handle)
                 raise KeyboardInterrupt
 
-            with mock.patch.object(_owner, "free", stop), self.assertRaises(KeyboardInterrupt):
+            raised = mock.Mock()
+            with mock.patch.object(_owner, "free", stop), mock.patch("sys.unraisablehook", raised):
                 tree.close()
             tree.close()
             del tree
-        self.assertEqual(len(freed.given), 1)
+        self.assertEqual((len(freed.given), raised.call_count), (1, 1))
+
+    def test_a_close_while_a_call_has_the_handle_waits_for_its_end(self):
+        with Freed("rules") as freed:
+            rules = Rules("", ["a"])
+            lent = rules.handle
+            rules.close()
+            self.assertEqual(freed.given, [])
+            del lent
+            self.assertEqual(len(freed.given), 1)
+            with self.assertRaises(MisusedError):
+                rules.is_ignored("a")
+
+    def test_a_signal_handler_that_closes_the_object_in_use(self):
+        code = (
+            "import signal\nfrom ignore_proved import MisusedError, Rules\n"
+            "ends = set()\n"
+            "for n in range(1000):\n"
+            "    rules = Rules('', ['*.o'])\n"
+            "    signal.signal(signal.SIGALRM, lambda *_: rules.close())\n"
+            "    signal.setitimer(signal.ITIMER_REAL, 0.0004 + n % 50 * 1e-6)\n"
+            "    try:\n"
+            "        while True: rules.match('a/b/c.o')\n"
+            "    except MisusedError as error: ends.add(str(error))\n"
+            "print(ends)\n"
+        )
+        ran = subprocess.run([sys.executable, "-c", code], capture_output=True, text=True,
+                             env=dict(os.environ), check=False)
+        self.assertEqual((ran.returncode, ran.stdout), (0, "{'the rules is closed'}\n"))
+
+    def test_one_text_for_several(self):
+        for call in (
+            lambda: Rules("", "*.o"), lambda: Rules("", b"*.o"), lambda: Rules("", ""),
+            lambda: Builder("/", custom_ignore_filenames=".mine"),
+            lambda: Builder("/").overrides("/", "*.c"), lambda: Builder("/").choose_types("rust"),
+            lambda: Matcher(".", custom_ignore_filenames=".mine"),
+        ):
+            with self.assertRaisesRegex(TypeError, "several texts are wanted"):
+                call()
 
     def test_a_failed_or_second_init(self):
         with Freed("tree") as freed:

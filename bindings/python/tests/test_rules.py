@@ -36,10 +36,32 @@ class RulesTest(unittest.TestCase):
 
     def test_parents_count_where_they_are_asked_for(self):
         rules = Rules("", ["build/"])
-        self.assertFalse(rules.is_ignored("build/a"))
+        self.assertTrue(rules.match("build/a").is_none)
         self.assertTrue(rules.match_path_or_any_parents("build/a").is_ignore)
         with self.assertRaises(OutsideError):
             Rules("/r", ["a"]).match_path_or_any_parents("/other/a")
+
+    def test_an_ignored_folder_decides_from_the_top_down(self):
+        """As git decides: nothing below an ignored folder comes back, and the root isn't asked."""
+        rows = [
+            (["build/"], ["build/a", "x/build/a/b"], ["build", "a"]),
+            (["a/", "!a/b", "!x"], ["a/b", "a/x", "b/a/x"], ["x", "b/x"]),
+            (["*/"], ["a/b", "a/b/c"], ["a"]),
+            (["/*/", "!a"], ["b/a"], ["a", "b", "a/b/c"]),
+            (["*", "!*/", "!*.py"], ["a", "a/b"], ["x.py", "a/x.py"]),
+            (["*", "!a/b"], ["a/b", "a/c", "c"], []),
+        ]
+        for lines, ignored, kept in rows:
+            with Rules("", lines) as rules:
+                for path in ignored + kept:
+                    self.assertEqual(rules.is_ignored(path), path in ignored, (lines, path))
+        rows = [("r", "r/a"), ("./r", "./r/a"), ("/r", "/r/a"), ("/", "/a"), (".", "./a"),
+                ("r/", "r/a"), ("r", "a"), ("", "/a"), ("r", "r/r/a")]
+        for root, path in rows:
+            with Rules(root, ["*/", "!a"]) as rules:
+                self.assertEqual(rules.is_ignored(path), path.count("r") > 1, (root, path))
+        with Rules("/r", ["other/", "!a"]) as rules:
+            self.assertTrue(rules.is_ignored("/other/a"))
 
     def test_a_file_on_disk(self):
         with tempfile.TemporaryDirectory() as folder:

@@ -1,3 +1,4 @@
+use std::path::PathBuf;
 use std::{fmt, io};
 
 /// Why a call did nothing, or what is wrong with a line or a file.
@@ -13,6 +14,13 @@ pub enum Error {
     Outside,
     /// A file can't be read.
     Io(io::Error),
+    /// An error at a path: an entry whose name isn't UTF-8, or a directory that can't be listed.
+    WithPath {
+        /// The path.
+        path: PathBuf,
+        /// What is wrong there.
+        error: Box<Error>,
+    },
     /// The library answers otherwise than its header says.
     Unexpected(u32),
 }
@@ -25,6 +33,7 @@ impl fmt::Display for Error {
             Error::Invalid(text) => write!(f, "{text}"),
             Error::Outside => write!(f, "the path isn't below the root"),
             Error::Io(error) => write!(f, "{error}"),
+            Error::WithPath { path, error } => write!(f, "{}: {error}", path.display()),
             Error::Unexpected(code) => write!(f, "the library answers {code}"),
         }
     }
@@ -34,8 +43,17 @@ impl std::error::Error for Error {
     fn source(&self) -> Option<&(dyn std::error::Error + 'static)> {
         match self {
             Error::Io(error) => Some(error),
+            Error::WithPath { error, .. } => Some(error),
             _ => None,
         }
+    }
+}
+
+impl Error {
+    /// The error at a path.
+    pub(crate) fn at<P: Into<PathBuf>>(self, path: P) -> Error {
+        let (path, error) = (path.into(), Box::new(self));
+        Error::WithPath { path, error }
     }
 }
 

@@ -1,10 +1,12 @@
 //! Matchers of single paths, under the original's names, over directories on disk.
 
-use crate::gitignore::{bytes_of, done, error_of};
-use crate::host::{path_of, Host, Known};
+use crate::gitignore::{done, error_of};
+use crate::host::{Host, Known};
 use crate::library::{self, Builder, Found, Label, Matcher, Switch};
+use crate::names::{of_disk, told};
 use crate::walk::Walk;
 use crate::Error;
+use std::ffi::{OsStr, OsString};
 use std::fs;
 use std::path::{Path, PathBuf};
 
@@ -58,7 +60,7 @@ impl WalkBuilder {
     pub fn new<P: AsRef<Path>>(root: P) -> Result<WalkBuilder, Error> {
         let root = fs::canonicalize(root.as_ref())?;
         Ok(WalkBuilder {
-            builder: Builder::new(bytes_of(&root)).map_err(error_of)?,
+            builder: Builder::new(&told(&root)).map_err(error_of)?,
             root,
             custom: Vec::new(),
             asks_sizes: false,
@@ -145,7 +147,7 @@ impl WalkBuilder {
         self.custom.push(name.to_string());
         self.failed = self
             .failed
-            .max(self.builder.label(Label::Custom, name.as_bytes()));
+            .max(self.builder.label(Label::Custom, &told(Path::new(name))));
         self
     }
 
@@ -162,7 +164,7 @@ impl WalkBuilder {
         ];
         for (label, text) in texts {
             if let Some(text) = text {
-                done(self.builder.label(label, bytes_of(text)))?;
+                done(self.builder.label(label, &told(text)))?;
             }
         }
         let mut host = Host::new(self.root.clone(), &self.custom, known)?;
@@ -218,10 +220,10 @@ impl IncrementalIgnore {
         if self.asks_sizes && !is_dir {
             self.host.size(below)?;
         }
-        let (mut found, text) = (Found::default(), bytes_of(below));
+        let (mut found, text) = (Found::default(), told(below));
         let code = self
             .matcher
-            .matched(&mut self.host.tree, text, is_dir, &mut found);
+            .matched(&mut self.host.tree, &text, is_dir, &mut found);
         match code {
             library::NONE | library::IGNORE | library::WHITELIST => Ok(IncrementalMatch {
                 code,
@@ -232,12 +234,13 @@ impl IncrementalIgnore {
         }
     }
 
-    /// Has the matcher told a directory of which all names are known.
-    pub(crate) fn entered(
-        &mut self,
-        below: &Path,
-        names: &std::collections::HashSet<std::ffi::OsString>,
-    ) -> Result<(), Error> {
+    /// Whether what has this name decides in its directory.
+    pub(crate) fn decides(&self, name: &OsStr) -> bool {
+        self.host.decides(name)
+    }
+
+    /// Has the matcher told a directory of which all names that decide are known.
+    pub(crate) fn entered(&mut self, below: &Path, names: &[OsString]) -> Result<(), Error> {
         self.host.listed(below, Some(names))
     }
 
@@ -247,24 +250,26 @@ impl IncrementalIgnore {
         let Some(below) = self.normalize(&self.host.root.join(dir))? else {
             return Ok(0);
         };
-        self.host.forget(&below);
+        self.left(&below)
+    }
+
+    /// The same of a clean path below the root.
+    pub(crate) fn left(&mut self, below: &Path) -> Result<usize, Error> {
+        self.host.forget(below);
         let mut count = 0;
-        done(self.matcher.forget(bytes_of(&below), &mut count))?;
+        done(self.matcher.forget(&told(below), &mut count))?;
         Ok(count)
     }
 
     fn normalize(&mut self, path: &Path) -> Result<Option<PathBuf>, Error> {
         let (mut room, mut whole) = (vec![0; 256], 0);
         loop {
-            match self
-                .matcher
-                .normalize(bytes_of(path), &mut room, &mut whole)
-            {
+            match self.matcher.normalize(&told(path), &mut room, &mut whole) {
                 library::NONE => return Ok(None),
                 code => done(code)?,
             }
             if whole <= room.len() {
-                return Ok(Some(path_of(&room[..whole])));
+                return Ok(Some(of_disk(&room[..whole])));
             }
             room.resize(whole, 0);
         }

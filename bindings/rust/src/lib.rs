@@ -9,6 +9,7 @@ mod incremental;
 mod library;
 #[cfg(doctest)]
 mod misuse;
+mod names;
 mod walk;
 
 pub use error::Error;

@@ -1,7 +1,14 @@
 //! Matchers and walks of folders on disk.
-use ignore_proved::{IncrementalIgnore, WalkBuilder};
+use ignore_proved::{Error, IncrementalIgnore, WalkBuilder};
+use std::ffi::OsStr;
 use std::fs;
+use std::os::unix::ffi::OsStrExt;
+use std::os::unix::fs::symlink;
 use std::path::{Path, PathBuf};
+use std::sync::Mutex;
+
+/// What changes the environment, or goes by it, holds this.
+static ENVIRONMENT: Mutex<()> = Mutex::new(());
 
 struct Folder(PathBuf);
 
@@ -17,6 +24,12 @@ impl Folder {
         let path = self.0.join(name);
         fs::create_dir_all(path.parent().expect("a name")).expect("a folder");
         fs::write(path, text).expect("a file");
+    }
+
+    fn link(&self, name: &str, target: &str) {
+        let path = self.0.join(name);
+        fs::create_dir_all(path.parent().expect("a name")).expect("a folder");
+        symlink(target, path).expect("a link");
     }
 
     fn matcher(&self) -> IncrementalIgnore {
@@ -91,7 +104,6 @@ fn a_walk_yields_what_no_rule_ignores() {
 
 #[test]
 fn links_in_circles_end() {
-    use std::os::unix::fs::symlink;
     let folder = Folder::new("circles");
     folder.put("d/.ignore", "x\n");
     for (name, target) in [("a", "b"), ("b", "a"), ("self", "self"), ("d/up", "..")] {
@@ -112,4 +124,115 @@ fn links_in_circles_end() {
         .matched("d/up/x", false)
         .expect("memory")
         .is_ignore());
+}
+
+/// A file of rules behind two links, through a linked folder, and a `.git` that is a link.
+#[test]
+fn rules_through_links() {
+    let _held = ENVIRONMENT.lock();
+    let folder = Folder::new("chains");
+    let top = folder.0.to_str().expect("UTF-8");
+    folder.put("n2/ignore", "*.log\n");
+    folder.link("n1/ignore", &format!("{top}/n2/ignore"));
+    folder.link("h/.config/git/ignore", &format!("{top}/n1/ignore"));
+    folder.put("real/rules", "*.a\n");
+    folder.link("w/d", "../real");
+    folder.link("w/.gitignore", "d/rules");
+    folder.put("store/info/exclude", "*.b\n");
+    folder.link("between", "store");
+    folder.link("w/.git", "../between");
+    folder.link("w/sub/.ignore", "../one");
+    folder.link("w/one", "sub/../two");
+    folder.put("w/two", "*.c\n");
+    for name in ["x.log", "x.a", "x.b", "sub/x.c", "sub/y"] {
+        folder.put(&format!("w/{name}"), "");
+    }
+    let saved = ["HOME", "XDG_CONFIG_HOME"].map(|name| (name, std::env::var_os(name)));
+    std::env::set_var("HOME", folder.0.join("h"));
+    std::env::remove_var("XDG_CONFIG_HOME");
+    let root = Folder(folder.0.join("w"));
+    let mut builder = WalkBuilder::new(&root.0).expect("a root");
+    let names = ["d", "one", "sub", "sub/y", "two"];
+    assert_eq!(root.listed(&mut builder), names.map(PathBuf::from));
+    let mut matcher = root.matcher();
+    for (name, value) in saved {
+        match value {
+            Some(value) => std::env::set_var(name, value),
+            None => std::env::remove_var(name),
+        }
+    }
+    for name in ["x.log", "x.a", "x.b", "sub/x.c"] {
+        let found = matcher.matched(name, false).expect("memory");
+        assert!(found.is_ignore(), "{name}");
+    }
+}
+
+/// Names that aren't UTF-8 come as errors with their paths; what is in them is asked and yielded.
+#[test]
+fn names_that_are_not_utf8() {
+    let _held = ENVIRONMENT.lock();
+    let folder = Folder::new("names");
+    let odd = folder.0.join(OsStr::from_bytes(b"a\xff"));
+    let inner = odd.join(OsStr::from_bytes(b"in\xc3\xa9\xfe"));
+    fs::create_dir_all(&inner).expect("a folder");
+    for path in [odd.join("x.o"), odd.join("y"), inner.join("z")] {
+        fs::write(path, "").expect("a file");
+    }
+    fs::write(odd.join(".ignore"), "in*?\n").expect("a file");
+    fs::write(folder.0.join(OsStr::from_bytes(b"b\xfe.o")), "").expect("a file");
+    folder.put("z", "");
+    folder.put(".ignore", "*.o\n");
+    let walk = WalkBuilder::new(&folder.0).expect("a root").build();
+    let (mut found, mut errors) = (Vec::new(), Vec::new());
+    for item in walk.expect("a walk") {
+        match item {
+            Ok(entry) => found.push(entry.into_path()),
+            Err(Error::WithPath { path, error }) if matches!(*error, Error::NotUtf8) => {
+                errors.push(path)
+            }
+            Err(error) => panic!("{error}"),
+        }
+    }
+    found.sort();
+    assert_eq!(found, [odd.join("y"), folder.0.join("z")]);
+    assert_eq!(errors, std::slice::from_ref(&odd));
+    let mut matcher = folder.matcher();
+    let mut ask = |path: &Path| matcher.matched(path, false).expect("memory");
+    assert!(ask(Path::new(OsStr::from_bytes(b"b\xfe.o"))).is_ignore());
+    assert!(ask(&inner.join("z")).is_ignore());
+    assert!(!ask(&odd.join("y")).is_ignore());
+    assert_eq!(matcher.forget(&odd).expect("memory"), 2);
+}
+
+#[test]
+fn what_cannot_be_listed_comes_with_its_path() {
+    let folder = Folder::new("file");
+    folder.put("f", "");
+    let file = folder.0.join("f");
+    let mut walk = WalkBuilder::new(&file)
+        .expect("a path")
+        .build()
+        .expect("a walk");
+    match walk.next() {
+        Some(Err(Error::WithPath { path, error })) => {
+            assert_eq!(path, file);
+            assert!(matches!(*error, Error::Io(_)));
+        }
+        other => panic!("{other:?}"),
+    }
+    assert!(walk.next().is_none());
+}
+
+#[test]
+fn sizes_are_those_of_links_too() {
+    let folder = Folder::new("sizes");
+    for name in ["aaaaaaaaa", "bbb"] {
+        folder.link(&format!("{name}.l"), name);
+        folder.put(name, name);
+    }
+    folder.put("ddddddddd/x", "");
+    let mut builder = WalkBuilder::new(&folder.0).expect("a root");
+    let names = ["bbb", "bbb.l", "ddddddddd", "ddddddddd/x"];
+    let found = folder.listed(builder.max_filesize(Some(5)));
+    assert_eq!(found, names.map(PathBuf::from));
 }

@@ -1,0 +1,4 @@
+"""The kinds of patterns."""
+from .gitwildmatch import GitWildMatchPattern
+
+__all__ = ["GitWildMatchPattern"]
