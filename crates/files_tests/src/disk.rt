@@ -64,14 +64,14 @@ fn work_in(rt: &HostRuntime, folder: &str) -> io::Result<()> {
 }
 
 /// Makes a folder of this process alone, and works in it from now on. The folder's path.
-fn enter(rt: &HostRuntime) -> io::Result<String> {
+pub(crate) fn enter(rt: &HostRuntime) -> io::Result<String> {
     let folder = own_folder(rt)?;
     work_in(rt, folder.as_str())?;
     Ok(folder)
 }
 
 /// Removes the folder that `enter` made, from outside.
-fn leave(rt: &HostRuntime, folder: &str) -> io::Result<()> {
+pub(crate) fn leave(rt: &HostRuntime, folder: &str) -> io::Result<()> {
     env::set_current_dir(rt, "/")?;
     fs::remove_dir_all(rt, folder)
 }

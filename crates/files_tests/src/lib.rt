@@ -8,4 +8,6 @@ mod disk;
 #[cfg(test)]
 mod environment;
 #[cfg(test)]
+mod kinds;
+#[cfg(test)]
 mod machines;

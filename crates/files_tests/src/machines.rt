@@ -29,6 +29,8 @@ struct Fake {
     asked: Cell<u32>,
     /// The number of the question that is refused.
     refused: u32,
+    /// The number of the entry of each directory that is gone when its kind is asked.
+    lost: u32,
     /// Whether a file was opened.
     is_opened: Cell<bool>,
 }
@@ -37,7 +39,7 @@ struct Fake {
 #[derive(Drop)]
 struct Entry {
     name: &'static str,
-    file_type: Option<fs::FileType>,
+    file_type: Result<fs::FileType, io::ErrorKind>,
     is_asked: Cell<bool>,
 }
 
@@ -53,6 +55,7 @@ impl Fake {
             interrupted: 0,
             asked: Cell::new(0),
             refused: 0,
+            lost: 0,
             is_opened: Cell::new(false),
         }
     }
@@ -79,8 +82,9 @@ impl Fake {
     }
 
     /// An entry, or an interruption in its place; an empty name stands for one that isn't UTF-8,
-    /// `broken` for one that can't be had, and `lost` for one that is gone when its kind is asked.
-    fn entry(&self) -> io::Result<Entry> {
+    /// `broken` for one that can't be had, `lost` for one that is gone when its kind is asked, and
+    /// `shut` for one whose kind may not be asked.
+    fn entry(&self, number: u32) -> io::Result<Entry> {
         if self.is_interrupted() {
             return Err(io::Error::from(io::ErrorKind::Interrupted));
         }
@@ -92,10 +96,11 @@ impl Fake {
         }
         Ok(Entry {
             name: self.name,
-            file_type: if self.name == "lost" {
-                None
-            } else {
-                Some(self.file_type)
+            file_type: match self.name {
+                _ if number == self.lost => Err(io::ErrorKind::NotFound),
+                "lost" => Err(io::ErrorKind::NotFound),
+                "shut" => Err(io::ErrorKind::PermissionDenied),
+                _ => Ok(self.file_type),
             },
             is_asked: Cell::new(false),
         })
@@ -140,8 +145,8 @@ impl Machine for Fake {
     fn read_dir(&self, _path: &str) -> io::Result<IntoIter<io::Result<Entry>, Global>> {
         self.count_question()?;
         let mut entries = Vec::new(self.alloc);
-        for _ in 0..self.count {
-            entries.push(self.entry())?;
+        for number in 1..=self.count {
+            entries.push(self.entry(number))?;
         }
         Ok(entries.into_iter())
     }
@@ -155,8 +160,8 @@ impl Machine for Fake {
             return Err(io::Error::from(io::ErrorKind::Interrupted));
         }
         match entry.file_type {
-            Some(file_type) => Ok(file_type),
-            None => Err(io::Error::from(io::ErrorKind::NotFound)),
+            Ok(file_type) => Ok(file_type),
+            Err(kind) => Err(io::Error::from(kind)),
         }
     }
 
@@ -267,9 +272,25 @@ fn listed_times(rt: &HostRuntime, name: &'static str, count: u32) -> Result<Stri
 }
 
 #[test]
-fn an_entry_that_is_lost_before_its_kind_is_a_fault(rt: HostRuntime) -> Result<(), Fail> {
+fn an_entry_that_is_gone_before_its_kind_is_left_out(rt: HostRuntime) -> Result<(), Fail> {
     let text = listed(&rt, "lost")?;
-    assert_eq!(rt; text.as_str(), "[Fault(NotFound)]");
+    assert_eq!(rt; text.as_str(), "[]");
+    Ok(())
+}
+
+#[test]
+fn an_entry_whose_kind_may_not_be_asked_is_a_fault(rt: HostRuntime) -> Result<(), Fail> {
+    let text = listed(&rt, "shut")?;
+    assert_eq!(rt; text.as_str(), "[Fault(PermissionDenied)]");
+    Ok(())
+}
+
+#[test]
+fn entries_after_one_that_is_gone_are_listed(rt: HostRuntime) -> Result<(), Fail> {
+    let mut machine = Fake::new(rt.alloc(), directory(), 3, "a");
+    machine.lost = 2;
+    let listing = DiskFiles::new(&machine).list(rt.alloc(), "path")?;
+    assert_eq!(rt; listing.len(), 2);
     Ok(())
 }
 

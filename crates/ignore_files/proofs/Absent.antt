@@ -1,25 +1,23 @@
 -- In a tree in memory nothing is where a directory would have a name that its listing lacks.
-use Rattle.std.proofs.Common.{◌≡◌, ℕ, Bool, true, false, cond, not, ◌&&◌, eqb, List, [], ◌∷◌, ◌++◌, length, map, Option, Some, None, Result, Ok, Err, is_ok}
-use Rattle.std.proofs.Common.{refl, sym, ap, subst, ◌∙◌, bytes_eq, codes, slice_get, ok_or, append_assoc}
+use Rattle.std.proofs.Common.{◌≡◌, ℕ, Bool, true, false, cond, not, ◌&&◌, eqb, List, [], ◌∷◌, ◌++◌, length, map, Some, None, Result, Ok, Err, is_ok}
+use Rattle.std.proofs.Common.{refl, sym, ap, ◌∙◌, bytes_eq, codes, slice_get, ok_or, append_assoc}
 use Rattle.std.proofs.lemmas.Slice.Eq.{bytes_eq-Decides}
-use Rattle.std.specs.Char.{to_ascii_lowercase, is_ascii}
+use Rattle.std.specs.Char.{to_ascii_lowercase}
 use Rattle.std.specs.List.{list_all}
 use Rattle.ignore_base.specs.declared.fault.Fault.{Fault}
 use Rattle.ignore_base.specs.declared.fault.Fault.TheVariants.{NotFound, NotADirectory}
 use Rattle.ignore_base.specs.Paths.{components, whole_components, has_slash, is_absolute, is_proper, join_of}
 use Rattle.ignore_files.specs.Answers.{stat_of, listed_of, listing_of, list_of, tree_of}
 use Rattle.ignore_files.specs.Entries.{node_named}
-use Rattle.ignore_files.specs.Memory.{Memory, and_then, is_empty, is_directory, is_dir_at, entries_of}
+use Rattle.ignore_files.specs.Memory.{Memory, and_then, is_directory, is_dir_at, entries_of}
 use Rattle.ignore_files.specs.Resolve.{enter, enter_node, enter_directory, link_at, resolve_last, resolve_inner, resolve_components, walk, start_of, resolved}
-use Rattle.ignore_files.specs.Tree.{Tree, Answers}
-use Rattle.ignore_files.specs.Whole.{is_plain, differs, lacks, is_found, IsAbsent, IsWhole, AreWhole}
+use Rattle.ignore_files.specs.Tree.{Answers}
+use Rattle.ignore_files.specs.Whole.{is_plain, differs, is_found, IsWhole, AreWhole}
 use Rattle.ignore_files.specs.declared.memory.entry.Entry.{Entry}
 use Rattle.ignore_files.specs.declared.memory.entry.Entry.TheVariants.{Named, Nameless}
 use Rattle.ignore_files.specs.declared.memory.node.Node.{Node}
 use Rattle.ignore_files.specs.declared.memory.node.Kind.TheVariants.{Dir}
 use Rattle.ignore_files.specs.declared.memory.resolve.Reached.{Reached}
-use Rattle.ignore_files.specs.declared.types.Listed.{Listed}
-use Rattle.ignore_files.specs.declared.types.Metadata.{Metadata}
 use Rattle.ignore_files.specs.declared.types.Refusal.{Refusal}
 use Rattle.ignore_files.specs.declared.types.Refusal.TheVariants.{Fault as Refused}
 use Rattle.ignore_files.proofs.Leads.{Solid, solid, whole_some, whole_walk, proper, rooted, absolute_rooted, rooted_more, start_same, led, reached, filled}

@@ -1,5 +1,5 @@
 -- A value that is consistent with two trees gives answers on which the two agree; and an error or
--- an entry of the machine's is reported as one item.
+-- an entry of the machine's is reported as one item, and all that a directory gives as one listing.
 use Rattle.std.proofs.Common.{◌≡◌, ◌⊎◌, inl, inr, ℕ, suc, Bool, List, [], ◌∷◌, length, Option, Result, Ok, Err, refl, sym, ap, ◌∙◌}
 use Rattle.std.proofs.Common.{subst, arith}
 use Rattle.std.specs.declared.io.Error.{Error}
@@ -9,7 +9,7 @@ use Rattle.ignore_base.specs.declared.fault.Fault.{Fault}
 use Rattle.ignore_files.specs.Tree.{Tree, Answers}
 use Rattle.ignore_files.specs.Gives.{IsHonest}
 use Rattle.ignore_files.specs.Reported.{IsReportedAs, IsFaultOf, IsEntryOf}
-use Rattle.ignore_files.specs.Machine.{IsReported, AreReported}
+use Rattle.ignore_files.specs.Machine.{IsReported, IsGone, AreReported}
 use Rattle.ignore_files.specs.declared.machine.Machine.{Ghosts as MachineGhosts}
 use Rattle.ignore_files.specs.declared.files.Files.{Ghosts}
 use Rattle.ignore_files.specs.declared.types.Refusal.{Refusal}
@@ -100,7 +100,7 @@ IsEntryOf-one IsName (Ok t) (listed.Entry n a) (listed.Entry m b) named h k =
     ap (λ x. listed.Entry x a) (named n m h.0 k.0) ∙ ap (λ x. listed.Entry m x) (IsReportedAs-one t a b h.1 k.1)
 IsEntryOf-one IsName (Ok t) (listed.Entry n a) (listed.Fault f) named h k = absurd k
 IsEntryOf-one IsName (Ok t) (listed.Fault f) other named h k = absurd h
-IsEntryOf-one IsName (Err error) one other named h k = IsFaultOf-one error one other h k
+IsEntryOf-one IsName (Err error) one other named h k = IsFaultOf-one error one other h.1 k.1
 
 -- what a directory gives is reported as one item, where the machine gives an entry one name and one
 -- type
@@ -118,12 +118,48 @@ IsReported-named : {R M E D F : Type 0} (machine : MachineGhosts R M E D F) (ent
     → IsReported machine (Ok entry) (listed.Entry name kind)
     → machine.file_name_gives entry name × ((t : MachineType) × machine.entry_type_gives entry (Ok t) × IsReportedAs t kind)
 IsReported-named machine entry name kind (Ok t, given, h) = (h.0, (t, given, h.1))
-IsReported-named machine entry name kind (Err error, given, h) = absurd h
+IsReported-named machine entry name kind (Err error, given, h) = absurd h.1
 
--- each item is reported, and nothing else
+-- each item is reported, and nothing else: where nothing is gone, there are as many
 AreReported-length : {R M E D F : Type 0} (machine : MachineGhosts R M E D F) (all : List (Result E Error)) (items : List Listed)
-    → AreReported machine all items → length items ≡ length all
-AreReported-length machine [] [] h = refl
-AreReported-length machine [] (item ∷ items) h = absurd h
-AreReported-length machine (one ∷ more) [] h = absurd h
-AreReported-length machine (one ∷ more) (item ∷ items) h = ap (λ n. suc n) (AreReported-length machine more items h.1)
+    → ((one : Result E Error) → IsGone machine one → ⊥) → AreReported machine all items → length items ≡ length all
+AreReported-length machine [] [] none h = refl
+AreReported-length machine [] (item ∷ items) none h = absurd h
+AreReported-length machine (one ∷ more) [] none h = absurd (none one h.0)
+AreReported-length machine (one ∷ more) (item ∷ items) none (inl h) = ap (λ n. suc n) (AreReported-length machine more items none h.1)
+AreReported-length machine (one ∷ more) (item ∷ items) none (inr h) = absurd (none one h.0)
+
+-- what is gone is reported as no item, where the machine gives an entry one type
+IsGone-unreported : {R M E D F : Type 0} (machine : MachineGhosts R M E D F) (given : Result E Error) (item : Listed)
+    → ((entry : E) (a b : Result MachineType Error) → machine.entry_type_gives entry a → machine.entry_type_gives entry b → a ≡ b)
+    → IsGone machine given → IsReported machine given item → ⊥
+IsGone-unreported machine (Ok entry) item typed g h =
+    (subst (λ (x : Result MachineType Error). IsEntryOf (machine.file_name_gives entry) x item) (typed entry h.0 (Err g.0) h.1 g.1) h.2).0 g.2
+IsGone-unreported machine (Err error) item typed g h = g
+
+-- what a directory gives has one listing, where the machine gives an entry one name and one type
+AreReported-one : {R M E D F : Type 0} (machine : MachineGhosts R M E D F) (all : List (Result E Error)) (items others : List Listed)
+    → ((entry : E) (n m : List ℕ) → machine.file_name_gives entry n → machine.file_name_gives entry m → n ≡ m)
+    → ((entry : E) (a b : Result MachineType Error) → machine.entry_type_gives entry a → machine.entry_type_gives entry b → a ≡ b)
+    → AreReported machine all items → AreReported machine all others → items ≡ others
+AreReported-one machine [] [] [] named typed h k = refl
+AreReported-one machine [] [] (o ∷ others) named typed h k = absurd k
+AreReported-one machine [] (i ∷ items) others named typed h k = absurd h
+AreReported-one machine (one ∷ more) [] [] named typed h k = refl
+AreReported-one machine (one ∷ more) [] (o ∷ others) named typed h (inl k) =
+    absurd (IsGone-unreported machine one o typed h.0 k.0)
+AreReported-one machine (one ∷ more) [] (o ∷ others) named typed h (inr k) =
+    AreReported-one machine more [] (o ∷ others) named typed h.1 k.1
+AreReported-one machine (one ∷ more) (i ∷ items) [] named typed (inl h) k =
+    absurd (IsGone-unreported machine one i typed k.0 h.0)
+AreReported-one machine (one ∷ more) (i ∷ items) [] named typed (inr h) k =
+    AreReported-one machine more (i ∷ items) [] named typed h.1 k.1
+AreReported-one machine (one ∷ more) (i ∷ items) (o ∷ others) named typed (inl h) (inl k) =
+    ap {B = List Listed} (λ x. x ∷ items) (IsReported-one machine one i o named typed h.0 k.0)
+    ∙ ap {B = List Listed} (λ l. o ∷ l) (AreReported-one machine more items others named typed h.1 k.1)
+AreReported-one machine (one ∷ more) (i ∷ items) (o ∷ others) named typed (inl h) (inr k) =
+    absurd (IsGone-unreported machine one i typed k.0 h.0)
+AreReported-one machine (one ∷ more) (i ∷ items) (o ∷ others) named typed (inr h) (inl k) =
+    absurd (IsGone-unreported machine one o typed h.0 k.0)
+AreReported-one machine (one ∷ more) (i ∷ items) (o ∷ others) named typed (inr h) (inr k) =
+    AreReported-one machine more (i ∷ items) (o ∷ others) named typed h.1 k.1

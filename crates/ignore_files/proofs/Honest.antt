@@ -6,10 +6,9 @@ use Rattle.ignore_base.specs.declared.fault.Fault.{Fault}
 use Rattle.ignore_base.specs.declared.fault.Fault.TheVariants as fault
 use Rattle.ignore_files.specs.Tree.{Answers}
 use Rattle.ignore_files.specs.Memory.{and_then}
-use Rattle.ignore_files.specs.Heard.{IsHeard, HasWhole}
+use Rattle.ignore_files.specs.Heard.{HasWhole}
 use Rattle.ignore_files.specs.Machine.{Disk, IsTruthful, MayList, MayRead, AreReported}
 use Rattle.ignore_files.specs.Whole.{AreWhole, is_found}
-use Rattle.ignore_files.specs.declared.types.Listed.{Listed}
 use Rattle.ignore_files.specs.Disk.{GivesStat, GivesIdentity, GivesOf, GivesAt, GivesContents, metadata_of, identity_of, contents_at}
 use Rattle.ignore_files.specs.Disk.{files_on, machine_of, tree_on}
 use Rattle.ignore_files.specs.Gives.{IsHonest}

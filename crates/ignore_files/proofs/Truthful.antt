@@ -14,7 +14,7 @@ use Rattle.ignore_files.specs.Tree.{Answers}
 use Rattle.ignore_files.specs.Memory.{and_then}
 use Rattle.ignore_files.specs.Reported.{refusal_of, reported, IsReportedAs, cut_by}
 use Rattle.ignore_files.specs.Heard.{has_nul, IsHeard}
-use Rattle.ignore_files.specs.Machine.{metadata_gives, IsStatOf, Reads, Lists, Holds, IsReadOf, IsReported, AreReported, IsTruthful}
+use Rattle.ignore_files.specs.Machine.{metadata_gives, IsStatOf, Reads, Lists, Holds, IsReadOf, IsReported, IsGone, AreReported, IsTruthful}
 use Rattle.ignore_files.specs.Table.{asked, followed, end_of, entries_at, bytes_at, stat_of, told, given, file_type_of, len_of, Finds}
 use Rattle.ignore_files.specs.Table.{ReadsWhole, or_fault, visible, listed_of, contents_of, disk_of}
 use Rattle.ignore_files.specs.declared.machine.Machine.{Ghosts}
@@ -198,14 +198,19 @@ module _ {R D : Type 0} (machine : Ghosts R Stat RowEntry D (List ℕ)) (next : 
   reported_one entry (listed.Fault f) (Ok t, gives, h) = absurd h
   reported_one entry item (Err error, gives, h) = absurd (is.kind entry (Err error) gives)
 
+  -- no entry is gone
+  none_gone : (entry : RowEntry) → IsGone machine (Ok entry) → ⊥
+  none_gone entry (error, gives, h) = is.kind entry (Err error) gives
+
   reported_all : (entries : List RowEntry) (listing : List Listed) → AreReported machine (map given entries) listing
       → map listed_of entries ≡ listing
   reported_all [] [] h = refl
   reported_all [] (item ∷ listing) h = absurd h
-  reported_all (entry ∷ entries) [] h = absurd h
-  reported_all (entry ∷ entries) (item ∷ listing) h =
+  reported_all (entry ∷ entries) [] h = absurd (none_gone entry h.0)
+  reported_all (entry ∷ entries) (item ∷ listing) (inl h) =
       ap {B = List Listed} (λ i. i ∷ map listed_of entries) (reported_one entry item h.0)
       ∙ ap {B = List Listed} (λ l. item ∷ l) (reported_all entries listing h.1)
+  reported_all (entry ∷ entries) (item ∷ listing) (inr h) = absurd (none_gone entry h.0)
 
   list_found : (entries : List RowEntry) (dir : D) (answer : Result (List Listed) Refusal) → items dir ≡ map given entries
       → Lists machine next (Ok dir) answer → Answers (Ok (map listed_of entries)) answer

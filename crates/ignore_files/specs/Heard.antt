@@ -1,5 +1,5 @@
 -- What is heard of a system that gives certain answers.
-use Rattle.std.specs.Prelude.{◌≡◌, Bool, true, false, List, [], ◌∷◌, ◌==◌, Option, Result, Ok, Err}
+use Rattle.std.specs.Prelude.{◌≡◌, Bool, true, false, List, [], ◌∷◌, ◌==◌, ◌⊎◌, Option, Result, Ok, Err}
 use Rattle.std.specs.List.{list_any}
 use Rattle.std.specs.Iterator.{Drains}
 use Rattle.std.specs.declared.io.Error.{Error}
@@ -8,7 +8,7 @@ use Rattle.ignore_base.specs.Text.{Bytes, Path}
 use Rattle.ignore_base.specs.declared.fault.Fault.{Fault}
 use Rattle.ignore_base.specs.declared.fault.Fault.TheVariants as fault
 use Rattle.ignore_files.specs.Tree.{Answers}
-use Rattle.ignore_files.specs.Reported.{reported, IsFaultOf, IsEntryOf}
+use Rattle.ignore_files.specs.Reported.{reported, IsFaultOf, IsNotFound, IsEntryOf}
 use Rattle.ignore_files.specs.Whole.{IsWhole}
 use Rattle.ignore_files.specs.declared.types.Refusal.{Refusal}
 use Rattle.ignore_files.specs.declared.types.Refusal.TheVariants.{Memory}
@@ -31,13 +31,19 @@ abbrev pub IsReported : {E : Type 0} → (E → Bytes → Type 0) → (E → Res
 IsReported names types (Ok entry) item = (kind : Result MachineType Error) × types entry kind × IsEntryOf (names entry) kind item
 IsReported names types (Err error) item = IsFaultOf error item
 
--- all things that a directory gives are reported, in their order
+-- an entry is gone: it isn't found when its kind is asked
+abbrev pub IsGone : {E : Type 0} → (E → Result MachineType Error → Type 0) → Result E Error → Type 0
+IsGone types (Ok entry) = (error : Error) × types entry (Err error) × IsNotFound error
+IsGone types (Err error) = ⊥
+
+-- all things that a directory gives are reported, in their order, but for the entries that are gone
 abbrev pub AreReported : {E : Type 0} → (E → Bytes → Type 0) → (E → Result MachineType Error → Type 0) → List (Result E Error) → List Listed
     → Type 0
 AreReported names types [] [] = Unit {0}
 AreReported names types [] (item ∷ items) = ⊥
-AreReported names types (one ∷ more) [] = ⊥
-AreReported names types (one ∷ more) (item ∷ items) = IsReported names types one item × AreReported names types more items
+AreReported names types (one ∷ more) [] = IsGone types one × AreReported names types more []
+AreReported names types (one ∷ more) (item ∷ items) = (IsReported names types one item × AreReported names types more items)
+    ⊎ (IsGone types one × AreReported names types more (item ∷ items))
 
 -- an opened directory is listed whole, from its first entry to its end, unless memory runs out; one
 -- that can't be opened is refused

@@ -1,7 +1,7 @@
 -- Tests of the type of a file.
 use Rattle.std.specs.Prelude.{Bool, true, false}
 use Rattle.ignore_files.specs.declared.types.FileType.{FileType}
-use Rattle.ignore_files.specs.declared.types.FileType.TheVariants.{File, Dir, Symlink, Other}
+use Rattle.ignore_files.specs.declared.types.FileType.TheVariants.{File, Dir, Symlink}
 
 -- it is a file
 abbrev pub is_file : FileType → Bool

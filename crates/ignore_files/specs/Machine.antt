@@ -1,12 +1,10 @@
 -- What is heard of a system, and when all that it answers is what one disk holds.
-use Rattle.std.specs.Prelude.{◌≡◌, ℕ, Bool, true, false, List, [], ◌∷◌, ◌==◌, ◌⊎◌, Option, Result, Ok, Err}
-use Rattle.std.specs.List.{list_any}
+use Rattle.std.specs.Prelude.{◌≡◌, ℕ, Bool, true, false, List, ◌⊎◌, Option, Result, Ok, Err}
 use Rattle.std.specs.Iterator.{Drains}
 use Rattle.std.specs.declared.io.Error.{Error}
 use Rattle.std.specs.declared.fs.FileType.{FileType as MachineType}
 use Rattle.ignore_base.specs.Text.{Bytes, Path}
 use Rattle.ignore_base.specs.declared.fault.Fault.{Fault}
-use Rattle.ignore_base.specs.declared.fault.Fault.TheVariants as fault
 use Rattle.ignore_files.specs.Heard as heard
 use Rattle.ignore_files.specs.Heard.{IsHeard}
 use Rattle.ignore_files.specs.Tree.{Answers}
@@ -15,7 +13,6 @@ use Rattle.ignore_files.specs.declared.machine.Machine.{Ghosts}
 use Rattle.ignore_files.specs.declared.stat.Stat.{Stat}
 use Rattle.ignore_files.specs.declared.types.Refusal.{Refusal}
 use Rattle.ignore_files.specs.declared.types.Refusal.TheVariants.{Memory}
-use Rattle.ignore_files.specs.declared.types.Refusal.TheVariants.{Fault as Refused}
 use Rattle.ignore_files.specs.declared.types.Listed.{Listed}
 use Rattle.ignore_files.specs.declared.types.Contents.{Contents}
 
@@ -49,11 +46,16 @@ MayStat {R} {M} {E} {D} {F} machine r path follow stat =
 abbrev pub IsReported : {R M E D F : Type 0} → Ghosts R M E D F → Result E Error → Listed → Type 0
 IsReported machine = heard.IsReported machine.file_name_gives machine.entry_type_gives
 
--- all things that a directory gives are reported, in their order
+-- an entry is gone: it isn't found when its kind is asked
+abbrev pub IsGone : {R M E D F : Type 0} → Ghosts R M E D F → Result E Error → Type 0
+IsGone machine = heard.IsGone machine.entry_type_gives
+
+-- all things that a directory gives are reported, in their order, but for the entries that are gone
 abbrev pub AreReported : {R M E D F : Type 0} → Ghosts R M E D F → List (Result E Error) → List Listed → Type 0
 AreReported machine = heard.AreReported machine.file_name_gives machine.entry_type_gives
 
--- the listing has all that an opened directory gives, from its first entry to its end
+-- the listing has all that an opened directory gives, from its first entry to its end, but for the
+-- entries that are gone
 abbrev pub IsListingOf : {R M E D F : Type 0} → Ghosts R M E D F → (D → Option (Result E Error) → D → Type 0) → D → List Listed → Type 0
 IsListingOf {R} {M} {E} {D} {F} machine next dir listing =
     (all : List (Result E Error)) × Drains next dir all × AreReported machine all listing

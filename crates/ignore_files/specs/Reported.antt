@@ -60,11 +60,16 @@ abbrev pub IsFaultOf : Error → Listed → Type 0
 IsFaultOf error (listed.Entry n kind) = ⊥
 IsFaultOf error (listed.Fault f) = reported_error error ≡ Refused f
 
--- an entry is reported under its name with its kind, or by the fault in place of its kind
+-- nothing was found
+abbrev pub IsNotFound : Error → Type 0
+IsNotFound error = error_kind error ≡ NotFound
+
+-- an entry is reported under its name with its kind, or by the fault in place of its kind, which
+-- isn't that nothing was found
 abbrev pub IsEntryOf : (Bytes → Type 0) → Result MachineType Error → Listed → Type 0
 IsEntryOf IsName (Ok t) (listed.Entry name kind) = IsName name × IsReportedAs t kind
 IsEntryOf IsName (Ok t) (listed.Fault f) = ⊥
-IsEntryOf IsName (Err error) item = IsFaultOf error item
+IsEntryOf IsName (Err error) item = (IsNotFound error → ⊥) × IsFaultOf error item
 
 -- bytes that were read until this refusal ended the reading
 abbrev pub cut_by : Bytes → Refusal → Result Contents Refusal

@@ -2,7 +2,7 @@
 ghost use Rattle.std.specs.Prelude.{◌≡◌, ◌↔◌, true, IsTrue, IsErrAnd, MatchResult};
 ghost use Rattle.std.specs.IoError.{error_kind, raw_os_error};
 ghost use Rattle.std.specs.declared.io.ErrorKind.TheVariants.{Interrupted};
-ghost use Rattle.ignore_files.specs.Reported.{refusal_of, reported_error, IsReportedAs};
+ghost use Rattle.ignore_files.specs.Reported.{refusal_of, reported_error, IsNotFound, IsReportedAs};
 ghost use Rattle.ignore_files.specs.Heard.{has_nul, IsHeard};
 
 use crate::types::{FileType, Refusal};
@@ -63,6 +63,13 @@ pub fn is_interrupted<T>(answer: &io::Result<T>) -> bool
         Ok(_) => false,
         Err(error) => error.kind() == io::ErrorKind::Interrupted,
     }
+}
+
+/// Whether nothing was found.
+pub fn is_not_found(error: &io::Error) -> bool
+    ensures { IsTrue result ↔ IsNotFound error.now }
+{
+    error.kind() == io::ErrorKind::NotFound
 }
 
 /// Asks, and asks again where a signal interrupted the system.

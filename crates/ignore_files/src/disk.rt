@@ -1,13 +1,13 @@
 //! The machine's files.
-ghost use Rattle.std.specs.Prelude.{◌≡◌, Ok, Err, IfOk, MatchResult, MatchOption, ⊤};
+ghost use Rattle.std.specs.Prelude.{◌≡◌, [], ◌∷◌, ◌++◌, Ok, Err, IfOk, MatchResult, MatchOption, ⊤};
 ghost use Rattle.std.specs.Path.{path_buf_bytes};
 ghost use Rattle.std.specs.Iterator.{IsFinite};
 ghost use Rattle.ignore_files.specs.Reported.{IsEntryOf};
-ghost use Rattle.ignore_files.specs.Machine.{metadata_gives, IsStatOf, IsReported, IsListingOf, IsReadOf, IsTruthful, Disk, MayStat};
+ghost use Rattle.ignore_files.specs.Machine.{metadata_gives, IsStatOf, IsReported, IsGone, IsListingOf, IsReadOf, IsTruthful, Disk, MayStat};
 ghost use Rattle.ignore_files.specs.Machine.{MayList, MayRead, MayCanonicalize};
 ghost use Rattle.ignore_files.specs.declared.types.Refusal.TheVariants.{Memory};
 
-use crate::ask::{ask, ask_at, fault_of, is_interrupted, kind_of, refusal_of};
+use crate::ask::{ask, ask_at, fault_of, is_interrupted, is_not_found, kind_of, refusal_of};
 use crate::files::Files;
 use crate::machine::Machine;
 use crate::stat::Stat;
@@ -34,9 +34,10 @@ const FIRST_READ: usize = 4 * 1024;
 /// all else `Fault::Other`.
 ///
 /// - `stat` and `identity`: one system call.
-/// - `list`: each thing that the directory gives, in its order; an entry whose kind can't be had
-///   is a fault without its name. A system call for each entry, since the kit drops the kinds
-///   that the system gives with the names.
+/// - `list`: each thing that the directory gives, in its order. An entry that is gone when its
+///   kind is asked is left out; one whose kind can't be had otherwise (asking is denied, or its
+///   path is too long) is a fault without its name. At a runtime of std a system call for each
+///   entry whose kind the system didn't leave with its name.
 /// - `contents`: what leads to neither a file nor a directory, as a pipe or a device, is
 ///   `Fault::Other` and isn't opened (unless it is put in a file's place between the two system
 ///   calls). What was read of a file stands before the fault that ended the reading.
@@ -127,31 +128,48 @@ where
         if is_interrupted(&entry) {
             return Ok(None);
         }
-        listed.push(listed_of::<R>(alloc, entry)?)?;
+        let item = listed_of::<R>(alloc, entry)?;
+        push_some(&mut listed, item)?;
     }
     Ok(Some(Listing::new(listed)))
 }
 
-/// As what one of the things that a directory gives is reported.
-fn listed_of<R: Machine>(alloc: Global, entry: io::Result<R::Entry>) -> Result<Listed, AllocError>
-    ensures { IfOk result (λ listed. IsReported R.Machine entry listed) }
+/// Pushes a thing, if there is one.
+fn push_some(listed: &mut Vec<Listed>, item: Option<Listed>) -> Result<(), AllocError>
+    ensures { IfOk result (λ _. MatchOption item (listed.new.items ≡ listed.old.items)
+        (λ x. listed.new.items ≡ listed.old.items ++ x ∷ [])) }
+{
+    if let Some(item) = item {
+        listed.push(item)?;
+    }
+    Ok(())
+}
+
+/// As what one of the things that a directory gives is reported, or `None` where it is gone.
+fn listed_of<R: Machine>(
+    alloc: Global,
+    entry: io::Result<R::Entry>,
+) -> Result<Option<Listed>, AllocError>
+    ensures { IfOk result (λ item. MatchOption item (IsGone R.Machine entry) (λ listed. IsReported R.Machine entry listed)) }
 {
     match entry {
-        Ok(entry) => entry_of::<R>(alloc, &entry),
-        Err(error) => Ok(Listed::Fault(fault_of(error)?)),
+        Ok(entry) => entry_of::<R>(alloc, entry),
+        Err(error) => Ok(Some(Listed::Fault(fault_of(error)?))),
     }
 }
 
-/// As what an entry is reported.
-fn entry_of<R: Machine>(alloc: Global, entry: &R::Entry) -> Result<Listed, AllocError>
-    ensures { IfOk result (λ listed. IsReported R.Machine (Ok entry.now) listed) }
+/// As what an entry is reported, or `None` where it is gone.
+fn entry_of<R: Machine>(alloc: Global, entry: R::Entry) -> Result<Option<Listed>, AllocError>
+    ensures { IfOk result (λ item. MatchOption item (IsGone R.Machine (Ok entry))
+        (λ listed. IsReported R.Machine (Ok entry) listed)) }
 {
-    match ask(|| R::entry_type(entry)) {
-        Ok(kind) => Ok(Listed::Entry {
-            name: Name::new(String::from_str(alloc, R::file_name(entry))?),
+    match ask(|| R::entry_type(&entry)) {
+        Ok(kind) => Ok(Some(Listed::Entry {
+            name: Name::new(R::into_name(alloc, entry)?),
             file_type: kind_of(kind),
-        }),
-        Err(error) => Ok(Listed::Fault(fault_of(error)?)),
+        })),
+        Err(error) if is_not_found(&error) => Ok(None),
+        Err(error) => Ok(Some(Listed::Fault(fault_of(error)?))),
     }
 }
 

@@ -1,13 +1,15 @@
 //! The questions that are put to a system about its files.
-ghost use Rattle.std.specs.Prelude.{IfOk, MatchResult, Ok, Err};
+ghost use Rattle.std.specs.Prelude.{string_bytes, IfOk, MatchResult, Ok, Err};
 ghost use Rattle.std.specs.Path.{path_buf_bytes};
 ghost use Rattle.std.specs.Iterator.{IsFinite};
 ghost use Rattle.std.specs.Io.{StartsWith, appended_bytes};
 
-use std::alloc::Global;
+use crate::records::{RuntimeEntry, entries_of};
+use std::alloc::{AllocError, Global};
 use std::io::Read;
 use std::os::unix::fs::MetadataExt;
 use std::path::PathBuf;
+use std::vec::IntoIter;
 use std::{fs, io, rt};
 
 /// What a system is asked about its files, in the terms of std, and what it may answer.
@@ -88,6 +90,13 @@ pub trait Machine {
     fn file_name<'e>(entry: &'e Self::Entry) -> &'e str
         ensures { file_name_gives entry.now result.now };
 
+    /// The name of an entry, by value.
+    fn into_name(alloc: Global, entry: Self::Entry) -> Result<String, AllocError>
+        ensures { IfOk result (λ name. file_name_gives entry (string_bytes name)) }
+    {
+        String::from_str(alloc, Self::file_name(&entry))
+    }
+
     /// The type of an entry, a link not followed.
     fn entry_type(entry: &Self::Entry) -> io::Result<fs::FileType>
         ensures { entry_type_gives entry.now result };
@@ -122,9 +131,9 @@ where
 {
     type Metadata = fs::Metadata;
 
-    type Entry = fs::DirEntry<R, Global>;
+    type Entry = RuntimeEntry;
 
-    type Dir = fs::ReadDir<R, Global>;
+    type Dir = IntoIter<io::Result<RuntimeEntry>, Global>;
 
     type File = R::File;
 
@@ -152,16 +161,23 @@ where
         metadata.ino()
     }
 
-    fn read_dir(&self, path: &str) -> io::Result<fs::ReadDir<R, Global>> {
-        fs::read_dir(self, path)
+    fn read_dir(&self, path: &str) -> io::Result<IntoIter<io::Result<RuntimeEntry>, Global>> {
+        Ok(entries_of(self.alloc(), self, path)?.into_iter())
     }
 
-    fn file_name<'e>(entry: &'e fs::DirEntry<R, Global>) -> &'e str {
-        entry.file_name()
+    fn file_name<'e>(entry: &'e RuntimeEntry) -> &'e str {
+        entry.name.as_str()
     }
 
-    fn entry_type(entry: &fs::DirEntry<R, Global>) -> io::Result<fs::FileType> {
-        entry.file_type()
+    fn into_name(_alloc: Global, entry: RuntimeEntry) -> Result<String, AllocError> {
+        Ok(entry.name)
+    }
+
+    fn entry_type(entry: &RuntimeEntry) -> io::Result<fs::FileType> {
+        match entry.file_type {
+            Some(file_type) => Ok(file_type),
+            None => Err(io::Error::from(io::ErrorKind::NotFound)),
+        }
     }
 
     fn open(&self, path: &str) -> io::Result<R::File> {

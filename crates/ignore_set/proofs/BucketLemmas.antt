@@ -1,14 +1,15 @@
 -- What the buckets of needles say, and how one needle more is put into them.
-use Rattle.std.proofs.Common.{◌≡◌, ◌≢◌, ℕ, zero, suc, ◌<◌, ◌≤◌, List, [], ◌∷◌, ◌++◌, length, drop, set, get_or}
+use Rattle.std.proofs.Common.{◌≡◌, ◌≢◌, ℕ, zero, suc, ◌+◌, ◌<◌, ◌≤◌, nat_lt, true, false, cond, ◌⊎◌, List, [], ◌∷◌, ◌++◌, length, drop, set}
 use Rattle.std.proofs.Common.{slice_get, Some, refl, sym, ap, subst, ◌∙◌, inl, inr, arith, Vec, Global}
 use Rattle.std.specs.List.{IsAmong}
 use Rattle.std.specs.Str.Iter.{HasSubslice}
+use Rattle.std.proofs.lemmas.Bool.Decides.{nat_tests}
 use Rattle.std.proofs.lemmas.List.{length-append}
 use Rattle.std.proofs.lemmas.Option.{slice_get_within}
 use Rattle.std.proofs.Math.Seq.{drop-append_seam}
 use Rattle.ignore_set.specs.declared.buckets.Buckets.{Buckets}
 use Rattle.ignore_set.specs.Buckets.{AreBucketsOf, IsFrontOf, IsPast}
-use Rattle.ignore_set.specs.Others.{IndexedText, bucket_at, bucket_of}
+use Rattle.ignore_set.specs.Others.{IndexedText, bucket_of, eight_at, eight_of, five_at, five_of, three_of}
 use Rattle.ignore_set.proofs.IndexLemmas.{some_same, split}
 use Rattle.ignore_set.proofs.SlotLemmas.{got_append, among_more, among_end}
 
@@ -99,11 +100,51 @@ put_short old new needles n small long_is short_is are = record {
   ];
 }
 
-pub bucket_fits : (text : List ℕ) → bucket_of text < 4096
-bucket_fits [] = omega arith
-bucket_fits (a ∷ []) = omega arith
-bucket_fits (a ∷ b ∷ []) = omega arith
-bucket_fits (a ∷ b ∷ c ∷ text) = omega arith
+below : (d n : ℕ) → d < n → nat_lt d n ≡ true
+below d n h = grind (arith, nat_tests)
+
+not_below : (d n : ℕ) → n ≤ d → nat_lt d n ≡ false
+not_below d n h = grind (arith, nat_tests)
+
+three_fits : (text : List ℕ) → three_of text < 4096
+three_fits [] = omega arith
+three_fits (a ∷ []) = omega arith
+three_fits (a ∷ b ∷ []) = omega arith
+three_fits (a ∷ b ∷ c ∷ text) = omega arith
+
+-- the bucket of a text, by how long the text is
+pub bucket_of_three : (text : List ℕ) → length text < 5 → bucket_of text ≡ three_of text
+bucket_of_three text short =
+    ap (λ b. cond b (three_of text) (cond (nat_lt (length text) 8) (five_of text) (eight_of text))) (below (length text) 5 short)
+
+pub bucket_of_five : (text : List ℕ) → 5 ≤ length text → length text < 8 → bucket_of text ≡ five_of text
+bucket_of_five text long short =
+    ap (λ b. cond b (three_of text) (cond (nat_lt (length text) 8) (five_of text) (eight_of text))) (not_below (length text) 5 long)
+    ∙ ap (λ b. cond b (five_of text) (eight_of text)) (below (length text) 8 short)
+
+pub bucket_of_eight : (text : List ℕ) → 8 ≤ length text → bucket_of text ≡ eight_of text
+bucket_of_eight text long =
+    ap (λ b. cond b (three_of text) (cond (nat_lt (length text) 8) (five_of text) (eight_of text)))
+    (not_below (length text) 5 (omega (arith, long)))
+    ∙ ap (λ b. cond b (five_of text) (eight_of text)) (not_below (length text) 8 long)
+
+-- a text has at most four bytes, or five to seven, or more
+pub by_length : {Z : Type 0} (k : ℕ) → (k < 5 → Z) → (5 ≤ k → k < 8 → Z) → (8 ≤ k → Z) → Z
+by_length k three five eight = elim (split k 5) [
+  | inl less ↦ three less
+  | inr (inl same) ↦ five (omega (arith, same)) (omega (arith, same))
+  | inr (inr more) ↦ elim (split k 8) [
+    | inl less ↦ five (omega (arith, more)) less
+    | inr (inl same) ↦ eight (omega (arith, same))
+    | inr (inr many) ↦ eight (omega (arith, many))
+  ]
+]
+
+pub bucket_fits : (text : List ℕ) → bucket_of text < 16384
+bucket_fits text = by_length (length text)
+    (λ short. omega (arith, bucket_of_three text short, three_fits text))
+    (λ long short. omega (arith, bucket_of_five text long short))
+    (λ long. omega (arith, bucket_of_eight text long))
 
 pub below_three : (k : ℕ) → (3 ≤ k → ⊥) → k < 3
 below_three k short = elim (split k 3) [
@@ -112,15 +153,40 @@ below_three k short = elim (split k 3) [
   | inr (inr more) ↦ absurd (short (omega (arith, more)))
 ]
 
--- A text that begins with a needle has its first three bytes.
+-- A text that begins with a needle has its first bytes.
 
-pub first_bucket : (text front : List ℕ) → 3 ≤ length front → IsFrontOf text front
-    → bucket_of front ≡ bucket_at (get_or text 0 0) (get_or text 1 0) (get_or text 2 0)
-first_bucket text [] long f = absurd (omega (arith, long))
-first_bucket text (a ∷ []) long f = absurd (omega (arith, long))
-first_bucket text (a ∷ b ∷ []) long f = absurd (omega (arith, long))
-first_bucket text (a ∷ b ∷ c ∷ front) long (rest, e) =
-    subst (λ t. bucket_at a b c ≡ bucket_at (get_or t 0 0) (get_or t 1 0) (get_or t 2 0)) (sym e) refl
+three_front : (k : ℕ) (front rest : List ℕ) → k + 3 ≤ length front → three_of (drop k (front ++ rest)) ≡ three_of (drop k front)
+three_front k [] rest long = absurd (omega (arith, long))
+three_front zero (a ∷ []) rest long = absurd (omega (arith, long))
+three_front zero (a ∷ b ∷ []) rest long = absurd (omega (arith, long))
+three_front zero (a ∷ b ∷ c ∷ front) rest long = refl
+three_front (suc k) (a ∷ front) rest long = three_front k front rest (omega (arith, long))
+
+three_same : (k : ℕ) (text front : List ℕ) → k + 3 ≤ length front → IsFrontOf text front
+    → three_of (drop k front) ≡ three_of (drop k text)
+three_same k text front long (rest, e) = sym (ap (λ t. three_of (drop k t)) e ∙ three_front k front rest long)
+
+-- so it is in one of three buckets
+pub front_bucket : (text front : List ℕ) → 3 ≤ length front → IsFrontOf text front
+    → (bucket_of front ≡ three_of text) ⊎ ((bucket_of front ≡ five_of text) ⊎ (bucket_of front ≡ eight_of text))
+front_bucket text front long f = by_length (length front)
+    (λ short. inl (bucket_of_three front short ∙ three_same 0 text front long f))
+    (λ five short. inr (inl (bucket_of_five front five short
+    ∙ (ap (λ a. five_at a (three_of (drop 2 front))) (three_same 0 text front long f)
+    ∙ ap (λ a. five_at (three_of text) a) (three_same 2 text front (omega (arith, five)) f)))))
+    (λ eight. inr (inr (bucket_of_eight front eight
+    ∙ (ap (λ a. eight_at a (three_of (drop 2 front)) (three_of (drop 5 front))) (three_same 0 text front long f)
+    ∙ (ap (λ a. eight_at (three_of text) a (three_of (drop 5 front))) (three_same 2 text front (omega (arith, eight)) f)
+    ∙ ap (λ a. eight_at (three_of text) (three_of (drop 2 text)) a) (three_same 5 text front (omega (arith, eight)) f))))))
+
+-- a text that ends before has no three bytes from a place on
+pub three_missing : (k : ℕ) (text : List ℕ) → length text < k + 3 → three_of (drop k text) ≡ 0
+three_missing zero [] short = refl
+three_missing zero (a ∷ []) short = refl
+three_missing zero (a ∷ b ∷ []) short = refl
+three_missing zero (a ∷ b ∷ c ∷ text) short = absurd (omega (arith, short))
+three_missing (suc k) [] short = refl
+three_missing (suc k) (a ∷ text) short = three_missing k text (omega (arith, short))
 
 pub front_long : (text front : List ℕ) → IsFrontOf text front → length front ≤ length text
 front_long text front (rest, e) = omega (arith, ap length e, length-append front rest)

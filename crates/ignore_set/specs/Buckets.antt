@@ -1,4 +1,4 @@
--- Where the needles of a large set stand, by their first three bytes.
+-- Where the needles of a large set stand, by their first bytes.
 use Rattle.std.specs.Prelude.{◌≡◌, ℕ, ◌<◌, ◌≤◌, ◌++◌, List, length, slice_get, Some, Vec}
 use Rattle.std.specs.Global.{Global}
 use Rattle.std.specs.List.{IsAmong}
@@ -14,10 +14,10 @@ IsFrontOf text front = (rest : List ℕ) × (text ≡ front ++ rest)
 abbrev pub IsPast : List ℕ → List IndexedText → ℕ → Type 0
 IsPast text needles end = (j : ℕ) (n : IndexedText) → end ≤ j → slice_get needles j ≡ Some n → HasSubslice text n.text → ⊥
 
--- there are 4,096 buckets, and each needle's place is in the one of its first three bytes, or among
--- the short ones
+-- there are 16,384 buckets, and each needle's place is in the one of its first bytes, or among the
+-- short ones
 pub record AreBucketsOf (buckets : Buckets) (needles : List IndexedText) : Type 0 where
-  pub count : length buckets.long.items ≡ 4096
+  pub count : length buckets.long.items ≡ 16384
   pub long : (j : ℕ) (n : IndexedText) → slice_get needles j ≡ Some n → 3 ≤ length n.text
       → (places : Vec ℕ Global) × (slice_get buckets.long.items (bucket_of n.text) ≡ Some places) × IsAmong places.items j
   pub short : (j : ℕ) (n : IndexedText) → slice_get needles j ≡ Some n → length n.text < 3 → IsAmong buckets.short.items j

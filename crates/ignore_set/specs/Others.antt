@@ -1,5 +1,5 @@
 -- Patterns that no table has, and their needles: texts without which they don't match.
-use Rattle.std.specs.Prelude.{◌≡◌, ◌⊎◌, ℕ, ◌+◌, ◌*◌, ◌^◌, ◌%◌, ◌<◌, ◌≤◌, Bool, List, [], ◌∷◌, slice_get, Some, bit_or, refl}
+use Rattle.std.specs.Prelude.{◌≡◌, ◌⊎◌, ℕ, ◌+◌, ◌*◌, ◌^◌, ◌%◌, ◌<◌, ◌≤◌, nat_lt, Bool, cond, List, [], ◌∷◌, length, drop, slice_get, Some, bit_or, refl}
 use Rattle.std.specs.Coded.{Coded, code_by, coded×, coded_list, coded_ℕ}
 use Rattle.std.specs.Str.{chars, IsUtf8}
 use Rattle.std.specs.Str.Iter.{HasSubslice}
@@ -38,16 +38,35 @@ mask_of (a ∷ text) = bit_or (first_bit (a ∷ text)) (mask_of text)
 abbrev pub IsMaskOver : List ℕ → ℕ → Type 0
 IsMaskOver text mask = (inside : List ℕ) → HasSubslice text inside → bit_or (mask_of inside) mask ≡ mask
 
--- one of 4,096 buckets, for three bytes
-abbrev pub bucket_at : ℕ → ℕ → ℕ → ℕ
-bucket_at a b c = (a * 577 + b * 37 + c) % 4096
+-- one of 4,096 numbers, for three bytes
+abbrev pub mixed : ℕ → ℕ → ℕ → ℕ
+mixed a b c = (a * 577 + b * 37 + c) % 4096
 
--- the bucket of the first three bytes, or the first one where there are fewer
+-- the number of the first three bytes, or 0 where there are fewer
+abbrev pub three_of : List ℕ → ℕ
+three_of [] = 0
+three_of (a ∷ []) = 0
+three_of (a ∷ b ∷ []) = 0
+three_of (a ∷ b ∷ c ∷ text) = mixed a b c
+
+-- one of 4,096 buckets more, for the numbers of bytes 0 to 2 and 2 to 4
+abbrev pub five_at : ℕ → ℕ → ℕ
+five_at first second = 4096 + (first * 61 + second) % 4096
+
+-- one of 8,192 buckets more, for these numbers and that of bytes 5 to 7
+abbrev pub eight_at : ℕ → ℕ → ℕ → ℕ
+eight_at first second third = 8192 + (first * 67 + second * 131 + third) % 8192
+
+-- the bucket of the first five bytes, and of the first eight
+abbrev pub five_of : List ℕ → ℕ
+five_of text = five_at (three_of text) (three_of (drop 2 text))
+
+abbrev pub eight_of : List ℕ → ℕ
+eight_of text = eight_at (three_of text) (three_of (drop 2 text)) (three_of (drop 5 text))
+
+-- the bucket of a text: by its first three bytes, by five where it has so many, or by eight
 abbrev pub bucket_of : List ℕ → ℕ
-bucket_of [] = 0
-bucket_of (a ∷ []) = 0
-bucket_of (a ∷ b ∷ []) = 0
-bucket_of (a ∷ b ∷ c ∷ text) = bucket_at a b c
+bucket_of text = cond (nat_lt (length text) 5) (three_of text) (cond (nat_lt (length text) 8) (five_of text) (eight_of text))
 
 -- for each pattern of no form, the texts one of which is in each text that it matches, by rising
 -- indices

@@ -1,15 +1,16 @@
-//! Where the needles of a large set stand, by their first three bytes.
+//! Where the needles of a large set stand, by their first bytes.
 ghost use Rattle.std.specs.Prelude.{◌≡◌, ◌+◌, ◌≤◌, ◌<◌, ◌++◌, ◌∷◌, [], ℕ, IfOk, List, Some, false, length, slice_get, drop};
 ghost use Rattle.std.specs.List.{IsAmong};
 ghost use Rattle.std.specs.Str.Iter.{HasSubslice};
 ghost use Rattle.ignore_set.specs.Buckets.{AreBucketsOf, IsFrontOf, IsPast};
-ghost use Rattle.ignore_set.specs.Others.{IndexedText};
+ghost use Rattle.ignore_set.specs.Others.{IndexedText, bucket_of};
 
-use crate::needle::{Needle, bucket_of};
+use crate::needle::{Needle, eight_at, five_at, three_from};
 use std::alloc::{AllocError, Global};
 
-/// The places of needles in their list: of those of at least three bytes under one of 4,096
-/// buckets, by their first three, and of the shorter ones. Or no bucket, where the needles are few.
+/// The places of needles in their list: of those of at least three bytes under one of 16,384
+/// buckets, by their first three, five or eight bytes, and of the shorter ones. Or no bucket, where
+/// the needles are few.
 #[derive(Debug, Drop)]
 pub(crate) struct Buckets {
     long: Vec<Vec<usize>>,
@@ -59,7 +60,7 @@ impl Buckets {
         ensures { IfOk result (λ buckets. AreBucketsOf buckets []) }
     {
         let mut long = Vec::new(alloc);
-        for _ in 0..4096usize {
+        for _ in 0..16384usize {
             long.push(Vec::new(alloc))?;
         }
         Ok(Buckets {
@@ -70,7 +71,7 @@ impl Buckets {
 
     /// Puts the place of the needle that follows those that these buckets are of.
     fn put(&mut self, needle: &Needle, place: usize) -> Result<(), AllocError>
-        requires { length self.now.long.items ≡ 4096 }
+        requires { length self.now.long.items ≡ 16384 }
         ensures { IfOk result (λ _. (needles : List IndexedText) → AreBucketsOf self.old needles → length needles ≡ place
             → AreBucketsOf self.new (needles ++ needle.now ∷ [])) }
     {
@@ -102,11 +103,37 @@ impl Buckets {
     {
         let mut end = least;
         for at in (0..bytes.len().saturating_sub(2)).rev() {
-            let rest = &bytes[at..];
-            let places = self.long[bucket_of(rest[0], rest[1], rest[2])].as_slice();
-            end = end_of_front(needles, places, rest, end);
+            end = self.end_of_buckets(needles, &bytes[at..], end);
         }
         end
+    }
+
+    /// As `end_of_front`, of the buckets in which a needle with which the text begins may be.
+    fn end_of_buckets(&self, needles: &[Needle], bytes: &[u8], least: usize) -> usize
+        requires { AreBucketsOf self.now needles.now }
+        ensures past { (j : ℕ) (n : IndexedText) → slice_get needles.now j ≡ Some n → 3 ≤ length n.text
+            → IsFrontOf bytes.now n.text → j < result }
+        ensures least { least ≤ result }
+        ensures within { least ≤ length needles.now → result ≤ length needles.now }
+    {
+        let first = three_from(bytes, 0);
+        let second = three_from(bytes, 2);
+        let third = three_from(bytes, 5);
+        let three = self.end_of_bucket(needles, first, bytes, least);
+        let five = self.end_of_bucket(needles, five_at(first, second), bytes, three);
+        self.end_of_bucket(needles, eight_at(first, second, third), bytes, five)
+    }
+
+    /// As `end_of_front`, of one bucket.
+    fn end_of_bucket(&self, needles: &[Needle], bucket: usize, bytes: &[u8], least: usize) -> usize
+        requires buckets { AreBucketsOf self.now needles.now }
+        requires bucket { bucket < 16384 }
+        ensures past { (j : ℕ) (n : IndexedText) → slice_get needles.now j ≡ Some n → 3 ≤ length n.text
+            → bucket_of n.text ≡ bucket → IsFrontOf bytes.now n.text → j < result }
+        ensures least { least ≤ result }
+        ensures within { least ≤ length needles.now → result ≤ length needles.now }
+    {
+        end_of_front(needles, self.long[bucket].as_slice(), bytes, least)
     }
 }
 

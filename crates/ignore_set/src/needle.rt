@@ -2,7 +2,7 @@
 ghost use Rattle.std.specs.Prelude.{◌≡◌, ◌↔◌, ◌++◌, ◌*◌, ◌^◌, ◌+◌, ◌<◌, ◌≤◌, ℕ, List, IsTrue, IfOk, SomeIff, drop, length, map, string_bytes};
 ghost use Rattle.std.specs.Str.Iter.{HasSubslice};
 ghost use Rattle.ignore_set.specs.Buckets.{IsFrontOf};
-ghost use Rattle.ignore_set.specs.Others.{IsMaskOver, bit_of, bucket_at, bucket_of, first_bit, mask_of};
+ghost use Rattle.ignore_set.specs.Others.{IsMaskOver, bit_of, bucket_of, eight_at, first_bit, five_at, mask_of, mixed, three_of};
 
 use std::alloc::AllocError;
 use std::marker::Model;
@@ -64,7 +64,7 @@ impl Needle {
         text.starts_with(self.text.as_bytes())
     }
 
-    /// The bucket of its first three bytes; `None` where it has fewer.
+    /// The bucket of its first bytes; `None` where it has fewer than three.
     pub(crate) fn bucket(&self) -> Option<usize>
         ensures { SomeIff result (3 ≤ length self.now.text) (bucket_of self.now.text) }
     {
@@ -72,7 +72,7 @@ impl Needle {
         if bytes.len() < 3 {
             return None;
         }
-        Some(bucket_of(bytes[0], bytes[1], bytes[2]))
+        Some(bucket_of(bytes))
     }
 }
 
@@ -113,12 +113,56 @@ pub(crate) fn bit_of(a: u8, b: u8, c: u8) -> u64
     1u64 << ((usize::from(a) * 37 + usize::from(b) * 101 + usize::from(c) * 5) % 64)
 }
 
-/// One of 4,096 buckets, for three bytes.
-pub(crate) fn bucket_of(a: u8, b: u8, c: u8) -> usize
-    ensures value { result ≡ bucket_at a b c }
+/// The bucket of a text that has at least three bytes.
+fn bucket_of(bytes: &[u8]) -> usize
+    ensures { result ≡ bucket_of bytes.now }
+{
+    let first = three_from(bytes, 0);
+    if bytes.len() < 5 {
+        return first;
+    }
+    let second = three_from(bytes, 2);
+    if bytes.len() < 8 {
+        return five_at(first, second);
+    }
+    eight_at(first, second, three_from(bytes, 5))
+}
+
+/// One of 4,096 numbers, for the three bytes from a place on; 0 where there are fewer.
+pub(crate) fn three_from(bytes: &[u8], at: usize) -> usize
+    requires { at < 8 }
+    ensures value { result ≡ three_of (drop at bytes.now) }
+    ensures within { result < 4096 }
+{
+    if bytes.len() < at + 3 {
+        return 0;
+    }
+    mixed(bytes[at], bytes[at + 1], bytes[at + 2])
+}
+
+fn mixed(a: u8, b: u8, c: u8) -> usize
+    ensures value { result ≡ mixed a b c }
     ensures within { result < 4096 }
 {
     (usize::from(a) * 577 + usize::from(b) * 37 + usize::from(c)) % 4096
+}
+
+/// The bucket of five bytes, by the numbers of the first three and of the last three.
+pub(crate) fn five_at(first: usize, second: usize) -> usize
+    requires { (first < 4096) × (second < 4096) }
+    ensures value { result ≡ five_at first second }
+    ensures within { result < 16384 }
+{
+    4096 + (first * 61 + second) % 4096
+}
+
+/// The bucket of eight bytes, by these numbers of the first five, and that of the last three.
+pub(crate) fn eight_at(first: usize, second: usize, third: usize) -> usize
+    requires { (first < 4096) × (second < 4096) × (third < 4096) }
+    ensures value { result ≡ eight_at first second third }
+    ensures within { result < 16384 }
+{
+    8192 + (first * 67 + second * 131 + third) % 8192
 }
 
 /// Appends these needles of the pattern at an index.

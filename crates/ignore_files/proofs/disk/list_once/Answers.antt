@@ -1,4 +1,4 @@
-use Rattle.std.proofs.Common.{rules, ◌≡◌, Ok, Err, subst, true, false}
+use Rattle.std.proofs.Common.{rules, subst}
 use Rattle.ignore_files.proofs.Heard.{listed-nul, listed-found, listed-refused, listed-interrupted}
 use Rattle.ignore_files.proofs.disk.list_once.Goals as goal
 
