@@ -1,22 +1,39 @@
 # Completions of ig for bash: source this file, or put it into bash-completion's folder.
 _ig() {
-    local word=${COMP_WORDS[COMP_CWORD]} before=${COMP_WORDS[COMP_CWORD - 1]}
-    local options="
-        --files --dirs --links -H --hidden -I --no-ignore --no-ignore-vcs
+    local word=${COMP_WORDS[COMP_CWORD]} before=${COMP_WORDS[COMP_CWORD - 1]} command=ls options
+    [ "$COMP_CWORD" -lt 2 ] || case ${COMP_WORDS[1]} in
+        ignored | why | unused | types) command=${COMP_WORDS[1]} ;;
+    esac
+    local rules="
+        -H --hidden -. -I --no-ignore -u --unrestricted --no-ignore-vcs
         --no-ignore-parent --no-ignore-global --no-ignore-exclude
-        --no-ignore-dot --no-require-git --ignore-file --ignore-name
-        --ignore-file-case-insensitive --git-trailing-spaces -L --follow -d
-        --max-depth --min-depth --max-filesize --one-file-system -g --glob
-        --iglob -t --type -T --type-not --type-add -0 --null --sort -q --quiet
-        --stats --stdin -z --zero -v --verbose -n --non-matching -h --help -V
-        --version
+        --no-ignore-dot --no-ignore-files --no-require-git --ignore-file
+        --ignore-name --ignore-file-case-insensitive --git-trailing-spaces
+        -q --quiet --no-messages -j --threads --no-config
     "
+    local chosen="
+        --max-filesize -g --glob --iglob --glob-case-insensitive -E --exclude
+        -e --extension -t --type -T --type-not --type-add
+    "
+    local kinds="--files --dirs --links -d --max-depth"
+    local printed="-0 --null --print0 --stats"
+    case $command in
+        ls) options="$rules $chosen $kinds $printed -L --follow --min-depth --one-file-system
+            --sort --sort-files --type-list" ;;
+        ignored) options="$rules $chosen $kinds $printed -v --verbose" ;;
+        why) options="$rules $chosen --stdin -z --zero --only-ignored -v --verbose -n
+            --non-matching --no-index" ;;
+        unused) options="$rules $printed" ;;
+        types) options="--type-add" ;;
+    esac
+    options="$options -h --help -V --version"
     case $before in
         --sort) COMPREPLY=($(compgen -W "name path none" -- "$word")) ;;
         -t | -T | --type | --type-not)
             COMPREPLY=($(compgen -W "$(ig types 2>/dev/null | sed 's/:.*//')" -- "$word"))
             ;;
         --ignore-name | -d | --max-depth | --min-depth | --max-filesize | -g | --glob | --iglob | --type-add) COMPREPLY=() ;;
+        -E | --exclude | -e | --extension | -j | --threads) COMPREPLY=() ;;
         *)
             case $word in
                 -*) COMPREPLY=($(compgen -W "$options" -- "$word")) ;;

@@ -36,8 +36,9 @@ pub struct Bounds<'v> {
     pub follows: bool,
     /// Whether a walk stays on one device.
     pub has_devices: bool,
-    /// Whether the rules from outside are read, too.
-    pub has_outside: bool,
+    /// The paths that the rules from outside are asked of (`outside_paths`), where their calls are
+    /// among those that are bounded.
+    pub outside: &'v [String],
 }
 
 /// The questions about single paths that a matcher was asked since it kept nothing.
@@ -85,7 +86,7 @@ impl<'v> Bounds<'v> {
             has_sizes: false,
             follows: false,
             has_devices: false,
-            has_outside: false,
+            outside: &[],
         }
     }
 
@@ -164,7 +165,7 @@ impl<'v> Bounds<'v> {
     fn roles(&self, path: &str) -> u64 {
         let is_standard = matches!(last_name(path), ".ignore" | ".gitignore" | ".git")
             || path.ends_with(".git/info/exclude");
-        let mut roles = (is_standard as u64).saturating_add(self.has_outside as u64);
+        let mut roles = (is_standard as u64).saturating_add(self.times_outside(path));
         for custom in &self.customs {
             if is_at_end(*custom, path) {
                 roles = roles.saturating_add(1);
@@ -173,12 +174,27 @@ impl<'v> Bounds<'v> {
         roles
     }
 
-    /// Whether a path below the only root is asked that isn't in a directory that is listed.
+    /// How often a path is one that the rules from outside are asked of.
+    fn times_outside(&self, path: &str) -> u64 {
+        let mut times = 0u64;
+        for other in self.outside {
+            if other.as_str() == path {
+                times = times.saturating_add(1);
+            }
+        }
+        times
+    }
+
+    /// Whether a path below the only root is asked that isn't in a directory that is listed. The
+    /// user's own files of git may lie there.
     fn is_stray(&self, calls: &Calls, path: &str) -> bool {
         let [root] = self.roots.as_slice() else {
             return false;
         };
         if self.has_devices || !self.customs.is_empty() || !holds(*root, path) || is_of_git(path) {
+            return false;
+        }
+        if self.times_outside(path) > 0 {
             return false;
         }
         match path.rsplit_once('/') {
@@ -191,7 +207,7 @@ impl<'v> Bounds<'v> {
 
     /// How often kinds may be asked for the rules from outside: of git's excludes file.
     fn kinds_outside(&self) -> u64 {
-        self.has_outside as u64
+        !self.outside.is_empty() as u64
     }
 
     /// How often kinds may be asked for the load of so many directories.

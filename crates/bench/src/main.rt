@@ -2,7 +2,6 @@
 //! tables of what it prints.
 #![tactic(auto)]
 
-mod ask;
 mod build;
 mod check;
 mod floor;
@@ -20,7 +19,7 @@ use input::words;
 use std::process::ExitCode;
 
 const USAGE: &str =
-    "usage: bench check | globs GLOBS TEXTS ROUNDS | rules RULES TEXTS COUNT ROUNDS | list RULES PATHS | queries ROOT PATHS ROUNDS | build RULES ROUNDS | ask RULES PATHS COUNT | floor FOLDERS";
+    "usage: bench check | globs GLOBS TEXTS ROUNDS | rules RULES TEXTS COUNT ROUNDS | list RULES PATHS | queries ROOT PATHS ROUNDS | build RULES ROUNDS | floor FOLDERS";
 
 /// Runs the command in the words; returns whether there is such a command.
 fn run(rt: &HostRuntime, words: &[String]) -> Result<bool, Error> {
@@ -40,9 +39,6 @@ fn run(rt: &HostRuntime, words: &[String]) -> Result<bool, Error> {
         }
         [command, rules, rounds] if command.as_str() == "build" => {
             build::time_builds(rt, rules.as_str(), number(rounds.as_str()))?;
-        }
-        [command, rules, paths, count] if command.as_str() == "ask" => {
-            ask::ask(rt, rules.as_str(), paths.as_str(), number(count.as_str()))?;
         }
         [command, folders] if command.as_str() == "floor" => floor::floor(rt, folders.as_str())?,
         [command, rules, paths] if command.as_str() == "list" => {

@@ -22,8 +22,7 @@ use Rattle.ignore_walk.specs.Nexts.{NextGives}
 use Rattle.ignore_walk.specs.declared.callbacks.Callbacks.{Ghosts as Callbacks}
 use Rattle.ignore_walk.specs.declared.callbacks.Order.{Order}
 use Rattle.ignore_walk.specs.declared.walk.Walk.{Walk}
-use Rattle.ignore.specs.Asked.{AddsIgnoreBy, AddsIgnoreIn, explicit_start}
-use Rattle.ignore.specs.Builder.{with_explicit}
+use Rattle.ignore.specs.Asked.{AddsIgnoreBy, AddsIgnoreIn, explicit_start, with_explicit}
 use Rattle.ignore.specs.Headline.{Headline, IsListIn}
 use Rattle.ignore.specs.declared.options.WalkOptions.{WalkOptions}
 

@@ -6,9 +6,10 @@ use Rattle.ignore_files.specs.declared.env.Env.{Env}
 use Rattle.ignore_types.specs.Types.{Draft}
 use Rattle.ignore.specs.Asked.{AddsIgnoreIn, base_dir}
 use Rattle.ignore.specs.declared.options.WalkOptions.{WalkOptions}
-use Rattle.ig_options.specs.Files.{AddsFiles}
+use Rattle.ig_options.specs.Files.{AddsFiles, named_files}
 use Rattle.ig_options.specs.declared.options.Options.{Options}
 use Rattle.ig_commands.specs.Listing.{IsAsked}
+use Rattle.ig_commands.specs.Surveys.{IsAskedMet}
 
 one_adds : (tree : Tree) (path : List ℕ) (dir : Option (List ℕ)) (old new : WalkOptions) (problem : Option Problem)
     → AddsIgnoreIn tree path dir old new problem → new.roots ≡ old.roots
@@ -23,4 +24,10 @@ all_add tree env (path ∷ paths) old new problems h =
 
 pub no_roots : (tree : Tree) (env : Env) (o : Options) (first : Draft) (b : WalkOptions) (problems : List (Option Problem))
     → IsAsked tree env o first b problems → b.roots ≡ []
-no_roots tree env o first b problems h = all_add tree env o.ignore_files _ b problems h.files
+no_roots tree env o first b problems h = all_add tree env (named_files o) _ b problems h.files
+
+-- nor have those by which hidden entries are met
+pub none_met : (tree : Tree) (env : Env) (o : Options) (first : Draft) (b : WalkOptions) (problems : List (Option Problem))
+    → IsAskedMet tree env o first b problems → b.roots ≡ []
+none_met tree env o first b problems h =
+    ap (λ (w : WalkOptions). w.roots) h.2 ∙ no_roots tree env o first h.0 problems h.1

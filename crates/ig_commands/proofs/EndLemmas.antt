@@ -1,12 +1,12 @@
 -- Early ends of what writes nothing to the output.
-use Rattle.std.proofs.Common.{◌≡◌, ◌⊎◌, ℕ, List, [], ◌∷◌, ◌++◌, Option, inl, inr, subst, sym}
+use Rattle.std.proofs.Common.{◌≡◌, ℕ, List, [], ◌∷◌, ◌++◌, Option, inl, inr, subst, sym}
 use Rattle.std.proofs.lemmas.List.{append-nil}
 use Rattle.std.specs.Io.KnownBytes.{Appends}
 use Rattle.std.specs.List.{flat_map}
 use Rattle.commands.proofs.LineLemmas.{appends_nothing}
 use Rattle.ig_commands.specs.declared.stop.Stop.{Stop}
 use Rattle.ig_commands.specs.declared.stop.Stop.TheVariants.{Memory, Read, Write, Closed, Silence}
-use Rattle.ig_commands.specs.Stops.{EndsAfter}
+use Rattle.ig_commands.specs.Stops.{EndsAfter, IsUnwritten}
 use Rattle.ig_commands.specs.Surveys.{OfRoot, all_seen, reports}
 use Rattle.ig_commands.proofs.StopLemmas.{ends_after_reports}
 use Rattle.ig_commands.proofs.SurveyLemmas.{seen_more}
@@ -17,7 +17,7 @@ pub ends_out : (reported : List ℕ) (o : Option (List ℕ)) (err : List ℕ →
     → EndsAfter [] reported (λ bs. bs ≡ []) err stop → EndsAfter [] reported (Appends o o) err stop
 ends_out reported o err Memory h = (appends_nothing o, h.1)
 ends_out reported o err Read h = absurd h
-ends_out reported o err Write h = h
+ends_out reported o err (Write why) h = h
 ends_out reported o err Closed h = h
 ends_out reported o err Silence h = tt
 
@@ -35,7 +35,7 @@ pub ends_root : (written : OfRoot → List ℕ) (all : List OfRoot) (r : OfRoot)
     → EndsAfter (flat_map written (all ++ r ∷ [])) (flat_map reports (all_seen (all ++ r ∷ []))) (Appends a c) (Appends x z) stop
 ends_root written all r a b c x y z Memory out err h = (text_more written all r a b c out h.0, seen_more reports all r x y z err h.1)
 ends_root written all r a b c x y z Read out err h = absurd h
-ends_root written all r a b c x y z Write out err h = seen_more reports all r x y z err h
+ends_root written all r a b c x y z (Write why) out err h = seen_more reports all r x y z err h
 ends_root written all r a b c x y z Closed out err h = seen_more reports all r x y z err h
 ends_root written all r a b c x y z Silence out err h = tt
 
@@ -45,12 +45,12 @@ pub ends_root_quiet : (all : List OfRoot) (r : OfRoot) (x y z : Option (List ℕ
     → EndsAfter [] (flat_map reports (all_seen (all ++ r ∷ []))) (λ bs. bs ≡ []) (Appends x z) stop
 ends_root_quiet all r x y z Memory err h = (h.0, seen_more reports all r x y z err h.1)
 ends_root_quiet all r x y z Read err h = absurd h
-ends_root_quiet all r x y z Write err h = seen_more reports all r x y z err h
+ends_root_quiet all r x y z (Write why) err h = seen_more reports all r x y z err h
 ends_root_quiet all r x y z Closed err h = seen_more reports all r x y z err h
 ends_root_quiet all r x y z Silence err h = tt
 
 -- a failed write after these reports
-pub ends_write : (reported : List ℕ) (out err : List ℕ → Type 0) (stop : Stop) → (stop ≡ Write) ⊎ (stop ≡ Closed) → err reported
+pub ends_write : (reported : List ℕ) (out err : List ℕ → Type 0) (stop : Stop) → IsUnwritten stop → err reported
     → EndsAfter [] reported out err stop
-ends_write reported out err stop (inl is) h = subst (EndsAfter [] reported out err) (sym is) h
+ends_write reported out err stop (inl (why, is)) h = subst (EndsAfter [] reported out err) (sym is) h
 ends_write reported out err stop (inr is) h = subst (EndsAfter [] reported out err) (sym is) h

@@ -8,7 +8,7 @@ use Rattle.ig_options.specs.Given.{Gives, is_opened}
 use Rattle.ig_options.specs.declared.given.Given.{Given}
 use Rattle.ig_options.specs.declared.options.Options.{Options}
 use Rattle.ig_commands.specs.Counts.{capped}
-use Rattle.ig_commands.specs.Input.{AreGiven, AreRecords, Give, end_byte}
+use Rattle.ig_commands.specs.Input.{AreGiven, AreRecords, BeginsGiving, GivesOn, end_byte}
 use Rattle.ig_commands.specs.Input.AreRecords.{none, last, more}
 
 -- the last byte of some bytes and one more is that one
@@ -100,13 +100,6 @@ pub first_record : (end : ℕ) (bytes : List ℕ) (records : List (List ℕ)) �
 first_record end bytes records some are =
     by_cut end bytes (take_through end bytes) (drop_through end bytes) records some (cut end bytes) are
 
--- where the bytes that are left have some records, and these give some paths after those so far, all
--- bytes give all of them
-abbrev pub GivesOn : Options → ℕ → List ℕ → List ℕ → List Given → Type 0
-GivesOn o number bytes rest all =
-    (records : List (List ℕ)) (others : List Given) → AreRecords (end_byte o) rest records → Give o (capped (number + 1)) records others
-    → AreGiven o bytes (all ++ others)
-
 -- one record more
 pub gives_more : (o : Options) (number : ℕ) (bytes rest text : List ℕ) (all : List Given) (given : Given) → GivesOn o number bytes rest all
     → rest ≢ [] → text ≡ first_piece (end_byte o) rest → Gives (is_opened o.null text) text (capped (number + 1)) given
@@ -156,8 +149,20 @@ known_more o start (Some bytes) known next byte number more_number text paths mo
       subst (λ (m : ℕ). GivesOn o m bytes (drop_through (end_byte o) rest) (all ++ given ∷ [])) (sym n) more_on,
     )
 
-pub known_all : (o new : Options) (remaining known : Option (List ℕ)) (number : ℕ) → Known o o.paths.items remaining known number new.paths.items
-    → IsAtEnd known → IfSome remaining (λ bytes. (all : List Given) × AreGiven o bytes all × (new.paths.items ≡ o.paths.items ++ all))
-known_all o new None known number h ended = tt
-known_all o new (Some bytes) known number (rest, all, left, so, on) ended =
-    (all, gives_all o number bytes rest all on (subst IsAtEnd left ended), so)
+-- where nothing is left, all bytes give these
+pub known_all : (o : Options) (remaining known : Option (List ℕ)) (number : ℕ) (given : List Given) → Known o [] remaining known number given
+    → IsAtEnd known → IfSome remaining (λ bytes. AreGiven o bytes given)
+known_all o None known number given h ended = tt
+known_all o (Some bytes) known number given (rest, all, left, so, on) ended =
+    subst (AreGiven o bytes) (sym so) (gives_all o number bytes rest all on (subst IsAtEnd left ended))
+
+-- where some bytes are left, they give these first
+pub known_first : (o : Options) (remaining known : Option (List ℕ)) (number : ℕ) (given : List Given) → Known o [] remaining known number given
+    → IfSome remaining (λ bytes. BeginsGiving o bytes given)
+known_first o None known number given h = tt
+known_first o (Some bytes) known number given (rest, all, left, so, on) = (rest, number, subst (GivesOn o number bytes rest) (sym so) on)
+
+-- before the first record nothing is given
+pub none_first : (o : Options) (remaining : Option (List ℕ)) → IfSome remaining (λ bytes. BeginsGiving o bytes [])
+none_first o None = tt
+none_first o (Some bytes) = (bytes, 0, λ records others are gives. (records, are, gives))

@@ -23,3 +23,4 @@ pub mod WalkLemmas
 pub mod WhyLemmas
 pub mod WorkedLines
 pub mod WorkedUnused
+pub mod WorkedWorktree

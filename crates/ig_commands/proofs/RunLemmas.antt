@@ -2,19 +2,18 @@
 use Rattle.std.proofs.Common.{◌≡◌, ◌≢◌, ◌⊎◌, ◌∙◌, ℕ, List, [], Option, None, Some, Result, Ok, Err, IfErr, IfOk, inl, inr, refl, sym, ap, subst}
 use Rattle.std.proofs.lemmas.Result.{IfOk-weaker}
 use Rattle.std.specs.Io.KnownBytes.{Appends, Keeps}
-use Rattle.commands.proofs.LineLemmas.{appends_nothing}
 use Rattle.ignore_files.specs.declared.env.Env.{Env}
 use Rattle.ignore_files.specs.declared.files.Files.{Ghosts as Files}
 use Rattle.ignore_types.specs.Types.{Draft}
 use Rattle.ig_options.specs.declared.options.Options.{Options}
 use Rattle.ig_options.specs.declared.words.Task.{Task}
 use Rattle.ig_options.specs.declared.words.Task.TheVariants as command
-use Rattle.ig_commands.specs.Run.{Does, Ends, EndsBefore, Finishes}
+use Rattle.ig_commands.specs.Run.{Does, Ends, Finishes}
 use Rattle.ig_commands.specs.Run.Finishes.{whole, early as early_end, unwritten}
-use Rattle.ig_commands.specs.Stops.{EndsAfter, reason, stop_status}
+use Rattle.ig_commands.specs.Stops.{EndsAfter, IsUnwritten, reason, stop_status}
 use Rattle.ig_commands.specs.declared.run.Ran.{Ran}
 use Rattle.ig_commands.specs.declared.stop.Stop.{Stop}
-use Rattle.ig_commands.specs.declared.stop.Stop.TheVariants.{Memory, Read, Write, Closed, Silence}
+use Rattle.ig_commands.specs.declared.stop.Stop.TheVariants.{Silence}
 
 -- each command may end before it begins
 pub ends_none : {F : Type 0} (files : Files F) (f : F) (env : Env) (o : Options) (first : Draft) (task : Task) (out err : List ℕ → Type 0)
@@ -48,7 +47,7 @@ pub finishes : (Done : ℕ → (List ℕ → Type 0) → (List ℕ → Type 0) �
     (r : Result ℕ Stop) (ran : Result Ran Stop) (out written now err reported told : Option (List ℕ))
     → IfOk r (λ status. Done status (Appends out written) (Appends err reported)) → IfErr r (Ended (Appends out written) (Appends err reported))
     → IfOk r (λ given. IfOk ran (λ x. ((x.status ≡ given) × (told ≡ reported))
-    ⊎ ((stop : Stop) × ((stop ≡ Write) ⊎ (stop ≡ Closed)) × (x.status ≡ stop_status stop) × Appends reported told (reason stop))))
+    ⊎ ((stop : Stop) × IsUnwritten stop × (x.status ≡ stop_status stop) × Appends reported told (reason stop))))
     → IfErr r (λ stop. IfOk ran (λ x. (x.status ≡ stop_status stop) × Appends reported told (reason stop))) → Keeps written now
     → IfOk ran (λ x. Finishes Done Ended x.status out now err told)
 finishes Done Ended (Ok given) (Ok x) out written now err reported told done ended kept early keeps =
@@ -62,16 +61,9 @@ finishes Done Ended (Err stop) (Ok x) out written now err reported told done end
     early_end written reported stop ended keeps early.0 early.1
 finishes Done Ended r (Err s) out written now err reported told done ended kept early keeps = tt
 
--- what ends a run at standard input
-pub ends_unread : (out err : Option (List ℕ)) (stop : Stop) → (stop ≡ Read) ⊎ (stop ≡ Memory)
-    → EndsBefore (Appends out out) (Appends err err) stop
-ends_unread out err stop (inl read) = inr (read, (appends_nothing out, appends_nothing err))
-ends_unread out err stop (inr memory) =
-    inl (subst (EndsAfter [] [] (Appends out out) (Appends err err)) (sym memory) (appends_nothing out, appends_nothing err))
-
 -- what is written at the end succeeds, or it fails
 abbrev pub IsWritten : ℕ → Result ℕ Stop → Type 0
-IsWritten given r = (r ≡ Ok given) ⊎ ((r ≡ Err Write) ⊎ (r ≡ Err Closed))
+IsWritten given r = (r ≡ Ok given) ⊎ ((stop : Stop) × IsUnwritten stop × (r ≡ Err stop))
 
 -- a command that returned its status keeps it, where what is written at the end succeeds
 pub kept_ok : (ended r : Result ℕ Stop) (status : ℕ) (Same Late : Type 0) → r ≡ Ok status → IfOk ended (λ given. IsWritten given r) → Same
@@ -79,8 +71,7 @@ pub kept_ok : (ended r : Result ℕ Stop) (status : ℕ) (Same Late : Type 0) �
 kept_ok (Ok given) r status Same Late is (inl e) same =
     let one : Ok status ≡ Ok given = sym is ∙ e in
     let s : status ≡ given = cc one in inl (s, same)
-kept_ok (Ok given) r status Same Late is (inr (inl e)) same = let one : Ok status ≡ Err Write = sym is ∙ e in cc one
-kept_ok (Ok given) r status Same Late is (inr (inr e)) same = let one : Ok status ≡ Err Closed = sym is ∙ e in cc one
+kept_ok (Ok given) r status Same Late is (inr (stop, why, e)) same = let one : Ok status ≡ Err stop = sym is ∙ e in cc one
 kept_ok (Err stop) r status Same Late is h same = tt
 
 -- one that ended early reports why
@@ -88,20 +79,17 @@ pub none_kept : (ended r : Result ℕ Stop) (status : ℕ) (Goal : Stop → Type
 none_kept (Ok given) r status Goal is h = tt
 none_kept (Err stop) r status Goal is h = let one : Ok status ≡ Err stop = sym is ∙ h in cc one
 
-late : (given : ℕ) (r : Result ℕ Stop) (stop : Stop) → r ≡ Err stop → IsWritten given r → (stop ≡ Write) ⊎ (stop ≡ Closed)
+late : (given : ℕ) (r : Result ℕ Stop) (stop : Stop) → r ≡ Err stop → IsWritten given r → IsUnwritten stop
 late given r stop is (inl e) = let one : Err stop ≡ Ok given = sym is ∙ e in cc one
-late given r stop is (inr (inl e)) =
-    let one : Err stop ≡ Err Write = sym is ∙ e in
-    let s : stop ≡ Write = cc one in inl s
-late given r stop is (inr (inr e)) =
-    let one : Err stop ≡ Err Closed = sym is ∙ e in
-    let s : stop ≡ Closed = cc one in inr s
+late given r stop is (inr (s, why, e)) =
+    let one : Err stop ≡ Err s = sym is ∙ e in
+    let same : s ≡ stop = cc one in subst IsUnwritten same why
 
 -- what can't be written at the end is reported
 pub kept_err : (ended r told : Result ℕ Stop) (stop : Stop) (x y : Option (List ℕ)) → r ≡ Err stop → IfOk ended (λ given. IsWritten given r)
     → IfOk told (λ status. (status ≡ stop_status stop) × (stop ≢ Silence) × Appends x y (reason stop))
     → IfOk ended (λ given. IfOk told (λ status. ((status ≡ given) × (y ≡ x))
-    ⊎ ((s : Stop) × ((s ≡ Write) ⊎ (s ≡ Closed)) × (status ≡ stop_status s) × Appends x y (reason s))))
+    ⊎ ((s : Stop) × IsUnwritten s × (status ≡ stop_status s) × Appends x y (reason s))))
 kept_err (Ok given) r told stop x y is h k = IfOk-weaker told _ _ (λ status t. inr (stop, late given r stop is h, t.0, t.2)) k
 kept_err (Err s) r told stop x y is h k = tt
 

@@ -6,7 +6,7 @@ use Rattle.ignore_base.specs.Problem.{Problem, memory}
 use Rattle.commands.proofs.LineLemmas.{appends_nothing, appends_on}
 use Rattle.ig_commands.specs.declared.stop.Stop.{Stop}
 use Rattle.ig_commands.specs.declared.stop.Stop.TheVariants.{Memory, Read, Write, Closed, Silence}
-use Rattle.ig_commands.specs.Stops.{EndsAfter}
+use Rattle.ig_commands.specs.Stops.{EndsAfter, EndsReading, IsUnwritten}
 
 -- what ended it before anything of one more thing was written ended it after the things before
 pub ends_after : (written reported : List ℕ) (a b c x y z : Option (List ℕ)) (stop : Stop) → Appends a b written → Appends x y reported
@@ -16,7 +16,7 @@ ends_after written reported a b c x y z Memory out err h = (
   subst (Appends x z) (append-nil reported) (appends_on x y z reported [] err h.1),
 )
 ends_after written reported a b c x y z Read out err h = absurd h
-ends_after written reported a b c x y z Write out err h =
+ends_after written reported a b c x y z (Write why) out err h =
     subst (Appends x z) (append-nil reported) (appends_on x y z reported [] err h)
 ends_after written reported a b c x y z Closed out err h =
     subst (Appends x z) (append-nil reported) (appends_on x y z reported [] err h)
@@ -28,7 +28,7 @@ pub ends_after_reports : (written first reported : List ℕ) (out : List ℕ →
     → EndsAfter written (first ++ reported) out (Appends x z) stop
 ends_after_reports written first reported out x y z Memory h k = (k.0, appends_on x y z first reported h k.1)
 ends_after_reports written first reported out x y z Read h k = absurd k
-ends_after_reports written first reported out x y z Write h k = appends_on x y z first reported h k
+ends_after_reports written first reported out x y z (Write why) h k = appends_on x y z first reported h k
 ends_after_reports written first reported out x y z Closed h k = appends_on x y z first reported h k
 ends_after_reports written first reported out x y z Silence h k = tt
 
@@ -52,3 +52,22 @@ ends_at_once (Err stop) o x y (inr s) kept Goal so =
 
 pub appends_none : (a : Option (List ℕ)) → Appends a a []
 appends_none a = appends_nothing a
+
+-- a failed read after all this, or no memory for it
+pub ends_read : (written reported : List ℕ) (out err : List ℕ → Type 0) (stop : Stop) → (stop ≡ Read) ⊎ (stop ≡ Memory) → out written
+    → err reported → EndsReading written reported out err stop
+ends_read written reported out err stop (inl read) h k = inr (read, h, k)
+ends_read written reported out err stop (inr no_memory) h k = inl (subst (EndsAfter written reported out err) (sym no_memory) (h, k))
+
+-- a failed write after these reports
+pub ends_unwritten : (written reported : List ℕ) (out err : List ℕ → Type 0) (stop : Stop) → IsUnwritten stop → err reported
+    → EndsAfter written reported out err stop
+ends_unwritten written reported out err stop (inl (why, is)) h = subst (EndsAfter written reported out err) (sym is) h
+ends_unwritten written reported out err stop (inr is) h = subst (EndsAfter written reported out err) (sym is) h
+
+-- the same of reports that came before all others, of what reads standard input
+pub ends_reading_reports : (written first reported : List ℕ) (out : List ℕ → Type 0) (x y z : Option (List ℕ)) (stop : Stop)
+    → Appends x y first → EndsReading written reported out (Appends y z) stop
+    → EndsReading written (first ++ reported) out (Appends x z) stop
+ends_reading_reports written first reported out x y z stop h (inl k) = inl (ends_after_reports written first reported out x y z stop h k)
+ends_reading_reports written first reported out x y z stop h (inr (read, k, more)) = inr (read, k, appends_on x y z first reported h more)

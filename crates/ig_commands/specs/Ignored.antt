@@ -1,6 +1,6 @@
 -- What `ignored` writes: the entries of surveys that are ignored.
-use Rattle.std.specs.Prelude.{◌≡◌, ◌⊎◌, ℕ, Bool, false, ◌&&◌, not, List, [], ◌++◌, map, Option, Some, Ok, Err, None, if◌then◌else◌, codes}
-use Rattle.std.specs.List.{flat_map}
+use Rattle.std.specs.Prelude.{◌≡◌, ◌⊎◌, ℕ, Bool, false, ◌&&◌, not, List, [], ◌++◌, map, Option, Some, Ok, Err, None, if◌then◌else◌, codes, string_bytes}
+use Rattle.std.specs.List.{AllZip, flat_map}
 use Rattle.ignore_base.specs.Paths.{join_of}
 use Rattle.ignore_base.specs.Problem.{Problem}
 use Rattle.ignore_base.specs.Text.{Bytes, Path}
@@ -12,19 +12,21 @@ use Rattle.ignore_files.specs.declared.files.Files.{Ghosts as Files}
 use Rattle.ignore_survey.specs.Survey.{Entry}
 use Rattle.ignore_types.specs.Types.{Draft}
 use Rattle.ignore.specs.declared.options.WalkOptions.{WalkOptions}
+use Rattle.commands.specs.Walking.{IsTrimmed}
 use Rattle.ig_options.specs.declared.options.Options.{Options}
 use Rattle.ig_commands.specs.Counts.{counted, stats_line, status_of}
 use Rattle.ig_commands.specs.Form.{reasoned}
-use Rattle.ig_commands.specs.Listing.{IsAsked, RefusesOptions}
+use Rattle.ig_commands.specs.Listing.{RefusesOptions}
 use Rattle.ig_commands.specs.Reports.{report_line, report_of}
 use Rattle.ig_commands.specs.Stops.{EndsAfter}
-use Rattle.ig_commands.specs.Surveys.{AreBegun, AreSurveys, OfRoot, Seen, all_seen, reports, wrong_in}
-use Rattle.ig_commands.specs.Writing.{is_listed, record_of}
+use Rattle.ig_commands.specs.Surveys.{AreBegun, AreSurveys, IsAskedMet, OfRoot, Seen, all_seen, reports, wrong_in}
+use Rattle.ig_commands.specs.Worktree.{worktree}
+use Rattle.ig_commands.specs.Writing.{is_of_kind, record_of}
 use Rattle.ig_commands.specs.declared.stop.Stop.{Stop}
 
--- an entry is listed: it is ignored, and of a kind that is chosen
+-- an entry is listed: it is ignored, and no kind is chosen, or its kind is
 abbrev pub is_topmost : Options → Entry → Bool
-is_topmost o e = is_ignore e.answer.verdict && is_listed o (Some e.kind)
+is_topmost o e = is_ignore e.answer.verdict && is_of_kind o (Some e.kind)
 
 -- what is written of an entry: its path, or with `-v` its path after its reason. Without a root
 -- paths and sources are below the working directory
@@ -59,18 +61,23 @@ pub record Writes (o : Options) (problems : List (Option Problem)) (all : List O
   pub reports : err ((flat_map report_of problems ++ flat_map reports (all_seen all)) ++ stats_line o.stats (wrong_in problems all) (found_in o all))
   pub ends : status ≡ status_of (wrong_in problems all) (found_in o all)
 
--- all that is ignored was listed, by the settings that the options ask for in each tree that the
--- files are consistent with; or the options are rejected
+-- all that is ignored was listed, by the settings that the options ask for, but with hidden entries
+-- met as all others are, in the worktree of each tree that the files are consistent with; or the
+-- options are rejected
 abbrev pub IgnoredAsked : {F : Type 0} → Files F → F → Env → Options → Draft → ℕ → (Bytes → Type 0) → (Bytes → Type 0) → Type 0
 IgnoredAsked files f env o first status out err =
-    ((b : WalkOptions) × (problems : List (Option Problem)) × (all : List OfRoot) × Writes o problems all status out err
-    × ((tree : Tree) → IsHonest files f tree → IsAsked tree env o first b problems × AreSurveys tree env o b all))
+    ((b : WalkOptions) × (problems : List (Option Problem)) × (roots : List Path) × (all : List OfRoot)
+    × AllZip IsTrimmed (map string_bytes o.roots.items) roots × Writes o problems all status out err
+    × ((tree : Tree) → IsHonest files f tree
+    → IsAskedMet tree env o first b problems × AreSurveys (worktree roots tree) env o b all))
     ⊎ ((problem : Problem) × RefusesOptions env o first problem × (status ≡ 2) × out [] × err (report_line problem))
 
 -- it ended early, after it wrote and reported a beginning of that; or before it began
 abbrev pub IgnoredEnds : {F : Type 0} → Files F → F → Env → Options → Draft → (Bytes → Type 0) → (Bytes → Type 0) → Stop → Type 0
 IgnoredEnds files f env o first out err stop =
-    ((b : WalkOptions) × (problems : List (Option Problem)) × (all : List OfRoot)
+    ((b : WalkOptions) × (problems : List (Option Problem)) × (roots : List Path) × (all : List OfRoot)
+    × AllZip IsTrimmed (map string_bytes o.roots.items) roots
     × EndsAfter (all_written o all) (flat_map report_of problems ++ flat_map reports (all_seen all)) out err stop
-    × ((tree : Tree) → IsHonest files f tree → IsAsked tree env o first b problems × AreBegun tree env o b all))
+    × ((tree : Tree) → IsHonest files f tree
+    → IsAskedMet tree env o first b problems × AreBegun (worktree roots tree) env o b all))
     ⊎ EndsAfter [] [] out err stop

@@ -29,3 +29,14 @@ Give o number (text ∷ records) (given ∷ others) =
 -- what standard input gives
 abbrev pub AreGiven : Options → Bytes → List Given → Type 0
 AreGiven o bytes all = (records : List Bytes) × AreRecords (end_byte o) bytes records × Give o 1 records all
+
+-- where these bytes are left, and records before them gave so many, these are given by all bytes first:
+-- whatever is given by what is left comes after them
+abbrev pub GivesOn : Options → ℕ → Bytes → Bytes → List Given → Type 0
+GivesOn o number bytes rest all =
+    (records : List Bytes) (others : List Given) → AreRecords (end_byte o) rest records → Give o (capped (number + 1)) records others
+    → AreGiven o bytes (all ++ others)
+
+-- these are the first that standard input gives
+abbrev pub BeginsGiving : Options → Bytes → List Given → Type 0
+BeginsGiving o bytes first = (rest : Bytes) × (number : ℕ) × GivesOn o number bytes rest first

@@ -8,6 +8,7 @@ pub mod Form
 pub mod Root
 pub mod Why
 pub mod Surveys
+pub mod Worktree
 pub mod Ignored
 pub mod Unused
 pub mod Rules

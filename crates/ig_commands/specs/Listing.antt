@@ -29,7 +29,7 @@ use Rattle.ignore.specs.Builder.{with_overrides, with_types}
 use Rattle.ignore.specs.declared.options.WalkOptions.{WalkOptions}
 use Rattle.commands.specs.Walking.{IsCut, IsTrimmed}
 use Rattle.ig_options.specs.Choices.{IsDraft, RefusesTypes}
-use Rattle.ig_options.specs.Files.{AddsFiles}
+use Rattle.ig_options.specs.Files.{AddsFiles, named_files}
 use Rattle.ig_options.specs.Globs.{AreGlobs, RefusesOneOf}
 use Rattle.ig_options.specs.Settings.{most_steps, walk_options}
 use Rattle.ig_options.specs.declared.options.Options.{Options}
@@ -53,7 +53,7 @@ pub record IsAsked (tree : Tree) (env : Env) (o : Options) (first : Draft) (b : 
   pub is_draft : IsDraft o first draft
   pub types : Matcher
   pub are_types : IsBuilt draft types
-  pub files : AddsFiles tree env o.ignore_files (with_types (with_overrides (walk_options o) globs) types) b problems
+  pub files : AddsFiles tree env (named_files o) (with_types (with_overrides (walk_options o) globs) types) b problems
 
 -- a glob, a definition or a choice of the options is rejected with this problem
 abbrev pub RefusesOptions : Env → Options → Draft → Problem → Type 0

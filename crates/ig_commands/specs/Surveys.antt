@@ -1,5 +1,5 @@
 -- What surveys of roots meet, and what is reported of it.
-use Rattle.std.specs.Prelude.{◌≡◌, ◌⊎◌, ◌≤◌, ℕ, ◌+◌, Bool, true, All, List, [], ◌∷◌, ◌++◌, length, map, string_bytes, Option, None, option_map, Result, Ok, Err}
+use Rattle.std.specs.Prelude.{◌≡◌, ◌⊎◌, ◌≤◌, ℕ, ◌+◌, Bool, true, false, All, List, [], ◌∷◌, ◌++◌, length, map, string_bytes, Option, None, option_map, Result, Ok, Err}
 use Rattle.std.specs.List.{flat_map}
 use Rattle.ignore_base.specs.Problem.{Problem, problem_of}
 use Rattle.ignore_base.specs.Text.{Bytes, Path}
@@ -20,10 +20,12 @@ use Rattle.ignore_query.specs.declared.kept.Cache.{Cache}
 use Rattle.ignore_survey.specs.Survey.{IsSurvey, Item}
 use Rattle.ignore_survey.specs.Surveyed.{entry_of}
 use Rattle.ignore_survey.specs.declared.surveyed.Surveyed.{Surveyed}
+use Rattle.ignore_types.specs.Types.{Draft}
+use Rattle.ignore.specs.Builder.{with_hidden}
 use Rattle.ignore.specs.declared.options.WalkOptions.{WalkOptions}
 use Rattle.ig_options.specs.declared.options.Options.{Options}
 use Rattle.ig_commands.specs.Counts.{capped, counted}
-use Rattle.ig_commands.specs.Listing.{GoesBy}
+use Rattle.ig_commands.specs.Listing.{GoesBy, IsAsked}
 use Rattle.ig_commands.specs.Reports.{is_known, report_line, report_of}
 
 -- an item of a survey, with what was reported beside its entry
@@ -117,3 +119,8 @@ AreBegun tree env o b all =
     × ((loads : Path → Loaded) → AreLoads tree b.settings loads
     → All (λ r. IsWhole (scene tree loads b.settings outside r.0) r.1) done
     × IsBegun (scene tree loads b.settings outside last.0) last.1))
+
+-- the settings of a walk are those that the options ask for, with these problems of the files that are
+-- named, but with hidden entries met as all others are
+abbrev pub IsAskedMet : Tree → Env → Options → Draft → WalkOptions → List (Option Problem) → Type 0
+IsAskedMet tree env o first b problems = (asked : WalkOptions) × IsAsked tree env o first asked problems × (b ≡ with_hidden asked false)

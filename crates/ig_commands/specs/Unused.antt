@@ -1,7 +1,7 @@
 -- Which rules decide on no entry met.
-use Rattle.std.specs.Prelude.{◌≡◌, ◌⊎◌, ℕ, true, ◌<◌, All, List, [], ◌∷◌, ◌++◌, Contains, Option, None, Some, Ok, if◌then◌else◌, length, map, codes}
+use Rattle.std.specs.Prelude.{◌≡◌, ◌⊎◌, ℕ, true, ◌<◌, All, List, [], ◌∷◌, ◌++◌, Contains, Option, None, Some, Ok, if◌then◌else◌, length, map, codes, string_bytes}
 use Rattle.std.specs.Cmp.Lexicographic.{slice_cmp}
-use Rattle.std.specs.List.{flat_map}
+use Rattle.std.specs.List.{AllZip, flat_map}
 use Rattle.std.specs.Ordering.{is_lt, nat_cmp}
 use Rattle.ignore_base.specs.Paths.{IsName}
 use Rattle.ignore_base.specs.Problem.{Problem}
@@ -21,13 +21,15 @@ use Rattle.ignore_survey.specs.Survey.{Entry, Item}
 use Rattle.ignore_types.specs.Types.{Draft}
 use Rattle.ignore_why.specs.Cited.{Named}
 use Rattle.ignore.specs.declared.options.WalkOptions.{WalkOptions}
+use Rattle.commands.specs.Walking.{IsTrimmed}
 use Rattle.ig_options.specs.declared.options.Options.{Options}
 use Rattle.ig_commands.specs.Counts.{capped, stats_line, status_of}
 use Rattle.ig_commands.specs.Form.{at_end, rule_fields, rule_of}
-use Rattle.ig_commands.specs.Listing.{GoesBy, IsAsked, RefusesOptions}
+use Rattle.ig_commands.specs.Listing.{GoesBy, RefusesOptions}
 use Rattle.ig_commands.specs.Reports.{report_line, report_of}
 use Rattle.ig_commands.specs.Stops.{EndsAfter}
-use Rattle.ig_commands.specs.Surveys.{AreBegun, AreSurveys, HasList, IsWhole, OfRoot, all_seen, reports, wrong_in}
+use Rattle.ig_commands.specs.Surveys.{AreBegun, AreSurveys, HasList, IsAskedMet, IsWhole, OfRoot, all_seen, reports, wrong_in}
+use Rattle.ig_commands.specs.Worktree.{worktree}
 use Rattle.ig_commands.specs.declared.stop.Stop.{Stop}
 
 -- a rule of a file: the path of the file, the number of its line, and the rule
@@ -116,18 +118,22 @@ pub record Writes (o : Options) (problems : List (Option Problem)) (all : List O
   pub ends : status ≡ status_of (wrong_in problems all) (count_of unused)
 
 -- the rules that decide on no entry met of the surveys of the roots were listed, by the settings that
--- the options ask for in each tree that the files are consistent with; or the options are rejected
+-- the options ask for, but with hidden entries met as all others are, in the worktree of each tree that
+-- the files are consistent with; or the options are rejected
 abbrev pub UnusedAsked : {F : Type 0} → Files F → F → Env → Options → Draft → ℕ → (Bytes → Type 0) → (Bytes → Type 0) → Type 0
 UnusedAsked files f env o first status out err =
-    ((b : WalkOptions) × (problems : List (Option Problem)) × (all : List OfRoot) × (unused : List FileRule)
-    × Writes o problems all unused status out err
-    × ((tree : Tree) → IsHonest files f tree → IsAsked tree env o first b problems × AreUnusedIn tree env o b all unused))
+    ((b : WalkOptions) × (problems : List (Option Problem)) × (roots : List Path) × (all : List OfRoot) × (unused : List FileRule)
+    × AllZip IsTrimmed (map string_bytes o.roots.items) roots × Writes o problems all unused status out err
+    × ((tree : Tree) → IsHonest files f tree
+    → IsAskedMet tree env o first b problems × AreUnusedIn (worktree roots tree) env o b all unused))
     ⊎ ((problem : Problem) × RefusesOptions env o first problem × (status ≡ 2) × out [] × err (report_line problem))
 
 -- it ended early, after it met and reported a beginning of that, or all of it; or before it began
 abbrev pub UnusedEnds : {F : Type 0} → Files F → F → Env → Options → Draft → (Bytes → Type 0) → (Bytes → Type 0) → Stop → Type 0
 UnusedEnds files f env o first out err stop =
-    ((b : WalkOptions) × (problems : List (Option Problem)) × (all : List OfRoot)
+    ((b : WalkOptions) × (problems : List (Option Problem)) × (roots : List Path) × (all : List OfRoot)
+    × AllZip IsTrimmed (map string_bytes o.roots.items) roots
     × EndsAfter [] (flat_map report_of problems ++ flat_map reports (all_seen all)) out err stop
-    × ((tree : Tree) → IsHonest files f tree → IsAsked tree env o first b problems × (AreBegun tree env o b all ⊎ AreSurveys tree env o b all)))
+    × ((tree : Tree) → IsHonest files f tree → IsAskedMet tree env o first b problems
+    × (AreBegun (worktree roots tree) env o b all ⊎ AreSurveys (worktree roots tree) env o b all)))
     ⊎ EndsAfter [] [] out err stop

@@ -1,5 +1,5 @@
 -- What `why` writes of paths.
-use Rattle.std.specs.Prelude.{◌≡◌, ◌⊎◌, ℕ, ◌+◌, Bool, true, false, ◌||◌, List, [], ◌∷◌, ◌++◌, codes, map, Option, None, Some, option_map, if◌then◌else◌}
+use Rattle.std.specs.Prelude.{◌≡◌, ◌⊎◌, ℕ, ◌+◌, Bool, true, false, not, ◌&&◌, ◌||◌, List, [], ◌∷◌, ◌++◌, codes, map, Option, None, Some, IfSome, option_map, if◌then◌else◌}
 use Rattle.std.specs.Fmt.{decimal}
 use Rattle.std.specs.List.{flat_map}
 use Rattle.ignore_base.specs.Normalize.{normalize_of}
@@ -31,10 +31,11 @@ use Rattle.ig_options.specs.declared.given.Given.TheVariants as place
 use Rattle.ig_options.specs.declared.options.Options.{Options}
 use Rattle.ig_commands.specs.Counts.{capped, counted, status_of}
 use Rattle.ig_commands.specs.Form.{reasoned}
+use Rattle.ig_commands.specs.Input.{AreGiven, BeginsGiving}
 use Rattle.ig_commands.specs.Listing.{IsAsked, RefusesOptions}
 use Rattle.ig_commands.specs.Reports.{is_known, report_line, report_of}
 use Rattle.ig_commands.specs.Root.{IsRoot}
-use Rattle.ig_commands.specs.Stops.{EndsAfter}
+use Rattle.ig_commands.specs.Stops.{EndsAfter, EndsReading}
 use Rattle.ig_commands.specs.declared.stop.Stop.{Stop}
 use Rattle.ig_commands.specs.declared.why.Said.{Said as Code}
 use Rattle.ig_commands.specs.declared.why.Said.TheVariants as code
@@ -68,12 +69,16 @@ said_of (code.Told path e error) =
       problem = option_map problem_of error;
     })
 
+-- a path isn't written, by whether it is ignored: nothing is to be written, or only what is ignored
+abbrev pub is_left_out : Options → Bool → Bool
+is_left_out o is_ignored = o.quiet || (o.only_ignored && not is_ignored)
+
 -- what is written of it: a path after its reason
 abbrev pub written : Options → Path → Said → Bytes
 written o root (no_text number) = []
 written o root (ill_quoted number) = []
 written o root (not_below path) = []
-written o root (told t) = if o.quiet then [] else reasoned (Some root) o.null t.why t.path
+written o root (told t) = if is_left_out o t.is_ignored then [] else reasoned (Some root) o.null t.why t.path
 
 -- the report of a record of standard input
 abbrev pub record_line : ℕ → Bytes → Bytes
@@ -193,4 +198,23 @@ WhyEnds files f env o first out err stop =
     ((b : WalkOptions) × (problems : List (Option Problem)) × (root : Path) × (said : List Said)
     × EndsAfter (flat_map (written o root) said) (flat_map report_of problems ++ flat_map (reports root) said) out err stop
     × ((tree : Tree) → IsHonest files f tree → IsAsked tree env o first b problems × AreBegun tree env b o.paths.items root said))
+    ⊎ EndsAfter [] [] out err stop
+
+-- `why` has answered about all that standard input gives, where its bytes are known, by the settings
+-- that the options ask for; or the options are rejected
+abbrev pub InputAsked : {F : Type 0} → Files F → F → Env → Options → Draft → Option Bytes → ℕ → (Bytes → Type 0) → (Bytes → Type 0) → Type 0
+InputAsked files f env o first input status out err =
+    ((b : WalkOptions) × (problems : List (Option Problem)) × (root : Path) × (given : List Given) × (said : List Said)
+    × IfSome input (λ bytes. AreGiven o bytes given) × Writes o problems root said status out err
+    × ((tree : Tree) → IsHonest files f tree → IsAsked tree env o first b problems × AreAll tree env b given root said))
+    ⊎ ((problem : Problem) × RefusesOptions env o first problem × (status ≡ 2) × out [] × err (report_line problem))
+
+-- it ended early, after it wrote and reported what there was to say of the first of that; or before it
+-- began
+abbrev pub InputEnds : {F : Type 0} → Files F → F → Env → Options → Draft → Option Bytes → (Bytes → Type 0) → (Bytes → Type 0) → Stop → Type 0
+InputEnds files f env o first input out err stop =
+    ((b : WalkOptions) × (problems : List (Option Problem)) × (root : Path) × (given : List Given) × (said : List Said)
+    × IfSome input (λ bytes. BeginsGiving o bytes given)
+    × EndsReading (flat_map (written o root) said) (flat_map report_of problems ++ flat_map (reports root) said) out err stop
+    × ((tree : Tree) → IsHonest files f tree → IsAsked tree env o first b problems × AreBegun tree env b given root said))
     ⊎ EndsAfter [] [] out err stop

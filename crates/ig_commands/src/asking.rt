@@ -1,10 +1,14 @@
 //! The settings and the rules from outside that the options ask for.
-ghost use Rattle.std.specs.Prelude.{◌≡◌, ◌⊎◌, IfOk, IfErr, map, option_map};
+ghost use Rattle.std.specs.Prelude.{◌≡◌, ◌⊎◌, false, IfOk, IfErr, map, option_map};
 ghost use Rattle.ignore_base.specs.Problem.{problem_of, memory};
 ghost use Rattle.ignore_files.specs.Gives.{IsHonest};
 ghost use Rattle.ignore_files.specs.Tree.{Tree};
-ghost use Rattle.ignore.specs.Builder.{with_overrides, with_types};
+ghost use Rattle.ignore.specs.Builder.{with_hidden, with_overrides, with_types};
 ghost use Rattle.ig_commands.specs.Listing.{IsAsked, RefusesOptions, base_of};
+ghost use Rattle.ig_commands.specs.Run.{types_at_first};
+ghost use Rattle.ig_options.specs.Choices.{RefusesTypes};
+ghost use Rattle.ig_options.specs.Globs.{RefusesOneOf};
+ghost use Rattle.ig_commands.specs.Surveys.{IsAskedMet};
 
 use commands::World;
 use ig_options::{Options, add_files, globs_of, types_of, walk_options};
@@ -13,6 +17,7 @@ use ignore::overrides::Override;
 use ignore_base::Error;
 use ignore_files::{Env, Files};
 use ignore_types::types::{Types, TypesBuilder};
+use std::alloc::Global;
 
 /// What a walk goes by, and what is wrong with the files that the options name.
 #[derive(Drop)]
@@ -40,6 +45,43 @@ pub(crate) fn asked_for<F: Files>(
     Ok(Asked { walk, errors })
 }
 
+/// Whether the options are rejected, as they are where what they ask for is made of them. `first` has
+/// the file types that exist without `--type-add`.
+///
+/// # Errors
+/// Why they are; or `Error::Memory`.
+pub(crate) fn check_options(
+    alloc: Global,
+    env: &Env,
+    options: &Options,
+    first: TypesBuilder,
+) -> Result<(), Error>
+    ensures refused { IfErr result (λ e. (problem_of e ≡ memory) ⊎ RefusesOptions env.now options.now first (problem_of e)) }
+{
+    check_globs(alloc, env, options)?;
+    check_types(options, first)
+}
+
+/// Whether a glob of the options is rejected.
+fn check_globs(alloc: Global, env: &Env, options: &Options) -> Result<(), Error>
+    ensures refused { IfErr result (λ e. (problem_of e ≡ memory) ⊎ RefusesOneOf options.now (base_of env.now) (problem_of e)) }
+{
+    match globs_of(alloc, options, base_dir(env)) {
+        Ok(_) => Ok(()),
+        Err(error) => Err(error),
+    }
+}
+
+/// Whether a type of the options is rejected.
+fn check_types(options: &Options, first: TypesBuilder) -> Result<(), Error>
+    ensures refused { IfErr result (λ e. (problem_of e ≡ memory) ⊎ RefusesTypes options.now first (problem_of e)) }
+{
+    match types_of(first, options) {
+        Ok(_) => Ok(()),
+        Err(error) => Err(error),
+    }
+}
+
 /// The globs of the command line and the chosen types.
 fn set_rules(walk: &mut WalkOptions, globs: Override, types: Types)
     ensures { walk.new ≡ with_types (with_overrides walk.old globs) types }
@@ -56,4 +98,37 @@ fn base_dir(env: &Env) -> &str
         Some(dir) => dir.as_str(),
         None => "",
     }
+}
+
+/// The file types that exist without `--type-add`.
+pub(crate) fn default_types(alloc: Global) -> Result<TypesBuilder, Error>
+    ensures value { IfOk result (λ types. types ≡ types_at_first) }
+    ensures out_of_memory { IfErr result (λ e. problem_of e ≡ memory) }
+{
+    let mut builder = TypesBuilder::new(alloc);
+    builder.push_all_defaults()?;
+    Ok(builder)
+}
+
+/// What the options ask for, but with hidden entries met as all others are.
+pub(crate) fn asked_met<F: Files>(
+    world: &World<'_, F>,
+    options: &Options,
+    first: TypesBuilder,
+) -> Result<Asked, Error>
+    ensures read { (tree : Tree) → IsHonest F.Files world.now.files.now tree
+        → IfOk result (λ a. IsAskedMet tree world.now.env.now options.now first a.walk (map (option_map problem_of) a.errors.items)) }
+    ensures refused { IfErr result (λ e. (problem_of e ≡ memory)
+        ⊎ RefusesOptions world.now.env.now options.now first (problem_of e)) }
+{
+    let mut asked = asked_for(world, options, first)?;
+    meet_hidden(&mut asked.walk);
+    Ok(asked)
+}
+
+/// Has hidden entries met as all others are.
+fn meet_hidden(walk: &mut WalkOptions)
+    ensures { walk.new ≡ with_hidden walk.old false }
+{
+    walk.hidden(false);
 }

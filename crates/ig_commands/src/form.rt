@@ -7,6 +7,7 @@ ghost use Rattle.ignore_why.specs.Cited.{cited_of, named_of};
 ghost use Rattle.ignore_why.specs.QueryWhy.{query_why_of};
 ghost use Rattle.ig_options.specs.Quotes.{quoted_byte};
 ghost use Rattle.ig_commands.specs.Form.{between, field, is_decided, number_text, reasoned, relative, rule_fields, rule_in, rule_of, word_fields};
+ghost use Rattle.ig_commands.specs.Stops.{IsUnwritten};
 
 use crate::stop::Stop;
 use crate::writing::{write_bytes, write_stop};
@@ -98,7 +99,7 @@ pub(crate) fn write_reasoned<W: Write>(
     out: &mut W,
 ) -> Result<(), Stop>
     ensures writes { OnOk result (Appends (W.contents out.old) (W.contents out.new) (reasoned (option_copied form.entry.base) form.entry.null (query_why_of explanation.now.reason) path.now)) }
-    ensures ended { IfErr result (λ stop. (stop ≡ Stop.Write) ⊎ (stop ≡ Stop.Closed)) }
+    ensures ended { IfErr result IsUnwritten }
 {
     match rule_of(&explanation.reason) {
         Some(rule) => write_rule(form, &origin_of(rule), out)?,
@@ -116,7 +117,7 @@ pub(crate) fn write_rule<W: Write>(
     out: &mut W,
 ) -> Result<(), Stop>
     ensures writes { OnOk result (Appends (W.contents out.old) (W.contents out.new) (rule_fields (option_copied form.entry.base) form.entry.null origin.now.source.now origin.now.line origin.now.pattern.now)) }
-    ensures ended { IfErr result (λ stop. (stop ≡ Stop.Write) ⊎ (stop ≡ Stop.Closed)) }
+    ensures ended { IfErr result IsUnwritten }
 {
     write_text(form, relative(form.base, origin.source), out)?;
     write_between(form, out)?;
@@ -129,7 +130,7 @@ pub(crate) fn write_rule<W: Write>(
 /// where nothing decides.
 fn write_word<W: Write>(form: Form<'_>, reason: &Reason, out: &mut W) -> Result<(), Stop>
     ensures writes { OnOk result (Appends (W.contents out.old) (W.contents out.new) (word_fields form.entry.null (query_why_of reason.now))) }
-    ensures ended { IfErr result (λ stop. (stop ≡ Stop.Write) ⊎ (stop ≡ Stop.Closed)) }
+    ensures ended { IfErr result IsUnwritten }
 {
     write_between(form, out)?;
     write_between(form, out)?;
@@ -145,7 +146,7 @@ fn write_word<W: Write>(form: Form<'_>, reason: &Reason, out: &mut W) -> Result<
 /// Writes what separates the three fields of a rule.
 fn write_between<W: Write>(form: Form<'_>, out: &mut W) -> Result<(), Stop>
     ensures writes { OnOk result (Appends (W.contents out.old) (W.contents out.new) (between form.entry.null)) }
-    ensures ended { IfErr result (λ stop. (stop ≡ Stop.Write) ⊎ (stop ≡ Stop.Closed)) }
+    ensures ended { IfErr result IsUnwritten }
 {
     write_bytes(if form.null { b"\0" } else { b":" }, out)
 }
@@ -153,7 +154,7 @@ fn write_between<W: Write>(form: Form<'_>, out: &mut W) -> Result<(), Stop>
 /// Writes the number of a line, if there is one.
 fn write_number<W: Write>(line: Option<u64>, out: &mut W) -> Result<(), Stop>
     ensures writes { OnOk result (Appends (W.contents out.old) (W.contents out.new) (number_text line)) }
-    ensures ended { IfErr result (λ stop. (stop ≡ Stop.Write) ⊎ (stop ≡ Stop.Closed)) }
+    ensures ended { IfErr result IsUnwritten }
 {
     let Some(line) = line else {
         return Ok(());
@@ -177,7 +178,7 @@ fn relative<'a>(base: Option<&str>, source: &'a str) -> &'a str
 /// Writes a path: as it is where fields end in NUL, else quoted as git quotes it, where it must be.
 pub(crate) fn write_text<W: Write>(form: Form<'_>, text: &str, out: &mut W) -> Result<(), Stop>
     ensures writes { OnOk result (Appends (W.contents out.old) (W.contents out.new) (field form.entry.null text.now)) }
-    ensures ended { IfErr result (λ stop. (stop ≡ Stop.Write) ⊎ (stop ≡ Stop.Closed)) }
+    ensures ended { IfErr result IsUnwritten }
 {
     let bytes = text.as_bytes();
     if form.null || !bytes.iter().any(|byte| is_quoted(*byte)) {
@@ -193,7 +194,7 @@ pub(crate) fn write_text<W: Write>(form: Form<'_>, text: &str, out: &mut W) -> R
 /// Writes a byte between quotes.
 fn write_byte<W: Write>(byte: u8, out: &mut W) -> Result<(), Stop>
     ensures writes { OnOk result (Appends (W.contents out.old) (W.contents out.new) (quoted_byte byte)) }
-    ensures ended { IfErr result (λ stop. (stop ≡ Stop.Write) ⊎ (stop ≡ Stop.Closed)) }
+    ensures ended { IfErr result IsUnwritten }
 {
     if !is_quoted(byte) {
         return write_bytes(&[byte], out);

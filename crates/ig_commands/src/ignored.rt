@@ -1,5 +1,5 @@
 //! The command `ignored`: the topmost entries that are ignored.
-ghost use Rattle.std.specs.Prelude.{◌≡◌, ◌≢◌, ◌++◌, ◌∷◌, ◌&&◌, not, true, false, All, List, Ok, Err, Some, [], Result, IfErr, IfOk, OnOk, map, option_map, string_bytes, if◌then◌else◌};
+ghost use Rattle.std.specs.Prelude.{◌≡◌, ◌≢◌, ◌++◌, ◌∷◌, ◌&&◌, ◌⊎◌, not, true, false, All, List, Ok, Err, Some, [], Result, IfErr, IfOk, OnOk, map, option_map, string_bytes, if◌then◌else◌};
 ghost use Rattle.std.specs.Io.KnownBytes.{Appends};
 ghost use Rattle.std.specs.Iterator.{Drains, IsFinite, YieldsThen};
 ghost use Rattle.std.specs.List.{AllZip, flat_map};
@@ -20,13 +20,15 @@ ghost use Rattle.ig_commands.specs.Ignored.{IgnoredAsked, IgnoredEnds, Writes, a
 ghost use Rattle.ig_commands.specs.Reports.{report_line, report_of};
 ghost use Rattle.ig_commands.specs.Stops.{EndsAfter};
 ghost use Rattle.ig_commands.specs.Surveys.{AreBegun, AreSurveys, IsBegun, IsWhole, OfMatcher, OfRoot, all_seen, is_wrong, reports, seen_of};
+ghost use Rattle.ig_commands.specs.Worktree.{worktree};
 
-use crate::asking::{Asked, asked_for};
+use crate::asking::{Asked, asked_met};
 use crate::counts::{Counts, Seen, report_counts, status_of};
 use crate::form::{Form, write_reasoned};
 use crate::reports::{report_all, report_some};
 use crate::stop::Stop;
-use crate::writing::{is_listed, refuse_or_end, report, write_path};
+use crate::worktree::{Worktree, roots_of};
+use crate::writing::{is_of_kind, refuse_or_end, report, write_path};
 use commands::World;
 use commands::internal::trimmed_roots;
 use ig_options::Options;
@@ -58,10 +60,45 @@ pub fn list_ignored<F: Files, W: Write, E: Write>(
     ensures ended { IfErr result (IgnoredEnds F.Files world.now.files.now world.now.env.now options.now first
         (Appends (W.contents out.old) (W.contents out.new)) (Appends (E.contents err.old) (E.contents err.new))) }
 {
-    match asked_for(world, options, first) {
-        Ok(asked) => report_and_survey(world, options, asked, out, err),
+    match asked_met(world, options, first) {
+        Ok(asked) => survey_worktree(world, options, asked, out, err),
         Err(error) => refuse_or_end(&error, err),
     }
+}
+
+/// Lists in the worktree of the roots.
+fn survey_worktree<F: Files, W: Write, E: Write>(
+    world: &World<'_, F>,
+    options: &Options,
+    asked: Asked,
+    out: &mut W,
+    err: &mut E,
+) -> Result<u8, Stop>
+    ensures lists { IfOk result (λ status. (roots : List Path) × (all : List OfRoot) × AllZip IsTrimmed (map string_bytes options.now.roots.items) roots
+        × Writes options.now (map (option_map problem_of) asked.errors.items) all status (Appends (W.contents out.old) (W.contents out.new)) (Appends (E.contents err.old) (E.contents err.new))
+        × ((tree : Tree) → IsHonest F.Files world.now.files.now tree → asked.walk.roots ≡ []
+        → AreSurveys (worktree roots tree) world.now.env.now options.now asked.walk all)) }
+    ensures ended { IfErr result (λ stop. ((roots : List Path) × (all : List OfRoot) × AllZip IsTrimmed (map string_bytes options.now.roots.items) roots
+        × EndsAfter (all_written options.now all) (flat_map report_of (map (option_map problem_of) asked.errors.items) ++ flat_map reports (all_seen all))
+        (Appends (W.contents out.old) (W.contents out.new)) (Appends (E.contents err.old) (E.contents err.new)) stop
+        × ((tree : Tree) → IsHonest F.Files world.now.files.now tree → asked.walk.roots ≡ []
+        → AreBegun (worktree roots tree) world.now.env.now options.now asked.walk all))
+        ⊎ EndsAfter [] [] (Appends (W.contents out.old) (W.contents out.new)) (Appends (E.contents err.old) (E.contents err.new)) stop) }
+{
+    let Ok(roots) = roots_of(world.alloc, options) else {
+        return Err(Stop::Memory);
+    };
+    let worktree = Worktree {
+        files: world.files,
+        roots,
+    };
+    let met = World {
+        alloc: world.alloc,
+        files: &worktree,
+        env: world.env,
+    };
+    worktree.is_honest();
+    report_and_survey(&met, options, asked, out, err)
 }
 
 /// Reports what is wrong with the files that are named, lists, and reports the counts.
@@ -264,11 +301,11 @@ fn write_entry<W: Write, E: Write>(
     Ok(Seen { reported, found })
 }
 
-/// Whether an entry is listed: it is ignored, and of a kind that is chosen.
+/// Whether an entry is listed: it is ignored, and no kind is chosen, or its kind is.
 fn is_topmost(entry: &Surveyed, options: &Options) -> bool
     ensures { result ≡ is_topmost options.now (entry_of entry.now) }
 {
-    entry.explanation.answer.is_ignore() && is_listed(options, Some(entry.file_type))
+    entry.explanation.answer.is_ignore() && is_of_kind(options, Some(entry.file_type))
 }
 
 /// Writes an entry, where it is listed, unless nothing is to be written.

@@ -15,12 +15,13 @@ mod stop;
 mod types;
 mod unused;
 pub mod why;
+mod worktree;
 mod writing;
 
 pub use commands::World;
 pub use ignored::list_ignored;
 pub use listing::list;
 pub use run::{Ran, finish};
-pub use stop::{Stop, report_stop};
+pub use stop::{Stop, Unwritten, report_stop};
 pub use types::list_types;
 pub use unused::list_unused;

@@ -11,6 +11,7 @@ ghost use Rattle.ig_commands.specs.Counts.{capped};
 ghost use Rattle.ig_commands.specs.Form.{at_end, rule_fields};
 ghost use Rattle.ig_commands.specs.Rules.{Adds, AreWithout, Grows, alone_at, file_rule, is_free, left_of, rule_at, rule_line};
 ghost use Rattle.ig_commands.specs.Unused.{FileRule};
+ghost use Rattle.ig_commands.specs.Stops.{IsUnwritten};
 
 use crate::form::{Form, Origin, write_rule};
 use crate::stop::Stop;
@@ -105,7 +106,7 @@ impl FileRules {
     ) -> Result<u64, Stop>
         ensures writes { IfOk result (λ count. (all : List FileRule) × AreWithout self.now others.now all × (count ≡ capped (length all))
             × Appends (W.contents out.old) (W.contents out.new) (flat_map (rule_line (option_copied form.entry.base) form.entry.null is_written) all)) }
-        ensures ended { IfErr result (λ stop. (stop ≡ Stop.Write) ⊎ (stop ≡ Stop.Closed)) }
+        ensures ended { IfErr result IsUnwritten }
     {
         let others = Without {
             others,
@@ -150,7 +151,7 @@ fn write_file<W: Write>(
         × Appends (W.contents out.old) (W.contents out.new)
         (flat_map (rule_line (option_copied without.entry.form.base) without.entry.form.null without.entry.is_written) (left_of without.entry.others.now source.now file.now.entries))) }
     ensures ordered { IsOrdered nat_cmp file.now }
-    ensures ended { IfErr result (λ stop. (stop ≡ Stop.Write) ⊎ (stop ≡ Stop.Closed)) }
+    ensures ended { IfErr result IsUnwritten }
 {
     let mut count = 0u64;
     for (line, pattern) in file {
@@ -171,7 +172,7 @@ fn write_left<W: Write>(
     ensures writes { IfOk result (λ is_left. (is_left ≡ is_free without.entry.others.now (file_rule source.now line pattern.now))
         × Appends (W.contents out.old) (W.contents out.new) (if is_left
         then rule_line (option_copied without.entry.form.base) without.entry.form.null without.entry.is_written (file_rule source.now line pattern.now) else [])) }
-    ensures ended { IfErr result (λ stop. (stop ≡ Stop.Write) ⊎ (stop ≡ Stop.Closed)) }
+    ensures ended { IfErr result IsUnwritten }
 {
     if without.others.has(source, line) {
         return Ok(false);
@@ -191,7 +192,7 @@ fn write_left<W: Write>(
 fn write_line<W: Write>(form: Form<'_>, origin: &Origin<'_>, out: &mut W) -> Result<(), Stop>
     ensures writes { OnOk result (Appends (W.contents out.old) (W.contents out.new)
         (rule_fields (option_copied form.entry.base) form.entry.null origin.now.source.now origin.now.line origin.now.pattern.now ++ at_end form.entry.null)) }
-    ensures ended { IfErr result (λ stop. (stop ≡ Stop.Write) ⊎ (stop ≡ Stop.Closed)) }
+    ensures ended { IfErr result IsUnwritten }
 {
     write_rule(form, origin, out)?;
     write_bytes(if form.null { b"\0" } else { b"\n" }, out)

@@ -1,26 +1,29 @@
 //! The run of the program, over any two writers.
-ghost use Rattle.std.specs.Prelude.{◌≡◌, ◌≢◌, ◌⊎◌, Ok, Err, [], IfOk, IfErr};
+ghost use Rattle.std.specs.Prelude.{◌≡◌, ◌≢◌, ◌⊎◌, Ok, Err, [], IfOk, IfErr, true};
 ghost use Rattle.std.specs.Io.KnownBytes.{Appends, Keeps};
 ghost use Rattle.ignore_base.specs.Problem.{memory, problem_of};
-ghost use Rattle.ig_commands.specs.Run.{Does, Ends, EndsRead, HasInput, Runs, Shows, types_at_first};
-ghost use Rattle.ig_commands.specs.Stops.{EndsAfter, reason, stop_status};
+ghost use Rattle.ig_commands.specs.Listing.{RefusesOptions};
+ghost use Rattle.ig_commands.specs.Run.{Does, DoesBy, DoesTold, Ends, EndsBy, EndsTold, Runs, Shows, types_at_first};
+ghost use Rattle.ig_commands.specs.Stops.{EndsAfter, IsUnwritten, reason, stop_status};
 ghost use Rattle.ig_options.specs.declared.options.Options.{Options};
 
+use crate::asking::{check_options, default_types};
 use crate::ignored::list_ignored;
-use crate::input::read_paths;
+use crate::input::why_input;
 use crate::listing::list;
 use crate::stop::{Stop, report_stop};
 use crate::types::list_types;
 use crate::unused::list_unused;
 use crate::why::why;
-use crate::writing::write_stop;
+use crate::writing::{refuse_or_end, write_stop};
 use clap::error::ErrorKind;
 use commands::World;
-use ig_options::{Options, Task, read_words};
+use ig_options::{Options, Task, hint_of, read_words};
 use ignore_base::Error;
-use ignore_files::Files;
+use ignore_files::{Fault, Files, Refusal};
 use ignore_types::types::TypesBuilder;
 use std::alloc::Global;
+use std::io;
 use std::io::{BufRead, Write};
 
 /// How a run ended: its status, and whether its time is asked for.
@@ -49,16 +52,19 @@ pub fn run<F: Files, R: BufRead + Drop, W: Write, E: Write>(
         (W.contents out.old) (W.contents out.new) (E.contents err.old) (E.contents err.new)) }
     ensures unreported { IfErr result (λ stop. stop ≢ Stop.Closed) }
 {
-    match read_task(world.alloc, words, input) {
+    match read_task(world, words) {
         Ok((task, options)) => {
-            let ended = run_task(world, task, &options, out, err);
+            let call = Call {
+                task,
+                options: &options,
+            };
+            let ended = run_told(world, &call, input, out, err);
             end_run(ended, options.stats, out, err)
         }
-        Err(Unread::Words(error)) => {
+        Err(error) => {
             let ended = show(&error, out, err);
             end_run(ended, false, out, err)
         }
-        Err(Unread::Input { stop, is_timed }) => end_run(Err(stop), is_timed, out, err),
     }
 }
 
@@ -70,7 +76,7 @@ fn end_run<W: Write, E: Write>(
     err: &mut E,
 ) -> Result<Ran, Stop>
     ensures kept { IfOk ended (λ given. IfOk result (λ ran. ((ran.status ≡ given) × (E.contents err.new ≡ E.contents err.old))
-        ⊎ ((stop : Stop) × ((stop ≡ Stop.Write) ⊎ (stop ≡ Stop.Closed)) × (ran.status ≡ stop_status stop)
+        ⊎ ((stop : Stop) × IsUnwritten stop × (ran.status ≡ stop_status stop)
         × Appends (E.contents err.old) (E.contents err.new) (reason stop)))) }
     ensures reported { IfErr ended (λ stop. IfOk result (λ ran. (ran.status ≡ stop_status stop)
         × Appends (E.contents err.old) (E.contents err.new) (reason stop))) }
@@ -93,7 +99,7 @@ pub fn finish<W: Write, E: Write>(
     err: &mut E,
 ) -> Result<u8, Stop>
     ensures kept { IfOk ended (λ given. IfOk result (λ status. ((status ≡ given) × (E.contents err.new ≡ E.contents err.old))
-        ⊎ ((stop : Stop) × ((stop ≡ Stop.Write) ⊎ (stop ≡ Stop.Closed)) × (status ≡ stop_status stop)
+        ⊎ ((stop : Stop) × IsUnwritten stop × (status ≡ stop_status stop)
         × Appends (E.contents err.old) (E.contents err.new) (reason stop)))) }
     ensures reported { IfErr ended (λ stop. IfOk result (λ status. (status ≡ stop_status stop)
         × Appends (E.contents err.old) (E.contents err.new) (reason stop))) }
@@ -109,7 +115,7 @@ pub fn finish<W: Write, E: Write>(
 /// Writes what an output still keeps, after a command that didn't end early.
 fn flushed<W: Write>(ended: Result<u8, Stop>, out: &mut W) -> Result<u8, Stop>
     ensures ended { IfErr ended (λ stop. result ≡ Err stop) }
-    ensures status { IfOk ended (λ status. (result ≡ Ok status) ⊎ ((result ≡ Err Stop.Write) ⊎ (result ≡ Err Stop.Closed))) }
+    ensures status { IfOk ended (λ status. (result ≡ Ok status) ⊎ ((stop : Stop) × IsUnwritten stop × (result ≡ Err stop))) }
     ensures written { Keeps (W.contents out.old) (W.contents out.new) }
 {
     let status = ended?;
@@ -119,49 +125,113 @@ fn flushed<W: Write>(ended: Result<u8, Stop>, out: &mut W) -> Result<u8, Stop>
     }
 }
 
-/// Why no command begins.
-#[derive(Drop)]
-enum Unread {
-    /// What the parser of words has to say.
-    Words(clap::Error),
-    /// Why standard input can't be read, and whether the time is asked for.
-    Input { stop: Stop, is_timed: bool },
-}
-
-/// The command of the words, and its options, with the paths of standard input where they are to
-/// come from there.
-fn read_task<R: BufRead + Drop>(
-    alloc: Global,
+/// The command of the words, and its options.
+fn read_task<F: Files>(
+    world: &World<'_, F>,
     words: &[String],
-    input: R,
-) -> Result<(Task, Options), Unread>
-    ensures input { IfOk result (λ r. (read : Options) × HasInput read r.1 (R.remaining input)) }
-    ensures unread { IfErr result EndsRead }
-{
-    match read_words(alloc, words) {
-        Ok((task, options)) => with_input(alloc, task, options, input),
-        Err(error) => Err(Unread::Words(error)),
+) -> Result<(Task, Options), clap::Error> {
+    match hint_for(world, words) {
+        Some(error) => Err(error),
+        None => read_words(world.alloc, words),
     }
 }
 
-/// A command and its options as they are, but with the paths of standard input where they are to
-/// come from there.
-fn with_input<R: BufRead + Drop>(
-    alloc: Global,
+/// What the parser has to say of a first word that is like a command, where there is no such entry.
+fn hint_for<F: Files>(world: &World<'_, F>, words: &[String]) -> Option<clap::Error> {
+    let (first, _) = words.split_first()?;
+    let found = match hint_of(world.alloc, first.as_str()) {
+        Ok(found) => found?,
+        Err(error) => return Some(clap::Error::from(error)),
+    };
+    match world.files.stat(world.alloc, first.as_str(), false) {
+        Err(Refusal::Fault(Fault::NotFound)) => Some(found),
+        _ => None,
+    }
+}
+
+/// A command, and its options.
+#[derive(Drop)]
+struct Call<'o> {
     task: Task,
-    mut options: Options,
+    options: &'o Options,
+}
+
+/// Runs a command, and reports what is wrong with what it reads unless that isn't asked for.
+fn run_told<F: Files, R: BufRead + Drop, W: Write, E: Write>(
+    world: &World<'_, F>,
+    call: &Call<'_>,
     input: R,
-) -> Result<(Task, Options), Unread>
-    ensures task { IfOk result (λ r. r.0 ≡ task) }
-    ensures input { IfOk result (λ r. HasInput options r.1 (R.remaining input)) }
-    ensures unread { IfErr result EndsRead }
+    out: &mut W,
+    err: &mut E,
+) -> Result<u8, Stop>
+    ensures done { IfOk result (λ status. DoesTold call.now.options.now.no_messages F.Files world.now.files.now world.now.env.now call.now.options.now types_at_first call.now.task (R.remaining input)
+        status (Appends (W.contents out.old) (W.contents out.new)) (Appends (E.contents err.old) (E.contents err.new))) }
+    ensures ended { IfErr result (EndsTold call.now.options.now.no_messages F.Files world.now.files.now world.now.env.now call.now.options.now types_at_first call.now.task (R.remaining input)
+        (Appends (W.contents out.old) (W.contents out.new)) (Appends (E.contents err.old) (E.contents err.new))) }
 {
-    match read_paths(alloc, input, &mut options) {
-        Ok(()) => Ok((task, options)),
-        Err(stop) => Err(Unread::Input {
-            stop,
-            is_timed: options.stats,
-        }),
+    if call.options.no_messages {
+        return run_untold(world, call, input, out, err);
+    }
+    run_call(world, call, input, out, err)
+}
+
+/// Runs a command, and reports nothing but that its options are rejected.
+fn run_untold<F: Files, R: BufRead + Drop, W: Write, E: Write>(
+    world: &World<'_, F>,
+    call: &Call<'_>,
+    input: R,
+    out: &mut W,
+    err: &mut E,
+) -> Result<u8, Stop>
+    ensures done { IfOk result (λ status. DoesTold true F.Files world.now.files.now world.now.env.now call.now.options.now types_at_first call.now.task (R.remaining input)
+        status (Appends (W.contents out.old) (W.contents out.new)) (Appends (E.contents err.old) (E.contents err.new))) }
+    ensures ended { IfErr result (EndsTold true F.Files world.now.files.now world.now.env.now call.now.options.now types_at_first call.now.task (R.remaining input)
+        (Appends (W.contents out.old) (W.contents out.new)) (Appends (E.contents err.old) (E.contents err.new))) }
+{
+    match check_asked(world, call.options) {
+        Ok(()) => run_call(world, call, input, out, &mut Nowhere),
+        Err(error) => refuse_or_end(&error, err),
+    }
+}
+
+/// Runs a command, which reads standard input where the paths of `why` are to come from there.
+fn run_call<F: Files, R: BufRead + Drop, W: Write, E: Write>(
+    world: &World<'_, F>,
+    call: &Call<'_>,
+    input: R,
+    out: &mut W,
+    err: &mut E,
+) -> Result<u8, Stop>
+    ensures done { IfOk result (λ status. DoesBy call.now.options.now.stdin F.Files world.now.files.now world.now.env.now call.now.options.now types_at_first call.now.task (R.remaining input)
+        status (Appends (W.contents out.old) (W.contents out.new)) (Appends (E.contents err.old) (E.contents err.new))) }
+    ensures ended { IfErr result (EndsBy call.now.options.now.stdin F.Files world.now.files.now world.now.env.now call.now.options.now types_at_first call.now.task (R.remaining input)
+        (Appends (W.contents out.old) (W.contents out.new)) (Appends (E.contents err.old) (E.contents err.new))) }
+{
+    if call.options.stdin {
+        return why_input(world, call.options, input, out, err);
+    }
+    run_task(world, call.task, call.options, out, err)
+}
+
+/// Whether the options are rejected, with all default types at first.
+fn check_asked<F: Files>(world: &World<'_, F>, options: &Options) -> Result<(), Error>
+    ensures refused { IfErr result (λ e. (problem_of e ≡ memory) ⊎ RefusesOptions world.now.env.now options.now types_at_first (problem_of e)) }
+{
+    let first = default_types(world.alloc)?;
+    check_options(world.alloc, world.env, options, first)
+}
+
+/// A writer that keeps nothing.
+#[derive(Drop)]
+struct Nowhere;
+
+impl Write for Nowhere {
+    fn write(&mut self, bytes: &[u8]) -> io::Result<usize> {
+        Ok(bytes.len())
+    }
+
+    fn flush(&mut self) -> io::Result<()> {
+        Ok(())
     }
 }
 
@@ -188,16 +258,6 @@ fn run_task<F: Files, W: Write, E: Write>(
         Task::Unused => list_unused(world, options, first, out, err),
         Task::Types => list_types(first, options, out, err),
     }
-}
-
-/// The file types that exist without `--type-add`.
-fn default_types(alloc: Global) -> Result<TypesBuilder, Error>
-    ensures value { IfOk result (λ types. types ≡ types_at_first) }
-    ensures out_of_memory { IfErr result (λ e. problem_of e ≡ memory) }
-{
-    let mut builder = TypesBuilder::new(alloc);
-    builder.push_all_defaults()?;
-    Ok(builder)
 }
 
 /// Writes what the parser of words has to say: help and version to the output, mistakes to the

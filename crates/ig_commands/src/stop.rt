@@ -1,9 +1,34 @@
 //! Why a command ends early, and the report of it.
 ghost use Rattle.std.specs.Prelude.{◌≡◌, ◌≢◌, IfOk, IfErr};
 ghost use Rattle.std.specs.Io.KnownBytes.{Appends};
-ghost use Rattle.ig_commands.specs.Stops.{reason, stop_status};
+ghost use Rattle.ig_commands.specs.Stops.{reason, stop_status, unwritten_text};
 
 use std::io::Write;
+
+/// Why an output can't be written.
+#[derive(Clone, Copy)]
+pub enum Unwritten {
+    /// The device is full.
+    Full,
+    /// The user may write no more on the device.
+    Quota,
+    /// A file may not become so large.
+    TooLarge,
+    /// Anything else.
+    Other,
+}
+
+/// The text of why an output can't be written, after a colon; empty where it isn't known.
+fn unwritten_text(why: Unwritten) -> &'static str
+    ensures { result.now ≡ unwritten_text why }
+{
+    match why {
+        Unwritten::Full => ": no space left on the device",
+        Unwritten::Quota => ": the quota of the device is exceeded",
+        Unwritten::TooLarge => ": the file would be too large",
+        Unwritten::Other => "",
+    }
+}
 
 /// Why a command ends early.
 #[derive(Clone, Copy)]
@@ -12,8 +37,8 @@ pub enum Stop {
     Memory,
     /// Standard input can't be read.
     Read,
-    /// The output can't be written.
-    Write,
+    /// The output can't be written, for this reason.
+    Write(Unwritten),
     /// Nobody reads the output any more: the pipe that it goes to is closed.
     Closed,
     /// The errors can't be written, so nothing more is reported.
@@ -33,7 +58,7 @@ pub fn report_stop<E: Write>(err: &mut E, stop: Stop) -> Result<u8, Stop>
     let reported = match stop {
         Stop::Memory => writeln!(err, "ig: out of memory"),
         Stop::Read => writeln!(err, "ig: cannot read standard input"),
-        Stop::Write => writeln!(err, "ig: cannot write"),
+        Stop::Write(why) => writeln!(err, "ig: cannot write{}", unwritten_text(why)),
         Stop::Closed => return Ok(0),
         Stop::Silence => return Err(stop),
     };

@@ -2,7 +2,7 @@
 ghost use Rattle.std.specs.Prelude.{◌≡◌, ◌⊎◌, [], OnOk, IfOk, IfErr, map, string_bytes};
 ghost use Rattle.std.specs.Io.KnownBytes.{Appends};
 ghost use Rattle.std.specs.List.{flat_map};
-ghost use Rattle.ig_commands.specs.Stops.{EndsAfter};
+ghost use Rattle.ig_commands.specs.Stops.{EndsAfter, IsUnwritten};
 ghost use Rattle.ig_commands.specs.Types.{ListsTypes, after_comma, glob_list, type_line};
 
 use crate::stop::Stop;
@@ -38,7 +38,7 @@ pub fn list_types<W: Write, E: Write>(
 /// Writes each type on a line.
 fn write_types<W: Write>(definitions: &[FileTypeDef], out: &mut W) -> Result<(), Stop>
     ensures writes { OnOk result (Appends (W.contents out.old) (W.contents out.new) (flat_map type_line definitions.now)) }
-    ensures ended { IfErr result (λ stop. (stop ≡ Stop.Write) ⊎ (stop ≡ Stop.Closed)) }
+    ensures ended { IfErr result IsUnwritten }
 {
     for definition in definitions {
         write_type(definition, out)?;
@@ -49,7 +49,7 @@ fn write_types<W: Write>(definitions: &[FileTypeDef], out: &mut W) -> Result<(),
 /// Writes a type on a line.
 fn write_type<W: Write>(definition: &FileTypeDef, out: &mut W) -> Result<(), Stop>
     ensures writes { OnOk result (Appends (W.contents out.old) (W.contents out.new) (type_line definition.now)) }
-    ensures ended { IfErr result (λ stop. (stop ≡ Stop.Write) ⊎ (stop ≡ Stop.Closed)) }
+    ensures ended { IfErr result IsUnwritten }
 {
     write_bytes(definition.name().as_bytes(), out)?;
     write_bytes(b": ", out)?;
@@ -60,7 +60,7 @@ fn write_type<W: Write>(definition: &FileTypeDef, out: &mut W) -> Result<(), Sto
 /// Writes globs, between commas.
 fn write_globs<W: Write>(globs: &[String], out: &mut W) -> Result<(), Stop>
     ensures writes { OnOk result (Appends (W.contents out.old) (W.contents out.new) (glob_list (map string_bytes globs.now))) }
-    ensures ended { IfErr result (λ stop. (stop ≡ Stop.Write) ⊎ (stop ≡ Stop.Closed)) }
+    ensures ended { IfErr result IsUnwritten }
 {
     let Some((first, rest)) = globs.split_first() else {
         return Ok(());
@@ -75,7 +75,7 @@ fn write_globs<W: Write>(globs: &[String], out: &mut W) -> Result<(), Stop>
 /// Writes a glob after a comma.
 fn write_after_comma<W: Write>(glob: &str, out: &mut W) -> Result<(), Stop>
     ensures writes { OnOk result (Appends (W.contents out.old) (W.contents out.new) (after_comma glob.now)) }
-    ensures ended { IfErr result (λ stop. (stop ≡ Stop.Write) ⊎ (stop ≡ Stop.Closed)) }
+    ensures ended { IfErr result IsUnwritten }
 {
     write_bytes(b", ", out)?;
     write_bytes(glob.as_bytes(), out)

@@ -1,5 +1,5 @@
 //! The command `unused`: the rules below a folder that decide on no entry there.
-ghost use Rattle.std.specs.Prelude.{◌≡◌, ◌≢◌, ◌⊎◌, ◌++◌, ◌∷◌, ℕ, All, List, Ok, Some, None, [], Result, IfErr, IfOk, OnOk, codes, map, option_map, if◌then◌else◌};
+ghost use Rattle.std.specs.Prelude.{◌≡◌, ◌≢◌, ◌⊎◌, ◌++◌, ◌∷◌, ℕ, All, List, Ok, Some, None, [], Result, IfErr, IfOk, OnOk, codes, map, option_map, string_bytes, if◌then◌else◌};
 ghost use Rattle.std.specs.Io.KnownBytes.{Appends};
 ghost use Rattle.std.specs.Iterator.{IsFinite, YieldsThen};
 ghost use Rattle.std.specs.List.{AllZip, flat_map};
@@ -19,6 +19,7 @@ ghost use Rattle.ignore_survey.specs.Surveyed.{item_of};
 ghost use Rattle.ignore_survey.specs.declared.surveyed.Surveyed.{Surveyed};
 ghost use Rattle.ignore_why.specs.Cited.{Named};
 ghost use Rattle.ignore_why.specs.QueryWhy.{query_why_of};
+ghost use Rattle.commands.specs.Walking.{IsTrimmed};
 ghost use Rattle.ig_commands.specs.Counts.{counted};
 ghost use Rattle.ig_commands.specs.Form.{rule_of};
 ghost use Rattle.ig_commands.specs.Found.{FindsOf, deciding, first_at, met, read_in};
@@ -27,14 +28,16 @@ ghost use Rattle.ig_commands.specs.Rules.{Grows, rule_at};
 ghost use Rattle.ig_commands.specs.Stops.{EndsAfter};
 ghost use Rattle.ig_commands.specs.Surveys.{AreBegun, AreSurveys, IsBegun, OfMatcher, OfRoot, all_seen, is_wrong, reports, seen_of};
 ghost use Rattle.ig_commands.specs.Unused.{AreUnusedIn, FileRule, UnusedAsked, UnusedEnds, Writes};
+ghost use Rattle.ig_commands.specs.Worktree.{worktree};
 
-use crate::asking::{Asked, asked_for};
+use crate::asking::{Asked, asked_met};
 use crate::counts::{Counts, report_counts, status_of};
 use crate::form::{Form, rule_of};
 use crate::ignored::{matchers_of, report_item};
 use crate::reports::{report_all, report_some};
 use crate::rules::FileRules;
 use crate::stop::Stop;
+use crate::worktree::{Worktree, roots_of};
 use crate::writing::refuse_or_end;
 use commands::World;
 use ig_options::Options;
@@ -66,10 +69,47 @@ pub fn list_unused<F: Files, W: Write, E: Write>(
     ensures ended { IfErr result (UnusedEnds F.Files world.now.files.now world.now.env.now options.now first
         (Appends (W.contents out.old) (W.contents out.new)) (Appends (E.contents err.old) (E.contents err.new))) }
 {
-    match asked_for(world, options, first) {
-        Ok(asked) => report_and_find(world, options, asked, out, err),
+    match asked_met(world, options, first) {
+        Ok(asked) => find_in_worktree(world, options, asked, out, err),
         Err(error) => refuse_or_end(&error, err),
     }
+}
+
+/// Lists the rules that decide on no entry of the worktree of the roots.
+fn find_in_worktree<F: Files, W: Write, E: Write>(
+    world: &World<'_, F>,
+    options: &Options,
+    asked: Asked,
+    out: &mut W,
+    err: &mut E,
+) -> Result<u8, Stop>
+    ensures lists { IfOk result (λ status. (roots : List Path) × (all : List OfRoot) × (unused : List FileRule)
+        × AllZip IsTrimmed (map string_bytes options.now.roots.items) roots
+        × Writes options.now (map (option_map problem_of) asked.errors.items) all unused status (Appends (W.contents out.old) (W.contents out.new)) (Appends (E.contents err.old) (E.contents err.new))
+        × ((tree : Tree) → IsHonest F.Files world.now.files.now tree → asked.walk.roots ≡ []
+        → AreUnusedIn (worktree roots tree) world.now.env.now options.now asked.walk all unused)) }
+    ensures ended { IfErr result (λ stop. ((roots : List Path) × (all : List OfRoot) × AllZip IsTrimmed (map string_bytes options.now.roots.items) roots
+        × EndsAfter [] (flat_map report_of (map (option_map problem_of) asked.errors.items) ++ flat_map reports (all_seen all))
+        (Appends (W.contents out.old) (W.contents out.new)) (Appends (E.contents err.old) (E.contents err.new)) stop
+        × ((tree : Tree) → IsHonest F.Files world.now.files.now tree → asked.walk.roots ≡ []
+        → AreBegun (worktree roots tree) world.now.env.now options.now asked.walk all
+        ⊎ AreSurveys (worktree roots tree) world.now.env.now options.now asked.walk all))
+        ⊎ EndsAfter [] [] (Appends (W.contents out.old) (W.contents out.new)) (Appends (E.contents err.old) (E.contents err.new)) stop) }
+{
+    let Ok(roots) = roots_of(world.alloc, options) else {
+        return Err(Stop::Memory);
+    };
+    let worktree = Worktree {
+        files: world.files,
+        roots,
+    };
+    let met = World {
+        alloc: world.alloc,
+        files: &worktree,
+        env: world.env,
+    };
+    worktree.is_honest();
+    report_and_find(&met, options, asked, out, err)
 }
 
 /// The rules that were read, and those that decided on an entry.

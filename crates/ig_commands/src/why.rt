@@ -9,6 +9,7 @@ ghost use Rattle.ignore_base.specs.Problem.{memory, problem_of};
 ghost use Rattle.ignore_base.specs.Text.{Path};
 ghost use Rattle.ignore_dir.specs.Load.{Loaded};
 ghost use Rattle.ignore_dir.specs.Query.{is_dir_there};
+ghost use Rattle.ignore_dir.specs.Verdict.{is_ignore};
 ghost use Rattle.ignore_files.specs.Gives.{IsHonest};
 ghost use Rattle.ignore_files.specs.Tree.{Tree};
 ghost use Rattle.ignore_query.specs.Agrees.{Agrees};
@@ -20,9 +21,9 @@ ghost use Rattle.ignore_why.specs.QueryWhy.{query_why_of};
 ghost use Rattle.ig_commands.specs.Counts.{counted};
 ghost use Rattle.ig_commands.specs.Form.{reasoned};
 ghost use Rattle.ig_commands.specs.Reports.{report_of};
-ghost use Rattle.ig_commands.specs.Stops.{EndsAfter};
+ghost use Rattle.ig_commands.specs.Stops.{EndsAfter, IsUnwritten};
 ghost use Rattle.ig_commands.specs.Why.{AreAll, AreBegun, AreSaid, IsMatcherOf, IsSaid, IsSaidOf, WhyAsked, WhyEnds, Writes};
-ghost use Rattle.ig_commands.specs.Why.{is_found, is_wrong, outside_line, record_line, reports, said_of, written};
+ghost use Rattle.ig_commands.specs.Why.{is_found, is_left_out, is_wrong, outside_line, record_line, reports, said_of, written};
 ghost use Rattle.ig_commands.specs.Why.{Said as Plain};
 
 use crate::asking::{Asked, asked_for};
@@ -109,7 +110,7 @@ fn report_and_ask<F: Files, W: Write, E: Write>(
 }
 
 /// A matcher for the paths below the root, by these settings.
-fn matcher_of<F: Files>(
+pub(crate) fn matcher_of<F: Files>(
     world: &World<'_, F>,
     mut walk: WalkOptions,
 ) -> Result<IncrementalIgnore, Error>
@@ -158,7 +159,7 @@ fn ask_all<F: Files, W: Write, E: Write>(
 }
 
 /// What becomes of what is given, by a matcher.
-fn ask<'g, F: Files>(
+pub(crate) fn ask<'g, F: Files>(
     world: &World<'_, F>,
     matcher: &mut IncrementalIgnore,
     given: &'g Given,
@@ -243,7 +244,7 @@ fn is_dir_there<F: Files>(alloc: Global, files: &F, root: &str, path: &str) -> R
 }
 
 /// Writes a path after its reason, and reports what is wrong.
-fn write_said<W: Write, E: Write>(
+pub(crate) fn write_said<W: Write, E: Write>(
     options: &Options,
     root: &str,
     said: &Said<'_>,
@@ -270,7 +271,8 @@ fn write_said<W: Write, E: Write>(
     }
 }
 
-/// Writes a path after its reason, unless nothing is to be written.
+/// Writes a path after its reason, unless nothing is to be written, or only what is ignored and that
+/// isn't.
 fn write_answer<W: Write>(
     options: &Options,
     root: &str,
@@ -279,13 +281,21 @@ fn write_answer<W: Write>(
     out: &mut W,
 ) -> Result<(), Stop>
     ensures writes { OnOk result (Appends (W.contents out.old) (W.contents out.new)
-        (if options.now.quiet then [] else reasoned (Some root.now) options.now.null (query_why_of explanation.now.reason) path.now)) }
-    ensures ended { IfErr result (λ stop. (stop ≡ Stop.Write) ⊎ (stop ≡ Stop.Closed)) }
+        (if is_left_out options.now (is_ignore explanation.now.answer.verdict) then []
+        else reasoned (Some root.now) options.now.null (query_why_of explanation.now.reason) path.now)) }
+    ensures ended { IfErr result IsUnwritten }
 {
-    if options.quiet {
+    if is_left_out(options, explanation.answer.is_ignore()) {
         return Ok(());
     }
     write_reasoned(form_of(options, root), explanation, path, out)
+}
+
+/// Whether a path isn't written, by whether it is ignored.
+fn is_left_out(options: &Options, is_ignored: bool) -> bool
+    ensures { result ≡ is_left_out options.now is_ignored }
+{
+    options.quiet || (options.only_ignored && !is_ignored)
 }
 
 /// How paths below a root are written.

@@ -2,23 +2,24 @@
 ghost use Rattle.std.specs.Prelude.{◌≡◌, ◌≢◌, ◌⊎◌, [], OnOk, IfOk, IfErr, None, true};
 ghost use Rattle.std.specs.Io.KnownBytes.{Appends};
 ghost use Rattle.std.specs.IoError.{error_kind};
+ghost use Rattle.std.specs.List.{list_any};
 ghost use Rattle.ignore_base.specs.Problem.{memory, problem_of};
 ghost use Rattle.ig_commands.specs.Reports.{report_line};
-ghost use Rattle.ig_commands.specs.Stops.{write_stop};
-ghost use Rattle.ig_commands.specs.Writing.{is_chosen, is_listed, record_of, shown};
+ghost use Rattle.ig_commands.specs.Stops.{IsUnwritten, write_stop};
+ghost use Rattle.ig_commands.specs.Writing.{asks_for_files, chooses, is_chosen, is_listed, is_of_kind, is_positive, is_regular, record_of, shown};
 
-use crate::stop::Stop;
+use crate::stop::{Stop, Unwritten};
 use ig_options::Options;
 use ignore_base::Error;
 use ignore_base::text::trim_root;
-use ignore_files::FileType;
+use ignore_files::{FileType, Name};
 use std::io;
 use std::io::Write;
 
 /// Writes bytes to the output.
 pub(crate) fn write_bytes<W: Write>(bytes: &[u8], out: &mut W) -> Result<(), Stop>
     ensures writes { OnOk result (Appends (W.contents out.old) (W.contents out.new) bytes.now) }
-    ensures ended { IfErr result (λ stop. (stop ≡ Stop.Write) ⊎ (stop ≡ Stop.Closed)) }
+    ensures ended { IfErr result IsUnwritten }
 {
     match out.write_all(bytes) {
         Ok(()) => Ok(()),
@@ -29,11 +30,14 @@ pub(crate) fn write_bytes<W: Write>(bytes: &[u8], out: &mut W) -> Result<(), Sto
 /// Why a failed write ends a command.
 pub(crate) fn write_stop(error: &io::Error) -> Stop
     ensures kind { result ≡ write_stop (error_kind error.now) }
-    ensures ended { (result ≡ Stop.Write) ⊎ (result ≡ Stop.Closed) }
+    ensures ended { IsUnwritten result }
 {
     match error.kind() {
         io::ErrorKind::BrokenPipe => Stop::Closed,
-        _ => Stop::Write,
+        io::ErrorKind::StorageFull => Stop::Write(Unwritten::Full),
+        io::ErrorKind::QuotaExceeded => Stop::Write(Unwritten::Quota),
+        io::ErrorKind::FileTooLarge => Stop::Write(Unwritten::TooLarge),
+        _ => Stop::Write(Unwritten::Other),
     }
 }
 
@@ -41,7 +45,7 @@ pub(crate) fn write_stop(error: &io::Error) -> Stop
 /// out.
 pub(crate) fn write_path<W: Write>(options: &Options, path: &str, out: &mut W) -> Result<(), Stop>
     ensures writes { OnOk result (Appends (W.contents out.old) (W.contents out.new) (record_of options.now path.now)) }
-    ensures ended { IfErr result (λ stop. (stop ≡ Stop.Write) ⊎ (stop ≡ Stop.Closed)) }
+    ensures ended { IfErr result IsUnwritten }
 {
     write_bytes(shown(options.is_bare, path).as_bytes(), out)?;
     let end: &[u8] = if options.null { b"\0" } else { b"\n" };
@@ -91,12 +95,66 @@ pub(crate) fn refuse_or_end<E: Write>(error: &Error, err: &mut E) -> Result<u8, 
     }
 }
 
-/// Whether entries of this kind are listed.
+/// Whether entries of this kind are listed. Where no kind is chosen, all are; but files alone where
+/// a type is chosen, or a glob that lists what it matches.
 pub(crate) fn is_listed(options: &Options, kind: Option<FileType>) -> bool
     ensures { result ≡ is_listed options.now kind }
 {
-    let all = !(options.files || options.dirs || options.links);
-    all || is_chosen(options, kind)
+    if chooses(options) {
+        return is_chosen(options, kind);
+    }
+    !asks_for_files(options) || is_regular(kind)
+}
+
+/// Whether no kind is chosen, or this one is.
+pub(crate) fn is_of_kind(options: &Options, kind: Option<FileType>) -> bool
+    ensures { result ≡ is_of_kind options.now kind }
+{
+    !chooses(options) || is_chosen(options, kind)
+}
+
+/// Whether a kind is chosen.
+fn chooses(options: &Options) -> bool
+    ensures { result ≡ chooses options.now }
+{
+    options.files || options.dirs || options.links
+}
+
+/// Whether a type is chosen, or a glob lists what it matches.
+fn asks_for_files(options: &Options) -> bool
+    ensures { result ≡ asks_for_files options.now }
+{
+    let types = options.types.as_slice();
+    !types.is_empty()
+        || any_positive(options.globs.as_slice())
+        || any_positive(options.iglobs.as_slice())
+}
+
+/// Whether one of these globs lists what it matches.
+fn any_positive(globs: &[Name]) -> bool
+    ensures { result ≡ list_any is_positive globs.now }
+{
+    globs.iter().any(|glob| is_positive(glob.as_str()))
+}
+
+/// Whether a glob lists what it matches: it doesn't begin with `!`.
+fn is_positive(glob: &str) -> bool
+    ensures { result ≡ is_positive glob.now }
+{
+    !glob.starts_with('!')
+}
+
+/// Whether a kind is that of a file.
+fn is_regular(kind: Option<FileType>) -> bool
+    ensures { result ≡ is_regular kind }
+{
+    match kind {
+        None => false,
+        Some(FileType::File) => true,
+        Some(FileType::Dir) => false,
+        Some(FileType::Symlink) => false,
+        Some(FileType::Other) => false,
+    }
 }
 
 /// Whether this kind is chosen.

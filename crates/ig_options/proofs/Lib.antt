@@ -1,3 +1,4 @@
+pub mod FdLemmas
 pub mod LoopLemmas
 pub mod QuoteLemmas
 pub mod SizeLemmas

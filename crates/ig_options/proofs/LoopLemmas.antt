@@ -100,6 +100,16 @@ globs_later items i text old next problem h added refuses =
 
 -- Files of rules.
 
+pub no_files : (tree : Tree) (env : Env) (none : Bool) (paths : List (List ℕ)) (w : WalkOptions) (problems : List (Option Problem))
+    → none ≡ true → problems ≡ [] → AddsFiles tree env (if none then [] else paths) w w problems
+no_files tree env none paths w problems e empty =
+    subst (λ (b : Bool). AddsFiles tree env (if b then [] else paths) w w problems) (sym e) (refl, empty)
+
+pub some_files : (tree : Tree) (env : Env) (none : Bool) (paths : List (List ℕ)) (old new : WalkOptions) (problems : List (Option Problem))
+    → none ≡ false → AddsFiles tree env paths old new problems → AddsFiles tree env (if none then [] else paths) old new problems
+some_files tree env none paths old new problems e adds =
+    subst (λ (b : Bool). AddsFiles tree env (if b then [] else paths) old new problems) (sym e) adds
+
 pub files_more : (tree : Tree) (env : Env) (items : List (List ℕ)) (i : ℕ) (text : List ℕ) (old next new : WalkOptions)
     (first : Option Problem) (rest : List (Option Problem)) → IsHere items i text → AddsIgnore tree env text old next first
     → AddsFiles tree env (drop (i + 1) items) next new rest → AddsFiles tree env (drop i items) old new (first ∷ rest)

@@ -1,6 +1,6 @@
 -- Worked quotes, records and sizes, and what some options make of settings and types, whatever else
 -- is asked.
-use Rattle.std.proofs.Common.{◌≡◌, ◌≢◌, ◌∙◌, ◌+◌, ◌*◌, ◌==◌, ◌&&◌, ◌||◌, ℕ, Bool, true, false, not, cond, List, [], ◌∷◌, ◌++◌, codes, Option, None, Some, refl, sym, ap, subst, inl, inr, arith}
+use Rattle.std.proofs.Common.{◌≡◌, ◌≢◌, ◌∙◌, ◌+◌, ◌*◌, ◌==◌, ◌&&◌, ◌||◌, ℕ, Bool, true, false, not, cond, nat_lt, List, [], ◌∷◌, ◌++◌, codes, Option, None, Some, refl, sym, ap, subst, inl, inr, arith}
 use Rattle.std.proofs.lemmas.Bool.{true≢false}
 use Rattle.std.specs.Str.Parse.{AllDigits}
 use Rattle.ignore_base.specs.Text.{Path}
@@ -8,11 +8,13 @@ use Rattle.ignore_rules.specs.Rules.{AddsLine, Building, Ruleset, built, with_ca
 use Rattle.ignore_types.specs.Types.{Draft, with_chosen}
 use Rattle.ignore.specs.Depths.{lowered, raised}
 use Rattle.ig_options.specs.Choices.{with_all_chosen, with_choices}
+use Rattle.ig_options.specs.Fd.{definition_of}
+use Rattle.ig_options.specs.Files.{named_files}
 use Rattle.ig_options.specs.Given.{Gives, IsText}
 use Rattle.ig_options.specs.Globs.{AddsGlobs, AreGlobs, globs_begun}
 use Rattle.ig_options.specs.Quotes.{IsQuoteOf, StandsFor, as_it_is, by_digits, by_letter, none, quoted}
 use Rattle.ig_options.specs.QuoteSteps.{Closes, IsOctal}
-use Rattle.ig_options.specs.Settings.{walk_options}
+use Rattle.ig_options.specs.Settings.{is_unruled, lists_hidden, walk_options}
 use Rattle.ig_options.specs.Sizes.{IsSize, unit_of}
 use Rattle.ig_options.specs.declared.given.Given.{Given}
 use Rattle.ig_options.specs.declared.given.Given.TheVariants as place
@@ -116,10 +118,11 @@ no_plus size (inr (digits, letter, unit, cut, is, h)) =
     let e : unit_of 49 ≡ Some unit = ap unit_of (same_ends (43 ∷ []) digits 49 letter cut).1 ∙ is in
     cc e
 
--- with `-I` no file of rules counts, whatever it is named, and hidden entries stay hidden without `-H`
-pub no_file_counts : (o : Options) → o.no_ignore ≡ true → let s = (walk_options o).settings in
+-- where no file of rules counts, none does whatever it is named, and hidden entries stay hidden
+-- unless they are listed
+pub no_file_counts : (o : Options) → is_unruled o ≡ true → let s = (walk_options o).settings in
     (s.parents ≡ false) × (s.ignore ≡ false) × (s.git_ignore ≡ false) × (s.git_global ≡ false) × (s.git_exclude ≡ false)
-    × (s.custom ≡ []) × (s.hidden ≡ not o.hidden)
+    × (s.custom ≡ []) × (s.hidden ≡ not (lists_hidden o))
 no_file_counts o all = (
   ap (λ (b : Bool). not b && not o.no_ignore_parent) all,
   ap (λ (b : Bool). not b && not o.no_ignore_dot) all,
@@ -129,6 +132,28 @@ no_file_counts o all = (
   ap (λ (b : Bool). cond b [] o.ignore_names) all,
   refl,
 )
+
+-- no file counts with `-I`, nor with `-u`, which leaves hidden entries hidden unless it comes twice
+pub unruled : (o : Options) → o.no_ignore ≡ true → is_unruled o ≡ true
+unruled o all = ap (λ (b : Bool). b || nat_lt 0 o.unrestricted) all
+
+pub unrestricted : (o : Options) → o.no_ignore ≡ false → o.hidden ≡ false → o.unrestricted ≡ 1
+    → (is_unruled o ≡ true) × (lists_hidden o ≡ false)
+unrestricted o plain stays once = (
+  ap (λ (b : Bool). b || nat_lt 0 o.unrestricted) plain ∙ ap (λ n. false || nat_lt 0 n) once,
+  ap (λ (b : Bool). b || nat_lt 1 o.unrestricted) stays ∙ ap (λ n. false || nat_lt 1 n) once,
+)
+
+pub unrestricted_twice : (o : Options) → o.hidden ≡ false → o.unrestricted ≡ 2 → lists_hidden o ≡ true
+unrestricted_twice o stays twice = ap (λ (b : Bool). b || nat_lt 1 o.unrestricted) stays ∙ ap (λ n. false || nat_lt 1 n) twice
+
+-- the files that are named don't count with `--no-ignore-files`
+pub no_named_files : (o : Options) → o.no_ignore_files ≡ true → named_files o ≡ []
+no_named_files o all = ap (λ (b : Bool). cond b [] o.ignore_files) all
+
+-- `rs` and `.rs` are one extension
+pub extensions : (definition_of (codes "rs") ≡ codes "extension:*.rs") × (definition_of (codes ".rs") ≡ codes "extension:*.rs")
+extensions = (refl, refl)
 
 -- the least depth 3 above the greatest depth 2 is lowered to 2
 pub depths : (o : Options) → o.max_depth ≡ Some 2 → o.min_depth ≡ Some 3 → let s = (walk_options o).settings in
@@ -147,10 +172,10 @@ choices o draft selected negated =
 
 -- a glob of both cases is added last, and is the only one that matches both
 pub globs : (o : Options) (dir : Path) (rules : Ruleset) → o.globs ≡ codes "a" ∷ [] → o.iglobs ≡ codes "b" ∷ [] → AreGlobs o dir rules
-    → (first last : Building) × AddsLine (globs_begun dir) None (codes "a") first
+    → (first last : Building) × AddsLine (globs_begun o dir) None (codes "a") first
     × AddsLine (with_case_insensitive first true) None (codes "b") last × (rules ≡ built last)
 globs o dir rules plain both (x, y, h, k, is) =
-    let (first, added, same) = subst (λ (gs : List (List ℕ)). AddsGlobs gs (globs_begun dir) x) plain h in
+    let (first, added, same) = subst (λ (gs : List (List ℕ)). AddsGlobs gs (globs_begun o dir) x) plain h in
     let (last, more, end) = subst (λ (gs : List (List ℕ)). AddsGlobs gs (with_case_insensitive x true) y) both k in (
       first,
       last,

@@ -1,6 +1,7 @@
 pub mod Settings
 pub mod Globs
 pub mod Choices
+pub mod Fd
 pub mod Files
 pub mod Quotes
 pub mod QuoteSteps

@@ -23,14 +23,14 @@ pub enum Given {
 ///
 /// # Errors
 /// Out of memory.
-pub fn given_by(record: Vec<u8>, number: u64, has_nul: bool) -> Result<Given, AllocError>
-    ensures given { IfOk result (Gives (is_opened has_nul record.items) record.items number) }
+pub fn given_by(text: Vec<u8>, number: u64, has_nul: bool) -> Result<Given, AllocError>
+    ensures given { IfOk result (Gives (is_opened has_nul text.items) text.items number) }
 {
-    if !is_opened(has_nul, record.as_slice()) {
-        return Ok(text_of(record, number));
+    if !is_opened(has_nul, text.as_slice()) {
+        return Ok(text_of(text, number));
     }
-    let alloc = *record.allocator();
-    let quoted = record.as_slice();
+    let alloc = *text.allocator();
+    let quoted = text.as_slice();
     let found = unquoted(alloc, quoted)?;
     let Some(bytes) = found else {
         return Ok(Given::BadlyQuoted(number));
@@ -40,13 +40,13 @@ pub fn given_by(record: Vec<u8>, number: u64, has_nul: bool) -> Result<Given, Al
 }
 
 /// Whether a record is unquoted: it begins with a quote, and records don't end in NUL.
-fn is_opened(has_nul: bool, record: &[u8]) -> bool
-    ensures { result ≡ is_opened has_nul record.now }
+fn is_opened(has_nul: bool, text: &[u8]) -> bool
+    ensures { result ≡ is_opened has_nul text.now }
 {
     if has_nul {
         return false;
     }
-    let Some((byte, _)) = record.split_first() else {
+    let Some((byte, _)) = text.split_first() else {
         return false;
     };
     *byte == b'"'

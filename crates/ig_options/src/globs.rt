@@ -19,8 +19,9 @@ pub fn globs_of(alloc: Global, options: &Options, dir: &str) -> Result<Override,
     ensures refused { IfErr result (λ e. (problem_of e ≡ memory) ⊎ RefusesOneOf options.now dir.now (problem_of e)) }
 {
     let mut builder = OverrideBuilder::new(alloc, dir)?;
-    push_globs(&mut builder, &options.globs)?;
-    let both = builder.case_insensitive(true)?;
+    let plain = builder.case_insensitive(options.glob_case_insensitive)?;
+    push_globs(plain, &options.globs)?;
+    let both = plain.case_insensitive(true)?;
     push_globs(both, &options.iglobs)?;
     both.build()
 }

@@ -3,6 +3,7 @@
 #![tactic(auto)]
 
 mod choices;
+mod fd;
 mod files;
 mod given;
 mod globs;
@@ -19,4 +20,4 @@ pub use given::{Given, given_by};
 pub use globs::globs_of;
 pub use options::Options;
 pub use settings::walk_options;
-pub use words::{Task, read_words};
+pub use words::{Task, hint_of, read_words};

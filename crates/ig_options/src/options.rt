@@ -12,10 +12,12 @@ pub struct Options {
     pub roots: Vec<String>,
     /// Whether no root is given: paths are then written without the `./` of the root `.`.
     pub is_bare: bool,
-    /// The paths that `why` is asked about, as they are given.
+    /// The paths that `why` is asked about, as they are given by words.
     pub paths: Vec<Given>,
     /// `--stdin` of `why`: the paths are those of standard input.
     pub stdin: bool,
+    /// `--only-ignored` of `why`: only a path that is ignored is written.
+    pub only_ignored: bool,
     /// `-v` of `ignored`: each entry is written after its reason.
     pub reasons: bool,
     /// `--files`: files are listed. Where no kind is chosen, all entries are.
@@ -30,12 +32,16 @@ pub struct Options {
     pub quiet: bool,
     /// `--stats`: counts are reported at the end.
     pub stats: bool,
+    /// `--no-messages`: what is wrong with an entry, a path or a file of rules isn't reported.
+    pub no_messages: bool,
     /// `--sort`: the order of the entries of a directory.
     pub order: Order,
     /// `-H`: hidden entries are listed.
     pub hidden: bool,
     /// `-I`: no file of rules counts but those of `--ignore-file`.
     pub no_ignore: bool,
+    /// How often `-u` is given: once it is as `-I`, twice as `-H` too.
+    pub unrestricted: u8,
     /// `--no-ignore-vcs`: git's rules don't count.
     pub no_ignore_vcs: bool,
     /// `--no-ignore-parent`: the rules of directories above a root don't count.
@@ -48,6 +54,8 @@ pub struct Options {
     pub no_ignore_dot: bool,
     /// `--no-require-git`: git's rules count outside of repositories as well.
     pub no_require_git: bool,
+    /// `--no-ignore-files`: the files of `--ignore-file` don't count.
+    pub no_ignore_files: bool,
     /// `--ignore-file`: files of rules, by their paths.
     pub ignore_files: Names,
     /// `--ignore-name`: the names of further files of rules, which any directory may have.
@@ -66,6 +74,8 @@ pub struct Options {
     pub max_filesize: Option<u64>,
     /// `--one-file-system`: directories on another device than that of their root stay closed.
     pub one_file_system: bool,
+    /// `--glob-case-insensitive`: the globs of `-g` match both ASCII cases of a letter.
+    pub glob_case_insensitive: bool,
     /// `-g`: globs that override all rules.
     pub globs: Names,
     /// `--iglob`: globs after those, which match both ASCII cases of a letter.
@@ -86,6 +96,7 @@ impl Options {
             is_bare: false,
             paths: Vec::new(alloc),
             stdin: false,
+            only_ignored: false,
             reasons: false,
             files: false,
             dirs: false,
@@ -93,15 +104,18 @@ impl Options {
             null: false,
             quiet: false,
             stats: false,
+            no_messages: false,
             order: Order::ByName,
             hidden: false,
             no_ignore: false,
+            unrestricted: 0,
             no_ignore_vcs: false,
             no_ignore_parent: false,
             no_ignore_global: false,
             no_ignore_exclude: false,
             no_ignore_dot: false,
             no_require_git: false,
+            no_ignore_files: false,
             ignore_files: Names::new(Vec::new(alloc)),
             ignore_names: Names::new(Vec::new(alloc)),
             ignore_file_case_insensitive: false,
@@ -111,6 +125,7 @@ impl Options {
             min_depth: None,
             max_filesize: None,
             one_file_system: false,
+            glob_case_insensitive: false,
             globs: Names::new(Vec::new(alloc)),
             iglobs: Names::new(Vec::new(alloc)),
             type_add: Names::new(Vec::new(alloc)),

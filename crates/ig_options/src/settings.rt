@@ -1,7 +1,7 @@
 //! The settings of a walk, option by option.
 ghost use Rattle.std.specs.Prelude.{◌≡◌, ◌&&◌, [], IfOk, IfErr, OnOk, not, if◌then◌else◌};
 ghost use Rattle.ignore_base.specs.Problem.{problem_of, memory};
-ghost use Rattle.ig_options.specs.Settings.{with_files, with_filters, with_limits, with_names, walk_options};
+ghost use Rattle.ig_options.specs.Settings.{is_unruled, lists_hidden, with_files, with_filters, with_limits, with_names, walk_options};
 
 use crate::options::Options;
 use ignore::WalkOptions;
@@ -32,14 +32,28 @@ pub fn walk_options(alloc: Global, options: &Options) -> Result<WalkOptions, Err
 fn set_filters(walk: &mut WalkOptions, options: &Options)
     ensures { walk.new ≡ with_filters options.now walk.old }
 {
-    let all = !options.no_ignore;
+    let all = !is_unruled(options);
     let vcs = still(all, options.no_ignore_vcs);
-    walk.hidden(!options.hidden);
+    walk.hidden(!lists_hidden(options));
     walk.parents(still(all, options.no_ignore_parent));
     walk.ignore(still(all, options.no_ignore_dot));
     walk.git_ignore(vcs);
     walk.git_global(still(vcs, options.no_ignore_global));
     walk.git_exclude(still(vcs, options.no_ignore_exclude));
+}
+
+/// Whether no file of rules counts: by `-I`, or by a `-u`.
+fn is_unruled(options: &Options) -> bool
+    ensures { result ≡ is_unruled options.now }
+{
+    options.no_ignore || options.unrestricted > 0
+}
+
+/// Whether hidden entries are listed: by `-H`, or by a second `-u`.
+fn lists_hidden(options: &Options) -> bool
+    ensures { result ≡ lists_hidden options.now }
+{
+    options.hidden || options.unrestricted > 1
 }
 
 /// Whether something counts that an option may take out.
@@ -73,10 +87,10 @@ fn set_limits(walk: &mut WalkOptions, options: &Options)
 /// Which names further files of rules have: none where no file counts.
 fn set_names(walk: &mut WalkOptions, options: &Options) -> Result<(), Error>
     ensures added { OnOk result (walk.new
-        ≡ with_names (if options.now.no_ignore then [] else options.now.ignore_names) walk.old) }
+        ≡ with_names (if is_unruled options.now then [] else options.now.ignore_names) walk.old) }
     ensures out_of_memory { IfErr result (λ e. problem_of e ≡ memory) }
 {
-    if options.no_ignore {
+    if is_unruled(options) {
         return Ok(());
     }
     push_names(walk, &options.ignore_names)

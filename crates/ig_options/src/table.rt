@@ -1,16 +1,23 @@
 //! The options of the program, as a table: the parser, the help and the completions go by it.
 
+use crate::words::Task;
+
 /// What follows an option.
 #[derive(Clone, Copy)]
 pub enum Takes {
     /// Nothing: it is a flag.
     Nothing,
+    /// Nothing: it is a switch, which the option of this long name takes back. Of the two the last
+    /// one counts.
+    Switch(&'static str),
+    /// Nothing, and it counts how often it is given.
+    Times,
     /// A value; the last one counts.
     One(&'static str),
     /// A value, and the option may be given several times.
     Many(&'static str),
-    /// A whole number of names; the last one counts.
-    Depth,
+    /// A whole number; the last one counts.
+    Number,
     /// One of these words; the last one counts.
     Word(&'static [&'static str]),
 }
@@ -25,10 +32,81 @@ pub type Row = (
     &'static str,
 );
 
+/// Further names of options, a letter for the short one or a long one, which the help has too.
+pub const ALIASES: [(&str, Alias); 2] = [
+    ("hidden", Alias::Short('.')),
+    ("null", Alias::Long("print0")),
+];
+
+/// A further name of an option.
+#[derive(Clone, Copy)]
+pub enum Alias {
+    /// A letter after one hyphen.
+    Short(char),
+    /// A name after two hyphens.
+    Long(&'static str),
+}
+
+/// What an option does in a command, where that isn't what it does in `ig ls`.
+pub const ELSEWHERE: [(Task, &str, &str); 14] = [
+    (
+        Task::Ignored,
+        "hidden",
+        "Without effect: hidden entries are met",
+    ),
+    (
+        Task::Unused,
+        "hidden",
+        "Without effect: hidden entries are met",
+    ),
+    (Task::Why, "hidden", "No path is ignored for being hidden"),
+    (Task::Ignored, "unrestricted", "As --no-ignore"),
+    (Task::Unused, "unrestricted", "As --no-ignore"),
+    (
+        Task::Ignored,
+        "max-filesize",
+        "A file above SIZE bytes, or with K, M or G, is ignored",
+    ),
+    (
+        Task::Why,
+        "max-filesize",
+        "A file above SIZE bytes, or with K, M or G, is ignored",
+    ),
+    (
+        Task::Why,
+        "glob",
+        "What GLOB doesn't match is ignored, or what it does with a leading !",
+    ),
+    (
+        Task::Ignored,
+        "glob",
+        "What GLOB doesn't match is ignored, or what it does with a leading !",
+    ),
+    (
+        Task::Why,
+        "type",
+        "Files of other types than TYPE are ignored (see ig types)",
+    ),
+    (
+        Task::Ignored,
+        "type",
+        "Files of other types than TYPE are ignored (see ig types)",
+    ),
+    (Task::Why, "type-not", "Files of TYPE are ignored"),
+    (Task::Ignored, "type-not", "Files of TYPE are ignored"),
+    (
+        Task::Why,
+        "quiet",
+        "Write nothing: the status says whether a path is ignored",
+    ),
+];
+
 /// The orders of `--sort`.
 pub const ORDERS: [&str; 3] = ["name", "path", "none"];
 
-const WHAT: &str = "What is listed";
+pub(crate) const WHAT: &str = "What is listed";
+
+pub(crate) const WHAT_OF_WHY: &str = "What is ignored";
 
 const RULES: &str = "Which rules count";
 
@@ -36,80 +114,102 @@ const HOW: &str = "How files of rules are read";
 
 const PRINT: &str = "What is written";
 
+const TAKE: &str = "Taken without effect";
+
 /// Which kinds of entries are listed.
 pub const KINDS: [Row; 3] = [
     (
         "files",
         None,
-        Takes::Nothing,
+        Takes::Switch("no-files"),
         WHAT,
         "List files; without a kind all entries are listed",
     ),
-    ("dirs", None, Takes::Nothing, WHAT, "List directories"),
+    (
+        "dirs",
+        None,
+        Takes::Switch("no-dirs"),
+        WHAT,
+        "List directories",
+    ),
     (
         "links",
         None,
-        Takes::Nothing,
+        Takes::Switch("no-links"),
         WHAT,
         "List symbolic links that aren't followed",
     ),
 ];
 
 /// Which rules count, and how files of rules are read.
-pub const FILTERS: [Row; 12] = [
+pub const FILTERS: [Row; 14] = [
     (
         "hidden",
         Some('H'),
-        Takes::Nothing,
+        Takes::Switch("no-hidden"),
         WHAT,
         "List hidden entries as well",
     ),
     (
         "no-ignore",
         Some('I'),
-        Takes::Nothing,
+        Takes::Switch("ignore"),
         RULES,
         "No ignore file counts but those of --ignore-file",
     ),
     (
+        "unrestricted",
+        Some('u'),
+        Takes::Times,
+        RULES,
+        "As --no-ignore; twice, as --hidden too",
+    ),
+    (
         "no-ignore-vcs",
         None,
-        Takes::Nothing,
+        Takes::Switch("ignore-vcs"),
         RULES,
         "No rules of git: .gitignore, exclude, global",
     ),
     (
         "no-ignore-parent",
         None,
-        Takes::Nothing,
+        Takes::Switch("ignore-parent"),
         RULES,
         "No rules of directories above a root",
     ),
     (
         "no-ignore-global",
         None,
-        Takes::Nothing,
+        Takes::Switch("ignore-global"),
         RULES,
         "Not git's global ignore file",
     ),
     (
         "no-ignore-exclude",
         None,
-        Takes::Nothing,
+        Takes::Switch("ignore-exclude"),
         RULES,
         "Not the .git/info/exclude of repositories",
     ),
     (
         "no-ignore-dot",
         None,
-        Takes::Nothing,
+        Takes::Switch("ignore-dot"),
         RULES,
         "No .ignore files",
     ),
     (
+        "no-ignore-files",
+        None,
+        Takes::Switch("ignore-files"),
+        RULES,
+        "Not the files of --ignore-file",
+    ),
+    (
         "no-require-git",
         None,
-        Takes::Nothing,
+        Takes::Switch("require-git"),
         RULES,
         "Git's rules count outside of repositories too",
     ),
@@ -130,14 +230,14 @@ pub const FILTERS: [Row; 12] = [
     (
         "ignore-file-case-insensitive",
         None,
-        Takes::Nothing,
+        Takes::Switch("no-ignore-file-case-insensitive"),
         HOW,
         "The rules of files match both cases",
     ),
     (
         "git-trailing-spaces",
         None,
-        Takes::Nothing,
+        Takes::Switch("no-git-trailing-spaces"),
         HOW,
         "Trailing spaces are read as git reads them",
     ),
@@ -148,21 +248,21 @@ pub const WALK: [Row; 3] = [
     (
         "follow",
         Some('L'),
-        Takes::Nothing,
+        Takes::Switch("no-follow"),
         WHAT,
         "Follow symbolic links",
     ),
     (
         "min-depth",
         None,
-        Takes::Depth,
+        Takes::Number,
         WHAT,
         "At least N names below a root",
     ),
     (
         "one-file-system",
         None,
-        Takes::Nothing,
+        Takes::Switch("no-one-file-system"),
         WHAT,
         "Stay on the device of each root",
     ),
@@ -172,7 +272,7 @@ pub const WALK: [Row; 3] = [
 pub const DEPTH: [Row; 1] = [(
     "max-depth",
     Some('d'),
-    Takes::Depth,
+    Takes::Number,
     WHAT,
     "At most N names below a root",
 )];
@@ -187,7 +287,7 @@ pub const SIZE: [Row; 1] = [(
 )];
 
 /// Globs and types of the command line.
-pub const GLOBS: [Row; 5] = [
+pub const GLOBS: [Row; 8] = [
     (
         "glob",
         Some('g'),
@@ -201,6 +301,27 @@ pub const GLOBS: [Row; 5] = [
         Takes::Many("GLOB"),
         WHAT,
         "As --glob, in both cases",
+    ),
+    (
+        "glob-case-insensitive",
+        None,
+        Takes::Switch("no-glob-case-insensitive"),
+        WHAT,
+        "Each --glob as --iglob",
+    ),
+    (
+        "exclude",
+        Some('E'),
+        Takes::Many("GLOB"),
+        WHAT,
+        "As --glob with a ! before GLOB, after those",
+    ),
+    (
+        "extension",
+        Some('e'),
+        Takes::Many("EXT"),
+        WHAT,
+        "As --type of the files whose names end in .EXT",
     ),
     (
         "type",
@@ -230,14 +351,14 @@ pub const PRINTS: [Row; 2] = [
     (
         "null",
         Some('0'),
-        Takes::Nothing,
+        Takes::Switch("no-null"),
         PRINT,
         "End each path in NUL, not in a newline",
     ),
     (
         "stats",
         None,
-        Takes::Nothing,
+        Takes::Switch("no-stats"),
         PRINT,
         "Report counts and the time at the end",
     ),
@@ -247,31 +368,76 @@ pub const PRINTS: [Row; 2] = [
 pub const QUIET: [Row; 1] = [(
     "quiet",
     Some('q'),
-    Takes::Nothing,
+    Takes::Switch("no-quiet"),
     PRINT,
-    "Write nothing: the status says whether there is any",
+    "Write nothing: the status says whether anything is listed",
 )];
 
 /// The order of a list.
-pub const ORDER: [Row; 1] = [(
-    "sort",
+pub const ORDER: [Row; 2] = [
+    (
+        "sort",
+        None,
+        Takes::Word(&ORDERS),
+        PRINT,
+        "The order in a directory, name by default",
+    ),
+    (
+        "sort-files",
+        None,
+        Takes::Switch("no-sort-files"),
+        PRINT,
+        "As --sort path",
+    ),
+];
+
+/// That the file types are listed.
+pub const TYPE_LIST: [Row; 1] = [(
+    "type-list",
     None,
-    Takes::Word(&ORDERS),
+    Takes::Nothing,
     PRINT,
-    "The order in a directory, name by default",
+    "List the file types, as ig types does",
 )];
+
+/// What is reported.
+pub const REPORTS: [Row; 1] = [(
+    "no-messages",
+    None,
+    Takes::Switch("messages"),
+    PRINT,
+    "Report nothing that is wrong with what is read",
+)];
+
+/// What is taken so that words of other programs are no mistake.
+pub const TAKEN: [Row; 2] = [
+    (
+        "threads",
+        Some('j'),
+        Takes::Number,
+        TAKE,
+        "One thread walks, whatever N is",
+    ),
+    (
+        "no-config",
+        None,
+        Takes::Nothing,
+        TAKE,
+        "There is no configuration file",
+    ),
+];
 
 /// The option of `ig ignored` alone.
 pub const REASONS: [Row; 1] = [(
     "verbose",
     Some('v'),
-    Takes::Nothing,
+    Takes::Switch("no-verbose"),
     PRINT,
     "Write the reason of each entry before it",
 )];
 
 /// The options of `ig why` alone.
-pub const WHY: [Row; 4] = [
+pub const WHY: [Row; 6] = [
     (
         "stdin",
         None,
@@ -287,36 +453,51 @@ pub const WHY: [Row; 4] = [
         "Read and write with NUL in place of line ends and tabs",
     ),
     (
+        "only-ignored",
+        None,
+        Takes::Switch("no-only-ignored"),
+        PRINT,
+        "Write no path that isn't ignored",
+    ),
+    (
         "verbose",
         Some('v'),
         Takes::Nothing,
-        PRINT,
-        "Taken for git's sake: each reason is written anyway",
+        TAKE,
+        "Each reason is written anyway",
     ),
     (
         "non-matching",
         Some('n'),
         Takes::Nothing,
-        PRINT,
-        "Taken for git's sake: each path is written anyway",
+        TAKE,
+        "Each path is written, unless --only-ignored",
+    ),
+    (
+        "no-index",
+        None,
+        Takes::Nothing,
+        TAKE,
+        "The index isn't read anyway",
     ),
 ];
 
 /// The options of `ig ls`.
-pub const LIST: [&[Row]; 9] = [
-    &KINDS, &FILTERS, &WALK, &DEPTH, &SIZE, &GLOBS, &PRINTS, &QUIET, &ORDER,
+pub const LIST: [&[Row]; 12] = [
+    &KINDS, &FILTERS, &WALK, &DEPTH, &SIZE, &GLOBS, &PRINTS, &QUIET, &ORDER, &TYPE_LIST, &REPORTS,
+    &TAKEN,
 ];
 
 /// The options of `ig ignored`.
-pub const IGNORED: [&[Row]; 8] = [
-    &KINDS, &FILTERS, &DEPTH, &SIZE, &GLOBS, &PRINTS, &QUIET, &REASONS,
+pub const IGNORED: [&[Row]; 10] = [
+    &KINDS, &FILTERS, &DEPTH, &SIZE, &GLOBS, &PRINTS, &QUIET, &REASONS, &REPORTS, &TAKEN,
 ];
 
 /// The options of `ig why`.
-pub const ASKED: [&[Row]; 5] = [&FILTERS, &SIZE, &GLOBS, &WHY, &QUIET];
+pub const ASKED: [&[Row]; 7] = [&FILTERS, &SIZE, &GLOBS, &WHY, &QUIET, &REPORTS, &TAKEN];
 
 /// The options of `ig unused`.
-pub const UNUSED: [&[Row]; 3] = [&FILTERS, &PRINTS, &QUIET];
+pub const UNUSED: [&[Row]; 5] = [&FILTERS, &PRINTS, &QUIET, &REPORTS, &TAKEN];
 
 /// The options of `ig types`.
 pub const TYPES: [&[Row]; 1] = [&[(

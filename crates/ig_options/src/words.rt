@@ -1,14 +1,18 @@
 //! Reading the words after the program's name. What the parser does isn't stated.
 
+use crate::fd::{EXTENSIONS, definition_of, exclusion_of};
 use crate::given::given_words;
 use crate::options::Options;
 use crate::sizes::size_of;
-use crate::table::{ASKED, IGNORED, LIST, Row, TYPES, Takes, UNUSED};
+use crate::table::{
+    ALIASES, ASKED, Alias, ELSEWHERE, IGNORED, LIST, Row, TYPES, Takes, UNUSED, WHAT, WHAT_OF_WHY,
+};
 use clap::error::ErrorKind;
 use clap::{Arg, ArgAction, ArgMatches, Command, Error, value_parser};
 use ignore_dir::Names;
 use ignore_walk::Order;
 use std::alloc::{AllocError, Global};
+use strsim::osa_distance;
 
 /// A command of the program.
 #[derive(Clone, Copy, Debug, PartialEq, Eq)]
@@ -31,6 +35,11 @@ const ROOTS: &str = "root";
 /// The id of the size above which a file is ignored.
 const SIZE_LIMIT: &str = "max-filesize";
 
+/// The ids of the order of a list, and of that by paths.
+const SORT: &str = "sort";
+
+const SORT_FILES: &str = "sort-files";
+
 /// How the commands are used.
 const USAGE: &str = "\
 ig [ls] [OPTIONS] [ROOT]...
@@ -41,10 +50,30 @@ const LONG_HELP: &str = "\
 --no-ignore leaves out .gitignore, .ignore, .git/info/exclude, git's global
 file, the files of directories above a root and those of --ignore-name; the
 files of --ignore-file count with it. Hidden entries stay hidden without -H.
+Each switch is taken back by its name with no- before it, or without that, as
+--no-hidden and --ignore; of the two the last one counts.
 
-Status: 0 where something was found, 1 where nothing was, 2 where something was
+Examples:
+  ig --files src               the files of src that the rules keep
+  ig -t rust -d 2              Rust's files, two names deep at most
+  ig -uu -E .git               all but .git, whatever the rules say
+  ig --files -0 | xargs -0 wc  a command for each file
+
+Status: 0 where something was listed, 1 where nothing was, 2 where something was
 reported. A closed pipe ends the program with status 0.
 A folder that is named like a command is written ./types.";
+
+/// What the long help of `ignored` ends with.
+const IGNORED_HELP: &str = "\
+Each switch is taken back by its name with no- before it, or without that, as
+--no-stats and --ignore; of the two the last one counts.
+
+Examples:
+  ig ignored                   what the rules leave out, as in git status
+  ig ignored -v src            the same of src, each entry after its rule
+
+Status: 0 where something was listed, 1 where nothing was, 2 where something was
+reported. A closed pipe ends the program with status 0.";
 
 /// What the long help of `why` ends with.
 const WHY_HELP: &str = "\
@@ -52,11 +81,29 @@ Each path is written as by git check-ignore -v -n: SOURCE:LINE:PATTERN, a tab,
 and the path; with :: before the tab where no rule decides, and ::hidden, or
 another word, where something else than a rule does. Paths are below the nearest
 folder at or above the working directory that has .git or .jj, else below the
-working directory; sources are relative to it. Standard input is read as a whole
-before the first path is answered.
+working directory; sources are relative to it. Each path of standard input is
+answered as it comes.
+
+Examples:
+  ig why target/a.o            the rule that ignores it, if one does
+  ig why --only-ignored src/*  what of src is ignored
+  git ls-files | ig why --stdin --only-ignored
+                               what git tracks although a rule ignores it
 
 Status: 0 where a path is ignored, 1 where none is, 2 where something was
 reported, as a path outside of that folder.";
+
+/// What the long help of `unused` ends with.
+const UNUSED_HELP: &str = "\
+A rule is listed that is read at or below the folder, and is the reason of no
+entry there. So it wants a built tree: in a fresh clone nothing is there that
+the rules are for.
+
+Example:
+  make && ig unused            the rules that decide on nothing after a build
+
+Status: 0 where something was listed, 1 where nothing was, 2 where something was
+reported.";
 
 /// What is wrong with a size.
 const WRONG_SIZE: &str =
@@ -75,10 +122,57 @@ pub fn read_words(alloc: Global, words: &[String]) -> Result<(Task, Options), Er
     let mut command = command_of(alloc, task)?;
     let matches = command.try_get_matches_from_mut(rest)?;
     let options = options_of(alloc, task, &matches)?;
+    if matches.get_flag("type-list") {
+        return Ok((Task::Types, options));
+    }
     match wrong_of(task, &options, &matches) {
         Some((kind, text)) => Err(command.error(kind, text)?),
         None => Ok((task, options)),
     }
+}
+
+/// How many bytes a word has that may be near to a command.
+const LONGEST_NEAR: usize = 9;
+
+/// The commands, by the words that they are called by.
+const COMMANDS: [(&str, Task); 5] = [
+    ("ls", Task::List),
+    ("ignored", Task::Ignored),
+    ("why", Task::Why),
+    ("unused", Task::Unused),
+    ("types", Task::Types),
+];
+
+/// What there is to say of a first word that is no command, but nearly one; its text names that. Such
+/// a word is a root all the same, so this is for one of which there is no entry.
+///
+/// # Errors
+/// Out of memory.
+pub fn hint_of(alloc: Global, word: &str) -> Result<Option<Error>, AllocError> {
+    let Some(name) = near_command(alloc, word)? else {
+        return Ok(None);
+    };
+    let text = format!(in alloc;
+        "unrecognized command '{word}'\n\n  tip: a similar command exists: '{name}'"
+    )?;
+    let error = list_command(alloc)?.error(ErrorKind::InvalidSubcommand, text.as_str())?;
+    Ok(Some(error))
+}
+
+/// The command that a word is nearly: one edit leads to it, or two to a longer one. Two letters are
+/// near to too much.
+fn near_command(alloc: Global, word: &str) -> Result<Option<&'static str>, AllocError> {
+    if word.len() > LONGEST_NEAR {
+        return Ok(None);
+    }
+    for (name, _) in COMMANDS {
+        let most = if name.len() > 4 { 2 } else { 1 };
+        let edits = osa_distance(alloc, word, name)?;
+        if name.len() > 2 && 0 < edits && edits <= most {
+            return Ok(Some(name));
+        }
+    }
+    Ok(None)
 }
 
 /// The options of a command that the parser found, with the size and the paths that it leaves as
@@ -123,13 +217,10 @@ fn wrong_paths(options: &Options) -> Option<&'static str> {
 /// The command that the first word names, and the words after it.
 fn task_of(words: &[String]) -> (Task, &[String]) {
     if let Some((first, rest)) = words.split_first() {
-        match first.as_str() {
-            "ls" => return (Task::List, rest),
-            "ignored" => return (Task::Ignored, rest),
-            "why" => return (Task::Why, rest),
-            "unused" => return (Task::Unused, rest),
-            "types" => return (Task::Types, rest),
-            _ => {}
+        for (name, task) in COMMANDS {
+            if first.as_str() == name {
+                return (task, rest);
+            }
         }
     }
     (Task::List, words)
@@ -157,7 +248,7 @@ fn list_command<'a>(alloc: Global) -> Result<Command<'a>, AllocError> {
             alloc,
             "What is walked; the working directory, where none is given",
         ))?;
-    with_groups(alloc, command, &LIST)
+    with_groups(alloc, command, Task::List, &LIST)
 }
 
 /// The parser of `ig ignored`.
@@ -166,9 +257,9 @@ fn ignored_command<'a>(alloc: Global) -> Result<Command<'a>, AllocError> {
         .about("Lists what the ignore rules of a tree leave out, but nothing inside of that.")
         .override_usage("ig ignored [OPTIONS] [ROOT]...")
         .after_help("ig ignored --help has all options.")
-        .after_long_help(LONG_HELP)
+        .after_long_help(IGNORED_HELP)
         .arg(roots_of(alloc, "Folders; the working directory, where none is given"))?;
-    with_groups(alloc, command, &IGNORED)
+    with_groups(alloc, command, Task::Ignored, &IGNORED)
 }
 
 /// The parser of `ig why`.
@@ -179,7 +270,7 @@ fn why_command<'a>(alloc: Global) -> Result<Command<'a>, AllocError> {
         .after_help("ig why --help has all options.")
         .after_long_help(WHY_HELP)
         .arg(roots_of(alloc, "A path").value_name("PATH"))?;
-    with_groups(alloc, command, &ASKED)
+    with_groups(alloc, command, Task::Why, &ASKED)
 }
 
 /// The parser of `ig unused`.
@@ -192,9 +283,9 @@ fn unused_command<'a>(alloc: Global) -> Result<Command<'a>, AllocError> {
         .about("Lists the rules below a folder that decide on no entry there.")
         .override_usage("ig unused [OPTIONS] [ROOT]")
         .after_help("ig unused --help has all options.")
-        .after_long_help(LONG_HELP)
+        .after_long_help(UNUSED_HELP)
         .arg(root)?;
-    with_groups(alloc, command, &UNUSED)
+    with_groups(alloc, command, Task::Unused, &UNUSED)
 }
 
 /// The parser of `ig types`.
@@ -202,7 +293,7 @@ fn types_command<'a>(alloc: Global) -> Result<Command<'a>, AllocError> {
     let command = plain_command(alloc, "ig types")?
         .about("Lists the file types and their globs.")
         .override_usage("ig types [--type-add DEF]...");
-    with_groups(alloc, command, &TYPES)
+    with_groups(alloc, command, Task::Types, &TYPES)
 }
 
 /// The roots, or the paths.
@@ -230,10 +321,11 @@ fn plain_command<'a>(alloc: Global, name: &'static str) -> Result<Command<'a>, A
 fn with_groups<'a>(
     alloc: Global,
     mut command: Command<'a>,
+    task: Task,
     groups: &[&[Row]],
 ) -> Result<Command<'a>, AllocError> {
     for group in groups {
-        command = with_rows(alloc, command, group)?;
+        command = with_rows(alloc, command, task, group)?;
     }
     Ok(command)
 }
@@ -242,38 +334,97 @@ fn with_groups<'a>(
 fn with_rows<'a>(
     alloc: Global,
     mut command: Command<'a>,
+    task: Task,
     rows: &[Row],
 ) -> Result<Command<'a>, AllocError> {
     for row in rows {
-        command = command.arg(arg_of(alloc, *row))?;
+        command = command.arg(arg_of(alloc, task, *row)?)?;
+        if let Takes::Switch(name) = row.2 {
+            command = command.arg(negation_of(alloc, row.0, name)?)?;
+        }
     }
     Ok(command)
 }
 
 /// An option of the parser.
-fn arg_of<'a>(alloc: Global, row: Row) -> Arg<'a> {
+fn arg_of<'a>(alloc: Global, task: Task, row: Row) -> Result<Arg<'a>, AllocError> {
     let (long, short, takes, heading, help) = row;
     let arg = taking(Arg::new(alloc, long), takes)
         .long(long)
-        .help(help)
-        .help_heading(heading)
+        .help(help_in(task, long, help))
+        .help_heading(heading_in(task, heading))
         .hide_short_help(short.is_none());
-    match short {
+    let arg = match short {
         Some(short) => arg.short(short),
         None => arg,
+    };
+    let arg = with_aliases(arg, long)?;
+    if long == SORT_FILES {
+        return arg.overrides_with(SORT);
     }
+    Ok(arg)
+}
+
+/// What an option does in a command.
+fn help_in(task: Task, long: &str, help: &'static str) -> &'static str {
+    for (other, name, text) in ELSEWHERE {
+        if other == task && name == long {
+            return text;
+        }
+    }
+    help
+}
+
+/// What an option is for in a command.
+fn heading_in(task: Task, heading: &'static str) -> &'static str {
+    if task == Task::Why && heading == WHAT {
+        WHAT_OF_WHY
+    } else {
+        heading
+    }
+}
+
+/// An option with its further names.
+fn with_aliases<'a>(mut arg: Arg<'a>, long: &str) -> Result<Arg<'a>, AllocError> {
+    for (name, alias) in ALIASES {
+        if name == long {
+            arg = match alias {
+                Alias::Short(letter) => arg.visible_short_alias(letter)?,
+                Alias::Long(name) => arg.visible_alias(name)?,
+            };
+        }
+    }
+    Ok(arg)
+}
+
+/// The option of this name, which takes a switch back. The help doesn't list it.
+fn negation_of<'a>(
+    alloc: Global,
+    switch: &'static str,
+    name: &'static str,
+) -> Result<Arg<'a>, AllocError> {
+    let arg = Arg::new(alloc, name)
+        .long(name)
+        .action(ArgAction::SetTrue)
+        .hide(true)
+        .overrides_with(switch)?;
+    if switch == SORT_FILES {
+        return arg.overrides_with(SORT);
+    }
+    Ok(arg)
 }
 
 /// An option with what follows it.
 fn taking<'a>(arg: Arg<'a>, takes: Takes) -> Arg<'a> {
     match takes {
-        Takes::Nothing => arg.action(ArgAction::SetTrue),
+        Takes::Nothing | Takes::Switch(_) => arg.action(ArgAction::SetTrue),
+        Takes::Times => arg.action(ArgAction::Count),
         Takes::One(name) => arg.action(ArgAction::Set).value_name(name),
         Takes::Many(name) => arg
             .action(ArgAction::Append)
             .value_name(name)
             .allow_hyphen_values(true),
-        Takes::Depth => arg
+        Takes::Number => arg
             .action(ArgAction::Set)
             .value_name("N")
             .value_parser(value_parser!(usize)),
@@ -299,12 +450,14 @@ fn read_options(alloc: Global, matches: &ArgMatches<'_>) -> Result<Options, Allo
 /// Which rules count.
 fn read_filters(options: &mut Options, matches: &ArgMatches<'_>) {
     options.hidden = matches.get_flag("hidden");
+    options.unrestricted = matches.get_count("unrestricted");
     options.no_ignore = matches.get_flag("no-ignore");
     options.no_ignore_vcs = matches.get_flag("no-ignore-vcs");
     options.no_ignore_parent = matches.get_flag("no-ignore-parent");
     options.no_ignore_global = matches.get_flag("no-ignore-global");
     options.no_ignore_exclude = matches.get_flag("no-ignore-exclude");
     options.no_ignore_dot = matches.get_flag("no-ignore-dot");
+    options.no_ignore_files = matches.get_flag("no-ignore-files");
     options.no_require_git = matches.get_flag("no-require-git");
     options.ignore_file_case_insensitive = matches.get_flag("ignore-file-case-insensitive");
     options.git_trailing_spaces = matches.get_flag("git-trailing-spaces");
@@ -317,14 +470,24 @@ fn read_kinds(options: &mut Options, matches: &ArgMatches<'_>) {
     options.links = matches.get_flag("links");
     options.null = matches.get_flag("null") || matches.get_flag("zero");
     options.stdin = matches.get_flag("stdin");
+    options.only_ignored = matches.get_flag("only-ignored");
     options.reasons = matches.get_flag("verbose");
     options.quiet = matches.get_flag("quiet");
     options.stats = matches.get_flag("stats");
-    options.order = match matches.get_str("sort") {
+    options.no_messages = matches.get_flag("no-messages");
+    options.order = order_of(matches);
+}
+
+/// The order of the entries of a directory.
+fn order_of(matches: &ArgMatches<'_>) -> Order {
+    if matches.get_flag(SORT_FILES) {
+        return Order::ByPath;
+    }
+    match matches.get_str(SORT) {
         Some("path") => Order::ByPath,
         Some("none") => Order::Listed,
         _ => Order::ByName,
-    };
+    }
 }
 
 /// How far a walk goes.
@@ -346,17 +509,27 @@ fn read_files(
     Ok(())
 }
 
-/// Globs and types.
+/// Globs and types. Those of `-E` and `-e` come after the others.
 fn read_globs(
     alloc: Global,
     options: &mut Options,
     matches: &ArgMatches<'_>,
 ) -> Result<(), AllocError> {
+    options.glob_case_insensitive = matches.get_flag("glob-case-insensitive");
     options.globs = texts(alloc, matches, "glob")?;
     options.iglobs = texts(alloc, matches, "iglob")?;
     options.type_add = texts(alloc, matches, "type-add")?;
     options.types = texts(alloc, matches, "type")?;
     options.types_not = texts(alloc, matches, "type-not")?;
+    for glob in matches.get_strs("exclude").unwrap_or(&[]) {
+        options.globs.push(exclusion_of(alloc, glob)?.as_str())?;
+    }
+    for extension in matches.get_strs("extension").unwrap_or(&[]) {
+        options
+            .type_add
+            .push(definition_of(alloc, extension)?.as_str())?;
+        options.types.push(EXTENSIONS)?;
+    }
     Ok(())
 }
 

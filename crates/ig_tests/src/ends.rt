@@ -133,23 +133,77 @@ fn a_closed_pipe_is_no_failure(rt: HostRuntime) -> Result<(), Fail> {
     Ok(())
 }
 
-/// Another failed write ends each command with status 2, and is reported.
+/// The report of each kind of a failed write.
+const REPORTS: [(io::ErrorKind, &[u8]); 2] = [
+    (io::ErrorKind::Other, b"ig: cannot write\n"),
+    (
+        io::ErrorKind::StorageFull,
+        b"ig: cannot write: no space left on the device\n",
+    ),
+];
+
+/// Another failed write ends each command with status 2, and is reported with its reason.
 #[test]
 fn a_failed_write_is_reported(rt: HostRuntime) -> Result<(), Fail> {
     for words in &RUNS[..3] {
         for calls in 0usize..3 {
-            let (status, reported) = with_failing_output(
-                rt.alloc(),
-                words,
-                calls,
-                io::ErrorKind::Other,
-            )?;
-            assert_eq!(rt;
-                (status, reported.as_slice()),
-                (Some(2), b"ig: cannot write\n".as_slice())
-            );
+            for (kind, report) in REPORTS {
+                let (status, reported) = with_failing_output(rt.alloc(), words, calls, kind)?;
+                assert_eq!(rt; (status, reported.as_slice()), (Some(2), report));
+            }
         }
     }
+    Ok(())
+}
+
+/// Runs of which nothing is to be reported, and whether something is all the same: a path that isn't
+/// there, a glob that is rejected, wrong words.
+const UNTOLD: [(&[&str], bool); 4] = [
+    (&["ls", "--no-messages", "nope"], false),
+    (&["why", "--no-messages", "/x"], false),
+    (&["ls", "--no-messages", "-g", "{"], true),
+    (&["ls", "--no-messages", "--nope"], true),
+];
+
+/// Whether a run ends with status 2, and whether it reports something.
+fn reported_by(alloc: Global, words: &[&str]) -> (bool, bool) {
+    let mut out: Vec<u8> = Vec::new(alloc);
+    let mut err: Vec<u8> = Vec::new(alloc);
+    let ended = ran(alloc, words, io::empty(), &mut out, &mut err);
+    (ended.ok().map(|ran| ran.status) == Some(2), !err.is_empty())
+}
+
+/// Where no messages are asked for, the status says all the same that something was wrong.
+#[test]
+fn messages_that_are_not_asked_for(rt: HostRuntime) -> Result<(), Fail> {
+    for (words, is_reported) in UNTOLD {
+        assert_eq!(rt; reported_by(rt.alloc(), words), (true, is_reported));
+    }
+    Ok(())
+}
+
+/// Whether what a run of a word reports names a command.
+fn is_hinted(alloc: Global, word: &str, command: &str) -> bool {
+    let mut out: Vec<u8> = Vec::new(alloc);
+    let mut err: Vec<u8> = Vec::new(alloc);
+    let _ = ran(alloc, &[word], io::empty(), &mut out, &mut err);
+    match std::str::from_utf8(err.as_slice()) {
+        Ok(text) => text.contains(command),
+        Err(_) => false,
+    }
+}
+
+/// A first word that is no entry, but like a command, is reported with that.
+#[test]
+fn a_wrong_command(rt: HostRuntime) -> Result<(), Fail> {
+    for (word, command) in [
+        ("igored", "'ignored'"),
+        ("wyh", "'why'"),
+        ("unsed", "'unused'"),
+    ] {
+        assert!(rt; is_hinted(rt.alloc(), word, command), "{word}");
+    }
+    assert!(rt; !is_hinted(rt.alloc(), "a.o", "'"));
     Ok(())
 }
 

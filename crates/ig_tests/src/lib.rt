@@ -6,5 +6,3 @@
 mod ends;
 #[cfg(test)]
 mod refused;
-#[cfg(test)]
-mod refusing;

@@ -1,6 +1,6 @@
 //! Runs of the program over a folder of which one call is refused.
 use crate::ends::{env_of, words_of};
-use crate::refusing::Refusing;
+use answers::Refusing;
 use ig_commands::World;
 use ig_commands::run::run;
 use ignore_files::{Env, Fault, Files, MemoryTree, Refusal, TreeError};

@@ -22,8 +22,9 @@ use Rattle.ignore_walk.specs.declared.callbacks.Order.{Order}
 use Rattle.ignore.specs.declared.options.WalkOptions.{WalkOptions}
 use Rattle.ignore.specs.Closures.{options_of}
 use Rattle.ignore.specs.Finished.{IsEnd, IsFinished}
-use Rattle.ignore.specs.Headline.{Headline, IsAboveLimit, IsGiven, IsSceneOf}
+use Rattle.ignore.specs.Headline.{Headline, IsAboveLimit, IsOnlyList, IsSceneOf}
 use Rattle.ignore.specs.Walks.{IsNewWalkBy, IsWalkBy}
+use Rattle.ignore.proofs.OutsideOnly.{scene_by}
 
 -- a scene of a walk is one that its owner suits
 pub scene_suits : {F S : Type 0} (files : Files F) (calls : Callbacks S) (f : F) (owner : S) (b : WalkOptions) (order : Order)
@@ -43,6 +44,11 @@ scene_suits files calls f owner b order t o g honest s = record {
 pub on_ok : {A E : Type 0} {P Q : A → Type 0} (r : Result A E) → ((a : A) → P a → Q a) → IfOk r P → IfOk r Q
 on_ok (Ok a) f p = f a p
 on_ok (Err e) f p = tt
+
+-- a fact of each `Ok`
+pub on_each_ok : {A E : Type 0} {P : Type 0} (r : Result A E) → P → IfOk r (λ _. P)
+on_each_ok (Ok a) p = p
+on_each_ok (Err e) p = tt
 
 -- of a finished walk no item ended it, the last one included
 none_last : (front : List Item) (last : Item) → IsFinished (front ++ last ∷ []) → ¬ (IsEnd last)
@@ -75,13 +81,13 @@ yields_then_inner R inner a v xs answer (t, y, s) = (inner t, yields_inner R inn
 
 -- the result of a walk that was collected
 
-pub headline_of : {F S V E : Type 0} (files : Files F) (calls : Callbacks S) (f : F) (owner : S) (env : Env) (b : WalkOptions)
+pub only_of : {F S V E : Type 0} (files : Files F) (calls : Callbacks S) (f : F) (owner : S) (env : Env) (b : WalkOptions)
     (order : Order) (w : Walk F S) (view : V → List Item) (r : Result V E) → IsWalkBy files calls f owner env b order w
     → w.left ≡ b.limit
     → ((g : Scene) (items : List Item) (n : ℕ) → Remaining files calls g w items n → IfOk r (λ v. view v ≡ items))
     → ((g : Scene) (items : List Item) (n : ℕ) → Remaining files calls g w items n → IfOk r (λ v. n ≤ w.left))
-    → IfOk r (λ v. Headline files calls f owner env b order (view v))
-headline_of files calls f owner env b order w view (Ok v) by limit complete within = λ tree honest.
+    → IfOk r (λ v. IsOnlyList files calls f owner env b order (view v))
+only_of files calls f owner env b order w view (Ok v) by limit complete within = λ tree honest.
     let o = by tree honest in (
       o.0,
       o.1,
@@ -89,22 +95,19 @@ headline_of files calls f owner env b order w view (Ok v) by limit complete with
           let r = o.2 s items n (scene_suits files calls f owner b order tree o.0 s honest scene) whole in
           (complete s items n r, subst (λ (left : ℕ). n ≤ left) limit (within s items n r)),
     )
-headline_of files calls f owner env b order w view (Err e) by limit complete within = tt
+only_of files calls f owner env b order w view (Err e) by limit complete within = tt
 
-pub given_of : {F S V E : Type 0} (files : Files F) (calls : Callbacks S) (f : F) (owner : S) (env : Env) (b : WalkOptions)
+pub headline_of : {F S V E : Type 0} (files : Files F) (calls : Callbacks S) (f : F) (owner : S) (env : Env) (b : WalkOptions)
     (order : Order) (w : Walk F S) (view : V → List Item) (r : Result V E) → IsNewWalkBy files calls f owner env b order w
     → w.left ≡ b.limit
     → ((g : Scene) (roots : List (List ℕ)) → Starts files calls g w roots → IfOk r (λ v. (n : ℕ) × (n ≤ w.left) × Whole g roots (view v) n))
-    → IfOk r (λ v. IsGiven files calls f owner env b order (view v))
-given_of files calls f owner env b order w view (Ok v) by limit exists = λ tree honest.
-    let o = by tree honest in (
-      o.0,
-      o.1,
-      λ s scene.
-          let l = exists s b.roots (o.2 s (scene_suits files calls f owner b order tree o.0 s honest scene)) in
-          (l.0, subst (λ (left : ℕ). l.0 ≤ left) limit l.1, l.2),
-    )
-given_of files calls f owner env b order w view (Err e) by limit exists = tt
+    → IfOk r (λ v. Headline files calls f owner env b order (view v))
+headline_of files calls f owner env b order w view (Ok v) by limit exists = λ tree honest outside read s scene.
+    let o = by tree honest in
+    let by_read = scene_by calls owner env b order tree outside o.0 s read o.1 scene in
+    let l = exists s b.roots (o.2 s (scene_suits files calls f owner b order tree o.0 s honest by_read)) in
+    (l.0, subst (λ (left : ℕ). l.0 ≤ left) limit l.1, l.2)
+headline_of files calls f owner env b order w view (Err e) by limit exists = tt
 
 pub ended_of : {F S V E : Type 0} (files : Files F) (calls : Callbacks S) (f : F) (owner : S) (env : Env) (b : WalkOptions)
     (order : Order) (w : Walk F S) (problem : E → Problem) (r : Result V E) → IsWalkBy files calls f owner env b order w

@@ -1,6 +1,5 @@
 mod AgreeLemmas
 mod HeadlineLemmas
-mod MemoryLemmas
 mod OutsideOnly
 mod SceneLemmas
 mod WorkedSettings

@@ -18,7 +18,7 @@ use Rattle.ignore_walk.specs.declared.callbacks.Callbacks.{Ghosts as Callbacks}
 use Rattle.ignore_walk.specs.declared.callbacks.Order.{Order}
 use Rattle.ignore.specs.declared.options.WalkOptions.{WalkOptions}
 use Rattle.ignore.specs.Asked.{IsGlobalByIf, IsGlobalIf, IsOutside, IsOutsideBy, base_dir}
-use Rattle.ignore.specs.Headline.{IsAboveLimit, IsListIn, IsSceneOf}
+use Rattle.ignore.specs.Headline.{IsAboveLimit, IsOnlyListIn, IsSceneOf}
 use Rattle.ignore.specs.Matchers.{AreMatchers, asked_at, asked_by}
 
 -- The rules from outside.
@@ -90,17 +90,17 @@ AreMatchers-one tree env b ms ns h k =
     h.2 ∙ (ap (λ (o : Outside). asked_at b o env.current_dir) (IsOutside-one tree env b h.0 k.0 h.1 k.1) ∙ sym k.2)
 
 -- a scene by some rules from outside is one by any that the builder has
-scene_by : {S : Type 0} (calls : Callbacks S) (owner : S) (env : Env) (b : WalkOptions) (order : Order) (tree : Tree) (o p : Outside)
+pub scene_by : {S : Type 0} (calls : Callbacks S) (owner : S) (env : Env) (b : WalkOptions) (order : Order) (tree : Tree) (o p : Outside)
     (g : Scene) → IsOutside tree env b o → IsOutside tree env b p → IsSceneOf calls owner b order tree o g
     → IsSceneOf calls owner b order tree p g
 scene_by calls owner env b order tree o p g h k scene =
     subst (λ (x : Outside). IsSceneOf calls owner b order tree x g) (IsOutside-one tree env b o p h k) scene
 
 -- two finished walks of a builder have yielded one list in a tree, that of the definition
-IsListIn-one : {S : Type 0} (calls : Callbacks S) (owner : S) (env : Env) (b : WalkOptions) (order : Order) (tree : Tree) (o : Outside)
+IsOnlyListIn-one : {S : Type 0} (calls : Callbacks S) (owner : S) (env : Env) (b : WalkOptions) (order : Order) (tree : Tree) (o : Outside)
     (g : Scene) (xs ys items : List Item) (n : ℕ) → IsOutside tree env b o → IsSceneOf calls owner b order tree o g
-    → Whole g b.roots items n → IsListIn calls owner env b order tree xs → IsListIn calls owner env b order tree ys → xs ≡ ys
-IsListIn-one calls owner env b order tree o g xs ys items n outside scene whole h k =
+    → Whole g b.roots items n → IsOnlyListIn calls owner env b order tree xs → IsOnlyListIn calls owner env b order tree ys → xs ≡ ys
+IsOnlyListIn-one calls owner env b order tree o g xs ys items n outside scene whole h k =
     (h.2 g items n (scene_by calls owner env b order tree o h.0 g outside h.1 scene) whole).0
     ∙ sym (k.2 g items n (scene_by calls owner env b order tree o k.0 g outside k.1 scene) whole).0
 
@@ -108,7 +108,7 @@ IsListIn-one calls owner env b order tree o g xs ys items n outside scene whole 
 IsAboveLimit-never : {F S : Type 0} (files : Files F) (calls : Callbacks S) (f : F) (owner : S) (env : Env) (b : WalkOptions)
     (order : Order) (tree : Tree) (o : Outside) (g : Scene) (all items : List Item) (n : ℕ) → IsHonest files f tree
     → IsOutside tree env b o → IsSceneOf calls owner b order tree o g → Whole g b.roots items n
-    → IsListIn calls owner env b order tree all → IsAboveLimit files calls f owner env b order → ⊥
+    → IsOnlyListIn calls owner env b order tree all → IsAboveLimit files calls f owner env b order → ⊥
 IsAboveLimit-never files calls f owner env b order tree o g all items n honest outside scene whole h above =
     let k = above tree honest in
     let within = (h.2 g items n (scene_by calls owner env b order tree o h.0 g outside h.1 scene) whole).1 in

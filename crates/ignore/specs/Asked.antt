@@ -1,6 +1,6 @@
 -- What a builder reads of the files: a file that is added by name, at once, and the global file,
 -- when the builder is asked.
-use Rattle.std.specs.Prelude.{◌≡◌, Bool, true, false, Option, None, Some, Result}
+use Rattle.std.specs.Prelude.{◌≡◌, Bool, true, false, [], ◌∷◌, ◌++◌, Option, None, Some, Result}
 use Rattle.std.specs.Option.{option_or}
 use Rattle.ignore_base.specs.declared.fault.Fault.TheVariants.{NoCurrentDir}
 use Rattle.ignore_base.specs.Problem.{Problem, io}
@@ -15,7 +15,6 @@ use Rattle.ignore_rules.specs.Matchers.{BuildsAnyAnswer, BuildsGlobal}
 use Rattle.ignore_rules.specs.RuleFile.{AddsAnswer, AddsFile}
 use Rattle.ignore_rules.specs.Rules.{Building, Ruleset, begun, built, empty, with_git_trailing_spaces}
 use Rattle.ignore.specs.declared.options.WalkOptions.{WalkOptions}
-use Rattle.ignore.specs.Builder.{with_explicit}
 
 -- the directory that the global file and files added by name are relative to: as set, or else the
 -- working directory, if that is known
@@ -35,6 +34,10 @@ abbrev pub IsAnswerOf : (Result Contents Refusal → Type 0) → Path → Buildi
 IsAnswerOf Gives path start rules problem =
     (answer : Result Contents Refusal) × (filled : Building) × Gives answer
     × AddsAnswer path answer start filled problem × (rules ≡ built filled)
+
+-- the builder with the rules of one file more that was added by name, after the others
+abbrev pub with_explicit : WalkOptions → Ruleset → WalkOptions
+with_explicit b rules = record b { explicit = b.explicit ++ rules ∷ [] }
 
 -- the rules of the file at a path were added, relative to the directory, and its problem is
 -- reported; where no directory is known, nothing was added, and that is reported

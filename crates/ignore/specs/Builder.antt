@@ -117,10 +117,6 @@ with_overrides b globs = record b { overrides = globs }
 abbrev pub with_types : WalkOptions → Matcher → WalkOptions
 with_types b types = record b { types = types }
 
--- the builder with the rules of one file more that was added by name, after the others
-abbrev pub with_explicit : WalkOptions → Ruleset → WalkOptions
-with_explicit b rules = record b { explicit = b.explicit ++ rules ∷ [] }
-
 -- the builder with this directory in place of the working directory
 abbrev pub with_current_dir : WalkOptions → Path → WalkOptions
 with_current_dir b dir = record b { current_dir = Some dir }

@@ -12,3 +12,8 @@ pub mod Words
 pub mod FileWords
 pub mod WalkWords
 pub mod SurveyWords
+pub mod TextWords
+pub mod RuleWords
+pub mod GlobWords
+pub mod TypeWords
+pub mod QueryWords

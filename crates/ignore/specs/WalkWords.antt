@@ -32,7 +32,7 @@ pub use Rattle.ignore_walk.specs.Agreement.{IsKeptBelow, IsOpen, Reachable, is_k
 pub use Rattle.ignore_walk.specs.Answered.{IsInode, IsMetadata}
 pub use Rattle.ignore_walk.specs.Branch.{Branch, entered}
 pub use Rattle.ignore_walk.specs.Child.{is_dir_kind}
-pub use Rattle.ignore_walk.specs.Entry.{Entry, Item, entry_of, item_of, named_or, problem_in, stdin_entry}
+pub use Rattle.ignore_walk.specs.Entry.{Entry, Item, entry_of, inode_of, item_of, leads_by_link, metadata_of, named_or, problem_in, stdin_entry}
 pub use Rattle.ignore_walk.specs.Finished.{IsEnd, IsFinished}
 pub use Rattle.ignore_walk.specs.GoesOn.{AllGoOn, GoesOn, HasNoEnd}
 pub use Rattle.ignore_walk.specs.Nexts.{EndsBy, EndsOrGoesOn, NextGives, Nexts, Remaining, Shows, Starts}
@@ -50,3 +50,4 @@ pub use Rattle.ignore.specs.Agreement.{IsKeptByOne, IsMatcherIn, IsReached, answ
 pub use Rattle.ignore.specs.Asked.{IsOutside}
 pub use Rattle.ignore.specs.Builder.{unset, with_root}
 pub use Rattle.ignore.specs.Matchers.{AreMatchers, asked_by}
+pub use Rattle.ignore_walk.specs.declared.callbacks.Order.TheVariants.{ByName, ByPath, Listed}

@@ -10,7 +10,7 @@ ghost use Rattle.ignore_walk.specs.Entry.{item_of};
 ghost use Rattle.ignore_walk.specs.GoesOn.{AllGoOn, HasNoEnd};
 ghost use Rattle.ignore_walk.specs.Paces.{TookSteps, Work, work_at, work_of};
 ghost use Rattle.ignore.specs.Closures.{order_of};
-ghost use Rattle.ignore.specs.Headline.{Headline, IsAboveLimit, IsGiven};
+ghost use Rattle.ignore.specs.Headline.{Headline, IsAboveLimit, IsOnlyList, ReadsOutside};
 
 use crate::builder::WalkBuilder;
 use crate::walk::{Owner, Walk};
@@ -32,7 +32,8 @@ pub fn collect_walk<F: Files>(
 ) -> Result<Vec<Item>, Error>
     ensures headline { IfOk result (λ all. Headline F.Files ⟦<Owner<'static> as Callbacks>⟧ files.now (record { builder = Some builder.entry }) env.now
         builder.now.options (order_of (λ s. s.order) builder.now.sorter) (map item_of all.items)) }
-    ensures exists { IfOk result (λ all. IsGiven F.Files ⟦<Owner<'static> as Callbacks>⟧ files.now (record { builder = Some builder.entry }) env.now
+    ensures outside { IfOk result (λ all. ReadsOutside F.Files files.now env.now builder.now.options) }
+    ensures only { IfOk result (λ all. IsOnlyList F.Files ⟦<Owner<'static> as Callbacks>⟧ files.now (record { builder = Some builder.entry }) env.now
         builder.now.options (order_of (λ s. s.order) builder.now.sorter) (map item_of all.items)) }
     ensures ended { IfErr result (λ e. (problem_of e ≡ memory) ⊎ ((problem_of e ≡ io StepLimit)
         × IsAboveLimit F.Files ⟦<Owner<'static> as Callbacks>⟧ files.now (record { builder = Some builder.entry }) env.now builder.now.options
@@ -51,11 +52,11 @@ impl<'a, F: Files, S: Callbacks> Walk<'a, F, S> {
     /// As `collect_walk`.
     fn all_items(self) -> Result<Vec<Item>, Error>
         ensures headline { (f : F) (owner : S) (env : Env) (b : WalkOptions) (order : Order)
-            → IsWalkBy F.Files S.Callbacks f owner env b order self.entry.inner → self.entry.inner.left ≡ b.limit
-            → IfOk result (λ all. Headline F.Files S.Callbacks f owner env b order (map item_of all.items)) }
-        ensures exists { (f : F) (owner : S) (env : Env) (b : WalkOptions) (order : Order)
             → IsNewWalkBy F.Files S.Callbacks f owner env b order self.entry.inner → self.entry.inner.left ≡ b.limit
-            → IfOk result (λ all. IsGiven F.Files S.Callbacks f owner env b order (map item_of all.items)) }
+            → IfOk result (λ all. Headline F.Files S.Callbacks f owner env b order (map item_of all.items)) }
+        ensures only { (f : F) (owner : S) (env : Env) (b : WalkOptions) (order : Order)
+            → IsWalkBy F.Files S.Callbacks f owner env b order self.entry.inner → self.entry.inner.left ≡ b.limit
+            → IfOk result (λ all. IsOnlyList F.Files S.Callbacks f owner env b order (map item_of all.items)) }
         ensures ended { (f : F) (owner : S) (env : Env) (b : WalkOptions) (order : Order)
             → IsWalkBy F.Files S.Callbacks f owner env b order self.entry.inner → self.entry.inner.left ≡ b.limit
             → self.entry.inner.ended ≡ false

@@ -31,7 +31,7 @@ ghost use Rattle.ignore.specs.Agreement.{IsKeptByOne, IsMatcherIn, IsReached, an
 ghost use Rattle.ignore.specs.Asked.{IsOutside};
 ghost use Rattle.ignore.specs.Closures.{order_of};
 ghost use Rattle.ignore.specs.Finished.{IsFinished};
-ghost use Rattle.ignore.specs.Headline.{Headline, IsGiven, IsSceneOf, IsTheList};
+ghost use Rattle.ignore.specs.Headline.{Headline, IsOnlyList, IsSceneOf, IsTheList};
 ghost use Rattle.ignore.specs.Matchers.{AreMatchers};
 ghost use Rattle.ignore.specs.Walks.{IsNewWalkBy, IsWalkBy};
 ghost use Rattle.ignore.specs.declared.options.WalkOptions.{WalkOptions};
@@ -90,13 +90,14 @@ pub fn only_the_last_item_ends<F: Files, S: Callbacks>()
     runs::only_the_last_item_ends::<F, S>();
 }
 
-/// The headline, item by item: a walk of a builder (`WalkBuilder::build`) that is asked until it
-/// answers none, and that no item ended, has yielded exactly the list of the definition.
-pub fn a_finished_walk_is_the_headline<F: Files, S: Callbacks>()
+/// The list of the definition is one, item by item: a walk of a builder (`WalkBuilder::build`, clause
+/// `whole`) that is asked until it answers none, and that no item ended, has yielded whatever list
+/// the definition has.
+pub fn a_finished_walk_has_no_other_list<F: Files, S: Callbacks>()
     ensures { (f : F) (owner : S) (env : Env) (b : WalkOptions) (order : Order) (w : Walk F S) (all : List (Result DirEntry Error))
         → IsWalkBy F.Files S.Callbacks f owner env b order w.inner → w.inner.left ≡ b.limit
         → Drains (λ a answer b. NextGives F.Files S.Callbacks a.inner (option_map item_of answer) b.inner) w all
-        → IsFinished (map item_of all) → Headline F.Files S.Callbacks f owner env b order (map item_of all) }
+        → IsFinished (map item_of all) → IsOnlyList F.Files S.Callbacks f owner env b order (map item_of all) }
 {
     a_run_yields_the_list::<F, S>();
 }
@@ -113,16 +114,16 @@ pub fn a_finished_run_is_a_list<F: Files, S: Callbacks>()
     runs::a_finished_run_is_a_list::<F, S>();
 }
 
-/// The list of the definition exists, where a walk of a builder (`WalkBuilder::build`, clause
-/// `starts`) is asked until it answers none, and no item ended it. In each tree that the files are
-/// consistent with, the roots give just what it has yielded, in each scene of the walk, and in no
-/// more steps than the limit. Nothing more is asked of the tree: it may have links without end, and
-/// no number of directories need be known.
-pub fn a_finished_walk_has_its_list<F: Files, S: Callbacks>()
+/// The headline, item by item: a walk of a builder (`WalkBuilder::build`, clause `starts`) that is
+/// asked until it answers none, and that no item ended, has yielded the list of the definition. In
+/// each tree that the files are consistent with, the roots give just what it has yielded, in each
+/// scene of the walk, and in no more steps than the limit. Nothing more is asked of the tree: it may
+/// have links without end, and no number of directories need be known.
+pub fn a_finished_walk_is_the_headline<F: Files, S: Callbacks>()
     ensures { (f : F) (owner : S) (env : Env) (b : WalkOptions) (order : Order) (w : Walk F S) (all : List (Result DirEntry Error))
         → IsNewWalkBy F.Files S.Callbacks f owner env b order w.inner → w.inner.left ≡ b.limit
         → Drains (λ a answer b. NextGives F.Files S.Callbacks a.inner (option_map item_of answer) b.inner) w all
-        → IsFinished (map item_of all) → IsGiven F.Files S.Callbacks f owner env b order (map item_of all) }
+        → IsFinished (map item_of all) → Headline F.Files S.Callbacks f owner env b order (map item_of all) }
 {
     a_finished_run_is_a_list::<F, S>();
 }
@@ -182,24 +183,24 @@ pub fn one_outside()
     ensures { (tree : Tree) (env : Env) (b : WalkOptions) (o p : Outside) → IsOutside tree env b o → IsOutside tree env b p → o ≡ p }
 {}
 
-/// Over any files: what has the headline, and is given (as `Ok` of `collect_walk`, or the
-/// items of a walk of a builder that was finished), is the one list of the definition in each tree
-/// that the files are consistent with, wherever there is a scene of the walk, as
-/// `a_scene_without_closures` and `a_scene_with_closures` say.
+/// Over any files: what has the headline (as `Ok` of `collect_walk`, or the items of a walk of a
+/// builder that was finished) is the one list of the definition in each tree that the files are
+/// consistent with, wherever there is a scene of the walk, as `a_scene_without_closures` and
+/// `a_scene_with_closures` say.
 pub fn the_one_list<F: Files, S: Callbacks>()
     ensures { (f : F) (owner : S) (env : Env) (b : WalkOptions) (order : Order) (tree : Tree) (o : Outside) (g : Scene) (all : List Item)
         → IsHonest F.Files f tree → IsOutside tree env b o → IsSceneOf S.Callbacks owner b order tree o g
-        → Headline F.Files S.Callbacks f owner env b order all → IsGiven F.Files S.Callbacks f owner env b order all
-        → IsTheList S.Callbacks owner env b order tree all }
+        → Headline F.Files S.Callbacks f owner env b order all → IsTheList S.Callbacks owner env b order tree all }
 {
-    one_outside();
+    one_list();
 }
 
 /// The headline over a tree in memory, with no premise on the walk left: a finished walk has
 /// yielded the one list of the definition, where the builder has no order and no filter (`plain`);
 /// and with closures wherever there is a scene of them, as `a_scene_with_closures` says (`closures`).
 pub fn a_tree_in_memory(builder: &WalkBuilder, tree: &MemoryTree, env: &Env)
-    ensures plain { (all : List Item) → builder.now.sorter ≡ None → builder.now.filter ≡ None
+    ensures plain { (o : Outside) (all : List Item) → IsOutside (tree_of tree.now) env.now builder.now.options o
+        → builder.now.sorter ≡ None → builder.now.filter ≡ None
         → Headline ⟦<MemoryTree as Files>⟧ ⟦<Owner<'static> as Callbacks>⟧ tree.now (record { builder = Some builder.entry }) env.now
         builder.now.options (order_of (λ s. s.order) builder.now.sorter) all
         → IsTheList ⟦<Owner<'static> as Callbacks>⟧ (record { builder = Some builder.entry }) env.now builder.now.options
@@ -213,8 +214,6 @@ pub fn a_tree_in_memory(builder: &WalkBuilder, tree: &MemoryTree, env: &Env)
         (order_of (λ s. s.order) builder.now.sorter) (tree_of tree.now) all }
 {
     tree.is_honest();
-    tree.is_numbered();
-    some_list();
-    one_outside();
+    the_one_list::<MemoryTree, Owner<'static>>();
     a_scene_without_closures(builder);
 }

@@ -7,7 +7,7 @@ use Rattle.std.specs.declared.cmp.Ordering.{Ordering}
 use Rattle.std.specs.declared.cmp.Ordering.TheVariants.{Equal}
 use denote.Bor.{Bor}
 use Rattle.ignore.specs.Closures.{Compares, Filters, order_of}
-use Rattle.ignore.specs.Headline.{IsAboveLimit, IsListIn, IsSceneOf}
+use Rattle.ignore.specs.Headline.{IsAboveLimit, IsOnlyListIn, IsSceneOf}
 use Rattle.ignore.specs.ItsList.{InItsScenes}
 use Rattle.ignore.specs.WalkWords.{Entry, Item, Outside, Scene, Whole, item_of}
 use Rattle.ignore.specs.FileWords.{Tree as Files}
@@ -78,12 +78,12 @@ IsThere calls owner tree env b order all =
 -- the list by such an owner is the list of the definition
 pub listed : {S : Type 0} (calls : Callbacks S) (owner : S) (tree : Memory) (env : Env) (taken b : WalkOptions) (order : Order)
     (all : List Item) → taken ≡ b → order ≡ Listed → IsBare calls owner
-    → IsListIn calls owner env taken order (tree_of tree) all → IsThere calls owner tree env taken order all
+    → IsOnlyListIn calls owner env taken order (tree_of tree) all → IsThere calls owner tree env taken order all
     → IsListOf tree env b (Ok all)
 listed calls owner tree env taken b order all same plain bare h there =
-    let l : IsListIn calls owner env b Listed (tree_of tree) all =
-    subst (λ (o : WalkOptions). IsListIn calls owner env o Listed (tree_of tree) all) same
-    (subst (λ (o : Order). IsListIn calls owner env taken o (tree_of tree) all) plain h) in
+    let l : IsOnlyListIn calls owner env b Listed (tree_of tree) all =
+    subst (λ (o : WalkOptions). IsOnlyListIn calls owner env o Listed (tree_of tree) all) same
+    (subst (λ (o : Order). IsOnlyListIn calls owner env taken o (tree_of tree) all) plain h) in
     let t : IsThere calls owner tree env b Listed all =
     subst (λ (o : WalkOptions). IsThere calls owner tree env o Listed all) same
     (subst (λ (o : Order). IsThere calls owner tree env taken o all) plain there) in (

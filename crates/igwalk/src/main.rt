@@ -4,8 +4,25 @@
 
 use commands::{Stop, World, report_stop, run_buffered, words_after_name};
 use ignore_files::{DiskFiles, Env};
+use std::io::Write;
 use std::process::ExitCode;
 use std::{env, io, rt};
+
+/// What `igwalk --help` prints.
+const HELP: &str = "\
+igwalk: gitignore rules on the command line
+
+  igwalk list ROOT..                  the paths that the rules keep, one a line, in order
+  igwalk check ROOT PATH..            none, ignore or whitelist, and the path, of each PATH in ROOT
+  igwalk match ROOT RULES PATH d|f    the answer of the lines of RULES for a directory or a file
+  igwalk --help | --version
+
+Status: 0; 1 where something was reported on standard error; 2 for wrong words, out of memory and a
+failed write. README.md and docs/CALLING.md say which rules count, man/igwalk.1 is its manual page.
+";
+
+/// What `igwalk --version` prints.
+const VERSION: &str = "igwalk 1.0.0\n";
 
 /// The words after the program's name; none where one of them isn't UTF-8.
 fn words(rt: &(impl rt::Env + AllocGlobal)) -> io::Result<Vec<String>> {
@@ -16,8 +33,32 @@ fn words(rt: &(impl rt::Env + AllocGlobal)) -> io::Result<Vec<String>> {
     }
 }
 
+/// What is printed where the only word asks about the program itself.
+fn own_answer(words: &[String]) -> Option<&'static str> {
+    let (first, rest) = words.split_first()?;
+    if !rest.is_empty() {
+        return None;
+    }
+    match first.as_str() {
+        "--help" | "-h" => Some(HELP),
+        "--version" | "-V" => Some(VERSION),
+        _ => None,
+    }
+}
+
+/// Prints a text, and returns the status.
+fn print(rt: &HostRuntime, text: &str) -> Result<u8, Stop> {
+    match rt.stdout().write_all(text.as_bytes()) {
+        Ok(()) => Ok(0),
+        Err(_) => report_stop(&mut rt.stderr(), Stop::Write),
+    }
+}
+
 /// The status of a run of the words over the machine's files.
 fn status(rt: &HostRuntime, words: &[String], env: &Env) -> Result<u8, Stop> {
+    if let Some(text) = own_answer(words) {
+        return print(rt, text);
+    }
     let files = DiskFiles::new(rt);
     let mut err = rt.stderr();
     let world = World {

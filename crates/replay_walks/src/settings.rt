@@ -7,7 +7,7 @@ mod machine;
 mod set;
 mod types;
 
-pub(crate) use bounds::bounds_of;
+pub(crate) use bounds::{bounds_of, outside_of};
 pub(crate) use chosen::Choice;
 pub(crate) use machine::{Machine, Shown, machine_of};
 pub(crate) use set::{Flag, Named, Number, Rules, limit_of, play};

@@ -1,7 +1,7 @@
 -- What a backup stores, by the matchers of its builder, and by one of them.
 use Rattle.std.proofs.Common.{◌≡◌, ◌⊎◌, ◌↔◌, ℕ, Bool, true, List, reverse, codes, Contains, sym, ap, ◌∙◌, subst}
 use Rattle.ignore.specs.FileWords.{Env, Tree}
-use Rattle.ignore.specs.Headline.{IsListIn, IsSceneOf}
+use Rattle.ignore.specs.Headline.{IsListIn, IsOnlyListIn, IsSceneOf}
 use Rattle.ignore.specs.WalkWords.{AreLoads, Callbacks, Entry, IncrementalIgnore, IncrementalMatch, IsKeptByOne, IsOpen, IsOutside, IsYielded}
 use Rattle.ignore.specs.WalkWords.{Item, Order, Outside, Scene, Whole, answer_at, joined, keeps, query, scene_of, stdin_entry}
 use Rattle.ignore.specs.declared.options.WalkOptions.{WalkOptions}
@@ -13,7 +13,7 @@ pub list_of : {S : Type 0} (calls : Callbacks S) (owner : S) (env : Env) (b : Wa
 list_of calls owner env b order tree all held same list = subst (IsListIn calls owner env b order tree) same list
 
 pub holds : {S : Type 0} (calls : Callbacks S) (owner : S) (env : Env) (b : WalkOptions) (order : Order) (tree : Tree)
-    (ms : List IncrementalIgnore) (all held : List Item) → all ≡ held → IsListIn calls owner env b order tree all
+    (ms : List IncrementalIgnore) (all held : List Item) → all ≡ held → IsOnlyListIn calls owner env b order tree all
     → ((o : Outside) (g : Scene) (e : Entry) (items : List Item) (n : ℕ) → IsOutside tree env b o
     → IsSceneOf calls owner b order tree o g → IsOpen g → Whole g b.roots items n
     → IsYielded items e ↔ (((e ≡ stdin_entry) × Contains b.roots (codes "-")) ⊎ IsKeptByOne g ms e))

@@ -10,7 +10,7 @@ ghost use Rattle.ignore.specs.FileWords.{Answers, Env, IsHonest, Tree};
 ghost use Rattle.ignore.specs.Finished.{IsEnd, IsFinished};
 ghost use Rattle.ignore.specs.Headline.{Headline};
 ghost use Rattle.ignore.specs.WalkWords.{DirEntry, Item, Order, entry_of, item_of};
-ghost use Rattle.ignore.specs.Walks.{IsWalkBy};
+ghost use Rattle.ignore.specs.Walks.{IsNewWalkBy};
 ghost use Rattle.ignore.specs.Words.{Error, problem_of};
 ghost use Rattle.ignore.specs.declared.options.WalkOptions.{WalkOptions};
 ghost use Rattle.uses.specs.Searched.{Adds, Finds, has_word, hit_line, hits_at, hits_in, hits_in_files, is_file_of};
@@ -75,7 +75,7 @@ pub fn search<F: Files, S: Callbacks>(
     word: &str,
 ) -> Result<Found, Error>
     ensures whole { (owner : S) (env : Env) (b : WalkOptions) (order : Order)
-        → IsWalkBy F.Files S.Callbacks files.now owner env b order walk.entry.inner → walk.entry.inner.left ≡ b.limit
+        → IsNewWalkBy F.Files S.Callbacks files.now owner env b order walk.entry.inner → walk.entry.inner.left ≡ b.limit
         → IfOk result (λ found. (items : List Item) × Headline F.Files S.Callbacks files.now owner env b order items
         × ((tree : Tree) → IsHonest F.Files files.now tree → Finds tree word.now items found)) }
     ensures ended { IfErr result (λ e. IsEnd (Err (problem_of e))) }

@@ -17,8 +17,6 @@ mod refused_builders;
 #[cfg(test)]
 mod refused_runs;
 #[cfg(test)]
-mod refusing;
-#[cfg(test)]
 mod rules;
 #[cfg(test)]
 mod trees;

@@ -1,7 +1,7 @@
 //! What a builder reads, over a tree of which one call is refused.
 use crate::builders::tree;
-use crate::refusing::Refusing;
 use crate::trees::at_home;
+use answers::Refusing;
 use ignore::files::{Env, Files, Refusal};
 use ignore::{Error, Fault, WalkBuilder};
 use std::alloc::Global;

@@ -1,7 +1,7 @@
 //! Runs of `list` and `check` over a folder of which one call is refused.
 use crate::failing_writers::words_of;
-use crate::refusing::Refusing;
 use crate::trees::{at_home, tree_of};
+use answers::Refusing;
 use commands::World;
 use commands::run::run;
 use ignore::Fault;

@@ -1,7 +1,7 @@
 //! Walks over files that answer as no tree does, and over a tree of which one call is refused.
-use crate::refusing::Refusing;
 use crate::trees::tree_of;
 use crate::walks::{ground_of, items_of, options};
+use answers::Refusing;
 use ignore_base::Fault;
 use ignore_dir::Settings;
 use ignore_files::{

@@ -1,6 +1,6 @@
 //! A matcher asks nothing of the files again for directories that it keeps.
-use crate::refusing::Refusing;
 use crate::trees::tree_of;
+use answers::Refusing;
 use ignore_dir::{IncrementalMatch, Outside, Settings};
 use ignore_files::{MemoryTree, Refusal};
 use ignore_query::IncrementalIgnore;

@@ -24,8 +24,6 @@ mod queries;
 #[cfg(test)]
 mod refused_matchers;
 #[cfg(test)]
-mod refusing;
-#[cfg(test)]
 mod surveys;
 #[cfg(test)]
 mod trees;

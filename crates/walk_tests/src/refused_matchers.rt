@@ -1,6 +1,6 @@
 //! A matcher of single paths over a tree of which one call is refused: what it answers, and why.
-use crate::refusing::Refusing;
 use crate::trees::tree_of;
+use answers::Refusing;
 use ignore_base::{Error, Fault};
 use ignore_dir::{IncrementalMatch, Outside, Settings};
 use ignore_files::{Files, Refusal};
@@ -76,11 +76,14 @@ fn refused(
         refusal,
         turn: Cell::new(turn),
     };
-    let (first, second) = answers(alloc, &files)?;
+    let (first, second) = both_answers(alloc, &files)?;
     Ok((first, second, files.turn.get() == 0))
 }
 
-fn answers(alloc: Global, files: &Refusing<'_>) -> anyhow::Result<(&'static str, &'static str)> {
+fn both_answers(
+    alloc: Global,
+    files: &Refusing<'_>,
+) -> anyhow::Result<(&'static str, &'static str)> {
     let mut matcher = matcher(alloc)?;
     let first = answer(&mut matcher, files);
     Ok((first, answer(&mut matcher, files.tree)))
@@ -135,10 +138,22 @@ fn refused_reasons(
         refusal,
         turn: Cell::new(turn),
     };
-    let mut matcher = matcher(alloc)?;
-    let first = reason(alloc, &mut matcher, &files)?;
-    let second = reason(alloc, &mut matcher, &tree)?;
+    let (first, second) = reasons(alloc, &files)?;
     Ok((first, second, files.turn.get() == 0))
+}
+
+fn reasons(alloc: Global, files: &Refusing<'_>) -> anyhow::Result<(String, String)> {
+    let mut matcher = matcher(alloc)?;
+    both_reasons(alloc, &mut matcher, files)
+}
+
+fn both_reasons(
+    alloc: Global,
+    matcher: &mut IncrementalIgnore,
+    files: &Refusing<'_>,
+) -> anyhow::Result<(String, String)> {
+    let first = reason(alloc, matcher, files)?;
+    Ok((first, reason(alloc, matcher, files.tree)?))
 }
 
 /// Each call of a question with its reason is refused in turn, and at last none is.

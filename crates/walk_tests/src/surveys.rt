@@ -1,8 +1,8 @@
 //! Surveys of trees in memory, also where one call of the tree is refused.
 ghost use Rattle.std.specs.Iterator.{IsFinite};
 
-use crate::refusing::Refusing;
 use crate::trees::tree_of;
+use answers::Refusing;
 use ignore_base::Fault;
 use ignore_dir::{Outside, Settings};
 use ignore_files::{Files, MemoryTree, Refusal};

@@ -1,7 +1,7 @@
 //! Runs of the program `igwalk`, with writers in memory.
 
 use super::query::is_dir_there;
-use crate::settings::{Machine, machine_of};
+use crate::settings::{Machine, machine_of, outside_of};
 use answers::{Answer, Bounds, Calls, Counting, Questions};
 use commands::World;
 use commands::run::run;
@@ -103,8 +103,9 @@ fn excess(
     words: &[String],
     calls: &Calls,
 ) -> Result<Option<&'static str>, Trouble> {
+    let outside = outside_of(alloc, machine)?;
     let mut bounds = Bounds::new(alloc);
-    bounds.has_outside = true;
+    bounds.outside = outside.as_slice();
     let roots = match words {
         [command, roots @ ..] if command.as_str() == "list" => roots,
         [command, root, paths @ ..] if command.as_str() == "check" => {

@@ -1,6 +1,6 @@
 //! The items of a walk, and its steps.
 
-use crate::settings::{Machine, bounds_of, limit_of};
+use crate::settings::{Machine, bounds_of, limit_of, outside_of};
 use answers::{Answer, Bounds, Calls, Counting, but_for_memory};
 use ignore::files::MemoryTree;
 use ignore::{DirEntry, Error, Fault, Item, WalkBuilder, collect_walk};
@@ -36,7 +36,7 @@ where
     let most = limit_of(input)?.min(MOST);
     let all = list(builder)?;
     let mut bounds = bounds_of(alloc, input)?;
-    bounds.has_outside = matches!(by_of(input)?, By::Collect);
+    bounds.outside = all.outside.as_slice();
     let excess = all.excess(&bounds);
     let steps = steps(builder, most, all.items.as_slice(), set_limit, list)?;
     let mut answer = Answer::new(alloc);
@@ -100,8 +100,10 @@ pub(crate) struct Listed {
     shown: Vec<String>,
     /// Whether the files were called too often for the rules from outside.
     is_outside_again: bool,
-    /// The calls after those.
+    /// The calls after those, or all of them.
     walking: Calls,
+    /// The paths that the rules from outside are asked of, where those calls are among these.
+    outside: Vec<String>,
     /// How many there were of both.
     calls: usize,
 }
@@ -226,6 +228,7 @@ fn walked(alloc: Global, machine: &Machine, builder: &WalkBuilder) -> Result<Lis
         is_outside_again: building.excess_outside(&machine.env).is_some(),
         calls: building.len().saturating_add(walking.len()),
         walking,
+        outside: Vec::new(alloc),
     })
 }
 
@@ -261,6 +264,7 @@ fn cloned(
         is_outside_again: false,
         calls: walking.len(),
         walking,
+        outside: outside_of(alloc, machine)?,
     })
 }
 

@@ -1,7 +1,9 @@
 //! How often a vector's walk or matcher may call the files.
 
+use super::machine::Machine;
 use super::set::{ROOT, ROOTS, SET};
-use answers::Bounds;
+use answers::{Bounds, but_for_memory, outside_paths};
+use ignore::gitignore::gitconfig_excludes_path;
 use serde_json::Value;
 use std::alloc::Global;
 use vectors::{Trouble, item, list, text, text_at};
@@ -36,4 +38,10 @@ fn push_roots<'v>(input: &'v Value, bounds: &mut Bounds<'v>) -> Result<(), Troub
         }
     }
     Ok(())
+}
+
+/// The paths of a machine that the rules from outside are asked of.
+pub(crate) fn outside_of(alloc: Global, machine: &Machine) -> Result<Vec<String>, Trouble> {
+    let found = gitconfig_excludes_path(alloc, &machine.tree, &machine.env);
+    Ok(outside_paths(alloc, &machine.env, but_for_memory(found)?)?)
 }

@@ -4,7 +4,7 @@ use Rattle.ignore_base.specs.Problem.{problem_of}
 use Rattle.ignore_base.specs.Text.{Path}
 use Rattle.ignore.specs.Builder.{with_overrides, with_types}
 use Rattle.ignore.specs.declared.options.WalkOptions.{WalkOptions}
-use Rattle.ig_options.specs.Files.{AddsFiles}
+use Rattle.ig_options.specs.Files.{AddsFiles, named_files}
 use Rattle.ig_options.specs.Globs.{AreGlobs}
 use Rattle.ig_commands.proofs.asking.asked_for.Goals as goal
 
@@ -21,7 +21,7 @@ returns-clause-read g c = λ tree honest.
       is_draft = built.1;
       types = types;
       are_types = built.2;
-      files = subst (λ (w : WalkOptions). AddsFiles tree c.args.world.now.env.now o.ignore_files w c.add_files.new.walk (map (option_map problem_of) c.in_ok-errors.errors.items))
+      files = subst (λ (w : WalkOptions). AddsFiles tree c.args.world.now.env.now (named_files o) w c.add_files.new.walk (map (option_map problem_of) c.in_ok-errors.errors.items))
           (c.set_rules.ensures ∙ ap (λ (w : WalkOptions). with_types (with_overrides w globs) types) c.in_ok-walk.ensures.value)
           (c.in_ok-errors.ensures.read tree honest);
     }

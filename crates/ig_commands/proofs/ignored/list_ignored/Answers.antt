@@ -2,7 +2,7 @@ use Rattle.std.proofs.Common.{inl, inr, map, option_map}
 use Rattle.std.proofs.lemmas.Result.{IfErr-weaker, IfOk-weaker}
 use Rattle.commands.proofs.LineLemmas.{appends_nothing}
 use Rattle.ignore_base.specs.Problem.{problem_of}
-use Rattle.ig_commands.proofs.AskedLemmas.{no_roots}
+use Rattle.ig_commands.proofs.AskedLemmas.{none_met}
 use Rattle.ig_commands.specs.Listing.{RefusesOptions}
 use Rattle.ig_commands.proofs.StopLemmas.{ends_at_once, refused}
 use Rattle.ig_commands.proofs.ignored.list_ignored.Goals as goal
@@ -11,33 +11,40 @@ pub returns-in-Ok-clause-lists : goal.returns-in-Ok-clause-lists
 returns-in-Ok-clause-lists g c =
     let b = c.in-Ok.asked.walk in
     let problems = map (option_map problem_of) c.in-Ok.asked.errors.items in
-    IfOk-weaker c.report_and_survey.result _ _
+    IfOk-weaker c.survey_worktree.result _ _
     (λ status h. inl (
       b,
       problems,
       h.0,
       h.1,
+      h.2,
+      h.3,
       λ tree honest.
           let asked = c.in-Ok.ensures.read tree honest in
-          (asked, h.2 tree honest (no_roots tree c.args.world.now.env.now c.args.options.now c.args.first b problems asked)),
+          (asked, h.4 tree honest (none_met tree c.args.world.now.env.now c.args.options.now c.args.first b problems asked)),
     ))
-    c.report_and_survey.ensures.lists
+    c.survey_worktree.ensures.lists
 
 pub returns-in-Ok-clause-ended : goal.returns-in-Ok-clause-ended
 returns-in-Ok-clause-ended g c =
     let b = c.in-Ok.asked.walk in
     let problems = map (option_map problem_of) c.in-Ok.asked.errors.items in
-    IfErr-weaker c.report_and_survey.result _ _
-    (λ stop h. inl (
-      b,
-      problems,
-      h.0,
-      h.1,
-      λ tree honest.
-          let asked = c.in-Ok.ensures.read tree honest in
-          (asked, h.2 tree honest (no_roots tree c.args.world.now.env.now c.args.options.now c.args.first b problems asked)),
-    ))
-    c.report_and_survey.ensures.ended
+    IfErr-weaker c.survey_worktree.result _ _
+    (λ stop h. elim h [
+      | inl k ↦ inl (
+        b,
+        problems,
+        k.0,
+        k.1,
+        k.2,
+        k.3,
+        λ tree honest.
+            let asked = c.in-Ok.ensures.read tree honest in
+            (asked, k.4 tree honest (none_met tree c.args.world.now.env.now c.args.options.now c.args.first b problems asked)),
+      )
+      | inr k ↦ inr k
+    ])
+    c.survey_worktree.ensures.ended
 
 -- the options are rejected
 pub returns-in-Err-clause-lists : goal.returns-in-Err-clause-lists

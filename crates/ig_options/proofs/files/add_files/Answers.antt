@@ -1,35 +1,18 @@
-use Rattle.std.proofs.Common.{List, ℕ, [], ◌∷◌, ◌++◌, Option, ◌∙◌, ap, map, option_map, subst, sym}
-use Rattle.std.proofs.lemmas.List.{append-nil}
-use Rattle.ignore_base.specs.Problem.{Problem, problem_of}
-use Rattle.ig_options.specs.Files.{AddsFiles}
-use Rattle.ig_options.proofs.LoopLemmas.{here, files_more, files_done, one_more}
+use Rattle.std.proofs.Common.{ap, map, option_map}
+use Rattle.std.proofs.lemmas.Result.{IfOk-weaker}
+use Rattle.ignore_base.specs.Problem.{problem_of}
+use Rattle.ig_options.proofs.LoopLemmas.{no_files, some_files}
 use Rattle.ig_options.proofs.files.add_files.Goals as goal
 
-pub loop-path-init : goal.loop-path-init
-loop-path-init g c = λ tree new rest honest h.
-    let start = subst (λ (ts : List (List ℕ)). AddsFiles tree c.args.env.now ts c.args.walk.now new rest) c.as_slice-path-items.ensures h in
-    subst (λ (ps : List (Option Problem)). AddsFiles tree c.args.env.now c.args.options.now.ignore_files c.args.walk.now new ps)
-    (sym (ap (λ es. map (option_map problem_of) es ++ rest) c.new-errors.ensures.items)) start
-
-pub loop-path-preserved : goal.loop-path-preserved
-loop-path-preserved g c = λ tree new rest honest h.
-    let l = c.loop-path in
-    let items = c.as_slice-path-items.result.now in
-    let text = c.as_str.result.now in
-    let next = c.add_ignore.new.self in
-    let error = c.in_ok-error.error in
-    let first = option_map problem_of error in
-    let at = here items l.path-index c.path-item.result text c.loop-path-test.true c.path-item.is c.as_str.ensures in
-    let problems = ap (λ es. map (option_map problem_of) es ++ rest) c.in_ok-push.ensures.items
-    ∙ one_more (option_map problem_of) l.errors.items error rest in
-    subst (λ (ps : List (Option Problem)). AddsFiles tree c.args.env.now c.args.options.now.ignore_files c.args.walk.now new ps)
-    (sym problems)
-    (l.invariant tree new (first ∷ rest) honest
-    (files_more tree c.args.env.now items l.path-index text l.walk next new first rest at (c.in_ok-error.ensures.read tree honest) h))
+pub returns-then-options-clause-read : goal.returns-then-options-clause-read
+returns-then-options-clause-read g c = λ tree honest.
+    let o = c.args.options.now in
+    no_files tree c.args.env.now o.no_ignore_files o.ignore_files c.args.walk.now _ c.if-options.true
+    (ap (map (option_map problem_of)) c.new.ensures.items)
 
 pub returns-clause-read : goal.returns-clause-read
 returns-clause-read g c = λ tree honest.
-    let l = c.loop-path in
-    subst (λ (ps : List (Option Problem)). AddsFiles tree c.args.env.now c.args.options.now.ignore_files c.args.walk.now l.walk ps)
-    (append-nil (map (option_map problem_of) l.errors.items))
-    (l.invariant tree l.walk [] honest (files_done tree c.args.env.now c.as_slice-path-items.result.now l.path-index l.walk c.loop-path-test.false))
+    let o = c.args.options.now in
+    IfOk-weaker c.push_files.result _ _
+    (λ errors h. some_files tree c.args.env.now o.no_ignore_files o.ignore_files c.args.walk.now c.push_files.new.walk _ c.if-options.false h)
+    (c.push_files.ensures.read tree honest)

@@ -6,14 +6,14 @@ use Rattle.ig_options.proofs.given.given_by.Goals as goal
 
 pub returns-then-not-is_opened : goal.returns-then-not-is_opened
 returns-then-not-is_opened c =
-    let items = c.args.record.items in
+    let items = c.args.text.items in
     let e : is_opened c.args.has_nul items ≡ false = ap (is_opened c.args.has_nul) (sym c.as_slice.ensures.value)
     ∙ (sym c.is_opened.ensures ∙ c.if-not-is_opened.true) in
     record { given = subst (λ (b : Bool). Gives b items c.args.number c.text_of.result) (sym e) c.text_of.ensures }
 
 pub returns-in_default : goal.returns-in_default
 returns-in_default c =
-    let items = c.args.record.items in
+    let items = c.args.text.items in
     let e : is_opened c.args.has_nul items ≡ true = ap (is_opened c.args.has_nul) (sym c.as_slice.ensures.value)
     ∙ (sym c.is_opened.ensures ∙ c.if-not-is_opened.false) in
     let none = rw c.in_default.is at c.in_ok-found.ensures in
@@ -22,7 +22,7 @@ returns-in_default c =
 
 pub returns : goal.returns
 returns c =
-    let items = c.args.record.items in
+    let items = c.args.text.items in
     let e : is_opened c.args.has_nul items ≡ true = ap (is_opened c.args.has_nul) (sym c.as_slice.ensures.value)
     ∙ (sym c.is_opened.ensures ∙ c.if-not-is_opened.false) in
     let some = rw c.in-Some.is at c.in_ok-found.ensures in

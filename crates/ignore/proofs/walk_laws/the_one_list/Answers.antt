@@ -1,14 +1,10 @@
-use Rattle.std.proofs.Common.{subst}
-use Rattle.ignore_dir.specs.declared.outside.Outside.{Outside}
-use Rattle.ignore.specs.Headline.{IsSceneOf}
+use Rattle.std.proofs.Common.{[]}
+use Rattle.ignore_walk.proofs.VisitLemmas.{chosen_ordered}
 use Rattle.ignore.proofs.walk_laws.the_one_list.Goals as goal
 
 pub returns : goal.returns
-returns g c = λ f owner env b order tree o s all honest outside scene headline given.
-    let l = headline tree honest in
-    let e = given tree honest in
-    let one = c.one_outside.ensures in
-    let w = e.2 s (subst (λ (x : Outside). IsSceneOf g.S.Callbacks owner b order tree x s) (one tree env b o e.0 outside e.1) scene) in
+returns g c = λ f owner env b order tree o s all honest outside scene headline.
+    let w = headline tree honest o outside s scene in
     record {
       outside = o;
       read = outside;
@@ -17,7 +13,8 @@ returns g c = λ f owner env b order tree o s all honest outside scene headline 
       steps = w.0;
       given = w.2;
       within = w.1;
-      only = λ h items k other whole.
-          (l.2 h items k (subst (λ (x : Outside). IsSceneOf g.S.Callbacks owner b order tree x h) (one tree env b o l.0 outside l.1) other)
-          whole).0;
+      only = λ h items n other whole.
+          let l = headline tree honest o outside h other in
+          (c.one_list.ensures.roots h [] b.roots items all n l.0
+          (chosen_ordered order (g.S.Callbacks.compares owner) h.order other.sorted) whole l.2).0;
     }

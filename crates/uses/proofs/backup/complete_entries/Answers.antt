@@ -19,7 +19,7 @@ returns-clause-agreed g c = λ tree ms honest asked.
     (λ entries all.
     holds _ (record { builder = Some c.args.builder }) c.args.env.now c.args.builder.now.options _ tree ms
     (map item_of c.in_ok-collect_walk.field-0.items) (map (λ e. item_of (Ok e)) entries.items) all
-    (c.in_ok-collect_walk.ensures.headline tree honest)
+    (c.in_ok-collect_walk.ensures.only tree honest)
     (λ o s e items n outside scene open_ whole.
     c.walk_agrees_with_matchers.ensures.whole (record { builder = Some c.args.builder }) c.args.env.now c.args.builder.now.options _ tree o s ms e
     items n outside scene open_ asked whole))
