@@ -97,7 +97,8 @@ uint32_t ignore_rules_add_line(ignore_rules *rules, const uint8_t *from, size_t 
 
 /* Adds the lines of a text that stands for the file at a path, which is their source. Reading ends
    at the first line that isn't UTF-8. IGNORE_REFUSED where some line is invalid, or isn't UTF-8:
-   the others are added, and the problem is kept. Else as ignore_rules_add_line. */
+   the others are added, of which those after a line that isn't UTF-8 are none, and the problem is
+   kept. Else as ignore_rules_add_line. */
 uint32_t ignore_rules_add_file(ignore_rules *rules, const uint8_t *path, size_t path_length,
                                const uint8_t *text, size_t text_length);
 
@@ -119,7 +120,8 @@ uint32_t ignore_rules_matched(ignore_rules *rules, const uint8_t *path, size_t p
                               bool is_dir);
 
 /* The same of the path, or else of the nearest of its parents that has a match. IGNORE_OUTSIDE
-   where the path, without the root, begins with a slash. */
+   where the path, without the root, begins with a slash, and there is a rule; without any it is
+   IGNORE_NONE. */
 uint32_t ignore_rules_matched_path_or_any_parents(ignore_rules *rules, const uint8_t *path,
                                                   size_t path_length, bool is_dir);
 
@@ -299,9 +301,10 @@ uint32_t ignore_builder_type_negate(ignore_builder *builder, const uint8_t *name
 uint32_t ignore_builder_set_types(ignore_builder *builder);
 
 /* Reads a file of rules of a tree now, and adds it after the others that were added so. It is
-   relative to the directory of ignore_builder_current_dir, or else to the working directory.
-   IGNORE_REFUSED where something is wrong with the file: its other lines are added, and the problem
-   is kept. */
+   relative to the directory of ignore_builder_current_dir, or else to that of
+   ignore_builder_env_current_dir. IGNORE_REFUSED where something is wrong with the file: its other
+   lines are added, as by ignore_rules_add_file; and where no such directory was told: nothing is
+   added. The problem is kept. */
 uint32_t ignore_builder_add_ignore(ignore_builder *builder, ignore_tree *tree, const uint8_t *path,
                                    size_t path_length);
 
@@ -354,10 +357,11 @@ uint32_t ignore_matcher_forget(ignore_matcher *matcher, const uint8_t *dir, size
                                size_t *count);
 
 /* The text by which the matcher knows a path, relative to its root: IGNORE_OK, its length in
-   `whole`, and its first bytes; or IGNORE_NONE where the path is empty, isn't at or below the root,
-   or is relative and the builder wasn't told the working directory, from which it is. Also
-   IGNORE_NOT_UTF8, IGNORE_NO_MEMORY and IGNORE_MISUSED. With another answer than IGNORE_OK `whole` is
-   0. */
+   `whole`, and its first bytes; or IGNORE_NONE where the path is empty or isn't at or below the root.
+   The path, and the root, are from the working directory where they are relative: where the builder
+   wasn't told it, and one of the two is, it is IGNORE_NONE, too; and always where the root is empty
+   or `-`. Also IGNORE_NOT_UTF8, IGNORE_NO_MEMORY and IGNORE_MISUSED. With another answer than
+   IGNORE_OK `whole` is 0. */
 uint32_t ignore_matcher_normalize(ignore_matcher *matcher, const uint8_t *path,
                                   size_t path_length, uint8_t *room, size_t room_length,
                                   size_t *whole);

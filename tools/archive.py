@@ -1,15 +1,18 @@
 """The library for C: the archive of the crate `ignore_c`, made over the libraries that `rt ci` or
 `rt lib` has built, and the shared object, the header and the pkg-config file that go with it. The
-crate itself is proved once more for it, in a copy; the crates below it are taken as built.
+crate itself is proved once more for it, in a copy; the crates below it are taken as built. The
+archive is kept in `crates/ignore_c/out` with a record of what it was made of, and is taken from
+there as long as the record fits.
 """
+import hashlib
 import os
 import re
 import shutil
 import subprocess
 import tempfile
 
-from checks import PARTS, Stop, kit
-from edits import TOP, Crates, read
+from checks import Stop, kit, logic
+from repo import PARTS, TOP, Crates, read, version
 
 CRATE = "ignore_c"
 NAME = "ignore_proved"
@@ -74,30 +77,88 @@ def built(crates, where):
     return said.strip().split("\n")[-1]
 
 
+def key(crates):
+    """A sum of the kit's logic and of all that the archive is made of and proved by."""
+    crate = crates[CRATE]
+    found = hashlib.sha256(logic().encode("utf-8"))
+    for name in sorted([*crates.below(crate), CRATE]):
+        folder = crates[name].folder
+        for part in PARTS:
+            for at, folders, files in os.walk(f"{folder}/{part}"):
+                folders.sort()
+                for file in sorted(files):
+                    with open(f"{at}/{file}", "rb") as it:
+                        own = hashlib.sha256(it.read()).hexdigest()
+                    found.update(f"{os.path.relpath(f'{at}/{file}', TOP)} {own}\n".encode("utf-8"))
+    return found.hexdigest()
+
+
+def places(crates):
+    """Where an archive that was made is kept, and its record."""
+    out = f"{crates[CRATE].folder}/out"
+    return f"{out}/{NAME}.a", f"{out}/{NAME}.proved"
+
+
+def keep(crates, made, said):
+    """Keeps an archive with a record of what it was made of, for tools/release."""
+    archive, record = places(crates)
+    os.makedirs(os.path.dirname(archive), exist_ok=True)
+    shutil.copy(made, archive)
+    with open(archive, "rb") as file:
+        own = hashlib.sha256(file.read()).hexdigest()
+    with open(record, "w", encoding="utf-8") as file:
+        file.write(f"sha256 {own}\nkey {key(crates)}\nsaid {said}\n")
+
+
+def kept(crates):
+    """The archive that is kept and what its check said, if its record fits it and the sources."""
+    archive, record = places(crates)
+    try:
+        words = dict(line.split(" ", 1) for line in read(record).splitlines())
+        with open(archive, "rb") as file:
+            own = hashlib.sha256(file.read()).hexdigest()
+    except (OSError, ValueError):
+        return None
+    fits = words.get("sha256") == own and words.get("key") == key(crates)
+    return (archive, words.get("said", "")) if fits else None
+
+
+def archive_of_crate(room):
+    """Puts the archive of the crate into a folder: the one that is kept, or one that is made and
+    kept. Returns the last line of its check."""
+    crates = Crates()
+    path = f"{room}/lib{CRATE}.a"
+    found = kept(crates)
+    if found:
+        shutil.copy(found[0], path)
+        return f"{found[1]} (kept)"
+    said = built(crates, room)
+    keep(crates, path, said)
+    return said
+
+
 def make(where, version, archive=None):
-    """Makes the five files of the library in a folder, and returns the last line of the check of
+    """Makes the files of the library in a folder, and returns the last line of the check of
     `ignore_c`. A ready archive of the crate may be given."""
     with tempfile.TemporaryDirectory() as room:
         if archive:
             shutil.copy(archive, f"{room}/lib{CRATE}.a")
             said = f"(the archive {archive}, as given)"
         else:
-            said = built(Crates(), room)
+            said = archive_of_crate(room)
         # Both archives as one: the crate, and the three functions by which it takes memory.
         script = f"CREATE {where}/lib{NAME}.a\nADDLIB {room}/lib{CRATE}.a\n"
         script += f"ADDLIB {kit()}/c/liblibc_c.a\nSAVE\nEND\n"
         run(["ar", "-M"], input=script)
         with open(f"{room}/shown", "w", encoding="utf-8") as file:
             file.write(SHOWN)
-        words = ["-shared", "-o", f"{where}/lib{NAME}.so", f"-Wl,-soname,lib{NAME}.so"]
+        soname = f"lib{NAME}.so.{version.split('.')[0]}"
+        words = ["-shared", "-o", f"{where}/lib{NAME}.so", f"-Wl,-soname,{soname}"]
         words += [f"-Wl,--version-script={room}/shown", "-Wl,--whole-archive"]
+        words += ["-Wl,--build-id=none"]
         run([*compiler(), *words, f"{where}/lib{NAME}.a", "-Wl,--no-whole-archive"])
+    os.symlink(f"lib{NAME}.so", f"{where}/{soname}")
     shutil.copy(HEADER, where)
     with open(f"{where}/{NAME}.pc", "w", encoding="utf-8") as file:
         file.write(PC.format(name=NAME, version=version))
     return said
-
-
-def version():
-    """The version that the launcher says."""
-    return re.search(r"^version=(.*)$", read(f"{TOP}/tools/launch"), re.M)[1]

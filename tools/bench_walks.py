@@ -12,8 +12,9 @@ import tempfile
 import time
 
 TOP = os.path.dirname(os.path.dirname(os.path.abspath(__file__)))
-# A proved program, as the gate or `tools/launch --prove igwalk` leaves it, or another to compare.
+# Proved programs, as the gate or `tools/launch --prove igwalk` leaves them, or others to compare.
 IGWALK = os.environ.get("IGWALK") or f"{TOP}/crates/igwalk/out/igwalk"
+IG = os.environ.get("IG") or f"{TOP}/crates/ig/out/ig"
 ROUNDS = 9
 # The system calls that are counted beside all.
 CALLS = ("statx", "newfstatat", "getdents64", "openat", "read")
@@ -141,26 +142,46 @@ def calls_of(words, cwd):
     return {name: int(count) for count, name in found if name != "total"}
 
 
+# Each way to list a tree, and the one that it is compared with: by the rules, and without any.
+WAYS = {
+    "rg --files -j1 --sort path": None,
+    "igwalk list": "rg --files -j1 --sort path",
+    "ig ls --files": "rg --files -j1 --sort path",
+    "rg --files -j1": None,
+    "ig ls --files --sort none": "rg --files -j1",
+    "rg --files -uu -j1 --sort path": None,
+    "ig ls --files -I -H": "rg --files -uu -j1 --sort path",
+    "rg --files -uu -j1": None,
+    "ig ls --files -I -H --sort none": "rg --files -uu -j1",
+}
+
+
 def walks(tree):
-    wanted(IGWALK, "rg", "strace")
-    ways = {
-        "igwalk list": [IGWALK, "list", "."],
-        "rg --files -j1 --sort path": ["rg", "--files", "-j1", "--sort", "path", "."],
-        "rg --files -j1": ["rg", "--files", "-j1", "."],
-    }
+    """What the ways to list a tree take, in turns: medians, the ratio of the wall times and that of the
+    least times of the processor, which other work disturbs less, and system calls."""
+    wanted(IGWALK, IG, "rg", "strace")
+    program = {"rg": "rg", "ig": IG, "igwalk": IGWALK}
+    ways = {it: [program[it.split()[0]], *it.split()[1:], "."] for it in WAYS}
     found = {name: [] for name in ways}
     for _ in range(ROUNDS):
         for name, words in ways.items():
             found[name].append(timed(words, tree))
-    listed = subprocess.run(ways["igwalk list"], cwd=tree, stdout=subprocess.PIPE, stderr=subprocess.DEVNULL)
-    count = listed.stdout.count(b"\n")
-    print(f"{tree}: {count} entries are listed\n")
-    print(f"{'':28} {'ms':>8} {'processor':>10} {'MB':>7} {'to rg':>6} {' '.join(f'{it:>11}' for it in CALLS)} {'all calls':>10}")
-    base = statistics.median(it[0] for it in found["rg --files -j1 --sort path"])
+    print(f"{tree}: {listed_by(ways['igwalk list'], tree)} entries are listed, without rules "
+          f"{listed_by(ways['ig ls --files -I -H'], tree)} files\n")
+    print(f"{'':32} {'ms':>8} {'processor':>10} {'MB':>7} {'to rg':>6} {'least':>6} "
+          f"{' '.join(f'{it:>11}' for it in CALLS)} {'all calls':>10}")
     for name, ones in found.items():
         wall, used, memory = (statistics.median(it[at] for it in ones) for at in range(3))
+        other = found[WAYS[name] or name]
+        to_other = wall / statistics.median(it[0] for it in other)
+        least = min(it[1] for it in ones) / min(it[1] for it in other)
         calls = calls_of(ways[name], tree)
         shown = " ".join(f"{calls.get(it, 0):11}" for it in CALLS)
-        print(f"{name:28} {wall * 1000:8.1f} {used * 1000:10.1f} {memory / 1e6:7.1f} {wall / base:6.2f} {shown} {sum(calls.values()):10}")
-        if name == "igwalk list":
-            print(f"{'':28} {calls.get('statx', 0) / max(count, 1):.3f} statx for each listed entry")
+        print(f"{name:32} {wall * 1000:8.1f} {used * 1000:10.1f} {memory / 1e6:7.1f} {to_other:6.2f} {least:6.2f} "
+              f"{shown} {sum(calls.values()):10}")
+
+
+def listed_by(words, tree):
+    """How many paths a program lists."""
+    ran = subprocess.run(words, cwd=tree, stdout=subprocess.PIPE, stderr=subprocess.DEVNULL)
+    return ran.stdout.count(b"\n")

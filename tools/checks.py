@@ -1,4 +1,4 @@
-"""Checks of crates with mutants in them: how they are run, and how what they print is judged.
+"""Checks of crates with mutants in them: how they are run, and what becomes of the mutants.
 
 `tools/mutants` says what a mutant is, and chooses those to be tried.
 """
@@ -11,10 +11,10 @@ import subprocess
 import tempfile
 import threading
 
-from edits import edited, read, rounds_of
+from edits import edited, rounds_of
+from repo import PARTS, read
+from verdicts import ACCEPTED, BY_GOAL, BY_PROOF, HELD, Outcome
 
-# What a crate is made of, as the prover reads it.
-PARTS = ("src", "specs", "proofs")
 # What a check takes of memory at the most, in bytes.
 MEMORY = 3_000_000_000
 # The seconds after which a check is given up.
@@ -68,73 +68,6 @@ def first_numbers(file, pattern=r"^(\d+)(?: (\d+))?"):
     except OSError:
         return []
     return [int(it) for it in found.groups() if it] if found else []
-
-
-# What a check prints
-
-# A verdict, and above it the notes on the goals of the function that weren't proved.
-VERDICT = re.compile(r"^((?:note: .*\n)*)fn (\S+): (.*)$", re.M)
-GOAL = re.compile(r"^note: src/\S+: (it is not proved that .*)$", re.M)
-# What a verdict says of the function's own goals. All else that it says is of other functions.
-OWN = ("expected ", "`search` did not prove ")
-# An error at a place in a proof file, with the lines that belong to it.
-ERROR = re.compile(r"^(?:\./)?(proofs/\S+?):\d+:\d+: error: (.*(?:\n  .*)*)", re.M)
-# An error that says nothing of the contract: a name is gone, or what is cited wasn't proved.
-OF_A_NAME = re.compile(r"has no field|has no `|is not in scope|is no name|not admitted|not checked")
-
-# How a check judges a mutant: a goal of its function isn't proved; a hand-written part of its proof
-# no longer fits; it is proved; it can't be seen, since a function that it calls isn't proved; it
-# fails for names in its proof files alone.
-BY_GOAL, BY_PROOF, ACCEPTED, HELD, NAMES = range(5)
-
-
-class Outcome:
-    """What a check printed, and its status."""
-
-    def __init__(self, status, text):
-        self.status, self.text = status, text
-        found = VERDICT.findall(text)
-        self.verdicts = {name: verdict for _, name, verdict in found}
-        self.goals = {name: GOAL.findall(notes) for notes, name, _ in found}
-
-    def is_proved(self):
-        return self.status == 0 and bool(re.search(r"^(logic=proved|only=\d+) ", self.text, re.M))
-
-    def is_judged(self):
-        """Whether the prover came to look at the functions."""
-        return self.status in (0, 1) and bool(self.verdicts)
-
-    def error(self):
-        """The first line that says what is wrong."""
-        lines = self.text.split("\n")
-        found = [it for it in lines if re.search(r"\berror\b|no verdict|: not proved|no proof", it)]
-        return (found or [it for it in lines if it] or ["it printed nothing"])[0][:300]
-
-    def on(self, mutant):
-        """What the check says of the mutant's function, or None."""
-        return self.verdicts.get(mutant.function())
-
-    def judge(self, mutant):
-        """How the check judges the mutant, and what it prints of that."""
-        verdict = self.on(mutant) or "the check doesn't name it"
-        found = re.fullmatch(r"(not proved|no proof)(?:[;:] (.*))?", verdict)
-        if not found:
-            return ACCEPTED, verdict
-        reasons = [it for it in (found[2] or "").split("; ") if it]
-        own = [it for it in reasons if it.startswith(OWN)]
-        if own:
-            return BY_GOAL, "; ".join(own)
-        errors = [said for file, said in ERROR.findall(self.text) if mutant.proves_in(file)]
-        weighty = [it for it in errors if not OF_A_NAME.search(it)]
-        if weighty:
-            return BY_PROOF, weighty[0].split("\n")[0]
-        if errors:
-            # Goals that aren't proved say nothing here: an answer that would fit may have got lost.
-            return (HELD, verdict) if reasons else (NAMES, errors[0].split("\n")[0])
-        goals = self.goals.get(mutant.function())
-        if goals:
-            return BY_GOAL, "; ".join(goals)
-        return (HELD if reasons else BY_PROOF), verdict
 
 
 # Running checks

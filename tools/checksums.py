@@ -1,20 +1,38 @@
 """The checksums of what the verdicts on a crate's mutants rest on.
 
-They rest on the crate's own files, and of the crates below it on what it sees of them: the heads
-and clauses of public calls that it names, or that a trait has; public types; and the definitions
-that these clauses and the crate's own files rest on. What stands in private functions, private
-fields, calls that it doesn't name and other definitions of those crates doesn't change them, nor do
-comments and layout.
+They rest on the crate's own files, and of the crates below it on what it sees of them: the types and
+traits that it names, or that such a type or the head of such a call names; the heads and clauses of
+the calls of these, and of other public calls, that it names, or that a trait has; and the
+definitions that these clauses and the crate's own files rest on. What stands in private functions,
+private fields, calls and types that it has no name of and other definitions of those crates doesn't
+change them, nor do comments and layout.
 """
 import functools
 import hashlib
 import re
 
 from definitions import WORD, Library, imports
-from edits import EDITS, files_of, read, without_layout
+from edits import EDITS
+from repo import PARTS, files_of, read
 from sources import TYPE, calls_of, lines_of, modules_of
 
-PARTS = ("src", "specs", "proofs")
+# What a line of a source or of a definition means, without its comments and its layout.
+LEXEME = re.compile(
+    r"""(?P<kept>b?r(?P<mark>\#*)".*?"(?P=mark)|b?"(?:\\.|[^"\\])*"|b?'(?:\\.|[^'\\])')"""
+    r"""|(?P<comment>//[^\n]*)|(?P<space>\s+)""",
+    re.S,
+)
+
+
+def without_layout(path, text):
+    """The text of a source or of a definition, without comments and layout."""
+    if path.endswith(".rt"):
+        said = LEXEME.sub(lambda it: it["kept"] or " ", text)
+    elif path.endswith(".antt"):
+        said = re.sub(r"(?m)(^|\s)--.*$", " ", text)
+    else:
+        return text.strip()
+    return " ".join(said.split())
 
 
 class Checksums:
@@ -24,6 +42,8 @@ class Checksums:
         self.crates, self.logic = crates, logic
         self.library = Library(crates)
         self.calls = functools.cache(lambda name: calls_of(crates[name]))
+        self.types = functools.cache(lambda name: types_of(crates[name]))
+        self.aliases = functools.cache(lambda name: aliases_of(crates[name]))
         self.resting = {}
         lines_of.cache_clear()
 
@@ -38,39 +58,58 @@ class Checksums:
                 text = without_layout(path, read(f"{crate.folder}/{path}"))
                 summed.update(repr((path, text)).encode())
                 named |= set(re.findall(r"\w+", text))
-        below = self.crates.below(crate)
-        for name in below:
-            for said in self.seen_of(name, named):
+        seen = self.seen_by(named, self.crates.below(crate))
+        for name in seen.below:
+            for said in self.said_of(name, seen):
                 summed.update(repr(said).encode())
-        for one in self.rested_on(crate, below, named):
+        for one in self.rested_on(crate, seen):
             summed.update(repr((one.place, without_layout(".antt", one.text))).encode())
         return summed.hexdigest()
 
-    def seen_of(self, name, named):
-        """What a crate that has these words sees of the sources of a crate below it: the public
-        calls, and the types."""
+    def seen_by(self, named, below):
+        """What a crate that has these words sees of the crates below it."""
+        seen = Seen(named, below, self.traits(below))
+        grown = None
+        while grown != len(seen.types):
+            grown = len(seen.types)
+            for name in below:
+                for modules, type_name, text in self.types(name):
+                    if type_name in seen.types:
+                        seen.add(text)
+                for it in self.calls(name)[0]:
+                    if seen.has_call(it):
+                        seen.add(it.head)
+                for own, other in self.aliases(name):
+                    if other in seen.types:
+                        seen.types.add(own)
+        return seen
+
+    def traits(self, below):
+        """The names of the traits of these crates."""
+        return {name for it in below for _, name, text in self.types(it) if text.startswith("pub trait ")}
+
+    def said_of(self, name, seen):
+        """What a crate sees of the sources of one below it: the public calls, and the types."""
         yield name, sorted(self.calls(name)[1])
-        for it in sorted(self.called(name, named), key=lambda one: one.path):
+        for it in sorted(self.called(name, seen), key=lambda one: one.path):
             yield it.path, it.name, without_layout(".rt", "\n".join([it.head, *it.clauses]))
-        for modules, file in modules_of(self.crates[name]):
-            for text in types_of(lines_of(f"{self.crates[name].folder}/{file}")):
+        for modules, type_name, text in self.types(name):
+            if type_name in seen.types:
                 yield modules, without_layout(".rt", text)
 
-    def called(self, name, named):
-        """The public calls of a crate that one with these words may make: those that it names, and
-        those of traits."""
-        calls = [it for it in self.calls(name)[0] if not is_model(it)]
-        return [it for it in calls if it.is_of_trait or it.path.split("::")[-1] in named]
+    def called(self, name, seen):
+        """The public calls of a crate that one which sees this may make."""
+        return [it for it in self.calls(name)[0] if seen.has_call(it)]
 
-    def rested_on(self, crate, below, named):
+    def rested_on(self, crate, seen):
         """The definitions of the crates below on which the clauses of these calls rest, or what the
         crate's own files import."""
-        ones = [one for name in below for it in self.called(name, named) for one in self.clauses_of(it)]
+        ones = [one for name in seen.below for it in self.called(name, seen) for one in self.clauses_of(it)]
         for part in PARTS:
             for path in files_of(crate, part):
                 text = read(f"{crate.folder}/{path}")
                 ones += self.library.resting_on(text, set(imports(self.crates, text)))
-        found = {(it.place, tuple(it.names)): it for it in ones if it.place[0] in below}
+        found = {(it.place, tuple(it.names)): it for it in ones if it.place[0] in seen.below}
         return [found[it] for it in sorted(found)]
 
     def clauses_of(self, call):
@@ -88,16 +127,47 @@ def is_model(call):
     return call.name.endswith(": Model")
 
 
-def types_of(lines):
-    """The public types of a file, without private fields."""
+class Seen:
+    """What a crate sees of those below it: its own words, and the names of types and traits."""
+
+    def __init__(self, named, below, traits):
+        self.named, self.below, self.traits = named, below, traits
+        self.types = set(named)
+
+    def add(self, text):
+        """Adds what a head or a type names."""
+        self.types |= set(re.findall(r"\b[A-Z]\w*", text))
+
+    def has_call(self, call):
+        """Whether the crate may make a call: it names it, and the type that has it is seen; or a
+        trait has it, and both are seen, or the trait is of no crate of these."""
+        if is_model(call) or (call.owner and call.owner not in self.types):
+            return False
+        if call.trait and (call.trait in self.types or call.trait not in self.traits):
+            return True
+        return call.path.split("::")[-1] in self.named
+
+
+def types_of(crate):
+    """The public types and traits of a crate, each with its module and its name, without private
+    fields."""
     found = []
-    for at, line in enumerate(lines):
-        if not TYPE.match(line):
-            continue
-        text = [line]
-        if line.endswith("{"):
-            end = lines.index("}", at)
-            is_open = "enum " in line or "trait " in line
-            text += [it for it in lines[at + 1 : end] if is_open or it.startswith("    pub ")]
-        found.append("\n".join(text))
+    for modules, file in modules_of(crate):
+        lines = lines_of(f"{crate.folder}/{file}")
+        for at, line in enumerate(lines):
+            name = TYPE.match(line)
+            if not name:
+                continue
+            text = [line]
+            if line.endswith("{"):
+                end = lines.index("}", at)
+                is_open = "enum " in line or "trait " in line
+                text += [it for it in lines[at + 1 : end] if is_open or it.startswith("    pub ")]
+            found.append((modules, name[1], "\n".join(text)))
     return found
+
+
+def aliases_of(crate):
+    """The names under which a crate hands on items by a `use`: each with the other."""
+    text = "\n".join("\n".join(lines_of(f"{crate.folder}/{file}")) for _, file in modules_of(crate))
+    return [it for use in re.findall(r"\buse ([^;]+);", text) for it in re.findall(r"(\w+) as (\w+)", use)]

@@ -1,16 +1,18 @@
 """The definitions in `specs/` with the comments above them, and which of them a clause rests on.
 
-`tools/statements` writes a page of them.
+`headline.py` writes a page of them; the checksums of mutants count them.
 """
 import functools
 import os
 import re
 
-from edits import read
+from repo import read
 
 NAMES = re.compile(r"(?:^|\s)pub (?:record |data )?(?!use\b|mod\b|record\b|data\b)([^\s:(]+)")
 IMPORT = re.compile(r"use Rattle\.(\w+)\.specs\.([\w.]+?)\.\{([^}]*)\}")
+WHOLE = re.compile(r"use Rattle\.(\w+)\.specs\.([\w.]+?) as (\w+)")
 WORD = re.compile(r"[^\s(){}\[\],;.]+")
+PATH = re.compile(r"[^\s(){}\[\],;⟦⟧<>]+")
 
 
 class Definition:
@@ -38,6 +40,7 @@ class File:
         self.head, self.definitions = self.parts()
         self.imports = imports(crates, "\n".join(self.lines))
         self.own = {name: it for it in self.definitions for name in it.names}
+        self.heads = {name: it for it in self.definitions for name in it.heads()}
 
     def parts(self):
         """The first comment, and the definitions in their order."""
@@ -72,9 +75,20 @@ class File:
         return head or "", found
 
 
+def paths_of(text):
+    """The words of a text that may name definitions, in their order: of `a.b.c` both `a` and `a.b`,
+    the `b` of a file that is imported as `a`; names of fields are none of them."""
+    found = {}
+    for it in PATH.findall(text):
+        parts = it.rstrip(".").split(".")
+        found |= dict.fromkeys([parts[0], ".".join(parts[:2])])
+    return [it for it in found if it and not it.startswith(".")]
+
+
 def plain(said):
     """A comment as one line, without a list of the characters whose numbers stand in it."""
-    return " ".join(it for it in said if it and not re.match(r"\d+ ", it)).strip()
+    text = " ".join(it for it in said if it and not re.match(r"\d+ ", it)).strip()
+    return re.sub(r"(?<=\.) \d+ (?:tab|`).*$", "", text)
 
 
 def imports(crates, text):
@@ -86,6 +100,12 @@ def imports(crates, text):
             name, _, other = it.strip().partition(" as ")
             found[other or name] = place, name
     return found
+
+
+def whole_imports(crates, text):
+    """The files of definitions that a text imports whole, by the names that it gives them."""
+    found = {alias: place_of(crates, crate, path) for crate, path, alias in WHOLE.findall(text)}
+    return {it: place for it, place in found.items() if place}
 
 
 def place_of(crates, crate, path):
@@ -112,8 +132,42 @@ class Library:
             return self.find(*file.imports[name])
         return None
 
+    def head(self, place, name):
+        """The definition whose own name this is, in a file or where the file has it from."""
+        file = self.file(place)
+        if name in file.heads or name not in file.imports:
+            return file.heads.get(name)
+        return self.head(*file.imports[name])
+
+    def named_by(self, text, around, own=None):
+        """The definitions that a text names, in their order: what the text around it imports, and
+        what is defined in its own file, where it stands in one."""
+        imported, whole, found = imports(self.crates, around), whole_imports(self.crates, around), {}
+        for word in paths_of(text):
+            alias, _, inner = word.partition(".")
+            place = (whole[alias], inner) if alias in whole else imported.get(word)
+            place = (own, word) if own and not inner and place is None else place
+            found[self.head(*place) if place else None] = True
+        return [it for it in found if it]
+
+    def used_by(self, one):
+        """The definitions that a definition names, in their order."""
+        around = "\n".join(self.file(one.place).lines)
+        return [it for it in self.named_by(one.text, around, one.place) if it is not one]
+
+    def closure(self, first):
+        """The definitions that these rest on, themselves among them."""
+        found, left = {}, list(first)
+        while left:
+            one = left.pop()
+            if one not in found:
+                found[one] = True
+                left += self.used_by(one)
+        return list(found)
+
     def resting_on(self, text, words):
-        """The definitions that these words rest on, which a text imports."""
+        """The definitions that these words rest on, which a text imports; where a word is the name of
+        a field too, also the record that has it."""
         imported, found, begun = imports(self.crates, text), [], set()
 
         def visit(one):

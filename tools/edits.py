@@ -1,63 +1,23 @@
-"""The crates of the repository, the mutants in their edit files, and rounds of them.
+"""The mutants in the edit files of the crates, and rounds of them.
 
 `tools/mutants` says what a mutant is, and tries them.
 """
 import os
 import re
 
-TOP = os.path.dirname(os.path.dirname(os.path.abspath(__file__)))
+from repo import read
+from sources import FUNCTION
+
 # Where a crate's mutants lie.
 EDITS = ("must-fail", "mutants")
 # The most mutants of a round. A check costs some seconds however few they are, and memory for each.
 ROUND = 20
 
 
-def read(file):
-    with open(file, encoding="utf-8") as it:
-        return it.read()
-
-
-# Crates
-
-
-class Crate:
-    """A crate of the repository."""
-
-    def __init__(self, name, uses):
-        self.name, self.uses = name, uses
-        self.folder = f"{TOP}/crates/{name}"
-        self.library = f"{self.folder}/out/rlib/{name}.rlib"
-
-    def root(self):
-        """The file that a check is given."""
-        return "src/main.rt" if os.path.isfile(f"{self.folder}/src/main.rt") else "src/lib.rt"
-
-
-class Crates(dict):
-    """The crates of `crates.txt`, by name."""
-
-    def __init__(self):
-        super().__init__()
-        for line in read(f"{TOP}/crates.txt").split("\n"):
-            head, found, tail = line.partition("#")[0].partition(":")
-            if found and head.split():
-                name = head.split()[0]
-                self[name] = Crate(name, tail.split())
-
-    def below(self, crate):
-        """The names of the crates that this one stands on, each after those that it stands on."""
-        found = []
-        for name in crate.uses:
-            if name in self:
-                found += [it for it in [*self.below(self[name]), name] if it not in found]
-        return found
-
-
 # Mutants
 
 
 ITEM = re.compile(r"impl\b|(pub(\([^)]*\))? )?(unsafe )?(trait|mod)\b")
-FUNCTION = re.compile(r"( *)(?:pub(?:\([^)]*\))? )?(?:const |unsafe |extern \S+ )*fn (\w+)")
 CYCLE = re.compile(r" *#\[cycle\((\w+)\)\]")
 
 
@@ -234,32 +194,3 @@ def edited(mutants):
         if texts is None:
             return None
     return texts
-
-
-# Files
-
-# What a line of a source or of a definition means, without its comments and its layout.
-LEXEME = re.compile(
-    r"""(?P<kept>b?r(?P<mark>\#*)".*?"(?P=mark)|b?"(?:\\.|[^"\\])*"|b?'(?:\\.|[^'\\])')"""
-    r"""|(?P<comment>//[^\n]*)|(?P<space>\s+)""",
-    re.S,
-)
-
-
-def without_layout(path, text):
-    """The text of a source or of a definition, without comments and layout."""
-    if path.endswith(".rt"):
-        said = LEXEME.sub(lambda it: it["kept"] or " ", text)
-    elif path.endswith(".antt"):
-        said = re.sub(r"(?m)(^|\s)--.*$", " ", text)
-    else:
-        return text.strip()
-    return " ".join(said.split())
-
-
-def files_of(crate, part):
-    """The files of a part of a crate, by their paths in it."""
-    found = []
-    for at, _, names in os.walk(f"{crate.folder}/{part}"):
-        found += [os.path.relpath(f"{at}/{it}", crate.folder) for it in names]
-    return sorted(it for it in found if it.endswith((".rt", ".antt", ".edit")))

@@ -1,5 +1,4 @@
-"""The public calls of the crates, read off their sources as `rt fmt` lays them out, and what the
-files of definitions import.
+"""The public calls of the crates, read off their sources as `rt fmt` lays them out.
 
 `tools/statements` writes a page of them.
 """
@@ -7,8 +6,10 @@ import functools
 import os
 import re
 
-from edits import FUNCTION, TOP, files_of, read
+from repo import read
 
+# The head of a function, with the space before it and its name.
+FUNCTION = re.compile(r"( *)(?:pub(?:\([^)]*\))? )?(?:const |unsafe |extern \S+ )*fn (\w+)")
 MODULE = re.compile(r"(pub )?mod (\w+);")
 USE = re.compile(r"pub use ([^;]+);")
 TYPE = re.compile(r"pub (?:struct|enum|trait|type|union) (\w+)")
@@ -25,8 +26,9 @@ class Call:
         # `path` is the name by which a check prints it, `name` the one by which it is called.
         self.crate, self.path, self.name, self.file = crate, path, name, file
         self.doc, self.head, self.clauses = "", "", []
-        # Whether a trait has it, so that it may be called without its name.
-        self.is_of_trait = False
+        # The type or the trait whose it is, if it is of one, and the trait that has it, by which it
+        # may be called without its name.
+        self.owner = self.trait = ""
 
     def key(self):
         return f"{self.crate}::{self.path}"
@@ -242,7 +244,7 @@ def calls_of(crate):
                 if members:
                     name = "::".join(types[of]) + (f": {trait}" if trait else "")
                     call = Call(crate.name, "::".join((*modules, of + trait)), name, file)
-                    call.is_of_trait = True
+                    call.owner, call.trait = of, trait or of
                     call.doc, call.clauses = doc_above(lines, at), members
                     call.head = block_of(lines, at).removesuffix("{").strip()
                     found.append(call)
@@ -256,7 +258,7 @@ def calls_of(crate):
             path = "::".join((*modules, *([of + trait] if of else []), head[2]))
             name = "::".join((*shown, *([head[2]] if of else [])))
             call = Call(crate.name, path, f"{name} ({trait})" if trait else name, file)
-            call.is_of_trait = bool(trait or is_declared)
+            call.owner, call.trait = of, of if is_declared else trait
             call.doc = doc_above(lines, at)
             call.head, call.clauses = call_at(lines, at, head[1], is_declared)
             if call.clauses or not trait:
@@ -264,41 +266,7 @@ def calls_of(crate):
     return found, surface.handed
 
 
-# Definitions
-
-IMPORT = re.compile(r"Rattle\.(\w+)\.specs\.([\w.]+?)\.\{")
-
-
-def imports_of(crates, file):
-    """The files of definitions, of these crates, that a file names: each as crate and path."""
-    found = []
-    for crate, path in IMPORT.findall(read(file)):
-        if crate not in crates:
-            continue
-        parts = path.split(".")
-        for end in range(len(parts), 0, -1):
-            name = "/".join(parts[:end])
-            if os.path.isfile(f"{crates[crate].folder}/specs/{name}.antt"):
-                found.append((crate, f"specs/{name}.antt"))
-                break
-    return list(dict.fromkeys(found))
-
-
-def resting_on(crates, first):
-    """The files of definitions that these rest on, each after those that it uses."""
-    found, begun = [], set()
-
-    def visit(one):
-        if one in begun:
-            return
-        begun.add(one)
-        for it in imports_of(crates, f"{crates[one[0]].folder}/{one[1]}"):
-            visit(it)
-        found.append(one)
-
-    for it in first:
-        visit(it)
-    return found
+# Comments
 
 
 def comment_of(file):
@@ -310,6 +278,3 @@ def comment_of(file):
             break
         said.append(line[2:].strip())
     return " ".join(said)
-
-
-__all__ = ["TOP", "calls_of", "comment_of", "files_of", "imports_of", "resting_on"]
