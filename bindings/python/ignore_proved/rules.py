@@ -191,7 +191,7 @@ class Rules(Owner):
         """
         text, is_dir = encoded(path), bool(is_dir)
         # (the nearest match decides, unless it may be of the root or have an ignored one above it)
-        code = WITH_PARENTS(self._built(), text, len(text), is_dir)
+        code = WITH_PARENTS(self.built(), text, len(text), is_dir)
         if code == lib.NONE:
             return False
         if code == lib.IGNORE and not self._ignores_root:
@@ -203,7 +203,7 @@ class Rules(Owner):
     def may_match(self, path: Path, is_dir: bool = False) -> bool:
         """False where no rule matches the path, or a folder that it is in; one call for them."""
         text = encoded(path)
-        code: int = WITH_PARENTS(self._built(), text, len(text), bool(is_dir))
+        code: int = WITH_PARENTS(self.built(), text, len(text), bool(is_dir))
         if code not in (lib.NONE, lib.IGNORE, lib.WHITELIST, lib.OUTSIDE):
             raise error_of(code)
         return code != lib.NONE
@@ -214,7 +214,7 @@ class Rules(Owner):
         """
         text, parts = encoded(path), lib.ReasonParts()
         code = lib.library.ignore_rules_decided(
-            self._built(), text, len(text), bool(is_dir), byref(parts), b"", 0
+            self.built(), text, len(text), bool(is_dir), byref(parts), b"", 0
         )
         kind = DECISIONS.get(code)
         if kind is None:
@@ -255,12 +255,13 @@ class Rules(Owner):
         return self._alone(text, is_dir) == lib.IGNORE
 
     def _alone(self, text: bytes, is_dir: bool) -> int:
-        code: int = ALONE(self._built(), text, len(text), is_dir)
+        code: int = ALONE(self.built(), text, len(text), is_dir)
         if code not in (lib.NONE, lib.IGNORE, lib.WHITELIST):
             raise error_of(code)
         return code
 
-    def _built(self) -> Any:
+    def built(self) -> Any:
+        """The handle's address, once the matcher is built, which takes no line any more."""
         if not self._is_built:
             self._call("build")
             self._is_built = True
@@ -285,7 +286,7 @@ class Rules(Owner):
 
     def _answer(self, ask: Any, path: Path, is_dir: bool) -> Answer:
         text, is_dir, parts = encoded(path), bool(is_dir), lib.ReasonParts()
-        handle = self._built()
+        handle = self.built()
         while True:
             room = self._room
             code = ask(handle, text, len(text), is_dir, byref(parts), room, len(room))
@@ -300,7 +301,7 @@ class Rules(Owner):
 
     def _counts(self) -> lib.Counts:
         counts = lib.Counts()
-        checked(lib.library.ignore_rules_counts(self._built(), byref(counts)))
+        checked(lib.library.ignore_rules_counts(self.built(), byref(counts)))
         return counts
 
 

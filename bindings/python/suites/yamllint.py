@@ -1,23 +1,26 @@
 #!/usr/bin/env python3
-"""Runs yamllint's own tests with `ignore_proved.pathspec` in the place of `pathspec`. SOURCE is the
-folder of its sources, as `apt-get source yamllint` unpacks them; its modules (PyYAML) and this
-package are on the path.
+"""Runs yamllint's own tests with `ignore_proved.pathspec` in the place of `pathspec`, also in the
+processes that they start. SOURCE is the folder of its sources, as `apt-get source yamllint` unpacks
+them; its modules (PyYAML) are on the path.
 usage: yamllint.py SOURCE
 """
+from __future__ import annotations
+
 import os
 import subprocess
 import sys
 import tempfile
+from typing import List
 
 STAND_IN = """\
 import sys
-from ignore_proved import pathspec
-for name in ("", ".gitignore", ".pathspec", ".pattern", ".patterns", ".util"):
-    sys.modules["pathspec" + name] = sys.modules["ignore_proved.pathspec" + name]
+del sys.modules["pathspec"]
+from ignore_proved.pathspec import stand_in
+stand_in()
 """
 
 
-def main(words):
+def main(words: List[str]) -> int:
     if len(words) != 1:
         print(__doc__, end="", file=sys.stderr)
         return 2

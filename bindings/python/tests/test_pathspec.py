@@ -6,6 +6,7 @@ import os
 import pathlib
 import pickle
 import pkgutil
+import random
 import re
 import subprocess
 import sys
@@ -17,6 +18,7 @@ import ignore_proved
 from ignore_proved import pathspec
 from ignore_proved.pathspec import GitIgnoreSpec, PathSpec, RegexPattern, util
 from ignore_proved.pathspec._git import of_git
+from ignore_proved.pathspec._lines import MOST_FOLDERS
 from ignore_proved.pathspec.patterns import GitWildMatchPattern
 
 LINES = ["*.o\n", "# a comment\n", "!keep.o\r\n", "build/\n", "\n"]
@@ -87,6 +89,38 @@ class Answers(unittest.TestCase):
             self.assertTrue(spec.match_file(path))
         self.assertFalse(spec.match_file("\uf7ffa"))
 
+    def test_what_is_kept_of_folders_changes_no_answer(self):
+        """Asked of one spec after others, a path has the answer of a spec that is asked first."""
+        lines = ["a/", "!a/b", "*/c/", "!c/d/", "d/**/a", "!*.a", "b/*"]
+        names = ["a", "b", "c", "d", "e.a", "", ".", "x" * 1100]
+        chance = random.Random(1)
+        paths = ["/".join(chance.choices(names, k=chance.randint(1, 6))) for _ in range(3000)]
+        for kind in (PathSpec, GitIgnoreSpec):
+            spec = spec_of(lines, kind)
+            spec.match_file("a")
+            own = spec._lines._own
+            for path in [*paths, *paths[:500]]:
+                found, matched = spec.check_file(path), spec.match_file(path)
+                self.assertEqual(matched, bool(found.include), path)
+                kept, own.folders = own.folders, {}
+                self.assertEqual(spec.check_file(path), found, path)
+                own.folders = {}
+                self.assertEqual(spec.match_file(path), matched, path)
+                own.folders = kept
+            for number in range(2 * MOST_FOLDERS):
+                spec.match_file(f"{number}/a")
+            self.assertLessEqual(len(own.folders), MOST_FOLDERS)
+            spec.match_file("/".join(["deep"] * 5000))
+            self.assertLess(max(map(len, own.folders)), 2000)
+
+    def test_a_list_is_asked_on_whatever_thread_takes_it(self):
+        matched = spec_of(LINES).match_files(["a.o", "c", "b.o", "build/x"])
+        found = [next(matched)]
+        thread = threading.Thread(target=lambda: found.extend(matched))
+        thread.start()
+        thread.join()
+        self.assertEqual(found, ["a.o", "b.o", "build/x"])
+
     def test_files_and_entries(self):
         spec, files = git_of(LINES), ["a.o", pathlib.Path("keep.o"), b"build/x", "c"]
         self.assertEqual(list(spec.match_files(files)), [files[0], files[2]])
@@ -97,6 +131,9 @@ class Answers(unittest.TestCase):
         self.assertEqual([(it.file, it.include, it.index) for it in found],
                          [("a.o", True, 0), ("c", None, None), ("keep.o", False, 2),
                           ("build/keep.o", True, 3)])
+        self.assertEqual(pathspec.match_files(spec, files[:3]), {files[0], files[2]})
+        self.assertEqual(util.normalize_files(["./a", "/a", "b"]), {"a": ["./a", "/a"], "b": ["b"]})
+        self.assertEqual(list(spec.patterns[0].match(["a.o", "b"])), ["a.o"])
         for wrong in ("a.o", b"a.o"):
             for call in (spec.match_files, spec.match_entries, spec.check_files):
                 with self.assertRaises(TypeError):
@@ -143,6 +180,11 @@ class Values(unittest.TestCase):
                 spec_of(wrong)
         with self.assertRaises(KeyError):
             PathSpec.from_lines("no such kind", [])
+        with self.assertRaises(util.AlreadyRegisteredError) as raised:
+            util.register_pattern("gitignore", RegexPattern)
+        self.assertEqual(raised.exception.pattern_factory, GitWildMatchPattern)
+        util.register_pattern("own", RegexPattern)
+        self.assertTrue(PathSpec.from_lines("own", ["a+$"]).match_file("aa"))
         with self.assertRaises(TypeError):
             PathSpec.from_lines(None, [])
         self.assertFalse(spec_of([]))
@@ -224,12 +266,26 @@ class Trees(unittest.TestCase):
 
 class Modules(unittest.TestCase):
     def test_it_stands_for_pathspec(self):
-        code = ("import sys\nfrom ignore_proved import pathspec as it\n"
-                "sys.modules['pathspec'] = it\nimport pathspec\n"
+        code = ("import pathspec\nfrom pathspec import GitIgnoreSpec\n"
+                "from pathspec.patterns.gitwildmatch import GitWildMatchPatternError\n"
+                "from pathspec.util import iter_tree_files\nimport pathspec.gitignore\n"
                 "assert pathspec.PathSpec.from_lines('gitwildmatch', ['a']).match_file('a')\n"
-                "assert issubclass(pathspec.gitignore.GitIgnoreSpec, pathspec.pathspec.PathSpec)\n"
-                "pathspec.patterns.gitwildmatch.GitWildMatchPatternError, pathspec.util\n")
-        subprocess.run([sys.executable, "-c", code], check=True)
+                "assert pathspec.gitignore.GitIgnoreSpec is GitIgnoreSpec\n"
+                "assert GitIgnoreSpec.__module__ == 'ignore_proved.pathspec.gitignore'\n")
+        first = "from ignore_proved.pathspec import stand_in\nstand_in()\nstand_in()\n"
+        subprocess.run([sys.executable, "-c", first + code], check=True)
+        with tempfile.TemporaryDirectory() as folder:
+            pathlib.Path(folder, "asks.py").write_text(f"import sys\n{code}print(sys.argv[1:])\n")
+            words = [sys.executable, "-m", "ignore_proved.pathspec"]
+            env = {**os.environ, "PYTHONPATH": os.pathsep.join([*filter(None, sys.path), folder])}
+            ran = subprocess.run([*words, "asks", "-x"], env=env, stdout=subprocess.PIPE, check=True)
+            self.assertEqual(ran.stdout, b"['-x']\n")
+            ran = subprocess.run(words, env=env, stderr=subprocess.PIPE, check=False)
+            self.assertEqual(ran.returncode, 2)
+            pathlib.Path(folder, "pathspec.py").write_text("")
+            ran = subprocess.run([sys.executable, "-c", f"import pathspec\n{first}"], env=env,
+                                 stderr=subprocess.PIPE, check=False)
+            self.assertIn(b"imported already", ran.stderr)
 
     def test_the_examples_of_docstrings(self):
         tried = 0

@@ -3,7 +3,6 @@ from __future__ import annotations
 
 from typing import Any, Iterable, Optional, Type, TypeVar
 
-from ._lines import Decided, Lines
 from .pathspec import Factory, PathSpec
 from .patterns.gitwildmatch import GitWildMatchPattern
 
@@ -18,18 +17,14 @@ class GitIgnoreSpec(PathSpec):
         True
     """
 
+    _is_from_the_top = True
+
     def __eq__(self, other: object) -> bool:
         if not isinstance(other, PathSpec):
             return NotImplemented
         return isinstance(other, GitIgnoreSpec) and super().__eq__(other)
 
     __hash__ = None  # type: ignore[assignment]
-
-    def _is_matched_by(self, lines: Lines, path: str, is_dir: bool) -> bool:
-        return lines.is_ignored(path, is_dir)
-
-    def _decided_by(self, lines: Lines, path: str) -> Decided:
-        return lines.first(path)
 
     @classmethod
     def from_lines(  # type: ignore[override]

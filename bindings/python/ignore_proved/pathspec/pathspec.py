@@ -6,16 +6,14 @@ from typing import (
     Any, Callable, Collection, Dict, Iterable, Iterator, Optional, Tuple, Type, TypeVar, Union,
 )
 
-from .._names import told
 from ..rules import several
 from . import util
 from ._lines import Decided, Lines
 from .pattern import Pattern
 from .patterns.gitwildmatch import GitWildMatchPattern
-from .util import File, TreeEntry, normalize_file
+from .util import F, File, TreeEntry, normalize_file
 
 Self = TypeVar("Self", bound="PathSpec")
-F = TypeVar("F", bound=File)
 Factory = Union[str, Callable[[Any], Pattern]]
 Separators = Optional[Collection[str]]
 
@@ -45,6 +43,8 @@ class PathSpec:
     It can be pickled, copied, and used on any thread. As it can be added to, it has no hash.
     """
 
+    _is_from_the_top = False
+
     def __init__(self, patterns: Iterable[Pattern]) -> None:
         self.patterns = tuple(patterns)
 
@@ -58,7 +58,8 @@ class PathSpec:
         self._patterns = tuple(patterns)
         self._lines: Optional[Lines] = None
         if all(isinstance(it, GitWildMatchPattern) for it in self._patterns):
-            self._lines = Lines([getattr(it, "line", "") for it in self._patterns])
+            lines = [getattr(it, "line", "") for it in self._patterns]
+            self._lines = Lines(lines, self._is_from_the_top)
 
     @classmethod
     def from_lines(cls: Type[Self], pattern_factory: Factory, lines: Iterable[Any]) -> Self:
@@ -102,20 +103,14 @@ class PathSpec:
         vars(self).update(state)
         self.patterns = state["_patterns"]
 
-    def _is_matched_by(self, lines: Lines, path: str, is_dir: bool) -> bool:
-        return lines.is_included(path, is_dir)
-
-    def _decided_by(self, lines: Lines, path: str) -> Decided:
-        return lines.last(path)
-
     def _is_matched(self, path: str, is_dir: bool = False) -> bool:
         if self._lines is not None:
-            return self._is_matched_by(self._lines, told(path), is_dir)
+            return self._lines.includes(path, is_dir)
         return bool(self._decided(path).include)
 
     def _decided(self, path: str) -> Decided:
         if self._lines is not None:
-            return self._decided_by(self._lines, told(path))
+            return self._lines.decided(path)
         for index in range(len(self._patterns) - 1, -1, -1):
             pattern = self._patterns[index]
             if pattern.include is not None and pattern.match_file(path) is not None:

@@ -2,7 +2,7 @@
 from __future__ import annotations
 
 import re
-from typing import Any, Optional, Union
+from typing import Any, Iterable, Iterator, Optional, Union
 
 
 class Pattern:
@@ -16,6 +16,10 @@ class Pattern:
     def match_file(self, file: str) -> Optional[Any]:
         """Something where the pattern matches a path, and else None."""
         raise NotImplementedError(f"{type(self).__name__} has no match_file")
+
+    def match(self, files: Iterable[str]) -> Iterator[str]:
+        """The paths that the pattern matches."""
+        return (file for file in files if self.match_file(file) is not None)
 
 
 class RegexPattern(Pattern):

@@ -4,13 +4,16 @@ from __future__ import annotations
 import os
 import stat
 from typing import (
-    Any, Callable, Collection, Dict, Iterable, Iterator, List, NamedTuple, Optional, Tuple, Union,
+    Any, Callable, Collection, Dict, Iterable, Iterator, List, NamedTuple, Optional, Set, Tuple,
+    TypeVar, Union,
 )
 
+from ..rules import several
 from .pattern import Pattern
 from .patterns.gitwildmatch import GitWildMatchPattern
 
 File = Union[str, bytes, "os.PathLike[str]", "os.PathLike[bytes]"]
+F = TypeVar("F", bound=File)
 
 _factories: Dict[str, Callable[[Any], Pattern]] = {
     "gitwildmatch": GitWildMatchPattern,
@@ -18,8 +21,21 @@ _factories: Dict[str, Callable[[Any], Pattern]] = {
 }
 
 
+#: What is replaced by slashes where no separators are given: nothing, on a system that has slashes.
+NORMALIZE_PATH_SEPS: List[str] = []
+
+
 class AlreadyRegisteredError(Exception):
     """A kind of patterns has the name already."""
+
+    def __init__(self, name: str, pattern_factory: Callable[[Any], Pattern]) -> None:
+        super().__init__(name, pattern_factory)
+        self.name, self.pattern_factory = name, pattern_factory
+
+    @property
+    def message(self) -> str:
+        """What is wrong."""
+        return f"{self.name!r} is the name of {self.pattern_factory!r} already"
 
 
 class RecursionError(Exception):
@@ -72,11 +88,28 @@ def normalize_file(file: File, separators: Optional[Collection[str]] = None) -> 
     return text[2:] if text.startswith("./") else text
 
 
+def normalize_files(
+    files: Iterable[F], separators: Optional[Collection[str]] = None
+) -> Dict[str, List[F]]:
+    """Files by their paths as they are matched."""
+    found: Dict[str, List[F]] = {}
+    for file in several(files):
+        found.setdefault(normalize_file(file, separators), []).append(file)
+    return found
+
+
 def match_file(patterns: Iterable[Pattern], file: str) -> bool:
     """Whether patterns match a path, as a PathSpec of them does."""
     from .pathspec import PathSpec
 
     return PathSpec(patterns).match_file(file)
+
+
+def match_files(patterns: Iterable[Pattern], files: Iterable[F]) -> Set[F]:
+    """The files that patterns match, as a PathSpec of them does."""
+    from .pathspec import PathSpec
+
+    return set(PathSpec(patterns).match_files(files))
 
 
 def append_dir_sep(path: "os.PathLike[str]") -> str:
@@ -186,3 +219,7 @@ def iter_tree_files(
     for entry in iter_tree_entries(root, on_error, follow_links):
         if not entry.is_dir(follow_links):
             yield entry.path
+
+
+#: The older name.
+iter_tree = iter_tree_files

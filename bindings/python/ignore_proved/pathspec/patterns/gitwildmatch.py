@@ -3,7 +3,6 @@ from __future__ import annotations
 
 from typing import Any, Optional, Tuple, Type, TypeVar, Union
 
-from ..._names import told
 from .._lines import Lines, is_blank, line_of, positive
 from ..pattern import Pattern
 
@@ -58,7 +57,7 @@ class GitWildMatchPattern(Pattern):
             return None
         if self._lines is None:
             self._lines = Lines([positive(self.line)])
-        return self._lines.is_included(told(file)) or None
+        return self._lines.includes(file) or None
 
     @staticmethod
     def escape(s: Text) -> Text:
