@@ -39,12 +39,13 @@ class Stranger:
         self.env = {"PATH": "/usr/local/bin:/usr/bin:/bin", "HOME": f"{room}/home"}
         self.env["LC_ALL"] = "C.UTF-8"
 
-    def run(self, *words, **env):
-        """Runs a command there, which must succeed, and returns what it wrote."""
+    def run(self, *words, status=0, **env):
+        """Runs a command there, which must end with this status, and returns what it wrote."""
         ran = subprocess.run(words, cwd=self.room, env={**self.env, **env}, timeout=LIMIT,
                              stdin=subprocess.DEVNULL, stdout=subprocess.PIPE,
                              stderr=subprocess.STDOUT, text=True, errors="replace")
-        assert ran.returncode == 0, f"{words[0]} ended with {ran.returncode}: {ran.stdout[-800:]!r}"
+        assert ran.returncode == status, \
+            f"{words[0]} ended with {ran.returncode}: {ran.stdout[-800:]!r}"
         return ran.stdout
 
     def lists(self, folder):
@@ -78,17 +79,35 @@ def package(it, end):
 
 
 def tarball(it):
-    """Unpacks the tarball, and installs it, and once more."""
+    """Unpacks the tarball, installs it, once more, by default, below a relative prefix, and removes
+    it; another program of that name, and a prefix that can't be written, are refused."""
     path = package(it, ".tar.gz")
     folder = os.path.basename(path)[: -len(".tar.gz")]
     it.run("tar", "-xzf", path)
+    installs, prefix = f"{it.room}/{folder}/install.sh", f"{it.room}/a prefix"
     for _ in range(2):
-        it.run(f"{it.room}/{folder}/install.sh", f"{it.room}/prefix")
-    it.lists(f"{it.room}/prefix/bin")
-    it.run(f"{it.room}/{folder}/install.sh")
+        it.run(installs, prefix)
+    it.lists(f"{prefix}/bin")
+    it.run(installs)
     it.lists(f"{it.room}/home/.local/bin")
+    it.run(f"{folder}/install.sh", "relative")
+    it.lists("relative/bin")
     for name in ("man/man1/ig.1", "bash-completion/completions/ig", "doc/ig-proved/LICENSE"):
-        assert os.path.isfile(f"{it.room}/prefix/share/{name}"), f"{name} isn't installed"
+        assert os.path.isfile(f"{prefix}/share/{name}"), f"{name} isn't installed"
+    packages.put(f"{prefix}/bin/mine", "mine")
+    it.run(installs, "--remove", prefix)
+    it.run(installs, "--remove", prefix, status=1)
+    left = [name for name in packages.files_below(prefix) if os.path.isfile(f"{prefix}/{name}")]
+    assert left == ["bin/mine"], f"after --remove there are {left}"
+    packages.put(f"{it.room}/other/bin/ig", "another")
+    said = it.run(installs, f"{it.room}/other", status=1)
+    assert "another program" in said and packages.files_below(f"{it.room}/other") == [
+        "bin", "bin/ig"], f"of another program it says {said!r}"
+    it.run(installs, "--force", "other")
+    it.lists("other/bin")
+    for wrong in (f"{it.room}/{folder}", "/dev/null/x", ""):
+        it.run(installs, wrong, status=1)
+    it.run(installs, status=1, HOME="")
 
 
 def wheel(it):
@@ -107,6 +126,12 @@ def wheel(it):
     answer = it.run(python, "-c", USES)
     wanted = f"{archive.version()} True ['b.c']\nTrue\n"
     assert answer == wanted, f"Python wrote {answer!r}"
+    if not said:
+        it.run(python, "-m", "pip", "check")
+        it.run(python, "-m", "pip", "uninstall", "-q", "-y", "ignore-proved")
+        it.run(python, "-c", "import ignore_proved", status=1)
+        left = [name for name in packages.files_below(f"{it.room}/venv") if "ignore_proved" in name]
+        assert not left, f"after pip uninstall there are {left}"
     return said
 
 

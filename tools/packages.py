@@ -20,18 +20,76 @@ from repo import TOP, read
 PROGRAMS = ["ig", "igwalk"]
 LICENCES = ["LICENSE", "LICENSE-ignore"]
 TRIPLET = "x86_64-linux-gnu"
-INSTALL = """\
-#!/bin/sh
-# Copies the programs, their manual pages and completions below a prefix, by default ~/.local.
-# usage: ./install.sh [PREFIX]
-set -e
-prefix=${1:-$HOME/.local}
-cd "$(dirname "$0")"
-find bin share -type d | while read -r it; do mkdir -p "$prefix/$it"; done
-find bin share -type f | while read -r it; do
-    cp "$it" "$prefix/$it.part" && mv -f "$prefix/$it.part" "$prefix/$it"
+INSTALL = r"""#!/bin/sh
+# Copies ig and igwalk, their manual pages and completions below a prefix, by default ~/.local, or
+# takes them away there.
+# usage: ./install.sh [--force | --remove] [PREFIX]
+#   --force   also where bin/ig or bin/igwalk is another program, which is lost by that
+#   --remove  removes what it copies, and nothing else
+set -eu
+umask 022
+mark=share/doc/ig-proved/LICENSE
+part=
+trap '[ -z "$part" ] || rm -f -- "$part"' EXIT
+trap 'exit 130' HUP INT TERM
+
+stop() {
+    echo "install.sh: $*" >&2
+    exit 1
+}
+
+does=install
+case ${1-} in
+    --help | -h)
+        sed -n '2,6s/^# //p' "$0"
+        exit
+        ;;
+    --force | --remove)
+        does=${1#--}
+        shift
+        ;;
+    -*) stop "there is no option $1 (--help has the options)" ;;
+esac
+[ $# -le 1 ] || stop "one prefix is wanted, and not $#"
+prefix=${1-}
+[ $# -eq 1 ] || prefix=${HOME:+$HOME/.local}
+[ -n "$prefix" ] || stop "the prefix is empty, or HOME isn't set: give a prefix"
+case $prefix in
+    /*) ;;
+    *) prefix=$PWD/$prefix ;;
+esac
+here=$(CDPATH='' cd -- "$(dirname -- "$0")" && pwd -P) || exit
+[ "$(CDPATH='' cd -- "$prefix" 2>/dev/null && pwd -P)" != "$here" ] ||
+    stop "$prefix is the folder of these files: give another prefix"
+# (the mark comes first, so that a copy that was cut off is known as such)
+files="$mark $(cd "$here" && find bin share -type f | LC_ALL=C sort)"
+
+if [ "$does" = remove ]; then
+    [ -e "$prefix/$mark" ] || stop "in $prefix nothing is installed"
+    for it in $files; do
+        [ "$it" = "$mark" ] || rm -f -- "$prefix/$it" || stop "$prefix/$it isn't removed"
+    done
+    rm -f -- "$prefix/$mark" || stop "$prefix/$mark isn't removed"
+    rmdir -- "$prefix/${mark%/*}" 2>/dev/null || :
+    echo "removed from $prefix"
+    exit
+fi
+for it in bin/ig bin/igwalk; do
+    if [ "$does" = install ] && [ -e "$prefix/$it" ] && [ ! -e "$prefix/$mark" ]; then
+        stop "$prefix/$it is another program: give another prefix, or --force, by which it is lost"
+    fi
+done
+for it in $files; do
+    mkdir -p -- "$prefix/${it%/*}" || stop "nothing is copied to $prefix/${it%/*}"
+    [ ! -d "$prefix/$it" ] || stop "$prefix/$it is a folder"
+    part=$prefix/$it.part
+    cp -- "$here/$it" "$part" || stop "$prefix/$it isn't written"
+    mv -f -- "$part" "$prefix/$it" || stop "$prefix/$it isn't written"
+    part=
 done
 echo "installed in $prefix: bin/ig, bin/igwalk, their manual pages and completions"
+found=$(command -v ig) || found=none
+[ "$found" = "$prefix/bin/ig" ] || echo "on the PATH ig is $found: put $prefix/bin first there"
 """
 #: Where the completions of `ig` are looked for, below a prefix.
 COMPLETIONS = {

@@ -3,26 +3,30 @@
 beside that of `os.walk` with the package pathspec where that is there: `list.py FOLDER [ROUNDS]`.
 Both lists are compared where the folder's rules are in one `.gitignore` at its top.
 """
+from __future__ import annotations
+
 import os
 import sys
 import time
+from typing import Callable, List, Tuple
 
 from ignore_proved import walk
 
 try:
     import pathspec
 except ImportError:
-    pathspec = None
+    pathspec = None  # type: ignore[assignment]
 
 
-def by_walk(root):
+def by_walk(root: str) -> List[str]:
     return sorted(it.path for it in walk(root, hidden=False, parents=False, git_global=False,
                                          require_git=False) if not it.is_dir(follow_symlinks=False))
 
 
-def by_pathspec(root):
+def by_pathspec(root: str) -> List[str]:
     with open(os.path.join(root, ".gitignore"), encoding="utf-8") as file:
-        spec, found = pathspec.GitIgnoreSpec.from_lines(file), []
+        spec = pathspec.GitIgnoreSpec.from_lines(file)
+    found: List[str] = []
     for folder, folders, files in os.walk(root):
         below = os.path.relpath(folder, root)
         prefix = "" if below == "." else f"{below}/"
@@ -31,7 +35,9 @@ def by_pathspec(root):
     return sorted(found)
 
 
-def timed(call, root, rounds):
+def timed(
+    call: Callable[[str], List[str]], root: str, rounds: int
+) -> Tuple[List[str], float]:
     times = []
     for _ in range(rounds):
         start = time.perf_counter()

@@ -5,6 +5,8 @@ and from one another, and of what kind these differences are, each with an examp
 lines and git's answer. Wants `git`, and `pathspec` on the path of modules.
 usage: beside_pathspec.py [QUESTIONS [SEED]]
 """
+from __future__ import annotations
+
 import collections
 import os
 import random
@@ -13,6 +15,7 @@ import subprocess
 import sys
 import tempfile
 import warnings
+from typing import Any, Callable, Dict, List, Optional, Tuple
 
 import pathspec
 
@@ -30,9 +33,11 @@ ODD = [
     "a[[:bad:]]", "[[:a]", "[[:]", "a\\\\/", "a\\/", "*[.-0]*",
 ]
 PATHS = 20
+#: What makes a spec of lines.
+Make = Callable[[List[str]], Any]
 
 
-def line_of(chance):
+def line_of(chance: random.Random) -> str:
     """A random line."""
     if chance.random() < 0.08:
         return chance.choice(["", "!"]) + chance.choice(ODD)
@@ -41,7 +46,7 @@ def line_of(chance):
     return before + "/".join(pieces) + chance.choice(["", "", "/"])
 
 
-def path_of(chance):
+def path_of(chance: random.Random) -> str:
     """A random path, which is a file's."""
     return "/".join(chance.choice(NAMES) for _ in range(chance.choice([1, 2, 2, 3, 4])))
 
@@ -49,13 +54,13 @@ def path_of(chance):
 class Referee:
     """git, in an empty repository."""
 
-    def __init__(self, folder):
+    def __init__(self, folder: str) -> None:
         self.folder = folder
         own = {"HOME": folder, "XDG_CONFIG_HOME": folder, "GIT_CONFIG_NOSYSTEM": "1"}
         self.env = {**os.environ, **own}
         subprocess.run(["git", "init", "-q", folder], check=True, env=self.env)
 
-    def ignored(self, lines, paths):
+    def ignored(self, lines: List[str], paths: List[str]) -> List[bool]:
         """Whether git ignores each path by these lines."""
         with open(f"{self.folder}/.gitignore", "w", encoding="utf-8") as file:
             file.write("".join(f"{line}\n" for line in lines))
@@ -67,7 +72,7 @@ class Referee:
         return [path in found for path in paths]
 
 
-def asked(make, lines, paths):
+def asked(make: Make, lines: List[str], paths: List[str]) -> Optional[List[bool]]:
     """The answers of a kind of specs; none where it takes the lines not."""
     try:
         spec = make(lines)
@@ -76,7 +81,7 @@ def asked(make, lines, paths):
         return None
 
 
-KINDS = {
+KINDS: Dict[str, Tuple[Make, Make]] = {
     "PathSpec": (
         lambda lines: ours.PathSpec.from_lines("gitwildmatch", lines),
         lambda lines: pathspec.PathSpec.from_lines("gitwildmatch", lines),
@@ -85,7 +90,7 @@ KINDS = {
 }
 
 
-def fewest(kind, lines, path):
+def fewest(kind: str, lines: List[str], path: str) -> List[str]:
     """The fewest of the lines by which the two differ about a path."""
     here, there = KINDS[kind]
     for at in range(len(lines) - 1, -1, -1):
@@ -108,21 +113,26 @@ SORTS = [
 ]
 
 
-def sort_of(lines):
+def sort_of(lines: List[str]) -> str:
     """Of what kind a difference is that these lines show."""
     return next(what for what, found in SORTS if any(re.search(found, line) for line in lines))
+
+
+#: The fewest lines of a difference, its path, the answer here and git's.
+Row = Tuple[List[str], str, bool, bool]
 
 
 class Tally:
     """The differences of a class here from the one of `pathspec`, and of both from git."""
 
-    def __init__(self, kind):
-        self.kind, self.here, self.there = kind, 0, 0
-        self.raised, self.sorts = 0, collections.defaultdict(list)
+    def __init__(self, kind: str) -> None:
+        self.kind, self.here, self.there, self.raised = kind, 0, 0, 0
+        self.sorts: Dict[str, List[Row]] = collections.defaultdict(list)
 
-    def ask(self, lines, paths, git):
+    def ask(self, lines: List[str], paths: List[str], git: List[bool]) -> None:
         """Asks both, and keeps their differences."""
         here, there = (asked(make, lines, paths) for make in KINDS[self.kind])
+        assert here is not None, f"{lines} can't be read here"
         self.here += sum(own != its for own, its in zip(here, git))
         if there is None:
             self.raised += 1
@@ -133,7 +143,7 @@ class Tally:
                 few = fewest(self.kind, lines, path)
                 self.sorts[sort_of(few)].append((few, path, own, its))
 
-    def print(self, count):
+    def print(self, count: int) -> None:
         """Prints what was kept."""
         rows = [row for found in self.sorts.values() for row in found]
         sides = sum(own == its for _, _, own, its in rows)
@@ -147,7 +157,7 @@ class Tally:
                   f"{own} here, {not own} there, git {its}")
 
 
-def main(words):
+def main(words: List[str]) -> None:
     warnings.simplefilter("ignore")
     count, chance = int((words or ["30000"])[0]), random.Random(int((words[1:] or ["1"])[0]))
     tallies = [Tally(kind) for kind in KINDS]

@@ -1,8 +1,8 @@
 #!/usr/bin/env python3
 """Compares the processor time that a `PathSpec` takes here and in the package `pathspec`, under 10,
-50 and 500 lines: to make it with a first question, and then a question of each of 10,000 paths, in
-2,500 folders and more, by `match_file` and by `match_files`. Each figure is the median of the ratios
-of several turns, in which both are made anew. Wants `pathspec` on the path of modules.
+50 and 500 lines: to make it with a first question, and then a question of each of 10,000 paths in
+some 2,500 folders, by `match_file` and by `match_files`. Each figure is the median of the ratios of
+several turns, in which both are made anew. Wants `pathspec` on the path of modules.
 usage: pathspec_time.py [TURNS]
 """
 from __future__ import annotations

@@ -6,12 +6,15 @@ built example `list` of the crate for Rust, that is compared in the place of `wa
 at first.
 usage: walk_beside_ig.py IG [TREES [SEED [LIST]]]
 """
+from __future__ import annotations
+
 import os
 import random
 import shutil
 import subprocess
 import sys
 import tempfile
+from typing import Any, Dict, List, Tuple, Union
 
 from ignore_proved import walk
 
@@ -22,7 +25,7 @@ LINES = [
 ]
 TARGETS = ["a", "../a", "x.o", ".mine", "nope", "../l1", "d/../b", "."]
 #: Settings, and the words of `ig` that mean the same.
-SETTINGS = [
+SETTINGS: List[Tuple[Dict[str, Any], List[str]]] = [
     ({"hidden": False}, ["-H"]), ({"require_git": False}, ["--no-require-git"]),
     ({"max_depth": 2}, ["-d", "2"]),
     ({"custom_ignore_filenames": [".mine"]}, ["--ignore-name", ".mine"]),
@@ -32,19 +35,19 @@ SETTINGS = [
 ]
 
 
-def write(path, text):
+def write(path: Union[str, bytes], text: str) -> None:
     """Writes a file, where nothing is."""
     if not os.path.lexists(path):
         with open(path, "w", encoding="utf-8") as file:
             file.write(text)
 
 
-def rules_of(chance):
+def rules_of(chance: random.Random) -> str:
     """A random file of rules."""
     return "".join(f"{chance.choice(LINES)}\n" for _ in range(chance.randint(1, 4)))
 
 
-def fill(chance, folder, top):
+def fill(chance: random.Random, folder: str, top: str) -> None:
     """Fills a folder."""
     for _ in range(chance.randint(0, 3)):
         write(f"{folder}/{chance.choice(NAMES)}", "x" * chance.randint(0, 9))
@@ -72,7 +75,7 @@ def fill(chance, folder, top):
         os.symlink(chance.choice(["../store", f"{top}/store"]), f"{folder}/.git")
 
 
-def make(chance, top, home):
+def make(chance: random.Random, top: str, home: str) -> str:
     """Makes a tree, and the global file; returns the root."""
     root = f"{top}/up/r"
     os.makedirs(root)
@@ -93,7 +96,7 @@ def make(chance, top, home):
     return root
 
 
-def main(words):
+def main(words: List[str]) -> int:
     if not words:
         print(__doc__, end="", file=sys.stderr)
         return 2

@@ -278,7 +278,8 @@ class Modules(unittest.TestCase):
             pathlib.Path(folder, "asks.py").write_text(f"import sys\n{code}print(sys.argv[1:])\n")
             words = [sys.executable, "-m", "ignore_proved.pathspec"]
             env = {**os.environ, "PYTHONPATH": os.pathsep.join([*filter(None, sys.path), folder])}
-            ran = subprocess.run([*words, "asks", "-x"], env=env, stdout=subprocess.PIPE, check=True)
+            ran = subprocess.run([*words, "asks", "-x"], env=env, stdout=subprocess.PIPE,
+                                 check=True)
             self.assertEqual(ran.stdout, b"['-x']\n")
             ran = subprocess.run(words, env=env, stderr=subprocess.PIPE, check=False)
             self.assertEqual(ran.returncode, 2)
