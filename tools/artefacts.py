@@ -7,6 +7,7 @@ usage: tools/artefacts.py IG IGWALK LIBRARY    the two programs, and the folder 
 """
 import filecmp
 import os
+import re
 import shutil
 import subprocess
 import sys
@@ -16,7 +17,7 @@ sys.dont_write_bytecode = True
 import archive
 import packages
 from checks import Stop
-from repo import TOP, Crates
+from repo import TOP, Crates, read
 
 LIMIT = 900
 USES = """\
@@ -24,6 +25,13 @@ from ignore_proved import Rules, __version__, pathspec, walk
 print(__version__, Rules("", ["*.o"]).is_ignored("a.o"), sorted(it.name for it in walk("r")))
 print(pathspec.GitIgnoreSpec.from_lines(["*.o"]).match_file("a.o"))
 """
+
+
+#: The project of README.md.
+PROJECT = {
+    ".gitignore": "*.o\n!keep.o\nout/\ntmp/\n", ".git/HEAD": "", "a.o": "", "keep.o": "",
+    "main.c": "", "out/b.c": "",
+}
 
 
 class Stranger:
@@ -108,6 +116,25 @@ def tarball(it):
     for wrong in (f"{it.room}/{folder}", "/dev/null/x", ""):
         it.run(installs, wrong, status=1)
     it.run(installs, status=1, HOME="")
+
+
+def first_block(it):
+    """Does what the first block of README.md says, and sees what it says there."""
+    blocks = re.findall(r"(?:^    .*\n)+", read(f"{TOP}/README.md"), re.M)
+    steps = re.findall(r"^    \$ (.*)\n((?:    (?!\$ ).*\n)*)", blocks[0], re.M)
+    assert len(steps) > 3, f"the block has {len(steps)} commands"
+    room = f"{it.room}/readme"
+    for name, text in PROJECT.items():
+        packages.put(f"{room}/project/{name}", text)
+    shutil.copy(package(it, ".tar.gz"), room)
+    script = "\n".join(f"{command}\nprintf '\\f\\n'" for command, _ in steps)
+    home = f"{it.room}/home of readme"
+    found = it.run("sh", "-c", f"cd readme\n{script}", HOME=home,
+                   PATH=f"{home}/.local/bin:{it.env['PATH']}").split("\f\n")
+    assert len(found) == len(steps) + 1, f"it wrote {found}"
+    for (command, said), answer in zip(steps, found):
+        wanted = "".join(line[4:] for line in said.splitlines(True))
+        assert answer == wanted or not wanted, f"{command} wrote {answer!r}"
 
 
 def wheel(it):
@@ -225,7 +252,7 @@ def check_all(check, room, programs, library):
     left += [] if has_deb else ["there is no dpkg-deb"]
     check("packages: the same bytes twice", lambda: "; ".join(
         [same_twice(it, list(makers.values()), made), *left]))
-    for does in [*makers, *([well_made] if has_deb else [])]:
+    for does in [*makers, first_block, *([well_made] if has_deb else [])]:
         check(f"packages: {does.__name__.replace('_', ' ')}", lambda does=does: does(it))
 
 
