@@ -2,28 +2,37 @@
 """Asks the stored vectors on rules, globs, file types, single paths and walks through the package:
 `vectors.py FILE..`, by default those of the crates `replay` and `replay_walks`. Of an answer it
 compares what the package gives: the kind, the line and the glob of the rule that decided, the
-counts, and the texts of errors; what becomes of each path; the items of a walk. A line that it can't
-ask, as one of another kind, is left out, and counted. The last line is `N agree, M differ, K left
-out`.
+counts, and the texts of errors; what becomes of each path; the items of a walk. A line that it
+can't ask, as one of another kind, is left out, and counted. The last line is `N agree, M differ, K
+left out`.
 """
+from __future__ import annotations
+
 import collections
 import json
 import pathlib
 import sys
+from typing import Any, Callable, Counter, Dict, Iterator, List, Optional, Sequence, Tuple, Union
 
 sys.path.insert(0, str(pathlib.Path(__file__).resolve().parent))
 from ignore_proved import (
-    Builder, InvalidRuleError, LimitError, OutsideError, Rules, Tree, TreeMatcher, TreeWalk,
+    Answer, Builder, InvalidRuleError, LimitError, OutsideError, Rules, Tree, TreeMatcher, TreeWalk,
 )
 
 OPTIONS = {"ci": "case_insensitive", "auc": "allow_unclosed_class", "gts": "git_trailing_spaces"}
+
+
+#: A part of a vector.
+Json = Any
+#: What each field should be, and what it is.
+Pairs = Iterator[Tuple[Json, Json]]
 
 
 class LeftOut(Exception):
     """The package can't be asked this."""
 
 
-def built(rules, ops):
+def built(rules: Rules, ops: Json) -> List[Json]:
     """The rules after operations, and what was refused."""
     refused, options = [], {}
     for number, (what, value) in enumerate(ops):
@@ -40,13 +49,13 @@ def built(rules, ops):
     return refused
 
 
-def told(answer):
+def told(answer: Answer) -> List[str]:
     """An answer as a vector has it, without the number of its rule."""
     kind = answer.decision.name.lower()
     return [kind] if answer.reason is None else [kind, answer.reason.pattern, answer.reason.glob]
 
 
-def ask_rules(given, wanted):
+def ask_rules(given: Json, wanted: Json) -> Pairs:
     """Yields what each field should be, and what it is."""
     with Rules(given["root"]) as rules:
         refused = built(rules, given["ops"])
@@ -61,7 +70,7 @@ def ask_rules(given, wanted):
             yield len(wanted["rules"]), len(rules)
 
 
-def ask_parents(given, wanted):
+def ask_parents(given: Json, wanted: Json) -> Pairs:
     """The same of a path with its parents."""
     with Rules(given["root"]) as rules:
         built(rules, given["ops"])
@@ -75,7 +84,7 @@ def ask_parents(given, wanted):
             yield wanted["answer"][:3], found
 
 
-def ask_file(given, wanted):
+def ask_file(given: Json, wanted: Json) -> Pairs:
     """The same of a file's rules and errors."""
     if given.get("hex") is None or given.get("cut") is not None or "refuse" in given:
         raise LeftOut("a fault of the file system, or an allocation that fails")
@@ -94,14 +103,14 @@ def ask_file(given, wanted):
             yield sum(1 for rule in wanted["rules"] if rule[2]), rules.num_whitelists
 
 
-def tree_of(given):
+def tree_of(given: Json) -> Tree:
     """The tree that calls tell."""
     tree = Tree(given["cwd"])
     tell(tree, given["calls"])
     return tree
 
 
-def tell(tree, calls):
+def tell(tree: Tree, calls: Json) -> None:
     """Tells a tree by calls."""
     for name, *words in calls:
         if name == "add_file":
@@ -115,7 +124,7 @@ def tell(tree, calls):
             getattr(tree, name)(*words)
 
 
-def error_in(call):
+def error_in(call: Callable[[], object]) -> Optional[str]:
     """The text of what is wrong, if something is."""
     try:
         call()
@@ -124,7 +133,7 @@ def error_in(call):
     return None
 
 
-def set_overrides(builder, root, ops):
+def set_overrides(builder: Builder, root: str, ops: Json) -> List[Json]:
     """Sets the globs of a command line, and returns what was refused."""
     refused = []
     builder.begin_overrides(root)
@@ -138,9 +147,9 @@ def set_overrides(builder, root, ops):
     return refused
 
 
-def set_types(builder, ops):
+def set_types(builder: Builder, ops: Json) -> Tuple[List[Json], Optional[str]]:
     """Tells file types and choices, and returns what was refused, and what building them was."""
-    calls = {
+    calls: Dict[str, Callable[..., object]] = {
         "add": builder.add_type, "add_def": builder.add_type_def, "clear": builder.clear_type,
         "select": builder.select_type, "negate": builder.negate_type,
         "defaults": builder.add_default_types, "add_defaults": builder.add_default_types,
@@ -155,7 +164,7 @@ def set_types(builder, ops):
     return refused, error_in(builder.set_types)
 
 
-def verdict_of(builder, path, is_dir, root="/r"):
+def verdict_of(builder: Builder, path: str, is_dir: bool, root: str = "/r") -> str:
     """What the globs or types of a builder say of a path, where nothing else decides."""
     with Tree("/") as tree:
         folder = ""
@@ -166,12 +175,12 @@ def verdict_of(builder, path, is_dir, root="/r"):
             return matcher.match(tree, path, is_dir).decision.name.lower()
 
 
-def is_plain(path):
+def is_plain(path: str) -> bool:
     """Whether a matcher asks its rules about a path as it stands."""
-    return path and all(name not in ("", ".", "..") for name in path.split("/"))
+    return bool(path) and all(name not in ("", ".", "..") for name in path.split("/"))
 
 
-def ask_override(given, wanted):
+def ask_override(given: Json, wanted: Json) -> Pairs:
     """What globs of a command line say of a path."""
     root = given["root"]
     if not is_plain(given["path"]) or not (root == "/" or root[:1] == "/" and is_plain(root[1:])):
@@ -181,7 +190,7 @@ def ask_override(given, wanted):
         yield wanted["kind"], verdict_of(builder, given["path"], given["is_dir"], root)
 
 
-def ask_types(given, wanted):
+def ask_types(given: Json, wanted: Json) -> Pairs:
     """What chosen file types say of paths."""
     with Builder("/r", standard_filters=False) as builder:
         refused, error = set_types(builder, given["ops"])
@@ -193,7 +202,7 @@ def ask_types(given, wanted):
                 yield want[0], verdict_of(builder, path, is_dir)
 
 
-def builder_of(given, tree):
+def builder_of(given: Json, tree: Tree) -> Tuple[Builder, List[Optional[str]]]:
     """The builder that a vector sets, and what was reported of files added by name."""
     roots = [given["root"]] if "root" in given else given["roots"]
     if not roots:
@@ -221,7 +230,7 @@ def builder_of(given, tree):
     return builder, added
 
 
-def ask_query(given, wanted):
+def ask_query(given: Json, wanted: Json) -> Pairs:
     """What becomes of paths in turn."""
     with tree_of(given) as tree:
         builder, added = builder_of(given, tree)
@@ -246,7 +255,7 @@ def ask_query(given, wanted):
 KINDS_OF_ENTRIES = [None, "File", "Dir", "Symlink", "Other"]
 
 
-def ask_walk(given, wanted):
+def ask_walk(given: Json, wanted: Json) -> Pairs:
     """The items of a walk."""
     with tree_of(given) as tree:
         builder, added = builder_of(given, tree)
@@ -274,9 +283,10 @@ KINDS = {
 }
 
 
-def main(files):
+def main(files: Sequence[Union[str, pathlib.Path]]) -> bool:
     """Asks the vectors of these files."""
-    agree, differ, left, by_kind = 0, 0, 0, collections.Counter()
+    agree, differ, left = 0, 0, 0
+    by_kind: Counter[str] = collections.Counter()
     for path in files:
         for line in open(path, encoding="utf-8"):
             vector = json.loads(line)
