@@ -95,8 +95,7 @@ fn left(alloc: Global, machine: &Machine, words: &[String]) -> Result<Outcome, T
     })
 }
 
-/// What is too much of the calls of a run, if anything is: a list is a walk, a check asks about its
-/// paths, and any other run calls no files.
+/// What is too much of the calls of a run, if anything is.
 fn excess(
     alloc: Global,
     machine: &Machine,
@@ -104,8 +103,20 @@ fn excess(
     calls: &Calls,
 ) -> Result<Option<&'static str>, Trouble> {
     let outside = outside_of(alloc, machine)?;
+    excess_but(alloc, machine, words, calls, outside.as_slice())
+}
+
+/// As `excess`, by the paths that the rules from outside are asked of: a list is a walk, a check
+/// asks about its paths, and any other run calls no files.
+fn excess_but<'x>(
+    alloc: Global,
+    machine: &Machine,
+    words: &'x [String],
+    calls: &Calls,
+    outside: &'x [String],
+) -> Result<Option<&'static str>, Trouble> {
     let mut bounds = Bounds::new(alloc);
-    bounds.outside = outside.as_slice();
+    bounds.outside = outside;
     let roots = match words {
         [command, roots @ ..] if command.as_str() == "list" => roots,
         [command, root, paths @ ..] if command.as_str() == "check" => {

@@ -1,7 +1,7 @@
 //! The items of a walk, and its steps.
 
 use crate::settings::{Machine, bounds_of, limit_of, outside_of};
-use answers::{Answer, Bounds, Calls, Counting, but_for_memory};
+use answers::{Answer, Calls, Counting, but_for_memory};
 use ignore::files::MemoryTree;
 use ignore::{DirEntry, Error, Fault, Item, WalkBuilder, collect_walk};
 use serde_json::Value;
@@ -35,9 +35,7 @@ where
 {
     let most = limit_of(input)?.min(MOST);
     let all = list(builder)?;
-    let mut bounds = bounds_of(alloc, input)?;
-    bounds.outside = all.outside.as_slice();
-    let excess = all.excess(&bounds);
+    let excess = all.excess(alloc, input)?;
     let steps = steps(builder, most, all.items.as_slice(), set_limit, list)?;
     let mut answer = Answer::new(alloc);
     answer.put_value("items", Ok(Value::Array(all.items)));
@@ -109,12 +107,18 @@ pub(crate) struct Listed {
 }
 
 impl Listed {
-    /// What is too much of the calls, if anything is.
-    fn excess(&self, bounds: &Bounds<'_>) -> Option<&'static str> {
+    /// What is too much of the calls, if anything is, by the settings and roots of a vector.
+    fn excess<'x>(
+        &'x self,
+        alloc: Global,
+        input: &'x Value,
+    ) -> Result<Option<&'static str>, Trouble> {
         if self.is_outside_again {
-            return Some("what is outside is asked again");
+            return Ok(Some("what is outside is asked again"));
         }
-        bounds.excess_of_walk(&self.walking)
+        let mut bounds = bounds_of(alloc, input)?;
+        bounds.outside = self.outside.as_slice();
+        Ok(bounds.excess_of_walk(&self.walking))
     }
 
     /// Whether they are the first of these, where the error that ended the walk is left out; and
@@ -251,21 +255,26 @@ fn cloned(
     items: &[Item],
     walking: Calls,
 ) -> Result<Listed, Trouble> {
-    let mut values = Vec::new(alloc);
-    let mut end = End::Whole;
-    for item in items {
-        end = end_of(item);
-        values.push(shown(alloc, &machine.tree, item.clone()?)?)?;
-    }
+    let values = shown_clones(alloc, &machine.tree, items)?;
+    let shown = machine.shown.taken(alloc)?;
+    let outside = outside_of(alloc, machine)?;
     Ok(Listed {
         items: values,
-        end,
-        shown: machine.shown.taken(alloc)?,
+        end: items.last().map_or(End::Whole, end_of),
+        shown,
         is_outside_again: false,
         calls: walking.len(),
         walking,
-        outside: outside_of(alloc, machine)?,
+        outside,
     })
+}
+
+fn shown_clones(alloc: Global, tree: &MemoryTree, items: &[Item]) -> Result<Vec<Value>, Trouble> {
+    let mut values = Vec::new(alloc);
+    for item in items {
+        values.push(shown(alloc, tree, item.clone()?)?)?;
+    }
+    Ok(values)
 }
 
 /// How a list ends whose last item this is.
