@@ -20,7 +20,9 @@ loop-path-preserved g c = λ tree new rest honest h.
     let first = option_map problem_of c.in_ok-found.found in
     let error = c.in_ok-error.error in
     let at = here items l.path-index c.path-item.result text c.loop-path-test.true c.path-item.is c.as_str.ensures in
-    let told : option_map problem_of error ≡ explained tree text first = c.in_ok-error.ensures.value tree honest in
+    let told : option_map problem_of error ≡ explained tree text first =
+    c.in_ok-error.ensures.value tree honest
+    ∙ ap (λ (t : List ℕ). explained tree t first) (c.as_str-in-loop-path.ensures ∙ sym c.as_str.ensures) in
     let problems = ap (λ es. map (option_map problem_of) es ++ rest) c.in_ok-push.ensures.items
     ∙ (one_more (option_map problem_of) l.errors.items error rest
     ∙ ap (λ (p : Option Problem). map (option_map problem_of) l.errors.items ++ (p ∷ rest)) told) in
