@@ -44,6 +44,30 @@ pub others_show : (tree : Tree) (dir : Path) (dirs : List Path) (left : ℕ) (he
     → OneShows tree (dirs ++ folders_in dir (tree.list dir)) left held → OneShows tree (dir ∷ dirs) (left + 1) held
 others_show tree dir dirs left held h others = λ found below fits. others_there tree dir dirs found left held h others below fits
 
+-- the first of those that wait is looked into, and shows none
+pub one_less : (tree : Tree) (dir at : Path) (dirs waiting more : List Path) (left less : ℕ) (held : Bool) → waiting ≡ dir ∷ dirs
+    → at ≡ dir → left ≡ less + 1 → shows (tree.list at) ≡ false → more ≡ dirs ++ folders_in at (tree.list at)
+    → OneShows tree more less held → OneShows tree waiting left held
+one_less tree dir at dirs waiting more left less held is same one none adds h =
+    subst (λ (ds : List Path). OneShows tree ds left held) (sym is)
+    (subst (λ (n : ℕ). OneShows tree (dir ∷ dirs) n held) (sym one)
+    (subst (λ (d : Path). OneShows tree (d ∷ dirs) (less + 1) held) same
+    (others_show tree at dirs less held none (subst (λ (ds : List Path). OneShows tree ds less held) adds h))))
+
+-- or it shows one
+pub one_found : (tree : Tree) (dir at : Path) (dirs waiting : List Path) (left : ℕ) → waiting ≡ dir ∷ dirs → at ≡ dir
+    → shows (tree.list at) ≡ true → OneShows tree waiting left true
+one_found tree dir at dirs waiting left is same shown =
+    subst (λ (ds : List Path). OneShows tree ds left true) (sym is)
+    (subst (λ (d : Path). OneShows tree (d ∷ dirs) left true) same (first_shows tree at dirs left shown))
+
+-- or no more may be looked into
+pub one_too_many : (tree : Tree) (dir : Path) (dirs waiting : List Path) (left : ℕ) (held : Bool) → waiting ≡ dir ∷ dirs → left ≡ 0
+    → OneShows tree waiting left held
+one_too_many tree dir dirs waiting left held is none =
+    subst (λ (ds : List Path). OneShows tree ds left held) (sym is)
+    (subst (λ (n : ℕ). OneShows tree (dir ∷ dirs) n held) (sym none) (too_many tree dir dirs held))
+
 -- the folders of the listed things up to one more
 pub folders_more : {A B : Type 0} (f : A → List B) (all : List A) (i : ℕ) (one : A) (start old new : List B) → i < length all
     → one ≡ get_or all i one → old ≡ start ++ flat_map f (take i all) → new ≡ old ++ f one
