@@ -23,22 +23,30 @@ loop-dir-preserved g c = λ tree held honest h.
 
 -- none waits
 pub returns : goal.returns
-returns g c = λ tree honest.
+returns g c =
     let l = c.loop-dir in
     let items : l.waiting.items ≡ [] = search rules in
-    l.invariant tree false honest (subst (λ (dirs : List Path). OneShows tree dirs l.left false) (sym items) (none_show tree l.left))
+    record {
+      held = λ tree honest. l.invariant tree false honest
+          (subst (λ (dirs : List Path). OneShows tree dirs l.left false) (sym items) (none_show tree l.left));
+    }
 
 -- one shows a repository
 pub returns-then-branch : goal.returns-then-branch
-returns-then-branch g c = λ tree honest.
+returns-then-branch g c =
     let l = c.loop-dir in
-    l.invariant tree true honest
-    (one_found tree c.in-Some.dir c.as_str.result.now c.pop_front.new.self.items l.waiting.items l.left c.in-Some.ensures.items
-    c.as_str.ensures (sym (c.in_ok-look_into.ensures.shows tree honest) ∙ c.if-branch.true))
+    record {
+      held = λ tree honest. l.invariant tree true honest
+          (one_found tree c.in-Some.dir c.as_str.result.now c.pop_front.new.self.items l.waiting.items l.left c.in-Some.ensures.items
+          c.as_str.ensures (sym (c.in_ok-look_into.ensures.shows tree honest) ∙ c.if-branch.true));
+    }
 
 -- there are more than are looked into
 pub returns-then-left-eq0 : goal.returns-then-left-eq0
-returns-then-left-eq0 g c = λ tree honest.
+returns-then-left-eq0 g c =
     let l = c.loop-dir in
-    l.invariant tree true honest
-    (one_too_many tree c.in-Some.dir c.pop_front.new.self.items l.waiting.items l.left true c.in-Some.ensures.items c.if-left-eq0.true)
+    record {
+      held = λ tree honest. l.invariant tree true honest
+          (one_too_many tree c.in-Some.dir c.pop_front.new.self.items l.waiting.items l.left true c.in-Some.ensures.items
+          c.if-left-eq0.true);
+    }
