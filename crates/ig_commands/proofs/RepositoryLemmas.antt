@@ -45,14 +45,14 @@ pub others_show : (tree : Tree) (dir : Path) (dirs : List Path) (left : ℕ) (he
 others_show tree dir dirs left held h others = λ found below fits. others_there tree dir dirs found left held h others below fits
 
 -- the first of those that wait is looked into, and shows none
-pub one_less : (tree : Tree) (dir at : Path) (dirs waiting more : List Path) (left less : ℕ) (held : Bool) → waiting ≡ dir ∷ dirs
-    → at ≡ dir → left ≡ less + 1 → shows (tree.list at) ≡ false → more ≡ dirs ++ folders_in at (tree.list at)
-    → OneShows tree more less held → OneShows tree waiting left held
-one_less tree dir at dirs waiting more left less held is same one none adds h =
+pub one_less : (tree : Tree) (dir at : Path) (dirs waiting later : List Path) (left less : ℕ) (held : Bool) → waiting ≡ dir ∷ dirs
+    → at ≡ dir → left ≡ less + 1 → shows (tree.list at) ≡ false → later ≡ dirs ++ folders_in at (tree.list at)
+    → OneShows tree later less held → OneShows tree waiting left held
+one_less tree dir at dirs waiting later left less held is same one unshown adds h =
     subst (λ (ds : List Path). OneShows tree ds left held) (sym is)
     (subst (λ (n : ℕ). OneShows tree (dir ∷ dirs) n held) (sym one)
     (subst (λ (d : Path). OneShows tree (d ∷ dirs) (less + 1) held) same
-    (others_show tree at dirs less held none (subst (λ (ds : List Path). OneShows tree ds less held) adds h))))
+    (others_show tree at dirs less held unshown (subst (λ (ds : List Path). OneShows tree ds less held) adds h))))
 
 -- or it shows one
 pub one_found : (tree : Tree) (dir at : Path) (dirs waiting : List Path) (left : ℕ) → waiting ≡ dir ∷ dirs → at ≡ dir
@@ -64,9 +64,9 @@ one_found tree dir at dirs waiting left is same shown =
 -- or no more may be looked into
 pub one_too_many : (tree : Tree) (dir : Path) (dirs waiting : List Path) (left : ℕ) (held : Bool) → waiting ≡ dir ∷ dirs → left ≡ 0
     → OneShows tree waiting left held
-one_too_many tree dir dirs waiting left held is none =
+one_too_many tree dir dirs waiting left held is spent =
     subst (λ (ds : List Path). OneShows tree ds left held) (sym is)
-    (subst (λ (n : ℕ). OneShows tree (dir ∷ dirs) n held) (sym none) (too_many tree dir dirs held))
+    (subst (λ (n : ℕ). OneShows tree (dir ∷ dirs) n held) (sym spent) (too_many tree dir dirs held))
 
 -- the folders of the listed things up to one more
 pub folders_more : {A B : Type 0} (f : A → List B) (all : List A) (i : ℕ) (one : A) (start old new : List B) → i < length all
