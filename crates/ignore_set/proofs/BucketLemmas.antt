@@ -1,5 +1,5 @@
 -- What the buckets of needles say, and how one needle more is put into them.
-use Rattle.std.proofs.Common.{◌≡◌, ◌≢◌, ℕ, zero, suc, ◌+◌, ◌<◌, ◌≤◌, nat_lt, true, false, cond, ◌⊎◌, List, [], ◌∷◌, ◌++◌, length, drop, set}
+use Rattle.std.proofs.Common.{◌≡◌, ◌≢◌, ℕ, zero, suc, ◌+◌, ◌<◌, ◌≤◌, nat_lt, Bool, true, false, cond, ◌⊎◌, List, [], ◌∷◌, ◌++◌, length, drop, set}
 use Rattle.std.proofs.Common.{slice_get, Some, refl, sym, ap, subst, ◌∙◌, inl, inr, arith, Vec, Global}
 use Rattle.std.specs.List.{IsAmong}
 use Rattle.std.specs.Str.Iter.{HasSubslice}
@@ -9,7 +9,7 @@ use Rattle.std.proofs.lemmas.Option.{slice_get_within}
 use Rattle.std.proofs.Math.Seq.{drop-append_seam}
 use Rattle.ignore_set.specs.declared.buckets.Buckets.{Buckets}
 use Rattle.ignore_set.specs.Buckets.{AreBucketsOf, IsFrontOf, IsPast}
-use Rattle.ignore_set.specs.Others.{IndexedText, bucket_of, eight_at, eight_of, five_at, five_of, three_of}
+use Rattle.ignore_set.specs.Others.{IndexedText, bucket_of, eight_at, eight_of, five_at, five_of, front_of, three_of}
 use Rattle.ignore_set.proofs.IndexLemmas.{some_same, split}
 use Rattle.ignore_set.proofs.SlotLemmas.{got_append, among_more, among_end}
 
@@ -32,14 +32,35 @@ set_length [] i x = refl
 set_length (z ∷ xs) zero x = refl
 set_length (z ∷ xs) (suc i) x = ap suc (set_length xs i x)
 
+-- what was true stays so where another is set to it
+set_true : (xs : List Bool) (i k : ℕ) → slice_get xs k ≡ Some true → slice_get (set xs i true) k ≡ Some true
+set_true [] i k got = got
+set_true (z ∷ xs) zero zero got = refl
+set_true (z ∷ xs) zero (suc k) got = got
+set_true (z ∷ xs) (suc i) zero got = got
+set_true (z ∷ xs) (suc i) (suc k) got = set_true xs i k got
+
+pub front_fits : (text : List ℕ) → front_of text < 32768
+front_fits [] = omega arith
+front_fits (a ∷ []) = omega arith
+front_fits (a ∷ b ∷ []) = omega arith
+front_fits (a ∷ b ∷ c ∷ text) = omega arith
+
 -- The buckets of no needles, and of one more.
 
 pub put_long : (old new : Buckets) (needles : List IndexedText) (n : IndexedText) (was is : Vec ℕ Global)
     → 3 ≤ length n.text → slice_get old.long.items (bucket_of n.text) ≡ Some was
     → new.long.items ≡ set old.long.items (bucket_of n.text) is → is.items ≡ was.items ++ length needles ∷ []
+    → new.fronts.items ≡ set old.fronts.items (front_of n.text) true
     → new.short.items ≡ old.short.items → AreBucketsOf old needles → AreBucketsOf new (needles ++ n ∷ [])
-put_long old new needles n was is long had long_is is_is short_is are = record {
+put_long old new needles n was is long had long_is is_is fronts_is short_is are = record {
   count = ap length long_is ∙ (set_length old.long.items (bucket_of n.text) is ∙ are.count);
+  numbers = ap length fronts_is ∙ (set_length old.fronts.items (front_of n.text) true ∙ are.numbers);
+  fronts = λ j x got big. ap (λ l. slice_get l (front_of x.text)) fronts_is ∙ elim (got_append needles n j x got) [
+    | inl before ↦ set_true old.fronts.items (front_of n.text) (front_of x.text) (are.fronts j x before big)
+    | inr p ↦ ap (λ (y : IndexedText). slice_get (set old.fronts.items (front_of n.text) true) (front_of y.text)) p.1
+        ∙ set_here old.fronts.items (front_of n.text) true (omega (arith, are.numbers, front_fits n.text))
+  ];
   long = λ j x got big. elim (got_append needles n j x got) [
     | inl before ↦ kept j x before big
     | inr p ↦ (
@@ -85,10 +106,16 @@ put_long old new needles n was is long had long_is is_is short_is are = record {
         )
 
 pub put_short : (old new : Buckets) (needles : List IndexedText) (n : IndexedText) → length n.text < 3
-    → new.long.items ≡ old.long.items → new.short.items ≡ old.short.items ++ length needles ∷ []
+    → new.long.items ≡ old.long.items → new.fronts.items ≡ old.fronts.items
+    → new.short.items ≡ old.short.items ++ length needles ∷ []
     → AreBucketsOf old needles → AreBucketsOf new (needles ++ n ∷ [])
-put_short old new needles n small long_is short_is are = record {
+put_short old new needles n small long_is fronts_is short_is are = record {
   count = ap length long_is ∙ are.count;
+  numbers = ap length fronts_is ∙ are.numbers;
+  fronts = λ j x got big. elim (got_append needles n j x got) [
+    | inl before ↦ ap (λ l. slice_get l (front_of x.text)) fronts_is ∙ are.fronts j x before big
+    | inr p ↦ absurd (omega (arith, big, small, ap (λ (y : IndexedText). length y.text) p.1))
+  ];
   long = λ j x got big. elim (got_append needles n j x got) [
     | inl before ↦ let p = are.long j x before big in (p.0, ap (λ l. slice_get l (bucket_of x.text)) long_is ∙ p.1, p.2)
     | inr p ↦ absurd (omega (arith, big, small, ap (λ (y : IndexedText). length y.text) p.1))
@@ -165,6 +192,15 @@ three_front (suc k) (a ∷ front) rest long = three_front k front rest (omega (a
 three_same : (k : ℕ) (text front : List ℕ) → k + 3 ≤ length front → IsFrontOf text front
     → three_of (drop k front) ≡ three_of (drop k text)
 three_same k text front long (rest, e) = sym (ap (λ t. three_of (drop k t)) e ∙ three_front k front rest long)
+
+pub front_same : (text front : List ℕ) → 3 ≤ length front → IsFrontOf text front → front_of front ≡ front_of text
+front_same text front long (rest, e) = same front long ∙ sym (ap front_of e)
+  where
+    same : (l : List ℕ) → 3 ≤ length l → front_of l ≡ front_of (l ++ rest)
+    same [] long = absurd (omega (arith, long))
+    same (a ∷ []) long = absurd (omega (arith, long))
+    same (a ∷ b ∷ []) long = absurd (omega (arith, long))
+    same (a ∷ b ∷ c ∷ l) long = refl
 
 -- so it is in one of three buckets
 pub front_bucket : (text front : List ℕ) → 3 ≤ length front → IsFrontOf text front

@@ -38,6 +38,13 @@ mask_of (a ∷ text) = bit_or (first_bit (a ∷ text)) (mask_of text)
 abbrev pub IsMaskOver : List ℕ → ℕ → Type 0
 IsMaskOver text mask = (inside : List ℕ) → HasSubslice text inside → bit_or (mask_of inside) mask ≡ mask
 
+-- one of 32,768 numbers, for the first three bytes, or 0 where there are fewer
+abbrev pub front_of : List ℕ → ℕ
+front_of [] = 0
+front_of (a ∷ []) = 0
+front_of (a ∷ b ∷ []) = 0
+front_of (a ∷ b ∷ c ∷ text) = (a * 1031 + b * 31 + c) % 32768
+
 -- one of 4,096 numbers, for three bytes
 abbrev pub mixed : ℕ → ℕ → ℕ → ℕ
 mixed a b c = (a * 577 + b * 37 + c) % 4096

@@ -5,14 +5,17 @@ ghost use Rattle.std.specs.Str.Iter.{HasSubslice};
 ghost use Rattle.ignore_set.specs.Buckets.{AreBucketsOf, IsFrontOf, IsPast};
 ghost use Rattle.ignore_set.specs.Others.{IndexedText, bucket_of};
 
-use crate::needle::{Needle, eight_at, five_at, three_from};
+use crate::needle::{Needle, eight_at, five_at, front_of, three_from};
 use std::alloc::{AllocError, Global};
 
 /// The places of needles in their list: of those of at least three bytes under one of 16,384
 /// buckets, by their first three, five or eight bytes, and of the shorter ones. Or no bucket, where
-/// the needles are few.
+/// the needles are few. A text is looked up in the buckets only from where a needle's first three
+/// bytes may stand, which most places of most texts aren't.
 #[derive(Debug, Drop)]
 pub(crate) struct Buckets {
+    /// For each of 32,768 numbers of three bytes, whether a needle begins with such.
+    fronts: Vec<bool>,
     long: Vec<Vec<usize>>,
     short: Vec<usize>,
 }
@@ -23,6 +26,7 @@ impl Buckets {
         ensures { length result.long.items ≡ 0 }
     {
         Buckets {
+            fronts: Vec::new(alloc),
             long: Vec::new(alloc),
             short: Vec::new(alloc),
         }
@@ -64,6 +68,7 @@ impl Buckets {
             long.push(Vec::new(alloc))?;
         }
         Ok(Buckets {
+            fronts: no_fronts(alloc)?,
             long,
             short: Vec::new(alloc),
         })
@@ -71,12 +76,16 @@ impl Buckets {
 
     /// Puts the place of the needle that follows those that these buckets are of.
     fn put(&mut self, needle: &Needle, place: usize) -> Result<(), AllocError>
-        requires { length self.now.long.items ≡ 16384 }
+        requires long { length self.now.long.items ≡ 16384 }
+        requires fronts { length self.now.fronts.items ≡ 32768 }
         ensures { IfOk result (λ _. (needles : List IndexedText) → AreBucketsOf self.old needles → length needles ≡ place
             → AreBucketsOf self.new (needles ++ needle.now ∷ [])) }
     {
         match needle.bucket() {
-            Some(bucket) => self.long[bucket].push(place)?,
+            Some(bucket) => {
+                self.long[bucket].push(place)?;
+                self.fronts[needle.front()] = true;
+            }
             None => self.short.push(place)?,
         }
         Ok(())
@@ -116,6 +125,9 @@ impl Buckets {
         ensures least { least ≤ result }
         ensures within { least ≤ length needles.now → result ≤ length needles.now }
     {
+        if !self.fronts[front_of(bytes)] {
+            return least;
+        }
         let first = three_from(bytes, 0);
         let second = three_from(bytes, 2);
         let third = three_from(bytes, 5);
@@ -135,6 +147,17 @@ impl Buckets {
     {
         end_of_front(needles, self.long[bucket].as_slice(), bytes, least)
     }
+}
+
+/// That no needle begins with any three bytes.
+fn no_fronts(alloc: Global) -> Result<Vec<bool>, AllocError>
+    ensures { IfOk result (λ fronts. length fronts.items ≡ 32768) }
+{
+    let mut fronts = Vec::new(alloc);
+    for _ in 0..32768usize {
+        fronts.push(false)?;
+    }
+    Ok(fronts)
 }
 
 /// One more than the greatest of these places at which a needle is in the text; 0 where none is.

@@ -2,7 +2,7 @@
 ghost use Rattle.std.specs.Prelude.{◌≡◌, ◌↔◌, ◌++◌, ◌*◌, ◌^◌, ◌+◌, ◌<◌, ◌≤◌, ℕ, List, IsTrue, IfOk, SomeIff, drop, length, map, string_bytes};
 ghost use Rattle.std.specs.Str.Iter.{HasSubslice};
 ghost use Rattle.ignore_set.specs.Buckets.{IsFrontOf};
-ghost use Rattle.ignore_set.specs.Others.{IsMaskOver, bit_of, bucket_of, eight_at, first_bit, five_at, mask_of, mixed, three_of};
+ghost use Rattle.ignore_set.specs.Others.{IsMaskOver, bit_of, bucket_of, eight_at, first_bit, five_at, front_of, mask_of, mixed, three_of};
 
 use std::alloc::AllocError;
 use std::marker::Model;
@@ -64,6 +64,14 @@ impl Needle {
         text.starts_with(self.text.as_bytes())
     }
 
+    /// The number of its first three bytes.
+    pub(crate) fn front(&self) -> usize
+        ensures value { result ≡ front_of self.now.text }
+        ensures within { result < 32768 }
+    {
+        front_of(self.text.as_bytes())
+    }
+
     /// The bucket of its first bytes; `None` where it has fewer than three.
     pub(crate) fn bucket(&self) -> Option<usize>
         ensures { SomeIff result (3 ≤ length self.now.text) (bucket_of self.now.text) }
@@ -111,6 +119,17 @@ pub(crate) fn bit_of(a: u8, b: u8, c: u8) -> u64
     ensures { result ≡ bit_of a b c }
 {
     1u64 << ((usize::from(a) * 37 + usize::from(b) * 101 + usize::from(c) * 5) % 64)
+}
+
+/// One of 32,768 numbers, for the first three bytes of a text; 0 where it has fewer.
+pub(crate) fn front_of(bytes: &[u8]) -> usize
+    ensures value { result ≡ front_of bytes.now }
+    ensures within { result < 32768 }
+{
+    if bytes.len() < 3 {
+        return 0;
+    }
+    (usize::from(bytes[0]) * 1031 + usize::from(bytes[1]) * 31 + usize::from(bytes[2])) % 32768
 }
 
 /// The bucket of a text that has at least three bytes.

@@ -1,6 +1,8 @@
-use Rattle.std.proofs.Common.{inl, inr, ap, sym, ◌∙◌, drop, arith}
+use Rattle.std.proofs.Common.{inl, inr, ap, sym, ◌∙◌, drop, arith, slice_get, Some, true}
+use Rattle.std.proofs.lemmas.Option.{slice_get-get_or}
 use Rattle.ignore_set.specs.Others.{eight_at, five_at, three_of}
-use Rattle.ignore_set.proofs.BucketLemmas.{front_bucket}
+use Rattle.ignore_set.proofs.BucketLemmas.{front_bucket, front_same}
+use Rattle.ignore_set.proofs.IndexLemmas.{some_same}
 use Rattle.ignore_set.proofs.buckets.Buckets.end_of_buckets.Goals as goal
 
 pub returns-clause-past : goal.returns-clause-past
@@ -27,3 +29,14 @@ returns-clause-past c = λ j n got big f.
       )
       | inr (inr eight) ↦ c.end_of_bucket.ensures.past j n got big (eight ∙ sym (c.eight_at.ensures.value ∙ all)) f
     ]
+
+pub returns-then-not-index-clause-past : goal.returns-then-not-index-clause-past
+returns-then-not-index-clause-past c = λ j n got big f.
+    let fronts = c.args.self.now.fronts.items in
+    let here = c.index.result.now in
+    let noted = ap (λ k. slice_get fronts k) (c.front_of.ensures.value ∙ sym (front_same c.args.bytes.now n.text big f))
+    ∙ c.requires.fronts j n got big in
+    let found = slice_get-get_or fronts c.front_of.result here (omega (arith, c.front_of.ensures.within, c.requires.numbers))
+    ∙ ap Some (sym c.index.ensures) in
+    let yes = some_same here true (sym found ∙ noted) in
+    absurd (cc (yes, c.if-not-index.true))
