@@ -2,7 +2,7 @@
 use Rattle.std.specs.Prelude.{ℕ, ◌+◌, Bool, false, true, List, [], ◌∷◌, length, cond, nat_eq}
 use Rattle.std.specs.Str.{chars}
 use Rattle.ignore_base.specs.Text.{Bytes, Chars}
-use Rattle.ignore_glob.specs.Glob.{literal, star, start, Tokens, done, then}
+use Rattle.ignore_glob.specs.Glob.{Token, literal, star, start, Tokens, done, then}
 use Rattle.ignore_glob.specs.Nodes.{Node, start_at, star_at, until_slash}
 use Rattle.ignore_glob.specs.Reading.{Reading}
 use Rattle.ignore_glob.specs.declared.glob.kind.Kind.{Kind}
@@ -22,6 +22,12 @@ kind_tokens End cs = then start (then star (literals_of cs))
 -- the pattern of a kind with the literals of a text; case isn't folded
 abbrev pub exact_reading : Kind → Bytes → Reading
 exact_reading kind text = record { tokens = kind_tokens kind (chars text); case_insensitive = false }
+
+-- the tokens before the literals
+abbrev pub front_tokens : Kind → List Token
+front_tokens Whole = []
+front_tokens Name = start ∷ []
+front_tokens End = start ∷ star ∷ []
 
 -- the nodes before the literals
 abbrev pub front_nodes : Kind → List Node

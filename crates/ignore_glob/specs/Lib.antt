@@ -19,3 +19,4 @@ pub mod Words
 pub mod Ends
 pub mod Exact
 pub mod Matcher
+pub mod PositionSets

@@ -1,13 +1,13 @@
 //! The glob dialect: how a glob is written, and what it matches.
 
-mod automaton;
+pub(crate) mod automaton;
 mod class;
 mod copies;
 mod ending;
 mod exact;
 mod exact_marks;
 mod fault;
-mod flags;
+pub(crate) mod flags;
 mod key;
 mod kind;
 pub mod laws;
@@ -23,6 +23,7 @@ mod options;
 mod pass;
 mod pattern;
 mod read;
+mod sets;
 mod token;
 mod word;
 

@@ -7,6 +7,8 @@ ghost use Rattle.ignore_glob.specs.Reading.{Matches};
 ghost use Rattle.ignore_glob.specs.Words.{has_braces};
 
 use crate::glob::Pattern;
+pub use crate::glob::automaton::Automaton;
+pub use crate::glob::flags::Flags;
 use std::alloc::AllocError;
 
 /// As `Pattern::matches`, with the error of a failed allocation.
@@ -16,4 +18,12 @@ pub fn matches(pattern: &Pattern, text: &str) -> Result<bool, AllocError>
     ensures succeeds { has_braces pattern.now.tokens ≡ false → positions pattern.now.tokens ≤ 62 → IsOk result }
 {
     Ok(pattern.matcher().matches(text)?)
+}
+
+/// The automaton of a pattern, which goes over a text a character at a time: for what has to go over
+/// all texts.
+pub fn automaton(pattern: &Pattern) -> Result<Automaton, AllocError>
+    ensures { IfOk result (λ automaton. automaton ≡ pattern.now) }
+{
+    pattern.matcher().automaton()
 }

@@ -1,22 +1,28 @@
 //! A glob compiled to its nodes, which are passed over for each text.
-ghost use Rattle.std.specs.Prelude.{◌≡◌, ◌-◌, ◌^◌, ◌≤◌, ◌↔◌, ℕ, false, IsTrue, IsOk, IfOk, List};
+ghost use Rattle.std.specs.Prelude.{◌≡◌, ◌-◌, ◌^◌, ◌≤◌, ◌↔◌, ◌++◌, ◌∷◌, [], ℕ, false, IsTrue, IsOk, IfOk, List};
 ghost use Rattle.std.specs.Prelude.{map, min, string_bytes};
 ghost use Rattle.std.specs.Coded.{Coded-set, coded_list, coded_option};
 ghost use Rattle.std.specs.Str.{chars, IsUtf8};
+ghost use Rattle.ignore_base.specs.Text.{Chars};
+ghost use Rattle.ignore_glob.specs.DoesMatch.{does_match};
 ghost use Rattle.ignore_glob.specs.Forms.{key_form, form_of};
 ghost use Rattle.ignore_glob.specs.Positions.{CountsMarks, positions};
 ghost use Rattle.ignore_glob.specs.Needles.{HasOneOf};
 ghost use Rattle.ignore_glob.specs.NodeLists.{glob_nodes, node_code, nodes_view};
+ghost use Rattle.ignore_glob.specs.PositionSets.{IsSetAfter, AreAlike, tested_ranges};
 ghost use Rattle.ignore_glob.specs.Reading.{Matches};
 ghost use Rattle.ignore_glob.specs.View.{tokens_view};
 ghost use Rattle.ignore_glob.specs.Words.{has_braces, masks_code, word_of};
 
 use crate::glob::copies::copied;
+use crate::glob::flags::Flags;
 use crate::glob::key::{Key, key_of};
+use crate::glob::marks::first_marks;
 use crate::glob::needle::{anything, needles_of};
 use crate::glob::node::Node;
 use crate::glob::nodes::nodes_of;
 use crate::glob::pass;
+use crate::glob::sets::{ranges_of, step_alike, step_evenly, stepped};
 use crate::glob::token::Token;
 use crate::glob::word::{Masks, word_of};
 use std::alloc::AllocError;
@@ -24,7 +30,7 @@ use std::marker::Model;
 
 /// The tokens of a glob with its nodes, and their masks where they fit a word.
 #[derive(Debug, Drop)]
-pub(crate) struct Automaton {
+pub struct Automaton {
     tokens: Vec<Token>,
     nodes: Vec<Node>,
     masks: Option<Masks>,
@@ -84,6 +90,60 @@ impl Automaton {
     {
         let alloc = *self.nodes.allocator();
         Ok(pass::matches_counted(alloc, self.case_insensitive, &self.nodes, self.masks, text)?)
+    }
+
+    /// The set of positions that the empty text leads to, as a flag for each position.
+    pub fn begin(&self) -> Result<Flags, AllocError>
+        ensures { IfOk result (λ set. IsSetAfter self.now [] set.all.items) }
+    {
+        first_marks(*self.nodes.allocator(), &self.nodes)
+    }
+
+    /// The set that a text and one more character lead to, where `set` is the one that the text
+    /// leads to.
+    pub fn step(&self, set: &Flags, c: char) -> Result<Flags, AllocError>
+        ensures { (text : Chars) → IsSetAfter self.now text set.now.all.items
+            → IfOk result (λ next. IsSetAfter self.now (text ++ c ∷ []) next.all.items) }
+    {
+        stepped(
+            *self.nodes.allocator(),
+            self.case_insensitive,
+            &self.nodes,
+            set,
+            c,
+        )
+    }
+
+    /// Whether the glob matches a text that leads to this set.
+    pub fn ends(&self, set: &Flags) -> bool
+        ensures { (text : Chars) → IsSetAfter self.now text set.now.all.items → result ≡ does_match self.now text }
+    {
+        let end = self.nodes.len();
+        end < set.all.len() && set.has(end)
+    }
+
+    /// Whether both characters lead to the same set after each text: all tests of the pattern answer
+    /// them alike.
+    pub fn are_alike(&self, c: char, d: char) -> bool
+        ensures { IsTrue result → AreAlike self.now c d }
+    {
+        step_alike(self.case_insensitive, &self.nodes, c, d)
+    }
+
+    /// Whether all characters from `from` to `to` lead to the same set after each text. Of more than
+    /// one character it is told only where none is ASCII.
+    pub fn is_even(&self, from: char, to: char) -> bool
+        ensures { IsTrue result → (c : ℕ) → from ≤ c → c ≤ to → AreAlike self.now from c }
+    {
+        step_evenly(self.case_insensitive, &self.nodes, from, to)
+    }
+
+    /// The ranges of characters that the pattern tests for, a literal as a range of one, in the order
+    /// of writing.
+    pub fn tested_ranges(&self) -> Result<Vec<(char, char)>, AllocError>
+        ensures { IfOk result (λ ranges. ranges.items ≡ tested_ranges self.now) }
+    {
+        ranges_of(*self.nodes.allocator(), &self.nodes)
     }
 
     /// How many positions the glob has.

@@ -1,13 +1,14 @@
 //! Patterns of literals, alone or after `**/` or `**/*`: a text is compared with them.
-ghost use Rattle.std.specs.Prelude.{◌≡◌, ◌+◌, ◌-◌, ◌^◌, ◌<◌, ◌≤◌, ◌↔◌, ℕ, IsTrue, IsOk, IfOk, IfSome, List, length, map, min, string_bytes};
+ghost use Rattle.std.specs.Prelude.{◌≡◌, ◌+◌, ◌-◌, ◌^◌, ◌<◌, ◌≤◌, ◌↔◌, ◌++◌, ℕ, false, IsTrue, IsOk, IfOk, IfSome, List, length, map, min, string_bytes};
 ghost use Rattle.std.specs.Str.{chars, IsUtf8};
-ghost use Rattle.ignore_glob.specs.Exact.{exact_reading, kind_tokens};
+ghost use Rattle.ignore_glob.specs.Exact.{exact_reading, kind_tokens, front_tokens};
+ghost use Rattle.ignore_glob.specs.Glob.{literal};
 ghost use Rattle.ignore_glob.specs.Forms.{key_form, form_of};
 ghost use Rattle.ignore_glob.specs.Needles.{HasOneOf};
 ghost use Rattle.ignore_glob.specs.NodeLists.{glob_nodes, nodes_view};
 ghost use Rattle.ignore_glob.specs.Positions.{CountsMarks, positions};
 ghost use Rattle.ignore_glob.specs.Reading.{Matches};
-ghost use Rattle.ignore_glob.specs.View.{tokens_view};
+ghost use Rattle.ignore_glob.specs.View.{view, tokens_view};
 
 use crate::glob::ending::{has_end, has_name};
 use crate::glob::exact_marks::exact_marks;
@@ -89,6 +90,16 @@ impl Exact {
         (self.matches(text), marks)
     }
 
+    /// The tokens of the glob.
+    pub(crate) fn tokens(&self) -> Result<Vec<Token>, AllocError>
+        ensures tokens { IfOk result (λ tokens. tokens_view tokens.items ≡ self.now.tokens) }
+        ensures case { self.now.case_insensitive ≡ false }
+    {
+        let mut tokens = front_of(*self.text.allocator(), self.kind)?;
+        push_literals(&mut tokens, self.text.as_str())?;
+        Ok(tokens)
+    }
+
     /// How many positions the glob has: one for each character, two for `**/` and one for `*`.
     pub(crate) fn positions(&self) -> usize
         ensures { result ≡ positions self.now.tokens }
@@ -120,6 +131,36 @@ impl Exact {
     {
         alone(*self.text.allocator(), self.text.as_str())
     }
+}
+
+/// The tokens before the literals.
+#[tactic(auto, using(crate::proofs::Views::view_equations))]
+fn front_of(alloc: Global, kind: Kind) -> Result<Vec<Token>, AllocError>
+    ensures { IfOk result (λ tokens. map view tokens.items ≡ front_tokens kind) }
+{
+    let mut tokens = Vec::new(alloc);
+    match kind {
+        Kind::Whole => Ok(tokens),
+        Kind::Name => {
+            tokens.push(Token::RecursiveStart)?;
+            Ok(tokens)
+        }
+        Kind::End => {
+            tokens.push(Token::RecursiveStart)?;
+            tokens.push(Token::Star)?;
+            Ok(tokens)
+        }
+    }
+}
+
+/// Appends the literals of a text.
+fn push_literals(tokens: &mut Vec<Token>, text: &str) -> Result<(), AllocError>
+    ensures { IfOk result (λ _. map view tokens.new.items ≡ map view tokens.old.items ++ map literal (chars text.now)) }
+{
+    for c in text.chars() {
+        tokens.push(Token::Literal(c))?;
+    }
+    Ok(())
 }
 
 impl Clone for Exact {

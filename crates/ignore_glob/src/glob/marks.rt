@@ -156,7 +156,7 @@ fn step(fold: bool, nodes: &[Node], from: &Flags, c: char, flags: &mut Flags)
 }
 
 /// The positions that are marked at offset 0.
-fn first_marks(alloc: Global, nodes: &[Node]) -> Result<Flags, AllocError>
+pub(crate) fn first_marks(alloc: Global, nodes: &[Node]) -> Result<Flags, AllocError>
     requires { AllLeadOn (nodes_view nodes.now) }
     ensures { IfOk result (λ flags. AreFlags (nodes_view nodes.now) (Reached (nodes_view nodes.now) (λ q. q ≡ 0)) flags.all.items) }
 {
@@ -167,7 +167,7 @@ fn first_marks(alloc: Global, nodes: &[Node]) -> Result<Flags, AllocError>
 }
 
 /// The positions that are marked past one more character, where those before it are `from`.
-fn advance(fold: bool, nodes: &[Node], from: &Flags, c: char, flags: &mut Flags)
+pub(crate) fn advance(fold: bool, nodes: &[Node], from: &Flags, c: char, flags: &mut Flags)
     requires on { AllLeadOn (nodes_view nodes.now) }
     requires from { length from.now.all.items ≡ length nodes.now + 1 }
     requires len { length flags.old.all.items ≡ length nodes.now + 1 }

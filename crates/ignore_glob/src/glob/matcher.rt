@@ -65,6 +65,19 @@ impl Matcher {
         }
     }
 
+    /// The automaton of the glob, also where texts are compared with its literals.
+    pub(crate) fn automaton(&self) -> Result<Automaton, AllocError>
+        ensures { IfOk result (λ automaton. automaton ≡ reading_of self.now) }
+    {
+        match self {
+            Matcher::Exact(exact) => {
+                let tokens = exact.tokens()?;
+                Automaton::from_tokens(tokens, false)
+            }
+            Matcher::Automaton(automaton) => automaton.as_ref().clone(),
+        }
+    }
+
     /// How many positions the glob has.
     pub(crate) fn positions(&self) -> usize
         ensures { result ≡ positions (reading_of self.now).tokens }
