@@ -1,0 +1,5 @@
+pub mod Deciders
+pub mod Walks
+pub mod Closed
+pub mod Pairs
+pub mod RowLemmas

@@ -1,0 +1,5 @@
+pub mod Questions
+pub mod Names
+pub mod Machines
+pub mod Rows
+pub mod Sets
