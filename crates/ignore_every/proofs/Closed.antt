@@ -30,14 +30,14 @@ module _ (reached : Bool) (rules : List Rule) (letters : List ℕ) (table : Tabl
   -- one more character, where paths go on by the one that stands for its letter
   goes : (u : Chars) (n : NameStart) (c : ℕ) (s : Arrives u n) (a r : ℕ) → slice_get letters a ≡ Some r
       → ((i : ℕ) (rule : Rule) → slice_get rules i ≡ Some rule → (text : Chars) (flags : List Bool)
-        → IsSetAfter rule.reading (text ++ r ∷ []) flags → IsSetAfter rule.reading (text ++ c ∷ []) flags)
+      → IsSetAfter rule.reading (text ++ r ∷ []) flags → IsSetAfter rule.reading (text ++ c ∷ []) flags)
       → is_slash r ≡ is_slash c → eqb r 46 ≡ eqb c 46 → goes_on reached rules table s.place r ≡ true → Arrives (u ++ c ∷ []) (name_after n c)
   goes u n c s a r at alike slashes dots free =
       let step = closed.steps s.i a s.place r s.at at free in
       let there = step.1 in
       let sets = right.1.steps s.place.state a there.state r step.3 at u s.sets in
       let named : name_after s.place.name r ≡ name_after n c =
-        λ i. cond (slashes i) Empty (cond (dots i) (after_dot (s.name i)) Named) in
+      λ i. cond (slashes i) Empty (cond (dots i) (after_dot (s.name i)) Named) in
       record {
         i = step.0;
         place = there;

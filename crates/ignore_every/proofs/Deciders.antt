@@ -61,6 +61,6 @@ ignores_then rules text is_dir (Some k) last known = go (slice_get rules k) refl
     go (Some rule) at right = (
       rule,
       last_answers rules text is_dir k rule at (last.2 rule at)
-      (λ i later less is. last.3 i later less (slice_get_within rules i later is) is)
-      ∙ flag rule rule.is_whitelist refl right,
+          (λ i later less is. last.3 i later less (slice_get_within rules i later is) is)
+          ∙ flag rule rule.is_whitelist refl right,
     )

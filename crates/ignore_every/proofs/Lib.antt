@@ -3,3 +3,4 @@ pub mod Walks
 pub mod Closed
 pub mod Pairs
 pub mod RowLemmas
+mod WorkedPaths

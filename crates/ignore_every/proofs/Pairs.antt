@@ -51,22 +51,22 @@ module _ (rules : List Rule) (low mid high : ℕ) (order : low ≤ mid) (more : 
   pairing_right letters left right table parts l r pairing =
       let sets : ℕ → ℕ → List Bool = λ s. joined (l.0 (parts s).0) (r.0 (parts s).1) in
       let start : AreSetsAfter rules low high (sets 0) [] =
-        subst (λ (p : ℕ × ℕ). AreSetsAfter rules low high (joined (l.0 p.0) (r.0 p.1)) []) (sym pairing.first)
-        (both_sets (l.0 0) (r.0 0) [] l.1.first r.1.first) in (
+      subst (λ (p : ℕ × ℕ). AreSetsAfter rules low high (joined (l.0 p.0) (r.0 p.1)) []) (sym pairing.first)
+      (both_sets (l.0 0) (r.0 0) [] l.1.first r.1.first) in (
         sets,
         record {
           first = start;
           steps = λ s a t c goes at text all.
-            (let to = pairing.steps s a t goes in
-            both_sets (l.0 (parts t).0) (r.0 (parts t).1) (text ++ c ∷ [])
-            (l.1.steps (parts s).0 a (parts t).0 c to.0 at text (left_sets (l.0 (parts s).0) (r.0 (parts s).1) text all))
-            (r.1.steps (parts s).1 a (parts t).1 c to.1 at text (right_sets (l.0 (parts s).0) (r.0 (parts s).1) text all)));
+              (let to = pairing.steps s a t goes in
+              both_sets (l.0 (parts t).0) (r.0 (parts t).1) (text ++ c ∷ [])
+              (l.1.steps (parts s).0 a (parts t).0 c to.0 at text (left_sets (l.0 (parts s).0) (r.0 (parts s).1) text all))
+              (r.1.steps (parts s).1 a (parts t).1 c to.1 at text (right_sets (l.0 (parts s).0) (r.0 (parts s).1) text all)));
           decides = λ s is_dir k is text all.
-            (let from = pairing.decides s is_dir k is in
-            subst (λ o. IsLastOf rules low high text is_dir o) (sym from.4)
-            (last_of_both text is_dir from.0 from.1
-            (l.1.decides (parts s).0 is_dir from.0 from.2 text (left_sets (l.0 (parts s).0) (r.0 (parts s).1) text all))
-            (r.1.decides (parts s).1 is_dir from.1 from.3 text (right_sets (l.0 (parts s).0) (r.0 (parts s).1) text all))));
+              (let from = pairing.decides s is_dir k is in
+              subst (λ o. IsLastOf rules low high text is_dir o) (sym from.4)
+              (last_of_both text is_dir from.0 from.1
+              (l.1.decides (parts s).0 is_dir from.0 from.2 text (left_sets (l.0 (parts s).0) (r.0 (parts s).1) text all))
+              (r.1.decides (parts s).1 is_dir from.1 from.3 text (right_sets (l.0 (parts s).0) (r.0 (parts s).1) text all))));
         },
       )
 
@@ -103,7 +103,7 @@ module _ (rules : List Rule) (index : ℕ) (rule : Rule) (place : slice_get rule
       first = one_sets (sets 0) [] leaf.first;
       steps = λ s a t c goes at text all. one_sets (sets t) (text ++ c ∷ []) (leaf.steps s a t c goes at text (one_set (sets s) text all));
       decides = λ s is_dir k is text all.
-        subst (λ o. IsLastOf rules index (index + 1) text is_dir o) (sym (leaf.decides s is_dir k is text (one_set (sets s) text all)))
-        (one_last text is_dir (does_apply text is_dir rule) refl);
+          subst (λ o. IsLastOf rules index (index + 1) text is_dir o) (sym (leaf.decides s is_dir k is text (one_set (sets s) text all)))
+          (one_last text is_dir (does_apply text is_dir rule) refl);
     },
   )

@@ -3,3 +3,4 @@ pub mod Names
 pub mod Machines
 pub mod Rows
 pub mod Sets
+pub mod Letters

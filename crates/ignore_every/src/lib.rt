@@ -2,6 +2,9 @@
 #![tactic(auto)]
 
 pub mod laws;
+mod leaf;
+mod letters;
 mod pair;
 mod place;
+mod places;
 mod row;

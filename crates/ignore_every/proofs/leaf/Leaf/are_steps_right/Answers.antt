@@ -1,0 +1,14 @@
+use Rattle.std.proofs.Common.{◌≡◌, ℕ, ◌<◌, ◌≤◌, Some, None, arith, below_more, inl, inr}
+use Rattle.std.proofs.lemmas.Bool.{cases_lt}
+use Rattle.ignore_every.specs.Rows.{next_of}
+use Rattle.ignore_every.proofs.leaf.Leaf.are_steps_right.Goals as goal
+
+pub loop-letter-preserved : goal.loop-letter-preserved
+loop-letter-preserved c =
+    below_more _ _ c.loop-letter.invariant (c.in_ok-is_right.ensures c.if-not-is_right.false)
+
+pub returns : goal.returns
+returns c = λ right a. elim (cases_lt a c.loop-letter.letter) [
+  | inl h ↦ c.loop-letter.invariant a h
+  | inr h ↦ λ t d is. (let none : next_of c.deref.result.now c.args.state a ≡ None = c.row_length-letters_of_row.ensures a (omega (arith, h, c.loop-letter-test.false)) in absurd (cc (none, is, c.deref.ensures.value)))
+]
