@@ -1,0 +1,3 @@
+pub mod EnterLemmas
+pub mod FreeLemmas
+pub mod StandLemmas

@@ -1,0 +1,3 @@
+pub mod Guide
+pub mod Names
+pub mod Places

@@ -1,0 +1,28 @@
+-- When a guide does nothing.
+use Rattle.std.specs.Prelude.{◌≡◌, Bool, true, false, not, ◌&&◌, None}
+use Rattle.ignore_base.specs.Paths.{has_slash, is_proper}
+use Rattle.ignore_base.specs.Text.{Bytes}
+use Rattle.ignore_guide.specs.Places.{entered_at, has_children_at}
+use Rattle.ignore_guide.specs.declared.error.GuideError.{GuideError}
+use Rattle.ignore_guide.specs.declared.error.GuideError.TheVariants as error
+use Rattle.ignore_guide.specs.declared.places.Place.{Place}
+use Rattle.ignore_guide.specs.declared.places.Places.{Places}
+
+-- a text is the name of an entry: it isn't empty, `.` or `..`, and has no slash
+abbrev pub is_name : Bytes → Bool
+is_name name = is_proper name && not (has_slash name)
+
+-- why a call for a name in the directory at a place did nothing, but for memory: the place is none;
+-- it is one, and the name is none
+abbrev pub IsRefused : Places → Place → Bytes → GuideError → Type 0
+IsRefused places place name error.Memory = Unit {0}
+IsRefused places place name error.NoPlace = entered_at places place ≡ None
+IsRefused places place name error.NoName = is_name name ≡ false
+IsRefused places place name error.HasChildren = ⊥
+
+-- why a directory wasn't left: the place is none, or a directory in it was entered and not left
+abbrev pub IsNotLeft : Places → Place → GuideError → Type 0
+IsNotLeft places place error.Memory = ⊥
+IsNotLeft places place error.NoPlace = entered_at places place ≡ None
+IsNotLeft places place error.NoName = ⊥
+IsNotLeft places place error.HasChildren = has_children_at places place ≡ true

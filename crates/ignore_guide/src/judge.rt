@@ -1,0 +1,130 @@
+//! What becomes of an entry of a directory that was entered.
+ghost use Rattle.std.specs.Prelude.{◌≡◌, ◌++◌, ℕ, Bool, IfOk, IfErr, false, string_bytes};
+ghost use Rattle.ignore_base.specs.Paths.{join_of};
+ghost use Rattle.ignore_dir.specs.Limits.{size_limit};
+ghost use Rattle.ignore_dir.specs.Steps.{Reached, entry, verdict_at};
+ghost use Rattle.ignore_guide.specs.Guide.{Stands, StandsFor, decided, is_over, within};
+ghost use Rattle.ignore_guide.specs.Names.{IsRefused, is_name};
+ghost use Rattle.ignore_levels.specs.Levels.{slots_of};
+
+use crate::error::GuideError;
+use crate::guide::Guide;
+use crate::places::{Entered, Place};
+use ignore_base::internal::join;
+use ignore_base::text::{has_slash, is_proper};
+use ignore_dir::limits::{is_beyond, size_limit};
+use ignore_dir::verdict::Verdict;
+use ignore_dir::{Asked, IncrementalMatch, Settings};
+use ignore_levels::laws::what_counts_decides;
+use ignore_levels::verdict;
+use std::alloc::{AllocError, Global};
+
+/// An entry of a directory, as its host knows it.
+#[derive(Clone, Copy, Debug)]
+pub struct Entry<'n> {
+    /// Its name.
+    pub name: &'n str,
+    /// Whether it is a directory: what it leads to, where a host follows links.
+    pub is_dir: bool,
+    /// Its size in bytes, if it is known. It matters where the settings have a greatest size.
+    pub size: Option<u64>,
+}
+
+/// Whether a text is the name of an entry: it isn't empty, `.` or `..`, and has no slash.
+pub(crate) fn is_name(name: &str) -> bool
+    ensures { result ≡ is_name name.now }
+{
+    is_proper(name) && !has_slash(name)
+}
+
+/// A text with a name after it.
+pub(crate) fn followed_by(alloc: Global, text: &str, name: &str) -> Result<String, AllocError>
+    ensures { IfOk result (λ whole. string_bytes whole ≡ text.now ++ name.now) }
+{
+    let len = text.len().saturating_add(name.len()).saturating_add(1);
+    let mut whole = String::with_capacity(alloc, len)?;
+    whole.push_str(text)?;
+    whole.push_str(name)?;
+    Ok(whole)
+}
+
+/// Whether a size is above a limit, where both are known.
+fn is_over(most: Option<u64>, size: Option<u64>) -> bool
+    ensures { result ≡ is_over most size }
+{
+    match most {
+        None => false,
+        Some(most) => match size {
+            None => false,
+            Some(size) => most < size,
+        },
+    }
+}
+
+/// The verdict, and ignore for what is larger than the limit.
+fn within(settings: &Settings, is_dir: bool, size: Option<u64>, verdict: Verdict) -> Verdict
+    ensures { result ≡ within settings.now is_dir size verdict }
+{
+    if is_over(size_limit(settings, is_dir, verdict), size) {
+        Verdict::Ignore
+    } else {
+        verdict
+    }
+}
+
+impl Guide {
+    /// What the rules say of an entry of a directory.
+    fn verdict_in(&self, dir: &Entered, name: &str, is_dir: bool) -> Result<Verdict, AllocError>
+        ensures value { (at : Reached) → Stands (slots_of self.now.levels) dir.now at
+            → IfOk result (λ v. v ≡ verdict_at self.now.settings self.now.outside (entry at name.now) is_dir) }
+    {
+        what_counts_decides();
+        let text = followed_by(self.alloc, dir.text.as_str(), name)?;
+        let path = join(self.alloc, dir.path.as_str(), name)?;
+        let asked = Asked {
+            text: text.as_str(),
+            path: path.as_str(),
+            is_dir,
+        };
+        verdict(
+            &self.settings,
+            &self.outside,
+            &self.levels,
+            dir.level,
+            &asked,
+        )
+    }
+
+    /// What becomes of an entry of a directory.
+    fn decide_in(&self, dir: &Entered, asked: &Entry<'_>) -> Result<IncrementalMatch, AllocError>
+        ensures value { (at : Reached) → Stands (slots_of self.now.levels) dir.now at
+            → IfOk result (λ m. m ≡ decided self.now.settings self.now.outside dir.now.depth at asked.now.name.now asked.now.is_dir asked.now.size) }
+    {
+        if is_beyond(&self.settings, dir.depth, asked.is_dir) {
+            return Ok(IncrementalMatch::beyond());
+        }
+        let found = self.verdict_in(dir, asked.name, asked.is_dir)?;
+        let found = within(&self.settings, asked.is_dir, asked.size, found);
+        Ok(IncrementalMatch::limited(&self.settings, dir.depth, asked.is_dir, found))
+    }
+
+    /// What becomes of an entry of the directory at a place: its verdict, whether a walk goes on
+    /// below it, and whether it is within the limits on depth. It doesn't depend on what was asked
+    /// before, and nothing is kept of it.
+    ///
+    /// # Errors
+    /// Out of memory, a place that is none, and a name that is none.
+    pub fn decide(&self, place: Place, asked: &Entry<'_>) -> Result<IncrementalMatch, GuideError>
+        ensures value { (depth : ℕ) (at : Reached) → StandsFor self.now place depth at
+            → IfOk result (λ m. m ≡ decided self.now.settings self.now.outside depth at asked.now.name.now asked.now.is_dir asked.now.size) }
+        ensures refused { IfErr result (λ e. IsRefused self.now.places place asked.now.name.now e) }
+    {
+        let Some(dir) = self.places.get(place) else {
+            return Err(GuideError::NoPlace);
+        };
+        if !is_name(asked.name) {
+            return Err(GuideError::NoName);
+        }
+        Ok(self.decide_in(dir, asked)?)
+    }
+}
