@@ -13,6 +13,7 @@ use Rattle.ignore_base.specs.declared.error.Error.{Error}
 use Rattle.ignore_walk.specs.Entry.{Item, item_of}
 use Rattle.ignore_walk.specs.declared.entry.DirEntry.{DirEntry}
 use Rattle.commands.proofs.LineLemmas.{appends_on}
+use Rattle.ig_options.specs.declared.options.Options.{Options}
 use Rattle.ig_commands.specs.Counts.{counted, one_more}
 use Rattle.ig_commands.specs.Reports.{Notes, last_at, last_in, path_at, path_of, reports_after, reports_of}
 
@@ -33,16 +34,16 @@ last_more (x ∷ xs) item depth =
     ∙ or_assoc (path_at depth item) (last_at xs depth) (path_at depth x)
 
 -- what is reported of some items and one more
-reports_more : (before items : List Item) (item : Item)
-    → reports_after before (items ++ item ∷ []) ≡ reports_after before items ++ reports_of (last_at (before ++ items)) item
-reports_more before [] item =
-    append-nil (reports_of (last_at before) item)
-    ∙ ap (λ (bs : List Item). reports_of (last_at bs) item) (sym (append-nil before))
-reports_more before (x ∷ xs) item =
-    let here = reports_of (last_at before) x in
-    ap (λ (bs : List ℕ). here ++ bs) (reports_more (before ++ x ∷ []) xs item)
-    ∙ (sym (append_assoc here (reports_after (before ++ x ∷ []) xs) (reports_of (last_at ((before ++ x ∷ []) ++ xs)) item))
-    ∙ ap (λ (bs : List Item). (here ++ reports_after (before ++ x ∷ []) xs) ++ reports_of (last_at bs) item)
+reports_more : (o : Options) (before items : List Item) (item : Item)
+    → reports_after o before (items ++ item ∷ []) ≡ reports_after o before items ++ reports_of o (last_at (before ++ items)) item
+reports_more o before [] item =
+    append-nil (reports_of o (last_at before) item)
+    ∙ ap (λ (bs : List Item). reports_of o (last_at bs) item) (sym (append-nil before))
+reports_more o before (x ∷ xs) item =
+    let here = reports_of o (last_at before) x in
+    ap (λ (bs : List ℕ). here ++ bs) (reports_more o (before ++ x ∷ []) xs item)
+    ∙ (sym (append_assoc here (reports_after o (before ++ x ∷ []) xs) (reports_of o (last_at ((before ++ x ∷ []) ++ xs)) item))
+    ∙ ap (λ (bs : List Item). (here ++ reports_after o (before ++ x ∷ []) xs) ++ reports_of o (last_at bs) item)
     (append_assoc before (x ∷ []) xs))
 
 -- a table of the last entries keeps them by one item more
@@ -56,15 +57,15 @@ notes_more items item old new h k depth =
     ∙ ap (λ (is : List Item). last_at is depth) (sym (map-append item_of items (item ∷ [])))))
 
 -- one item more is reported
-pub told_more : (items : List (Result DirEntry Error)) (item : Result DirEntry Error) (table : ℕ → Option (List ℕ))
+pub told_more : (o : Options) (items : List (Result DirEntry Error)) (item : Result DirEntry Error) (table : ℕ → Option (List ℕ))
     (a b c : Option (List ℕ)) → ((depth : ℕ) → table depth ≡ last_at (map item_of items) depth)
-    → Appends a b (reports_after [] (map item_of items)) → Appends b c (reports_of table (item_of item))
-    → Appends a c (reports_after [] (map item_of (items ++ item ∷ [])))
-told_more items item table a b c h before here =
+    → Appends a b (reports_after o [] (map item_of items)) → Appends b c (reports_of o table (item_of item))
+    → Appends a c (reports_after o [] (map item_of (items ++ item ∷ [])))
+told_more o items item table a b c h before here =
     let same : table ≡ last_at (map item_of items) = λ j depth. h depth j in
-    let told = subst (λ (t : ℕ → Option (List ℕ)). Appends b c (reports_of t (item_of item))) same here in
+    let told = subst (λ (t : ℕ → Option (List ℕ)). Appends b c (reports_of o t (item_of item))) same here in
     subst (Appends a c)
-    (sym (ap (reports_after []) (map-append item_of items (item ∷ [])) ∙ reports_more [] (map item_of items) (item_of item)))
+    (sym (ap (reports_after o []) (map-append item_of items (item ∷ [])) ∙ reports_more o [] (map item_of items) (item_of item)))
     (appends_on a b c _ _ before told)
 
 counted_more : (n : ℕ) (bs : List Bool) (b : Bool) → counted n (bs ++ b ∷ []) ≡ one_more (counted n bs) b

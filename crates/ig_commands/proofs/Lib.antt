@@ -11,9 +11,11 @@ pub mod MemberLemmas
 pub mod MetLemmas
 pub mod OrderLemmas
 pub mod ReportLemmas
+pub mod RepositoryLemmas
 pub mod RootLemmas
 pub mod RuleLemmas
 pub mod RunLemmas
+pub mod ShownLemmas
 pub mod StopLemmas
 pub mod SurveyLemmas
 pub mod TurnLemmas
@@ -22,5 +24,6 @@ pub mod UnusedLemmas
 pub mod WalkLemmas
 pub mod WhyLemmas
 pub mod WorkedLines
+pub mod WorkedRepositories
 pub mod WorkedUnused
 pub mod WorkedWorktree

@@ -9,6 +9,7 @@ pub mod Root
 pub mod Why
 pub mod Surveys
 pub mod Worktree
+pub mod Repositories
 pub mod Ignored
 pub mod Unused
 pub mod Rules

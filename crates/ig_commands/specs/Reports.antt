@@ -11,6 +11,7 @@ use Rattle.ignore_base.specs.Problem.{Problem, several, at_line, at_path, at_dep
 use Rattle.ignore_base.specs.Problem.{memory}
 use Rattle.ignore_walk.specs.Entry.{Item, entry_of}
 use Rattle.ignore_walk.specs.declared.entry.DirEntry.{DirEntry}
+use Rattle.ig_options.specs.declared.options.Options.{Options}
 
 -- the text of a problem, and the end of its line
 abbrev pub line_text : Problem → Bytes
@@ -30,10 +31,14 @@ abbrev pub is_known : Option Problem → Bool
 is_known None = false
 is_known (Some p) = true
 
+-- a problem of files of rules, where it is to be reported: none with `--no-ignore-messages`
+abbrev pub to_report : Options → Option Problem → Option Problem
+to_report o problem = if o.no_ignore_messages then None else problem
+
 -- something is reported of an item
-abbrev pub is_reported : Item → Bool
-is_reported (Ok (e, p)) = is_known p
-is_reported (Err p) = true
+abbrev pub is_reported : Options → Item → Bool
+is_reported o (Ok (e, p)) = is_known (to_report o p)
+is_reported o (Err p) = true
 
 -- the path of an entry as the code keeps it
 abbrev pub path_of : DirEntry → Path
@@ -89,11 +94,11 @@ abbrev pub fault_line : (ℕ → Option Path) → Problem → Bytes
 fault_line last problem = codes "ig: " ++ placed last (bare_depth problem) (line_text problem)
 
 -- what is reported of an item, where these are the last entries at each depth
-abbrev pub reports_of : (ℕ → Option Path) → Item → Bytes
-reports_of last (Ok (e, p)) = report_of p
-reports_of last (Err p) = fault_line last p
+abbrev pub reports_of : Options → (ℕ → Option Path) → Item → Bytes
+reports_of o last (Ok (e, p)) = report_of (to_report o p)
+reports_of o last (Err p) = fault_line last p
 
 -- what is reported of items in turn, after these
-abbrev pub reports_after : List Item → List Item → Bytes
-reports_after before [] = []
-reports_after before (item ∷ items) = reports_of (last_at before) item ++ reports_after (before ++ item ∷ []) items
+abbrev pub reports_after : Options → List Item → List Item → Bytes
+reports_after o before [] = []
+reports_after o before (item ∷ items) = reports_of o (last_at before) item ++ reports_after o (before ++ item ∷ []) items

@@ -26,7 +26,7 @@ use Rattle.ignore.specs.declared.options.WalkOptions.{WalkOptions}
 use Rattle.ig_options.specs.declared.options.Options.{Options}
 use Rattle.ig_commands.specs.Counts.{capped, counted}
 use Rattle.ig_commands.specs.Listing.{GoesBy, IsAsked}
-use Rattle.ig_commands.specs.Reports.{is_known, report_line, report_of}
+use Rattle.ig_commands.specs.Reports.{is_known, report_line, report_of, to_report}
 
 -- an item of a survey, with what was reported beside its entry
 abbrev pub Seen : Type 0
@@ -38,14 +38,18 @@ seen_of (Ok s) = (Ok (entry_of s), option_map problem_of s.error)
 seen_of (Err e) = (Err (problem_of e), None)
 
 -- what is reported of an item: what is wrong beside the entry, or stands in its place
-abbrev pub reports : Seen → Bytes
-reports (Ok e, problem) = report_of problem
-reports (Err p, problem) = report_line p
+abbrev pub reports : Options → Seen → Bytes
+reports o (Ok e, problem) = report_of (to_report o problem)
+reports o (Err p, problem) = report_line p
+
+-- what is reported of some items in turn
+abbrev pub told_in : Options → List Seen → Bytes
+told_in o seen = flat_map (reports o) seen
 
 -- something is reported of an item
-abbrev pub is_wrong : Seen → Bool
-is_wrong (Ok e, problem) = is_known problem
-is_wrong (Err p, problem) = true
+abbrev pub is_wrong : Options → Seen → Bool
+is_wrong o (Ok e, problem) = is_known (to_report o problem)
+is_wrong o (Err p, problem) = true
 
 -- the problem beside an entry is that of what the query for it loads, where `old` is kept, which
 -- leaves `new`
@@ -99,9 +103,13 @@ OfMatcher files f P m r =
 abbrev pub all_seen : List OfRoot → List Seen
 all_seen all = flat_map (λ r. r.1) all
 
+-- what is reported of the items of all roots
+abbrev pub all_told : Options → List OfRoot → Bytes
+all_told o all = flat_map (λ r. told_in o r.1) all
+
 -- how many times something was reported, those of the files that are named included
-abbrev pub wrong_in : List (Option Problem) → List OfRoot → ℕ
-wrong_in problems all = capped (counted 0 (map is_wrong (all_seen all)) + counted 0 (map is_known problems))
+abbrev pub wrong_in : Options → List (Option Problem) → List OfRoot → ℕ
+wrong_in o problems all = capped (counted 0 (map (is_wrong o) (all_seen all)) + counted 0 (map is_known problems))
 
 -- these are the items of the survey of each root that is asked for, without the slashes at its end:
 -- by the settings of a walk, and by the rules from outside as they were read

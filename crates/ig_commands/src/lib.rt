@@ -8,6 +8,7 @@ mod ignored;
 mod input;
 mod listing;
 mod reports;
+mod repositories;
 mod root;
 mod rules;
 pub mod run;

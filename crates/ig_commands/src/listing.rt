@@ -15,13 +15,13 @@ ghost use Rattle.ignore_walk.specs.GoesOn.{HasNoEnd};
 ghost use Rattle.ignore_walk.specs.declared.entry.DirEntry.{DirEntry};
 ghost use Rattle.ig_options.specs.Settings.{most_steps};
 ghost use Rattle.ig_commands.specs.Listing.{AreBegun, AreFirst, AreListed, Begins, EndsAsked, GoesBy, Lists, ListsAsked, Writes, all_reports, listing};
-ghost use Rattle.ig_commands.specs.Reports.{Notes, is_known, is_reported, last_in, report_of, reports_after, reports_of};
+ghost use Rattle.ig_commands.specs.Reports.{Notes, is_known, is_reported, last_in, report_of, reports_after, reports_of, to_report};
 ghost use Rattle.ig_commands.specs.Stops.{EndsAfter};
 ghost use Rattle.ig_commands.specs.Writing.{is_found, is_listed, lines_of};
 
 use crate::asking::{Asked, asked_for};
 use crate::counts::{Counts, Seen, report_counts, status_of};
-use crate::reports::{Folders, report_all, report_fault, report_some};
+use crate::reports::{Folders, report_all, report_fault, report_rules};
 use crate::stop::Stop;
 use crate::writing::{is_listed, refuse_or_end, write_path};
 use commands::World;
@@ -77,7 +77,7 @@ fn report_and_walk<F: Files, W: Write, E: Write>(
         status (Appends (W.contents out.old) (W.contents out.new)) (Appends (E.contents err.old) (E.contents err.new))
         × ((tree : Tree) → IsHonest F.Files world.now.files.now tree → AreListed tree world.now.env.now options.now asked.walk items)) }
     ensures ended { IfErr result (λ stop. (items : List Item) × EndsAfter (flat_map (lines_of options.now) items)
-        (all_reports (map (option_map problem_of) asked.errors.items) items) (Appends (W.contents out.old) (W.contents out.new)) (Appends (E.contents err.old) (E.contents err.new)) stop
+        (all_reports options.now (map (option_map problem_of) asked.errors.items) items) (Appends (W.contents out.old) (W.contents out.new)) (Appends (E.contents err.old) (E.contents err.new)) stop
         × ((tree : Tree) → IsHonest F.Files world.now.files.now tree → AreFirst tree world.now.env.now options.now asked.walk items)) }
 {
     let reported = report_all(&asked.errors, err)?;
@@ -101,7 +101,7 @@ fn walk_and_write<F: Files, W: Write, E: Write>(
     ensures lists { IfOk result (λ counts. (items : List Item) × Writes options.now items counts.reported counts.found (Appends (W.contents out.old) (W.contents out.new)) (Appends (E.contents err.old) (E.contents err.new))
         × ((tree : Tree) → IsHonest F.Files world.now.files.now tree → AreListed tree world.now.env.now options.now walk items)) }
     ensures ended { IfErr result (λ stop. (items : List Item) × EndsAfter (flat_map (lines_of options.now) items)
-        (reports_after [] items) (Appends (W.contents out.old) (W.contents out.new)) (Appends (E.contents err.old) (E.contents err.new)) stop
+        (reports_after options.now [] items) (Appends (W.contents out.old) (W.contents out.new)) (Appends (E.contents err.old) (E.contents err.new)) stop
         × ((tree : Tree) → IsHonest F.Files world.now.files.now tree → AreBegun tree world.now.env.now options.now walk items)) }
 {
     let Ok(steps) = walk_of(world, options, walk) else {
@@ -161,7 +161,7 @@ fn write_items<I: Iterator<Item = Item>, W: Write, E: Write>(
         × Writes options.now (map item_of all) counts.reported counts.found (Appends (W.contents out.old) (W.contents out.new)) (Appends (E.contents err.old) (E.contents err.new))) }
     ensures ended { IfErr result (λ stop. (all : List (Result DirEntry Error)) × (x : Result DirEntry Error) × (v : I)
         × YieldsThen I.next_gives items all (Some x) v
-        × EndsAfter (flat_map (lines_of options.now) (map item_of all)) (reports_after [] (map item_of all)) (Appends (W.contents out.old) (W.contents out.new)) (Appends (E.contents err.old) (E.contents err.new)) stop) }
+        × EndsAfter (flat_map (lines_of options.now) (map item_of all)) (reports_after options.now [] (map item_of all)) (Appends (W.contents out.old) (W.contents out.new)) (Appends (E.contents err.old) (E.contents err.new)) stop) }
 {
     let mut folders = BTreeMap::new(alloc);
     let mut counts = Counts::begun(0);
@@ -181,8 +181,8 @@ fn write_item<W: Write, E: Write>(
     err: &mut E,
 ) -> Result<Seen, Stop>
     ensures lists { IfOk result (λ seen. Appends (W.contents out.old) (W.contents out.new) (lines_of options.now (item_of item))
-        × Appends (E.contents err.old) (E.contents err.new) (reports_of (last_in folders.old) (item_of item))
-        × (seen.reported ≡ is_reported (item_of item)) × (seen.found ≡ is_found options.now (item_of item))) }
+        × Appends (E.contents err.old) (E.contents err.new) (reports_of options.now (last_in folders.old) (item_of item))
+        × (seen.reported ≡ is_reported options.now (item_of item)) × (seen.found ≡ is_found options.now (item_of item))) }
     ensures notes { OnOk result (Notes (item_of item) (last_in folders.old) (last_in folders.new)) }
     ensures ended { IfErr result (EndsAfter [] [] (Appends (W.contents out.old) (W.contents out.new)) (Appends (E.contents err.old) (E.contents err.new))) }
     ensures enough { OnOk result (item_of item ≢ Err memory) }
@@ -210,8 +210,8 @@ fn note_and_write<W: Write, E: Write>(
     err: &mut E,
 ) -> Result<Seen, Stop>
     ensures lists { IfOk result (λ seen. Appends (W.contents out.old) (W.contents out.new) (lines_of options.now (item_of (Ok entry)))
-        × Appends (E.contents err.old) (E.contents err.new) (reports_of (last_in folders.old) (item_of (Ok entry)))
-        × (seen.reported ≡ is_reported (item_of (Ok entry))) × (seen.found ≡ is_found options.now (item_of (Ok entry)))) }
+        × Appends (E.contents err.old) (E.contents err.new) (reports_of options.now (last_in folders.old) (item_of (Ok entry)))
+        × (seen.reported ≡ is_reported options.now (item_of (Ok entry))) × (seen.found ≡ is_found options.now (item_of (Ok entry)))) }
     ensures notes { OnOk result (Notes (item_of (Ok entry)) (last_in folders.old) (last_in folders.new)) }
     ensures ended { IfErr result (EndsAfter [] [] (Appends (W.contents out.old) (W.contents out.new)) (Appends (E.contents err.old) (E.contents err.new))) }
 {
@@ -233,14 +233,14 @@ fn write_entry<W: Write, E: Write>(
     err: &mut E,
 ) -> Result<Seen, Stop>
     ensures lists { IfOk result (λ seen. Appends (W.contents out.old) (W.contents out.new) (lines_of options.now (item_of (Ok entry.now)))
-        × Appends (E.contents err.old) (E.contents err.new) (report_of (problem_in entry.now))
-        × (seen.reported ≡ is_known (problem_in entry.now)) × (seen.found ≡ is_listed options.now (entry_of entry.now).kind)) }
+        × Appends (E.contents err.old) (E.contents err.new) (report_of (to_report options.now (problem_in entry.now)))
+        × (seen.reported ≡ is_known (to_report options.now (problem_in entry.now))) × (seen.found ≡ is_listed options.now (entry_of entry.now).kind)) }
     ensures ended { IfErr result (EndsAfter [] [] (Appends (W.contents out.old) (W.contents out.new)) (Appends (E.contents err.old) (E.contents err.new))) }
 {
     let found = is_listed(options, entry.file_type());
     if found && !options.quiet {
         write_path(options, entry.path(), out)?;
     }
-    let reported = report_some(entry.error(), err)?;
+    let reported = report_rules(options, entry.error(), err)?;
     Ok(Seen { reported, found })
 }

@@ -4,10 +4,11 @@ ghost use Rattle.std.specs.Io.KnownBytes.{Appends};
 ghost use Rattle.std.specs.List.{flat_map};
 ghost use Rattle.ignore_base.specs.Problem.{problem_of};
 ghost use Rattle.ig_commands.specs.Counts.{counted};
-ghost use Rattle.ig_commands.specs.Reports.{after_place, bare_depth, fault_line, folder_above, is_known, last_in, line_text, path_of, report_of};
+ghost use Rattle.ig_commands.specs.Reports.{after_place, bare_depth, fault_line, folder_above, is_known, last_in, line_text, path_of, report_of, to_report};
 
 use crate::stop::Stop;
 use crate::writing::report;
+use ig_options::Options;
 use ignore_base::Error;
 use ignore_walk::DirEntry;
 use std::collections::BTreeMap;
@@ -97,8 +98,25 @@ pub(crate) fn report_all<E: Write>(errors: &[Option<Error>], err: &mut E) -> Res
     Ok(count)
 }
 
+/// Reports an error of files of rules, if there is one, and unless these aren't to be reported. It
+/// returns whether one is reported.
+pub(crate) fn report_rules<E: Write>(
+    options: &Options,
+    error: Option<&Error>,
+    err: &mut E,
+) -> Result<bool, Stop>
+    ensures reports { IfOk result (λ any. (any ≡ is_known (to_report options.now (option_map (λ e. problem_of e.now) error.entry)))
+        × Appends (E.contents err.old) (E.contents err.new) (report_of (to_report options.now (option_map (λ e. problem_of e.now) error.entry)))) }
+    ensures ended { IfErr result (λ stop. stop ≡ Stop.Silence) }
+{
+    if options.no_ignore_messages {
+        return Ok(false);
+    }
+    report_some(error, err)
+}
+
 /// Reports an error, if there is one. It returns whether there is.
-pub(crate) fn report_some<E: Write>(error: Option<&Error>, err: &mut E) -> Result<bool, Stop>
+fn report_some<E: Write>(error: Option<&Error>, err: &mut E) -> Result<bool, Stop>
     ensures reports { IfOk result (λ any. (any ≡ is_known (option_map (λ e. problem_of e.now) error.entry))
         × Appends (E.contents err.old) (E.contents err.new) (report_of (option_map (λ e. problem_of e.now) error.entry))) }
     ensures ended { IfErr result (λ stop. stop ≡ Stop.Silence) }

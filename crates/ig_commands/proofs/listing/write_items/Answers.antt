@@ -29,10 +29,10 @@ loop-item-preserved g c =
     let h = c.in_ok-one.ensures.lists in
     record {
       lists = grown _ _ _ (lines_of c.args.options.now) l.yielded c.in-Some.item l.invariant.lists h.0;
-      reports = told_more l.yielded c.in-Some.item (last_in l.folders) _ _ _ l.invariant.notes l.invariant.reports h.1;
+      reports = told_more c.args.options.now l.yielded c.in-Some.item (last_in l.folders) _ _ _ l.invariant.notes l.invariant.reports h.1;
       notes = notes_more l.yielded c.in-Some.item (last_in l.folders) (last_in c.write_item.new.folders) l.invariant.notes
           c.in_ok-one.ensures.notes;
-      reported = count_more is_reported l.yielded c.in-Some.item _ _ _ l.invariant.reported c.with-counts.ensures.reported h.2;
+      reported = count_more (is_reported c.args.options.now) l.yielded c.in-Some.item _ _ _ l.invariant.reported c.with-counts.ensures.reported h.2;
       found = count_more (is_found c.args.options.now) l.yielded c.in-Some.item _ _ _ l.invariant.found c.with-counts.ensures.found h.3;
       enough = enough_more l.yielded c.in-Some.item l.invariant.enough c.in_ok-one.ensures.enough;
     }
@@ -47,7 +47,7 @@ returns-in_err-one-clause-ended g c =
       c.in-Some.item,
       c.next.new.self,
       (l.item-iterator, subst (λ t. Yields g.I.Iterator.next_gives t l.yielded l.item-iterator) c.into_iter-item-iterator.ensures.into_iter_gives l.yielded_by, subst (λ r. g.I.Iterator.next_gives l.item-iterator r c.next.new.self) c.in-Some.is c.next.ensures.steps),
-      ends_after (flat_map (lines_of c.args.options.now) (map item_of l.yielded)) (reports_after [] (map item_of l.yielded))
+      ends_after (flat_map (lines_of c.args.options.now) (map item_of l.yielded)) (reports_after c.args.options.now [] (map item_of l.yielded))
           (g.W.Write.contents c.args.out.now) (g.W.Write.contents l.out) (g.W.Write.contents c.write_item.new.out)
           (g.E.Write.contents c.args.err.now) (g.E.Write.contents l.err) (g.E.Write.contents c.write_item.new.err)
           c.in_err-one.field-0.0 l.invariant.lists l.invariant.reports c.in_err-one.ensures.ended,

@@ -12,9 +12,9 @@ use Rattle.ig_commands.proofs.listing.write_items.Given as goal
 abbrev pub invariant-loop-item : goal.invariant-loop-item
 invariant-loop-item g l = record {
   lists : Appends (g.W.Write.contents l.fn.out) (g.W.Write.contents l.out) (flat_map (lines_of l.options) (map item_of l.yielded));
-  reports : Appends (g.E.Write.contents l.fn.err) (g.E.Write.contents l.err) (reports_after [] (map item_of l.yielded));
+  reports : Appends (g.E.Write.contents l.fn.err) (g.E.Write.contents l.err) (reports_after l.options [] (map item_of l.yielded));
   notes : (depth : ℕ) → last_in l.folders depth ≡ last_at (map item_of l.yielded) depth;
-  reported : l.counts.reported ≡ counted 0 (map is_reported (map item_of l.yielded));
+  reported : l.counts.reported ≡ counted 0 (map (is_reported l.options) (map item_of l.yielded));
   found : l.counts.found ≡ counted 0 (map (is_found l.options) (map item_of l.yielded));
   enough : All (λ (item : Item). item ≢ Err memory) (map item_of l.yielded);
 }

@@ -8,7 +8,7 @@ use Rattle.ignore_base.specs.Problem.{memory}
 use Rattle.ignore_base.specs.declared.error.Error.{Error}
 use Rattle.ignore_survey.specs.Surveyed.{item_of}
 use Rattle.ignore_survey.specs.declared.surveyed.Surveyed.{Surveyed}
-use Rattle.ig_commands.specs.Surveys.{is_wrong, reports, seen_of}
+use Rattle.ig_commands.specs.Surveys.{is_wrong, reports, seen_of, told_in}
 use Rattle.ig_commands.proofs.EndLemmas.{ends_quiet}
 use Rattle.ig_commands.proofs.GrowLemmas.{grows_by, grows_none}
 use Rattle.ig_commands.proofs.TurnLemmas.{counts_more_by, text_more_by}
@@ -39,8 +39,8 @@ loop-item-preserved g c =
     let h = c.in_ok-more.ensures in
     record {
       runs = it.again runs item c.in-Some.is (c.next.ensures.steps, c.next.ensures.goes) (
-        text_more_by seen_of reports runs.seen item _ _ _ runs.holds.0 h.reports,
-        counts_more_by seen_of is_wrong runs.seen item _ _ _ runs.holds.1 (search rules) h.wrong,
+        text_more_by seen_of (reports c.args.options.now) runs.seen item _ _ _ runs.holds.0 h.reports,
+        counts_more_by seen_of (is_wrong c.args.options.now) runs.seen item _ _ _ runs.holds.1 (search rules) h.wrong,
         All-push (λ x. item_of x ≢ Err memory) runs.seen item runs.holds.2 h.enough,
         grows_by runs.seen item c.args.found.now.used l.found.used c.find_by.new.found.used runs.holds.3 h.used,
       );
@@ -63,7 +63,7 @@ returns-in_err-more-clause-ended g c =
       c.in-Some.item,
       c.next.new.self,
       it.Gave-then runs c.in-Some.is c.next.ensures.steps,
-      ends_quiet (flat_map reports (map seen_of runs.seen)) (λ bs. bs ≡ [])
+      ends_quiet (told_in c.args.options.now (map seen_of runs.seen)) (λ bs. bs ≡ [])
           (g.E.Write.contents c.args.err.now) (g.E.Write.contents l.err) (g.E.Write.contents c.find_by.new.err)
           c.in_err-more.field-0.0 runs.holds.0 c.in_err-more.ensures.ended,
       runs.holds.2,

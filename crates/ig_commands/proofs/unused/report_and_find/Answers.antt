@@ -11,7 +11,7 @@ use Rattle.ig_commands.specs.Counts.{counted}
 use Rattle.ig_commands.specs.Found.{Finds, deciding, met, read_in}
 use Rattle.ig_commands.specs.Listing.{GoesBy}
 use Rattle.ig_commands.specs.Reports.{report_of}
-use Rattle.ig_commands.specs.Surveys.{IsBegun, OfRoot, all_seen, is_wrong, reports}
+use Rattle.ig_commands.specs.Surveys.{IsBegun, OfRoot, all_seen, all_told, is_wrong}
 use Rattle.ig_commands.proofs.EndLemmas.{ends_out, ends_write}
 use Rattle.ig_commands.proofs.GrowLemmas.{grown_at}
 use Rattle.ig_commands.proofs.ReportLemmas.{counts_told, reported_as, status_as, wrong_as}
@@ -49,11 +49,11 @@ returns-in_err-more-clause-ended g c =
     rw (p.1, p.2) (
       all,
       ends_after_reports [] (flat_map report_of (map (option_map problem_of) c.args.asked.errors.items))
-          (flat_map reports (all_seen all)) (Appends out out)
+          (all_told o all) (Appends out out)
           (g.E.Write.contents c.args.err.now) (g.E.Write.contents c.report_all.new.err) (g.E.Write.contents c.find_all.new.err)
           c.in_err-more.field-0.0
           (reported_as c.deref.result.now c.args.asked.errors.items (g.E.Write.contents c.args.err.now) (g.E.Write.contents c.report_all.new.err) c.deref.ensures.value c.in_ok-reported.ensures.reports.1)
-          (ends_out (flat_map reports (all_seen all)) out
+          (ends_out (all_told o all) out
           (Appends (g.E.Write.contents c.report_all.new.err) (g.E.Write.contents c.find_all.new.err)) c.in_err-more.field-0.0 h.8),
       λ tree honest none.
           let made = c.in-Ok.ensures.made tree honest in
@@ -82,11 +82,11 @@ returns-in_err-unused-clause-ended g c =
     let p = err_from_is_err_and c.from_residual-in_err-unused.result c.from_residual-in_err-unused.ensures.1 in
     rw (p.1, p.2) (
       met h.0,
-      ends_write (flat_map report_of problems ++ flat_map reports (all_seen (met h.0)))
+      ends_write (flat_map report_of problems ++ all_told o (met h.0))
           (Appends (g.W.Write.contents c.args.out.now) (g.W.Write.contents c.write_without.new.out))
           (Appends (g.E.Write.contents c.args.err.now) (g.E.Write.contents c.find_all.new.err)) c.in_err-unused.field-0.0 c.in_err-unused.ensures.ended
           (appends_on (g.E.Write.contents c.args.err.now) (g.E.Write.contents c.report_all.new.err) (g.E.Write.contents c.find_all.new.err)
-          (flat_map report_of problems) (flat_map reports (all_seen (met h.0)))
+          (flat_map report_of problems) (all_told o (met h.0))
           (reported_as c.deref.result.now c.args.asked.errors.items (g.E.Write.contents c.args.err.now) (g.E.Write.contents c.report_all.new.err) c.deref.ensures.value c.in_ok-reported.ensures.reports.1) h.2),
       λ tree honest none.
           let made = c.in-Ok.ensures.made tree honest in
@@ -113,15 +113,15 @@ returns-clause-lists g c =
     let o = c.args.options.now in
     let problems = map (option_map problem_of) c.args.asked.errors.items in
     let wrong = wrong_as c.deref.result.now c.args.asked.errors.items c.saturating_add.result c.in_ok-more.more
-    c.in_ok-reported.reported (counted 0 (map is_wrong (all_seen (met h.0)))) c.deref.ensures.value c.saturating_add.ensures
+    c.in_ok-reported.reported (counted 0 (map (is_wrong o) (all_seen (met h.0)))) c.deref.ensures.value c.saturating_add.ensures
     c.in_ok-reported.ensures.reports.0 h.3 in (
       met h.0,
       w.0,
       record {
         writes = written_as o w.0 _ _ (g.W.Write.contents c.args.out.now) (g.W.Write.contents c.write_without.new.out) c.form_of.ensures.base c.form_of.ensures.null w.3;
-        reports = counts_told o.stats (flat_map report_of problems ++ flat_map reports (all_seen (met h.0))) _ _ _ _ (g.E.Write.contents c.args.err.now)
+        reports = counts_told o.stats (flat_map report_of problems ++ all_told o (met h.0)) _ _ _ _ (g.E.Write.contents c.args.err.now)
             (g.E.Write.contents c.find_all.new.err) (g.E.Write.contents c.report_counts.new.err)
-            (appends_on (g.E.Write.contents c.args.err.now) (g.E.Write.contents c.report_all.new.err) (g.E.Write.contents c.find_all.new.err) (flat_map report_of problems) (flat_map reports (all_seen (met h.0)))
+            (appends_on (g.E.Write.contents c.args.err.now) (g.E.Write.contents c.report_all.new.err) (g.E.Write.contents c.find_all.new.err) (flat_map report_of problems) (all_told o (met h.0))
             (reported_as c.deref.result.now c.args.asked.errors.items (g.E.Write.contents c.args.err.now) (g.E.Write.contents c.report_all.new.err) c.deref.ensures.value c.in_ok-reported.ensures.reports.1) h.2)
             c.in_ok-report_counts.ensures.reports wrong w.2;
         ends = status_as c.status_of.result c.saturating_add.result c.in_ok-unused.unused _ _ c.status_of.ensures wrong w.2;
