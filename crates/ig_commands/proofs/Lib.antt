@@ -9,6 +9,7 @@ pub mod ItemLemmas
 pub mod ListLemmas
 pub mod MemberLemmas
 pub mod MetLemmas
+pub mod NameLemmas
 pub mod OrderLemmas
 pub mod ReportLemmas
 pub mod RepositoryLemmas
@@ -24,6 +25,7 @@ pub mod UnusedLemmas
 pub mod WalkLemmas
 pub mod WhyLemmas
 pub mod WorkedLines
+pub mod WorkedNames
 pub mod WorkedRepositories
 pub mod WorkedUnused
 pub mod WorkedWorktree

@@ -1,20 +1,17 @@
 -- Items of roots with whether each is left out, one more at a time.
-use Rattle.std.proofs.Common.{◌≡◌, ◌∙◌, ℕ, All, Bool, List, [], ◌∷◌, ◌++◌, Option, map, refl, sym, ap, subst, inl, inr}
+use Rattle.std.proofs.Common.{◌≡◌, ◌∙◌, ◌+◌, ℕ, All, Bool, List, [], ◌∷◌, ◌++◌, Option, map, refl, sym, ap, subst}
 use Rattle.std.proofs.lemmas.List.{map-append}
-use Rattle.std.proofs.lemmas.List.Elements.{All-map, All-nil, All-push, All-weaker}
+use Rattle.std.proofs.lemmas.List.Elements.{All-map, All-nil, All-push}
 use Rattle.std.specs.Io.KnownBytes.{Appends}
-use Rattle.std.specs.List.{flat_map}
-use Rattle.ignore_dir.specs.Scene.{QueryScene}
-use Rattle.ignore_files.specs.Gives.{IsHonest}
 use Rattle.ignore_files.specs.Tree.{Tree}
-use Rattle.ignore_files.specs.declared.files.Files.{Ghosts as Files}
 use Rattle.ignore_base.specs.declared.error.Error.{Error}
 use Rattle.ignore_survey.specs.declared.surveyed.Surveyed.{Surveyed}
 use Rattle.std.specs.Prelude.{Result}
 use Rattle.ig_options.specs.declared.options.Options.{Options}
 use Rattle.ig_commands.specs.Counts.{capped, counted}
-use Rattle.ig_commands.specs.Ignored.{AreJudged, IsJudged, OfShown, Shown, all_met, all_written, found_in, is_found, seen_in, written}
-use Rattle.ig_commands.specs.Surveys.{OfRoot, Seen, all_seen, all_told, is_wrong, seen_of, told_in}
+use Rattle.ig_commands.specs.Ignored.{AreJudged, IsJudged, OfShown, Shown, all_met, found_in, is_found, seen_in}
+use Rattle.ig_commands.specs.Surveys.{OfRoot, Seen, all_seen, all_told, begun_in, begun_told, is_wrong, seen_of, told_in}
+use Rattle.ig_commands.proofs.NameLemmas.{begun_root}
 use Rattle.ig_commands.proofs.SurveyLemmas.{counts_over, seen_counts}
 use Rattle.ig_commands.proofs.TurnLemmas.{text_more}
 
@@ -27,6 +24,12 @@ pub told_root : (o : Options) (all : List OfShown) (r : OfShown) (a b c : Option
 told_root o all r a b c h k =
     subst (λ (xs : List OfRoot). Appends a c (all_told o xs)) (sym (met_more all r))
     (text_more (λ (x : OfRoot). told_in o x.1) (all_met all) (seen_in r) a b c h k)
+
+-- the first items of one root more are reported
+pub begun_met : (o : Options) (all : List OfShown) (r : OfShown) (a b c : Option (List ℕ)) → Appends a b (all_told o (all_met all))
+    → Appends b c (begun_in o (seen_in r).1) → Appends a c (begun_told o (all_met (all ++ r ∷ [])))
+begun_met o all r a b c h k =
+    subst (λ (xs : List OfRoot). Appends a c (begun_told o xs)) (sym (met_more all r)) (begun_root o (all_met all) (seen_in r) a b c h k)
 
 pub wrong_root : (o : Options) (all : List OfShown) (r : OfShown) (old more new : ℕ)
     → old ≡ counted 0 (map (is_wrong o) (all_seen (all_met all))) → more ≡ counted 0 (map (is_wrong o) (seen_in r).1)

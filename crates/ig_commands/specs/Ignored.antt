@@ -21,7 +21,7 @@ use Rattle.ig_commands.specs.Listing.{RefusesOptions}
 use Rattle.ig_commands.specs.Reports.{report_line, report_of}
 use Rattle.ig_commands.specs.Repositories.{IsHeld}
 use Rattle.ig_commands.specs.Stops.{EndsAfter}
-use Rattle.ig_commands.specs.Surveys.{AreBegun, AreSurveys, IsAskedMet, OfRoot, Seen, all_told, wrong_in}
+use Rattle.ig_commands.specs.Surveys.{AreBegun, AreSurveys, IsAskedMet, OfRoot, Seen, all_told, begun_told, wrong_in}
 use Rattle.ig_commands.specs.Worktree.{worktree}
 use Rattle.ig_commands.specs.Writing.{is_of_kind, record_of}
 use Rattle.ig_commands.specs.declared.stop.Stop.{Stop}
@@ -108,7 +108,7 @@ abbrev pub IgnoredEnds : {F : Type 0} → Files F → F → Env → Options → 
 IgnoredEnds files f env o first out err stop =
     ((b : WalkOptions) × (problems : List (Option Problem)) × (roots : List Path) × (all : List OfShown)
     × AllZip IsTrimmed (map string_bytes o.roots.items) roots
-    × EndsAfter (all_written o all) (flat_map report_of problems ++ all_told o (all_met all)) out err stop
+    × EndsAfter (all_written o all) (flat_map report_of problems ++ begun_told o (all_met all)) out err stop
     × ((tree : Tree) → IsHonest files f tree
     → IsAskedMet tree env o first b problems × AreBegun (worktree roots tree) env o b (all_met all) × AreJudged tree o all))
     ⊎ EndsAfter [] [] out err stop

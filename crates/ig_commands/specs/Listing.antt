@@ -34,7 +34,7 @@ use Rattle.ig_options.specs.Globs.{AreGlobs, RefusesOneOf}
 use Rattle.ig_options.specs.Settings.{most_steps, walk_options}
 use Rattle.ig_options.specs.declared.options.Options.{Options}
 use Rattle.ig_commands.specs.Counts.{capped, counted, stats_line, status_of}
-use Rattle.ig_commands.specs.Reports.{is_known, is_reported, report_line, report_of, reports_after}
+use Rattle.ig_commands.specs.Reports.{is_known, is_reported, report_line, report_of, first_reports, whole_reports}
 use Rattle.ig_commands.specs.Stops.{EndsAfter}
 use Rattle.ig_commands.specs.declared.stop.Stop.{Stop}
 use Rattle.ig_commands.specs.Writing.{is_found, lines_of}
@@ -130,18 +130,22 @@ reported_in o items = counted 0 (map (is_reported o) items)
 abbrev pub found_in : Options → List Item → ℕ
 found_in o items = counted 0 (map (is_found o) items)
 
--- the entries that are listed are written to the output in turn, and each problem is reported; these
--- are the numbers of problems and of entries. None of the items is out of memory, which ends a list
-pub record Writes (o : Options) (items : List Item) (reported found : ℕ) (out err : Bytes → Type 0) : Type 0 where
+-- the entries that are listed are written to the output in turn, and this is reported; these are the
+-- numbers of problems and of entries. None of the items is out of memory, which ends a list
+pub record Writes (o : Options) (items : List Item) (told : Bytes) (reported found : ℕ) (out err : Bytes → Type 0) : Type 0 where
   pub lists : out (flat_map (lines_of o) items)
-  pub reports : err (reports_after o [] items)
+  pub reports : err told
   pub wrong : reported ≡ reported_in o items
   pub listed : found ≡ found_in o items
   pub enough : All (λ item. item ≢ Err memory) items
 
 -- what is reported: these problems of the files that are named, and then those of items
 abbrev pub all_reports : Options → List (Option Problem) → List Item → Bytes
-all_reports o problems items = flat_map report_of problems ++ reports_after o [] items
+all_reports o problems items = flat_map report_of problems ++ whole_reports o items
+
+-- the same of the first items
+abbrev pub begun_reports : Options → List (Option Problem) → List Item → Bytes
+begun_reports o problems items = flat_map report_of problems ++ first_reports o items
 
 -- the number of all that is reported
 abbrev pub all_reported : Options → List (Option Problem) → List Item → ℕ
@@ -169,6 +173,6 @@ ListsAsked files f env o first status out err =
 abbrev pub EndsAsked : {F : Type 0} → Files F → F → Env → Options → Draft → (Bytes → Type 0) → (Bytes → Type 0) → Stop → Type 0
 EndsAsked files f env o first out err stop =
     ((b : WalkOptions) × (problems : List (Option Problem)) × (items : List Item)
-    × EndsAfter (flat_map (lines_of o) items) (all_reports o problems items) out err stop
+    × EndsAfter (flat_map (lines_of o) items) (begun_reports o problems items) out err stop
     × ((tree : Tree) → IsHonest files f tree → IsAsked tree env o first b problems × AreFirst tree env o b items))
     ⊎ EndsAfter [] [] out err stop

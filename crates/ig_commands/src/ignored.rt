@@ -1,5 +1,5 @@
 //! The command `ignored`: the topmost entries that are ignored.
-ghost use Rattle.std.specs.Prelude.{◌≡◌, ◌≢◌, ◌++◌, ◌∷◌, ◌&&◌, ◌⊎◌, not, true, false, All, Bool, List, Ok, Err, Some, [], Result, IfErr, IfOk, OnOk, map, option_map, string_bytes, if◌then◌else◌};
+ghost use Rattle.std.specs.Prelude.{◌≡◌, ◌≢◌, ◌++◌, ◌∷◌, ◌&&◌, ◌⊎◌, not, true, false, All, Bool, List, Ok, Err, None, Some, [], Result, IfErr, IfOk, OnOk, map, option_map, string_bytes, if◌then◌else◌};
 ghost use Rattle.std.specs.Io.KnownBytes.{Appends};
 ghost use Rattle.std.specs.Iterator.{Drains, IsFinite, YieldsThen};
 ghost use Rattle.std.specs.List.{AllZip, flat_map};
@@ -19,13 +19,15 @@ ghost use Rattle.ig_commands.specs.Counts.{counted};
 ghost use Rattle.ig_commands.specs.Ignored.{AreJudged, IgnoredAsked, IgnoredEnds, IsJudged, OfShown, Shown, Writes, all_met, all_written, entry_text, found_in, is_found, is_searched, is_topmost, seen_in, written};
 ghost use Rattle.ig_commands.specs.Reports.{report_line, report_of};
 ghost use Rattle.ig_commands.specs.Stops.{EndsAfter};
-ghost use Rattle.ig_commands.specs.Surveys.{AreBegun, AreSurveys, IsBegun, IsWhole, OfMatcher, all_seen, all_told, is_wrong, reports, seen_of, told_in};
+ghost use Rattle.ig_commands.specs.Names.{told_before, with_name};
+ghost use Rattle.ig_commands.specs.Surveys.{AreBegun, AreSurveys, IsBegun, IsWhole, OfMatcher, all_seen, all_told, begun_in, begun_told, is_wrong, item_names, item_told, left_from, name_place, names_by, reports, seen_of, told_from, told_in};
 ghost use Rattle.ig_commands.specs.Worktree.{worktree};
 
 use crate::asking::{Asked, asked_met};
 use crate::counts::{Counts, Seen, report_counts, status_of};
 use crate::form::{Form, write_reasoned};
-use crate::reports::{report_all, report_rules};
+use crate::names::{Unnamed, count_name, end_names, leave_names};
+use crate::reports::{is_bad_name, report_all, report_rules};
 use crate::repositories::holds_repository;
 use crate::stop::Stop;
 use crate::worktree::{Worktree, roots_of};
@@ -35,7 +37,7 @@ use commands::internal::trimmed_roots;
 use ig_options::Options;
 use ignore::{IncrementalIgnore, WalkBuilder, WalkOptions, text};
 use ignore_base::Error;
-use ignore_files::Files;
+use ignore_files::{Files, Name};
 use ignore_survey::{Item, Survey, Surveyed};
 use ignore_types::types::TypesBuilder;
 use std::alloc::Global;
@@ -81,7 +83,7 @@ fn survey_worktree<F: Files, W: Write, E: Write>(
         × ((tree : Tree) → IsHonest F.Files world.now.files.now tree → asked.walk.roots ≡ []
         → AreSurveys (worktree roots tree) world.now.env.now options.now asked.walk (all_met all) × AreJudged tree options.now all)) }
     ensures ended { IfErr result (λ stop. ((roots : List Path) × (all : List OfShown) × AllZip IsTrimmed (map string_bytes options.now.roots.items) roots
-        × EndsAfter (all_written options.now all) (flat_map report_of (map (option_map problem_of) asked.errors.items) ++ all_told options.now (all_met all))
+        × EndsAfter (all_written options.now all) (flat_map report_of (map (option_map problem_of) asked.errors.items) ++ begun_told options.now (all_met all))
         (Appends (W.contents out.old) (W.contents out.new)) (Appends (E.contents err.old) (E.contents err.new)) stop
         × ((tree : Tree) → IsHonest F.Files world.now.files.now tree → asked.walk.roots ≡ []
         → AreBegun (worktree roots tree) world.now.env.now options.now asked.walk (all_met all) × AreJudged tree options.now all))
@@ -128,7 +130,7 @@ fn report_and_survey<F: Files, G: Files, W: Write, E: Write>(
         × ((tree : Tree) → IsHonest F.Files world.now.files.now tree → asked.walk.roots ≡ [] → AreSurveys tree world.now.env.now choice.now.options.now asked.walk (all_met all))
         × ((tree : Tree) → IsHonest G.Files choice.now.bare.now tree → AreJudged tree choice.now.options.now all)) }
     ensures ended { IfErr result (λ stop. (all : List OfShown)
-        × EndsAfter (all_written choice.now.options.now all) (flat_map report_of (map (option_map problem_of) asked.errors.items) ++ all_told choice.now.options.now (all_met all))
+        × EndsAfter (all_written choice.now.options.now all) (flat_map report_of (map (option_map problem_of) asked.errors.items) ++ begun_told choice.now.options.now (all_met all))
         (Appends (W.contents out.old) (W.contents out.new)) (Appends (E.contents err.old) (E.contents err.new)) stop
         × ((tree : Tree) → IsHonest F.Files world.now.files.now tree → asked.walk.roots ≡ [] → AreBegun tree world.now.env.now choice.now.options.now asked.walk (all_met all))
         × ((tree : Tree) → IsHonest G.Files choice.now.bare.now tree → AreJudged tree choice.now.options.now all)) }
@@ -180,7 +182,7 @@ fn survey_all<F: Files, G: Files, W: Write, E: Write>(
     ensures ended { IfErr result (λ stop. (done : List OfShown) × (last : OfShown) × (first rest : List IncrementalIgnore) × (matcher : IncrementalIgnore)
         × (matchers.items ≡ first ++ matcher ∷ rest) × AllZip (λ m r. OfMatcher F.Files world.now.files.now IsWhole m (seen_in r)) first done
         × OfMatcher F.Files world.now.files.now IsBegun matcher (seen_in last)
-        × EndsAfter (all_written choice.now.options.now (done ++ last ∷ [])) (all_told choice.now.options.now (all_met (done ++ last ∷ [])))
+        × EndsAfter (all_written choice.now.options.now (done ++ last ∷ [])) (begun_told choice.now.options.now (all_met (done ++ last ∷ [])))
         (Appends (W.contents out.old) (W.contents out.new)) (Appends (E.contents err.old) (E.contents err.new)) stop
         × ((tree : Tree) → IsHonest G.Files choice.now.bare.now tree → AreJudged tree choice.now.options.now (done ++ last ∷ []))) }
 {
@@ -205,7 +207,7 @@ fn survey_root<F: Files, G: Files, W: Write, E: Write>(
         × (counts.reported ≡ counted 0 (map (is_wrong choice.now.options.now) (seen_in r).1)) × (counts.found ≡ counted 0 (map (is_found choice.now.options.now) r.1))
         × ((tree : Tree) → IsHonest G.Files choice.now.bare.now tree → All (IsJudged tree choice.now.options.now r.0) r.1)) }
     ensures ended { IfErr result (λ stop. (r : OfShown) × OfMatcher F.Files world.now.files.now IsBegun matcher (seen_in r)
-        × EndsAfter (flat_map (written choice.now.options.now r.0) r.1) (told_in choice.now.options.now (seen_in r).1)
+        × EndsAfter (flat_map (written choice.now.options.now r.0) r.1) (begun_in choice.now.options.now (seen_in r).1)
         (Appends (W.contents out.old) (W.contents out.new)) (Appends (E.contents err.old) (E.contents err.new)) stop
         × ((tree : Tree) → IsHonest G.Files choice.now.bare.now tree → All (IsJudged tree choice.now.options.now r.0) r.1)) }
 {
@@ -221,7 +223,10 @@ fn survey_root<F: Files, G: Files, W: Write, E: Write>(
         bare: choice.bare,
         root: root.as_str(),
     };
-    write_items(survey, &place, out, err)
+    let mut names = None;
+    let counts = write_items(survey, &place, &mut names, out, err)?;
+    end_names(&names, err)?;
+    Ok(counts)
 }
 
 /// Where entries are, how they are written, and the files in which repositories are looked for.
@@ -237,6 +242,7 @@ struct Place<'a, G: Files> {
 fn write_items<I: Iterator<Item = Item> + Drop, G: Files, W: Write, E: Write>(
     items: I,
     place: &Place<'_, G>,
+    names: &mut Option<Unnamed>,
     out: &mut W,
     err: &mut E,
 ) -> Result<Counts, Stop>
@@ -244,21 +250,22 @@ fn write_items<I: Iterator<Item = Item> + Drop, G: Files, W: Write, E: Write>(
     ensures lists { IfOk result (λ counts. (all : List (Result Surveyed Error)) × (shown : List Shown) × Drains I.next_gives items all
         × (map (λ s. s.0) shown ≡ map seen_of all)
         × Appends (W.contents out.old) (W.contents out.new) (flat_map (written place.now.options.now place.now.root.now) shown)
-        × Appends (E.contents err.old) (E.contents err.new) (told_in place.now.options.now (map (λ s. s.0) shown))
+        × Appends (E.contents err.old) (E.contents err.new) (told_from place.now.options.now names.old (map (λ s. s.0) shown))
+        × (names.new ≡ left_from names.old (map (λ s. s.0) shown))
         × (counts.reported ≡ counted 0 (map (is_wrong place.now.options.now) (map (λ s. s.0) shown))) × (counts.found ≡ counted 0 (map (is_found place.now.options.now) shown))
         × All (λ item. item_of item ≢ Err memory) all
         × ((tree : Tree) → IsHonest G.Files place.now.bare.now tree → All (IsJudged tree place.now.options.now place.now.root.now) shown)) }
     ensures ended { IfErr result (λ stop. (all : List (Result Surveyed Error)) × (shown : List Shown) × (x : Result Surveyed Error) × (v : I)
         × YieldsThen I.next_gives items all (Some x) v
         × (map (λ s. s.0) shown ≡ map seen_of all)
-        × EndsAfter (flat_map (written place.now.options.now place.now.root.now) shown) (told_in place.now.options.now (map (λ s. s.0) shown))
+        × EndsAfter (flat_map (written place.now.options.now place.now.root.now) shown) (told_from place.now.options.now names.old (map (λ s. s.0) shown))
         (Appends (W.contents out.old) (W.contents out.new)) (Appends (E.contents err.old) (E.contents err.new)) stop
         × All (λ item. item_of item ≢ Err memory) all
         × ((tree : Tree) → IsHonest G.Files place.now.bare.now tree → All (IsJudged tree place.now.options.now place.now.root.now) shown)) }
 {
     let mut counts = Counts::begun(0);
     for item in items {
-        counts = counts.with(write_item(item, place, out, err)?);
+        counts = counts.with(write_item(item, place, names, out, err)?);
     }
     Ok(counts)
 }
@@ -267,25 +274,77 @@ fn write_items<I: Iterator<Item = Item> + Drop, G: Files, W: Write, E: Write>(
 fn write_item<G: Files, W: Write, E: Write>(
     item: Item,
     place: &Place<'_, G>,
+    names: &mut Option<Unnamed>,
     out: &mut W,
     err: &mut E,
 ) -> Result<Seen, Stop>
     ensures writes { IfOk result (λ seen. (left_out : Bool) × Appends (W.contents out.old) (W.contents out.new) (written place.now.options.now place.now.root.now (seen_of item, left_out))
         × (seen.found ≡ is_found place.now.options.now (seen_of item, left_out))
         × ((tree : Tree) → IsHonest G.Files place.now.bare.now tree → IsJudged tree place.now.options.now place.now.root.now (seen_of item, left_out))) }
-    ensures reports { OnOk result (Appends (E.contents err.old) (E.contents err.new) (reports place.now.options.now (seen_of item))) }
+    ensures reports { OnOk result (Appends (E.contents err.old) (E.contents err.new) (reports place.now.options.now names.old (seen_of item))) }
+    ensures names { OnOk result (names.new ≡ names_by names.old (seen_of item)) }
     ensures counts { IfOk result (λ seen. seen.reported ≡ is_wrong place.now.options.now (seen_of item)) }
     ensures enough { OnOk result (item_of item ≢ Err memory) }
     ensures ended { IfErr result (EndsAfter [] [] (Appends (W.contents out.old) (W.contents out.new)) (Appends (E.contents err.old) (E.contents err.new))) }
 {
     match item {
-        Ok(entry) => write_entry(&entry, place, out, err),
+        Ok(entry) => write_entry(&entry, place, names, out, err),
+        Err(error) => note_item(error, names, err),
+    }
+}
+
+/// Notes what stands in the place of an entry: one more name that isn't UTF-8, or else it is reported.
+pub(crate) fn note_item<E: Write>(
+    error: Error,
+    names: &mut Option<Unnamed>,
+    err: &mut E,
+) -> Result<Seen, Stop>
+    ensures reports { OnOk result (Appends (E.contents err.old) (E.contents err.new) (item_told names.old (problem_of error) (name_place (problem_of error)))) }
+    ensures names { OnOk result (names.new ≡ item_names names.old (name_place (problem_of error))) }
+    ensures seen { IfOk result (λ seen. (seen.reported ≡ true) × (seen.found ≡ false)) }
+    ensures enough { OnOk result (problem_of error ≢ memory) }
+    ensures ended { IfErr result (EndsAfter [] [] (λ bs. bs ≡ []) (Appends (E.contents err.old) (E.contents err.new))) }
+{
+    match place_in(error) {
+        Ok(place) => note_name(place, names, err),
         Err(error) => report_item(&error, err),
     }
 }
 
+/// The folder of a name that isn't UTF-8, where an error in the place of an entry is one; else the
+/// error.
+fn place_in(error: Error) -> Result<Name, Error>
+    ensures place { IfOk result (λ place. name_place (problem_of error) ≡ Some place) }
+    ensures other { IfErr result (λ e. (problem_of e ≡ problem_of error) × (name_place (problem_of error) ≡ None)) }
+{
+    match error {
+        Error::WithPath { path, err } => {
+            if is_bad_name(&err) {
+                Ok(Name::new(path))
+            } else {
+                Err(Error::WithPath { path, err })
+            }
+        }
+        other => Err(other),
+    }
+}
+
+/// Counts a name in a folder that isn't UTF-8.
+fn note_name<E: Write>(place: Name, names: &mut Option<Unnamed>, err: &mut E) -> Result<Seen, Stop>
+    ensures reports { OnOk result (Appends (E.contents err.old) (E.contents err.new) (told_before place names.old)) }
+    ensures names { OnOk result (names.new ≡ Some (with_name place 1 names.old)) }
+    ensures seen { IfOk result (λ seen. (seen.reported ≡ true) × (seen.found ≡ false)) }
+    ensures ended { IfErr result (λ stop. stop ≡ Stop.Silence) }
+{
+    count_name(place, 1, names, err)?;
+    Ok(Seen {
+        reported: true,
+        found: false,
+    })
+}
+
 /// Reports what stands in the place of an entry.
-pub(crate) fn report_item<E: Write>(error: &Error, err: &mut E) -> Result<Seen, Stop>
+fn report_item<E: Write>(error: &Error, err: &mut E) -> Result<Seen, Stop>
     ensures reports { OnOk result (Appends (E.contents err.old) (E.contents err.new) (report_line (problem_of error.now))) }
     ensures seen { IfOk result (λ seen. (seen.reported ≡ true) × (seen.found ≡ false)) }
     ensures enough { OnOk result (problem_of error.now ≢ memory) }
@@ -310,18 +369,20 @@ fn report_problem<E: Write>(error: &Error, err: &mut E) -> Result<Seen, Stop>
     })
 }
 
-/// Writes an entry, where it is ignored and not left out, and reports what is wrong with the files of
-/// rules that were read for it.
+/// Writes an entry, where it is ignored and not left out, and reports the names of a folder that aren't
+/// UTF-8, which come first there, and what is wrong with the files of rules that were read for it.
 fn write_entry<G: Files, W: Write, E: Write>(
     entry: &Surveyed,
     place: &Place<'_, G>,
+    names: &mut Option<Unnamed>,
     out: &mut W,
     err: &mut E,
 ) -> Result<Seen, Stop>
     ensures writes { IfOk result (λ seen. (left_out : Bool) × Appends (W.contents out.old) (W.contents out.new) (written place.now.options.now place.now.root.now (seen_of (Ok entry.now), left_out))
         × (seen.found ≡ is_found place.now.options.now (seen_of (Ok entry.now), left_out))
         × ((tree : Tree) → IsHonest G.Files place.now.bare.now tree → IsJudged tree place.now.options.now place.now.root.now (seen_of (Ok entry.now), left_out))) }
-    ensures reports { OnOk result (Appends (E.contents err.old) (E.contents err.new) (reports place.now.options.now (seen_of (Ok entry.now)))) }
+    ensures reports { OnOk result (Appends (E.contents err.old) (E.contents err.new) (reports place.now.options.now names.old (seen_of (Ok entry.now)))) }
+    ensures names { OnOk result (names.new ≡ names_by names.old (seen_of (Ok entry.now))) }
     ensures counts { IfOk result (λ seen. seen.reported ≡ is_wrong place.now.options.now (seen_of (Ok entry.now))) }
     ensures ended { IfErr result (EndsAfter [] [] (Appends (W.contents out.old) (W.contents out.new)) (Appends (E.contents err.old) (E.contents err.new))) }
 {
@@ -329,6 +390,7 @@ fn write_entry<G: Files, W: Write, E: Write>(
     let left_out = is_left_out(entry, place)?;
     let found = is_topmost(entry, options) && !left_out;
     write_found(found, entry, place, out)?;
+    leave_names(0, names, err)?;
     let reported = report_rules(options, entry.error.as_ref(), err)?;
     Ok(Seen { reported, found })
 }

@@ -7,6 +7,7 @@ mod form;
 mod ignored;
 mod input;
 mod listing;
+mod names;
 mod reports;
 mod repositories;
 mod root;

@@ -10,7 +10,7 @@ use Rattle.ig_commands.specs.Counts.{counted}
 use Rattle.ig_commands.specs.Ignored.{OfShown, all_met, all_written, seen_in}
 use Rattle.ig_commands.specs.Listing.{GoesBy}
 use Rattle.ig_commands.specs.Reports.{report_of}
-use Rattle.ig_commands.specs.Surveys.{IsBegun, IsWhole, OfRoot, all_seen, all_told, is_wrong}
+use Rattle.ig_commands.specs.Surveys.{IsBegun, IsWhole, OfRoot, all_seen, all_told, begun_told, is_wrong}
 use Rattle.ig_commands.proofs.ShownLemmas.{each_met, met_more, none_judged, roots_met}
 use Rattle.ig_commands.proofs.SurveyLemmas.{begun_of, roots_of}
 use Rattle.ig_commands.proofs.ReportLemmas.{counts_told, reported_as, status_as, wrong_as}
@@ -46,7 +46,7 @@ returns-in_err-counts-clause-ended g c =
     rw (p.1, p.2) (
       all,
       ends_after_reports (all_written o all) (flat_map report_of (map (option_map problem_of) c.args.asked.errors.items))
-          (all_told o (all_met all)) (Appends (g.W.Write.contents c.args.out.now) (g.W.Write.contents c.survey_all.new.out))
+          (begun_told o (all_met all)) (Appends (g.W.Write.contents c.args.out.now) (g.W.Write.contents c.survey_all.new.out))
           (g.E.Write.contents c.args.err.now) (g.E.Write.contents c.report_all.new.err) (g.E.Write.contents c.survey_all.new.err)
           c.in_err-counts.field-0.0 (reported_as c.deref.result.now c.args.asked.errors.items (g.E.Write.contents c.args.err.now) (g.E.Write.contents c.report_all.new.err) c.deref.ensures.value c.in_ok-reported.ensures.reports.1) h.8,
       (λ tree honest none.

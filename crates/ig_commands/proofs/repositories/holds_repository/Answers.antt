@@ -1,6 +1,6 @@
-use Rattle.std.proofs.Common.{◌≡◌, ◌∙◌, ℕ, ◌+◌, ◌-◌, [], ◌∷◌, ◌++◌, List, true, false, arith, rules, subst, sym}
+use Rattle.std.proofs.Common.{◌≡◌, ◌∙◌, ◌+◌, ◌-◌, [], ◌∷◌, List, true, false, arith, rules, subst, sym}
 use Rattle.ignore_base.specs.Text.{Path}
-use Rattle.ig_commands.specs.Repositories.{OneShows, folders_in, most_folders}
+use Rattle.ig_commands.specs.Repositories.{OneShows, most_folders}
 use Rattle.ig_commands.proofs.RepositoryLemmas.{none_show, one_found, one_less, one_too_many}
 use Rattle.ig_commands.proofs.repositories.holds_repository.Goals as goal
 

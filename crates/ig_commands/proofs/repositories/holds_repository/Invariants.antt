@@ -1,4 +1,4 @@
-use Rattle.std.proofs.Common.{Bool, []}
+use Rattle.std.proofs.Common.{Bool}
 use Rattle.ignore_files.specs.Gives.{IsHonest}
 use Rattle.ignore_files.specs.Tree.{Tree}
 use Rattle.ig_commands.specs.Repositories.{IsHeld, OneShows}

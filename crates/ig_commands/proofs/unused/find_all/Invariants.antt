@@ -1,6 +1,6 @@
 use Rattle.std.proofs.Common.{◌≡◌, List, map}
 use Rattle.std.specs.Io.KnownBytes.{Appends}
-use Rattle.std.specs.List.{AllZip, flat_map}
+use Rattle.std.specs.List.{AllZip}
 use Rattle.ignore_why.specs.Cited.{Named}
 use Rattle.ig_commands.specs.Counts.{counted}
 use Rattle.ig_commands.specs.Found.{FindsOf, deciding, first_at, met, read_in}
