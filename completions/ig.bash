@@ -9,7 +9,7 @@ _ig() {
         --no-ignore-parent --no-ignore-global --no-ignore-exclude
         --no-ignore-dot --no-ignore-files --no-require-git --ignore-file
         --ignore-name --ignore-file-case-insensitive --git-trailing-spaces
-        -q --quiet --no-messages -j --threads --no-config
+        -q --quiet --no-messages --no-ignore-messages -j --threads --no-config
     "
     local chosen="
         --max-filesize -g --glob --iglob --glob-case-insensitive -E --exclude
@@ -20,7 +20,7 @@ _ig() {
     case $command in
         ls) options="$rules $chosen $kinds $printed -L --follow --min-depth --one-file-system
             --sort --sort-files --type-list" ;;
-        ignored) options="$rules $chosen $kinds $printed -v --verbose" ;;
+        ignored) options="$rules $chosen $kinds $printed --no-repositories -v --verbose" ;;
         why) options="$rules $chosen --stdin -z --zero --only-ignored -v --verbose -n
             --non-matching --no-index" ;;
         unused) options="$rules $printed" ;;

@@ -24,7 +24,7 @@ all_add tree env (path ∷ paths) old new problems h =
 
 pub no_roots : (tree : Tree) (env : Env) (o : Options) (first : Draft) (b : WalkOptions) (problems : List (Option Problem))
     → IsAsked tree env o first b problems → b.roots ≡ []
-no_roots tree env o first b problems h = all_add tree env (named_files o) _ b problems h.files
+no_roots tree env o first b problems h = all_add tree env (named_files o) _ b h.found h.files
 
 -- nor have those by which hidden entries are met
 pub none_met : (tree : Tree) (env : Env) (o : Options) (first : Draft) (b : WalkOptions) (problems : List (Option Problem))

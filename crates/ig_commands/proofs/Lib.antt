@@ -9,11 +9,14 @@ pub mod ItemLemmas
 pub mod ListLemmas
 pub mod MemberLemmas
 pub mod MetLemmas
+pub mod NameLemmas
 pub mod OrderLemmas
 pub mod ReportLemmas
+pub mod RepositoryLemmas
 pub mod RootLemmas
 pub mod RuleLemmas
 pub mod RunLemmas
+pub mod ShownLemmas
 pub mod StopLemmas
 pub mod SurveyLemmas
 pub mod TurnLemmas
@@ -22,5 +25,7 @@ pub mod UnusedLemmas
 pub mod WalkLemmas
 pub mod WhyLemmas
 pub mod WorkedLines
+pub mod WorkedNames
+pub mod WorkedRepositories
 pub mod WorkedUnused
 pub mod WorkedWorktree

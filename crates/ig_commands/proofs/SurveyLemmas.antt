@@ -3,9 +3,7 @@ use Rattle.std.proofs.Common.{◌≡◌, ◌∙◌, ◌<◌, ◌≤◌, ℕ, ◌
 use Rattle.std.proofs.lemmas.Grind.{flat_map-append}
 use Rattle.std.proofs.lemmas.List.Elements.{All-cons, All-head, All-nil, All-tail}
 use Rattle.std.proofs.lemmas.List.{append-nil, map-append}
-use Rattle.std.specs.Io.KnownBytes.{Appends}
 use Rattle.std.specs.List.{AllZip, flat_map}
-use Rattle.commands.proofs.LineLemmas.{appends_on}
 use Rattle.commands.proofs.StopLemmas.{around}
 use Rattle.commands.specs.Walking.{IsTrimmed}
 use Rattle.ignore_dir.specs.Load.{AreLoads, Loaded}
@@ -50,16 +48,15 @@ split_at xs ys x front within here =
 pub all_yielded : {A : Type 0} (xs ys : List A) → map (λ y. y) ys ≡ xs → ys ≡ xs
 all_yielded xs ys all = sym (map_same ys) ∙ all
 
-pub all_seen_more : (all : List OfRoot) (r : OfRoot) → all_seen (all ++ r ∷ []) ≡ all_seen all ++ r.1
-all_seen_more all r =
-    flat_map-append (λ (x : OfRoot). x.1) all (r ∷ []) ∙ ap (λ (xs : List Seen). all_seen all ++ xs) (append-nil r.1)
+-- the items of one root more
+items_over : {A : Type 0} (all : List (List ℕ × List A)) (r : List ℕ × List A)
+    → flat_map (λ (x : List ℕ × List A). x.1) (all ++ r ∷ []) ≡ flat_map (λ (x : List ℕ × List A). x.1) all ++ r.1
+items_over {A} all r =
+    flat_map-append (λ (x : List ℕ × List A). x.1) all (r ∷ [])
+    ∙ ap (λ (xs : List A). flat_map (λ (x : List ℕ × List A). x.1) all ++ xs) (append-nil r.1)
 
--- what is written of the items of one root more
-pub seen_more : (f : Seen → List ℕ) (all : List OfRoot) (r : OfRoot) (a b c : Option (List ℕ)) → Appends a b (flat_map f (all_seen all))
-    → Appends b c (flat_map f r.1) → Appends a c (flat_map f (all_seen (all ++ r ∷ [])))
-seen_more f all r a b c h k =
-    subst (Appends a c) (sym (ap (flat_map f) (all_seen_more all r) ∙ flat_map-append f (all_seen all) r.1))
-    (appends_on a b c _ _ h k)
+pub all_seen_more : (all : List OfRoot) (r : OfRoot) → all_seen (all ++ r ∷ []) ≡ all_seen all ++ r.1
+all_seen_more all r = items_over all r
 
 pub counted_append : (n : ℕ) (xs ys : List Bool) → counted n (xs ++ ys) ≡ counted (counted n xs) ys
 counted_append n [] ys = refl
@@ -94,17 +91,22 @@ counted_within : (n : ℕ) (bs : List Bool) → n ≤ 18446744073709551615 → c
 counted_within n bs within = subst (λ m. m ≤ 18446744073709551615) (sym (counted_from n bs within)) (capped_within (n + counted 0 bs))
 
 -- a count over the items of one root more
-pub seen_counts : (f : Seen → Bool) (all : List OfRoot) (r : OfRoot) (old more new : ℕ) → old ≡ counted 0 (map f (all_seen all))
-    → more ≡ counted 0 (map f r.1) → new ≡ capped (old + more) → new ≡ counted 0 (map f (all_seen (all ++ r ∷ [])))
-seen_counts f all r old more new before here sum =
-    let xs = map f (all_seen all) in
+pub counts_over : {A : Type 0} (f : A → Bool) (all : List (List ℕ × List A)) (r : List ℕ × List A) (old more new : ℕ)
+    → old ≡ counted 0 (map f (flat_map (λ (x : List ℕ × List A). x.1) all)) → more ≡ counted 0 (map f r.1) → new ≡ capped (old + more)
+    → new ≡ counted 0 (map f (flat_map (λ (x : List ℕ × List A). x.1) (all ++ r ∷ [])))
+counts_over {A} f all r old more new before here sum =
+    let xs = map f (flat_map (λ (x : List ℕ × List A). x.1) all) in
     let ys = map f r.1 in
     sum
     ∙ (ap (λ n. capped (n + more)) before
     ∙ (ap (λ n. capped (counted 0 xs + n)) here
     ∙ (sym (counted_from (counted 0 xs) ys (counted_within 0 xs (omega arith)))
     ∙ (sym (counted_append 0 xs ys)
-    ∙ ap (counted 0) (sym (ap (map f) (all_seen_more all r) ∙ map-append f (all_seen all) r.1))))))
+    ∙ ap (counted 0) (sym (ap (map f) (items_over all r) ∙ map-append f (flat_map (λ (x : List ℕ × List A). x.1) all) r.1))))))
+
+pub seen_counts : (f : Seen → Bool) (all : List OfRoot) (r : OfRoot) (old more new : ℕ) → old ≡ counted 0 (map f (all_seen all))
+    → more ≡ counted 0 (map f r.1) → new ≡ capped (old + more) → new ≡ counted 0 (map f (all_seen (all ++ r ∷ [])))
+seen_counts f all r old more new before here sum = counts_over f all r old more new before here sum
 
 -- what a matcher asks by, of its root
 abbrev By : Type 0

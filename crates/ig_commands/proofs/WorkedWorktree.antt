@@ -8,7 +8,7 @@ use Rattle.ignore_files.specs.declared.types.FileType.TheVariants.{Dir as dir_ki
 use Rattle.ignore_files.specs.declared.types.Listed.{Listed}
 use Rattle.ignore_files.specs.declared.types.Listed.TheVariants as thing
 use Rattle.ig_options.specs.declared.options.Options.{Options}
-use Rattle.ig_commands.specs.Worktree.{has_store, is_closed, is_store, worktree}
+use Rattle.ig_commands.specs.Worktree.{has_store, is_store, worktree}
 use Rattle.ig_commands.specs.Writing.{is_listed, is_of_kind, is_positive}
 
 -- a name is all of it, and in its own case

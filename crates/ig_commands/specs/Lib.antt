@@ -1,6 +1,7 @@
 pub mod Stops
 pub mod Counts
 pub mod Writing
+pub mod Names
 pub mod Reports
 pub mod Types
 pub mod Listing
@@ -9,6 +10,7 @@ pub mod Root
 pub mod Why
 pub mod Surveys
 pub mod Worktree
+pub mod Repositories
 pub mod Ignored
 pub mod Unused
 pub mod Rules

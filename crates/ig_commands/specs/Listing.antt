@@ -1,6 +1,6 @@
 -- What a list writes: the items of the walk that its options ask for.
 use Rattle.std.specs.Prelude.{◌≡◌, ◌≢◌, ◌⊎◌, ◌<◌, ◌≤◌, ℕ, ◌+◌, true, ◌++◌, ◌∷◌, [], List, All, Option, Err, map, string_bytes}
-use Rattle.std.specs.Prelude.{unwrap_or}
+use Rattle.std.specs.Prelude.{unwrap_or, if◌then◌else◌}
 use Rattle.std.specs.Cmp.Lexicographic.{slice_cmp}
 use Rattle.std.specs.List.{AllZip, flat_map}
 use Rattle.std.specs.Ordering.{nat_cmp}
@@ -34,7 +34,7 @@ use Rattle.ig_options.specs.Globs.{AreGlobs, RefusesOneOf}
 use Rattle.ig_options.specs.Settings.{most_steps, walk_options}
 use Rattle.ig_options.specs.declared.options.Options.{Options}
 use Rattle.ig_commands.specs.Counts.{capped, counted, stats_line, status_of}
-use Rattle.ig_commands.specs.Reports.{is_known, is_reported, report_line, report_of, reports_after}
+use Rattle.ig_commands.specs.Reports.{is_known, is_reported, report_line, report_of, first_reports, whole_reports}
 use Rattle.ig_commands.specs.Stops.{EndsAfter}
 use Rattle.ig_commands.specs.declared.stop.Stop.{Stop}
 use Rattle.ig_commands.specs.Writing.{is_found, lines_of}
@@ -44,8 +44,14 @@ use Rattle.ig_commands.specs.Writing.{is_found, lines_of}
 abbrev pub base_of : Env → Path
 base_of env = unwrap_or env.current_dir []
 
--- the settings of a walk are those that the options ask for, with these problems of the files that
--- are named: the settings of each option, the globs, the chosen types, and the rules of these files
+-- the problems of the files that are named, where they are to be reported: none with
+-- `--no-ignore-messages`
+abbrev pub named_told : Options → List (Option Problem) → List (Option Problem)
+named_told o problems = if o.no_ignore_messages then [] else problems
+
+-- the settings of a walk are those that the options ask for, with these problems to be reported of
+-- the files that are named: the settings of each option, the globs, the chosen types, and the rules
+-- of these files
 pub record IsAsked (tree : Tree) (env : Env) (o : Options) (first : Draft) (b : WalkOptions) (problems : List (Option Problem)) : Type 0 where
   pub globs : Ruleset
   pub are_globs : AreGlobs o (base_of env) globs
@@ -53,7 +59,9 @@ pub record IsAsked (tree : Tree) (env : Env) (o : Options) (first : Draft) (b : 
   pub is_draft : IsDraft o first draft
   pub types : Matcher
   pub are_types : IsBuilt draft types
-  pub files : AddsFiles tree env (named_files o) (with_types (with_overrides (walk_options o) globs) types) b problems
+  pub found : List (Option Problem)
+  pub files : AddsFiles tree env (named_files o) (with_types (with_overrides (walk_options o) globs) types) b found
+  pub told : problems ≡ named_told o found
 
 -- a glob, a definition or a choice of the options is rejected with this problem
 abbrev pub RefusesOptions : Env → Options → Draft → Problem → Type 0
@@ -116,36 +124,40 @@ abbrev pub AreFirst : Tree → Env → Options → WalkOptions → List Item →
 AreFirst tree env o b all = AreBegun tree env o b all ⊎ AreListed tree env o b all
 
 -- how many of some items are reported, and how many are entries that are listed
-abbrev pub reported_in : List Item → ℕ
-reported_in items = counted 0 (map is_reported items)
+abbrev pub reported_in : Options → List Item → ℕ
+reported_in o items = counted 0 (map (is_reported o) items)
 
 abbrev pub found_in : Options → List Item → ℕ
 found_in o items = counted 0 (map (is_found o) items)
 
--- the entries that are listed are written to the output in turn, and each problem is reported; these
--- are the numbers of problems and of entries. None of the items is out of memory, which ends a list
-pub record Writes (o : Options) (items : List Item) (reported found : ℕ) (out err : Bytes → Type 0) : Type 0 where
+-- the entries that are listed are written to the output in turn, and this is reported; these are the
+-- numbers of problems and of entries. None of the items is out of memory, which ends a list
+pub record Writes (o : Options) (items : List Item) (told : Bytes) (reported found : ℕ) (out err : Bytes → Type 0) : Type 0 where
   pub lists : out (flat_map (lines_of o) items)
-  pub reports : err (reports_after [] items)
-  pub wrong : reported ≡ reported_in items
+  pub reports : err told
+  pub wrong : reported ≡ reported_in o items
   pub listed : found ≡ found_in o items
   pub enough : All (λ item. item ≢ Err memory) items
 
 -- what is reported: these problems of the files that are named, and then those of items
-abbrev pub all_reports : List (Option Problem) → List Item → Bytes
-all_reports problems items = flat_map report_of problems ++ reports_after [] items
+abbrev pub all_reports : Options → List (Option Problem) → List Item → Bytes
+all_reports o problems items = flat_map report_of problems ++ whole_reports o items
+
+-- the same of the first items
+abbrev pub begun_reports : Options → List (Option Problem) → List Item → Bytes
+begun_reports o problems items = flat_map report_of problems ++ first_reports o items
 
 -- the number of all that is reported
-abbrev pub all_reported : List (Option Problem) → List Item → ℕ
-all_reported problems items = capped (reported_in items + counted 0 (map is_known problems))
+abbrev pub all_reported : Options → List (Option Problem) → List Item → ℕ
+all_reported o problems items = capped (reported_in o items + counted 0 (map is_known problems))
 
 -- the same with the problems of the files that are named before the others, the counts after them,
 -- where they are asked for, and the status
 pub record Lists (o : Options) (problems : List (Option Problem)) (items : List Item) (status : ℕ) (out err : Bytes → Type 0)
     : Type 0 where
   pub lists : out (flat_map (lines_of o) items)
-  pub reports : err (all_reports problems items ++ stats_line o.stats (all_reported problems items) (found_in o items))
-  pub ends : status ≡ status_of (all_reported problems items) (found_in o items)
+  pub reports : err (all_reports o problems items ++ stats_line o.stats (all_reported o problems items) (found_in o items))
+  pub ends : status ≡ status_of (all_reported o problems items) (found_in o items)
   pub enough : All (λ item. item ≢ Err memory) items
 
 -- a list has written its whole list, by the settings that the options ask for in each tree that the
@@ -161,6 +173,6 @@ ListsAsked files f env o first status out err =
 abbrev pub EndsAsked : {F : Type 0} → Files F → F → Env → Options → Draft → (Bytes → Type 0) → (Bytes → Type 0) → Stop → Type 0
 EndsAsked files f env o first out err stop =
     ((b : WalkOptions) × (problems : List (Option Problem)) × (items : List Item)
-    × EndsAfter (flat_map (lines_of o) items) (all_reports problems items) out err stop
+    × EndsAfter (flat_map (lines_of o) items) (begun_reports o problems items) out err stop
     × ((tree : Tree) → IsHonest files f tree → IsAsked tree env o first b problems × AreFirst tree env o b items))
     ⊎ EndsAfter [] [] out err stop

@@ -9,8 +9,13 @@ use Rattle.ignore_base.specs.Text.{Bytes, Path}
 use Rattle.ignore_base.specs.Errors.{problem_text}
 use Rattle.ignore_base.specs.Problem.{Problem, several, at_line, at_path, at_depth, loop, io, glob, unrecognized, invalid_definition}
 use Rattle.ignore_base.specs.Problem.{memory}
+use Rattle.ignore_base.specs.declared.fault.Fault.{Fault}
+use Rattle.ignore_base.specs.declared.fault.Fault.TheVariants.{BadName}
 use Rattle.ignore_walk.specs.Entry.{Item, entry_of}
 use Rattle.ignore_walk.specs.declared.entry.DirEntry.{DirEntry}
+use Rattle.ig_options.specs.declared.options.Options.{Options}
+use Rattle.ig_commands.specs.Names.{names_told, still, told_at, told_before, with_name}
+use Rattle.ig_commands.specs.declared.names.Unnamed.{Unnamed}
 
 -- the text of a problem, and the end of its line
 abbrev pub line_text : Problem → Bytes
@@ -30,10 +35,14 @@ abbrev pub is_known : Option Problem → Bool
 is_known None = false
 is_known (Some p) = true
 
+-- a problem of files of rules, where it is to be reported: none with `--no-ignore-messages`
+abbrev pub to_report : Options → Option Problem → Option Problem
+to_report o problem = if o.no_ignore_messages then None else problem
+
 -- something is reported of an item
-abbrev pub is_reported : Item → Bool
-is_reported (Ok (e, p)) = is_known p
-is_reported (Err p) = true
+abbrev pub is_reported : Options → Item → Bool
+is_reported o (Ok (e, p)) = is_known (to_report o p)
+is_reported o (Err p) = true
 
 -- the path of an entry as the code keeps it
 abbrev pub path_of : DirEntry → Path
@@ -88,12 +97,83 @@ placed last (Some depth) text = after_place (folder_above last depth) depth text
 abbrev pub fault_line : (ℕ → Option Path) → Problem → Bytes
 fault_line last problem = codes "ig: " ++ placed last (bare_depth problem) (line_text problem)
 
--- what is reported of an item, where these are the last entries at each depth
-abbrev pub reports_of : (ℕ → Option Path) → Item → Bytes
-reports_of last (Ok (e, p)) = report_of p
-reports_of last (Err p) = fault_line last p
+-- a fault is that of a name that isn't UTF-8
+abbrev pub is_bad : Fault → Bool
+is_bad BadName = true
+is_bad _ = false
 
--- what is reported of items in turn, after these
-abbrev pub reports_after : List Item → List Item → Bytes
-reports_after before [] = []
-reports_after before (item ∷ items) = reports_of (last_at before) item ++ reports_after (before ++ item ∷ []) items
+-- the same of a problem that is a fault
+abbrev pub is_bad_name : Problem → Bool
+is_bad_name (several ps) = false
+is_bad_name (at_line line p) = false
+is_bad_name (at_path path p) = false
+is_bad_name (at_depth depth p) = false
+is_bad_name (loop ancestor child) = false
+is_bad_name (io fault) = is_bad fault
+is_bad_name (glob pattern err) = false
+is_bad_name (unrecognized name) = false
+is_bad_name invalid_definition = false
+is_bad_name memory = false
+
+-- the depth of a name that isn't UTF-8, where a problem in the place of an entry is one
+abbrev pub name_depth : Problem → Option ℕ
+name_depth (several ps) = None
+name_depth (at_line line p) = None
+name_depth (at_path path p) = None
+name_depth (at_depth depth p) = if is_bad_name p then Some depth else None
+name_depth (loop ancestor child) = None
+name_depth (io fault) = None
+name_depth (glob pattern err) = None
+name_depth (unrecognized name) = None
+name_depth invalid_definition = None
+name_depth memory = None
+
+-- where something at a depth is: its folder, or its depth, where the folder isn't among the entries
+abbrev pub place_of : Option Path → ℕ → Path
+place_of (Some folder) depth = folder
+place_of None depth = codes "depth " ++ decimal depth
+
+-- the place of something at a depth, where these are the last entries at each depth
+abbrev pub place_at : (ℕ → Option Path) → ℕ → Path
+place_at last depth = place_of (folder_above last depth) depth
+
+-- what is reported at once of a problem in the place of an entry, where these names were counted: of a
+-- further name those at another place
+abbrev pub fault_told : (ℕ → Option Path) → Option Unnamed → Problem → Option ℕ → Bytes
+fault_told last names problem None = fault_line last problem
+fault_told last names problem (Some depth) = told_before (place_at last depth) names
+
+-- the names that are counted after it
+abbrev pub fault_names : (ℕ → Option Path) → Option Unnamed → Option ℕ → Option Unnamed
+fault_names last names None = names
+fault_names last names (Some depth) = Some (with_name (place_at last depth) depth names)
+
+-- what is reported of an item, where these are the last entries at each depth, and these names were
+-- counted: at an entry, the names of a folder that is left, and then its problem
+abbrev pub reports_of : Options → (ℕ → Option Path) → Option Unnamed → Item → Bytes
+reports_of o last names (Ok (e, p)) = told_at e.depth names ++ report_of (to_report o p)
+reports_of o last names (Err p) = fault_told last names p (name_depth p)
+
+-- the names that are counted after an item
+abbrev pub names_after : (ℕ → Option Path) → Option Unnamed → Item → Option Unnamed
+names_after last names (Ok (e, p)) = still e.depth names
+names_after last names (Err p) = fault_names last names (name_depth p)
+
+-- what is reported of items in turn, after these, and where these names were counted
+abbrev pub reports_after : Options → List Item → Option Unnamed → List Item → Bytes
+reports_after o before names [] = []
+reports_after o before names (item ∷ items) =
+    reports_of o (last_at before) names item ++ reports_after o (before ++ item ∷ []) (names_after (last_at before) names item) items
+
+-- the names that are counted after them
+abbrev pub names_left : List Item → Option Unnamed → List Item → Option Unnamed
+names_left before names [] = names
+names_left before names (item ∷ items) = names_left (before ++ item ∷ []) (names_after (last_at before) names item) items
+
+-- what is reported of the first items of a walk
+abbrev pub first_reports : Options → List Item → Bytes
+first_reports o items = reports_after o [] None items
+
+-- what is reported of all items of a walk: at the end the names that were counted last
+abbrev pub whole_reports : Options → List Item → Bytes
+whole_reports o items = first_reports o items ++ names_told (names_left [] None items)

@@ -1,7 +1,7 @@
 -- What surveys of roots meet, and what is reported of it.
-use Rattle.std.specs.Prelude.{◌≡◌, ◌⊎◌, ◌≤◌, ℕ, ◌+◌, Bool, true, false, All, List, [], ◌∷◌, ◌++◌, length, map, string_bytes, Option, None, option_map, Result, Ok, Err}
+use Rattle.std.specs.Prelude.{◌≡◌, ◌⊎◌, ◌≤◌, ℕ, ◌+◌, Bool, true, false, All, List, [], ◌∷◌, ◌++◌, length, map, string_bytes, Option, None, Some, option_map, Result, Ok, Err, if◌then◌else◌}
 use Rattle.std.specs.List.{flat_map}
-use Rattle.ignore_base.specs.Problem.{Problem, problem_of}
+use Rattle.ignore_base.specs.Problem.{Problem, problem_of, several, at_line, at_path, at_depth, loop, io, glob, unrecognized, invalid_definition, memory}
 use Rattle.ignore_base.specs.Text.{Bytes, Path}
 use Rattle.ignore_base.specs.declared.error.Error.{Error}
 use Rattle.ignore_dir.specs.Load.{AreLoads, Loaded}
@@ -26,7 +26,9 @@ use Rattle.ignore.specs.declared.options.WalkOptions.{WalkOptions}
 use Rattle.ig_options.specs.declared.options.Options.{Options}
 use Rattle.ig_commands.specs.Counts.{capped, counted}
 use Rattle.ig_commands.specs.Listing.{GoesBy, IsAsked}
-use Rattle.ig_commands.specs.Reports.{is_known, report_line, report_of}
+use Rattle.ig_commands.specs.Names.{names_told, still, told_at, told_before, with_name}
+use Rattle.ig_commands.specs.Reports.{is_bad_name, is_known, report_line, report_of, to_report}
+use Rattle.ig_commands.specs.declared.names.Unnamed.{Unnamed}
 
 -- an item of a survey, with what was reported beside its entry
 abbrev pub Seen : Type 0
@@ -37,15 +39,63 @@ abbrev pub seen_of : Result Surveyed Error → Seen
 seen_of (Ok s) = (Ok (entry_of s), option_map problem_of s.error)
 seen_of (Err e) = (Err (problem_of e), None)
 
--- what is reported of an item: what is wrong beside the entry, or stands in its place
-abbrev pub reports : Seen → Bytes
-reports (Ok e, problem) = report_of problem
-reports (Err p, problem) = report_line p
+-- the folder of a name that isn't UTF-8, where a problem in the place of an entry is one
+abbrev pub name_place : Problem → Option Path
+name_place (several ps) = None
+name_place (at_line line p) = None
+name_place (at_path path p) = if is_bad_name p then Some path else None
+name_place (at_depth depth p) = None
+name_place (loop ancestor child) = None
+name_place (io fault) = None
+name_place (glob pattern err) = None
+name_place (unrecognized name) = None
+name_place invalid_definition = None
+name_place memory = None
+
+-- what is reported at once of a problem in the place of an entry, where these names were counted: of a
+-- further name those in another folder
+abbrev pub item_told : Option Unnamed → Problem → Option Path → Bytes
+item_told names problem None = report_line problem
+item_told names problem (Some place) = told_before place names
+
+-- the names that are counted after it
+abbrev pub item_names : Option Unnamed → Option Path → Option Unnamed
+item_names names None = names
+item_names names (Some place) = Some (with_name place 1 names)
+
+-- what is reported of an item, where these names were counted: at an entry, these names, since those of
+-- a folder come first there, and what is wrong beside it
+abbrev pub reports : Options → Option Unnamed → Seen → Bytes
+reports o names (Ok e, problem) = told_at 0 names ++ report_of (to_report o problem)
+reports o names (Err p, problem) = item_told names p (name_place p)
+
+-- the names that are counted after an item
+abbrev pub names_by : Option Unnamed → Seen → Option Unnamed
+names_by names (Ok e, problem) = still 0 names
+names_by names (Err p, problem) = item_names names (name_place p)
+
+-- what is reported of some items in turn, where these names were counted
+abbrev pub told_from : Options → Option Unnamed → List Seen → Bytes
+told_from o names [] = []
+told_from o names (s ∷ more) = reports o names s ++ told_from o (names_by names s) more
+
+-- the names that are counted after them
+abbrev pub left_from : Option Unnamed → List Seen → Option Unnamed
+left_from names [] = names
+left_from names (s ∷ more) = left_from (names_by names s) more
+
+-- what is reported of the first items of a root
+abbrev pub begun_in : Options → List Seen → Bytes
+begun_in o seen = told_from o None seen
+
+-- what is reported of all items of a root: at the end the names that were counted last
+abbrev pub told_in : Options → List Seen → Bytes
+told_in o seen = begun_in o seen ++ names_told (left_from None seen)
 
 -- something is reported of an item
-abbrev pub is_wrong : Seen → Bool
-is_wrong (Ok e, problem) = is_known problem
-is_wrong (Err p, problem) = true
+abbrev pub is_wrong : Options → Seen → Bool
+is_wrong o (Ok e, problem) = is_known (to_report o problem)
+is_wrong o (Err p, problem) = true
 
 -- the problem beside an entry is that of what the query for it loads, where `old` is kept, which
 -- leaves `new`
@@ -99,9 +149,19 @@ OfMatcher files f P m r =
 abbrev pub all_seen : List OfRoot → List Seen
 all_seen all = flat_map (λ r. r.1) all
 
+-- what is reported of the items of all roots
+abbrev pub all_told : Options → List OfRoot → Bytes
+all_told o all = flat_map (λ r. told_in o r.1) all
+
+-- the same, where those of the last root are the first ones
+abbrev pub begun_told : Options → List OfRoot → Bytes
+begun_told o [] = []
+begun_told o (r ∷ []) = begun_in o r.1
+begun_told o (r ∷ (s ∷ more)) = told_in o r.1 ++ begun_told o (s ∷ more)
+
 -- how many times something was reported, those of the files that are named included
-abbrev pub wrong_in : List (Option Problem) → List OfRoot → ℕ
-wrong_in problems all = capped (counted 0 (map is_wrong (all_seen all)) + counted 0 (map is_known problems))
+abbrev pub wrong_in : Options → List (Option Problem) → List OfRoot → ℕ
+wrong_in o problems all = capped (counted 0 (map (is_wrong o) (all_seen all)) + counted 0 (map is_known problems))
 
 -- these are the items of the survey of each root that is asked for, without the slashes at its end:
 -- by the settings of a walk, and by the rules from outside as they were read
@@ -124,3 +184,13 @@ AreBegun tree env o b all =
 -- named, but with hidden entries met as all others are
 abbrev pub IsAskedMet : Tree → Env → Options → Draft → WalkOptions → List (Option Problem) → Type 0
 IsAskedMet tree env o first b problems = (asked : WalkOptions) × IsAsked tree env o first asked problems × (b ≡ with_hidden asked false)
+
+-- what was reported of roots: of all of them, or of the first items
+abbrev pub told_by : Bool → Options → List OfRoot → Bytes
+told_by false o all = begun_told o all
+told_by true o all = all_told o all
+
+-- these are the items of all roots, or the first ones
+abbrev pub AreMetBy : Bool → Tree → Env → Options → WalkOptions → List OfRoot → Type 0
+AreMetBy false tree env o b all = AreBegun tree env o b all
+AreMetBy true tree env o b all = AreSurveys tree env o b all

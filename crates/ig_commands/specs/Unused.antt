@@ -1,5 +1,5 @@
 -- Which rules decide on no entry met.
-use Rattle.std.specs.Prelude.{◌≡◌, ◌⊎◌, ℕ, true, ◌<◌, All, List, [], ◌∷◌, ◌++◌, Contains, Option, None, Some, Ok, if◌then◌else◌, length, map, codes, string_bytes}
+use Rattle.std.specs.Prelude.{◌≡◌, ◌⊎◌, ℕ, Bool, true, ◌<◌, All, List, [], ◌∷◌, ◌++◌, Contains, Option, None, Some, Ok, if◌then◌else◌, length, map, codes, string_bytes}
 use Rattle.std.specs.Cmp.Lexicographic.{slice_cmp}
 use Rattle.std.specs.List.{AllZip, flat_map}
 use Rattle.std.specs.Ordering.{is_lt, nat_cmp}
@@ -28,7 +28,7 @@ use Rattle.ig_commands.specs.Form.{at_end, rule_fields, rule_of}
 use Rattle.ig_commands.specs.Listing.{GoesBy, RefusesOptions}
 use Rattle.ig_commands.specs.Reports.{report_line, report_of}
 use Rattle.ig_commands.specs.Stops.{EndsAfter}
-use Rattle.ig_commands.specs.Surveys.{AreBegun, AreSurveys, HasList, IsAskedMet, IsWhole, OfRoot, all_seen, reports, wrong_in}
+use Rattle.ig_commands.specs.Surveys.{AreMetBy, HasList, IsAskedMet, IsWhole, OfRoot, all_seen, all_told, told_by, wrong_in}
 use Rattle.ig_commands.specs.Worktree.{worktree}
 use Rattle.ig_commands.specs.declared.stop.Stop.{Stop}
 
@@ -114,8 +114,8 @@ count_of unused = capped (length unused)
 pub record Writes (o : Options) (problems : List (Option Problem)) (all : List OfRoot) (unused : List FileRule) (status : ℕ)
     (out err : Bytes → Type 0) : Type 0 where
   pub writes : out (flat_map (written o) unused)
-  pub reports : err ((flat_map report_of problems ++ flat_map reports (all_seen all)) ++ stats_line o.stats (wrong_in problems all) (count_of unused))
-  pub ends : status ≡ status_of (wrong_in problems all) (count_of unused)
+  pub reports : err ((flat_map report_of problems ++ all_told o all) ++ stats_line o.stats (wrong_in o problems all) (count_of unused))
+  pub ends : status ≡ status_of (wrong_in o problems all) (count_of unused)
 
 -- the rules that decide on no entry met of the surveys of the roots were listed, by the settings that
 -- the options ask for, but with hidden entries met as all others are, in the worktree of each tree that
@@ -132,8 +132,7 @@ UnusedAsked files f env o first status out err =
 abbrev pub UnusedEnds : {F : Type 0} → Files F → F → Env → Options → Draft → (Bytes → Type 0) → (Bytes → Type 0) → Stop → Type 0
 UnusedEnds files f env o first out err stop =
     ((b : WalkOptions) × (problems : List (Option Problem)) × (roots : List Path) × (all : List OfRoot)
-    × AllZip IsTrimmed (map string_bytes o.roots.items) roots
-    × EndsAfter [] (flat_map report_of problems ++ flat_map reports (all_seen all)) out err stop
-    × ((tree : Tree) → IsHonest files f tree → IsAskedMet tree env o first b problems
-    × (AreBegun (worktree roots tree) env o b all ⊎ AreSurveys (worktree roots tree) env o b all)))
+    × (is_whole : Bool) × AllZip IsTrimmed (map string_bytes o.roots.items) roots
+    × EndsAfter [] (flat_map report_of problems ++ told_by is_whole o all) out err stop
+    × ((tree : Tree) → IsHonest files f tree → IsAskedMet tree env o first b problems × AreMetBy is_whole (worktree roots tree) env o b all))
     ⊎ EndsAfter [] [] out err stop

@@ -33,7 +33,7 @@ use Rattle.ig_commands.specs.Counts.{capped, counted, status_of}
 use Rattle.ig_commands.specs.Form.{reasoned}
 use Rattle.ig_commands.specs.Input.{AreGiven, BeginsGiving}
 use Rattle.ig_commands.specs.Listing.{IsAsked, RefusesOptions}
-use Rattle.ig_commands.specs.Reports.{is_known, report_line, report_of}
+use Rattle.ig_commands.specs.Reports.{is_known, report_line, report_of, to_report}
 use Rattle.ig_commands.specs.Root.{IsRoot}
 use Rattle.ig_commands.specs.Stops.{EndsAfter, EndsReading}
 use Rattle.ig_commands.specs.declared.stop.Stop.{Stop}
@@ -89,18 +89,18 @@ abbrev pub outside_line : Path → Path → Bytes
 outside_line root path = codes "ig: " ++ (path ++ (codes ": outside of " ++ (root ++ 10 ∷ [])))
 
 -- what is reported of it
-abbrev pub reports : Path → Said → Bytes
-reports root (no_text number) = record_line number (codes "is not UTF-8")
-reports root (ill_quoted number) = record_line number (codes "is badly quoted")
-reports root (not_below path) = outside_line root path
-reports root (told t) = report_of t.problem
+abbrev pub reports : Options → Path → Said → Bytes
+reports o root (no_text number) = record_line number (codes "is not UTF-8")
+reports o root (ill_quoted number) = record_line number (codes "is badly quoted")
+reports o root (not_below path) = outside_line root path
+reports o root (told t) = report_of (to_report o t.problem)
 
 -- something is reported of it
-abbrev pub is_wrong : Said → Bool
-is_wrong (no_text number) = true
-is_wrong (ill_quoted number) = true
-is_wrong (not_below path) = true
-is_wrong (told t) = is_known t.problem
+abbrev pub is_wrong : Options → Said → Bool
+is_wrong o (no_text number) = true
+is_wrong o (ill_quoted number) = true
+is_wrong o (not_below path) = true
+is_wrong o (told t) = is_known (to_report o t.problem)
 
 -- it is a path that is ignored
 abbrev pub is_found : Said → Bool
@@ -172,16 +172,16 @@ abbrev pub AreBegun : Tree → Env → WalkOptions → List Given → Path → L
 AreBegun tree env b all root said = (said ≡ []) ⊎ AreFirst tree env b all root said
 
 -- how many times something was reported, those of the files that are named included
-abbrev pub wrong_in : List (Option Problem) → List Said → ℕ
-wrong_in problems said = capped (counted 0 (map is_wrong said) + counted 0 (map is_known problems))
+abbrev pub wrong_in : Options → List (Option Problem) → List Said → ℕ
+wrong_in o problems said = capped (counted 0 (map (is_wrong o) said) + counted 0 (map is_known problems))
 
 -- each path that is given is written after its reason, and what is wrong is reported; the status is 2
 -- where something was, else 0 where a path is ignored, and 1 where none is
 pub record Writes (o : Options) (problems : List (Option Problem)) (root : Path) (said : List Said) (status : ℕ)
     (out err : Bytes → Type 0) : Type 0 where
   pub writes : out (flat_map (written o root) said)
-  pub reports : err (flat_map report_of problems ++ flat_map (reports root) said)
-  pub ends : status ≡ status_of (wrong_in problems said) (counted 0 (map is_found said))
+  pub reports : err (flat_map report_of problems ++ flat_map (reports o root) said)
+  pub ends : status ≡ status_of (wrong_in o problems said) (counted 0 (map is_found said))
 
 -- `why` has answered about all that is given, by the settings that the options ask for in each tree
 -- that the files are consistent with; or the options are rejected
@@ -196,7 +196,7 @@ WhyAsked files f env o first status out err =
 abbrev pub WhyEnds : {F : Type 0} → Files F → F → Env → Options → Draft → (Bytes → Type 0) → (Bytes → Type 0) → Stop → Type 0
 WhyEnds files f env o first out err stop =
     ((b : WalkOptions) × (problems : List (Option Problem)) × (root : Path) × (said : List Said)
-    × EndsAfter (flat_map (written o root) said) (flat_map report_of problems ++ flat_map (reports root) said) out err stop
+    × EndsAfter (flat_map (written o root) said) (flat_map report_of problems ++ flat_map (reports o root) said) out err stop
     × ((tree : Tree) → IsHonest files f tree → IsAsked tree env o first b problems × AreBegun tree env b o.paths.items root said))
     ⊎ EndsAfter [] [] out err stop
 
@@ -215,6 +215,6 @@ abbrev pub InputEnds : {F : Type 0} → Files F → F → Env → Options → Dr
 InputEnds files f env o first input out err stop =
     ((b : WalkOptions) × (problems : List (Option Problem)) × (root : Path) × (given : List Given) × (said : List Said)
     × IfSome input (λ bytes. BeginsGiving o bytes given)
-    × EndsReading (flat_map (written o root) said) (flat_map report_of problems ++ flat_map (reports root) said) out err stop
+    × EndsReading (flat_map (written o root) said) (flat_map report_of problems ++ flat_map (reports o root) said) out err stop
     × ((tree : Tree) → IsHonest files f tree → IsAsked tree env o first b problems × AreBegun tree env b given root said))
     ⊎ EndsAfter [] [] out err stop

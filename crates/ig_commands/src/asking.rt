@@ -4,7 +4,7 @@ ghost use Rattle.ignore_base.specs.Problem.{problem_of, memory};
 ghost use Rattle.ignore_files.specs.Gives.{IsHonest};
 ghost use Rattle.ignore_files.specs.Tree.{Tree};
 ghost use Rattle.ignore.specs.Builder.{with_hidden, with_overrides, with_types};
-ghost use Rattle.ig_commands.specs.Listing.{IsAsked, RefusesOptions, base_of};
+ghost use Rattle.ig_commands.specs.Listing.{IsAsked, RefusesOptions, base_of, named_told};
 ghost use Rattle.ig_commands.specs.Run.{types_at_first};
 ghost use Rattle.ig_options.specs.Choices.{RefusesTypes};
 ghost use Rattle.ig_options.specs.Globs.{RefusesOneOf};
@@ -19,7 +19,7 @@ use ignore_files::{Env, Files};
 use ignore_types::types::{Types, TypesBuilder};
 use std::alloc::Global;
 
-/// What a walk goes by, and what is wrong with the files that the options name.
+/// What a walk goes by, and what is to be reported of the files that the options name.
 #[derive(Drop)]
 pub(crate) struct Asked {
     pub(crate) walk: WalkOptions,
@@ -41,8 +41,19 @@ pub(crate) fn asked_for<F: Files>(
     let types = types_of(first, options)?;
     let mut walk = walk_options(world.alloc, options)?;
     set_rules(&mut walk, globs, types);
-    let errors = add_files(world.alloc, world.files, world.env, options, &mut walk)?;
+    let found = add_files(world.alloc, world.files, world.env, options, &mut walk)?;
+    let errors = to_report(world.alloc, options, found);
     Ok(Asked { walk, errors })
+}
+
+/// What is wrong with the files that are named, where it is to be reported.
+fn to_report(alloc: Global, options: &Options, errors: Vec<Option<Error>>) -> Vec<Option<Error>>
+    ensures { map (option_map problem_of) result.items ≡ named_told options.now (map (option_map problem_of) errors.items) }
+{
+    if options.no_ignore_messages {
+        return Vec::new(alloc);
+    }
+    errors
 }
 
 /// Whether the options are rejected, as they are where what they ask for is made of them. `first` has

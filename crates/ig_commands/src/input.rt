@@ -87,7 +87,7 @@ fn report_and_answer<F: Files, R: BufRead + Drop, W: Write, E: Write>(
         × ((tree : Tree) → IsHonest F.Files asking.now.world.now.files.now tree → AreAll tree asking.now.world.now.env.now asked.walk given root said)) }
     ensures ended { IfErr result (λ stop. (root : Path) × (given : List Given) × (said : List Plain)
         × IfSome (R.remaining input) (λ bytes. BeginsGiving asking.now.options.now bytes given)
-        × EndsReading (flat_map (written asking.now.options.now root) said) (flat_map report_of (map (option_map problem_of) asked.errors.items) ++ flat_map (reports root) said)
+        × EndsReading (flat_map (written asking.now.options.now root) said) (flat_map report_of (map (option_map problem_of) asked.errors.items) ++ flat_map (reports asking.now.options.now root) said)
         (Appends (W.contents out.old) (W.contents out.new)) (Appends (E.contents err.old) (E.contents err.new)) stop
         × ((tree : Tree) → IsHonest F.Files asking.now.world.now.files.now tree → AreBegun tree asking.now.world.now.env.now asked.walk given root said)) }
 {
@@ -113,13 +113,13 @@ fn answer_all<F: Files, R: BufRead + Drop, W: Write, E: Write>(
     ensures answers { IfOk result (λ counts. (given : List Given) × (said : List Plain)
         × IfSome (R.remaining input) (λ bytes. AreGiven asking.now.options.now bytes given)
         × Appends (W.contents out.old) (W.contents out.new) (flat_map (written asking.now.options.now (string_bytes matcher.old.asked.root)) said)
-        × Appends (E.contents err.old) (E.contents err.new) (flat_map (reports (string_bytes matcher.old.asked.root)) said)
-        × (counts.reported ≡ counted 0 (map is_wrong said)) × (counts.found ≡ counted 0 (map is_found said))
+        × Appends (E.contents err.old) (E.contents err.new) (flat_map (reports asking.now.options.now (string_bytes matcher.old.asked.root)) said)
+        × (counts.reported ≡ counted 0 (map (is_wrong asking.now.options.now) said)) × (counts.found ≡ counted 0 (map is_found said))
         × InEachScene F.Files asking.now.world.now.files.now matcher.old.asked (λ g. Agrees g matcher.old.cache
         → AreSaid g (dir_of matcher.old.asked) given matcher.old.cache matcher.new.cache said)) }
     ensures ended { IfErr result (λ stop. (given : List Given) × (said : List Plain) × (last : Cache)
         × IfSome (R.remaining input) (λ bytes. BeginsGiving asking.now.options.now bytes given)
-        × EndsReading (flat_map (written asking.now.options.now (string_bytes matcher.old.asked.root)) said) (flat_map (reports (string_bytes matcher.old.asked.root)) said)
+        × EndsReading (flat_map (written asking.now.options.now (string_bytes matcher.old.asked.root)) said) (flat_map (reports asking.now.options.now (string_bytes matcher.old.asked.root)) said)
         (Appends (W.contents out.old) (W.contents out.new)) (Appends (E.contents err.old) (E.contents err.new)) stop
         × InEachScene F.Files asking.now.world.now.files.now matcher.old.asked (λ g. Agrees g matcher.old.cache
         → AreSaid g (dir_of matcher.old.asked) given matcher.old.cache last said)) }
@@ -151,8 +151,8 @@ fn answer<F: Files, W: Write, E: Write>(
     ensures answers { IfOk result (λ seen. (given : Given) × (one : Plain)
         × Gives (is_opened asking.now.options.now.null piece.text.items) piece.text.items piece.number given
         × Appends (W.contents out.old) (W.contents out.new) (written asking.now.options.now (string_bytes matcher.old.asked.root) one)
-        × Appends (E.contents err.old) (E.contents err.new) (reports (string_bytes matcher.old.asked.root) one)
-        × (seen.reported ≡ is_wrong one) × (seen.found ≡ is_found one)
+        × Appends (E.contents err.old) (E.contents err.new) (reports asking.now.options.now (string_bytes matcher.old.asked.root) one)
+        × (seen.reported ≡ is_wrong asking.now.options.now one) × (seen.found ≡ is_found one)
         × InEachScene F.Files asking.now.world.now.files.now matcher.old.asked (λ g. Agrees g matcher.old.cache
         → IsSaid g (dir_of matcher.old.asked) given matcher.old.cache matcher.new.cache one × Agrees g matcher.new.cache)) }
     ensures same { matcher.new.asked ≡ matcher.old.asked }

@@ -1,5 +1,5 @@
 //! The command `ls`: the entries of a walk that the options choose.
-ghost use Rattle.std.specs.Prelude.{◌≡◌, ◌≢◌, List, Result, Ok, Err, Some, false, [], map, option_map, OnOk, IfOk, IfErr};
+ghost use Rattle.std.specs.Prelude.{◌≡◌, ◌≢◌, ◌++◌, ℕ, List, Result, Ok, Err, None, Some, false, [], map, option_map, OnOk, IfOk, IfErr};
 ghost use Rattle.std.specs.Io.KnownBytes.{Appends};
 ghost use Rattle.std.specs.Iterator.{Drains, IsFinite, YieldsThen};
 ghost use Rattle.std.specs.List.{flat_map, list_any};
@@ -14,14 +14,16 @@ ghost use Rattle.ignore_walk.specs.Entry.{Item, entry_of, item_of, problem_in};
 ghost use Rattle.ignore_walk.specs.GoesOn.{HasNoEnd};
 ghost use Rattle.ignore_walk.specs.declared.entry.DirEntry.{DirEntry};
 ghost use Rattle.ig_options.specs.Settings.{most_steps};
-ghost use Rattle.ig_commands.specs.Listing.{AreBegun, AreFirst, AreListed, Begins, EndsAsked, GoesBy, Lists, ListsAsked, Writes, all_reports, listing};
-ghost use Rattle.ig_commands.specs.Reports.{Notes, is_known, is_reported, last_in, report_of, reports_after, reports_of};
+ghost use Rattle.ig_commands.specs.Listing.{AreBegun, AreFirst, AreListed, Begins, EndsAsked, GoesBy, Lists, ListsAsked, Writes, begun_reports, listing};
+ghost use Rattle.ig_commands.specs.Names.{still, told_at, told_before, with_name};
+ghost use Rattle.ig_commands.specs.Reports.{Notes, fault_names, fault_told, first_reports, is_known, is_reported, last_in, name_depth, names_after, names_left, place_at, report_of, reports_of, to_report, whole_reports};
 ghost use Rattle.ig_commands.specs.Stops.{EndsAfter};
 ghost use Rattle.ig_commands.specs.Writing.{is_found, is_listed, lines_of};
 
 use crate::asking::{Asked, asked_for};
 use crate::counts::{Counts, Seen, report_counts, status_of};
-use crate::reports::{Folders, report_all, report_fault, report_some};
+use crate::names::{Unnamed, count_name, end_names, leave_names};
+use crate::reports::{Folders, name_depth, place_at, report_all, report_fault, report_rules};
 use crate::stop::Stop;
 use crate::writing::{is_listed, refuse_or_end, write_path};
 use commands::World;
@@ -77,7 +79,7 @@ fn report_and_walk<F: Files, W: Write, E: Write>(
         status (Appends (W.contents out.old) (W.contents out.new)) (Appends (E.contents err.old) (E.contents err.new))
         × ((tree : Tree) → IsHonest F.Files world.now.files.now tree → AreListed tree world.now.env.now options.now asked.walk items)) }
     ensures ended { IfErr result (λ stop. (items : List Item) × EndsAfter (flat_map (lines_of options.now) items)
-        (all_reports (map (option_map problem_of) asked.errors.items) items) (Appends (W.contents out.old) (W.contents out.new)) (Appends (E.contents err.old) (E.contents err.new)) stop
+        (begun_reports options.now (map (option_map problem_of) asked.errors.items) items) (Appends (W.contents out.old) (W.contents out.new)) (Appends (E.contents err.old) (E.contents err.new)) stop
         × ((tree : Tree) → IsHonest F.Files world.now.files.now tree → AreFirst tree world.now.env.now options.now asked.walk items)) }
 {
     let reported = report_all(&asked.errors, err)?;
@@ -98,10 +100,10 @@ fn walk_and_write<F: Files, W: Write, E: Write>(
     out: &mut W,
     err: &mut E,
 ) -> Result<Counts, Stop>
-    ensures lists { IfOk result (λ counts. (items : List Item) × Writes options.now items counts.reported counts.found (Appends (W.contents out.old) (W.contents out.new)) (Appends (E.contents err.old) (E.contents err.new))
+    ensures lists { IfOk result (λ counts. (items : List Item) × Writes options.now items (whole_reports options.now items) counts.reported counts.found (Appends (W.contents out.old) (W.contents out.new)) (Appends (E.contents err.old) (E.contents err.new))
         × ((tree : Tree) → IsHonest F.Files world.now.files.now tree → AreListed tree world.now.env.now options.now walk items)) }
     ensures ended { IfErr result (λ stop. (items : List Item) × EndsAfter (flat_map (lines_of options.now) items)
-        (reports_after [] items) (Appends (W.contents out.old) (W.contents out.new)) (Appends (E.contents err.old) (E.contents err.new)) stop
+        (first_reports options.now items) (Appends (W.contents out.old) (W.contents out.new)) (Appends (E.contents err.old) (E.contents err.new)) stop
         × ((tree : Tree) → IsHonest F.Files world.now.files.now tree → AreBegun tree world.now.env.now options.now walk items)) }
 {
     let Ok(steps) = walk_of(world, options, walk) else {
@@ -111,7 +113,9 @@ fn walk_and_write<F: Files, W: Write, E: Write>(
     runs::a_finished_run_is_a_list::<F, ByName>();
     runs::only_the_last_item_ends::<F, ByName>();
     runs::a_run_begins_the_list::<F, ByName>();
-    write_items(steps, options, world.alloc, out, err)
+    let walked = write_items(steps, options, world.alloc, out, err)?;
+    end_names(&walked.names, err)?;
+    Ok(walked.counts)
 }
 
 /// The walk of the roots by these settings.
@@ -148,6 +152,37 @@ fn walk_of<'a, F: Files>(
     Ok(Walk::new(ground, names))
 }
 
+/// What was counted in a walk: what was found and reported, and the names that aren't UTF-8 which are
+/// still to be reported.
+#[derive(Drop)]
+struct Walked {
+    counts: Counts,
+    names: Option<Unnamed>,
+}
+
+/// What reports go by: the last entry at each depth, and the names that aren't UTF-8 which are still to
+/// be reported.
+#[derive(Drop)]
+struct Met {
+    alloc: Global,
+    folders: Folders,
+    names: Option<Unnamed>,
+}
+
+impl Met {
+    /// Nothing was met.
+    fn new(alloc: Global) -> Met
+        ensures folders { (depth : ℕ) → last_in result.folders depth ≡ None }
+        ensures names { result.names ≡ None }
+    {
+        Met {
+            alloc,
+            folders: BTreeMap::new(alloc),
+            names: None,
+        }
+    }
+}
+
 /// Writes the items of a walk.
 fn write_items<I: Iterator<Item = Item>, W: Write, E: Write>(
     items: I,
@@ -155,44 +190,50 @@ fn write_items<I: Iterator<Item = Item>, W: Write, E: Write>(
     alloc: Global,
     out: &mut W,
     err: &mut E,
-) -> Result<Counts, Stop>
+) -> Result<Walked, Stop>
     requires ends { I.can_next items × IsFinite (I.remaining items) }
-    ensures lists { IfOk result (λ counts. (all : List (Result DirEntry Error)) × Drains I.next_gives items all
-        × Writes options.now (map item_of all) counts.reported counts.found (Appends (W.contents out.old) (W.contents out.new)) (Appends (E.contents err.old) (E.contents err.new))) }
+    ensures lists { IfOk result (λ walked. (all : List (Result DirEntry Error)) × Drains I.next_gives items all
+        × Writes options.now (map item_of all) (first_reports options.now (map item_of all)) walked.counts.reported walked.counts.found (Appends (W.contents out.old) (W.contents out.new)) (Appends (E.contents err.old) (E.contents err.new))
+        × (walked.names ≡ names_left [] None (map item_of all))) }
     ensures ended { IfErr result (λ stop. (all : List (Result DirEntry Error)) × (x : Result DirEntry Error) × (v : I)
         × YieldsThen I.next_gives items all (Some x) v
-        × EndsAfter (flat_map (lines_of options.now) (map item_of all)) (reports_after [] (map item_of all)) (Appends (W.contents out.old) (W.contents out.new)) (Appends (E.contents err.old) (E.contents err.new)) stop) }
+        × EndsAfter (flat_map (lines_of options.now) (map item_of all)) (first_reports options.now (map item_of all)) (Appends (W.contents out.old) (W.contents out.new)) (Appends (E.contents err.old) (E.contents err.new)) stop) }
 {
-    let mut folders = BTreeMap::new(alloc);
+    let mut met = Met::new(alloc);
     let mut counts = Counts::begun(0);
     for item in items {
-        let one = write_item(item, options, &mut folders, out, err)?;
+        let one = write_item(item, options, &mut met, out, err)?;
         counts = counts.with(one);
     }
-    Ok(counts)
+    Ok(Walked {
+        counts,
+        names: met.names,
+    })
 }
 
-/// Writes an item, and notes it as the last one at its depth.
+/// Writes an item, and notes it: an entry as the last one at its depth, and a name that isn't UTF-8 as
+/// one more.
 fn write_item<W: Write, E: Write>(
     item: Item,
     options: &Options,
-    folders: &mut Folders,
+    met: &mut Met,
     out: &mut W,
     err: &mut E,
 ) -> Result<Seen, Stop>
     ensures lists { IfOk result (λ seen. Appends (W.contents out.old) (W.contents out.new) (lines_of options.now (item_of item))
-        × Appends (E.contents err.old) (E.contents err.new) (reports_of (last_in folders.old) (item_of item))
-        × (seen.reported ≡ is_reported (item_of item)) × (seen.found ≡ is_found options.now (item_of item))) }
-    ensures notes { OnOk result (Notes (item_of item) (last_in folders.old) (last_in folders.new)) }
+        × Appends (E.contents err.old) (E.contents err.new) (reports_of options.now (last_in met.old.folders) met.old.names (item_of item))
+        × (seen.reported ≡ is_reported options.now (item_of item)) × (seen.found ≡ is_found options.now (item_of item))) }
+    ensures notes { OnOk result (Notes (item_of item) (last_in met.old.folders) (last_in met.new.folders)) }
+    ensures names { OnOk result (met.new.names ≡ names_after (last_in met.old.folders) met.old.names (item_of item)) }
     ensures ended { IfErr result (EndsAfter [] [] (Appends (W.contents out.old) (W.contents out.new)) (Appends (E.contents err.old) (E.contents err.new))) }
     ensures enough { OnOk result (item_of item ≢ Err memory) }
     ensures cause { item_of item ≡ Err memory → IfErr result (λ stop. stop ≡ Stop.Memory) }
 {
     match item {
-        Ok(entry) => note_and_write(entry, options, folders, out, err),
+        Ok(entry) => note_and_write(entry, options, met, out, err),
         Err(Error::Memory) => Err(Stop::Memory),
         Err(error) => {
-            report_fault(&error, folders, err)?;
+            note_fault(&error, met, err)?;
             Ok(Seen {
                 reported: true,
                 found: false,
@@ -205,42 +246,73 @@ fn write_item<W: Write, E: Write>(
 fn note_and_write<W: Write, E: Write>(
     entry: DirEntry,
     options: &Options,
-    folders: &mut Folders,
+    met: &mut Met,
     out: &mut W,
     err: &mut E,
 ) -> Result<Seen, Stop>
     ensures lists { IfOk result (λ seen. Appends (W.contents out.old) (W.contents out.new) (lines_of options.now (item_of (Ok entry)))
-        × Appends (E.contents err.old) (E.contents err.new) (reports_of (last_in folders.old) (item_of (Ok entry)))
-        × (seen.reported ≡ is_reported (item_of (Ok entry))) × (seen.found ≡ is_found options.now (item_of (Ok entry)))) }
-    ensures notes { OnOk result (Notes (item_of (Ok entry)) (last_in folders.old) (last_in folders.new)) }
+        × Appends (E.contents err.old) (E.contents err.new) (reports_of options.now (last_in met.old.folders) met.old.names (item_of (Ok entry)))
+        × (seen.reported ≡ is_reported options.now (item_of (Ok entry))) × (seen.found ≡ is_found options.now (item_of (Ok entry)))) }
+    ensures notes { OnOk result (Notes (item_of (Ok entry)) (last_in met.old.folders) (last_in met.new.folders)) }
+    ensures names { OnOk result (met.new.names ≡ names_after (last_in met.old.folders) met.old.names (item_of (Ok entry))) }
     ensures ended { IfErr result (EndsAfter [] [] (Appends (W.contents out.old) (W.contents out.new)) (Appends (E.contents err.old) (E.contents err.new))) }
 {
     let depth = entry.depth();
-    let Ok(_) = folders.insert(depth, entry) else {
+    let Ok(_) = met.folders.insert(depth, entry) else {
         return Err(Stop::Memory);
     };
-    match folders.get(&depth) {
-        Some(entry) => write_entry(entry, options, out, err),
+    match met.folders.get(&depth) {
+        Some(entry) => write_entry(entry, options, &mut met.names, out, err),
         None => unreachable!(),
     }
 }
 
-/// Writes an entry, where it is listed, and reports its problem, if it has one.
+/// Notes an error in the place of an entry: one more name that isn't UTF-8, or else it is reported.
+fn note_fault<E: Write>(error: &Error, met: &mut Met, err: &mut E) -> Result<(), Stop>
+    ensures told { OnOk result (Appends (E.contents err.old) (E.contents err.new) (fault_told (last_in met.old.folders) met.old.names (problem_of error.now) (name_depth (problem_of error.now)))) }
+    ensures names { OnOk result (met.new.names ≡ fault_names (last_in met.old.folders) met.old.names (name_depth (problem_of error.now))) }
+    ensures folders { met.new.folders ≡ met.old.folders }
+    ensures ended { IfErr result (EndsAfter [] [] (λ bs. bs ≡ []) (Appends (E.contents err.old) (E.contents err.new))) }
+{
+    match name_depth(error) {
+        None => report_fault(error, &met.folders, err),
+        Some(depth) => note_name(depth, met, err),
+    }
+}
+
+/// Counts a name at a depth that isn't UTF-8.
+fn note_name<E: Write>(depth: usize, met: &mut Met, err: &mut E) -> Result<(), Stop>
+    ensures told { OnOk result (Appends (E.contents err.old) (E.contents err.new) (told_before (place_at (last_in met.old.folders) depth) met.old.names)) }
+    ensures names { OnOk result (met.new.names ≡ Some (with_name (place_at (last_in met.old.folders) depth) depth met.old.names)) }
+    ensures folders { met.new.folders ≡ met.old.folders }
+    ensures ended { IfErr result (EndsAfter [] [] (λ bs. bs ≡ []) (Appends (E.contents err.old) (E.contents err.new))) }
+{
+    let Ok(place) = place_at(met.alloc, &met.folders, depth) else {
+        return Err(Stop::Memory);
+    };
+    count_name(place, depth, &mut met.names, err)
+}
+
+/// Writes an entry, where it is listed, and reports the names of a folder that is left, and its
+/// problem, if it has one.
 fn write_entry<W: Write, E: Write>(
     entry: &DirEntry,
     options: &Options,
+    names: &mut Option<Unnamed>,
     out: &mut W,
     err: &mut E,
 ) -> Result<Seen, Stop>
     ensures lists { IfOk result (λ seen. Appends (W.contents out.old) (W.contents out.new) (lines_of options.now (item_of (Ok entry.now)))
-        × Appends (E.contents err.old) (E.contents err.new) (report_of (problem_in entry.now))
-        × (seen.reported ≡ is_known (problem_in entry.now)) × (seen.found ≡ is_listed options.now (entry_of entry.now).kind)) }
+        × Appends (E.contents err.old) (E.contents err.new) (told_at (entry_of entry.now).depth names.old ++ report_of (to_report options.now (problem_in entry.now)))
+        × (seen.reported ≡ is_known (to_report options.now (problem_in entry.now))) × (seen.found ≡ is_listed options.now (entry_of entry.now).kind)) }
+    ensures names { OnOk result (names.new ≡ still (entry_of entry.now).depth names.old) }
     ensures ended { IfErr result (EndsAfter [] [] (Appends (W.contents out.old) (W.contents out.new)) (Appends (E.contents err.old) (E.contents err.new))) }
 {
     let found = is_listed(options, entry.file_type());
     if found && !options.quiet {
         write_path(options, entry.path(), out)?;
     }
-    let reported = report_some(entry.error(), err)?;
+    leave_names(entry.depth(), names, err)?;
+    let reported = report_rules(options, entry.error(), err)?;
     Ok(Seen { reported, found })
 }

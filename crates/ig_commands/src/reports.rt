@@ -4,12 +4,15 @@ ghost use Rattle.std.specs.Io.KnownBytes.{Appends};
 ghost use Rattle.std.specs.List.{flat_map};
 ghost use Rattle.ignore_base.specs.Problem.{problem_of};
 ghost use Rattle.ig_commands.specs.Counts.{counted};
-ghost use Rattle.ig_commands.specs.Reports.{after_place, bare_depth, fault_line, folder_above, is_known, last_in, line_text, path_of, report_of};
+ghost use Rattle.ig_commands.specs.Reports.{after_place, bare_depth, fault_line, folder_above, is_bad, is_bad_name, is_known, last_in, line_text, name_depth, path_of, place_at, place_of, report_of, to_report};
 
 use crate::stop::Stop;
 use crate::writing::report;
-use ignore_base::Error;
+use ig_options::Options;
+use ignore_base::{Error, Fault};
+use ignore_files::Name;
 use ignore_walk::DirEntry;
+use std::alloc::{AllocError, Global};
 use std::collections::BTreeMap;
 use std::io::Write;
 
@@ -37,6 +40,53 @@ fn bare_depth(error: &Error) -> Option<usize>
         Error::WithDepth { depth, .. } => Some(*depth),
         _ => None,
     }
+}
+
+/// Whether a fault is that of a name that isn't UTF-8.
+fn is_bad(fault: &Fault) -> bool
+    ensures { result ≡ is_bad fault.now }
+{
+    match fault {
+        Fault::BadName => true,
+        _ => false,
+    }
+}
+
+/// Whether an error is such a fault.
+pub(crate) fn is_bad_name(error: &Error) -> bool
+    ensures { result ≡ is_bad_name (problem_of error.now) }
+{
+    match error {
+        Error::Io(fault) => is_bad(fault),
+        _ => false,
+    }
+}
+
+/// The depth of a name that isn't UTF-8, where an error in the place of an entry is one.
+pub(crate) fn name_depth(error: &Error) -> Option<usize>
+    ensures { result ≡ name_depth (problem_of error.now) }
+{
+    match error {
+        Error::WithDepth { depth, err } => { if is_bad_name(err) { Some(*depth) } else { None } }
+        _ => None,
+    }
+}
+
+/// Where something at a depth is: its folder, or its depth, where no entry is that folder.
+pub(crate) fn place_at(alloc: Global, folders: &Folders, depth: usize) -> Result<Name, AllocError>
+    ensures { IfOk result (λ place. place ≡ place_at (last_in folders.now) depth) }
+{
+    match folder_above(folders, depth) {
+        Some(folder) => Name::from_str(alloc, folder),
+        None => depth_place(alloc, depth),
+    }
+}
+
+/// A depth as a place.
+fn depth_place(alloc: Global, depth: usize) -> Result<Name, AllocError>
+    ensures { IfOk result (λ place. place ≡ place_of None depth) }
+{
+    Ok(Name::new(format!(in alloc; "depth {depth}")?))
 }
 
 /// Reports an error in the place of an entry, with its folder, where it has no path; or with its
@@ -97,8 +147,25 @@ pub(crate) fn report_all<E: Write>(errors: &[Option<Error>], err: &mut E) -> Res
     Ok(count)
 }
 
+/// Reports an error of files of rules, if there is one, and unless these aren't to be reported. It
+/// returns whether one is reported.
+pub(crate) fn report_rules<E: Write>(
+    options: &Options,
+    error: Option<&Error>,
+    err: &mut E,
+) -> Result<bool, Stop>
+    ensures reports { IfOk result (λ any. (any ≡ is_known (to_report options.now (option_map (λ e. problem_of e.now) error.entry)))
+        × Appends (E.contents err.old) (E.contents err.new) (report_of (to_report options.now (option_map (λ e. problem_of e.now) error.entry)))) }
+    ensures ended { IfErr result (λ stop. stop ≡ Stop.Silence) }
+{
+    if options.no_ignore_messages {
+        return Ok(false);
+    }
+    report_some(error, err)
+}
+
 /// Reports an error, if there is one. It returns whether there is.
-pub(crate) fn report_some<E: Write>(error: Option<&Error>, err: &mut E) -> Result<bool, Stop>
+fn report_some<E: Write>(error: Option<&Error>, err: &mut E) -> Result<bool, Stop>
     ensures reports { IfOk result (λ any. (any ≡ is_known (option_map (λ e. problem_of e.now) error.entry))
         × Appends (E.contents err.old) (E.contents err.new) (report_of (option_map (λ e. problem_of e.now) error.entry))) }
     ensures ended { IfErr result (λ stop. stop ≡ Stop.Silence) }

@@ -1,5 +1,5 @@
 //! The command `unused`: the rules below a folder that decide on no entry there.
-ghost use Rattle.std.specs.Prelude.{◌≡◌, ◌≢◌, ◌⊎◌, ◌++◌, ◌∷◌, ℕ, All, List, Ok, Some, None, [], Result, IfErr, IfOk, OnOk, codes, map, option_map, string_bytes, if◌then◌else◌};
+ghost use Rattle.std.specs.Prelude.{◌≡◌, ◌≢◌, ◌⊎◌, ◌++◌, ◌∷◌, ℕ, All, Bool, List, Ok, Some, None, [], Result, IfErr, IfOk, OnOk, codes, map, option_map, string_bytes, if◌then◌else◌};
 ghost use Rattle.std.specs.Io.KnownBytes.{Appends};
 ghost use Rattle.std.specs.Iterator.{IsFinite, YieldsThen};
 ghost use Rattle.std.specs.List.{AllZip, flat_map};
@@ -26,15 +26,16 @@ ghost use Rattle.ig_commands.specs.Found.{FindsOf, deciding, first_at, met, read
 ghost use Rattle.ig_commands.specs.Reports.{report_of};
 ghost use Rattle.ig_commands.specs.Rules.{Grows, rule_at};
 ghost use Rattle.ig_commands.specs.Stops.{EndsAfter};
-ghost use Rattle.ig_commands.specs.Surveys.{AreBegun, AreSurveys, IsBegun, OfMatcher, OfRoot, all_seen, is_wrong, reports, seen_of};
+ghost use Rattle.ig_commands.specs.Surveys.{AreMetBy, IsBegun, OfMatcher, OfRoot, all_seen, all_told, begun_in, begun_told, is_wrong, left_from, names_by, reports, seen_of, told_by, told_from, told_in};
 ghost use Rattle.ig_commands.specs.Unused.{AreUnusedIn, FileRule, UnusedAsked, UnusedEnds, Writes};
 ghost use Rattle.ig_commands.specs.Worktree.{worktree};
 
 use crate::asking::{Asked, asked_met};
 use crate::counts::{Counts, report_counts, status_of};
 use crate::form::{Form, rule_of};
-use crate::ignored::{matchers_of, report_item};
-use crate::reports::{report_all, report_some};
+use crate::ignored::{matchers_of, note_item};
+use crate::names::{Unnamed, end_names, leave_names};
+use crate::reports::{report_all, report_rules};
 use crate::rules::FileRules;
 use crate::stop::Stop;
 use crate::worktree::{Worktree, roots_of};
@@ -88,12 +89,11 @@ fn find_in_worktree<F: Files, W: Write, E: Write>(
         × Writes options.now (map (option_map problem_of) asked.errors.items) all unused status (Appends (W.contents out.old) (W.contents out.new)) (Appends (E.contents err.old) (E.contents err.new))
         × ((tree : Tree) → IsHonest F.Files world.now.files.now tree → asked.walk.roots ≡ []
         → AreUnusedIn (worktree roots tree) world.now.env.now options.now asked.walk all unused)) }
-    ensures ended { IfErr result (λ stop. ((roots : List Path) × (all : List OfRoot) × AllZip IsTrimmed (map string_bytes options.now.roots.items) roots
-        × EndsAfter [] (flat_map report_of (map (option_map problem_of) asked.errors.items) ++ flat_map reports (all_seen all))
+    ensures ended { IfErr result (λ stop. ((roots : List Path) × (all : List OfRoot) × (is_whole : Bool) × AllZip IsTrimmed (map string_bytes options.now.roots.items) roots
+        × EndsAfter [] (flat_map report_of (map (option_map problem_of) asked.errors.items) ++ told_by is_whole options.now all)
         (Appends (W.contents out.old) (W.contents out.new)) (Appends (E.contents err.old) (E.contents err.new)) stop
         × ((tree : Tree) → IsHonest F.Files world.now.files.now tree → asked.walk.roots ≡ []
-        → AreBegun (worktree roots tree) world.now.env.now options.now asked.walk all
-        ⊎ AreSurveys (worktree roots tree) world.now.env.now options.now asked.walk all))
+        → AreMetBy is_whole (worktree roots tree) world.now.env.now options.now asked.walk all))
         ⊎ EndsAfter [] [] (Appends (W.contents out.old) (W.contents out.new)) (Appends (E.contents err.old) (E.contents err.new)) stop) }
 {
     let Ok(roots) = roots_of(world.alloc, options) else {
@@ -168,18 +168,18 @@ fn report_and_find<F: Files, W: Write, E: Write>(
     ensures lists { IfOk result (λ status. (all : List OfRoot) × (unused : List FileRule)
         × Writes options.now (map (option_map problem_of) asked.errors.items) all unused status (Appends (W.contents out.old) (W.contents out.new)) (Appends (E.contents err.old) (E.contents err.new))
         × ((tree : Tree) → IsHonest F.Files world.now.files.now tree → asked.walk.roots ≡ [] → AreUnusedIn tree world.now.env.now options.now asked.walk all unused)) }
-    ensures ended { IfErr result (λ stop. (all : List OfRoot)
-        × EndsAfter [] (flat_map report_of (map (option_map problem_of) asked.errors.items) ++ flat_map reports (all_seen all))
+    ensures ended { IfErr result (λ stop. (all : List OfRoot) × (is_whole : Bool)
+        × EndsAfter [] (flat_map report_of (map (option_map problem_of) asked.errors.items) ++ told_by is_whole options.now all)
         (Appends (W.contents out.old) (W.contents out.new)) (Appends (E.contents err.old) (E.contents err.new)) stop
         × ((tree : Tree) → IsHonest F.Files world.now.files.now tree → asked.walk.roots ≡ []
-        → AreBegun tree world.now.env.now options.now asked.walk all ⊎ AreSurveys tree world.now.env.now options.now asked.walk all)) }
+        → AreMetBy is_whole tree world.now.env.now options.now asked.walk all)) }
 {
     let reported = report_all(&asked.errors, err)?;
     let Ok(matchers) = matchers_of(world, options, asked.walk) else {
         return Err(Stop::Memory);
     };
     let mut found = Found::new(world.alloc);
-    let more = find_all(world, matchers, &mut found, err)?;
+    let more = find_all(world, options, matchers, &mut found, err)?;
     let unused = found
         .read
         .write_without(&found.used, form_of(options), !options.quiet, out)?;
@@ -205,22 +205,23 @@ fn form_of(options: &Options) -> Form<'static>
 /// Finds the rules below the root of each matcher. It returns how many times something was reported.
 fn find_all<F: Files, E: Write>(
     world: &World<'_, F>,
+    options: &Options,
     matchers: Vec<IncrementalIgnore>,
     found: &mut Found,
     err: &mut E,
 ) -> Result<u64, Stop>
     ensures found { IfOk result (λ count. (all : List (OfRoot × List Named)) × AllZip (FindsOf F.Files world.now.files.now) matchers.items all
-        × Appends (E.contents err.old) (E.contents err.new) (flat_map reports (all_seen (met all)))
-        × (count ≡ counted 0 (map is_wrong (all_seen (met all))))
+        × Appends (E.contents err.old) (E.contents err.new) (all_told options.now (met all))
+        × (count ≡ counted 0 (map (is_wrong options.now) (all_seen (met all))))
         × Grows (first_at (deciding (all_seen (met all)))) found.old.used found.new.used × Grows (first_at (read_in all)) found.old.read found.new.read) }
     ensures ended { IfErr result (λ stop. (done : List (OfRoot × List Named)) × (last : OfRoot) × (first rest : List IncrementalIgnore) × (matcher : IncrementalIgnore)
         × (matchers.items ≡ first ++ matcher ∷ rest) × AllZip (FindsOf F.Files world.now.files.now) first done
         × OfMatcher F.Files world.now.files.now IsBegun matcher last
-        × EndsAfter [] (flat_map reports (all_seen (met done ++ last ∷ []))) (λ bs. bs ≡ []) (Appends (E.contents err.old) (E.contents err.new)) stop) }
+        × EndsAfter [] (begun_told options.now (met done ++ last ∷ [])) (λ bs. bs ≡ []) (Appends (E.contents err.old) (E.contents err.new)) stop) }
 {
     let mut reported = 0u64;
     for matcher in matchers {
-        let more = find_below(world, matcher, found, err)?;
+        let more = find_below(world, options, matcher, found, err)?;
         reported = reported.saturating_add(more);
     }
     Ok(reported)
@@ -230,46 +231,52 @@ fn find_all<F: Files, E: Write>(
 /// returns how many times something was reported.
 fn find_below<F: Files, E: Write>(
     world: &World<'_, F>,
+    options: &Options,
     matcher: IncrementalIgnore,
     found: &mut Found,
     err: &mut E,
 ) -> Result<u64, Stop>
     ensures found { IfOk result (λ count. (r : OfRoot × List Named) × FindsOf F.Files world.now.files.now matcher r
-        × Appends (E.contents err.old) (E.contents err.new) (flat_map reports r.0.1) × (count ≡ counted 0 (map is_wrong r.0.1))
+        × Appends (E.contents err.old) (E.contents err.new) (told_in options.now r.0.1) × (count ≡ counted 0 (map (is_wrong options.now) r.0.1))
         × Grows (first_at (deciding r.0.1)) found.old.used found.new.used × Grows (first_at r.1) found.old.read found.new.read) }
     ensures ended { IfErr result (λ stop. (r : OfRoot) × OfMatcher F.Files world.now.files.now IsBegun matcher r
-        × EndsAfter [] (flat_map reports r.1) (λ bs. bs ≡ []) (Appends (E.contents err.old) (E.contents err.new)) stop) }
+        × EndsAfter [] (begun_in options.now r.1) (λ bs. bs ≡ []) (Appends (E.contents err.old) (E.contents err.new)) stop) }
 {
     let Ok(mut survey) = Survey::new(world.alloc, world.files, matcher) else {
         return Err(Stop::Memory);
     };
-    let reported = find_items(&mut survey, found, err)?;
-    match found.note_read(&survey.into_matcher()) {
-        Ok(()) => Ok(reported),
-        Err(_) => Err(Stop::Memory),
-    }
+    let mut names = None;
+    let reported = find_items(&mut survey, options, found, &mut names, err)?;
+    let Ok(_) = found.note_read(&survey.into_matcher()) else {
+        return Err(Stop::Memory);
+    };
+    end_names(&names, err)?;
+    Ok(reported)
 }
 
 /// Notes the rules that decide on the items of a survey, and reports what is wrong. It returns how
 /// many times something was reported.
 fn find_items<I: Iterator<Item = Item> + Drop, E: Write>(
     items: &mut I,
+    options: &Options,
     found: &mut Found,
+    names: &mut Option<Unnamed>,
     err: &mut E,
 ) -> Result<u64, Stop>
     requires ends { I.can_next items.old × IsFinite (I.remaining items.old) }
     ensures found { IfOk result (λ count. (all : List (Result Surveyed Error)) × YieldsThen I.next_gives items.old all None items.new
-        × Appends (E.contents err.old) (E.contents err.new) (flat_map reports (map seen_of all)) × (count ≡ counted 0 (map is_wrong (map seen_of all)))
-        × All (λ item. item_of item ≢ Err memory) all × Grows (first_at (deciding (map seen_of all))) found.old.used found.new.used) }
+        × Appends (E.contents err.old) (E.contents err.new) (told_from options.now names.old (map seen_of all)) × (count ≡ counted 0 (map (is_wrong options.now) (map seen_of all)))
+        × All (λ item. item_of item ≢ Err memory) all × Grows (first_at (deciding (map seen_of all))) found.old.used found.new.used
+        × (names.new ≡ left_from names.old (map seen_of all))) }
     ensures ended { IfErr result (λ stop. (all : List (Result Surveyed Error)) × (x : Result Surveyed Error) × (v : I)
         × YieldsThen I.next_gives items.old all (Some x) v
-        × EndsAfter [] (flat_map reports (map seen_of all)) (λ bs. bs ≡ []) (Appends (E.contents err.old) (E.contents err.new)) stop
+        × EndsAfter [] (told_from options.now names.old (map seen_of all)) (λ bs. bs ≡ []) (Appends (E.contents err.old) (E.contents err.new)) stop
         × All (λ item. item_of item ≢ Err memory) all) }
     ensures read { found.new.read ≡ found.old.read }
 {
     let mut reported = 0u64;
     while let Some(item) = items.next() {
-        let more = find_by(item, found, err)?;
+        let more = find_by(item, options, found, names, err)?;
         reported = reported.saturating_add(u64::from(more));
     }
     Ok(reported)
@@ -277,19 +284,43 @@ fn find_items<I: Iterator<Item = Item> + Drop, E: Write>(
 
 /// Notes the rule that decided on an entry, and reports what is wrong. It returns whether anything
 /// is.
-fn find_by<E: Write>(item: Item, found: &mut Found, err: &mut E) -> Result<bool, Stop>
+fn find_by<E: Write>(
+    item: Item,
+    options: &Options,
+    found: &mut Found,
+    names: &mut Option<Unnamed>,
+    err: &mut E,
+) -> Result<bool, Stop>
     ensures used { OnOk result (Grows (first_at (deciding (seen_of item ∷ []))) found.old.used found.new.used) }
     ensures read { found.new.read ≡ found.old.read }
-    ensures reports { OnOk result (Appends (E.contents err.old) (E.contents err.new) (reports (seen_of item))) }
-    ensures wrong { IfOk result (λ any. any ≡ is_wrong (seen_of item)) }
+    ensures reports { OnOk result (Appends (E.contents err.old) (E.contents err.new) (reports options.now names.old (seen_of item))) }
+    ensures names { OnOk result (names.new ≡ names_by names.old (seen_of item)) }
+    ensures wrong { IfOk result (λ any. any ≡ is_wrong options.now (seen_of item)) }
     ensures enough { OnOk result (item_of item ≢ Err memory) }
     ensures ended { IfErr result (EndsAfter [] [] (λ bs. bs ≡ []) (Appends (E.contents err.old) (E.contents err.new))) }
 {
     match item {
         Ok(entry) => match found.note_used(&entry) {
-            Ok(()) => report_some(entry.error.as_ref(), err),
+            Ok(()) => report_entry(&entry, options, names, err),
             Err(_) => Err(Stop::Memory),
         },
-        Err(error) => Ok(report_item(&error, err)?.reported),
+        Err(error) => Ok(note_item(error, names, err)?.reported),
     }
+}
+
+/// Reports the names of a folder that aren't UTF-8, which come first there, and what is wrong with the
+/// files of rules that were read for an entry. It returns whether the second is.
+fn report_entry<E: Write>(
+    entry: &Surveyed,
+    options: &Options,
+    names: &mut Option<Unnamed>,
+    err: &mut E,
+) -> Result<bool, Stop>
+    ensures reports { OnOk result (Appends (E.contents err.old) (E.contents err.new) (reports options.now names.old (seen_of (Ok entry.now)))) }
+    ensures names { OnOk result (names.new ≡ names_by names.old (seen_of (Ok entry.now))) }
+    ensures wrong { IfOk result (λ any. any ≡ is_wrong options.now (seen_of (Ok entry.now))) }
+    ensures ended { IfErr result (λ stop. stop ≡ Stop.Silence) }
+{
+    leave_names(0, names, err)?;
+    report_rules(options, entry.error.as_ref(), err)
 }

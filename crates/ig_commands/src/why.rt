@@ -29,7 +29,7 @@ ghost use Rattle.ig_commands.specs.Why.{Said as Plain};
 use crate::asking::{Asked, asked_for};
 use crate::counts::{Counts, Seen, status_of};
 use crate::form::{Form, write_reasoned};
-use crate::reports::{report_all, report_some};
+use crate::reports::{report_all, report_rules};
 use crate::root::root_of;
 use crate::stop::Stop;
 use crate::writing::refuse_or_end;
@@ -94,7 +94,7 @@ fn report_and_ask<F: Files, W: Write, E: Write>(
         × Writes options.now (map (option_map problem_of) asked.errors.items) root said status (Appends (W.contents out.old) (W.contents out.new)) (Appends (E.contents err.old) (E.contents err.new))
         × ((tree : Tree) → IsHonest F.Files world.now.files.now tree → AreAll tree world.now.env.now asked.walk options.now.paths.items root said)) }
     ensures ended { IfErr result (λ stop. (root : Path) × (said : List Plain)
-        × EndsAfter (flat_map (written options.now root) said) (flat_map report_of (map (option_map problem_of) asked.errors.items) ++ flat_map (reports root) said)
+        × EndsAfter (flat_map (written options.now root) said) (flat_map report_of (map (option_map problem_of) asked.errors.items) ++ flat_map (reports options.now root) said)
         (Appends (W.contents out.old) (W.contents out.new)) (Appends (E.contents err.old) (E.contents err.new)) stop
         × ((tree : Tree) → IsHonest F.Files world.now.files.now tree → AreBegun tree world.now.env.now asked.walk options.now.paths.items root said)) }
 {
@@ -139,12 +139,12 @@ fn ask_all<F: Files, W: Write, E: Write>(
 ) -> Result<Counts, Stop>
     ensures answers { IfOk result (λ counts. (said : List Plain)
         × Appends (W.contents out.old) (W.contents out.new) (flat_map (written options.now (string_bytes matcher.old.asked.root)) said)
-        × Appends (E.contents err.old) (E.contents err.new) (flat_map (reports (string_bytes matcher.old.asked.root)) said)
-        × (counts.reported ≡ counted 0 (map is_wrong said)) × (counts.found ≡ counted 0 (map is_found said))
+        × Appends (E.contents err.old) (E.contents err.new) (flat_map (reports options.now (string_bytes matcher.old.asked.root)) said)
+        × (counts.reported ≡ counted 0 (map (is_wrong options.now) said)) × (counts.found ≡ counted 0 (map is_found said))
         × InEachScene F.Files world.now.files.now matcher.old.asked (λ g. Agrees g matcher.old.cache
         → AreSaid g (dir_of matcher.old.asked) options.now.paths.items matcher.old.cache matcher.new.cache said)) }
     ensures ended { IfErr result (λ stop. (said : List Plain) × (first rest : List Given) × (last : Cache)
-        × EndsAfter (flat_map (written options.now (string_bytes matcher.old.asked.root)) said) (flat_map (reports (string_bytes matcher.old.asked.root)) said)
+        × EndsAfter (flat_map (written options.now (string_bytes matcher.old.asked.root)) said) (flat_map (reports options.now (string_bytes matcher.old.asked.root)) said)
         (Appends (W.contents out.old) (W.contents out.new)) (Appends (E.contents err.old) (E.contents err.new)) stop
         × (options.now.paths.items ≡ first ++ rest)
         × InEachScene F.Files world.now.files.now matcher.old.asked (λ g. Agrees g matcher.old.cache
@@ -252,8 +252,8 @@ pub(crate) fn write_said<W: Write, E: Write>(
     err: &mut E,
 ) -> Result<Seen, Stop>
     ensures writes { OnOk result (Appends (W.contents out.old) (W.contents out.new) (written options.now root.now (said_of said.now))) }
-    ensures reports { OnOk result (Appends (E.contents err.old) (E.contents err.new) (reports root.now (said_of said.now))) }
-    ensures reported { IfOk result (λ seen. seen.reported ≡ is_wrong (said_of said.now)) }
+    ensures reports { OnOk result (Appends (E.contents err.old) (E.contents err.new) (reports options.now root.now (said_of said.now))) }
+    ensures reported { IfOk result (λ seen. seen.reported ≡ is_wrong options.now (said_of said.now)) }
     ensures found { IfOk result (λ seen. seen.found ≡ is_found (said_of said.now)) }
     ensures ended { IfErr result (EndsAfter [] [] (Appends (W.contents out.old) (W.contents out.new)) (Appends (E.contents err.old) (E.contents err.new))) }
 {
@@ -264,7 +264,7 @@ pub(crate) fn write_said<W: Write, E: Write>(
         Said::Told(path, explanation, error) => {
             write_answer(options, root, path, explanation, out)?;
             Ok(Seen {
-                reported: report_some(error.as_ref(), err)?,
+                reported: report_rules(options, error.as_ref(), err)?,
                 found: explanation.answer.is_ignore(),
             })
         }

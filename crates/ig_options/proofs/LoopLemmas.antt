@@ -10,7 +10,7 @@ use Rattle.ignore.specs.Asked.{AddsIgnore}
 use Rattle.ignore.specs.Builder.{with_custom}
 use Rattle.ignore.specs.declared.options.WalkOptions.{WalkOptions}
 use Rattle.ig_options.specs.Choices.{AddsTypes, RefusesDefinitions, with_all_chosen}
-use Rattle.ig_options.specs.Files.{AddsFiles}
+use Rattle.ig_options.specs.Files.{AddsFiles, explained}
 use Rattle.ig_options.specs.Globs.{AddsGlobs, RefusesGlobs}
 use Rattle.ig_options.specs.Settings.{with_names}
 
@@ -112,9 +112,10 @@ some_files tree env none paths old new problems e adds =
 
 pub files_more : (tree : Tree) (env : Env) (items : List (List ℕ)) (i : ℕ) (text : List ℕ) (old next new : WalkOptions)
     (first : Option Problem) (rest : List (Option Problem)) → IsHere items i text → AddsIgnore tree env text old next first
-    → AddsFiles tree env (drop (i + 1) items) next new rest → AddsFiles tree env (drop i items) old new (first ∷ rest)
+    → AddsFiles tree env (drop (i + 1) items) next new rest
+    → AddsFiles tree env (drop i items) old new (explained tree text first ∷ rest)
 files_more tree env items i text old next new first rest h added adds =
-    subst (λ (ts : List (List ℕ)). AddsFiles tree env ts old new (first ∷ rest)) (sym h.cut)
+    subst (λ (ts : List (List ℕ)). AddsFiles tree env ts old new (explained tree text first ∷ rest)) (sym h.cut)
     (next, first, rest, refl, added, adds)
 
 pub files_done : (tree : Tree) (env : Env) (items : List (List ℕ)) (i : ℕ) (w : WalkOptions) → length items ≤ i

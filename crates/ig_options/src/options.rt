@@ -34,6 +34,10 @@ pub struct Options {
     pub stats: bool,
     /// `--no-messages`: what is wrong with an entry, a path or a file of rules isn't reported.
     pub no_messages: bool,
+    /// `--no-ignore-messages`: what is wrong with a file of rules isn't reported, and doesn't count.
+    pub no_ignore_messages: bool,
+    /// `--no-repositories` of `ignored`: a folder that holds a repository isn't listed.
+    pub no_repositories: bool,
     /// `--sort`: the order of the entries of a directory.
     pub order: Order,
     /// `-H`: hidden entries are listed.
@@ -105,6 +109,8 @@ impl Options {
             quiet: false,
             stats: false,
             no_messages: false,
+            no_ignore_messages: false,
+            no_repositories: false,
             order: Order::ByName,
             hidden: false,
             no_ignore: false,

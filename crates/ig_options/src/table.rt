@@ -401,13 +401,22 @@ pub const TYPE_LIST: [Row; 1] = [(
 )];
 
 /// What is reported.
-pub const REPORTS: [Row; 1] = [(
-    "no-messages",
-    None,
-    Takes::Switch("messages"),
-    PRINT,
-    "Report nothing that is wrong with what is read",
-)];
+pub const REPORTS: [Row; 2] = [
+    (
+        "no-messages",
+        None,
+        Takes::Switch("messages"),
+        PRINT,
+        "Report nothing that is wrong with what is read",
+    ),
+    (
+        "no-ignore-messages",
+        None,
+        Takes::Switch("ignore-messages"),
+        PRINT,
+        "Report nothing that is wrong with files of rules",
+    ),
+];
 
 /// What is taken so that words of other programs are no mistake.
 pub const TAKEN: [Row; 2] = [
@@ -427,14 +436,23 @@ pub const TAKEN: [Row; 2] = [
     ),
 ];
 
-/// The option of `ig ignored` alone.
-pub const REASONS: [Row; 1] = [(
-    "verbose",
-    Some('v'),
-    Takes::Switch("no-verbose"),
-    PRINT,
-    "Write the reason of each entry before it",
-)];
+/// The options of `ig ignored` alone.
+pub const REASONS: [Row; 2] = [
+    (
+        "no-repositories",
+        None,
+        Takes::Switch("repositories"),
+        WHAT,
+        "List no folder with .git or .jj in it, at any depth",
+    ),
+    (
+        "verbose",
+        Some('v'),
+        Takes::Switch("no-verbose"),
+        PRINT,
+        "Write the reason of each entry before it",
+    ),
+];
 
 /// The options of `ig why` alone.
 pub const WHY: [Row; 6] = [

@@ -71,12 +71,12 @@ Each switch is taken back by its name with no- before it, or without that, as
 Examples:
   ig ignored                   what the rules leave out, as in git status
   ig ignored -v src            the same of src, each entry after its rule
-  ig ignored; ig ignored -0 | xargs -0r rm -r --
-                               a look at the list, and a command for all of it
-The list isn't one of what may be deleted: git's index isn't read, so it has
-tracked files that a rule matches, and ignored folders with tracked files or
-repositories in them. What git would delete, git clean -ndX lists and
-git clean -fdX deletes.
+  ig ignored --no-repositories -0 | xargs -0r rm -r --
+                               deletes that, but no folder with a repository
+Look at the list before it is handed on: git's index isn't read, so it has
+tracked files that a rule matches and ignored folders with tracked files in
+them, and without --no-repositories ignored folders with repositories in them.
+What git would delete, git clean -ndX lists and git clean -fdX deletes.
 
 Status: 0 where something was listed, 1 where nothing was, 2 where something was
 reported. A closed pipe ends the program with status 0.";
@@ -481,6 +481,8 @@ fn read_kinds(options: &mut Options, matches: &ArgMatches<'_>) {
     options.quiet = matches.get_flag("quiet");
     options.stats = matches.get_flag("stats");
     options.no_messages = matches.get_flag("no-messages");
+    options.no_ignore_messages = matches.get_flag("no-ignore-messages");
+    options.no_repositories = matches.get_flag("no-repositories");
     options.order = order_of(matches);
 }
 

@@ -8,9 +8,9 @@ use std::alloc::{AllocError, Global};
 use std::cell::Cell;
 use std::test::Fail;
 
-/// A run of each command that reads a tree, of `why` with paths of standard input too, and one with
-/// a file of rules that is named.
-const RUNS: [&[&str]; 6] = [
+/// A run of each command that reads a tree, of `why` with paths of standard input too, of `ignored`
+/// without repositories, and with files of rules that are named.
+const RUNS: [&[&str]; 7] = [
     &["ls"],
     &[
         "ls",
@@ -22,6 +22,7 @@ const RUNS: [&[&str]; 6] = [
         "r",
     ],
     &["ignored", "-v", "--max-filesize", "1K"],
+    &["ignored", "--no-repositories", "--ignore-file", "nope"],
     &[
         "why",
         "--max-filesize",

@@ -21,9 +21,11 @@ returns-clause-read g c = λ tree honest.
       is_draft = built.1;
       types = types;
       are_types = built.2;
-      files = subst (λ (w : WalkOptions). AddsFiles tree c.args.world.now.env.now (named_files o) w c.add_files.new.walk (map (option_map problem_of) c.in_ok-errors.errors.items))
+      found = map (option_map problem_of) c.in_ok-found.found.items;
+      files = subst (λ (w : WalkOptions). AddsFiles tree c.args.world.now.env.now (named_files o) w c.add_files.new.walk (map (option_map problem_of) c.in_ok-found.found.items))
           (c.set_rules.ensures ∙ ap (λ (w : WalkOptions). with_types (with_overrides w globs) types) c.in_ok-walk.ensures.value)
-          (c.in_ok-errors.ensures.read tree honest);
+          (c.in_ok-found.ensures.read tree honest);
+      told = c.to_report-errors.ensures;
     }
 
 -- a glob is rejected, or memory ran out

@@ -21,7 +21,8 @@ returns-in-Ok-clause-lists g c =
       h.3,
       λ tree honest.
           let asked = c.in-Ok.ensures.read tree honest in
-          (asked, h.4 tree honest (none_met tree c.args.world.now.env.now c.args.options.now c.args.first b problems asked)),
+          let met = h.4 tree honest (none_met tree c.args.world.now.env.now c.args.options.now c.args.first b problems asked) in
+          (asked, met.0, met.1),
     ))
     c.survey_worktree.ensures.lists
 
@@ -40,7 +41,8 @@ returns-in-Ok-clause-ended g c =
         k.3,
         λ tree honest.
             let asked = c.in-Ok.ensures.read tree honest in
-            (asked, k.4 tree honest (none_met tree c.args.world.now.env.now c.args.options.now c.args.first b problems asked)),
+            let met = k.4 tree honest (none_met tree c.args.world.now.env.now c.args.options.now c.args.first b problems asked) in
+            (asked, met.0, met.1),
       )
       | inr k ↦ inr k
     ])

@@ -18,7 +18,7 @@ returns-clause-lists g c =
       h.0,
       c.in-Ok.ensures,
       h.1,
-      λ tree honest none. h.2 (worktree roots tree) (c.is_honest.ensures tree honest) none,
+      λ tree honest none. (h.2 (worktree roots tree) (c.is_honest.ensures tree honest) none, h.3 tree honest),
     ))
     c.report_and_survey.ensures.lists
 
@@ -31,6 +31,6 @@ returns-clause-ended g c =
       h.0,
       c.in-Ok.ensures,
       h.1,
-      λ tree honest none. h.2 (worktree roots tree) (c.is_honest.ensures tree honest) none,
+      λ tree honest none. (h.2 (worktree roots tree) (c.is_honest.ensures tree honest) none, h.3 tree honest),
     ))
     c.report_and_survey.ensures.ended

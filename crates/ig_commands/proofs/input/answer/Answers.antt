@@ -18,7 +18,7 @@ returns-clause-answers g c =
       c.in-Ok.ensures.given,
       subst (λ r. Appends (g.W.Write.contents c.args.out.now) (g.W.Write.contents c.write_said.new.out) (written c.args.asking.now.options.now r one)) root
           c.in_ok-seen.ensures.writes,
-      subst (λ r. Appends (g.E.Write.contents c.args.err.now) (g.E.Write.contents c.write_said.new.err) (reports r one)) root
+      subst (λ r. Appends (g.E.Write.contents c.args.err.now) (g.E.Write.contents c.write_said.new.err) (reports c.args.asking.now.options.now r one)) root
           c.in_ok-seen.ensures.reports,
       c.in_ok-seen.ensures.reported,
       c.in_ok-seen.ensures.found,

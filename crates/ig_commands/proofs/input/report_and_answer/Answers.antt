@@ -49,7 +49,7 @@ returns-in_err-counts-clause-ended g c =
       h.1,
       h.3,
       ends_reading_reports (flat_map (written o root) h.1)
-          (flat_map report_of (map (option_map problem_of) c.args.asked.errors.items)) (flat_map (reports root) h.1)
+          (flat_map report_of (map (option_map problem_of) c.args.asked.errors.items)) (flat_map (reports c.args.asking.now.options.now root) h.1)
           (Appends (g.W.Write.contents c.args.out.now) (g.W.Write.contents c.answer_all.new.out))
           (g.E.Write.contents c.args.err.now) (g.E.Write.contents c.report_all.new.err) (g.E.Write.contents c.answer_all.new.err)
           c.in_err-counts.field-0.0 (reported_as c.deref.result.now c.args.asked.errors.items (g.E.Write.contents c.args.err.now) (g.E.Write.contents c.report_all.new.err) c.deref.ensures.value c.in_ok-reported.ensures.reports.1) h.4,
@@ -71,7 +71,7 @@ returns-clause-answers g c =
       record {
         writes = h.3;
         reports = appends_on (g.E.Write.contents c.args.err.now) (g.E.Write.contents c.report_all.new.err) (g.E.Write.contents c.answer_all.new.err)
-            (flat_map report_of problems) (flat_map (reports (string_bytes m.asked.root)) h.1) (reported_as c.deref.result.now c.args.asked.errors.items (g.E.Write.contents c.args.err.now) (g.E.Write.contents c.report_all.new.err) c.deref.ensures.value c.in_ok-reported.ensures.reports.1) h.4;
+            (flat_map report_of problems) (flat_map (reports c.args.asking.now.options.now (string_bytes m.asked.root)) h.1) (reported_as c.deref.result.now c.args.asked.errors.items (g.E.Write.contents c.args.err.now) (g.E.Write.contents c.report_all.new.err) c.deref.ensures.value c.in_ok-reported.ensures.reports.1) h.4;
         ends = status_as c.status_of.result c.saturating_add.result c.in_ok-counts.counts.found _ _ c.status_of.ensures
             (wrong_as c.deref.result.now c.args.asked.errors.items c.saturating_add.result c.in_ok-counts.counts.reported c.in_ok-reported.reported _
             c.deref.ensures.value c.saturating_add.ensures c.in_ok-reported.ensures.reports.0 h.5) h.6;

@@ -5,7 +5,7 @@ use Rattle.std.specs.List.{flat_map}
 use Rattle.ignore_base.specs.Problem.{problem_of}
 use Rattle.ignore_base.specs.declared.error.Error.{Error}
 use Rattle.ig_commands.specs.Counts.{counted}
-use Rattle.ig_commands.specs.Reports.{is_known, report_of, reports_after}
+use Rattle.ig_commands.specs.Reports.{first_reports, is_known, report_of}
 use Rattle.ig_commands.specs.Writing.{lines_of}
 use Rattle.ig_commands.proofs.ListLemmas.{whole_list}
 use Rattle.ig_commands.proofs.ReportLemmas.{reported_as}
@@ -39,7 +39,7 @@ returns-in_err-counts-clause-ended g c =
     let p = err_from_is_err_and c.from_residual-in_err-counts.result c.from_residual-in_err-counts.ensures.1 in
     rw (p.1, p.2) (
       h.0,
-      ends_after_reports (flat_map (lines_of c.args.options.now) h.0) (flat_map report_of problems) (reports_after [] h.0)
+      ends_after_reports (flat_map (lines_of c.args.options.now) h.0) (flat_map report_of problems) (first_reports c.args.options.now h.0)
           (Appends (g.W.Write.contents c.args.out.now) (g.W.Write.contents c.walk_and_write.new.out)) (g.E.Write.contents c.args.err.now)
           (g.E.Write.contents c.report_all.new.err) (g.E.Write.contents c.walk_and_write.new.err) c.in_err-counts.field-0.0
           (reported_as c.deref.result.now c.args.asked.errors.items _ _ c.deref.ensures.value c.in_ok-reported.ensures.reports.1) h.1,

@@ -1,16 +1,29 @@
-use Rattle.std.proofs.Common.{inr, map}
-use Rattle.std.proofs.lemmas.Result.{IfErr-weaker, IfOk-weaker}
+use Rattle.std.proofs.Common.{[], inl, inr, map, refl, subst}
+use Rattle.std.proofs.lemmas.Result.{err_from_is_err_and}
+use Rattle.std.specs.Io.KnownBytes.{Appends}
 use Rattle.ignore_walk.specs.Entry.{item_of}
+use Rattle.commands.proofs.LineLemmas.{appends_on}
 use Rattle.ig_commands.specs.Listing.{listing}
+use Rattle.ig_commands.specs.Names.{names_told}
+use Rattle.ig_commands.specs.Reports.{first_reports}
 use Rattle.ig_commands.proofs.WalkLemmas.{listed}
 use Rattle.ig_commands.proofs.listing.walk_and_write.Goals as goal
 
 pub returns-clause-lists : goal.returns-clause-lists
 returns-clause-lists g c =
-    IfOk-weaker c.write_items.result _ _
-    (λ seen h. (
-      map item_of h.0,
-      h.2,
+    let h = c.in_ok-walked.ensures.lists in
+    let items = map item_of h.0 in
+    let w = h.2 in (
+      items,
+      record {
+        lists = w.lists;
+        reports = appends_on (g.E.Write.contents c.args.err.now) (g.E.Write.contents c.write_items.new.err) (g.E.Write.contents c.end_names.new.err)
+            (first_reports c.args.options.now items) _ w.reports
+            (subst (λ names. Appends (g.E.Write.contents c.write_items.new.err) (g.E.Write.contents c.end_names.new.err) (names_told names)) h.3 c.in_ok-end_names.ensures.told);
+        wrong = w.wrong;
+        listed = w.listed;
+        enough = w.enough;
+      },
       λ tree honest.
           let w = c.in-Ok.ensures.walks tree honest in (
             w.0,
@@ -19,19 +32,19 @@ returns-clause-lists g c =
             λ loads are.
                 let scene = listing c.args.options.now c.args.walk tree loads w.1 in
                 let begins = w.3 loads are in
-                listed scene w.0 (map item_of h.0) c.in-Ok.steps.left are c.in-Ok.ensures.limit h.2.enough
+                listed scene w.0 items c.in-Ok.steps.left are c.in-Ok.ensures.limit h.2.enough
                 (c.only_the_last_item_ends.ensures c.in-Ok.steps h.0 h.1 c.in-Ok.ensures.no_end)
                 (λ done. c.a_finished_run_is_a_list.ensures scene w.0 c.in-Ok.steps h.0 h.1 begins.starts done)
                 (λ items n whole. c.a_run_yields_the_list.ensures scene c.in-Ok.steps h.0 items n h.1 (begins.whole items n whole)),
           ),
-    ))
-    c.write_items.ensures.lists
+    )
 
 -- what was written before the item that ended it is of a beginning of the walk's items
-pub returns-clause-ended : goal.returns-clause-ended
-returns-clause-ended g c =
-    IfErr-weaker c.write_items.result _ _
-    (λ stop h. (
+pub returns-in_err-walked-clause-ended : goal.returns-in_err-walked-clause-ended
+returns-in_err-walked-clause-ended g c =
+    let h = c.in_err-walked.ensures.ended in
+    let p = err_from_is_err_and c.from_residual.result c.from_residual.ensures.1 in
+    rw (p.1, p.2) (
       map item_of h.0,
       h.4,
       λ tree honest. inr (
@@ -46,5 +59,10 @@ returns-clause-ended g c =
                 (begun.rest, begun.begins),
           )
           ),
-    ))
-    c.write_items.ensures.ended
+    )
+
+-- the names that were counted last can't be reported
+pub returns-in_err-end_names-clause-ended : goal.returns-in_err-end_names-clause-ended
+returns-in_err-end_names-clause-ended g c =
+    let p = err_from_is_err_and c.from_residual-in_err-end_names.result c.from_residual-in_err-end_names.ensures.1 in
+    rw (p.1, p.2) ([], rw c.in_err-end_names.ensures.ended tt, λ tree honest. inl refl)

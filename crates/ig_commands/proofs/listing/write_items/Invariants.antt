@@ -1,10 +1,10 @@
-use Rattle.std.proofs.Common.{◌≡◌, ◌≢◌, ℕ, All, Err, map, []}
+use Rattle.std.proofs.Common.{◌≡◌, ◌≢◌, ℕ, All, Err, None, map, []}
 use Rattle.std.specs.Io.KnownBytes.{Appends}
 use Rattle.std.specs.List.{flat_map}
 use Rattle.ignore_base.specs.Problem.{memory}
 use Rattle.ignore_walk.specs.Entry.{Item, item_of}
 use Rattle.ig_commands.specs.Counts.{counted}
-use Rattle.ig_commands.specs.Reports.{is_reported, last_at, last_in, reports_after}
+use Rattle.ig_commands.specs.Reports.{first_reports, is_reported, last_at, last_in, names_left}
 use Rattle.ig_commands.specs.Writing.{is_found, lines_of}
 use Rattle.ig_commands.proofs.listing.write_items.Given as goal
 
@@ -12,9 +12,10 @@ use Rattle.ig_commands.proofs.listing.write_items.Given as goal
 abbrev pub invariant-loop-item : goal.invariant-loop-item
 invariant-loop-item g l = record {
   lists : Appends (g.W.Write.contents l.fn.out) (g.W.Write.contents l.out) (flat_map (lines_of l.options) (map item_of l.yielded));
-  reports : Appends (g.E.Write.contents l.fn.err) (g.E.Write.contents l.err) (reports_after [] (map item_of l.yielded));
-  notes : (depth : ℕ) → last_in l.folders depth ≡ last_at (map item_of l.yielded) depth;
-  reported : l.counts.reported ≡ counted 0 (map is_reported (map item_of l.yielded));
+  reports : Appends (g.E.Write.contents l.fn.err) (g.E.Write.contents l.err) (first_reports l.options (map item_of l.yielded));
+  notes : (depth : ℕ) → last_in l.met.folders depth ≡ last_at (map item_of l.yielded) depth;
+  names : l.met.names ≡ names_left [] None (map item_of l.yielded);
+  reported : l.counts.reported ≡ counted 0 (map (is_reported l.options) (map item_of l.yielded));
   found : l.counts.found ≡ counted 0 (map (is_found l.options) (map item_of l.yielded));
   enough : All (λ (item : Item). item ≢ Err memory) (map item_of l.yielded);
 }

@@ -14,6 +14,7 @@ use Rattle.ig_commands.specs.Rules.{Grows}
 use Rattle.ig_commands.specs.Surveys.{seen_of}
 use Rattle.ig_commands.specs.declared.rules.FileRules.{FileRules}
 use Rattle.ig_commands.proofs.MetLemmas.{begun_none, survey_begun, survey_finds, survey_whole, whole_begun}
+use Rattle.ig_commands.proofs.NameLemmas.{told_whole}
 use Rattle.ig_commands.proofs.unused.find_below.Goals as goal
 
 -- out of memory for the survey, nothing is met
@@ -43,8 +44,8 @@ returns-in_err-reported-clause-ended g c =
     )
 
 -- all items are met, and the rules of the directories that are kept then are read
-pub returns-in-Ok-note_read-clause-found : goal.returns-in-Ok-note_read-clause-found
-returns-in-Ok-note_read-clause-found g c =
+pub returns-clause-found : goal.returns-clause-found
+returns-clause-found g c =
     let m = c.args.matcher in
     let s = c.in-Ok.survey in
     let u = c.find_items.new.items in
@@ -61,7 +62,8 @@ returns-in-Ok-note_read-clause-found g c =
         λ empty. survey_finds g.F.Files c.args.world.now.files.now m s c.in-Ok.ensures.whole c.in-Ok.ensures.kept c.in-Ok.ensures.limit empty
             u h.0 h.1 h.4 loaded listed,
       ),
-      h.2,
+      told_whole c.args.options.now c.find_items.new.names (map seen_of h.0) (g.E.Write.contents c.args.err.now)
+          (g.E.Write.contents c.find_items.new.err) (g.E.Write.contents c.end_names.new.err) h.6 h.2 c.in_ok-end_names.ensures.told,
       h.3,
       subst (λ (r : FileRules). Grows (first_at (deciding (map seen_of h.0))) c.args.found.now.used r) (sym k.used) h.5,
       subst (λ (r : FileRules). Grows (first_at (kept_rules u.matcher.cache)) r c.note_read.new.self.read) c.in_ok-reported.ensures.read
@@ -69,8 +71,8 @@ returns-in-Ok-note_read-clause-found g c =
     )
 
 -- out of memory for those, all items are met
-pub returns-clause-ended : goal.returns-clause-ended
-returns-clause-ended g c =
+pub returns-in_default-note_read-clause-ended : goal.returns-in_default-note_read-clause-ended
+returns-in_default-note_read-clause-ended g c =
     let m = c.args.matcher in
     let s = c.in-Ok.survey in
     let u = c.find_items.new.items in
@@ -83,4 +85,15 @@ returns-clause-ended g c =
             u h.0 h.1 h.4 tree loads honest are),
       ),
       (refl, h.2),
+    )
+
+-- the names that were counted last can't be reported
+pub returns-in_err-end_names-clause-ended : goal.returns-in_err-end_names-clause-ended
+returns-in_err-end_names-clause-ended g c =
+    let m = c.args.matcher in
+    let p = err_from_is_err_and c.from_residual-in_err-end_names.result c.from_residual-in_err-end_names.ensures.1 in
+    rw (p.1, p.2) (
+      (string_bytes m.asked.root, []),
+      (refl, λ empty tree loads honest are. begun_none (scene_of m.asked tree loads) m.cache empty),
+      rw c.in_err-end_names.ensures.ended tt,
     )

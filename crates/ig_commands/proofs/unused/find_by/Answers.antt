@@ -9,5 +9,5 @@ at_ok (Err e) h = tt
 
 pub returns-in-Ok-note_used-clause-used : goal.returns-in-Ok-note_used-clause-used
 returns-in-Ok-note_used-clause-used g c =
-    at_ok c.report_some.result
+    at_ok c.report_entry.result
     (grows_item c.args.item c.in-Ok.entry c.args.found.now.used c.note_used.new.self.used c.in-Ok.is c.in-Ok-note_used.ensures.used)

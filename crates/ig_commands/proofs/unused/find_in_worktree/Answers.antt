@@ -30,8 +30,9 @@ returns-clause-ended g c =
     (λ stop h. inl (
       roots,
       h.0,
-      c.in-Ok.ensures,
       h.1,
-      λ tree honest none. h.2 (worktree roots tree) (c.is_honest.ensures tree honest) none,
+      c.in-Ok.ensures,
+      h.2,
+      λ tree honest none. h.3 (worktree roots tree) (c.is_honest.ensures tree honest) none,
     ))
     c.report_and_find.ensures.ended

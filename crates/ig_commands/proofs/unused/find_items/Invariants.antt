@@ -2,13 +2,12 @@ use Rattle.std.proofs.iter.Next as it
 use Rattle.std.proofs.Common.{◌≡◌, ◌≢◌, All, Err, map}
 use Rattle.std.specs.Io.KnownBytes.{Appends}
 use Rattle.std.specs.Iterator.{EndsFrom, items_left}
-use Rattle.std.specs.List.{flat_map}
 use Rattle.ignore_base.specs.Problem.{memory}
 use Rattle.ignore_survey.specs.Surveyed.{item_of}
 use Rattle.ig_commands.specs.Counts.{counted}
 use Rattle.ig_commands.specs.Found.{deciding, first_at}
 use Rattle.ig_commands.specs.Rules.{Grows}
-use Rattle.ig_commands.specs.Surveys.{is_wrong, reports, seen_of}
+use Rattle.ig_commands.specs.Surveys.{is_wrong, left_from, seen_of, told_from}
 use Rattle.ig_commands.proofs.unused.find_items.Given as goal
 
 -- what is wrong with the items so far is reported and counted, the rules that decide on them are
@@ -16,9 +15,9 @@ use Rattle.ig_commands.proofs.unused.find_items.Given as goal
 abbrev pub invariant-loop-item : goal.invariant-loop-item
 invariant-loop-item g l = record {
   runs : it.Ran g.I.Iterator.can_next (EndsFrom g.I.Iterator.remaining) (items_left g.I.Iterator.remaining) g.I.Iterator.next_gives
-      (λ xs. Appends (g.E.Write.contents l.fn.err) (g.E.Write.contents l.err) (flat_map reports (map seen_of xs))
-      × (l.reported ≡ counted 0 (map is_wrong (map seen_of xs))) × All (λ x. item_of x ≢ Err memory) xs
-      × Grows (first_at (deciding (map seen_of xs))) l.fn.found.used l.found.used) l.fn.items l.items;
+      (λ xs. Appends (g.E.Write.contents l.fn.err) (g.E.Write.contents l.err) (told_from l.options l.fn.names (map seen_of xs))
+      × (l.reported ≡ counted 0 (map (is_wrong l.options) (map seen_of xs))) × All (λ x. item_of x ≢ Err memory) xs
+      × Grows (first_at (deciding (map seen_of xs))) l.fn.found.used l.found.used × (l.names ≡ left_from l.fn.names (map seen_of xs))) l.fn.items l.items;
   read : l.found.read ≡ l.fn.found.read;
 }
 

@@ -39,9 +39,10 @@ returns-in-Ok-clause-ended g c =
         k.1,
         k.2,
         k.3,
+        k.4,
         λ tree honest.
             let asked = c.in-Ok.ensures.read tree honest in
-            (asked, k.4 tree honest (none_met tree c.args.world.now.env.now c.args.options.now c.args.first b problems asked)),
+            (asked, k.5 tree honest (none_met tree c.args.world.now.env.now c.args.options.now c.args.first b problems asked)),
       )
       | inr k ↦ inr k
     ])

@@ -1,4 +1,4 @@
-use Rattle.std.proofs.Common.{◌∷◌, ◌++◌, [], List, inl, inr, map, option_map, refl, subst, sym}
+use Rattle.std.proofs.Common.{◌∷◌, ◌++◌, [], List, false, true, inl, inr, map, option_map, refl, subst, sym}
 use Rattle.std.proofs.lemmas.List.{append-nil}
 use Rattle.std.proofs.lemmas.Result.{err_from_is_err_and}
 use Rattle.std.specs.Io.KnownBytes.{Appends}
@@ -11,7 +11,7 @@ use Rattle.ig_commands.specs.Counts.{counted}
 use Rattle.ig_commands.specs.Found.{Finds, deciding, met, read_in}
 use Rattle.ig_commands.specs.Listing.{GoesBy}
 use Rattle.ig_commands.specs.Reports.{report_of}
-use Rattle.ig_commands.specs.Surveys.{IsBegun, OfRoot, all_seen, is_wrong, reports}
+use Rattle.ig_commands.specs.Surveys.{IsBegun, OfRoot, all_seen, all_told, begun_told, is_wrong}
 use Rattle.ig_commands.proofs.EndLemmas.{ends_out, ends_write}
 use Rattle.ig_commands.proofs.GrowLemmas.{grown_at}
 use Rattle.ig_commands.proofs.ReportLemmas.{counts_told, reported_as, status_as, wrong_as}
@@ -24,19 +24,20 @@ use Rattle.ig_commands.proofs.unused.report_and_find.Goals as goal
 pub returns-in_err-reported-clause-ended : goal.returns-in_err-reported-clause-ended
 returns-in_err-reported-clause-ended g c =
     let p = err_from_is_err_and c.from_residual.result c.from_residual.ensures.1 in
-    rw (p.1, p.2, c.in_err-reported.ensures.ended) ([], tt, λ tree honest none. inl (inl refl))
+    rw (p.1, p.2, c.in_err-reported.ensures.ended) ([], false, tt, λ tree honest none. inl refl)
 
 -- and so does a lack of memory
 pub returns-in_default-clause-ended : goal.returns-in_default-clause-ended
 returns-in_default-clause-ended g c = (
   [],
+  false,
   (
     appends_nothing (g.W.Write.contents c.args.out.now),
     subst (Appends (g.E.Write.contents c.args.err.now) (g.E.Write.contents c.report_all.new.err))
         (sym (append-nil (flat_map report_of (map (option_map problem_of) c.args.asked.errors.items))))
         (reported_as c.deref.result.now c.args.asked.errors.items (g.E.Write.contents c.args.err.now) (g.E.Write.contents c.report_all.new.err) c.deref.ensures.value c.in_ok-reported.ensures.reports.1),
   ),
-  λ tree honest none. inl (inl refl),
+  λ tree honest none. inl refl,
 )
 
 pub returns-in_err-more-clause-ended : goal.returns-in_err-more-clause-ended
@@ -48,19 +49,20 @@ returns-in_err-more-clause-ended g c =
     let p = err_from_is_err_and c.from_residual-in_err-more.result c.from_residual-in_err-more.ensures.1 in
     rw (p.1, p.2) (
       all,
+      false,
       ends_after_reports [] (flat_map report_of (map (option_map problem_of) c.args.asked.errors.items))
-          (flat_map reports (all_seen all)) (Appends out out)
+          (begun_told o all) (Appends out out)
           (g.E.Write.contents c.args.err.now) (g.E.Write.contents c.report_all.new.err) (g.E.Write.contents c.find_all.new.err)
           c.in_err-more.field-0.0
           (reported_as c.deref.result.now c.args.asked.errors.items (g.E.Write.contents c.args.err.now) (g.E.Write.contents c.report_all.new.err) c.deref.ensures.value c.in_ok-reported.ensures.reports.1)
-          (ends_out (flat_map reports (all_seen all)) out
+          (ends_out (begun_told o all) out
           (Appends (g.E.Write.contents c.report_all.new.err) (g.E.Write.contents c.find_all.new.err)) c.in_err-more.field-0.0 h.8),
       λ tree honest none.
           let made = c.in-Ok.ensures.made tree honest in
           let begun = begun_of g.F.Files c.args.world.now.files.now (λ (x : OfRoot × List Named). x.0) (λ (x : OfRoot × List Named). Finds x.1)
           tree c.args.world.now.env.now o c.args.asked.walk honest none made.0
           made.1 c.in-Ok.matchers.items made.2 c.in-Ok.ensures.empty IsBegun h.2 h.4 h.3 h.0 h.1 h.5 h.6 h.7 in
-          inl (inr (
+          inr (
             met h.0,
             h.1,
             begun.0,
@@ -70,7 +72,7 @@ returns-in_err-more-clause-ended g c =
             λ loads are.
                 let facts = begun.3 loads are in
                 (whole_met (λ root. scene tree loads c.args.asked.walk.settings begun.1 root) h.0 facts.0, facts.1),
-          )),
+          ),
     )
 
 -- the rules can't be written: all roots are surveyed
@@ -82,18 +84,18 @@ returns-in_err-unused-clause-ended g c =
     let p = err_from_is_err_and c.from_residual-in_err-unused.result c.from_residual-in_err-unused.ensures.1 in
     rw (p.1, p.2) (
       met h.0,
-      ends_write (flat_map report_of problems ++ flat_map reports (all_seen (met h.0)))
+      true,
+      ends_write (flat_map report_of problems ++ all_told o (met h.0))
           (Appends (g.W.Write.contents c.args.out.now) (g.W.Write.contents c.write_without.new.out))
           (Appends (g.E.Write.contents c.args.err.now) (g.E.Write.contents c.find_all.new.err)) c.in_err-unused.field-0.0 c.in_err-unused.ensures.ended
           (appends_on (g.E.Write.contents c.args.err.now) (g.E.Write.contents c.report_all.new.err) (g.E.Write.contents c.find_all.new.err)
-          (flat_map report_of problems) (flat_map reports (all_seen (met h.0)))
+          (flat_map report_of problems) (all_told o (met h.0))
           (reported_as c.deref.result.now c.args.asked.errors.items (g.E.Write.contents c.args.err.now) (g.E.Write.contents c.report_all.new.err) c.deref.ensures.value c.in_ok-reported.ensures.reports.1) h.2),
       λ tree honest none.
           let made = c.in-Ok.ensures.made tree honest in
           let roots = roots_of g.F.Files c.args.world.now.files.now (λ (x : OfRoot × List Named). x.0) (λ (x : OfRoot × List Named). Finds x.1)
           tree c.args.world.now.env.now o c.args.asked.walk honest none made.0
-          made.1 c.in-Ok.matchers.items made.2 c.in-Ok.ensures.empty h.0 h.1 in
-          inr (
+          made.1 c.in-Ok.matchers.items made.2 c.in-Ok.ensures.empty h.0 h.1 in (
             roots.0,
             subst (λ (ps : List _). GoesBy tree c.args.world.now.env.now o c.args.asked.walk ps roots.0) (names_met h.0) roots.1,
             λ loads are. whole_met (λ root. scene tree loads c.args.asked.walk.settings roots.0 root) h.0 (roots.2 loads are),
@@ -104,7 +106,7 @@ returns-in_err-unused-clause-ended g c =
 pub returns-in_err-report_counts-clause-ended : goal.returns-in_err-report_counts-clause-ended
 returns-in_err-report_counts-clause-ended g c =
     let p = err_from_is_err_and c.from_residual-in_err-report_counts.result c.from_residual-in_err-report_counts.ensures.1 in
-    rw (p.1, p.2, c.in_err-report_counts.ensures.ended) ([], tt, λ tree honest none. inl (inl refl))
+    rw (p.1, p.2, c.in_err-report_counts.ensures.ended) ([], false, tt, λ tree honest none. inl refl)
 
 pub returns-clause-lists : goal.returns-clause-lists
 returns-clause-lists g c =
@@ -113,15 +115,15 @@ returns-clause-lists g c =
     let o = c.args.options.now in
     let problems = map (option_map problem_of) c.args.asked.errors.items in
     let wrong = wrong_as c.deref.result.now c.args.asked.errors.items c.saturating_add.result c.in_ok-more.more
-    c.in_ok-reported.reported (counted 0 (map is_wrong (all_seen (met h.0)))) c.deref.ensures.value c.saturating_add.ensures
+    c.in_ok-reported.reported (counted 0 (map (is_wrong o) (all_seen (met h.0)))) c.deref.ensures.value c.saturating_add.ensures
     c.in_ok-reported.ensures.reports.0 h.3 in (
       met h.0,
       w.0,
       record {
         writes = written_as o w.0 _ _ (g.W.Write.contents c.args.out.now) (g.W.Write.contents c.write_without.new.out) c.form_of.ensures.base c.form_of.ensures.null w.3;
-        reports = counts_told o.stats (flat_map report_of problems ++ flat_map reports (all_seen (met h.0))) _ _ _ _ (g.E.Write.contents c.args.err.now)
+        reports = counts_told o.stats (flat_map report_of problems ++ all_told o (met h.0)) _ _ _ _ (g.E.Write.contents c.args.err.now)
             (g.E.Write.contents c.find_all.new.err) (g.E.Write.contents c.report_counts.new.err)
-            (appends_on (g.E.Write.contents c.args.err.now) (g.E.Write.contents c.report_all.new.err) (g.E.Write.contents c.find_all.new.err) (flat_map report_of problems) (flat_map reports (all_seen (met h.0)))
+            (appends_on (g.E.Write.contents c.args.err.now) (g.E.Write.contents c.report_all.new.err) (g.E.Write.contents c.find_all.new.err) (flat_map report_of problems) (all_told o (met h.0))
             (reported_as c.deref.result.now c.args.asked.errors.items (g.E.Write.contents c.args.err.now) (g.E.Write.contents c.report_all.new.err) c.deref.ensures.value c.in_ok-reported.ensures.reports.1) h.2)
             c.in_ok-report_counts.ensures.reports wrong w.2;
         ends = status_as c.status_of.result c.saturating_add.result c.in_ok-unused.unused _ _ c.status_of.ensures wrong w.2;

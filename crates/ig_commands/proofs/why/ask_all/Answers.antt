@@ -60,10 +60,10 @@ loop-given-preserved g c =
         text_more (written c.args.options.now (string_bytes first.asked.root)) so.0 one _ _ _ so.1
             (subst (λ r. Appends (g.W.Write.contents l.out) (g.W.Write.contents c.write_said.new.out) (written c.args.options.now r one)) root
             c.in_ok-write_said.ensures.writes),
-        text_more (reports (string_bytes first.asked.root)) so.0 one _ _ _ so.2
-            (subst (λ r. Appends (g.E.Write.contents l.err) (g.E.Write.contents c.write_said.new.err) (reports r one)) root
+        text_more (reports c.args.options.now (string_bytes first.asked.root)) so.0 one _ _ _ so.2
+            (subst (λ r. Appends (g.E.Write.contents l.err) (g.E.Write.contents c.write_said.new.err) (reports c.args.options.now r one)) root
             c.in_ok-write_said.ensures.reports),
-        counts_more is_wrong so.0 one _ _ _ so.3 c.with-counts.ensures.reported c.in_ok-write_said.ensures.reported,
+        counts_more (is_wrong c.args.options.now) so.0 one _ _ _ so.3 c.with-counts.ensures.reported c.in_ok-write_said.ensures.reported,
         counts_more is_found so.0 one _ _ _ so.4 c.with-counts.ensures.found c.in_ok-write_said.ensures.found,
         λ tree loads honest are agrees.
             let s = scene_of first.asked tree loads in
@@ -119,7 +119,7 @@ returns-in_err-write_said-clause-ended g c =
       take l.given-index all,
       drop l.given-index all,
       l.matcher.cache,
-      ends_after (flat_map (written c.args.options.now root) so.0) (flat_map (reports root) so.0)
+      ends_after (flat_map (written c.args.options.now root) so.0) (flat_map (reports c.args.options.now root) so.0)
           (g.W.Write.contents c.args.out.now) (g.W.Write.contents l.out) (g.W.Write.contents c.write_said.new.out)
           (g.E.Write.contents c.args.err.now) (g.E.Write.contents l.err) (g.E.Write.contents c.write_said.new.err)
           c.in_err-write_said.field-0.0 so.1 so.2 c.in_err-write_said.ensures.ended,

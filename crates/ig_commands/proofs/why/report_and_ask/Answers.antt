@@ -42,7 +42,7 @@ returns-in_err-counts-clause-ended g c =
       root,
       h.0,
       ends_after_reports (flat_map (written c.args.options.now root) h.0)
-          (flat_map report_of (map (option_map problem_of) c.args.asked.errors.items)) (flat_map (reports root) h.0)
+          (flat_map report_of (map (option_map problem_of) c.args.asked.errors.items)) (flat_map (reports c.args.options.now root) h.0)
           (Appends (g.W.Write.contents c.args.out.now) (g.W.Write.contents c.ask_all.new.out))
           (g.E.Write.contents c.args.err.now) (g.E.Write.contents c.report_all.new.err) (g.E.Write.contents c.ask_all.new.err)
           c.in_err-counts.field-0.0 (reported_as c.deref.result.now c.args.asked.errors.items (g.E.Write.contents c.args.err.now) (g.E.Write.contents c.report_all.new.err) c.deref.ensures.value c.in_ok-reported.ensures.reports.1) h.4,
@@ -63,7 +63,7 @@ returns-clause-answers g c =
       record {
         writes = h.1;
         reports = appends_on (g.E.Write.contents c.args.err.now) (g.E.Write.contents c.report_all.new.err) (g.E.Write.contents c.ask_all.new.err)
-            (flat_map report_of problems) (flat_map (reports (string_bytes m.asked.root)) h.0) (reported_as c.deref.result.now c.args.asked.errors.items (g.E.Write.contents c.args.err.now) (g.E.Write.contents c.report_all.new.err) c.deref.ensures.value c.in_ok-reported.ensures.reports.1) h.2;
+            (flat_map report_of problems) (flat_map (reports c.args.options.now (string_bytes m.asked.root)) h.0) (reported_as c.deref.result.now c.args.asked.errors.items (g.E.Write.contents c.args.err.now) (g.E.Write.contents c.report_all.new.err) c.deref.ensures.value c.in_ok-reported.ensures.reports.1) h.2;
         ends = status_as c.status_of.result c.saturating_add.result c.in_ok-counts.counts.found _ _ c.status_of.ensures
             (wrong_as c.deref.result.now c.args.asked.errors.items c.saturating_add.result c.in_ok-counts.counts.reported c.in_ok-reported.reported _
             c.deref.ensures.value c.saturating_add.ensures c.in_ok-reported.ensures.reports.0 h.3) h.4;

@@ -1,7 +1,7 @@
-use Rattle.std.proofs.Common.{List, ℕ, [], ◌∷◌, ◌++◌, Option, ◌∙◌, ap, map, option_map, subst, sym}
+use Rattle.std.proofs.Common.{◌≡◌, List, ℕ, [], ◌∷◌, ◌++◌, Option, ◌∙◌, ap, map, option_map, subst, sym}
 use Rattle.std.proofs.lemmas.List.{append-nil}
 use Rattle.ignore_base.specs.Problem.{Problem, problem_of}
-use Rattle.ig_options.specs.Files.{AddsFiles}
+use Rattle.ig_options.specs.Files.{AddsFiles, explained}
 use Rattle.ig_options.proofs.LoopLemmas.{here, files_more, files_done, one_more}
 use Rattle.ig_options.proofs.files.push_files.Goals as goal
 
@@ -17,15 +17,19 @@ loop-path-preserved g c = λ tree new rest honest h.
     let items = c.as_slice-path-items.result.now in
     let text = c.as_str.result.now in
     let next = c.add_ignore.new.self in
+    let first = option_map problem_of c.in_ok-found.found in
     let error = c.in_ok-error.error in
-    let first = option_map problem_of error in
     let at = here items l.path-index c.path-item.result text c.loop-path-test.true c.path-item.is c.as_str.ensures in
+    let told : option_map problem_of error ≡ explained tree text first =
+    c.in_ok-error.ensures.value tree honest
+    ∙ ap (λ (t : List ℕ). explained tree t first) (c.as_str-in-loop-path.ensures ∙ sym c.as_str.ensures) in
     let problems = ap (λ es. map (option_map problem_of) es ++ rest) c.in_ok-push.ensures.items
-    ∙ one_more (option_map problem_of) l.errors.items error rest in
+    ∙ (one_more (option_map problem_of) l.errors.items error rest
+    ∙ ap (λ (p : Option Problem). map (option_map problem_of) l.errors.items ++ (p ∷ rest)) told) in
     subst (λ (ps : List (Option Problem)). AddsFiles tree c.args.env.now c.args.paths.now c.args.walk.now new ps)
     (sym problems)
-    (l.invariant tree new (first ∷ rest) honest
-    (files_more tree c.args.env.now items l.path-index text l.walk next new first rest at (c.in_ok-error.ensures.read tree honest) h))
+    (l.invariant tree new (explained tree text first ∷ rest) honest
+    (files_more tree c.args.env.now items l.path-index text l.walk next new first rest at (c.in_ok-found.ensures.read tree honest) h))
 
 pub returns-clause-read : goal.returns-clause-read
 returns-clause-read g c = λ tree honest.
