@@ -570,3 +570,6 @@ impl Plan {
         errors.add_but_io(found.into_error());
     }
 }
+
+#[cfg(test)]
+mod beside;

@@ -507,3 +507,72 @@ impl Matcher {
         done(unsafe { ignore_matcher_forget(&mut self.0, dir.as_ptr(), dir.len(), &mut count) })
     }
 }
+
+/// An item of the library's own walk, with which tests compare.
+#[cfg(test)]
+#[derive(Debug)]
+pub struct Item {
+    pub path: Vec<u8>,
+    pub error: String,
+    pub depth: usize,
+    pub kind: u32,
+    pub is_entry: bool,
+    pub is_followed: bool,
+}
+
+#[cfg(test)]
+#[repr(C)]
+#[derive(Default)]
+struct WalkEntry {
+    path: usize,
+    error: usize,
+    depth: usize,
+    kind: u32,
+    is_entry: bool,
+    is_followed: bool,
+}
+
+#[cfg(test)]
+extern "C" {
+    fn ignore_builder_follow_links(builder: At, on: bool) -> u32;
+    fn ignore_builder_max_filesize(builder: At, is_set: bool, most: u64) -> u32;
+    fn ignore_walk_new(builder: At, tree: At, walk: At) -> u32;
+    fn ignore_walk_next(walk: At, entry: *mut WalkEntry, room: *mut u8, length: usize) -> u32;
+    fn ignore_walk_free(walk: Handle);
+}
+
+#[cfg(test)]
+impl Builder {
+    /// What a walk does besides the rules.
+    pub fn walks(&mut self, follow_links: bool, max_filesize: Option<u64>) {
+        done(unsafe { ignore_builder_follow_links(&mut self.0, follow_links) });
+        let (is_set, most) = (max_filesize.is_some(), max_filesize.unwrap_or(0));
+        done(unsafe { ignore_builder_max_filesize(&mut self.0, is_set, most) });
+    }
+}
+
+/// The items of the library's own walk over a tree.
+#[cfg(test)]
+pub fn walked(builder: &mut Builder, tree: &mut Tree) -> Vec<Item> {
+    let mut walk = made(|at| unsafe { ignore_walk_new(&mut builder.0, &mut tree.0, at) });
+    let (mut room, mut items) = (vec![0; 1 << 16], Vec::new());
+    loop {
+        let mut entry = WalkEntry::default();
+        let (to, most) = (room.as_mut_ptr(), room.len());
+        match unsafe { ignore_walk_next(&mut walk, &mut entry, to, most) } {
+            NONE => break,
+            code => done(code),
+        }
+        let (path, rest) = room.split_at(entry.path);
+        items.push(Item {
+            path: path.to_vec(),
+            error: String::from_utf8_lossy(&rest[..entry.error]).into_owned(),
+            depth: entry.depth,
+            kind: entry.kind,
+            is_entry: entry.is_entry,
+            is_followed: entry.is_followed,
+        });
+    }
+    unsafe { ignore_walk_free(walk) };
+    items
+}

@@ -7,7 +7,7 @@
 use crate::decide::{Answers, Asked, Dir, Guide, Place, Plan};
 use crate::entry::{identity, DirEntry, Follows, Identity};
 use crate::library::Verdict;
-use crate::walk::{check_loop, deciding, followed, Manner};
+use crate::walk::{check_loop, deciding, Manner};
 use crate::Error;
 use std::ffi::OsString;
 use std::path::{Path, PathBuf};
@@ -604,7 +604,9 @@ impl<'w, 's> Worker<'w, 's> {
         let manner = &self.walk.manner;
         let mut entry = DirEntry::listed(entry, depth)?;
         if manner.follow_links && entry.is_symlink() {
-            entry = followed(&entry)?;
+            // An error without a depth, as programs know it from earlier versions of the original.
+            let target = DirEntry::at(entry.path(), depth, Follows::Shown);
+            entry = target.map_err(|error| Error::Io(error).with_path(entry.path()))?;
             if entry.is_dir() {
                 check_loop(
                     &entry,

@@ -618,7 +618,7 @@ impl Walk {
 }
 
 /// The entry to which a link leads.
-pub(crate) fn followed(link: &DirEntry) -> Result<DirEntry, Error> {
+fn followed(link: &DirEntry) -> Result<DirEntry, Error> {
     let found = DirEntry::at(link.path(), link.depth(), Follows::Shown);
     found.map_err(|error| Error::of_walk(error, link.path(), link.depth()))
 }

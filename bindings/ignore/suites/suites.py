@@ -19,6 +19,10 @@ CRATE = os.path.dirname(os.path.dirname(os.path.abspath(__file__)))
 DEBIAN = "http://deb.debian.org/debian bookworm main"
 KEY = "signed-by=/usr/share/keyrings/debian-archive-keyring.gpg"
 NAMES = ["ripgrep", "fd-find", "globwalk"]
+# What isn't fetched with the programs: the third one, the original, and what tests use.
+CRATES = [
+    "globwalk", "ignore", "diff", "filetime", "tempfile", "test-case", "docmatic", "backtrace",
+]
 LIMIT = 3600
 # A feature that cargo refuses, since Debian's crate `grep` doesn't have it.
 LOST_FEATURE = re.compile(r'^simd-accel = \["grep/simd-accel"\]\n', re.M)
@@ -57,7 +61,7 @@ def fetch(top):
     run([*apt, "source", "--download-only", *packages], cwd=f"{top}/sources")
     only = ["--download-only", "--no-install-recommends"]
     run([*apt, *only, "build-dep", *packages])
-    run([*apt, *only, "--reinstall", "install", "librust-globwalk-dev", "librust-ignore-dev"])
+    run([*apt, *only, "--reinstall", "install", *[f"librust-{name}-dev" for name in CRATES]])
     for deb in glob.glob(f"{top}/debs/librust-*.deb"):
         run(["dpkg", "-x", deb, f"{top}/root"])
 
@@ -95,12 +99,14 @@ def put_in(top, folder, is_original):
 
 
 def suite(top, name, is_original):
-    """Runs a suite, and says what passed."""
+    """Runs a suite, and says what passed. Examples of docstrings aren't tried: globwalk's name crates
+    that it doesn't use."""
     folder = unpack(top, name)
     put_in(top, folder, is_original)
     target = f"{top}/target{'-original' if is_original else ''}"
     ran = subprocess.run(
-        ["cargo", "test", "--offline", "--no-fail-fast"], cwd=folder, stdin=subprocess.DEVNULL,
+        ["cargo", "test", "--offline", "--no-fail-fast", "--tests"], cwd=folder,
+        stdin=subprocess.DEVNULL,
         stdout=subprocess.PIPE, stderr=subprocess.STDOUT, text=True, errors="replace", timeout=LIMIT,
         env={**os.environ, "CARGO_TARGET_DIR": target})
     with open(f"{top}/{name}{'-original' if is_original else ''}.log", "w", encoding="utf-8") as file:
