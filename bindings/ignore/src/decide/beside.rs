@@ -95,14 +95,18 @@ struct Grown {
 
 impl Drop for Grown {
     fn drop(&mut self) {
-        let _ = fs::remove_dir_all(&self.top);
+        let room = self.top.ancestors().nth(2).expect("the folder of the test");
+        let _ = fs::remove_dir_all(room);
     }
 }
 
 impl Grown {
     fn at(seed: u64) -> Grown {
         let temp = fs::canonicalize(env::temp_dir()).expect("a folder");
-        let top = temp.join(format!("ignore_beside_{}_{seed}", std::process::id()));
+        let room = temp.join(format!("ignore_beside_{}_{seed}", std::process::id()));
+        // Links lead at most two folders up.
+        let top = room.join("up/top");
+        fs::create_dir_all(room.join("up")).expect("a folder");
         let cwd = env::current_dir().expect("a folder");
         let mut tree = Tree::new(&told(&cwd));
         let mut above: Vec<&Path> = top.ancestors().skip(1).collect();
@@ -353,7 +357,8 @@ fn try_one(seed: u64) {
     });
     for (number, walk) in walks.into_iter().enumerate() {
         let entries: Vec<Seen> = walk.iter().flatten().map(of_ours).collect();
-        let ours: BTreeSet<Seen> = entries.iter().cloned().collect();
+        let ours: BTreeSet<Seen> = entries.iter().map(|it| rooted(it, number)).collect();
+        let theirs: BTreeSet<Seen> = theirs.iter().map(|it| rooted(it, number)).collect();
         let errors: Vec<String> = walk
             .iter()
             .filter_map(|it| Some(it.as_ref().err()?.to_string()))
@@ -371,6 +376,14 @@ fn try_one(seed: u64) {
             their_errors,
             "{said}\n{errors:#?}\n{items:#?}"
         );
+    }
+}
+
+/// The entry, but for what a root is in a walk by threads: that shows where a link there leads.
+fn rooted(seen: &Seen, walk: usize) -> Seen {
+    match seen {
+        (text, 0, _, _, has_error) if walk > 0 => (text.clone(), 0, 0, false, *has_error),
+        other => other.clone(),
     }
 }
 
