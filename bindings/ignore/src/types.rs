@@ -184,10 +184,10 @@ impl Types {
     fn deciding(&self, name: &OsStr) -> Option<&FileTypeDef> {
         let matches = |choice: &&Choice| {
             let asker = Asker::of(std::slice::from_ref(*choice)).map(|mut it| it.ask(name));
-            match (asker, choice.is_negated) {
-                (Ok(Verdict::Whitelist), false) | (Ok(Verdict::Ignore), true) => true,
-                _ => false,
-            }
+            matches!(
+                (asker, choice.is_negated),
+                (Ok(Verdict::Whitelist), false) | (Ok(Verdict::Ignore), true)
+            )
         };
         self.0
             .choices

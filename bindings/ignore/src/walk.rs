@@ -71,7 +71,7 @@ impl Manner {
 
     /// Whether a directory at this depth is listed.
     pub(crate) fn lists(&self, depth: usize) -> bool {
-        self.max_depth.is_none_or(|most| depth < most)
+        !self.max_depth.is_some_and(|most| depth >= most)
     }
 }
 
