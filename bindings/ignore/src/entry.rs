@@ -12,7 +12,7 @@ const STDIN: &str = "<stdin>";
 #[derive(Clone, Debug)]
 pub struct DirEntry {
     what: What,
-    err: Option<Error>,
+    err: Option<Box<Error>>,
 }
 
 #[derive(Clone, Debug)]
@@ -91,7 +91,7 @@ impl DirEntry {
 
     /// What is wrong with the files of rules of this directory. The others of their lines count.
     pub fn error(&self) -> Option<&Error> {
-        self.err.as_ref()
+        self.err.as_deref()
     }
 
     fn disk(&self) -> Option<&OnDisk> {
@@ -110,7 +110,7 @@ impl DirEntry {
     }
 
     pub(crate) fn set_error(&mut self, error: Option<Error>) {
-        self.err = error;
+        self.err = error.map(Box::new);
     }
 
     pub(crate) fn stdin() -> DirEntry {
