@@ -3,6 +3,8 @@
 mod common;
 
 use common::{below, Room};
+use ignore::overrides::OverrideBuilder;
+use ignore::types::TypesBuilder;
 use ignore::{DirEntry, Error, Walk, WalkBuilder};
 use std::fs;
 use std::os::unix::fs::symlink;
@@ -139,6 +141,32 @@ fn depth_size_and_filter_limit_a_walk() {
         .max_filesize(Some(9))
         .filter_entry(|it| it.file_name() != "b" && it.depth() > 0);
     assert_eq!(kept(&builder, &room), ["a", "small"]);
+}
+
+#[test]
+fn overrides_and_types_limit_a_walk() {
+    let room = Room::new();
+    room.put("a.c", "")
+        .put("b.rs", "")
+        .put("c.md", "")
+        .put("d/e.c", "")
+        .put("d/f.rs", "");
+    let mut builder = WalkBuilder::new(room.path());
+    let mut types = TypesBuilder::new();
+    types.add_defaults().select("c").select("rust");
+    builder.types(types.build().expect("types"));
+    assert_eq!(
+        kept(&builder, &room),
+        ["a.c", "b.rs", "d", "d/e.c", "d/f.rs"]
+    );
+    let mut globs = OverrideBuilder::new(room.path());
+    globs.add("!d/*.rs").expect("a glob");
+    builder.overrides(globs.build().expect("globs"));
+    assert_eq!(kept(&builder, &room), ["a.c", "b.rs", "d", "d/e.c"]);
+    let mut globs = OverrideBuilder::new(room.path());
+    globs.add("*.md").expect("a glob");
+    builder.overrides(globs.build().expect("globs"));
+    assert_eq!(kept(&builder, &room), ["c.md", "d"]);
 }
 
 #[test]

@@ -1,8 +1,8 @@
 //! Random trees on disk, walked by this crate and by the library's own walk, which is told the whole
 //! tree: the same entries, by one thread and by several.
 
-use super::{Plan, Settings};
-use crate::library::{walked, Item, Tree};
+use super::Settings;
+use crate::library::{walked, Builder, Item, Label, Switch, Tree};
 use crate::names::told;
 use crate::overrides::OverrideBuilder;
 use crate::types::TypesBuilder;
@@ -223,6 +223,9 @@ impl Grown {
 struct Chosen {
     ours: WalkBuilder,
     theirs: Settings,
+    globs: Option<(PathBuf, bool, Vec<&'static str>)>,
+    /// The types that are selected or negated.
+    chosen: Vec<(&'static str, bool)>,
     follow_links: bool,
     max_filesize: Option<u64>,
 }
@@ -253,24 +256,36 @@ fn choose(random: &mut Random, root: &Path) -> Chosen {
             theirs.custom.push(OsString::from(name));
         }
     }
+    let mut globs = None;
     if random.one_in(5) {
+        let both_cases = random.one_in(2);
         let mut builder = OverrideBuilder::new(root);
-        let _ = builder.case_insensitive(random.one_in(2));
+        let _ = builder.case_insensitive(both_cases);
+        let mut taken = Vec::new();
         for _ in 0..1 + random.below(3) {
-            let _ = builder.add(random.of::<&str>(&RULES));
+            let glob = *random.of::<&str>(&RULES);
+            if builder.add(glob).is_ok() {
+                taken.push(glob);
+            }
         }
-        theirs.overrides = builder.build().expect("globs");
-        ours.overrides(theirs.overrides.clone());
+        ours.overrides(builder.build().expect("globs"));
+        globs = Some((root.to_path_buf(), both_cases, taken));
     }
+    let mut types = Vec::new();
     if random.one_in(5) {
+        types.push((*random.of::<&str>(&["rust", "c"]), false));
+        if random.one_in(2) {
+            types.push(("rust", true));
+        }
         let mut builder = TypesBuilder::new();
         builder.add_defaults();
-        builder.select(random.of::<&str>(&["rust", "c"]));
-        if random.one_in(2) {
-            builder.negate("rust");
+        for (name, is_negated) in &types {
+            match is_negated {
+                true => builder.negate(name),
+                false => builder.select(name),
+            };
         }
-        theirs.types = builder.build().expect("types");
-        ours.types(theirs.types.clone());
+        ours.types(builder.build().expect("types"));
     }
     if random.one_in(4) {
         theirs.max_depth = Some(random.below(4));
@@ -287,9 +302,49 @@ fn choose(random: &mut Random, root: &Path) -> Chosen {
     Chosen {
         ours,
         theirs,
+        globs,
+        chosen: types,
         follow_links,
         max_filesize,
     }
+}
+
+/// The library's builder, which is told the settings here and not by the code that is tested.
+fn told_builder(chosen: &Chosen, root: &Path) -> Builder {
+    let theirs = &chosen.theirs;
+    let mut builder = Builder::new(&told(root));
+    builder.switch(Switch::Hidden, theirs.hidden);
+    builder.switch(Switch::Parents, theirs.parents);
+    builder.switch(Switch::Ignore, theirs.ignore);
+    builder.switch(Switch::GitIgnore, theirs.git_ignore);
+    builder.switch(Switch::GitGlobal, theirs.git_global);
+    builder.switch(Switch::GitExclude, theirs.git_exclude);
+    builder.switch(Switch::RequireGit, theirs.require_git);
+    builder.switch(Switch::CaseInsensitive, theirs.case_insensitive);
+    let cwd = env::current_dir().expect("a folder");
+    builder.label(Label::CurrentDir, &told(&cwd));
+    for name in &theirs.custom {
+        builder.label(Label::Custom, &told(Path::new(name)));
+    }
+    builder.depth(false, theirs.min_depth);
+    builder.depth(true, theirs.max_depth);
+    if let Some((root, both_cases, globs)) = &chosen.globs {
+        assert!(builder.overrides(&told(root), *both_cases, globs.iter().copied()));
+    }
+    for (name, globs) in [
+        ("rust", &["*.rs"][..]),
+        ("c", &["*.[chH]", "*.[chH].in", "*.cats"]),
+    ] {
+        for glob in globs {
+            assert!(builder.type_add(name, glob));
+        }
+    }
+    for (name, is_negated) in &chosen.chosen {
+        builder.type_choose(name, *is_negated);
+    }
+    assert!(builder.set_types());
+    builder.walks(chosen.follow_links, chosen.max_filesize);
+    builder
 }
 
 /// An entry: its text, how deep it is, what it is, whether it was followed, whether its files of
@@ -341,9 +396,7 @@ fn try_one(seed: u64) {
         _ => top,
     };
     let mut chosen = choose(&mut random, &root);
-    let plan = Plan::new(chosen.theirs.clone());
-    let mut builder = plan.builder(&root);
-    builder.walks(chosen.follow_links, chosen.max_filesize);
+    let mut builder = told_builder(&chosen, &root);
     let items = walked(&mut builder, &mut grown.tree);
     let theirs: BTreeSet<Seen> = items
         .iter()
