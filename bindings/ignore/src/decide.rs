@@ -17,6 +17,7 @@ use std::collections::HashSet;
 use std::ffi::{OsStr, OsString};
 use std::os::unix::ffi::OsStrExt;
 use std::path::{Path, PathBuf};
+use std::str::from_utf8;
 use std::sync::{Arc, Mutex, OnceLock, PoisonError};
 
 /// A file of rules that was given explicitly: its lines, and the directory they are relative to.
@@ -559,6 +560,11 @@ impl Plan {
         let Some(text) = text else {
             return;
         };
+        // Nothing can be wrong with a glob that has none of these, and lines are UTF-8.
+        let is_plain = !text.iter().any(|byte| b"[]{}\\".contains(byte));
+        if is_plain && from_utf8(&text).is_ok() {
+            return;
+        }
         let mut found = Errors::default();
         let mut builder = GitignoreBuilder::new(dir);
         if builder

@@ -5,10 +5,12 @@ mod common;
 use common::{below, Room};
 use ignore::overrides::OverrideBuilder;
 use ignore::types::TypesBuilder;
-use ignore::{DirEntry, Error, Walk, WalkBuilder};
-use std::fs;
-use std::os::unix::fs::symlink;
+use ignore::{DirEntry, Error, Walk, WalkBuilder, WalkState};
+use std::os::unix::fs::{symlink, MetadataExt};
 use std::path::Path;
+use std::process::Command;
+use std::sync::atomic::{AtomicUsize, Ordering};
+use std::{env, fs};
 
 fn kept(builder: &WalkBuilder, room: &Room) -> Vec<String> {
     below(room.path(), builder.build().map(|it| it.expect("an entry")))
@@ -331,4 +333,83 @@ fn a_directory_that_cant_be_listed_is_yielded_before_its_error() {
     let error = items[2].as_ref().expect_err("it is gone");
     assert!(error.depth() == Some(1) && error.io_error().is_some());
     assert!(items[3].as_ref().is_ok_and(|it| it.path().ends_with("b")));
+}
+
+#[test]
+fn another_device_isnt_entered() {
+    let device = |path: &str| fs::metadata(path).map(|it| it.dev()).ok();
+    if device("/proc").is_none() || device("/proc") == device("/") {
+        return;
+    }
+    let mut builder = WalkBuilder::new("/");
+    builder.standard_filters(false).max_depth(Some(2));
+    builder.filter_entry(|it| it.path().starts_with("/proc"));
+    for stays in [false, true] {
+        builder.same_file_system(stays);
+        let below = AtomicUsize::new(0);
+        let count = |it: &DirEntry| {
+            below.fetch_add(usize::from(it.depth() == 2), Ordering::SeqCst);
+        };
+        builder.build().flatten().for_each(|it| count(&it));
+        assert_eq!(below.swap(0, Ordering::SeqCst) == 0, stays);
+        builder.build_parallel().run(|| {
+            Box::new(|item| {
+                item.iter().for_each(count);
+                WalkState::Continue
+            })
+        });
+        assert_eq!(below.into_inner() == 0, stays);
+    }
+}
+
+/// Run by the test below, with its standard output in a file of the folder that it lists.
+#[test]
+#[ignore = "it is run by another test"]
+fn lists_the_folder_of_its_output() {
+    let Some(top) = env::var_os("IGNORE_TEST_FOLDER") else {
+        return;
+    };
+    for skips in [false, true] {
+        let mut builder = WalkBuilder::new(&top);
+        builder.skip_stdout(skips);
+        for entry in builder.build().flatten().filter(|it| it.depth() > 0) {
+            println!("{skips} {}", entry.file_name().to_string_lossy());
+        }
+        let count = AtomicUsize::new(0);
+        builder.build_parallel().run(|| {
+            Box::new(|_| {
+                count.fetch_add(1, Ordering::SeqCst);
+                WalkState::Continue
+            })
+        });
+        println!("{skips} count {}", count.into_inner());
+    }
+}
+
+#[test]
+fn the_file_of_standard_output_is_left_out() {
+    let room = Room::new();
+    room.put("other", "");
+    let out = fs::File::create(room.path().join("out")).expect("a file");
+    let status = Command::new(env::current_exe().expect("this program"))
+        .args([
+            "--ignored",
+            "--exact",
+            "--nocapture",
+            "lists_the_folder_of_its_output",
+        ])
+        .env("IGNORE_TEST_FOLDER", room.path())
+        .stdout(out)
+        .status();
+    assert!(status.is_ok_and(|it| it.success()));
+    let text = fs::read_to_string(room.path().join("out")).expect("a file");
+    let said = |line: &str| text.lines().any(|it| it.ends_with(line));
+    assert!(
+        said("false out") && said("false other") && said("false count 3"),
+        "{text}"
+    );
+    assert!(
+        !said("true out") && said("true other") && said("true count 2"),
+        "{text}"
+    );
 }
