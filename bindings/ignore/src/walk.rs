@@ -423,25 +423,12 @@ enum Entries {
 }
 
 impl Entries {
-    fn next(&mut self, depth: usize) -> Option<Result<DirEntry, Error>> {
-        match self {
-            Entries::AsListed(all) => Some(match all.next()? {
-                Ok(entry) => DirEntry::listed(&entry, depth),
-                Err(error) => Err(Error::Io(error).with_depth(depth)),
-            }),
-            Entries::Sorted(all) => all.next(),
-        }
-    }
-
-    fn of(listed: Vec<io::Result<fs::DirEntry>>, depth: usize, sorter: Option<&Sorter>) -> Entries {
+    /// The entries of a listing, sorted if they are to be.
+    fn read(listing: fs::ReadDir, depth: usize, sorter: Option<&Sorter>) -> Entries {
         let Some(sorter) = sorter else {
-            return Entries::AsListed(listed.into_iter());
+            return Entries::AsListed(listing.collect::<Vec<_>>().into_iter());
         };
-        let mut as_listed = Entries::AsListed(listed.into_iter());
-        let mut all = Vec::new();
-        while let Some(entry) = as_listed.next(depth) {
-            all.push(entry);
-        }
+        let mut all: Vec<_> = listing.map(|item| listed(item, depth)).collect();
         all.sort_by(|one, other| match (one, other) {
             (Ok(one), Ok(other)) => match sorter {
                 Sorter::ByName(compare) => compare(one.file_name(), other.file_name()),
@@ -450,6 +437,36 @@ impl Entries {
             (one, other) => one.is_ok().cmp(&other.is_ok()),
         });
         Entries::Sorted(all.into_iter())
+    }
+
+    fn next(&mut self, depth: usize) -> Option<Result<DirEntry, Error>> {
+        match self {
+            Entries::AsListed(all) => all.next().map(|item| listed(item, depth)),
+            Entries::Sorted(all) => all.next(),
+        }
+    }
+
+    /// What of them decides in their directory.
+    fn deciding(&self, plan: &Plan) -> Vec<Listed> {
+        match self {
+            Entries::AsListed(all) => deciding(plan, all.as_slice().iter().flatten()),
+            Entries::Sorted(all) => {
+                let all = all.as_slice().iter().flatten();
+                let deciding = all.filter(|entry| plan.decides(entry.file_name()));
+                let found = deciding.map(|entry| Listed {
+                    name: entry.file_name().to_os_string(),
+                    kind: entry.file_type(),
+                });
+                found.collect()
+            }
+        }
+    }
+}
+
+fn listed(item: io::Result<fs::DirEntry>, depth: usize) -> Result<DirEntry, Error> {
+    match item {
+        Ok(entry) => DirEntry::listed(&entry, depth),
+        Err(error) => Err(Error::Io(error).with_depth(depth)),
     }
 }
 
@@ -534,37 +551,29 @@ impl Walk {
         }
     }
 
-    /// Enters a directory, unless it is as deep as the walk goes, or on another device.
+    /// Enters a directory, unless it is as deep as the walk goes, or on another device, and gives it.
     fn enter(&mut self, parent: &Place, name: &OsStr, mut entry: DirEntry) {
         let depth = entry.depth();
-        if !self.manner.lists(depth) {
-            return self.give(entry);
-        }
         let path = entry.path().to_path_buf();
-        let mut found = None;
-        if depth > 0 && self.device.is_some() || self.manner.follow_links {
-            match identity(&path) {
-                Ok(it) => found = Some(it),
-                Err(error) => {
-                    return self
-                        .ready
-                        .push_back(Err(Error::of_walk(error, &path, depth)))
-                }
-            }
-        }
-        if depth > 0 && self.device.is_some() && found.map(|it| it.0) != self.device {
+        let failed = |error| Err(Error::of_walk(error, &path, depth));
+        let watches_device = depth > 0 && self.device.is_some();
+        let asks = self.manner.follow_links || watches_device;
+        let found = match (self.manner.lists(depth) && asks).then(|| identity(&path)) {
+            Some(Err(error)) => return self.ready.push_back(failed(error)),
+            found => found.and_then(Result::ok),
+        };
+        let is_elsewhere = watches_device && found.map(|it| it.0) != self.device;
+        if !self.manner.lists(depth) || is_elsewhere {
             return self.give(entry);
         }
-        let listed = match fs::read_dir(&path) {
-            Ok(listed) => listed.collect::<Vec<_>>(),
+        let entries = match fs::read_dir(&path) {
+            Ok(listing) => Entries::read(listing, depth + 1, self.sorter.as_ref()),
             Err(error) => {
                 self.give(entry);
-                return self
-                    .ready
-                    .push_back(Err(Error::of_walk(error, &path, depth)));
+                return self.ready.push_back(failed(error));
             }
         };
-        let deciding = deciding(&self.plan, listed.iter().filter_map(|it| it.as_ref().ok()));
+        let deciding = entries.deciding(&self.plan);
         let dir = Dir {
             name,
             path: &path,
@@ -573,7 +582,6 @@ impl Walk {
         let (place, error) = self.guide().enter(parent, &dir, Some(&deciding));
         entry.set_error(error);
         self.give(entry);
-        let entries = Entries::of(listed, depth + 1, self.sorter.as_ref());
         self.levels.push(Level {
             place: Arc::new(place),
             path,

@@ -182,7 +182,7 @@ fn a_panic_of_a_visitor_ends_the_walk_and_goes_on_in_the_caller() {
     let room = many(60, 20);
     for threads in [1, 2, 4] {
         let made = AtomicUsize::new(0);
-        let panicked = AtomicBool::new(false);
+        let (panicked, shown) = (AtomicBool::new(false), AtomicUsize::new(0));
         struct Counted<'a>(&'a AtomicUsize);
         impl Drop for Counted<'_> {
             fn drop(&mut self) {
@@ -194,20 +194,22 @@ fn a_panic_of_a_visitor_ends_the_walk_and_goes_on_in_the_caller() {
             builder.threads(threads).build_parallel().run(|| {
                 made.fetch_add(1, Ordering::SeqCst);
                 let counted = Counted(&made);
-                let panicked = &panicked;
+                let (panicked, shown) = (&panicked, &shown);
                 Box::new(move |entry| {
                     let _ = &counted;
-                    if entry.is_ok_and(|it| it.depth() == 3) {
-                        panicked.store(true, Ordering::SeqCst);
+                    shown.fetch_add(1, Ordering::SeqCst);
+                    let is_deep = entry.is_ok_and(|it| it.depth() == 3);
+                    if is_deep && !panicked.swap(true, Ordering::SeqCst) {
                         panic!("the visitor's own");
                     }
+                    thread::sleep(Duration::from_micros(100));
                     WalkState::Continue
                 })
             });
         }));
         let said = ended.expect_err("the panic goes on");
         assert_eq!(said.downcast_ref::<&str>(), Some(&"the visitor's own"));
-        assert!(panicked.into_inner());
+        assert!(panicked.into_inner() && shown.into_inner() < 1000);
         assert_eq!(made.into_inner(), 0, "each visitor was dropped");
     }
 }
