@@ -270,12 +270,16 @@ pub(crate) struct Decision {
     pub is_within_depth: bool,
 }
 
+/// So many paths are told to a tree, which never forgets one, before it is made anew.
+const MANY: usize = if cfg!(test) { 20 } else { 4_000 };
+
 /// What decides, for one thread at a time.
 #[derive(Debug)]
 pub(crate) struct Guide {
     plan: Arc<Plan>,
     tree: Tree,
     told: HashSet<PathBuf>,
+    most: usize,
     roots: Vec<Option<Matcher>>,
     overrides_first: bool,
     text: Vec<u8>,
@@ -288,6 +292,7 @@ impl Guide {
         let mut guide = Guide {
             tree: Tree::new(&told(cwd)),
             told: HashSet::from([PathBuf::from("/")]),
+            most: MANY,
             roots: Vec::new(),
             overrides_first: !overrides.is_empty() && plan.one_case().is_none(),
             text: Vec::new(),
@@ -423,6 +428,25 @@ impl Guide {
         } else if let Some(matcher) = &mut self.roots[place.root] {
             matcher.forget(&place.below);
         }
+    }
+
+    /// Makes the tree anew where it was told much. The places of the root that are entered, from the
+    /// one above it down, are as before.
+    pub(crate) fn renew<'p>(&mut self, root: &Path, entered: impl Iterator<Item = &'p Place>) {
+        if self.told.len() < self.most {
+            return;
+        }
+        let plan = self.plan.clone();
+        *self = Guide::new(&plan);
+        for place in entered {
+            self.tell_all(&place.answers.facts);
+            self.roots.resize_with(place.root + 1, || None);
+        }
+        let matcher = Matcher::new(&mut plan.builder(root), &mut self.tree);
+        if let Some(last) = self.roots.last_mut() {
+            *last = Some(matcher);
+        }
+        self.most = MANY.max(2 * self.told.len());
     }
 
     fn tell_all(&mut self, facts: &[Fact]) {

@@ -455,6 +455,10 @@ impl<'w, 's> Worker<'w, 's> {
             .take_while(|(it, folder)| Arc::ptr_eq(&it.folder, folder))
             .count();
         self.leave_below(same);
+        if let (Some(guide), Some((root, above))) = (&mut self.guide, &self.above) {
+            let entered = self.way.iter().map(|it| &it.place);
+            guide.renew(&root.path, iter::once(above).chain(entered));
+        }
         for folder in &wanted[same..] {
             let answers = folder
                 .answers

@@ -545,6 +545,19 @@ impl Walk {
         Ok(())
     }
 
+    /// Leaves the last directory.
+    fn leave(&mut self) {
+        let Some(left) = self.levels.pop() else {
+            return;
+        };
+        self.guide().leave(&left.place);
+        let guide = self.guide.get_mut().unwrap_or_else(PoisonError::into_inner);
+        let entered = self.levels.iter().map(|level| &*level.place);
+        if let (Some(guide), Some(top)) = (guide, self.levels.first()) {
+            guide.renew(&top.path, self.above.iter().chain(entered));
+        }
+    }
+
     fn give(&mut self, entry: DirEntry) {
         if entry.depth() >= self.manner.min_depth {
             self.ready.push_back(Ok(entry));
@@ -678,9 +691,7 @@ impl Iterator for Walk {
                 Some(Some(Ok(entry))) => self.visit(entry),
                 Some(Some(Err(error))) => Err(error),
                 Some(None) => {
-                    if let Some(level) = self.levels.pop() {
-                        self.guide().leave(&level.place);
-                    }
+                    self.leave();
                     Ok(())
                 }
                 None => {
