@@ -271,7 +271,7 @@ pub(crate) struct Decision {
 }
 
 /// So many paths are told to a tree, which never forgets one, before it is made anew.
-const MANY: usize = if cfg!(test) { 20 } else { 4_000 };
+const MANY: usize = if cfg!(test) { 20 } else { 1_000 };
 
 /// What decides, for one thread at a time.
 #[derive(Debug)]
