@@ -1,8 +1,8 @@
 //! What the library decides, for a host that walks by itself: a directory is entered, its entries
 //! are decided on, and it is left.
 //!
-//! It is the one place that knows how the library is asked. Today that is a matcher over a tree: the
-//! tree is told of each directory what decides there, and the matcher answers for a path.
+//! It is the one place that knows how the library is asked. Today that is a matcher over a tree:
+//! the tree is told of each directory what decides there, and the matcher answers for a path.
 
 use crate::error::Errors;
 use crate::excludes::Known;
@@ -209,8 +209,8 @@ impl Plan {
         }
     }
 
-    /// The case of the overrides, where the library can be told them: it has one case for all, and no
-    /// unclosed `[`.
+    /// The case of the overrides, where the library can be told them: it has one case for all, and
+    /// no unclosed `[`.
     fn one_case(&self) -> Option<bool> {
         let mut globs = self.settings.overrides.globs().map(|(options, _)| options);
         let first = globs.next()?;
@@ -343,8 +343,8 @@ impl Guide {
         }
     }
 
-    /// Enters a directory in that of a place, of which all names that decide may be listed; and what
-    /// is wrong with its files of rules.
+    /// Enters a directory in that of a place, of which all names that decide may be listed; and
+    /// what is wrong with its files of rules.
     pub(crate) fn enter(
         &mut self,
         parent: &Place,
@@ -430,8 +430,8 @@ impl Guide {
         }
     }
 
-    /// Makes the tree anew where it was told much. The places of the root that are entered, from the
-    /// one above it down, are as before.
+    /// Makes the tree anew where it was told much. The places of the root that are entered, from
+    /// the one above it down, are as before.
     pub(crate) fn renew<'p>(&mut self, root: &Path, entered: impl Iterator<Item = &'p Place>) {
         if self.told.len() < self.most {
             return;

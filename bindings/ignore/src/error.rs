@@ -155,8 +155,8 @@ impl Error {
         Error::Glob { glob, err }
     }
 
-    /// The errors of a file by the library's text of them, in which the file has a label: a line for
-    /// each.
+    /// The errors of a file by the library's text of them, in which the file has a label: a line
+    /// for each.
     pub(crate) fn of_file(text: &str, label: &str, path: &Path, errors: &mut Errors) {
         for part in text.split('\n') {
             let rest = part

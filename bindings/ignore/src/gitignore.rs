@@ -140,7 +140,8 @@ impl Gitignore {
         (builder.built(), errors.into_error())
     }
 
-    /// The rules of git's global file, relative to the working directory, and what is wrong with it.
+    /// The rules of git's global file, relative to the working directory, and what is wrong with
+    /// it.
     ///
     /// Which file that is, [`gitconfig_excludes_path`] says.
     pub fn global() -> (Gitignore, Option<Error>) {
@@ -189,9 +190,9 @@ impl Gitignore {
 
     /// What the rules say of a path, a directory or not, with the rule that decided.
     ///
-    /// The path is written as from where the directory of the rules is, or from that directory: what
-    /// it begins with of that is stripped. It is stripped only where that ends at a name, which the
-    /// original doesn't mind.
+    /// The path is written as from where the directory of the rules is, or from that directory:
+    /// what it begins with of that is stripped. It is stripped only where that ends at a name,
+    /// which the original doesn't mind.
     pub fn matched<P: AsRef<Path>>(&self, path: P, is_dir: bool) -> Match<&Glob> {
         self.decided(path.as_ref(), is_dir, false)
     }
@@ -430,8 +431,8 @@ impl GitignoreBuilder {
         Ok(self)
     }
 
-    /// Whether a `[` that nothing closes stands for itself, in lines that are added from now on; else
-    /// it is an error. At first it does.
+    /// Whether a `[` that nothing closes stands for itself, in lines that are added from now on;
+    /// else it is an error. At first it does.
     pub fn allow_unclosed_class(&mut self, yes: bool) -> &mut GitignoreBuilder {
         self.options.allow_unclosed_class = yes;
         self

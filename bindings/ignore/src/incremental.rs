@@ -15,8 +15,8 @@ use std::{env, fmt};
 /// [`WalkBuilder::build_matchers`](crate::WalkBuilder::build_matchers).
 ///
 /// What decides in a directory is read when a path below it is asked about, and kept. A clone keeps
-/// nothing, and reads anew; in the original it has all that was read. A matcher of the root `-` says
-/// nothing of any path.
+/// nothing, and reads anew; in the original it has all that was read. A matcher of the root `-`
+/// says nothing of any path.
 pub struct IncrementalIgnore {
     root: PathBuf,
     plan: Arc<Plan>,
@@ -90,8 +90,8 @@ impl IncrementalIgnore {
         path.strip_prefix(root).ok().map(Path::to_path_buf)
     }
 
-    /// What becomes of a path, which is relative to the root and has no `..`; an absolute one has no
-    /// match. Files of rules that are new on the way are read.
+    /// What becomes of a path, which is relative to the root and has no `..`; an absolute one has
+    /// no match. Files of rules that are new on the way are read.
     pub fn matched<P: AsRef<Path>>(&mut self, path: P, is_dir: bool) -> IncrementalMatch {
         self.matched_with_errors(path, is_dir).0
     }

@@ -2,8 +2,8 @@
 //! owned by one value, which frees it.
 //!
 //! A handle may go to another thread while no call has it: nothing of a thread is in it, since it
-//! keeps what `malloc` gave and nothing else. So the values here are `Send`; they aren't `Sync`, and
-//! each call wants the handle for itself.
+//! keeps what `malloc` gave and nothing else. So the values here are `Send`; they aren't `Sync`,
+//! and each call wants the handle for itself.
 #![allow(unsafe_code)]
 
 use std::alloc::{handle_alloc_error, Layout};

@@ -82,15 +82,15 @@ impl OverrideBuilder {
         Ok(self)
     }
 
-    /// Whether both ASCII cases of a letter match, in globs that are added from now on. At first they
-    /// don't. It is never an error.
+    /// Whether both ASCII cases of a letter match, in globs that are added from now on. At first
+    /// they don't. It is never an error.
     pub fn case_insensitive(&mut self, yes: bool) -> Result<&mut OverrideBuilder, Error> {
         self.0.case_insensitive(yes)?;
         Ok(self)
     }
 
-    /// Whether a `[` that nothing closes stands for itself, in globs that are added from now on; else
-    /// it is an error. At first it is.
+    /// Whether a `[` that nothing closes stands for itself, in globs that are added from now on;
+    /// else it is an error. At first it is.
     pub fn allow_unclosed_class(&mut self, yes: bool) -> &mut OverrideBuilder {
         self.0.allow_unclosed_class(yes);
         self

@@ -266,8 +266,8 @@ impl TypesBuilder {
         self.choose(name, false)
     }
 
-    /// Has the files of a type ignored. `all` stands for those that are there, in the order of their
-    /// names.
+    /// Has the files of a type ignored. `all` stands for those that are there, in the order of
+    /// their names.
     pub fn negate(&mut self, name: &str) -> &mut TypesBuilder {
         self.choose(name, true)
     }
@@ -293,9 +293,9 @@ impl TypesBuilder {
         Ok(())
     }
 
-    /// Adds by a text: `NAME:GLOB` adds a glob to a type, `NAME:include:NAME,NAME` the globs of these
-    /// types. `InvalidDefinition` for any other text, for a name as in [`TypesBuilder::add`], and for
-    /// types that aren't there.
+    /// Adds by a text: `NAME:GLOB` adds a glob to a type, `NAME:include:NAME,NAME` the globs of
+    /// these types. `InvalidDefinition` for any other text, for a name as in [`TypesBuilder::add`],
+    /// and for types that aren't there.
     pub fn add_def(&mut self, def: &str) -> Result<(), Error> {
         let parts: Vec<&str> = def.split(':').collect();
         let (name, others) = match parts[..] {

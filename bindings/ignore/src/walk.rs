@@ -183,7 +183,8 @@ impl WalkBuilder {
 
     /// The matchers of the roots, one each, in their order.
     ///
-    /// They go by the settings of a walk, but for the filter, the order, standard output and devices.
+    /// They go by the settings of a walk, but for the filter, the order, standard output and
+    /// devices.
     pub fn build_matchers(&self) -> Vec<IncrementalIgnore> {
         let settings = Settings {
             min_depth: self.min_depth,
@@ -251,8 +252,8 @@ impl WalkBuilder {
         self
     }
 
-    /// Reads a file of rules now, which is weaker than all others. What is wrong with it is returned,
-    /// and its other lines count.
+    /// Reads a file of rules now, which is weaker than all others. What is wrong with it is
+    /// returned, and its other lines count.
     ///
     /// They are relative to [`WalkBuilder::current_dir`], or else to the working directory; where
     /// that isn't known it is an error, and nothing is added.
@@ -388,11 +389,11 @@ impl WalkBuilder {
         self
     }
 
-    /// Keeps only entries that satisfy a predicate, in place of one before. A directory that doesn't
-    /// isn't entered.
+    /// Keeps only entries that satisfy a predicate, in place of one before. A directory that
+    /// doesn't isn't entered.
     ///
-    /// It is asked last, of what is below a root and all else keeps. The original doesn't ask it of a
-    /// file where [`WalkBuilder::max_filesize`] is set and one thread walks.
+    /// It is asked last, of what is below a root and all else keeps. The original doesn't ask it of
+    /// a file where [`WalkBuilder::max_filesize`] is set and one thread walks.
     pub fn filter_entry<P>(&mut self, filter: P) -> &mut WalkBuilder
     where
         P: Fn(&DirEntry) -> bool + Send + Sync + 'static,
@@ -564,7 +565,8 @@ impl Walk {
         }
     }
 
-    /// Enters a directory, unless it is as deep as the walk goes, or on another device, and gives it.
+    /// Enters a directory, unless it is as deep as the walk goes, or on another device, and gives
+    /// it.
     fn enter(&mut self, parent: &Place, name: &OsStr, mut entry: DirEntry) {
         let depth = entry.depth();
         let path = entry.path().to_path_buf();

@@ -1,6 +1,6 @@
 #!/usr/bin/env python3
-"""Fetches ripgrep, fd and globwalk by Debian's packages, puts this crate in the original's place, and
-runs their own suites; one line a suite. It needs a network, dpkg-dev, cargo, and half an hour.
+"""Fetches ripgrep, fd and globwalk by Debian's packages, puts this crate in the original's place,
+and runs their own suites; one line a suite. It needs a network, dpkg-dev, cargo, and half an hour.
 usage: suites.py [--original] [--keep FOLDER] [NAME..]
     --original      leaves the original crate in its place
     --keep FOLDER   fetches and builds there, and leaves it: a later run fetches nothing
@@ -34,8 +34,8 @@ FAILED = re.compile(r"^test (\S+) \.\.\. FAILED$", re.M)
 def run(words, **how):
     """Runs a command, and returns what it wrote; ends where it fails."""
     ran = subprocess.run(
-        words, stdin=subprocess.DEVNULL, stdout=subprocess.PIPE, stderr=subprocess.STDOUT, text=True,
-        errors="replace", **how)
+        words, stdin=subprocess.DEVNULL, stdout=subprocess.PIPE, stderr=subprocess.STDOUT,
+        text=True, errors="replace", **how)
     if ran.returncode:
         sys.exit(f"{' '.join(words[:4])} .. failed:\n{ran.stdout[-3000:]}")
     return ran.stdout
@@ -67,7 +67,7 @@ def fetch(top):
 
 
 def unpack(top, name):
-    """Unpacks the source of a program anew. Debian has globwalk's as a package of its crate alone."""
+    """Unpacks the source of a program anew. Of globwalk Debian has its crate's package alone."""
     folder = f"{top}/{name}"
     shutil.rmtree(folder, ignore_errors=True)
     if name == "globwalk":
@@ -99,17 +99,17 @@ def put_in(top, folder, is_original):
 
 
 def suite(top, name, is_original):
-    """Runs a suite, and says what passed. Examples of docstrings aren't tried: globwalk's name crates
-    that it doesn't use."""
+    """Runs a suite, and says what passed. Examples in docstrings aren't tried: globwalk's name
+    crates that it doesn't use."""
     folder = unpack(top, name)
     put_in(top, folder, is_original)
     target = f"{top}/target{'-original' if is_original else ''}"
     ran = subprocess.run(
-        ["cargo", "test", "--offline", "--no-fail-fast", "--tests"], cwd=folder,
-        stdin=subprocess.DEVNULL,
-        stdout=subprocess.PIPE, stderr=subprocess.STDOUT, text=True, errors="replace", timeout=LIMIT,
-        env={**os.environ, "CARGO_TARGET_DIR": target})
-    with open(f"{top}/{name}{'-original' if is_original else ''}.log", "w", encoding="utf-8") as file:
+        ["cargo", "test", "--offline", "--no-fail-fast", "--tests"], cwd=folder, timeout=LIMIT,
+        stdin=subprocess.DEVNULL, stdout=subprocess.PIPE, stderr=subprocess.STDOUT, text=True,
+        errors="replace", env={**os.environ, "CARGO_TARGET_DIR": target})
+    log = f"{top}/{name}{'-original' if is_original else ''}.log"
+    with open(log, "w", encoding="utf-8") as file:
         file.write(ran.stdout)
     results = [(int(passed), int(failed)) for passed, failed in RESULT.findall(ran.stdout)]
     if not results:

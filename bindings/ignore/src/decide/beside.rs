@@ -1,5 +1,5 @@
-//! Random trees on disk, walked by this crate and by the library's own walk, which is told the whole
-//! tree: the same entries, by one thread and by several.
+//! Random trees on disk, walked by this crate and by the library's own walk, which is told the
+//! whole tree: the same entries, by one thread and by several.
 
 use super::Settings;
 use crate::library::{walked, Builder, Item, Label, Switch, Tree};
