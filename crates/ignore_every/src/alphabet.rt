@@ -135,10 +135,8 @@ fn answers_of(alloc: Global, tests: &Tests, c: char) -> Result<Vec<bool>, AllocE
     answers.push(c == '/')?;
     answers.push(c == '.')?;
     for range in &tests.ranges {
-        answers.push(is_in(*range, c))?;
-        if tests.folds {
-            answers.push(is_in(*range, other_case(c)))?;
-        }
+        let other_is_in = tests.folds && is_in(*range, other_case(c));
+        answers.push(is_in(*range, c) || other_is_in)?;
     }
     Ok(answers)
 }

@@ -66,7 +66,7 @@ fn is_same_kind(mark: char, first: char, last: char) -> bool
     if first == last {
         return is_same_mark(mark, first);
     }
-    first > '/' && mark > '/'
+    first > '/' && mark != '/' && mark != '.'
 }
 
 /// Whether an interval follows what lies below a number without a gap: only surrogates lie between.
