@@ -1,6 +1,10 @@
 pub mod Deciders
 pub mod Walks
+pub mod Walked
 pub mod Closed
+pub mod Missing
 pub mod Pairs
+pub mod Pushes
 pub mod RowLemmas
+pub mod Texts
 mod WorkedPaths

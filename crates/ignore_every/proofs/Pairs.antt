@@ -5,6 +5,7 @@ use Rattle.std.specs.Option.{option_or}
 use Rattle.std.proofs.lemmas.Bool.{cases_lt, cond_below, cond_above}
 use Rattle.ignore_base.specs.Text.{Chars}
 use Rattle.ignore_glob.specs.PositionSets.{IsSetAfter}
+use Rattle.ignore_glob.specs.Reading.{Reading}
 use Rattle.ignore_rules.specs.Answer.{does_apply}
 use Rattle.ignore_rules.specs.Rules.{Rule}
 use Rattle.ignore_every.specs.Machines.{AreSetsAfter, IsLastOf, Table, IsRight, IsRightTable, IsPairing, IsLeaf}
@@ -107,3 +108,27 @@ module _ (rules : List Rule) (index : ℕ) (rule : Rule) (place : slice_get rule
           (one_last text is_dir (does_apply text is_dir rule) refl);
     },
   )
+
+-- the table of a rule, whose index, flag and glob are known by equations
+pub rule_right : (rules : List Rule) (letters : List ℕ) (low high : ℕ) (rule : Rule) → slice_get rules low ≡ Some rule → high ≡ low + 1
+    → (index : ℕ) (only : Bool) (reading : Reading) → index ≡ low → only ≡ rule.is_only_dir → reading ≡ rule.reading
+    → (sets : ℕ → List Bool) (table : Table) → IsLeaf letters index only reading sets table → IsRightTable rules letters low high table
+rule_right rules letters low high rule place ends index only reading at flag reads sets table leaf =
+    let by_index : IsLeaf letters low only reading sets table = subst (λ x. IsLeaf letters x only reading sets table) at leaf in
+    let by_flag : IsLeaf letters low rule.is_only_dir reading sets table =
+    subst (λ x. IsLeaf letters low x reading sets table) flag by_index in
+    let by_glob : IsLeaf letters low rule.is_only_dir rule.reading sets table =
+    subst (λ x. IsLeaf letters low rule.is_only_dir x sets table) reads by_flag in
+    subst (λ h. IsRightTable rules letters low h table) (sym ends) (leaf_right rules low rule place letters sets table by_glob)
+
+-- the table of two tables, whose ranges are known by equations
+pub two_right : (rules : List Rule) (letters : List ℕ) (low a b c d high : ℕ) → a ≡ low → b ≡ c → d ≡ high → low ≤ b → b ≤ high
+    → (left right left' right' table : Table) (parts : ℕ → ℕ × ℕ) → IsRightTable rules letters a b left → IsRightTable rules letters c d right
+    → left' ≡ left → right' ≡ right → IsPairing left' right' parts table → IsRightTable rules letters low high table
+two_right rules letters low a b c d high starts meet ends order more left right left' right' table parts l r same_left same_right pairing =
+    let l2 : IsRightTable rules letters low b left = subst (λ x. IsRightTable rules letters x b left) starts l in
+    let r2 : IsRightTable rules letters b d right = subst (λ x. IsRightTable rules letters x d right) (sym meet) r in
+    let r3 : IsRightTable rules letters b high right = subst (λ x. IsRightTable rules letters b x right) ends r2 in
+    let p2 : IsPairing left right' parts table = subst (λ x. IsPairing x right' parts table) same_left pairing in
+    let p3 : IsPairing left right parts table = subst (λ x. IsPairing left x parts table) same_right p2 in
+    pairing_right rules low b high order more letters left right table parts l2 r3 p3

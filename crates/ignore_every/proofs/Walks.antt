@@ -21,7 +21,7 @@ pub data Walked (reached : Bool) (rules : List Rule) : Chars → NameStart → T
       → Walked reached rules (u ++ slash ∷ []) Empty
 
 -- how a name begins that goes on with these characters
-name_of : NameStart → Chars → NameStart
+unfoldable pub name_of : NameStart → Chars → NameStart
 name_of n [] = n
 name_of n (c ∷ cs) = name_of (name_after n c) cs
 

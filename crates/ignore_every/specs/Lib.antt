@@ -4,3 +4,6 @@ pub mod Machines
 pub mod Rows
 pub mod Sets
 pub mod Letters
+pub mod Trees
+pub mod Findings
+pub mod Sound

@@ -2,6 +2,7 @@
 ghost use Rattle.std.specs.Prelude.{◌≡◌, ◌≢◌, ◌≤◌, ◌==◌, ℕ, IsTrue};
 ghost use Rattle.std.specs.Char.{IsScalar};
 ghost use Rattle.ignore_base.specs.Text.{is_slash};
+ghost use Rattle.ignore_glob.specs.PositionSets.{AreAlike};
 ghost use Rattle.ignore_every.specs.Letters.{AreAllAlike, AreAllIn, IsOfLetter};
 
 use crate::places::letter_at;
@@ -18,6 +19,16 @@ pub struct Interval {
     pub letter: usize,
 }
 
+/// Whether all characters of an interval are alike, by the tests of an automaton.
+fn is_even(automaton: &Automaton, first: char, last: char) -> bool
+    ensures { IsTrue result → (c : ℕ) → first ≤ c → c ≤ last → AreAlike automaton.now first c }
+{
+    if first == last {
+        return true;
+    }
+    automaton.is_even(first, last)
+}
+
 /// Whether a character is alike to each of an interval, by the tests of all automata.
 fn are_all_alike(automata: &[Automaton], mark: char, first: char, last: char) -> bool
     ensures { IsTrue result → (c : ℕ) → first ≤ c → c ≤ last → AreAllAlike automata.now mark c }
@@ -26,7 +37,7 @@ fn are_all_alike(automata: &[Automaton], mark: char, first: char, last: char) ->
         if !automaton.are_alike(mark, first) {
             return false;
         }
-        if !automaton.is_even(first, last) {
+        if !is_even(automaton, first, last) {
             return false;
         }
     }
@@ -55,7 +66,7 @@ fn is_same_kind(mark: char, first: char, last: char) -> bool
     if first == last {
         return is_same_mark(mark, first);
     }
-    first > '/' && mark > '/'
+    first > '/' && mark != '/' && mark != '.'
 }
 
 /// Whether an interval follows what lies below a number without a gap: only surrogates lie between.

@@ -1,10 +1,27 @@
 //! Rules over all paths: what is so whatever a tree holds.
 #![tactic(auto)]
 
+mod alphabet;
+mod analysis;
+mod asked;
+mod decided;
+mod error;
+mod findings;
+mod grow;
+mod judge;
 pub mod laws;
 mod leaf;
 mod letters;
+mod misses;
+mod node;
+mod nodes;
 mod pair;
 mod place;
 mod places;
+mod room;
 mod row;
+mod trail;
+
+pub use analysis::Analysis;
+pub use error::Error;
+pub use findings::{Example, Finding, Question};

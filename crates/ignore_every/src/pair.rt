@@ -26,7 +26,7 @@ fn part_of(parts: &[(usize, usize)], state: usize) -> (usize, usize)
 }
 
 /// The decider among later rules, else the one among earlier rules.
-fn later(right: Option<usize>, left: Option<usize>) -> Option<usize>
+pub(crate) fn later(right: Option<usize>, left: Option<usize>) -> Option<usize>
     ensures { result ≡ option_or right left }
 {
     match right {

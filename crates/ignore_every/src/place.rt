@@ -3,7 +3,7 @@ ghost use Rattle.std.specs.Prelude.{◌≡◌};
 ghost use Rattle.ignore_every.specs.Names.{name_after, is_named};
 
 /// How the present name of a path begins, by which it is known whether a slash may follow.
-#[derive(Debug, Clone, Copy, PartialEq, Eq, Drop)]
+#[derive(Debug, Clone, Copy, PartialEq, Eq, Hash, Drop)]
 pub enum NameStart {
     /// It has no character yet.
     Empty,

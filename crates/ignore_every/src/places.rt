@@ -22,7 +22,7 @@ pub struct Search<'a> {
 }
 
 /// Whether a rule is there and ignores.
-fn ignores(rules: &[Glob], index: Option<usize>) -> bool
+pub(crate) fn ignores(rules: &[Glob], index: Option<usize>) -> bool
     ensures { result ≡ ignores rules.now index }
 {
     match index {
@@ -66,7 +66,7 @@ fn is_same_name(a: NameStart, b: NameStart) -> bool
 }
 
 /// The place with this number, if there is one.
-fn place_at(places: &[Place], number: usize) -> Option<Place>
+pub(crate) fn place_at(places: &[Place], number: usize) -> Option<Place>
     ensures { result ≡ slice_get places.now number }
 {
     match places.get(number) {
