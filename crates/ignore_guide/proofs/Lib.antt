@@ -1,3 +1,0 @@
-pub mod EnterLemmas
-pub mod FreeLemmas
-pub mod StandLemmas

@@ -1,3 +1,0 @@
-pub mod Guide
-pub mod Names
-pub mod Places
