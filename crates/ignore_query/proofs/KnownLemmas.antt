@@ -24,7 +24,7 @@ use Rattle.ignore_query.specs.Reports.{new_above, new_below, not_kept, problem_i
 use Rattle.ignore_query.proofs.KeepLemmas.{Ends, ends, last, none}
 use Rattle.ignore_query.proofs.ChainLemmas.{front_names, joined-slashed, loaded_front}
 use Rattle.ignore_levels.specs.declared.list.Place.{Place}
-use Rattle.ignore_query.proofs.NeedLemmas.{any-more, needed_way, or_same, or_true, way, way_at}
+use Rattle.ignore_query.proofs.NeedLemmas.{any-more, needed_way, or_same, or_true, way}
 use Rattle.ignore_query.proofs.WayLemmas.{last_inj, left, left_all, left_next}
 
 -- The key of the directory in which a path is.
@@ -210,20 +210,6 @@ pub none_above : (g : QueryScene) (c : Cache) → c.has_above ≡ true → new_a
 none_above g c h = ap (λ b. cond b None (problem_above g)) h
 
 -- One directory after the other.
-
--- where all that is left is kept, the next is, and so is what is left after it
-pub known_next : (g : QueryScene) (c : Cache) (names : List (List ℕ)) (i : ℕ) (n : List ℕ) → i < length names → n ≡ get_or names i n
-    → take (i + 1) names ≡ take i names ++ n ∷ [] → list_all (is_kept c) (way g (take i names) (drop i names)) ≡ true
-    → (is_kept c (take i names) ≡ true)
-    × (is_ignored g (take i names) ≡ false → list_all (is_kept c) (way g (take (i + 1) names) (drop (i + 1) names)) ≡ true)
-known_next g c names i n lt is more h =
-    let front = take i names in
-    let rest : List (List (List ℕ)) = way g (take (i + 1) names) (drop (i + 1) names) in
-    let all = sym (ap (list_all (is_kept c)) (way_at g names i n lt is more)) ∙ h in (
-      and_left (is_kept c front) (list_all (is_kept c) (cond (is_ignored g front) [] rest)) all,
-      λ e. ap (λ b. list_all (is_kept c) (cond b [] rest)) (sym e)
-          ∙ and_right (is_kept c front) (list_all (is_kept c) (cond (is_ignored g front) [] rest)) all,
-    )
 
 pub next_top : (front : List (List ℕ)) (n : List ℕ) → front ++ n ∷ [] ≡ [] → ⊥
 next_top [] n e = cc (e)

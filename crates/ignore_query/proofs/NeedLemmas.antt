@@ -18,7 +18,7 @@ use Rattle.ignore_query.specs.declared.kept.Cache.{Cache}
 use Rattle.ignore_query.specs.declared.kept.Kept.{Kept}
 use Rattle.ignore_query.specs.Needs.{KeepsNeeded, Stays, is_among, is_kept, needed}
 use Rattle.ignore_query.proofs.KeepLemmas.{Puts, SameAbove, puts_stays, slashed_inj}
-use Rattle.ignore_query.proofs.WayLemmas.{drop_all, drop_next, left, left_all, left_next, map-map}
+use Rattle.ignore_query.proofs.WayLemmas.{left, left_all, left_next, map-map}
 
 -- What stays kept.
 
@@ -97,7 +97,7 @@ ancestors-append (x ∷ xs) b =
     (map-append (λ q. x ∷ q) (ancestors xs) (map (λ q. xs ++ q) (ancestors b))
     ∙ ap (λ (l : List (List (List ℕ))). map (λ q. x ∷ q) (ancestors xs) ++ l) (map-map (λ q. x ∷ q) (λ q. xs ++ q) (ancestors b)))
 
-ancestors-more : (front : List (List ℕ)) (n : List ℕ) → ancestors (front ++ n ∷ []) ≡ ancestors front ++ front ∷ []
+pub ancestors-more : (front : List (List ℕ)) (n : List ℕ) → ancestors (front ++ n ∷ []) ≡ ancestors front ++ front ∷ []
 ancestors-more front n =
     ancestors-append front (n ∷ []) ∙ ap (λ (f : List (List ℕ)). ancestors front ++ f ∷ []) (append-nil front)
 
@@ -158,44 +158,6 @@ pub needed_way : (g : QueryScene) (names : List (List ℕ)) → needed g names �
 unfolding needed
 needed_way g names = ap (filter (opened g)) (sym (left_all names)) ∙ way_is g [] names refl
 
--- the next one
-pub way_at : (g : QueryScene) (names : List (List ℕ)) (i : ℕ) (n : List ℕ) → i < length names → n ≡ get_or names i n
-    → take (i + 1) names ≡ take i names ++ n ∷ []
-    → way g (take i names) (drop i names)
-    ≡ take i names ∷ cond (is_ignored g (take i names)) [] (way g (take (i + 1) names) (drop (i + 1) names))
-way_at g names i n lt is more =
-    ap (way g (take i names)) (drop_next names i n lt is)
-    ∙ ap (λ (f : List (List ℕ)). take i names ∷ cond (is_ignored g (take i names)) [] (way g f (drop (i + 1) names))) (sym more)
-
-pub way_end : (g : QueryScene) (names : List (List ℕ)) (i : ℕ) → length names ≤ i → way g (take i names) (drop i names) ≡ []
-way_end g names i le = ap (way g (take i names)) (drop_all names i le)
-
-or_assoc : (a b c : Bool) → (a || (b || c)) ≡ ((a || b) || c)
+pub or_assoc : (a b c : Bool) → (a || (b || c)) ≡ ((a || b) || c)
 or_assoc true b c = refl
 or_assoc false b c = refl
-
--- what is kept with the directories that are left is kept with the next one and those after it
-pub kept_next : (g : QueryScene) (c c' : Cache) (names q : List (List ℕ)) (i : ℕ) (n : List ℕ) (key : List ℕ) → i < length names
-    → n ≡ get_or names i n → take (i + 1) names ≡ take i names ++ n ∷ [] → All IsName (take i names) → All IsName q
-    → key ≡ slashed (take i names)
-    → is_kept c' q ≡ (is_kept c q || bytes_eq key (slashed q))
-    → (is_kept c q || is_among (way g (take i names) (drop i names)) q)
-    ≡ (is_kept c' q || is_among (cond (is_ignored g (take i names)) [] (way g (take (i + 1) names) (drop (i + 1) names))) q)
-kept_next g c c' names q i n key lt is more clean cleanq k put =
-    let front = take i names in
-    let rest = cond (is_ignored g front) [] (way g (take (i + 1) names) (drop (i + 1) names)) in
-    let here : bytes_eq key (slashed q) ≡ pointwise bytes_eq q front = ap (λ t. bytes_eq t (slashed q)) k ∙ same_key front q clean cleanq in
-    ap (λ l. is_kept c q || is_among l q) (way_at g names i n lt is more)
-    ∙ (or_assoc (is_kept c q) (pointwise bytes_eq q front) (is_among rest q)
-    ∙ ap (λ b. b || is_among rest q) (sym (put ∙ ap (λ b. is_kept c q || b) here)))
-
--- the same after a step that keeps no directory, by the same names
-pub keeps_after : (g : QueryScene) (a b c : Cache) (names ms : List (List ℕ)) → b.dirs ≡ a.dirs → names ≡ ms
-    → KeepsNeeded (needed g names) b c → KeepsNeeded (needed g ms) a c
-keeps_after g a b c names ms same is k = record {
-  above = k.above;
-  dirs = λ q clean.
-      k.dirs q clean
-      ∙ (ap (λ d. is_some (get_by_text d.map (slashed q)) || is_among (needed g names) q) same
-      ∙ ap (λ l. is_kept a q || is_among (needed g l) q) is);
-}

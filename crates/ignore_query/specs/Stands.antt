@@ -40,13 +40,20 @@ pub record IsInside (c : Cache) (names : List Bytes) (text : Path) : Type 0 wher
   pub key : text ≡ slashed front
   pub kept : kept_at c front ≡ Some Ignored
 
+-- the directory in which a path of names is, is kept at this place
+pub record IsIn (c : Cache) (names : List Bytes) (place : Option Place) : Type 0 where
+  pub front : List Bytes
+  pub name : Bytes
+  pub split : names ≡ front ++ name ∷ []
+  pub kept : kept_at c front ≡ Some (Loaded place)
+
 -- a path of names stands inside an ignored directory, or at a place
 abbrev pub IsPlaced : Cache → List Bytes → Stand → Type 0
 IsPlaced c names Unasked = ⊥
 IsPlaced c names Beyond = ⊥
 IsPlaced c names Unruled = ⊥
 IsPlaced c names (Inside key) = IsInside c names key.now
-IsPlaced c names (At place) = IsNext c names place
+IsPlaced c names (At place) = IsIn c names place
 
 -- this is the key of a directory, and the place at which that stands in which it is
 pub record IsNextKey (c : Cache) (text : Path) (place : Option Place) : Type 0 where
@@ -81,7 +88,7 @@ IsStand a c path is_dir Unruled = IsWithin a path is_dir
 IsStand a c path is_dir (Inside key) =
     IsWithin a path is_dir × ((list_all is_proper (components path) ≡ true) × IsInside c (components path) key.now)
 IsStand a c path is_dir (At place) =
-    IsWithin a path is_dir × ((list_all is_proper (components path) ≡ true) × IsNext c (components path) place)
+    IsWithin a path is_dir × ((list_all is_proper (components path) ≡ true) × IsIn c (components path) place)
 
 -- where it stands outside of the rules, they don't decide on it
 abbrev pub IsUnruled : QueryScene → Path → Stand → Type 0

@@ -116,6 +116,7 @@ impl Cache {
 
     /// Looks the directory with this key up, in one that stands at a place. Where nothing is kept
     /// of it, judges it, loads it unless it is ignored, and keeps it. Returns what is kept of it.
+    #[tactic(auto, using(crate::proofs::StandLemmas::grows_itself))]
     pub(crate) fn keep<F: Files>(
         &mut self,
         call: &Call<'_, F>,

@@ -53,6 +53,7 @@ impl Cache {
     }
 
     /// Keeps what is above the root, which is a directory.
+    #[tactic(auto, using(crate::proofs::StandLemmas::grows_itself))]
     pub(crate) fn keep_above<F: Files>(
         &mut self,
         call: &Call<'_, F>,

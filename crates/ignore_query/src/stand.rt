@@ -1,13 +1,17 @@
 //! Where a path stands: whether the rules decide on it, and by what is kept of which directory.
-ghost use Rattle.std.specs.Prelude.{◌≡◌, ◌++◌, ℕ, List, IfOk, OnOk, true, map};
+ghost use Rattle.std.specs.Prelude.{◌≡◌, ◌≢◌, ◌++◌, ◌∷◌, [], ℕ, List, Some, IfOk, OnOk, true, map};
 ghost use Rattle.std.specs.List.{filter_map, list_all};
 ghost use Rattle.std.specs.Option.{option_to_list};
 ghost use Rattle.ignore_base.specs.Paths.{components, is_proper};
 ghost use Rattle.ignore_base.specs.Problem.{problem_of};
+ghost use Rattle.ignore_dir.specs.Chains.{slashed};
 ghost use Rattle.ignore_dir.specs.Load.{Loaded};
 ghost use Rattle.ignore_dir.specs.Query as queries;
 ghost use Rattle.ignore_dir.specs.Soft.{AllSoft};
 ghost use Rattle.ignore_files.specs.Tree.{Tree};
+ghost use Rattle.ignore_query.specs.declared.kept.Cache.{Cache};
+ghost use Rattle.ignore_query.specs.Listed.{kept_at};
+ghost use Rattle.ignore_query.specs.Stands.{IsPlaced};
 
 use crate::asked::Call;
 use crate::clean::{depth_for, is_asked};
@@ -34,8 +38,11 @@ pub(crate) enum Stand<'a> {
     At(Option<Place>),
 }
 
-/// Where a path stands by what is kept of the directory with a key.
-fn stand_in(kept: Kept, key: &str) -> Stand<'_> {
+/// Where a path stands by what is kept of the directory with a key, in which it is.
+fn stand_in(kept: Kept, key: &str) -> Stand<'_>
+    ensures { (c : Cache) (front : List (List ℕ)) (name : List ℕ) → kept_at c front ≡ Some kept → key.now ≡ slashed front
+        → IsPlaced c (front ++ name ∷ []) result }
+{
     match kept {
         Kept::Ignored => Stand::Inside(key),
         Kept::Loaded(place) => Stand::At(place),
@@ -47,11 +54,12 @@ impl Cache {
     ghost use Rattle.ignore_query.specs.Needs.{KeepsNeeded, is_decided, is_known, needed};
     ghost use Rattle.ignore_query.specs.Reached.{scene_of};
     ghost use Rattle.ignore_query.specs.Reports.{new_above, new_below};
-    ghost use Rattle.ignore_query.specs.Stands.{Grows, IsPlaced, IsStand, IsUnruled, IsWithin, LeavesKept, problems_of_loads};
+    ghost use Rattle.ignore_query.specs.Stands.{Grows, IsStand, IsUnruled, IsWithin, LeavesKept, problems_of_loads};
     ghost use Rattle.ignore_query.specs.Where.{InCall};
 
     /// Where the path of a call stands. Where the rules decide on it, all directories that its
     /// answer needs are kept then: what isn't kept before is loaded.
+    #[tactic(auto, using(crate::proofs::StandLemmas::leaves_itself))]
     pub(crate) fn stand<'a, F: Files>(
         &mut self,
         call: &Call<'a, F>,
@@ -66,7 +74,7 @@ impl Cache {
             ≡ map problem_of errors.old.items ++ problems_of_loads g self.old call.now.path.now call.now.is_dir)) }
         ensures from_kept { (tree : Tree) (loads : List ℕ → Loaded) → let g = scene_of call.now.asked.now tree loads in
             Agrees g self.old → is_known g self.old (queries.names_of call.now.path.now) ≡ true
-            → (errors.new ≡ errors.old) × IfOk result (IsUnruled g call.now.path.now) }
+            → (map problem_of errors.new.items ≡ map problem_of errors.old.items) × IfOk result (IsUnruled g call.now.path.now) }
         ensures outside { ¬ IsWithin call.now.asked.now call.now.path.now call.now.is_dir → errors.new ≡ errors.old }
         ensures soft { AllSoft (map problem_of errors.old.items) → OnOk result (AllSoft (map problem_of errors.new.items)) }
     {
@@ -85,6 +93,7 @@ impl Cache {
 
     /// Where the path of a call stands, where the rules decide on it. The directories on the way are
     /// kept then, from the root down to the first ignored one.
+    #[tactic(auto, using(crate::proofs::StandLemmas::grows_itself))]
     fn stand_by_rules<'a, F: Files>(
         &mut self,
         call: &Call<'a, F>,
@@ -100,7 +109,7 @@ impl Cache {
             ++ (option_to_list (new_above g self.old) ++ filter_map (λ p. p) (new_below g self.old (components call.now.path.now))))) }
         ensures from_kept { (tree : Tree) (loads : List ℕ → Loaded) → let g = scene_of call.now.asked.now tree loads in
             Agrees g self.old → is_known g self.old (components call.now.path.now) ≡ true
-            → (self.new ≡ self.old) × (errors.new ≡ errors.old) }
+            → (self.new ≡ self.old) × (map problem_of errors.new.items ≡ map problem_of errors.old.items) }
         ensures soft { AllSoft (map problem_of errors.old.items) → OnOk result (AllSoft (map problem_of errors.new.items)) }
     {
         let parent = parent_key(call.path);
