@@ -2,6 +2,7 @@
 use Rattle.std.proofs.Common.{◌≡◌, ℕ, Bool, true, false, not, ◌&&◌, nat_lt, cond, All, List, [], ◌∷◌, ◌++◌, length, Option, Some, None, Result, Ok, Err}
 use Rattle.std.proofs.Common.{string_bytes, refl, sym, ap, ◌∙◌, subst}
 use Rattle.std.proofs.Math.Dec.{eqb-suc-zero}
+use Rattle.std.proofs.lemmas.List.{append-nil}
 use Rattle.std.specs.List.{filter_map, list_all, list_any}
 use Rattle.std.specs.Option.{option_to_list}
 use Rattle.ignore_base.proofs.CleanLemmas.{names-components}
@@ -160,6 +161,16 @@ why_not (Some most) (Err fault) said h = refl
 pub sizes_none : (g : QueryScene) (path : List ℕ) (is_dir : Bool) → is_decided g path is_dir ≡ false → problems_of_size g path is_dir ≡ []
 sizes_none g path is_dir h =
     ap (λ b. cond b (option_to_list (size_problem (join_of g.root path) (limit_of g path is_dir) (size_of g path))) []) h
+
+pub loads_none : (g : QueryScene) (c : Cache) (path : List ℕ) (is_dir : Bool) (errors : List Problem) → is_decided g path is_dir ≡ false
+    → errors ≡ errors ++ problems_of_loads g c path is_dir
+loads_none g c path is_dir errors h =
+    sym (ap (λ b. errors ++ cond b (option_to_list (new_above g c) ++ filter_map (λ p. p) (new_below g c (names_of path))) []) h ∙ append-nil errors)
+
+pub loads_decided : (g : QueryScene) (c : Cache) (path : List ℕ) (is_dir : Bool) → is_decided g path is_dir ≡ true
+    → problems_of_loads g c path is_dir ≡ option_to_list (new_above g c) ++ filter_map (λ p. p) (new_below g c (names_of path))
+loads_decided g c path is_dir h =
+    ap (λ b. cond b (option_to_list (new_above g c) ++ filter_map (λ p. p) (new_below g c (names_of path))) []) h
 
 pub sizes_inside : (g : QueryScene) (path : List ℕ) (is_dir : Bool) → list_any (is_ignored g) (ancestors (names_of path)) ≡ true
     → problems_of_size g path is_dir ≡ []

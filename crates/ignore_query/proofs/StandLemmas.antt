@@ -25,7 +25,7 @@ use Rattle.ignore_query.specs.declared.asked.Asked.{Asked}
 use Rattle.ignore_query.specs.declared.asked.Call.{Call}
 use Rattle.ignore_query.specs.declared.kept.Cache.{Cache}
 use Rattle.ignore_query.specs.declared.kept.Kept.{Kept}
-use Rattle.ignore_query.specs.declared.kept.Kept.TheVariants.{Loaded}
+use Rattle.ignore_query.specs.declared.kept.Kept.TheVariants.{Ignored, Loaded}
 use Rattle.ignore_query.specs.declared.stand.Stand.{Stand}
 use Rattle.ignore_query.specs.declared.stand.Stand.TheVariants.{Unasked, Beyond, Unruled, Inside, At}
 use Rattle.ignore_query.specs.Agrees.{Agrees, IsInLoaded, IsNext}
@@ -33,12 +33,12 @@ use Rattle.ignore_query.specs.Listed.{kept_at}
 use Rattle.ignore_query.specs.Needs.{KeepsNeeded, is_among, is_decided, is_kept, is_known, needed}
 use Rattle.ignore_query.specs.Reached.{scene_of}
 use Rattle.ignore_query.specs.Reports.{new_above, new_below, problem_in, problems_at}
-use Rattle.ignore_query.specs.Stands.{Grows, IsPlaced, IsStand, IsUnruled, IsWithin, LeavesKept}
+use Rattle.ignore_query.specs.Stands.{Grows, IsPlaced, IsStand, IsUnruled, IsWithin, LeavesKept, next_on}
 use Rattle.ignore_query.specs.Where.{InCall}
 use Rattle.ignore_query.proofs.ChainLemmas.{front_names}
 use Rattle.ignore_query.proofs.KeepLemmas.{Ends, SameAbove, ends, last, none}
 use Rattle.ignore_query.proofs.KeptLoadLemmas.{loads_nothing, loads_same, loads_then}
-use Rattle.ignore_query.proofs.KnownLemmas.{parent_open}
+use Rattle.ignore_query.proofs.KnownLemmas.{next_inside, next_top, parent_open}
 use Rattle.ignore_query.proofs.ListLemmas.{grown_agrees}
 use Rattle.ignore_query.proofs.NeedLemmas.{ancestors-append, ancestors-more, needed_way, or_assoc, or_false, same_key, stays_itself, stays_then, way}
 use Rattle.ignore_query.proofs.QueryLemmas.{root_dir}
@@ -363,30 +363,87 @@ visited_next files call old mid new before between after place text k clean w s 
       soft = λ h. s.soft (w.visited.soft h);
     }
 
--- what is kept at the end of the way
-pub visited_needed : {F : Type 0} (files : Files F) (call : Call F) (old new : Cache) (before after : List Problem)
-    (front rest : List (List ℕ)) (name : List ℕ) (tree : Tree) (loads : List ℕ → load.Loaded)
-    → Visited files call old new before after (ancestors (front ++ name ∷ []))
-    → components call.path.now ≡ front ++ name ∷ rest → new.has_above ≡ true
-    → let g = scene_of call.asked.now tree loads in
-    list_any (is_ignored g) (ancestors front) ≡ false → EndsWay g front rest
-    → KeepsNeeded (needed g (components call.path.now)) old new
-visited_needed files call old new before after front rest name tree loads v split rooted opened end =
+-- The end of the way.
+
+visited_at : {F : Type 0} (files : Files F) (call : Call F) (old mid new : Cache) (before between after : List Problem)
+    (place : Option Place) (text : List ℕ) (k : Kept) (w : OnWay files call old mid before between place text)
+    → Visits files call mid new between after place text k → kept_at new w.front ≡ Some k
+visited_at files call old mid new before between after place text k w s = ap (λ t. get_by_text new.dirs.map t) (sym w.key) ∙ s.found
+
+-- where the way ends at this directory, all that the answer needs is kept, and no more
+pub way_needed : {F : Type 0} (files : Files F) (call : Call F) (old mid new : Cache) (before between after : List Problem)
+    (place : Option Place) (text : List ℕ) (k : Kept) → All IsName (components call.path.now)
+    → (w : OnWay files call old mid before between place text) → Visits files call mid new between after place text k
+    → ((g : QueryScene) → Agrees g new → EndsWay g w.front w.rest)
+    → InCall files call (λ g. is_dir_there (g.tree.stat g.root true) ≡ true → Agrees g old
+    → KeepsNeeded (needed g (components call.path.now)) old new)
+way_needed files call old mid new before between after place text k clean w s end tree loads honest are there a =
     let g = scene_of call.asked.now tree loads in
+    let v = visited_next files call old mid new before between after place text k clean w s in
+    let an = v.grows.agrees tree loads honest are there a in
+    let cleanf = way_front_names files call old mid before between place text clean w in
+    let here = visited_at files call old mid new before between after place text k w s in
+    let opened = in_open g new w.front an cleanf (an.inside w.front k cleanf here) in
     record {
-      above = rooted;
+      above = an.first w.front k here;
       dirs = λ q cleanq.
           v.kept q cleanq
-          ∙ ap (λ l. is_kept old q || is_among l q) (sym (ap (needed g) split ∙ needed_seen g front rest name opened end));
+          ∙ ap (λ l. is_kept old q || is_among l q) (sym (ap (needed g) w.split ∙ needed_seen g w.front w.rest w.name opened (end g an)));
     }
 
--- and what was reported
-pub visited_problems : {F : Type 0} (files : Files F) (call : Call F) (old new : Cache) (before after : List Problem)
-    (front rest : List (List ℕ)) (name : List ℕ) (g : QueryScene)
-    → components call.path.now ≡ front ++ name ∷ rest
-    → after ≡ before ++ (option_to_list (new_above g old) ++ gathered g old (ancestors (front ++ name ∷ [])))
-    → list_any (is_ignored g) (ancestors front) ≡ false → EndsWay g front rest
-    → after ≡ before ++ (option_to_list (new_above g old) ++ filter_map (λ p. p) (new_below g old (components call.path.now)))
-visited_problems files call old new before after front rest name g split is opened end =
-    is ∙ ap (λ (l : List Problem). before ++ (option_to_list (new_above g old) ++ l))
-    (sym (ap (λ l. filter_map (λ p. p) (new_below g old l)) split ∙ below_seen g old front rest name opened end))
+-- and these problems were met
+pub way_problems : {F : Type 0} (files : Files F) (call : Call F) (old mid new : Cache) (before between after : List Problem)
+    (place : Option Place) (text : List ℕ) (k : Kept) → All IsName (components call.path.now)
+    → (w : OnWay files call old mid before between place text) → Visits files call mid new between after place text k
+    → ((g : QueryScene) → Agrees g new → EndsWay g w.front w.rest)
+    → InCall files call (λ g. is_dir_there (g.tree.stat g.root true) ≡ true → Agrees g old
+    → after ≡ before ++ (option_to_list (new_above g old) ++ filter_map (λ p. p) (new_below g old (components call.path.now))))
+way_problems files call old mid new before between after place text k clean w s end tree loads honest are there a =
+    let g = scene_of call.asked.now tree loads in
+    let v = visited_next files call old mid new before between after place text k clean w s in
+    let an = v.grows.agrees tree loads honest are there a in
+    let cleanf = way_front_names files call old mid before between place text clean w in
+    let here = visited_at files call old mid new before between after place text k w s in
+    let opened = in_open g new w.front an cleanf (an.inside w.front k cleanf here) in
+    v.problems tree loads honest are there a
+    ∙ ap (λ (l : List Problem). before ++ (option_to_list (new_above g old) ++ l))
+    (sym (ap (λ l. filter_map (λ p. p) (new_below g old l)) w.split ∙ below_seen g old w.front w.rest w.name opened (end g an)))
+
+pub ends_shut : (c : Cache) (front rest : List (List ℕ)) → All IsName front → kept_at c front ≡ Some Ignored → (g : QueryScene) → Agrees g c
+    → EndsWay g front rest
+ends_shut c front rest clean here g a = inl (a.right front Ignored clean here)
+
+pub ends_last : (c : Cache) (front rest : List (List ℕ)) (place : Option Place) → All IsName front → kept_at c front ≡ Some (Loaded place)
+    → rest ≡ [] → (g : QueryScene) → Agrees g c → EndsWay g front rest
+ends_last c front rest place clean here e g a = inr ((a.right front (Loaded place) clean here).0, e)
+
+pub next_none : (front rest : List (List ℕ)) (name : List ℕ) → next_on front name rest ≡ None → rest ≡ []
+next_none front [] name h = refl
+next_none front (m ∷ rest) name h = absurd (cc (h))
+
+pub next_some : (front rest : List (List ℕ)) (name key : List ℕ) → next_on front name rest ≡ Some key
+    → (m : List ℕ) × (more : List (List ℕ)) × (rest ≡ m ∷ more) × (key ≡ slashed (front ++ name ∷ []))
+next_some front [] name key h = absurd (cc (h))
+next_some front (m ∷ rest) name key h = (m, rest, refl, let e : key ≡ slashed (front ++ name ∷ []) = cc (h) in e)
+
+-- the way goes on at the next directory
+pub way_next : {F : Type 0} (files : Files F) (call : Call F) (old mid new : Cache) (before between after : List Problem)
+    (place : Option Place) (text key : List ℕ) (found : Option Place) → All IsName (components call.path.now)
+    → (w : OnWay files call old mid before between place text) → Visits files call mid new between after place text (Loaded found)
+    → next_on w.front w.name w.rest ≡ Some key → OnWay files call old new before after found key
+way_next files call old mid new before between after place text key found clean w s is =
+    let n = next_some w.front w.rest w.name key is in
+    let here = visited_at files call old mid new before between after place text (Loaded found) w s in
+    record {
+      front = w.front ++ w.name ∷ [];
+      name = n.0;
+      rest = n.1;
+      split = w.split ∙ (ap (λ l. w.front ++ w.name ∷ l) n.2 ∙ sym (append_assoc w.front (w.name ∷ []) (n.0 ∷ n.1)));
+      key = n.3;
+      next = record {
+        rooted = (s.grows.stays.above w.next.rooted).0;
+        top = λ e. absurd (next_top w.front w.name e);
+        inside = λ f m e. next_inside new w.front f w.name m found e here;
+      };
+      visited = visited_next files call old mid new before between after place text (Loaded found) clean w s;
+    }

@@ -1,6 +1,7 @@
 -- Questions asked in turn, and one more.
-use Rattle.std.proofs.Common.{◌≡◌, ◌+◌, List, [], ◌∷◌, ◌++◌, Option, length, map, option_map, refl, sym, ap, ◌∙◌, subst}
+use Rattle.std.proofs.Common.{◌≡◌, ◌+◌, All, List, [], ◌∷◌, ◌++◌, Option, None, length, map, option_map, refl, sym, ap, ◌∙◌, subst}
 use Rattle.std.proofs.lemmas.List.{length_push, map-append}
+use Rattle.std.proofs.lemmas.List.Elements.{All-push}
 use Rattle.ignore_base.specs.declared.error.Error.{Error}
 use Rattle.ignore_base.specs.Problem.{Problem, problem_of}
 use Rattle.ignore_dir.specs.declared.incremental.IncrementalMatch.{IncrementalMatch}
@@ -33,95 +34,74 @@ turn_next g (x ∷ qs) ps old c c' q turn leaves = (
   turn_next g qs turn.1 turn.0 c c' q turn.4 leaves,
 )
 
-abbrev pub Answer : Type 0
-Answer = IncrementalMatch × Option Error
-
-abbrev pub match_of : Answer → IncrementalMatch
-match_of r = r.0
-
-abbrev pub reported_by : Answer → Option Problem
-reported_by r = option_map problem_of r.1
-
 abbrev pub match_to : QueryScene → Question → IncrementalMatch
 match_to g q = (query g q.0 q.1).0
 
--- questions have these answers, which report their problems in turn, and what is kept in the end
--- agrees with the tree
-pub record AreAsked (g : QueryScene) (qs : List Question) (rs : List Answer) (old new : Cache) : Type 0 where
-  pub value : map match_of rs ≡ map (match_to g) qs
-  pub turn : ReportInTurn g qs (map reported_by rs) old new
-  pub agrees : Agrees g new
+-- an explanation as plain data, and that of a question
+abbrev pub explained : Explanation → QueryWhy × IncrementalMatch
+explained e = (query_why_of e.reason, e.answer)
 
-pub asked_next : (g : QueryScene) (qs : List Question) (rs : List Answer) (old c c' : Cache) (q : Question) (r : Answer)
-    → AreAsked g qs rs old c → r.0 ≡ match_to g q → reported_by r ≡ reported g c q.0 q.1 → Leaves g q c c' → Agrees g c'
-    → AreAsked g (qs ++ q ∷ []) (rs ++ r ∷ []) old c'
-asked_next g qs rs old c c' q r asked value problem leaves agrees = record {
-  value = map-append match_of rs (r ∷ []) ∙ (ap (λ l. l ++ r.0 ∷ []) asked.value
-      ∙ (ap (λ x. map (match_to g) qs ++ x ∷ []) value ∙ sym (map-append (match_to g) qs (q ∷ []))));
-  turn =
-      let P : List (Option Problem) → Type 0 = λ ps. ReportInTurn g (qs ++ q ∷ []) ps old c' in
-      subst P (sym (map-append reported_by rs (r ∷ []) ∙ ap (λ x. map reported_by rs ++ x ∷ []) problem))
-      (turn_next g qs (map reported_by rs) old c c' q asked.turn leaves);
-  agrees = agrees;
-}
+abbrev pub explained_to : QueryScene → Question → QueryWhy × IncrementalMatch
+explained_to g q = (query_why g q.0 q.1, match_to g q)
 
-pub asked_so : (g : QueryScene) (qs qs' : List Question) (rs rs' : List Answer) (old new : Cache) → qs' ≡ qs → rs' ≡ rs
-    → AreAsked g qs rs old new → AreAsked g qs' rs' old new
-asked_so g qs qs' rs rs' old new e f asked =
-    let P : List Question → Type 0 = λ x. AreAsked g x rs' old new in
-    let Q : List Answer → Type 0 = λ x. AreAsked g qs x old new in
-    subst P (sym e) (subst Q (sym f) asked)
+pub pair : {A B : Type 0} {a c : A} {b d : B} → a ≡ c → b ≡ d → (a, b) ≡ (c, d)
+pair {a = a} {c = c} {b = b} {d = d} e f = ap (λ x. (x, b)) e ∙ ap (λ x. (c, x)) f
 
--- The same of explanations.
+-- results with their errors, if any, where `said` is what one says
+abbrev pub Reported : Type 0 → Type 0
+Reported R = R × Option Error
 
-abbrev pub Explained : Type 0
-Explained = Explanation × Option Error
+abbrev pub problem_by : {R : Type 0} → Reported R → Option Problem
+problem_by r = option_map problem_of r.1
 
-abbrev pub why_by : Explained → QueryWhy
-why_by r = query_why_of r.0.reason
-
-abbrev pub answer_by : Explained → IncrementalMatch
-answer_by r = r.0.answer
-
-abbrev pub told_by : Explained → Option Problem
-told_by r = option_map problem_of r.1
-
-abbrev pub why_to : QueryScene → Question → QueryWhy
-why_to g q = query_why g q.0 q.1
-
--- questions have these explanations, which report their problems in turn, and what is kept in the
--- end agrees with the tree
-pub record AreExplained (g : QueryScene) (qs : List Question) (rs : List Explained) (old new : Cache) : Type 0 where
-  pub why : map why_by rs ≡ map (why_to g) qs
-  pub value : map answer_by rs ≡ map (match_to g) qs
-  pub turn : ReportInTurn g qs (map told_by rs) old new
-  pub agrees : Agrees g new
-
--- one more question, and what is right of its explanation
-pub record IsExplained (g : QueryScene) (q : Question) (r : Explained) (old new : Cache) : Type 0 where
-  pub why : why_by r ≡ why_to g q
-  pub value : r.0.answer ≡ match_to g q
-  pub problem : told_by r ≡ reported g old q.0 q.1
+-- a question has this result, which reports its problem, and what is kept then agrees with the tree
+pub record IsAnswered {R V : Type 0} (said : R → V) (to : QueryScene → Question → V) (g : QueryScene) (q : Question) (r : Reported R)
+    (old new : Cache) : Type 0 where
+  pub value : said r.0 ≡ to g q
+  pub problem : problem_by r ≡ reported g old q.0 q.1
   pub leaves : Leaves g q old new
   pub agrees : Agrees g new
 
-pub explained_next : (g : QueryScene) (qs : List Question) (rs : List Explained) (old c c' : Cache) (q : Question) (r : Explained)
-    → AreExplained g qs rs old c → IsExplained g q r c c' → AreExplained g (qs ++ q ∷ []) (rs ++ r ∷ []) old c'
-explained_next g qs rs old c c' q r before is = record {
-  why = map-append why_by rs (r ∷ []) ∙ (ap (λ l. l ++ why_by r ∷ []) before.why
-      ∙ (ap (λ x. map (why_to g) qs ++ x ∷ []) is.why ∙ sym (map-append (why_to g) qs (q ∷ []))));
-  value = map-append answer_by rs (r ∷ []) ∙ (ap (λ l. l ++ r.0.answer ∷ []) before.value
-      ∙ (ap (λ x. map (match_to g) qs ++ x ∷ []) is.value ∙ sym (map-append (match_to g) qs (q ∷ []))));
+-- questions have these results in turn
+pub record AreAnswered {R V : Type 0} (said : R → V) (to : QueryScene → Question → V) (g : QueryScene) (qs : List Question)
+    (rs : List (Reported R)) (old new : Cache) : Type 0 where
+  pub value : map (λ r. said r.0) rs ≡ map (to g) qs
+  pub turn : ReportInTurn g qs (map problem_by rs) old new
+  pub agrees : Agrees g new
+
+-- questions have these results from what is kept
+pub record AreFromKept {R V : Type 0} (said : R → V) (to : QueryScene → Question → V) (g : QueryScene) (qs : List Question)
+    (rs : List (Reported R)) (old new : Cache) : Type 0 where
+  pub same : new ≡ old
+  pub value : map (λ r. said r.0) rs ≡ map (to g) qs
+  pub none : All (λ r. r.1 ≡ None) rs
+
+one_more : {A B V : Type 0} (f : A → V) (h : B → V) (xs xs' : List A) (ys ys' : List B) (x : A) (y : B) → xs' ≡ xs ++ x ∷ []
+    → ys' ≡ ys ++ y ∷ [] → map f xs ≡ map h ys → f x ≡ h y → map f xs' ≡ map h ys'
+one_more f h xs xs' ys ys' x y e k all one =
+    ap (map f) e ∙ (map-append f xs (x ∷ []) ∙ (ap (λ l. l ++ f x ∷ []) all ∙ (ap (λ v. map h ys ++ v ∷ []) one
+    ∙ (sym (map-append h ys (y ∷ [])) ∙ sym (ap (map h) k)))))
+
+pub answered_next : {R V : Type 0} (said : R → V) (to : QueryScene → Question → V) (g : QueryScene) (qs qs' : List Question)
+    (rs rs' : List (Reported R)) (old c c' : Cache) (q : Question) (r : Reported R) → AreAnswered said to g qs rs old c
+    → IsAnswered said to g q r c c' → qs' ≡ qs ++ q ∷ [] → rs' ≡ rs ++ r ∷ [] → AreAnswered said to g qs' rs' old c'
+answered_next said to g qs qs' rs rs' old c c' q r before is e f = record {
+  value = one_more (λ r. said r.0) (to g) rs rs' qs qs' r q f e before.value is.value;
   turn =
-      let P : List (Option Problem) → Type 0 = λ ps. ReportInTurn g (qs ++ q ∷ []) ps old c' in
-      subst P (sym (map-append told_by rs (r ∷ []) ∙ ap (λ x. map told_by rs ++ x ∷ []) is.problem))
-      (turn_next g qs (map told_by rs) old c c' q before.turn is.leaves);
+      let P : List Question → List (Option Problem) → Type 0 = λ l ps. ReportInTurn g l ps old c' in
+      let problems = ap (map problem_by) f ∙ (map-append problem_by rs (r ∷ []) ∙ ap (λ x. map problem_by rs ++ x ∷ []) is.problem) in
+      subst (λ l. P l (map problem_by rs')) (sym e)
+      (subst (P (qs ++ q ∷ [])) (sym problems) (turn_next g qs (map problem_by rs) old c c' q before.turn is.leaves));
   agrees = is.agrees;
 }
 
-pub explained_so : (g : QueryScene) (qs qs' : List Question) (rs rs' : List Explained) (old new : Cache) → qs' ≡ qs → rs' ≡ rs
-    → AreExplained g qs rs old new → AreExplained g qs' rs' old new
-explained_so g qs qs' rs rs' old new e f asked =
-    let P : List Question → Type 0 = λ x. AreExplained g x rs' old new in
-    let Q : List Explained → Type 0 = λ x. AreExplained g qs x old new in
-    subst P (sym e) (subst Q (sym f) asked)
+pub kept_next : {R V : Type 0} (said : R → V) (to : QueryScene → Question → V) (g : QueryScene) (qs qs' : List Question)
+    (rs rs' : List (Reported R)) (old c c' : Cache) (q : Question) (r : Reported R) → AreFromKept said to g qs rs old c
+    → c' ≡ c → said r.0 ≡ to g q → r.1 ≡ None → qs' ≡ qs ++ q ∷ [] → rs' ≡ rs ++ r ∷ [] → AreFromKept said to g qs' rs' old c'
+kept_next {R = R} said to g qs qs' rs rs' old c c' q r before same value none e f = record {
+  same = same ∙ before.same;
+  value = one_more (λ r. said r.0) (to g) rs rs' qs qs' r q f e before.value value;
+  none =
+      let P : Reported R → Type 0 = λ x. x.1 ≡ None in
+      subst (All P) (sym f) (All-push P rs r before.none none);
+}

@@ -1,7 +1,7 @@
 //! The keys of the directories on the way to a path.
-ghost use Rattle.std.specs.Prelude.{◌≡◌, ◌++◌, ◌∷◌, ◌<◌, ◌≤◌, [], ℕ, List, Option, None, Some, IfSome, length};
+ghost use Rattle.std.specs.Prelude.{◌≡◌, ◌++◌, ◌∷◌, ◌<◌, ◌≤◌, [], ℕ, All, List, Option, Some, IfSome, length};
 ghost use Rattle.std.specs.Option.{option_copied};
-ghost use Rattle.ignore_base.specs.Paths.{components};
+ghost use Rattle.ignore_base.specs.Paths.{IsName, components};
 ghost use Rattle.ignore_dir.specs.Chains.{slashed};
 ghost use Rattle.ignore_query.specs.Stands.{next_on};
 
@@ -19,8 +19,8 @@ pub(crate) fn parent_key(path: &str) -> &str
 
 /// The key of the next directory on the way to a path, after the one with a key, if there is one.
 pub(crate) fn next_key<'a>(path: &'a str, key: &str) -> Option<&'a str>
-    ensures value { (front : List (List ℕ)) (name : List ℕ) (rest : List (List ℕ)) → components path.now ≡ front ++ name ∷ rest
-        → key.now ≡ slashed front → option_copied result ≡ next_on front name rest }
+    ensures value { (front : List (List ℕ)) (name : List ℕ) (rest : List (List ℕ)) → All IsName (components path.now)
+        → components path.now ≡ front ++ name ∷ rest → key.now ≡ slashed front → option_copied result ≡ next_on front name rest }
     ensures longer { IfSome result (λ next. (length key.now < length next.now) × (length next.now ≤ length path.now)) }
 {
     let rest = path.strip_prefix(key)?;

@@ -5,10 +5,11 @@ use Rattle.ignore_base.specs.Problem.{problem_of}
 use Rattle.ignore_dir.specs.Load.{Loaded, AreLoads}
 use Rattle.ignore_dir.specs.Soft.{IsSoft}
 use Rattle.ignore_query.specs.Agrees.{Agrees}
+use Rattle.ignore_query.specs.InTurn.{IsFromKept}
 use Rattle.ignore_query.specs.KeptLoads.{KeepsLoads}
 use Rattle.ignore_query.specs.Needs.{Stays}
 use Rattle.ignore_query.specs.Reached.{scene_of}
-use Rattle.ignore_query.proofs.TurnLemmas.{AreAsked}
+use Rattle.ignore_query.proofs.TurnLemmas.{AreAnswered, AreFromKept, match_to}
 use Rattle.ignore_query.proofs.paths.check_paths.Given as goal
 
 -- the answers so far are those to the paths before this one, in turn
@@ -21,6 +22,10 @@ invariant-loop-path g l = record {
   soft : All (λ r. IsSoft (option_map problem_of r.1)) l.answers.items;
   asked : (tree : Tree) (loads : List ℕ → Loaded) → IsHonest g.F.Files l.files tree
       → AreLoads tree l.fn.matcher.asked.settings loads → Agrees (scene_of l.fn.matcher.asked tree loads) l.fn.matcher.cache
-      → AreAsked (scene_of l.fn.matcher.asked tree loads) (map (λ p. (string_bytes p.0, p.1)) (take l.path-index l.paths))
+      → AreAnswered (λ m. m) match_to (scene_of l.fn.matcher.asked tree loads) (map (λ p. (string_bytes p.0, p.1)) (take l.path-index l.paths))
+      l.answers.items l.fn.matcher.cache l.matcher.cache;
+  from_kept : (tree : Tree) (loads : List ℕ → Loaded) → Agrees (scene_of l.fn.matcher.asked tree loads) l.fn.matcher.cache
+      → All (λ p. IsFromKept (scene_of l.fn.matcher.asked tree loads) l.fn.matcher.cache (string_bytes p.0, p.1)) l.paths
+      → AreFromKept (λ m. m) match_to (scene_of l.fn.matcher.asked tree loads) (map (λ p. (string_bytes p.0, p.1)) (take l.path-index l.paths))
       l.answers.items l.fn.matcher.cache l.matcher.cache;
 }
