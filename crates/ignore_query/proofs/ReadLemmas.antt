@@ -1,8 +1,9 @@
 -- What is read off where a path stands: the answer, its reason, and its problems.
 use Rattle.std.proofs.Common.{◌≡◌, ℕ, Bool, true, false, not, ◌&&◌, nat_lt, cond, All, List, [], ◌∷◌, ◌++◌, length, Option, Some, None, Result, Ok, Err}
-use Rattle.std.proofs.Common.{string_bytes, refl, sym, ap, ◌∙◌, subst}
+use Rattle.std.proofs.Common.{OnOk, string_bytes, refl, sym, ap, ◌∙◌, subst}
 use Rattle.std.proofs.Math.Dec.{eqb-suc-zero}
 use Rattle.std.proofs.lemmas.List.{append-nil}
+use Rattle.std.proofs.lemmas.List.Splits.{join_with_byte-slice_split}
 use Rattle.std.specs.List.{filter_map, list_all, list_any}
 use Rattle.std.specs.Option.{option_to_list}
 use Rattle.ignore_base.proofs.CleanLemmas.{names-components}
@@ -12,23 +13,25 @@ use Rattle.ignore_base.specs.Problem.{Problem, joined_problems}
 use Rattle.ignore_base.specs.declared.fault.Fault.{Fault}
 use Rattle.ignore_base.specs.declared.match_result.Match.{Match}
 use Rattle.ignore_files.specs.Tree.{Tree}
+use Rattle.ignore_files.specs.declared.files.Files.{Ghosts as Files}
 use Rattle.ignore_files.specs.declared.types.Metadata.{Metadata}
 use Rattle.ignore_dir.specs.declared.verdict.Verdict.{Verdict}
 use Rattle.ignore_dir.specs.declared.verdict.Verdict.TheVariants as v
-use Rattle.ignore_dir.specs.Limits.{is_beyond, limited, size_problem, sized}
+use Rattle.ignore_dir.specs.Limits.{is_beyond, limited, size_limit, size_problem, sized}
 use Rattle.ignore_dir.specs.Load as load
 use Rattle.ignore_dir.specs.Query.{ancestors, answer_of_rules, depth_of_path, has_rules, is_asked, is_dir_there, is_ignored, limit_of, names_of, query}
 use Rattle.ignore_dir.specs.Query.{rules_verdict, size_of}
-use Rattle.ignore_dir.specs.Scene.{QueryScene}
+use Rattle.ignore_dir.specs.Scene.{QueryScene, path_verdict}
 use Rattle.ignore_levels.specs.declared.list.Place.{Place}
 use Rattle.ignore_why.specs.Cited.{Cited}
-use Rattle.ignore_why.specs.QueryWhy.{QueryWhy, first_ignored, why_by_size}
-use Rattle.ignore_why.specs.QueryWhy.QueryWhy.{decided, larger}
+use Rattle.ignore_why.specs.QueryWhy.{QueryWhy, first_ignored, path_cited, why_by_rules, why_by_size}
+use Rattle.ignore_why.specs.QueryWhy.QueryWhy.{decided, inside, larger}
 use Rattle.ignore_why.proofs.QueryWhyLemmas.{first_some}
 use Rattle.ignore_query.specs.declared.asked.Asked.{Asked}
+use Rattle.ignore_query.specs.declared.asked.Call.{Call}
 use Rattle.ignore_query.specs.declared.kept.Cache.{Cache}
 use Rattle.ignore_query.specs.declared.kept.Kept.{Kept}
-use Rattle.ignore_query.specs.declared.kept.Kept.TheVariants.{Ignored}
+use Rattle.ignore_query.specs.declared.kept.Kept.TheVariants.{Ignored, Loaded}
 use Rattle.ignore_query.specs.declared.stand.Stand.{Stand}
 use Rattle.ignore_query.specs.declared.stand.Stand.TheVariants.{Unasked, Beyond, Unruled, Inside, At}
 use Rattle.ignore_query.specs.Agrees.{Agrees}
@@ -36,12 +39,13 @@ use Rattle.ignore_query.specs.Listed.{kept_at}
 use Rattle.ignore_query.specs.Needs.{is_decided}
 use Rattle.ignore_query.specs.Reached.{scene_of}
 use Rattle.ignore_query.specs.Reports.{new_above, new_below, reported, reported_by_rules}
-use Rattle.ignore_query.specs.Stands.{IsIn, IsInside, IsStand, IsWithin, larger_by, problems_of_loads, problems_of_size}
+use Rattle.ignore_query.specs.Stands.{IsIn, IsInside, IsSized, IsStand, IsWithin, StandsIn, larger_by, problems_of_loads, problems_of_size}
 use Rattle.ignore_query.proofs.ChainLemmas.{front_names}
-use Rattle.ignore_query.proofs.KnownLemmas.{parent_open}
+use Rattle.ignore_query.proofs.KeepLemmas.{Ends, ends, last, none}
+use Rattle.ignore_query.proofs.KnownLemmas.{open_verdict, parent_open, shut_verdict}
 use Rattle.ignore_query.proofs.QueryLemmas.{collected_three, names_are, query_rules}
 use Rattle.ignore_query.proofs.StandLemmas.{decided_ruled, first_here, in_open}
-use Rattle.ignore_query.proofs.WhyLemmas.{shut_size}
+use Rattle.ignore_query.proofs.WhyLemmas.{root_shut, shut_size, why_shut}
 
 -- Where the rules don't decide.
 
@@ -222,3 +226,129 @@ stands_beyond a c path is_dir Beyond on far h = refl
 stands_beyond a c path is_dir Unruled on far h = absurd (cc (far, h.within))
 stands_beyond a c path is_dir (Inside key) on far h = absurd (cc (far, h.0.within))
 stands_beyond a c path is_dir (At place) on far h = absurd (cc (far, h.0.within))
+
+-- At a place.
+
+-- what the rules say there
+pub record AtPlace {F : Type 0} (files : Files F) (call : Call F) (tree : Tree) (loads : List ℕ → load.Loaded) (w : Verdict) : Type 0 where
+  pub within : IsWithin call.asked.now call.path.now call.is_dir
+  pub ruled : Ruled call.asked.now tree call.path.now
+  pub opened : list_any (is_ignored (scene_of call.asked.now tree loads)) (ancestors (names_of call.path.now)) ≡ false
+  pub said : w ≡ rules_verdict (scene_of call.asked.now tree loads) (names_of call.path.now) call.is_dir
+  pub sized : IsSized files call.files.now tree (size_limit call.asked.now.settings call.is_dir w)
+
+-- what holds of an entry by its names holds of the path
+pub at_place : {F : Type 0} (files : Files F) (call : Call F) (tree : Tree) (loads : List ℕ → load.Loaded) (c : Cache) (stand : Stand)
+    (place : Option Place) (w : Verdict) (P : List (List ℕ) → Type 0)
+    → let g = scene_of call.asked.now tree loads in
+    StandsIn files call g c stand → stand ≡ At place
+    → ((front : List (List ℕ)) (name : List ℕ) → Agrees g c → All IsName (front ++ name ∷ []) → kept_at c front ≡ Some (Loaded place)
+    → call.path.now ≡ joined (front ++ name ∷ []) → P (front ++ name ∷ []))
+    → (P (names_of call.path.now) → list_any (is_ignored g) (ancestors (names_of call.path.now)) ≡ false
+    → w ≡ rules_verdict g (names_of call.path.now) call.is_dir)
+    → AtPlace files call tree loads w × P (names_of call.path.now)
+at_place files call tree loads c stand place w P h is by said =
+    let g = scene_of call.asked.now tree loads in
+    let path = call.path.now in
+    let s = subst (IsStand call.asked.now c path call.is_dir) is h.stands in
+    let at = s.1.1 in
+    let r = ruled_by call.asked.now tree loads c path at.front (Loaded place) h.agrees s.1.0 at.kept in
+    let whole = sym (join_with_byte-slice_split 47 path) ∙ ap joined at.split in
+    let opened = ap (λ l. list_any (is_ignored g) (ancestors l)) (sym r.names) ∙ at_open g c (components path) place h.agrees r.clean at in
+    let here = subst P (sym at.split ∙ r.names) (by at.front at.name h.agrees (subst (All IsName) at.split r.clean) at.kept whole) in
+    let verdict = said here opened in (
+      record {
+        within = s.0;
+        ruled = r;
+        opened = opened;
+        said = verdict;
+        sized = subst (IsSized files call.files.now tree) (sym (ap (size_limit call.asked.now.settings call.is_dir) verdict)) h.sized;
+      },
+      here,
+    )
+
+pub at_ignored : (a : Asked) (tree : Tree) (loads : List ℕ → load.Loaded) (path : List ℕ) (is_dir : Bool) (w : Verdict) (y : ℕ × ℕ)
+    → let g = scene_of a tree loads in
+    IsWithin a path is_dir → Ruled a tree path → w ≡ rules_verdict g (names_of path) is_dir
+    → larger_by (size_limit a.settings is_dir w) (size_of g path) ≡ Some y
+    → limited a.settings (depth_of_path path) is_dir v.Ignore ≡ (query g path is_dir).0
+at_ignored a tree loads path is_dir w y within r said h =
+    let g = scene_of a tree loads in
+    let is = sym (ap (λ x. larger_by (size_limit a.settings is_dir x) (size_of g path)) said) ∙ h in
+    sym (query_ruled a tree loads path is_dir within r.ruled
+    ∙ ap (limited a.settings (depth_of_path path) is_dir) (larger_ignores (limit_of g path is_dir) (size_of g path) (rules_verdict g (names_of path) is_dir) y is))
+
+pub at_kept : (a : Asked) (tree : Tree) (loads : List ℕ → load.Loaded) (path : List ℕ) (is_dir : Bool) (w : Verdict)
+    → let g = scene_of a tree loads in
+    IsWithin a path is_dir → Ruled a tree path → w ≡ rules_verdict g (names_of path) is_dir
+    → larger_by (size_limit a.settings is_dir w) (size_of g path) ≡ None
+    → limited a.settings (depth_of_path path) is_dir w ≡ (query g path is_dir).0
+at_kept a tree loads path is_dir w within r said h =
+    let g = scene_of a tree loads in
+    let is = sym (ap (λ x. larger_by (size_limit a.settings is_dir x) (size_of g path)) said) ∙ h in
+    sym (query_ruled a tree loads path is_dir within r.ruled
+    ∙ ap (limited a.settings (depth_of_path path) is_dir)
+    (larger_not (limit_of g path is_dir) (size_of g path) (rules_verdict g (names_of path) is_dir) is ∙ sym said))
+
+pub at_sizes : (a : Asked) (tree : Tree) (loads : List ℕ → load.Loaded) (path : List ℕ) (is_dir : Bool) (w : Verdict) (errors : List Problem)
+    → let g = scene_of a tree loads in
+    IsWithin a path is_dir → Ruled a tree path → w ≡ rules_verdict g (names_of path) is_dir
+    → errors ++ option_to_list (size_problem (join_of g.root path) (size_limit a.settings is_dir w) (size_of g path))
+    ≡ errors ++ problems_of_size g path is_dir
+at_sizes a tree loads path is_dir w errors within r said =
+    let g = scene_of a tree loads in
+    ap (λ x. errors ++ option_to_list (size_problem (join_of g.root path) (size_limit a.settings is_dir x) (size_of g path))) said
+    ∙ ap (λ (l : List Problem). errors ++ l) (sym (sizes_decided g path is_dir (decided_ruled a tree loads path is_dir within r.ruled)))
+
+-- Inside an ignored directory.
+
+pub inside_answer : (a : Asked) (tree : Tree) (loads : List ℕ → load.Loaded) (c : Cache) (path text : List ℕ) (is_dir : Bool)
+    → let g = scene_of a tree loads in
+    Agrees g c → IsWithin a path is_dir → Ruled a tree path → IsInside c (components path) text
+    → limited a.settings (depth_of_path path) is_dir v.Ignore ≡ (query g path is_dir).0
+inside_answer a tree loads c path text is_dir agrees within r h =
+    let g = scene_of a tree loads in
+    let on = ap (λ l. list_any (is_ignored g) (ancestors l)) (sym r.names) ∙ inside_shut g c (components path) text agrees r.clean h in
+    sym (query_ruled a tree loads path is_dir within r.ruled
+    ∙ ap (limited a.settings (depth_of_path path) is_dir)
+    (ap (sized (limit_of g path is_dir) (size_of g path)) (sym (shut_verdict g (names_of path) is_dir on))
+    ∙ ignored_sized (limit_of g path is_dir) (size_of g path)))
+
+pub inside_sizes : (a : Asked) (tree : Tree) (loads : List ℕ → load.Loaded) (c : Cache) (path text : List ℕ) (is_dir : Bool)
+    (errors : List Problem) → let g = scene_of a tree loads in
+    Agrees g c → Ruled a tree path → IsInside c (components path) text → errors ≡ errors ++ problems_of_size g path is_dir
+inside_sizes a tree loads c path text is_dir errors agrees r h =
+    let g = scene_of a tree loads in
+    let on = ap (λ l. list_any (is_ignored g) (ancestors l)) (sym r.names) ∙ inside_shut g c (components path) text agrees r.clean h in
+    sym (ap (λ (l : List Problem). errors ++ l) (sizes_inside g path is_dir on) ∙ append-nil errors)
+
+-- no size is asked where the rules don't decide
+pub off_sizes : (g : QueryScene) (path : List ℕ) (is_dir : Bool) (errors : List Problem) → is_decided g path is_dir ≡ false
+    → errors ≡ errors ++ problems_of_size g path is_dir
+off_sizes g path is_dir errors h = sym (ap (λ (l : List Problem). errors ++ l) (sizes_none g path is_dir h) ∙ append-nil errors)
+
+-- what holds anyway holds on `Ok`
+pub always : {A E : Type 0} {P : Type 0} (r : Result A E) → P → OnOk r P
+always (Ok a) p = p
+always (Err e) p = tt
+
+-- an ignored directory has a name
+pub inside_named : (a : Asked) (tree : Tree) (loads : List ℕ → load.Loaded) (c : Cache) (path text : List ℕ)
+    → Agrees (scene_of a tree loads) c → Ruled a tree path → (h : IsInside c (components path) text)
+    → (front : List (List ℕ)) × (name : List ℕ) × (h.front ≡ front ++ name ∷ []) × All IsName (front ++ name ∷ [])
+inside_named a tree loads c path text agrees r h = by (ends h.front)
+  where
+    by : Ends h.front → (front : List (List ℕ)) × (name : List ℕ) × (h.front ≡ front ++ name ∷ []) × All IsName (front ++ name ∷ [])
+    by (none e) = absurd (root_shut (scene_of a tree loads) c h.front agrees h.kept e)
+    by (last front name e) = (front, name, e, subst (All IsName) e (inside_names c (components path) text r.clean h))
+
+pub inside_why : (a : Asked) (tree : Tree) (loads : List ℕ → load.Loaded) (c : Cache) (path text : List ℕ) (is_dir : Bool)
+    → let g = scene_of a tree loads in
+    Agrees g c → Ruled a tree path → (h : IsInside c (components path) text)
+    → (n : (front : List (List ℕ)) × (name : List ℕ) × (h.front ≡ front ++ name ∷ []) × All IsName (front ++ name ∷ []))
+    → inside (joined (n.0 ++ n.1 ∷ [])) (path_cited g (n.0 ++ n.1 ∷ []) true) ≡ why_by_rules g path is_dir
+inside_why a tree loads c path text is_dir agrees r h n =
+    let g = scene_of a tree loads in
+    why_shut g path (n.0 ++ n.1 ∷ []) is_dir
+    (ap (λ l. first_ignored g (ancestors l)) (sym r.names) ∙ (inside_first g c (components path) text agrees r.clean h
+    ∙ ap (λ (l : List (List ℕ)). Some l) n.2))

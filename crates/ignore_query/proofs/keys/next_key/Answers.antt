@@ -62,25 +62,25 @@ returns-in_err-rest-clause-value c = λ front name rest clean e k.
     let whole = sym (join_with_byte-slice_split 47 c.args.path.now) ∙ (ap joined e ∙ joined-front front rest name) in
     absurd (c.in_err-rest.ensures.cases (joined (name ∷ rest)) (whole ∙ ap (λ t. t ++ joined (name ∷ rest)) (sym k)))
 
-pub returns-in_err-split_once-clause-value : goal.returns-in_err-split_once-clause-value
-returns-in_err-split_once-clause-value c = λ front name rest clean e k.
+pub returns-in_err-after-clause-value : goal.returns-in_err-after-clause-value
+returns-in_err-after-clause-value c = λ front name rest clean e k.
     let found = c.in_ok-rest.ensures.cases in
     let at = found.1.1 ∙ ap (λ r. c.args.key.now ++ r) (sym found.2) in
     let left = left_names c.args.path.now c.args.key.now c.in_ok-rest.rest.now front rest name at clean e k in
-    let one = components_whole c.in_ok-rest.rest.now c.in_err-split_once.ensures.cases in
+    let one = components_whole c.in_ok-rest.rest.now c.in_err-after.ensures.cases in
     let none' : rest ≡ [] = cc (left, one) in
-    ap option_copied c.from_residual.ensures ∙ ap (next_on front name) (sym none')
+    ap option_copied c.from_residual-in_err-after.ensures ∙ ap (next_on front name) (sym none')
 
 pub returns-clause-value : goal.returns-clause-value
 returns-clause-value c = λ front name rest clean e k.
     let found = c.in_ok-rest.ensures.cases in
     let left' = c.in_ok-rest.rest.now in
-    let after = c.in_ok-split_once.after.now in
-    let first = c.in_ok-split_once.field-0.now in
+    let after = c.in_ok-after.after.now in
+    let first = c.in_ok-after.field-0.now in
     let at = found.1.1 ∙ ap (λ r. c.args.key.now ++ r) (sym found.2) in
-    let cut = split_parts 47 left' (Some (c.in_ok-split_once.field-0, c.in_ok-split_once.after)) c.in_ok-split_once.ensures.cases (lit< tt) in
+    let cut = split_parts 47 left' (Some (c.in_ok-after.field-0, c.in_ok-after.after)) c.in_ok-after.ensures.cases (lit< tt) in
     let names = left_names c.args.path.now c.args.key.now left' front rest name at clean e k in
-    let split = components_split left' (c.in_ok-split_once.field-0, c.in_ok-split_once.after) c.in_ok-split_once.ensures.cases in
+    let split = components_split left' (c.in_ok-after.field-0, c.in_ok-after.after) c.in_ok-after.ensures.cases in
     let some = components_some after in
     let both : name ∷ rest ≡ first ∷ (some.0 ∷ some.1) = sym names ∙ (split.0 ∙ ap (λ l. first ∷ l) some.2) in
     let same : name ≡ first = cc (both) in
@@ -94,10 +94,10 @@ returns-clause-longer c =
     let found = c.in_ok-rest.ensures.cases in
     let left' = c.in_ok-rest.rest.now in
     let key = c.args.key.now in
-    let after = c.in_ok-split_once.after.now in
-    let first = c.in_ok-split_once.field-0.now in
+    let after = c.in_ok-after.after.now in
+    let first = c.in_ok-after.field-0.now in
     let at = found.1.1 ∙ ap (λ r. key ++ r) (sym found.2) in
-    let cut = split_parts 47 left' (Some (c.in_ok-split_once.field-0, c.in_ok-split_once.after)) c.in_ok-split_once.ensures.cases (lit< tt) in
+    let cut = split_parts 47 left' (Some (c.in_ok-after.field-0, c.in_ok-after.after)) c.in_ok-after.ensures.cases (lit< tt) in
     let end = between c.args.path.now key left' first after at cut.0 in
     longer c.args.path.now key (key ++ (first ++ 47 ∷ [])) after _ (before_end c.args.path.now (key ++ (first ++ 47 ∷ [])) after _ c.strip_suffix.ensures.cases end)
     (omega (arith, length-append key (first ++ 47 ∷ []), length-append first (47 ∷ []))) end

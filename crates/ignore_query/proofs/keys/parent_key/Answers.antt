@@ -2,7 +2,7 @@ use Rattle.std.proofs.Common.{◌≡◌, ◌++◌, ℕ, List, length, sym, ap, �
 use Rattle.ignore_base.specs.Paths.{last_component}
 use Rattle.ignore_dir.specs.Chains.{slashed}
 use Rattle.ignore_query.proofs.KnownLemmas.{last_named, whole_path, without_end}
-use Rattle.ignore_query.proofs.known.parent_key.Goals as goal
+use Rattle.ignore_query.proofs.keys.parent_key.Goals as goal
 
 pub returns-in-Some : goal.returns-in-Some
 returns-in-Some c = λ front name e.
