@@ -44,8 +44,9 @@ explained e = (query_why_of e.reason, e.answer)
 abbrev pub explained_to : QueryScene → Question → QueryWhy × IncrementalMatch
 explained_to g q = (query_why g q.0 q.1, match_to g q)
 
-pub pair : {A B : Type 0} {a c : A} {b d : B} → a ≡ c → b ≡ d → (a, b) ≡ (c, d)
-pair {a = a} {c = c} {b = b} {d = d} e f = ap (λ x. (x, b)) e ∙ ap (λ x. (c, x)) f
+pub pair : {A B : Type 0} {a c : A} {b d : B} → a ≡ c → b ≡ d → ◌≡◌ {A = A × B} (a, b) (c, d)
+pair {A = A} {B = B} {a = a} {c = c} {b = b} {d = d} e f =
+    let P : A → A × B = λ x. (x, b) in let Q : B → A × B = λ x. (c, x) in ap P e ∙ ap Q f
 
 -- results with their errors, if any, where `said` is what one says
 abbrev pub Reported : Type 0 → Type 0

@@ -20,8 +20,8 @@ use Rattle.ignore_query.proofs.WayLemmas.{no_last}
 use Rattle.ignore_query.proofs.StandLemmas.{OnWay, Visits, ends_last, ends_shut, grows_then, next_none, visited_next, way_front_names, way_known, way_needed, way_next, way_problems}
 use Rattle.ignore_query.proofs.kept.Cache.stand_by_rules.Goals as goal
 
-pub loop-way-init : goal.loop-way-init
-loop-way-init g c =
+pub way-init : goal.way-init
+way-init g c =
     let some = components_some c.args.call.now.path.now in
     let old = map problem_of c.args.errors.now.items in
     record {
@@ -50,12 +50,12 @@ loop-way-init g c =
 
 pub keep-requires : goal.keep-requires
 keep-requires g c =
-    let w = c.loop-way.invariant.on in
+    let w = c.way.invariant.on in
     let clean = names-components c.args.call.now.path.now c.requires.named in
     record {
       next = record {
         names = w.front;
-        clean = way_front_names g.F.Files c.args.call.now c.args.self.now c.loop-way.self _ _ c.loop-way.place _ clean w;
+        clean = way_front_names g.F.Files c.args.call.now c.args.self.now c.way.self _ _ c.way.place _ clean w;
         key = w.key;
         next = w.next;
       };
@@ -108,13 +108,13 @@ returns-in_err-keep_above-clause-from_kept g c = λ tree loads agrees all.
 
 pub returns-in_err-keep-clause-grows : goal.returns-in_err-keep-clause-grows
 returns-in_err-keep-clause-grows g c =
-    grows_then g.F.Files c.args.call.now.files.now c.args.call.now.asked.now c.args.self.now c.loop-way.self c.keep.new.self
-    c.loop-way.invariant.on.visited.grows c.keep.ensures.grows
+    grows_then g.F.Files c.args.call.now.files.now c.args.call.now.asked.now c.args.self.now c.way.self c.keep.new.self
+    c.way.invariant.on.visited.grows c.keep.ensures.grows
 
 pub returns-in_err-keep-clause-from_kept : goal.returns-in_err-keep-clause-from_kept
 returns-in_err-keep-clause-from_kept g c = λ tree loads agrees all.
-    let k = way_known g.F.Files c.args.call.now c.args.self.now c.loop-way.self _ _ c.loop-way.place _
-    (names-components c.args.call.now.path.now c.requires.named) c.loop-way.invariant.on tree loads agrees all in
+    let k = way_known g.F.Files c.args.call.now c.args.self.now c.way.self _ _ c.way.place _
+    (names-components c.args.call.now.path.now c.requires.named) c.way.invariant.on tree loads agrees all in
     let e = c.keep.ensures.known k.1.1 in
     (e.0 ∙ k.0, ap (λ v. map problem_of v.items) e.1 ∙ k.1.0)
 
@@ -126,9 +126,9 @@ returns-in-Ignored g c =
     let old = c.args.self.now in
     let new = c.keep.new.self in
     let clean = names-components call.path.now c.requires.named in
-    let w = c.loop-way.invariant.on in
-    let s : Visits g.F.Files call c.loop-way.self new (map problem_of c.loop-way.errors.items) (map problem_of c.keep.new.errors.items)
-    c.loop-way.place c.loop-way.key.now Ignored = record {
+    let w = c.way.invariant.on in
+    let s : Visits g.F.Files call c.way.self new (map problem_of c.way.errors.items) (map problem_of c.keep.new.errors.items)
+    c.way.place c.way.key.now Ignored = record {
       grows = c.keep.ensures.grows;
       kept = c.in_ok-keep.ensures.kept;
       found = c.in_ok-keep.ensures.found ∙ ap Some c.in-Ignored.is;
@@ -137,13 +137,13 @@ returns-in-Ignored g c =
       soft = c.in_ok-keep.ensures.soft;
     } in
     let here : kept_at new w.front ≡ Some Ignored = ap (λ t. get_by_text new.dirs.map t) (sym w.key) ∙ s.found in
-    let v = visited_next g.F.Files call old c.loop-way.self new _ _ _ c.loop-way.place _ Ignored clean w s in
-    let end = ends_shut new w.front w.rest (way_front_names g.F.Files call old c.loop-way.self _ _ c.loop-way.place _ clean w) here in
+    let v = visited_next g.F.Files call old c.way.self new _ _ _ c.way.place _ Ignored clean w s in
+    let end = ends_shut new w.front w.rest (way_front_names g.F.Files call old c.way.self _ _ c.way.place _ clean w) here in
     record {
       placed = record { front = w.front; name = w.name; rest = w.rest; split = w.split; key = w.key; kept = here };
       grows = v.grows;
-      kept = way_needed g.F.Files call old c.loop-way.self new _ _ _ c.loop-way.place _ Ignored clean w s end;
-      problems = way_problems g.F.Files call old c.loop-way.self new _ _ _ c.loop-way.place _ Ignored clean w s end;
+      kept = way_needed g.F.Files call old c.way.self new _ _ _ c.way.place _ Ignored clean w s end;
+      problems = way_problems g.F.Files call old c.way.self new _ _ _ c.way.place _ Ignored clean w s end;
       from_kept = v.known;
       soft = v.soft;
     }
@@ -155,9 +155,9 @@ returns-in-None g c =
     let new = c.keep.new.self in
     let found = c.in-Loaded.found in
     let clean = names-components call.path.now c.requires.named in
-    let w = c.loop-way.invariant.on in
-    let s : Visits g.F.Files call c.loop-way.self new (map problem_of c.loop-way.errors.items) (map problem_of c.keep.new.errors.items)
-    c.loop-way.place c.loop-way.key.now (Loaded found) = record {
+    let w = c.way.invariant.on in
+    let s : Visits g.F.Files call c.way.self new (map problem_of c.way.errors.items) (map problem_of c.keep.new.errors.items)
+    c.way.place c.way.key.now (Loaded found) = record {
       grows = c.keep.ensures.grows;
       kept = c.in_ok-keep.ensures.kept;
       found = c.in_ok-keep.ensures.found ∙ ap Some c.in-Loaded.is;
@@ -167,26 +167,26 @@ returns-in-None g c =
     } in
     let here : kept_at new w.front ≡ Some (Loaded found) = ap (λ t. get_by_text new.dirs.map t) (sym w.key) ∙ s.found in
     let none' = next_none w.front w.rest w.name (sym (c.next_key.ensures.value w.front w.name w.rest clean w.split w.key) ∙ ap option_copied c.in-None.is) in
-    let v = visited_next g.F.Files call old c.loop-way.self new _ _ _ c.loop-way.place _ (Loaded found) clean w s in
-    let end = ends_last new w.front w.rest found (way_front_names g.F.Files call old c.loop-way.self _ _ c.loop-way.place _ clean w) here none' in
+    let v = visited_next g.F.Files call old c.way.self new _ _ _ c.way.place _ (Loaded found) clean w s in
+    let end = ends_last new w.front w.rest found (way_front_names g.F.Files call old c.way.self _ _ c.way.place _ clean w) here none' in
     record {
       placed = record { front = w.front; name = w.name; split = w.split ∙ ap (λ l. w.front ++ w.name ∷ l) none'; kept = here };
       grows = v.grows;
-      kept = way_needed g.F.Files call old c.loop-way.self new _ _ _ c.loop-way.place _ (Loaded found) clean w s end;
-      problems = way_problems g.F.Files call old c.loop-way.self new _ _ _ c.loop-way.place _ (Loaded found) clean w s end;
+      kept = way_needed g.F.Files call old c.way.self new _ _ _ c.way.place _ (Loaded found) clean w s end;
+      problems = way_problems g.F.Files call old c.way.self new _ _ _ c.way.place _ (Loaded found) clean w s end;
       from_kept = v.known;
       soft = v.soft;
     }
 
-pub loop-way-preserved : goal.loop-way-preserved
-loop-way-preserved g c =
+pub way-preserved : goal.way-preserved
+way-preserved g c =
     let call = c.args.call.now in
     let new = c.keep.new.self in
     let found = c.in-Loaded.found in
     let clean = names-components call.path.now c.requires.named in
-    let w = c.loop-way.invariant.on in
-    let s : Visits g.F.Files call c.loop-way.self new (map problem_of c.loop-way.errors.items) (map problem_of c.keep.new.errors.items)
-    c.loop-way.place c.loop-way.key.now (Loaded found) = record {
+    let w = c.way.invariant.on in
+    let s : Visits g.F.Files call c.way.self new (map problem_of c.way.errors.items) (map problem_of c.keep.new.errors.items)
+    c.way.place c.way.key.now (Loaded found) = record {
       grows = c.keep.ensures.grows;
       kept = c.in_ok-keep.ensures.kept;
       found = c.in_ok-keep.ensures.found ∙ ap Some c.in-Loaded.is;
@@ -196,12 +196,12 @@ loop-way-preserved g c =
     } in
     record {
       text = search rules;
-      on = way_next g.F.Files call c.args.self.now c.loop-way.self new _ _ _ c.loop-way.place _ c.in-Some-in-loop-way.next.now found clean w s
-          (sym (c.next_key.ensures.value w.front w.name w.rest clean w.split w.key) ∙ ap option_copied c.in-Some-in-loop-way.is);
+      on = way_next g.F.Files call c.args.self.now c.way.self new _ _ _ c.way.place _ c.in-Some-in-way.next.now found clean w s
+          (sym (c.next_key.ensures.value w.front w.name w.rest clean w.split w.key) ∙ ap option_copied c.in-Some-in-way.is);
     }
 
-pub loop-way-smaller : goal.loop-way-smaller
-loop-way-smaller g c =
-    let l = subst (λ r. IfSome r (λ n. (length c.loop-way.key.now < length n.now) × (length n.now ≤ length c.args.call.now.path.now))) c.in-Some-in-loop-way.is
+pub way-smaller : goal.way-smaller
+way-smaller g c =
+    let l = subst (λ r. IfSome r (λ n. (length c.way.key.now < length n.now) × (length n.now ≤ length c.args.call.now.path.now))) c.in-Some-in-way.is
     c.next_key.ensures.longer in
     omega (arith, l.0, l.1)
