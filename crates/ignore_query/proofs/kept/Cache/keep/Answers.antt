@@ -1,4 +1,4 @@
-use Rattle.std.proofs.Common.{rules, ◌≡◌, ◌++◌, cond, List, Some, None, map, sym, ap, ◌∙◌, subst}
+use Rattle.std.proofs.Common.{◌≡◌, ◌++◌, cond, false, is_some, List, Some, None, map, sym, ap, ◌∙◌, subst}
 use Rattle.std.proofs.lemmas.List.{append-nil}
 use Rattle.std.specs.BTreeMap.{get_by_text}
 use Rattle.std.specs.Str.{bytes_eq}
@@ -83,8 +83,9 @@ returns g c =
           c.in_ok-kept.ensures.problems tree loads honest are names agrees clean key next
           ∙ ap (λ (l : List Problem). map problem_of c.args.errors.now.items ++ l)
           (sym (problems_new (scene_of asked tree loads) before names none'));
-      known = λ some. search rules;
-      soft = search rules;
+      known = λ some.
+          let off : is_some (get_by_text before.dirs.map c.args.key.now) ≡ false = ap (λ o. is_some o) absent in absurd (cc (some, off));
+      soft = c.in_ok-kept.ensures.soft;
     }
 
 pub insert-requires : goal.insert-requires
