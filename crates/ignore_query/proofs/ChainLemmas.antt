@@ -27,23 +27,6 @@ front_names [] rest h k d l = absurd (omega (arith, l))
 front_names (x ∷ xs) rest h zero d l = h zero d (omega (arith, l))
 front_names (x ∷ xs) rest h (suc k) d l = front_names xs rest (λ j e m. h (suc j) e (omega (arith, m))) k d (omega (arith, l))
 
-take_next-suc : (names : List (List ℕ)) (i : ℕ) (n : List ℕ) → i < length names → n ≡ get_or names i n
-    → take (suc i) names ≡ take i names ++ n ∷ []
-take_next-suc [] i n lt is = absurd (omega arith)
-take_next-suc (x ∷ xs) zero n lt is = ap (λ y. y ∷ []) (sym is)
-take_next-suc (x ∷ xs) (suc i) n lt is = ap (λ l. x ∷ l) (take_next-suc xs i n (omega arith) is)
-
-pub take_next : (names : List (List ℕ)) (i : ℕ) (n : List ℕ) → i < length names → n ≡ get_or names i n
-    → take (i + 1) names ≡ take i names ++ n ∷ []
-take_next names i n lt is = rw add-one (take_next-suc names i n lt is)
-
-pub take_names : (names : List (List ℕ)) (i : ℕ) → All IsName names → All IsName (take i names)
-take_names [] zero h k d l = h k d l
-take_names [] (suc i) h k d l = h k d l
-take_names (x ∷ xs) zero h k d l = absurd (omega (arith, l))
-take_names (x ∷ xs) (suc i) h zero d l = h zero d (omega (arith, l))
-take_names (x ∷ xs) (suc i) h (suc k) d l = take_names xs i (λ j e m. h (suc j) e (omega (arith, m))) k d (omega (arith, l))
-
 pub take_all : (names : List (List ℕ)) (i : ℕ) → length names ≤ i → take i names ≡ names
 take_all [] zero le = refl
 take_all [] (suc i) le = refl
@@ -77,12 +60,6 @@ take_drop [] zero = ([], refl)
 take_drop [] (suc i) = ([], refl)
 take_drop (x ∷ xs) zero = (x ∷ xs, refl)
 take_drop (x ∷ xs) (suc i) = let r = take_drop xs i in (r.0, ap (λ l. x ∷ l) r.1)
-
-pub loaded_take : (g : QueryScene) (c : Cache) (names : List (List ℕ)) (i : ℕ) → Agrees g c → All IsName names → IsLoaded c names
-    → IsLoaded c (take i names)
-loaded_take g c names i a clean h =
-    let r = take_drop names i in
-    loaded_front g c (take i names) r.0 a (subst (All IsName) r.1 clean) (subst (IsLoaded c) r.1 h)
 
 -- Offsets.
 

@@ -106,13 +106,6 @@ parent_open g c front n a clean h =
     any-more g front n ∙ (ap (λ b. b || is_ignored g front) (open_front g c [] front a clean1 h refl)
     ∙ (a.right front (Loaded h.0) clean1 h.1).0)
 
--- where it is kept as ignored, one is
-pub parent_shut : (g : QueryScene) (c : Cache) (front : List (List ℕ)) (n : List ℕ) → Agrees g c → All IsName (front ++ n ∷ [])
-    → kept_at c front ≡ Some Ignored → list_any (is_ignored g) (ancestors (front ++ n ∷ [])) ≡ true
-parent_shut g c front n a clean h =
-    any-more g front n ∙ (ap (λ b. list_any (is_ignored g) (ancestors front) || b) (a.right front Ignored (front_names front (n ∷ []) clean) h)
-    ∙ or_true (list_any (is_ignored g) (ancestors front)))
-
 -- Where all that is needed is kept, something is kept of the root, and so is what is above it.
 
 and_left : (a b : Bool) → (a && b) ≡ true → a ≡ true

@@ -77,14 +77,6 @@ pub ok_then : {A E P Q : Type 0} (r : Result A E) → (P → Q) → OnOk r P →
 ok_then (Ok a) f h = f h
 ok_then (Err e) f h = tt
 
-pub some_value : {A : Type 0} {w : A} (o : Option A) (v : A) → o ≡ Some v → IfSome o (λ x. x ≡ w) → v ≡ w
-some_value None v e h = cc
-some_value (Some x) v e h = let s : x ≡ v = cc in sym s ∙ h
-
-pub none_known : {A : Type 0} (o : Option A) → ((v : A) → o ≢ Some v) → is_some o ≡ true → ⊥
-none_known None h e = cc
-none_known (Some v) h e = h v refl
-
 -- The answer where all that it needs is kept.
 
 pub query_rules : (g : QueryScene) (path : List ℕ) (is_dir : Bool) → is_asked g.root path ≡ true
@@ -98,18 +90,6 @@ query_rules g path is_dir asked within ruled =
     ap (λ b. cond (not b) (no_match is_dir, None) (cond (is_beyond g.settings (depth_of_path path) is_dir) far
     (cond (has_rules g.tree g.root path) by none))) asked
     ∙ (ap (λ b. cond b far (cond (has_rules g.tree g.root path) by none)) within ∙ ap (λ b. cond b by none) ruled)
-
-pub query_none : (g : QueryScene) (path : List ℕ) (is_dir : Bool) → is_asked g.root path ≡ true
-    → is_beyond g.settings (depth_of_path path) is_dir ≡ false → has_rules g.tree g.root path ≡ false
-    → (query g path is_dir).0 ≡ limited g.settings (depth_of_path path) is_dir v.None
-unfolding query
-query_none g path is_dir asked within ruled =
-    let none : IncrementalMatch × Option Problem = (limited g.settings (depth_of_path path) is_dir v.None, None) in
-    let far : IncrementalMatch × Option Problem = (beyond, None) in
-    let by : IncrementalMatch × Option Problem = answer_of_rules g path is_dir in
-    ap (λ b. (cond (not b) (no_match is_dir, None) (cond (is_beyond g.settings (depth_of_path path) is_dir) far
-    (cond (has_rules g.tree g.root path) by none))).0) asked
-    ∙ (ap (λ b. (cond b far (cond (has_rules g.tree g.root path) by none)).0) within ∙ ap (λ b. (cond b by none).0) ruled)
 
 pub kept_rules : (g : QueryScene) (c : Cache) (path : List ℕ) → Agrees g c → length path ≢ 0 → is_known g c (names_of path) ≡ true
     → (c.has_above ≡ true) × (has_rules g.tree g.root path ≡ true)

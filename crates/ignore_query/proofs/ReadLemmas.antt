@@ -322,11 +322,6 @@ inside_sizes a tree loads c path text is_dir errors agrees r h =
     let on = ap (λ l. list_any (is_ignored g) (ancestors l)) (sym r.names) ∙ inside_shut g c (components path) text agrees r.clean h in
     sym (ap (λ (l : List Problem). errors ++ l) (sizes_inside g path is_dir on) ∙ append-nil errors)
 
--- no size is asked where the rules don't decide
-pub off_sizes : (g : QueryScene) (path : List ℕ) (is_dir : Bool) (errors : List Problem) → is_decided g path is_dir ≡ false
-    → errors ≡ errors ++ problems_of_size g path is_dir
-off_sizes g path is_dir errors h = sym (ap (λ (l : List Problem). errors ++ l) (sizes_none g path is_dir h) ∙ append-nil errors)
-
 -- what holds anyway holds on `Ok`
 pub always : {A E : Type 0} {P : Type 0} (r : Result A E) → P → OnOk r P
 always (Ok a) p = p
