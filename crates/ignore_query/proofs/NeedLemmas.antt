@@ -5,6 +5,7 @@ use Rattle.std.proofs.Common.{filter, take, drop, get_or, Option, Some, None, is
 use Rattle.std.proofs.lemmas.List.{append-nil, map-append}
 use Rattle.std.proofs.lemmas.List.Folds.{list_any-append}
 use Rattle.std.proofs.lemmas.Slice.Eq.{bytes_eq-Decides, slice_eq-Decides}
+use Rattle.std.specs.Cmp.{both_ways}
 use Rattle.std.specs.BTreeMap.{get_by_text}
 use Rattle.std.specs.List.{list_any}
 use Rattle.std.specs.Str.{bytes_eq}
@@ -18,7 +19,7 @@ use Rattle.ignore_query.specs.declared.kept.Cache.{Cache}
 use Rattle.ignore_query.specs.declared.kept.Kept.{Kept}
 use Rattle.ignore_query.specs.Needs.{KeepsNeeded, Stays, is_among, is_kept, needed}
 use Rattle.ignore_query.proofs.KeepLemmas.{Puts, SameAbove, puts_stays, slashed_inj}
-use Rattle.ignore_query.proofs.WayLemmas.{left, left_all, left_next, map-map}
+use Rattle.ignore_query.proofs.WayLemmas.{left, left_all, left_next, map-map, or_true}
 
 -- What stays kept.
 
@@ -65,12 +66,6 @@ known_kept c key k h text =
 
 -- Keys by names.
 
-both_ways : (a b : Bool) → (a ≡ true → b ≡ true) → (b ≡ true → a ≡ true) → a ≡ b
-both_ways true true f h = refl
-both_ways true false f h = sym (f refl)
-both_ways false true f h = h refl
-both_ways false false f h = refl
-
 pub same_key : (a b : List (List ℕ)) → All IsName a → All IsName b → bytes_eq (slashed a) (slashed b) ≡ pointwise bytes_eq b a
 same_key a b p q =
     let same = slice_eq-Decides bytes_eq-Decides b a (pointwise bytes_eq b a) refl in
@@ -104,10 +99,6 @@ ancestors-more front n =
 pub or_false : (b : Bool) → (b || false) ≡ b
 or_false true = refl
 or_false false = refl
-
-pub or_true : (b : Bool) → (b || true) ≡ true
-or_true true = refl
-or_true false = refl
 
 pub any-more : (g : QueryScene) (front : List (List ℕ)) (n : List ℕ)
     → list_any (is_ignored g) (ancestors (front ++ n ∷ [])) ≡ (list_any (is_ignored g) (ancestors front) || is_ignored g front)

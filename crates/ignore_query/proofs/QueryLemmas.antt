@@ -1,4 +1,5 @@
 -- Paths on which the rules decide, and what is kept with what is above the root.
+use Rattle.std.proofs.lemmas.Bool.{and_parts}
 use Rattle.std.proofs.Common.{◌≡◌, ◌==◌, ◌&&◌, ◌||◌, ℕ, Bool, true, false, not, cond, List, [], ◌∷◌, ◌++◌, length, filter, map}
 use Rattle.std.proofs.Common.{◌≢◌, Option, None, Some, Result, Ok, Err, OnOk, IfSome, is_some, refl, sym, ap, ◌∙◌}
 use Rattle.std.proofs.Math.Dec.{eqb-suc-zero}
@@ -22,12 +23,8 @@ use Rattle.ignore_query.specs.Needs.{is_known}
 use Rattle.ignore_query.specs.Reports.{new_below, problem_in}
 use Rattle.ignore_query.proofs.KnownLemmas.{known_above}
 
-and_right : (a b : Bool) → (a && b) ≡ true → b ≡ true
-and_right true b h = h
-and_right false b h = cc
-
 pub root_dir : (tree : Tree) (root path : List ℕ) → has_rules tree root path ≡ true → is_dir_there (tree.stat root true) ≡ true
-root_dir tree root path h = and_right (not (length path == 0)) (is_dir_there (tree.stat root true)) h
+root_dir tree root path h = (and_parts (not (length path == 0)) (is_dir_there (tree.stat root true)) h).1
 
 clean_names : (tree : Tree) (root path : List ℕ) → is_clean path ≡ true → has_rules tree root path ≡ true
     → list_all is_proper (components path) ≡ true
@@ -36,23 +33,18 @@ clean_names tree root (b ∷ bs) c h = sym (ap (λ t. t || list_all is_proper (c
 
 pub asked_names : (tree : Tree) (root path : List ℕ) → is_asked root path ≡ true → has_rules tree root path ≡ true
     → list_all is_proper (components path) ≡ true
-asked_names tree root path a h = clean_names tree root path (and_right (not (bytes_eq root (45 ∷ []))) (is_clean path) a) h
+asked_names tree root path a h = clean_names tree root path (and_parts (not (bytes_eq root (45 ∷ []))) (is_clean path) a).1 h
 
 -- the same of a path that isn't empty
 pub named_names : (root path : List ℕ) → is_asked root path ≡ true → length path ≢ 0 → list_all is_proper (components path) ≡ true
 named_names root [] a filled = absurd (filled refl)
 named_names root (b ∷ bs) a filled =
     sym (ap (λ t. t || list_all is_proper (components (b ∷ bs))) (eqb-suc-zero (length bs)))
-    ∙ and_right (not (bytes_eq root (45 ∷ []))) (is_clean (b ∷ bs)) a
+    ∙ (and_parts (not (bytes_eq root (45 ∷ []))) (is_clean (b ∷ bs)) a).1
 
 pub names_are : (tree : Tree) (root path : List ℕ) → has_rules tree root path ≡ true → components path ≡ names_of path
 names_are tree root [] h = cc
 names_are tree root (b ∷ bs) h = refl
-
-pub same_below : (g : QueryScene) (c c' : Cache) (names : List (List ℕ)) → c'.dirs ≡ c.dirs → new_below g c' names ≡ new_below g c names
-unfolding new_below
-same_below g c c' names e =
-    ap (λ d. map (problem_in g) (filter (λ n. not (is_some (get_by_text d.map (slashed n)))) (loaded_for g names))) e
 
 collected_more : (ts : List (Option Problem)) (t : Option Problem)
     → filter_map (λ q. q) ts ++ option_to_list t ≡ filter_map (λ q. q) (ts ++ t ∷ [])

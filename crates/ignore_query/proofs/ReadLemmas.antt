@@ -162,10 +162,6 @@ why_not (Some most) (Err fault) said h = refl
 
 -- The problems.
 
-pub sizes_none : (g : QueryScene) (path : List ℕ) (is_dir : Bool) → is_decided g path is_dir ≡ false → problems_of_size g path is_dir ≡ []
-sizes_none g path is_dir h =
-    ap (λ b. cond b (option_to_list (size_problem (join_of g.root path) (limit_of g path is_dir) (size_of g path))) []) h
-
 pub loads_none : (g : QueryScene) (c : Cache) (path : List ℕ) (is_dir : Bool) (errors : List Problem) → is_decided g path is_dir ≡ false
     → errors ≡ errors ++ problems_of_loads g c path is_dir
 loads_none g c path is_dir errors h =

@@ -2,6 +2,7 @@
 use lib.Pointwise.{pointwise}
 use Rattle.std.proofs.Common.{◌≡◌, ◌≢◌, ℕ, Bool, true, false, not, ◌&&◌, ◌||◌, cond, All, List, [], ◌∷◌, ◌++◌, length, map, Option, Some, None}
 use Rattle.std.proofs.Common.{Result, Ok, Err, IfOk, is_some, string_bytes, ◌⊎◌, inl, inr, refl, sym, ap, ◌∙◌, subst, append_assoc}
+use Rattle.std.proofs.lemmas.Bool.{and_parts, or_parts}
 use Rattle.std.proofs.lemmas.List.{append-nil}
 use Rattle.std.proofs.lemmas.List.Folds.{list_all-append, list_any-append}
 use Rattle.std.proofs.lemmas.Slice.Eq.{bytes_eq-Decides}
@@ -138,22 +139,14 @@ in_open g c names a clean h = by (ends names)
 
 -- The directories that an answer needs, by the last one on the way.
 
-or_left : (a b : Bool) → (a || b) ≡ false → a ≡ false
-or_left true b h = h
-or_left false b h = refl
-
-or_right : (a b : Bool) → (a || b) ≡ false → b ≡ false
-or_right true b h = absurd (cc (h))
-or_right false b h = h
-
 way_front : (g : QueryScene) (done xs ys : List (List ℕ)) → list_any (is_ignored g) (left done xs) ≡ false
     → way g done (xs ++ ys) ≡ left done xs ++ way g (done ++ xs) ys
 way_front g done [] ys h = ap (λ l. way g l ys) (sym (append-nil done))
 way_front g done (n ∷ xs) ys h =
     let next = left (done ++ n ∷ []) xs in
     let all = sym (ap (list_any (is_ignored g)) (left_next done n xs)) ∙ h in
-    ap (λ b. let l : List (List (List ℕ)) = done ∷ cond b [] (way g (done ++ n ∷ []) (xs ++ ys)) in l) (or_left (is_ignored g done) (list_any (is_ignored g) next) all)
-    ∙ (ap (λ (l : List (List (List ℕ))). done ∷ l) (way_front g (done ++ n ∷ []) xs ys (or_right (is_ignored g done) (list_any (is_ignored g) next) all))
+    ap (λ b. let l : List (List (List ℕ)) = done ∷ cond b [] (way g (done ++ n ∷ []) (xs ++ ys)) in l) (or_parts (is_ignored g done) (list_any (is_ignored g) next) all).0
+    ∙ (ap (λ (l : List (List (List ℕ))). done ∷ l) (way_front g (done ++ n ∷ []) xs ys (or_parts (is_ignored g done) (list_any (is_ignored g) next) all).1)
     ∙ (ap (λ (l : List (List ℕ)). done ∷ (next ++ way g l ys)) (append_assoc done (n ∷ []) xs)
     ∙ ap (λ (l : List (List (List ℕ))). l ++ way g (done ++ n ∷ xs) ys) (sym (left_next done n xs))))
 
@@ -179,30 +172,22 @@ needed_seen g front rest name h end = needed_at g front rest name h ∙ (by end 
         ap (λ b. let l : List (List (List ℕ)) = ancestors front ++ front ∷ cond b [] (way g (front ++ name ∷ []) rest) in l) off.0
         ∙ ap (λ (l : List (List ℕ)). ancestors front ++ front ∷ way g (front ++ name ∷ []) l) off.1
 
-and_left : (a b : Bool) → (a && b) ≡ true → a ≡ true
-and_left true b h = refl
-and_left false b h = h
-
-and_right : (a b : Bool) → (a && b) ≡ true → b ≡ true
-and_right true b h = h
-and_right false b h = cc
-
 -- where all that is needed is kept, this directory is
 pub here_kept : (g : QueryScene) (c : Cache) (front rest : List (List ℕ)) (name : List ℕ) → list_any (is_ignored g) (ancestors front) ≡ false
     → is_known g c (front ++ name ∷ rest) ≡ true → is_kept c front ≡ true
 here_kept g c front rest name h all =
     let more : List (List (List ℕ)) = cond (is_ignored g front) [] (way g (front ++ name ∷ []) rest) in
-    and_left (is_kept c front) (list_all (is_kept c) more)
-    (and_right (list_all (is_kept c) (ancestors front)) (list_all (is_kept c) (front ∷ more))
-    (sym (list_all-append (is_kept c) (ancestors front) (front ∷ more)) ∙ (sym (ap (list_all (is_kept c)) (needed_at g front rest name h)) ∙ all)))
+    let both = and_parts (list_all (is_kept c) (ancestors front)) (list_all (is_kept c) (front ∷ more))
+    (sym (list_all-append (is_kept c) (ancestors front) (front ∷ more)) ∙ (sym (ap (list_all (is_kept c)) (needed_at g front rest name h)) ∙ all)) in
+    (and_parts (is_kept c front) (list_all (is_kept c) more) both.1).0
 
 -- the first ignored directory
 first_more : (g : QueryScene) (xs ys : List (List (List ℕ))) → list_any (is_ignored g) xs ≡ false
     → first_ignored g (xs ++ ys) ≡ first_ignored g ys
 first_more g [] ys h = refl
 first_more g (x ∷ xs) ys h =
-    ap (λ b. cond b (Some x) (first_ignored g (xs ++ ys))) (or_left (is_ignored g x) (list_any (is_ignored g) xs) h)
-    ∙ first_more g xs ys (or_right (is_ignored g x) (list_any (is_ignored g) xs) h)
+    ap (λ b. cond b (Some x) (first_ignored g (xs ++ ys))) (or_parts (is_ignored g x) (list_any (is_ignored g) xs) h).0
+    ∙ first_more g xs ys (or_parts (is_ignored g x) (list_any (is_ignored g) xs) h).1
 
 ancestors-at : (front rest : List (List ℕ)) (name : List ℕ)
     → ancestors (front ++ name ∷ rest) ≡ ancestors front ++ front ∷ left (front ++ name ∷ []) rest
@@ -233,8 +218,8 @@ collected-front : (g : QueryScene) (c : Cache) (xs ys : List (List (List ℕ))) 
     → collected (problems_of g c (xs ++ ys)) ≡ gathered g c xs ++ collected (problems_of g c ys)
 collected-front g c [] ys h = refl
 collected-front g c (x ∷ xs) ys h =
-    next_problems g c x (xs ++ ys) (or_left (is_ignored g x) (list_any (is_ignored g) xs) h)
-    ∙ (ap (λ (l : List Problem). problems_at g c x ++ l) (collected-front g c xs ys (or_right (is_ignored g x) (list_any (is_ignored g) xs) h))
+    next_problems g c x (xs ++ ys) (or_parts (is_ignored g x) (list_any (is_ignored g) xs) h).0
+    ∙ (ap (λ (l : List Problem). problems_at g c x ++ l) (collected-front g c xs ys (or_parts (is_ignored g x) (list_any (is_ignored g) xs) h).1)
     ∙ sym (append_assoc (problems_at g c x) (gathered g c xs) (collected (problems_of g c ys))))
 
 pub below_seen : (g : QueryScene) (c : Cache) (front rest : List (List ℕ)) (name : List ℕ) → list_any (is_ignored g) (ancestors front) ≡ false

@@ -56,7 +56,7 @@ no_problems g c front fronts h =
     (take_while-cons (λ f. not (is_ignored g f)) front fronts
     ∙ ap (λ b. let l : List (List (List ℕ)) = cond (not b) (front ∷ take_while (λ f. not (is_ignored g f)) fronts) [] in l) h)
 
-or_true : (b : Bool) → (b || true) ≡ true
+pub or_true : (b : Bool) → (b || true) ≡ true
 or_true true = refl
 or_true false = refl
 
@@ -89,8 +89,6 @@ pub below_is : (g : QueryScene) (c : Cache) (names : List (List ℕ))
     → collected (new_below g c names) ≡ collected (problems_of g c (left [] names))
 unfolding new_below
 below_is g c names = ap (λ l. collected (problems_of g c l)) (sym (left_all names))
-
--- Keys of different ancestors differ.
 
 -- Lists that end.
 

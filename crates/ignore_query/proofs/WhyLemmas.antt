@@ -40,7 +40,7 @@ use Rattle.ignore_why.specs.QueryWhy.QueryWhy.{unasked, unruled, too_shallow, to
 use Rattle.ignore_why.proofs.QueryWhyLemmas.{none_first, rules_said}
 use Rattle.ignore_query.proofs.ChainLemmas.{joined-slashed}
 use Rattle.ignore_query.proofs.KnownLemmas.{next_inside, next_top, shut_verdict}
-use Rattle.ignore_query.proofs.NeedLemmas.{or_true}
+use Rattle.ignore_query.proofs.WayLemmas.{or_true}
 
 -- Over the chain of a path.
 
@@ -163,11 +163,6 @@ parent_next g c names front n k place a split h e = record {
   top = λ t. absurd (next_top front n (sym split ∙ t));
   inside = λ f m s. next_inside c front f n m place (sym split ∙ s) (h ∙ ap Some e);
 }
-
--- the components of a path of names are its names
-pub proper_names : (path : List ℕ) → list_all is_proper (components path) ≡ true → components path ≡ names_of path
-proper_names [] h = cc (h)
-proper_names (b ∷ bs) h = refl
 
 -- a path below an ignored directory has no limit on size
 pub shut_size : (g : QueryScene) (path file : List ℕ) (is_dir : Bool) → list_any (is_ignored g) (ancestors (names_of path)) ≡ true

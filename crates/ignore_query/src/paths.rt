@@ -28,7 +28,6 @@ use ignore_why::Explanation;
 ///
 /// # Errors
 /// `Error::Memory` alone. What was kept stays kept, and so does what was read before the error.
-#[tactic(auto, using(crate::proofs::KeptLoadLemmas::loads_nothing))]
 pub fn check_paths<F: Files>(
     matcher: &mut IncrementalIgnore,
     files: &F,
@@ -65,7 +64,6 @@ pub fn check_paths<F: Files>(
 ///
 /// # Errors
 /// `Error::Memory` alone. What was kept stays kept, and so does what was read before the error.
-#[tactic(auto, using(crate::proofs::KeptLoadLemmas::loads_nothing))]
 pub fn explain_paths<F: Files>(
     matcher: &mut IncrementalIgnore,
     files: &F,
