@@ -308,9 +308,14 @@ way_known files call old mid before between place text clean w tree loads a all 
     let g = scene_of call.asked.now tree loads in
     let cleanf = way_front_names files call old mid before between place text clean w in
     let k = w.visited.known tree loads a all in
-    let opened = in_open g mid w.front (subst (λ x. Agrees g x) (sym k.0) a) cleanf (next_loaded mid w.front place w.next) in
-    (k.0, (k.1, ap (λ (x : Cache). is_some (get_by_text x.dirs.map text)) k.0 ∙ (ap (λ t. is_some (get_by_text old.dirs.map t)) w.key
-    ∙ here_kept g old w.front w.rest w.name opened (ap (is_known g old) (sym w.split) ∙ all))))
+    let opened = in_open g mid w.front (subst (λ x. Agrees g x) (sym k.0) a) cleanf (next_loaded mid w.front place w.next) in (
+      k.0,
+      (
+        k.1,
+        ap (λ (x : Cache). is_some (get_by_text x.dirs.map text)) k.0 ∙ (ap (λ t. is_some (get_by_text old.dirs.map t)) w.key
+            ∙ here_kept g old w.front w.rest w.name opened (ap (is_known g old) (sym w.split) ∙ all)),
+      ),
+    )
 
 pub visited_next : {F : Type 0} (files : Files F) (call : Call F) (old mid new : Cache) (before between after : List Problem)
     (place : Option Place) (text : List ℕ) (k : Kept) → All IsName (components call.path.now)

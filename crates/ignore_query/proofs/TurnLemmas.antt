@@ -120,7 +120,8 @@ pub record Turns {R V F : Type 0} (said : R → V) (to : QueryScene → Question
 
 pub turns_none : {R V F : Type 0} (said : R → V) (to : QueryScene → Question → V) (files : Files F) (f : F) (a : Asked)
     (paths : List Entry) (c : Cache) (rs : List (Reported R)) → rs ≡ [] → Turns said to files f a paths [] c c rs
-turns_none {R = R} said to files f a paths c rs none =
+turns_none {R = R} {V = V} said to files f a paths c rs none =
+    let on : Reported R → V = λ r. said r.0 in
     let P : Reported R → Type 0 = λ r. IsSoft (problem_by r) in
     let N : Reported R → Type 0 = λ r. r.1 ≡ None in
     record {
@@ -132,9 +133,9 @@ turns_none {R = R} said to files f a paths c rs none =
       };
       each = ap length none;
       soft = subst (All P) (sym none) (All-nil P);
-      value = λ tree loads honest are h. ap (map (λ r. said r.0)) none;
+      value = λ tree loads honest are h. ap (map on) none;
       reports = λ tree loads honest are h. (ap (map problem_by) none, refl);
-      from_kept = λ tree loads h all. (subst (All N) (sym none) (All-nil N), ap (map (λ r. said r.0)) none);
+      from_kept = λ tree loads h all. (subst (All N) (sym none) (All-nil N), ap (map on) none);
     }
 
 -- a question that is from what was kept is so after others that are

@@ -15,8 +15,8 @@ ghost use Rattle.ignore_query.specs.Stands.{IsPlaced};
 
 use crate::asked::Call;
 use crate::clean::{depth_for, is_asked};
-use crate::keys::{next_key, parent_key};
 use crate::kept::{Cache, Kept};
+use crate::keys::{next_key, parent_key};
 use ignore_base::Error;
 use ignore_dir::limits::is_beyond;
 use ignore_files::Files;

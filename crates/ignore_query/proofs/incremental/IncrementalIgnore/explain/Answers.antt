@@ -87,11 +87,19 @@ returns-clause-from_kept g c = λ tree loads agrees known unlimited.
     let none' = no_error _ (c.joined.ensures ∙ ap joined_problems (c.in_ok-reason.ensures.problems tree loads w
     ∙ (ap (λ (l : List Problem). l ++ problems_of_size s path c.args.is_dir) (from.0 ∙ ap (map problem_of) c.new-errors.ensures.items)
     ∙ sizes_unlimited s path c.args.is_dir unlimited))) in
-    let why = c.in_ok-reason.ensures.why tree loads w in
-    (same, (why, (c.answer_of-answer.ensures
-    ∙ (answer_at s.settings c.depth_for.result (depth_of_path path) c.args.is_dir (query_why_of c.in_ok-reason.reason)
-    (λ verdict. c.depth_for.ensures.limited c.args.is_dir verdict)
-    ∙ (ap (answer_of s.settings (depth_of_path path) c.args.is_dir) why ∙ sym (answers-by_reason s path c.args.is_dir))), none')))
+    let why = c.in_ok-reason.ensures.why tree loads w in (
+      same,
+      (
+        why,
+        (
+          c.answer_of-answer.ensures
+              ∙ (answer_at s.settings c.depth_for.result (depth_of_path path) c.args.is_dir (query_why_of c.in_ok-reason.reason)
+              (λ verdict. c.depth_for.ensures.limited c.args.is_dir verdict)
+              ∙ (ap (answer_of s.settings (depth_of_path path) c.args.is_dir) why ∙ sym (answers-by_reason s path c.args.is_dir))),
+          none',
+        ),
+      ),
+    )
 
 -- By the path and the settings alone.
 
@@ -122,17 +130,25 @@ returns-clause-beyond g c = λ on far.
     let said = c.in_ok-reason.ensures.beyond (stands_beyond a c.stand.new.self c.args.path.now c.args.is_dir _ on far c.in_ok-stand.ensures.stands) in
     let errors = ap (λ v. map problem_of v.items) said.0
     ∙ (ap (λ v. map problem_of v.items) (c.in_ok-stand.ensures.outside (λ w. let off = w.within in absurd (cc (off, far)))) ∙ ap (map problem_of) c.new-errors.ensures.items) in
-    let none' = no_error _ (c.joined.ensures ∙ ap joined_problems errors) in
-    (c.stand.ensures.leaves.outside (λ w. let off = w.within in absurd (cc (off, far))), (said.1, (c.answer_of-answer.ensures ∙ (ap (answer_of a.settings c.depth_for.result c.args.is_dir) said.1
-    ∙ far_beyond a.settings c.depth_for.result c.args.is_dir (is_below a.settings.max_depth (depth_of_path c.args.path.now))), none')))
+    let none' = no_error _ (c.joined.ensures ∙ ap joined_problems errors) in (
+      c.stand.ensures.leaves.outside (λ w. let off = w.within in absurd (cc (off, far))),
+      (
+        said.1,
+        (
+          c.answer_of-answer.ensures ∙ (ap (answer_of a.settings c.depth_for.result c.args.is_dir) said.1
+              ∙ far_beyond a.settings c.depth_for.result c.args.is_dir (is_below a.settings.max_depth (depth_of_path c.args.path.now))),
+          none',
+        ),
+      ),
+    )
 
 pub returns-clause-why : goal.returns-clause-why
 returns-clause-why g c = λ tree loads honest are agrees. c.in_ok-reason.ensures.why tree loads (record {
-      agrees = c.stand.ensures.leaves.agrees tree loads honest are agrees;
-      stands = c.in_ok-stand.ensures.stands;
-      unruled = c.in_ok-stand.ensures.unruled tree loads honest are agrees;
-      sized = inl honest;
-    })
+  agrees = c.stand.ensures.leaves.agrees tree loads honest are agrees;
+  stands = c.in_ok-stand.ensures.stands;
+  unruled = c.in_ok-stand.ensures.unruled tree loads honest are agrees;
+  sized = inl honest;
+})
 
 pub returns-clause-value : goal.returns-clause-value
 returns-clause-value g c = λ tree loads honest are agrees.

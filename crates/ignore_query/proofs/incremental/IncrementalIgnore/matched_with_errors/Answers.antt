@@ -118,8 +118,8 @@ returns-clause-beyond g c = λ on far.
 
 pub returns-clause-value : goal.returns-clause-value
 returns-clause-value g c = λ tree loads honest are agrees. c.in_ok-answer.ensures.value tree loads (record {
-      agrees = c.stand.ensures.leaves.agrees tree loads honest are agrees;
-      stands = c.in_ok-stand.ensures.stands;
-      unruled = c.in_ok-stand.ensures.unruled tree loads honest are agrees;
-      sized = inl honest;
-    })
+  agrees = c.stand.ensures.leaves.agrees tree loads honest are agrees;
+  stands = c.in_ok-stand.ensures.stands;
+  unruled = c.in_ok-stand.ensures.unruled tree loads honest are agrees;
+  sized = inl honest;
+})

@@ -55,15 +55,15 @@ returns-clause-grows g c =
         levels = c.in_ok-self.ensures.levels;
       };
       loaded = record {
-            above = λ off on. record {
-              dirs = dirs;
-              reported = reported;
-              loads = loads;
-              stands = c.in_ok-self.ensures.chain
-                  (along-rising (stats_of g.F.Files files) (reads_of g.F.Files files) asked.settings loads.0 dirs base reported loads.2);
-            };
-            dirs = λ names place clean none now. let is : None ≡ Some (Loaded place) = sym none ∙ now in absurd (cc (is));
-          };
+        above = λ off on. record {
+          dirs = dirs;
+          reported = reported;
+          loads = loads;
+          stands = c.in_ok-self.ensures.chain
+              (along-rising (stats_of g.F.Files files) (reads_of g.F.Files files) asked.settings loads.0 dirs base reported loads.2);
+        };
+        dirs = λ names place clean none now. let is : None ≡ Some (Loaded place) = sym none ∙ now in absurd (cc (is));
+      };
       agrees = λ tree loads honest are there agrees.
           let scene = scene_of c.args.call.now.asked.now tree loads in
           let found = c.in_ok-found.found in
