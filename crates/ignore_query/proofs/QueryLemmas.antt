@@ -1,7 +1,8 @@
 -- Paths on which the rules decide, and what is kept with what is above the root.
 use Rattle.std.proofs.lemmas.Bool.{and_parts}
+use Rattle.std.proofs.lemmas.Result.{err_from_is_err_and}
 use Rattle.std.proofs.Common.{◌≡◌, ◌==◌, ◌&&◌, ◌||◌, ℕ, Bool, true, false, not, cond, List, [], ◌∷◌, ◌++◌, length, filter, map}
-use Rattle.std.proofs.Common.{◌≢◌, Option, None, Some, Result, Ok, Err, OnOk, IfSome, is_some, refl, sym, ap, ◌∙◌}
+use Rattle.std.proofs.Common.{◌≢◌, Option, None, Some, Result, Ok, Err, OnOk, IfOk, IsErrAnd, refl, sym, ap, ◌∙◌, subst}
 use Rattle.std.proofs.Math.Dec.{eqb-suc-zero}
 use Rattle.std.specs.BTreeMap.{get_by_text}
 use Rattle.std.specs.List.{filter_map, list_all}
@@ -64,6 +65,10 @@ collected_three (Some q) b d = ap (λ (l : List Problem). q ∷ l) (collected_mo
 pub no_error : (e : Option Error) → option_map problem_of e ≡ None → e ≡ None
 no_error None h = refl
 no_error (Some e) h = cc
+
+-- what is to hold on `Ok` holds where the error of a call is passed on
+pub passed_on : {T E : Type 0} (P : T → Type 0) (Q : E → Type 0) (r : Result T E) → IsErrAnd r Q → IfOk r P
+passed_on P Q r h = let p = err_from_is_err_and r h in subst (λ x. IfOk x P) (sym p.1) tt
 
 pub ok_then : {A E P Q : Type 0} (r : Result A E) → (P → Q) → OnOk r P → OnOk r Q
 ok_then (Ok a) f h = f h

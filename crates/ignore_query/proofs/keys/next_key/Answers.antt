@@ -38,7 +38,7 @@ left_names path text after front rest name at clean e k =
 -- what is left before an end
 before_end : (path front after : List ℕ) (r : Option (Bor (List ℕ)))
     → MatchOption r ((begin : List ℕ) → path ≢ begin ++ after)
-    (λ x. (n : ℕ) × ((n ≡ length after) × ((path ≡ take (length path - n) path ++ after) × IsCharBoundary path (length path - length after)))
+    (λ x. (n : ℕ) × ((n ≡ length after) × (path ≡ take (length path - n) path ++ after) × IsCharBoundary path (length path - length after))
     × (x.now ≡ take (length path - n) path) × (length x.now + n ≡ length path))
     → path ≡ front ++ after → option_copied r ≡ Some front
 before_end path front after None h e = absurd (h front e)
@@ -76,11 +76,11 @@ returns-clause-value c = λ front name rest clean e k.
     let found = c.in_ok-rest.ensures.cases in
     let left' = c.in_ok-rest.rest.now in
     let after = c.in_ok-after.after.now in
-    let first = c.in_ok-after.field-0.now in
+    let first = c.in_ok-after.field-0-0.now in
     let at = found.1.1 ∙ ap (λ r. c.args.key.now ++ r) (sym found.2) in
-    let cut = split_parts 47 left' (Some (c.in_ok-after.field-0, c.in_ok-after.after)) c.in_ok-after.ensures.cases (lit< tt) in
+    let cut = split_parts 47 left' (Some (c.in_ok-after.field-0-0, c.in_ok-after.after)) c.in_ok-after.ensures.cases (lit< tt) in
     let names = left_names c.args.path.now c.args.key.now left' front rest name at clean e k in
-    let split = components_split left' (c.in_ok-after.field-0, c.in_ok-after.after) c.in_ok-after.ensures.cases in
+    let split = components_split left' (c.in_ok-after.field-0-0, c.in_ok-after.after) c.in_ok-after.ensures.cases in
     let some = components_some after in
     let both : name ∷ rest ≡ first ∷ (some.0 ∷ some.1) = sym names ∙ (split.0 ∙ ap (λ l. first ∷ l) some.2) in
     let same : name ≡ first = cc (both) in
@@ -95,9 +95,9 @@ returns-clause-longer c =
     let left' = c.in_ok-rest.rest.now in
     let key = c.args.key.now in
     let after = c.in_ok-after.after.now in
-    let first = c.in_ok-after.field-0.now in
+    let first = c.in_ok-after.field-0-0.now in
     let at = found.1.1 ∙ ap (λ r. key ++ r) (sym found.2) in
-    let cut = split_parts 47 left' (Some (c.in_ok-after.field-0, c.in_ok-after.after)) c.in_ok-after.ensures.cases (lit< tt) in
+    let cut = split_parts 47 left' (Some (c.in_ok-after.field-0-0, c.in_ok-after.after)) c.in_ok-after.ensures.cases (lit< tt) in
     let end = between c.args.path.now key left' first after at cut.0 in
     longer c.args.path.now key (key ++ (first ++ 47 ∷ [])) after _ (before_end c.args.path.now (key ++ (first ++ 47 ∷ [])) after _ c.strip_suffix.ensures.cases end)
     (omega (arith, length-append key (first ++ 47 ∷ []), length-append first (47 ∷ []))) end

@@ -1,5 +1,6 @@
 use Rattle.std.proofs.Common.{◌≡◌, List, map, rules, refl, ◌∙◌, subst}
 use Rattle.std.proofs.lemmas.List.{take_all}
+use Rattle.ignore_query.proofs.QueryLemmas.{passed_on}
 use Rattle.ignore_query.proofs.TurnLemmas.{Entry, Turns, itself, left_then, match_to, turns_none, turns_then}
 use Rattle.ignore_query.proofs.paths.check_paths.Goals as goal
 
@@ -31,14 +32,14 @@ returns-in_err-answer g c =
     c.path-item.is c.as_str.ensures.value c.loop-path.invariant.same c.loop-path.invariant.turns.left c.matched_with_errors.ensures.leaves
     (λ tree loads h all none. (c.matched_with_errors.ensures.from_kept tree loads h all none).0) in
     record {
-      value = λ tree loads honest are h. tt;
-      reports = λ tree loads honest are h. tt;
-      from_kept = λ tree loads h all. (l.known tree loads h all, tt);
+      value = search rules;
+      reports = search rules;
+      from_kept = λ tree loads h all. (l.known tree loads h all, passed_on _ _ c.from_residual.result c.from_residual.ensures.1);
       agrees = l.agrees;
       stays = l.stays;
       loaded = l.loaded;
-      each = tt;
-      soft = tt;
+      each = search rules;
+      soft = search rules;
       same = c.matched_with_errors.ensures.leaves.same ∙ c.loop-path.invariant.same;
       out_of_memory = search rules;
     }
@@ -49,14 +50,14 @@ returns-in_err-push g c =
     c.path-item.is c.as_str.ensures.value c.loop-path.invariant.same c.loop-path.invariant.turns.left c.matched_with_errors.ensures.leaves
     (λ tree loads h all none. (c.matched_with_errors.ensures.from_kept tree loads h all none).0) in
     record {
-      value = λ tree loads honest are h. tt;
-      reports = λ tree loads honest are h. tt;
-      from_kept = λ tree loads h all. (l.known tree loads h all, tt);
+      value = search rules;
+      reports = search rules;
+      from_kept = λ tree loads h all. (l.known tree loads h all, passed_on _ _ c.from_residual-in_err-push.result c.from_residual-in_err-push.ensures.1);
       agrees = l.agrees;
       stays = l.stays;
       loaded = l.loaded;
-      each = tt;
-      soft = tt;
+      each = search rules;
+      soft = search rules;
       same = c.matched_with_errors.ensures.leaves.same ∙ c.loop-path.invariant.same;
       out_of_memory = search rules;
     }

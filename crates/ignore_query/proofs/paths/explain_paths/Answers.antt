@@ -1,6 +1,7 @@
 use Rattle.std.proofs.Common.{◌≡◌, List, map, rules, refl, ◌∙◌, subst}
 use Rattle.std.proofs.lemmas.List.{take_all}
 use Rattle.ignore_query.specs.Reached.{scene_of}
+use Rattle.ignore_query.proofs.QueryLemmas.{passed_on}
 use Rattle.ignore_query.proofs.TurnLemmas.{Entry, Turns, explained, explained_to, halves, left_then, pair, turns_none, turns_then}
 use Rattle.ignore_query.proofs.paths.explain_paths.Goals as goal
 
@@ -32,15 +33,15 @@ returns-in_err-explained g c =
     c.question-item.is c.as_str.ensures.value c.loop-question.invariant.same c.loop-question.invariant.turns.left c.explain.ensures.leaves
     (λ tree loads h all none. (c.explain.ensures.from_kept tree loads h all none).0) in
     record {
-      why = λ tree loads honest are h. tt;
-      value = λ tree loads honest are h. tt;
-      reports = λ tree loads honest are h. tt;
-      from_kept = λ tree loads h all. (l.known tree loads h all, tt);
+      why = search rules;
+      value = search rules;
+      reports = search rules;
+      from_kept = λ tree loads h all. (l.known tree loads h all, passed_on _ _ c.from_residual.result c.from_residual.ensures.1);
       agrees = l.agrees;
       stays = l.stays;
       loaded = l.loaded;
-      each = tt;
-      soft = tt;
+      each = search rules;
+      soft = search rules;
       same = c.explain.ensures.leaves.same ∙ c.loop-question.invariant.same;
       out_of_memory = search rules;
     }
@@ -51,15 +52,15 @@ returns-in_err-push g c =
     c.question-item.is c.as_str.ensures.value c.loop-question.invariant.same c.loop-question.invariant.turns.left c.explain.ensures.leaves
     (λ tree loads h all none. (c.explain.ensures.from_kept tree loads h all none).0) in
     record {
-      why = λ tree loads honest are h. tt;
-      value = λ tree loads honest are h. tt;
-      reports = λ tree loads honest are h. tt;
-      from_kept = λ tree loads h all. (l.known tree loads h all, tt);
+      why = search rules;
+      value = search rules;
+      reports = search rules;
+      from_kept = λ tree loads h all. (l.known tree loads h all, passed_on _ _ c.from_residual-in_err-push.result c.from_residual-in_err-push.ensures.1);
       agrees = l.agrees;
       stays = l.stays;
       loaded = l.loaded;
-      each = tt;
-      soft = tt;
+      each = search rules;
+      soft = search rules;
       same = c.explain.ensures.leaves.same ∙ c.loop-question.invariant.same;
       out_of_memory = search rules;
     }

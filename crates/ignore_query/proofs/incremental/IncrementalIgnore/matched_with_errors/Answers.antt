@@ -7,7 +7,7 @@ use Rattle.ignore_query.specs.Agrees.{Agrees}
 use Rattle.ignore_query.specs.Reached.{scene_of}
 use Rattle.ignore_query.specs.Reports.{reported}
 use Rattle.ignore_query.specs.Stands.{StandsIn, problems_of_loads, problems_of_size}
-use Rattle.ignore_query.proofs.QueryLemmas.{no_error}
+use Rattle.ignore_query.proofs.QueryLemmas.{no_error, passed_on}
 use Rattle.ignore_query.proofs.ReadLemmas.{reported_is, sizes_unlimited, stands_beyond, stands_unasked}
 use Rattle.ignore_query.proofs.incremental.IncrementalIgnore.matched_with_errors.Goals as goal
 
@@ -62,10 +62,10 @@ returns-clause-soft g c =
 -- From what is kept.
 
 pub returns-in_err-stand-clause-from_kept : goal.returns-in_err-stand-clause-from_kept
-returns-in_err-stand-clause-from_kept g c = λ tree loads agrees known unlimited. (c.stand.ensures.leaves.known tree loads agrees known, tt)
+returns-in_err-stand-clause-from_kept g c = λ tree loads agrees known unlimited. (c.stand.ensures.leaves.known tree loads agrees known, passed_on _ _ c.from_residual.result c.from_residual.ensures.1)
 
 pub returns-in_err-answer-clause-from_kept : goal.returns-in_err-answer-clause-from_kept
-returns-in_err-answer-clause-from_kept g c = λ tree loads agrees known unlimited. (c.stand.ensures.leaves.known tree loads agrees known, tt)
+returns-in_err-answer-clause-from_kept g c = λ tree loads agrees known unlimited. (c.stand.ensures.leaves.known tree loads agrees known, passed_on _ _ c.from_residual-in_err-answer.result c.from_residual-in_err-answer.ensures.1)
 
 pub returns-clause-from_kept : goal.returns-clause-from_kept
 returns-clause-from_kept g c = λ tree loads agrees known unlimited.
@@ -87,10 +87,10 @@ returns-clause-from_kept g c = λ tree loads agrees known unlimited.
 -- By the path and the settings alone.
 
 pub returns-in_err-stand-clause-unasked : goal.returns-in_err-stand-clause-unasked
-returns-in_err-stand-clause-unasked g c = λ off. (c.stand.ensures.leaves.outside (λ w. let on = w.asked in absurd (cc (on, off))), tt)
+returns-in_err-stand-clause-unasked g c = λ off. (c.stand.ensures.leaves.outside (λ w. let on = w.asked in absurd (cc (on, off))), passed_on _ _ c.from_residual.result c.from_residual.ensures.1)
 
 pub returns-in_err-answer-clause-unasked : goal.returns-in_err-answer-clause-unasked
-returns-in_err-answer-clause-unasked g c = λ off. (c.stand.ensures.leaves.outside (λ w. let on = w.asked in absurd (cc (on, off))), tt)
+returns-in_err-answer-clause-unasked g c = λ off. (c.stand.ensures.leaves.outside (λ w. let on = w.asked in absurd (cc (on, off))), passed_on _ _ c.from_residual-in_err-answer.result c.from_residual-in_err-answer.ensures.1)
 
 pub returns-clause-unasked : goal.returns-clause-unasked
 returns-clause-unasked g c = λ off.
@@ -102,10 +102,10 @@ returns-clause-unasked g c = λ off.
     (c.stand.ensures.leaves.outside (λ w. let on = w.asked in absurd (cc (on, off))), (said.1, none'))
 
 pub returns-in_err-stand-clause-beyond : goal.returns-in_err-stand-clause-beyond
-returns-in_err-stand-clause-beyond g c = λ on far. (c.stand.ensures.leaves.outside (λ w. let off = w.within in absurd (cc (off, far))), tt)
+returns-in_err-stand-clause-beyond g c = λ on far. (c.stand.ensures.leaves.outside (λ w. let off = w.within in absurd (cc (off, far))), passed_on _ _ c.from_residual.result c.from_residual.ensures.1)
 
 pub returns-in_err-answer-clause-beyond : goal.returns-in_err-answer-clause-beyond
-returns-in_err-answer-clause-beyond g c = λ on far. (c.stand.ensures.leaves.outside (λ w. let off = w.within in absurd (cc (off, far))), tt)
+returns-in_err-answer-clause-beyond g c = λ on far. (c.stand.ensures.leaves.outside (λ w. let off = w.within in absurd (cc (off, far))), passed_on _ _ c.from_residual-in_err-answer.result c.from_residual-in_err-answer.ensures.1)
 
 pub returns-clause-beyond : goal.returns-clause-beyond
 returns-clause-beyond g c = λ on far.

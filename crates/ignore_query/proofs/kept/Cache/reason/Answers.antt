@@ -81,7 +81,7 @@ returns-in-Some-clause-why g c = λ tree loads w.
     let at = both.0 in
     let sized = subst (λ x. IsSized g.F.Files call.files.now tree (size_limit a.settings call.is_dir x)) (sym c.verdict_of.ensures.value) at.sized in
     let by = ap (λ x. larger_by (size_limit a.settings call.is_dir x) (size_of s path)) (sym c.verdict_of.ensures.value)
-    ∙ (sym (c.in_ok-larger-in-At.ensures.value tree sized) ∙ c.in-Some.is) in
+    ∙ (sym (c.in_ok-size-in-At.ensures.value tree sized) ∙ c.in-Some.is) in
     why_larger (size_limit a.settings call.is_dir (verdict_of said)) (size_of s path) (match_map cited_of said) c.in-Some.size c.in-Some.limit by
     ∙ (why_open s path (names_of path) call.is_dir cited_of said both.1 refl at.opened
     ∙ why_ruled s path call.is_dir at.within.asked at.within.within at.ruled.ruled)
@@ -98,7 +98,7 @@ returns-in-Some-clause-problems g c = λ tree loads w.
     (λ is opened. said_rules s (names_of path) call.is_dir cited_of said is opened) in
     let at = both.0 in
     let sized = subst (λ x. IsSized g.F.Files call.files.now tree (size_limit a.settings call.is_dir x)) (sym c.verdict_of.ensures.value) at.sized in
-    c.in_ok-larger-in-At.ensures.problem tree sized
+    c.in_ok-size-in-At.ensures.problem tree sized
     ∙ at_sizes a tree loads path call.is_dir c.verdict_of.result (map problem_of c.args.errors.now.items) at.within at.ruled
     (c.verdict_of.ensures.value ∙ at.said)
 
@@ -115,7 +115,7 @@ returns-in-None-clause-why g c = λ tree loads w.
     let at = both.0 in
     let sized = subst (λ x. IsSized g.F.Files call.files.now tree (size_limit a.settings call.is_dir x)) (sym c.verdict_of.ensures.value) at.sized in
     let by = ap (λ x. larger_by (size_limit a.settings call.is_dir x) (size_of s path)) (sym c.verdict_of.ensures.value)
-    ∙ (sym (c.in_ok-larger-in-At.ensures.value tree sized) ∙ c.in-None.is) in
+    ∙ (sym (c.in_ok-size-in-At.ensures.value tree sized) ∙ c.in-None.is) in
     why_not (size_limit a.settings call.is_dir (verdict_of said)) (size_of s path) (match_map cited_of said) by
     ∙ (why_open s path (names_of path) call.is_dir cited_of said both.1 refl at.opened
     ∙ why_ruled s path call.is_dir at.within.asked at.within.within at.ruled.ruled)
@@ -132,6 +132,6 @@ returns-in-None-clause-problems g c = λ tree loads w.
     (λ is opened. said_rules s (names_of path) call.is_dir cited_of said is opened) in
     let at = both.0 in
     let sized = subst (λ x. IsSized g.F.Files call.files.now tree (size_limit a.settings call.is_dir x)) (sym c.verdict_of.ensures.value) at.sized in
-    c.in_ok-larger-in-At.ensures.problem tree sized
+    c.in_ok-size-in-At.ensures.problem tree sized
     ∙ at_sizes a tree loads path call.is_dir c.verdict_of.result (map problem_of c.args.errors.now.items) at.within at.ruled
     (c.verdict_of.ensures.value ∙ at.said)

@@ -196,12 +196,12 @@ way-preserved g c =
     } in
     record {
       text = search rules;
-      on = way_next g.F.Files call c.args.self.now c.way.self new _ _ _ c.way.place _ c.in-Some-in-way.next.now found clean w s
-          (sym (c.next_key.ensures.value w.front w.name w.rest clean w.split w.key) ∙ ap option_copied c.in-Some-in-way.is);
+      on = way_next g.F.Files call c.args.self.now c.way.self new _ _ _ c.way.place _ c.in-Some-next_key.next.now found clean w s
+          (sym (c.next_key.ensures.value w.front w.name w.rest clean w.split w.key) ∙ ap option_copied c.in-Some-next_key.is);
     }
 
 pub way-smaller : goal.way-smaller
 way-smaller g c =
-    let l = subst (λ r. IfSome r (λ n. (length c.way.key.now < length n.now) × (length n.now ≤ length c.args.call.now.path.now))) c.in-Some-in-way.is
+    let l = subst (λ r. IfSome r (λ n. (length c.way.key.now < length n.now) × (length n.now ≤ length c.args.call.now.path.now))) c.in-Some-next_key.is
     c.next_key.ensures.longer in
     omega (arith, l.0, l.1)
