@@ -1,6 +1,6 @@
 -- The chain of a directory that is added to the list.
 use Rattle.std.proofs.Common.{◌≡◌, ℕ, ◌+◌, ◌<◌, ◌≤◌, All, List, [], ◌∷◌, ◌++◌, length, reverse, Option}
-use Rattle.std.proofs.Common.{Result, IfOk, refl, sym, ◌∙◌, ap, subst, arith}
+use Rattle.std.proofs.Common.{refl, sym, ◌∙◌, ap, subst, arith}
 use Rattle.std.proofs.lemmas.List.{length-append, reverse-append}
 use Rattle.ignore_base.specs.Paths.{IsName}
 use Rattle.ignore_dir.specs.declared.dir.Dir.{Dir}

@@ -1,5 +1,5 @@
 -- What is kept, and one directory more.
-use Rattle.std.proofs.Common.{◌≡◌, ◌≢◌, ℕ, suc, Bool, true, false, not, ◌||◌, cond, All, Contains, List, [], ◌∷◌, ◌++◌, length}
+use Rattle.std.proofs.Common.{◌≡◌, ◌≢◌, ℕ, suc, Bool, true, false, ◌||◌, cond, All, Contains, List, [], ◌∷◌, ◌++◌, length}
 use Rattle.std.proofs.Common.{Option, Some, None, is_some, refl, sym, ◌∙◌, ap, subst, append_assoc, ◌⊎◌, inl, inr, arith}
 use Rattle.std.proofs.Common.{string_bytes, ◌==◌}
 use Rattle.std.proofs.Math.Dec.{eqb-suc-zero}
@@ -20,7 +20,7 @@ use Rattle.ignore_query.specs.declared.kept.Kept.TheVariants.{Ignored, Loaded}
 use Rattle.ignore_levels.specs.Levels.{Keeps, slots_of}
 use Rattle.ignore_levels.specs.declared.list.Place.{Place}
 use Rattle.ignore_levels.proofs.ChainLemmas.{chain-kept}
-use Rattle.ignore_query.specs.Agrees.{Agrees, IsAbove, IsLoaded, IsNext, IsRight, StandsFor, chain_above, is_loaded}
+use Rattle.ignore_query.specs.Agrees.{Agrees, IsAbove, IsLoaded, IsNext, IsRight, StandsFor, chain_above}
 use Rattle.ignore_query.specs.Listed.{IsBelow, SharesLevels, kept_at}
 use Rattle.ignore_query.specs.Reports.{problem_in, problems_at}
 

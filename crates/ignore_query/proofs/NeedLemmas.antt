@@ -1,7 +1,7 @@
 -- What stays kept, and the directories that an answer needs, one by one.
 use lib.Pointwise.{pointwise}
-use Rattle.std.proofs.Common.{◌≡◌, ℕ, ◌+◌, ◌<◌, ◌≤◌, Bool, true, false, not, ◌||◌, cond, All, List, [], ◌∷◌, ◌++◌, length, map}
-use Rattle.std.proofs.Common.{filter, take, drop, get_or, Option, Some, None, is_some, refl, sym, ◌∙◌, ap}
+use Rattle.std.proofs.Common.{◌≡◌, ℕ, Bool, true, false, not, ◌||◌, cond, All, List, [], ◌∷◌, ◌++◌, map}
+use Rattle.std.proofs.Common.{filter, Option, Some, None, is_some, refl, sym, ◌∙◌, ap}
 use Rattle.std.proofs.lemmas.List.{append-nil, map-append}
 use Rattle.std.proofs.lemmas.List.Folds.{list_any-append}
 use Rattle.std.proofs.lemmas.Slice.Eq.{bytes_eq-Decides, slice_eq-Decides}
@@ -17,7 +17,7 @@ use Rattle.ignore_levels.specs.Levels.{Keeps, slots_of}
 use Rattle.ignore_levels.proofs.PassLemmas.{keeps-then}
 use Rattle.ignore_query.specs.declared.kept.Cache.{Cache}
 use Rattle.ignore_query.specs.declared.kept.Kept.{Kept}
-use Rattle.ignore_query.specs.Needs.{KeepsNeeded, Stays, is_among, is_kept, needed}
+use Rattle.ignore_query.specs.Needs.{Stays, needed}
 use Rattle.ignore_query.proofs.KeepLemmas.{Puts, SameAbove, puts_stays, slashed_inj}
 use Rattle.ignore_query.proofs.WayLemmas.{left, left_all, left_next, map-map, or_true}
 

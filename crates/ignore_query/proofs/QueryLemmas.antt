@@ -1,27 +1,24 @@
 -- Paths on which the rules decide, and what is kept with what is above the root.
 use Rattle.std.proofs.lemmas.Bool.{and_parts}
 use Rattle.std.proofs.lemmas.Result.{err_from_is_err_and}
-use Rattle.std.proofs.Common.{◌≡◌, ◌==◌, ◌&&◌, ◌||◌, ℕ, Bool, true, false, not, cond, List, [], ◌∷◌, ◌++◌, length, filter, map}
+use Rattle.std.proofs.Common.{◌≡◌, ◌==◌, ◌&&◌, ◌||◌, ℕ, Bool, true, false, not, cond, List, [], ◌∷◌, ◌++◌, length}
 use Rattle.std.proofs.Common.{◌≢◌, Option, None, Some, Result, Ok, Err, OnOk, IfOk, IsErrAnd, refl, sym, ap, ◌∙◌, subst}
 use Rattle.std.proofs.Math.Dec.{eqb-suc-zero}
-use Rattle.std.specs.BTreeMap.{get_by_text}
 use Rattle.std.specs.List.{filter_map, list_all}
 use Rattle.std.specs.Option.{option_map, option_to_list}
 use Rattle.std.specs.Str.{bytes_eq}
 use Rattle.ignore_base.specs.Paths.{components, is_proper}
 use Rattle.ignore_base.specs.declared.error.Error.{Error}
 use Rattle.ignore_base.specs.Problem.{Problem, problem_of}
-use Rattle.ignore_dir.specs.Chains.{slashed}
 use Rattle.ignore_dir.specs.declared.incremental.IncrementalMatch.{IncrementalMatch}
 use Rattle.ignore_dir.specs.declared.verdict.Verdict.TheVariants as v
 use Rattle.ignore_dir.specs.Limits.{beyond, is_beyond, limited, no_match}
-use Rattle.ignore_dir.specs.Query.{answer_of_rules, depth_of_path, has_rules, is_asked, is_clean, is_dir_there, loaded_for, names_of, query}
+use Rattle.ignore_dir.specs.Query.{answer_of_rules, depth_of_path, has_rules, is_asked, is_clean, is_dir_there, names_of, query}
 use Rattle.ignore_dir.specs.Scene.{QueryScene}
 use Rattle.ignore_files.specs.Tree.{Tree}
 use Rattle.ignore_query.specs.declared.kept.Cache.{Cache}
 use Rattle.ignore_query.specs.Agrees.{Agrees}
 use Rattle.ignore_query.specs.Needs.{is_known}
-use Rattle.ignore_query.specs.Reports.{new_below, problem_in}
 use Rattle.ignore_query.proofs.KnownLemmas.{known_above}
 
 pub root_dir : (tree : Tree) (root path : List ℕ) → has_rules tree root path ≡ true → is_dir_there (tree.stat root true) ≡ true

@@ -7,7 +7,6 @@ use Rattle.std.proofs.lemmas.List.Splits.{join_with_byte-slice_split}
 use Rattle.std.specs.List.{filter_map, list_all, list_any}
 use Rattle.std.specs.Option.{option_to_list}
 use Rattle.ignore_base.proofs.CleanLemmas.{names-components}
-use Rattle.ignore_base.specs.Match.{match_map}
 use Rattle.ignore_base.specs.Paths.{IsName, components, is_proper, join_of, joined}
 use Rattle.ignore_base.specs.Problem.{Problem, joined_problems}
 use Rattle.ignore_base.specs.declared.fault.Fault.{Fault}
@@ -21,10 +20,10 @@ use Rattle.ignore_dir.specs.Limits.{is_beyond, limited, size_limit, size_problem
 use Rattle.ignore_dir.specs.Load as load
 use Rattle.ignore_dir.specs.Query.{ancestors, answer_of_rules, depth_of_path, has_rules, is_asked, is_dir_there, is_ignored, limit_of, names_of, query}
 use Rattle.ignore_dir.specs.Query.{rules_verdict, size_of}
-use Rattle.ignore_dir.specs.Scene.{QueryScene, path_verdict}
+use Rattle.ignore_dir.specs.Scene.{QueryScene}
 use Rattle.ignore_levels.specs.declared.list.Place.{Place}
 use Rattle.ignore_why.specs.Cited.{Cited}
-use Rattle.ignore_why.specs.QueryWhy.{QueryWhy, first_ignored, path_cited, why_by_rules, why_by_size}
+use Rattle.ignore_why.specs.QueryWhy.{first_ignored, path_cited, why_by_rules, why_by_size}
 use Rattle.ignore_why.specs.QueryWhy.QueryWhy.{decided, inside, larger}
 use Rattle.ignore_why.proofs.QueryWhyLemmas.{first_some}
 use Rattle.ignore_query.specs.declared.asked.Asked.{Asked}
@@ -42,7 +41,7 @@ use Rattle.ignore_query.specs.Reports.{new_above, new_below, reported, reported_
 use Rattle.ignore_query.specs.Stands.{IsIn, IsInside, IsSized, IsStand, IsWithin, StandsIn, larger_by, problems_of_loads, problems_of_size}
 use Rattle.ignore_query.proofs.ChainLemmas.{front_names}
 use Rattle.ignore_query.proofs.KeepLemmas.{Ends, ends, last, none}
-use Rattle.ignore_query.proofs.KnownLemmas.{open_verdict, parent_open, shut_verdict}
+use Rattle.ignore_query.proofs.KnownLemmas.{parent_open, shut_verdict}
 use Rattle.ignore_query.proofs.QueryLemmas.{collected_three, names_are, query_rules}
 use Rattle.ignore_query.proofs.StandLemmas.{decided_ruled, first_here, in_open}
 use Rattle.ignore_query.proofs.WhyLemmas.{root_shut, shut_size, why_shut}

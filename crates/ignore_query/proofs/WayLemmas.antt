@@ -1,13 +1,11 @@
 -- The ancestors of a path, one by one.
-use Rattle.std.proofs.Common.{◌≡◌, ◌≢◌, ℕ, suc, zero, ◌+◌, ◌<◌, ◌≤◌, Bool, true, false, not, ◌||◌, cond, List, [], ◌∷◌, ◌++◌}
-use Rattle.std.proofs.Common.{length, map, take, drop, get_or, Option, Some, None, is_some, refl, sym, ◌∙◌, ap, append_assoc}
-use Rattle.std.proofs.Common.{arith, Bor, add-one}
+use Rattle.std.proofs.Common.{◌≡◌, ◌≢◌, ℕ, Bool, true, false, not, ◌||◌, cond, List, [], ◌∷◌, ◌++◌}
+use Rattle.std.proofs.Common.{map, Option, Some, None, is_some, refl, sym, ◌∙◌, ap, append_assoc}
 use Rattle.std.proofs.lemmas.List.{append-nil}
 use Rattle.std.proofs.lemmas.List.Sums.{take_while-cons}
-use Rattle.std.specs.List.{filter_map, list_any, take_while}
+use Rattle.std.specs.List.{filter_map, take_while}
 use Rattle.std.specs.Option.{option_to_list}
 use Rattle.ignore_base.specs.Problem.{Problem}
-use Rattle.ignore_dir.specs.Chains.{slashed}
 use Rattle.ignore_dir.specs.Query.{ancestors, is_ignored}
 use Rattle.ignore_dir.specs.Scene.{QueryScene}
 use Rattle.ignore_query.specs.declared.kept.Cache.{Cache}

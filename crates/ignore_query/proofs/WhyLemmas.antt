@@ -1,17 +1,13 @@
 -- The reason of an answer, by what is kept.
-use lib.Pointwise.{pointwise}
-use Rattle.std.proofs.Common.{◌≡◌, ℕ, ◌+◌, ◌<◌, take, drop, get_or, Bool, true, false, not, ◌&&◌, ◌||◌, cond, All, List, [], ◌∷◌, ◌++◌}
-use Rattle.std.proofs.Common.{length, Option, Some, None, Result, Ok, Err, OnOk, is_some, option_map, refl, sym, ◌∙◌, ap, subst, append_assoc, arith}
-use Rattle.std.proofs.lemmas.Slice.Eq.{bytes_eq-Decides, slice_eq-Decides}
-use Rattle.std.specs.List.{list_all, list_any}
+use Rattle.std.proofs.Common.{◌≡◌, ℕ, Bool, true, false, not, cond, All, List, [], ◌∷◌, ◌++◌}
+use Rattle.std.proofs.Common.{Option, Some, None, refl, sym, ◌∙◌, ap, append_assoc, arith}
+use Rattle.std.specs.List.{list_any}
 use Rattle.std.specs.Option.{option_to_list}
-use Rattle.std.specs.Str.{bytes_eq}
 use Rattle.ignore_base.specs.Match.{match_map}
-use Rattle.ignore_base.specs.Paths.{IsName, components, is_proper, joined}
+use Rattle.ignore_base.specs.Paths.{IsName, components, joined}
 use Rattle.ignore_base.proofs.CleanLemmas.{components-joined}
 use Rattle.ignore_base.specs.declared.match_result.Match.{Match}
 use Rattle.ignore_dir.specs.Above.{names_above, path_along}
-use Rattle.ignore_dir.specs.Chains.{slashed}
 use Rattle.ignore_dir.specs.Lists.{Asked, asked_in}
 use Rattle.ignore_dir.specs.declared.settings.Settings.{Settings}
 use Rattle.ignore_dir.specs.declared.verdict.Verdict.{Verdict}
@@ -29,9 +25,8 @@ use Rattle.ignore_levels.proofs.ReasonLemmas.{verdict-map}
 use Rattle.ignore_query.specs.declared.kept.Cache.{Cache}
 use Rattle.ignore_query.specs.declared.kept.Kept.{Kept}
 use Rattle.ignore_query.specs.declared.kept.Kept.TheVariants.{Ignored, Loaded}
-use Rattle.ignore_query.specs.Agrees.{Agrees, IsNext, is_loaded}
+use Rattle.ignore_query.specs.Agrees.{Agrees, IsNext}
 use Rattle.ignore_query.specs.Listed.{kept_at}
-use Rattle.ignore_query.specs.Needs.{KeepsNeeded, is_among, is_kept, is_known, needed}
 use Rattle.ignore_query.specs.Stands.{open_in}
 use Rattle.ignore_why.specs.Cited.{Cited, cited}
 use Rattle.ignore_why.specs.QueryWhy.{QueryWhy, answer_of, first_ignored, path_cited, path_why, text_to, query_why, why_beyond, why_by_rules, why_by_size}

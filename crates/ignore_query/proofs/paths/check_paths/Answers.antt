@@ -1,4 +1,4 @@
-use Rattle.std.proofs.Common.{◌≡◌, List, map, rules, refl, ◌∙◌, subst}
+use Rattle.std.proofs.Common.{List, rules, refl, ◌∙◌, subst}
 use Rattle.std.proofs.lemmas.List.{take_all}
 use Rattle.ignore_query.proofs.QueryLemmas.{passed_on}
 use Rattle.ignore_query.proofs.TurnLemmas.{Entry, Turns, itself, left_then, match_to, turns_none, turns_then}

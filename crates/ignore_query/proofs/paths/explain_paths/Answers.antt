@@ -1,4 +1,4 @@
-use Rattle.std.proofs.Common.{◌≡◌, List, map, rules, refl, ◌∙◌, subst}
+use Rattle.std.proofs.Common.{List, rules, refl, ◌∙◌, subst}
 use Rattle.std.proofs.lemmas.List.{take_all}
 use Rattle.ignore_query.specs.Reached.{scene_of}
 use Rattle.ignore_query.proofs.QueryLemmas.{passed_on}

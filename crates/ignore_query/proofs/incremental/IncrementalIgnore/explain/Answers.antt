@@ -1,11 +1,9 @@
-use Rattle.std.proofs.Common.{◌≡◌, ◌++◌, None, List, map, inl, inr, refl, sym, ap, ◌∙◌, subst, string_bytes}
-use Rattle.std.proofs.lemmas.List.{append-nil}
+use Rattle.std.proofs.Common.{◌++◌, List, map, inl, inr, refl, sym, ap, ◌∙◌, subst}
 use Rattle.ignore_base.specs.Problem.{Problem, joined_problems, problem_of}
 use Rattle.ignore_dir.specs.Soft.{AllSoft, IsSoft}
 use Rattle.ignore_dir.proofs.SoftLemmas.{joined-soft}
 use Rattle.ignore_query.specs.Agrees.{Agrees}
 use Rattle.ignore_query.specs.Reached.{scene_of}
-use Rattle.ignore_query.specs.Reports.{reported}
 use Rattle.ignore_query.specs.Stands.{StandsIn, problems_of_loads, problems_of_size}
 use Rattle.ignore_query.proofs.QueryLemmas.{no_error, passed_on}
 use Rattle.ignore_query.proofs.ReadLemmas.{reported_is, sizes_unlimited, stands_beyond, stands_unasked}

@@ -1,4 +1,4 @@
-use Rattle.std.proofs.Common.{◌≡◌, ◌∷◌, [], Bool, true, false, not, ◌&&◌, None, cond, ap, ◌∙◌, string_bytes}
+use Rattle.std.proofs.Common.{◌∷◌, [], not, None, cond, ap, ◌∙◌, string_bytes}
 use Rattle.std.proofs.lemmas.Bool.{and_parts}
 use Rattle.std.specs.Str.{bytes_eq}
 use Rattle.ignore_dir.specs.Chains.{slashed}

@@ -1,4 +1,4 @@
-use Rattle.std.proofs.Common.{◌≡◌, ◌++◌, ◌∷◌, [], ℕ, All, List, None, Some, rules, map, sym, ap, ◌∙◌, subst}
+use Rattle.std.proofs.Common.{◌≡◌, map, sym, ap, ◌∙◌, subst}
 use Rattle.ignore_base.specs.Problem.{problem_of}
 use Rattle.ignore_dir.specs.Limits.{is_below}
 use Rattle.ignore_dir.specs.Query.{depth_of_path}

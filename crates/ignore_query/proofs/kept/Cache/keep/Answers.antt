@@ -4,13 +4,11 @@ use Rattle.std.specs.BTreeMap.{get_by_text}
 use Rattle.std.specs.Str.{bytes_eq}
 use Rattle.ignore_base.specs.Problem.{Problem, problem_of}
 use Rattle.ignore_query.specs.declared.kept.Cache.{Cache}
-use Rattle.ignore_query.specs.Keys.{IsKey}
 use Rattle.ignore_query.specs.Listed.{kept_at}
 use Rattle.ignore_query.specs.Reached.{scene_of}
 use Rattle.ignore_query.proofs.KeepLemmas.{AddsOne, Puts, problems_known, problems_new, put_agrees, puts_from, puts_key, right_kept}
 use Rattle.ignore_query.proofs.ListLemmas.{put_shared}
 use Rattle.ignore_query.proofs.NeedLemmas.{known_kept, put_kept, stays_put}
-use Rattle.ignore_dir.specs.Chains.{slashed}
 use Rattle.ignore_query.proofs.KeptLoadLemmas.{found_with, loads_put}
 use Rattle.ignore_query.proofs.StandLemmas.{grows_levels}
 use Rattle.ignore_query.proofs.kept.Cache.keep.Goals as goal

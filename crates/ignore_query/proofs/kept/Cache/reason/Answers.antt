@@ -1,4 +1,4 @@
-use Rattle.std.proofs.Common.{◌≡◌, ◌++◌, ◌∷◌, [], ℕ, All, IfOk, List, None, Some, cond, true, map, refl, sym, ap, ◌∙◌, subst}
+use Rattle.std.proofs.Common.{◌≡◌, IfOk, cond, true, map, refl, sym, ap, ◌∙◌, subst}
 use Rattle.ignore_base.specs.Problem.{problem_of}
 use Rattle.ignore_base.specs.Match.{match_map}
 use Rattle.ignore_dir.specs.Limits.{size_limit}

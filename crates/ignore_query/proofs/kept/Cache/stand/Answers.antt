@@ -1,9 +1,9 @@
-use Rattle.std.proofs.Common.{◌≡◌, ◌++◌, Bool, true, false, IfOk, List, OnOk, map, refl, sym, ap, ◌∙◌, subst, string_bytes}
+use Rattle.std.proofs.Common.{◌++◌, List, OnOk, map, refl, sym, ap, ◌∙◌, subst, string_bytes}
 use Rattle.std.specs.List.{filter_map}
 use Rattle.std.specs.Option.{option_to_list}
 use Rattle.ignore_base.specs.Paths.{components}
 use Rattle.ignore_base.specs.Problem.{Problem, problem_of}
-use Rattle.ignore_dir.specs.Query.{is_asked, names_of}
+use Rattle.ignore_dir.specs.Query.{is_asked}
 use Rattle.ignore_query.specs.Needs.{KeepsNeeded, is_known, needed}
 use Rattle.ignore_query.specs.Reached.{scene_of}
 use Rattle.ignore_query.specs.Reports.{new_above, new_below}

@@ -1,4 +1,4 @@
-use Rattle.std.proofs.Common.{◌≡◌, ◌<◌, ◌≤◌, ◌++◌, ◌∷◌, [], ◌||◌, ℕ, true, All, Option, None, Some, IfSome, List, length, map, is_some, string_bytes, rules, arith, refl, sym, ap, ◌∙◌, subst}
+use Rattle.std.proofs.Common.{◌≡◌, ◌<◌, ◌≤◌, ◌++◌, ◌∷◌, [], All, Option, Some, IfSome, List, length, map, is_some, rules, arith, refl, sym, ap, ◌∙◌, subst}
 use Rattle.std.proofs.lemmas.List.{append-nil}
 use Rattle.std.specs.BTreeMap.{get_by_text}
 use Rattle.std.specs.List.{filter_map}
@@ -17,7 +17,7 @@ use Rattle.ignore_query.specs.Stands.{IsPlaced}
 use Rattle.ignore_query.proofs.KnownLemmas.{keeps_known, known_above, last_of, none_above, none_below, parent_known}
 use Rattle.ignore_query.proofs.NeedLemmas.{or_false}
 use Rattle.ignore_query.proofs.WayLemmas.{no_last}
-use Rattle.ignore_query.proofs.StandLemmas.{OnWay, Visits, ends_last, ends_shut, grows_then, next_none, visited_next, way_front_names, way_known, way_needed, way_next, way_problems}
+use Rattle.ignore_query.proofs.StandLemmas.{Visits, ends_last, ends_shut, grows_then, next_none, visited_next, way_front_names, way_known, way_needed, way_next, way_problems}
 use Rattle.ignore_query.proofs.kept.Cache.stand_by_rules.Goals as goal
 
 pub way-init : goal.way-init
