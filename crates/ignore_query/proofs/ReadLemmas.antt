@@ -50,8 +50,7 @@ use Rattle.ignore_query.proofs.WhyLemmas.{root_shut, shut_size, why_shut}
 
 pub unasked_off : (a : Asked) (tree : Tree) (loads : List ℕ → load.Loaded) (path : List ℕ) (is_dir : Bool)
     → is_asked (string_bytes a.root) path ≡ false → is_decided (scene_of a tree loads) path is_dir ≡ false
-unasked_off a tree loads path is_dir h =
-    ap (λ x. x && (not (is_beyond a.settings (depth_of_path path) is_dir) && has_rules tree (string_bytes a.root) path)) h
+unasked_off a tree loads path is_dir h = rw h
 
 and_off : (a b : Bool) → b ≡ false → (a && b) ≡ false
 and_off true b h = h
@@ -163,13 +162,11 @@ why_not (Some most) (Err fault) said h = refl
 
 pub loads_none : (g : QueryScene) (c : Cache) (path : List ℕ) (is_dir : Bool) (errors : List Problem) → is_decided g path is_dir ≡ false
     → errors ≡ errors ++ problems_of_loads g c path is_dir
-loads_none g c path is_dir errors h =
-    sym (ap (λ b. errors ++ cond b (option_to_list (new_above g c) ++ filter_map (λ p. p) (new_below g c (names_of path))) []) h ∙ append-nil errors)
+loads_none g c path is_dir errors h = rw h (sym (append-nil errors))
 
 pub loads_decided : (g : QueryScene) (c : Cache) (path : List ℕ) (is_dir : Bool) → is_decided g path is_dir ≡ true
     → problems_of_loads g c path is_dir ≡ option_to_list (new_above g c) ++ filter_map (λ p. p) (new_below g c (names_of path))
-loads_decided g c path is_dir h =
-    ap (λ b. cond b (option_to_list (new_above g c) ++ filter_map (λ p. p) (new_below g c (names_of path))) []) h
+loads_decided g c path is_dir h = rw h
 
 pub sizes_inside : (g : QueryScene) (path : List ℕ) (is_dir : Bool) → list_any (is_ignored g) (ancestors (names_of path)) ≡ true
     → problems_of_size g path is_dir ≡ []
@@ -184,8 +181,7 @@ sizes_unlimited g path is_dir h =
 
 pub sizes_decided : (g : QueryScene) (path : List ℕ) (is_dir : Bool) → is_decided g path is_dir ≡ true
     → problems_of_size g path is_dir ≡ option_to_list (size_problem (join_of g.root path) (limit_of g path is_dir) (size_of g path))
-sizes_decided g path is_dir h =
-    ap (λ b. cond b (option_to_list (size_problem (join_of g.root path) (limit_of g path is_dir) (size_of g path))) []) h
+sizes_decided g path is_dir h = rw h
 
 report_cases : (a b r : Bool) (p : Option Problem) (xs ys : List Problem) → p ≡ joined_problems (xs ++ ys)
     → cond (not a) None (cond b None (cond r p None))

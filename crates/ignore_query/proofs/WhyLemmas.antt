@@ -116,38 +116,23 @@ why_shut g path front is_dir h = sym (ap (why_on_way g path is_dir) h)
 
 pub why_unasked : (g : QueryScene) (path : List ℕ) (is_dir : Bool) → is_asked g.root path ≡ false → unasked ≡ query_why g path is_dir
 unfolding query_why
-why_unasked g path is_dir h =
-    sym (ap (λ a. cond (not a) unasked (cond (is_beyond g.settings (depth_of_path path) is_dir) (why_beyond g.settings (depth_of_path path))
-    (cond (has_rules g.tree g.root path) (why_by_rules g path is_dir) unruled))) h)
-
-why_asked : (g : QueryScene) (path : List ℕ) (is_dir : Bool) → is_asked g.root path ≡ true → query_why g path is_dir
-    ≡ cond (is_beyond g.settings (depth_of_path path) is_dir) (why_beyond g.settings (depth_of_path path))
-    (cond (has_rules g.tree g.root path) (why_by_rules g path is_dir) unruled)
-unfolding query_why
-why_asked g path is_dir h =
-    ap (λ a. cond (not a) unasked (cond (is_beyond g.settings (depth_of_path path) is_dir) (why_beyond g.settings (depth_of_path path))
-    (cond (has_rules g.tree g.root path) (why_by_rules g path is_dir) unruled))) h
+why_unasked g path is_dir h = rw h
 
 pub why_far : (g : QueryScene) (path : List ℕ) (is_dir : Bool) → is_asked g.root path ≡ true
     → is_beyond g.settings (depth_of_path path) is_dir ≡ true → why_beyond g.settings (depth_of_path path) ≡ query_why g path is_dir
-why_far g path is_dir a b =
-    sym (why_asked g path is_dir a
-    ∙ ap (λ x. cond x (why_beyond g.settings (depth_of_path path)) (cond (has_rules g.tree g.root path) (why_by_rules g path is_dir) unruled)) b)
+unfolding query_why
+why_far g path is_dir a b = rw (a, b)
 
 pub why_unruled : (g : QueryScene) (path : List ℕ) (is_dir : Bool) → is_asked g.root path ≡ true
     → is_beyond g.settings (depth_of_path path) is_dir ≡ false → has_rules g.tree g.root path ≡ false → unruled ≡ query_why g path is_dir
-why_unruled g path is_dir a b r =
-    sym (why_asked g path is_dir a
-    ∙ (ap (λ x. cond x (why_beyond g.settings (depth_of_path path)) (cond (has_rules g.tree g.root path) (why_by_rules g path is_dir) unruled)) b
-    ∙ ap (λ x. cond x (why_by_rules g path is_dir) unruled) r))
+unfolding query_why
+why_unruled g path is_dir a b r = rw (a, b, r)
 
 pub why_ruled : (g : QueryScene) (path : List ℕ) (is_dir : Bool) → is_asked g.root path ≡ true
     → is_beyond g.settings (depth_of_path path) is_dir ≡ false → has_rules g.tree g.root path ≡ true
     → why_by_rules g path is_dir ≡ query_why g path is_dir
-why_ruled g path is_dir a b r =
-    sym (why_asked g path is_dir a
-    ∙ (ap (λ x. cond x (why_beyond g.settings (depth_of_path path)) (cond (has_rules g.tree g.root path) (why_by_rules g path is_dir) unruled)) b
-    ∙ ap (λ x. cond x (why_by_rules g path is_dir) unruled) r))
+unfolding query_why
+why_ruled g path is_dir a b r = rw (a, b, r)
 
 -- What is kept of the directory in which a path is.
 
