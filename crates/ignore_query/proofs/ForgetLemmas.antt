@@ -343,9 +343,7 @@ same_ignored : (a : Shared) (before after : Tree) (loads later : List ℕ → Lo
     → IsSameKept (scene_of a before loads) (scene_of a after later) c → (names : List (List ℕ)) (k : Kept) → All IsName names
     → kept_at c names ≡ Some k → Ends names
     → is_ignored (scene_of a after later) names ≡ is_ignored (scene_of a before loads) names
-same_ignored a before after loads later c old same names k clean kept (none e) =
-    ap (is_ignored (scene_of a after later)) e ∙ (root_ignored (scene_of a before loads) (scene_of a after later)
-    ∙ ap (is_ignored (scene_of a before loads)) (sym e))
+same_ignored a before after loads later c old same names k clean kept (none e) = rw e (root_ignored (scene_of a before loads) (scene_of a after later))
 same_ignored a before after loads later c old same names k clean kept (last front n e) =
     let g = scene_of a before loads in
     let h = scene_of a after later in

@@ -102,10 +102,7 @@ or_false false = refl
 
 pub any-more : (g : QueryScene) (front : List (List ℕ)) (n : List ℕ)
     → list_any (is_ignored g) (ancestors (front ++ n ∷ [])) ≡ (list_any (is_ignored g) (ancestors front) || is_ignored g front)
-any-more g front n =
-    ap (list_any (is_ignored g)) (ancestors-more front n)
-    ∙ (list_any-append (is_ignored g) (ancestors front) (front ∷ [])
-    ∙ ap (λ b. list_any (is_ignored g) (ancestors front) || b) (or_false (is_ignored g front)))
+any-more g front n = rw (ancestors-more front n, list_any-append, or_false)
 
 -- what is below an ignored directory is below an ignored one
 closed : (g : QueryScene) (front : List (List ℕ)) (n : List ℕ) (q : List (List ℕ)) → is_ignored g front ≡ true
@@ -127,10 +124,7 @@ none_opened g front n (q ∷ qs) h =
 
 opened_next : (g : QueryScene) (front : List (List ℕ)) (n : List ℕ) → opened g front ≡ true → is_ignored g front ≡ false
     → opened g (front ++ n ∷ []) ≡ true
-opened_next g front n o h =
-    ap not (any-more g front n)
-    ∙ (ap (λ b. not (list_any (is_ignored g) (ancestors front) || b)) h
-    ∙ (ap not (or_false (list_any (is_ignored g) (ancestors front))) ∙ o))
+opened_next g front n o h = rw (any-more g front n, h, or_false) o
 
 way_is : (g : QueryScene) (front rest : List (List ℕ)) → opened g front ≡ true → filter (opened g) (left front rest) ≡ way g front rest
 way_is g front [] o = refl

@@ -175,9 +175,7 @@ sizes_inside g path is_dir h =
     ∙ same_both (is_decided g path is_dir) []
 
 pub sizes_unlimited : (g : QueryScene) (path : List ℕ) (is_dir : Bool) → limit_of g path is_dir ≡ None → problems_of_size g path is_dir ≡ []
-sizes_unlimited g path is_dir h =
-    ap (λ l. cond (is_decided g path is_dir) (option_to_list (size_problem (join_of g.root path) l (size_of g path))) []) h
-    ∙ same_both (is_decided g path is_dir) []
+sizes_unlimited g path is_dir h = rw h (same_both _ [])
 
 pub sizes_decided : (g : QueryScene) (path : List ℕ) (is_dir : Bool) → is_decided g path is_dir ≡ true
     → problems_of_size g path is_dir ≡ option_to_list (size_problem (join_of g.root path) (limit_of g path is_dir) (size_of g path))

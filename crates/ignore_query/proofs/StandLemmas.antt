@@ -196,10 +196,7 @@ ancestors-at front rest name =
 
 pub first_here : (g : QueryScene) (front rest : List (List ℕ)) (name : List ℕ) → list_any (is_ignored g) (ancestors front) ≡ false
     → is_ignored g front ≡ true → first_ignored g (ancestors (front ++ name ∷ rest)) ≡ Some front
-first_here g front rest name h on =
-    ap (first_ignored g) (ancestors-at front rest name)
-    ∙ (first_more g (ancestors front) (front ∷ left (front ++ name ∷ []) rest) h
-    ∙ ap (λ b. cond b (Some front) (first_ignored g (left (front ++ name ∷ []) rest))) on)
+first_here g front rest name h on = rw (ancestors-at front rest name, first_more g (ancestors front) _ h, on)
 
 -- The problems of directories that are looked for.
 
@@ -253,10 +250,7 @@ not_own (n ∷ front) = among-inner n front (ancestors front) ∙ not_own front
 
 among-more : (front q : List (List ℕ)) (n : List ℕ)
     → is_among (ancestors (front ++ n ∷ [])) q ≡ (is_among (ancestors front) q || pointwise bytes_eq q front)
-among-more front q n =
-    ap (λ l. is_among l q) (ancestors-more front n)
-    ∙ (list_any-append (pointwise bytes_eq q) (ancestors front) (front ∷ [])
-    ∙ ap (λ b. is_among (ancestors front) q || b) (or_false (pointwise bytes_eq q front)))
+among-more front q n = rw (ancestors-more front n, list_any-append, or_false)
 
 -- these directories were looked up or kept, one after the other, with these problems
 pub record Visited {F : Type 0} (files : Files F) (call : Call F) (old new : Cache) (before after : List Problem)
@@ -294,110 +288,96 @@ pub record Visits {F : Type 0} (files : Files F) (call : Call F) (old new : Cach
 next_loaded : (c : Cache) (names : List (List ℕ)) (place : Option Place) → IsNext c names place → IsInLoaded c names
 next_loaded c names place h front name e = (place, h.inside front name e)
 
-pub way_front_names : {F : Type 0} (files : Files F) (call : Call F) (old new : Cache) (before after : List Problem) (place : Option Place)
-    (text : List ℕ) → All IsName (components call.path.now) → (w : OnWay files call old new before after place text) → All IsName w.front
-way_front_names files call old new before after place text clean w = front_names w.front (w.name ∷ w.rest) (subst (All IsName) w.split clean)
+module _ {F : Type 0} (files : Files F) (call : Call F) (old mid : Cache) (before between : List Problem) (place : Option Place) (text : List ℕ)
+    (clean : All IsName (components call.path.now)) (w : OnWay files call old mid before between place text) where
+  pub way_front_names : All IsName w.front
+  way_front_names = front_names w.front (w.name ∷ w.rest) (subst (All IsName) w.split clean)
 
--- where all that is needed was kept, this directory is
-pub way_known : {F : Type 0} (files : Files F) (call : Call F) (old mid : Cache) (before between : List Problem)
-    (place : Option Place) (text : List ℕ) → All IsName (components call.path.now) → OnWay files call old mid before between place text
-    → (tree : Tree) (loads : List ℕ → load.Loaded) → Agrees (scene_of call.asked.now tree loads) old
-    → is_known (scene_of call.asked.now tree loads) old (components call.path.now) ≡ true
-    → (mid ≡ old) × ((between ≡ before) × (is_some (get_by_text mid.dirs.map text) ≡ true))
-way_known files call old mid before between place text clean w tree loads a all =
-    let g = scene_of call.asked.now tree loads in
-    let cleanf = way_front_names files call old mid before between place text clean w in
-    let k = w.visited.known tree loads a all in
-    let opened = in_open g mid w.front (subst (λ x. Agrees g x) (sym k.0) a) cleanf (next_loaded mid w.front place w.next) in (
-      k.0,
-      (
-        k.1,
-        ap (λ (x : Cache). is_some (get_by_text x.dirs.map text)) k.0 ∙ (ap (λ t. is_some (get_by_text old.dirs.map t)) w.key
-            ∙ here_kept g old w.front w.rest w.name opened (ap (is_known g old) (sym w.split) ∙ all)),
-      ),
-    )
+  -- where all that is needed was kept, this directory is
+  pub way_known : (tree : Tree) (loads : List ℕ → load.Loaded) → Agrees (scene_of call.asked.now tree loads) old
+      → is_known (scene_of call.asked.now tree loads) old (components call.path.now) ≡ true
+      → (mid ≡ old) × ((between ≡ before) × (is_some (get_by_text mid.dirs.map text) ≡ true))
+  way_known tree loads a all =
+      let g = scene_of call.asked.now tree loads in
+      let k = w.visited.known tree loads a all in
+      let opened = in_open g mid w.front (subst (λ x. Agrees g x) (sym k.0) a) way_front_names (next_loaded mid w.front place w.next) in (
+        k.0,
+        (
+          k.1,
+          ap (λ (x : Cache). is_some (get_by_text x.dirs.map text)) k.0 ∙ (ap (λ t. is_some (get_by_text old.dirs.map t)) w.key
+              ∙ here_kept g old w.front w.rest w.name opened (ap (is_known g old) (sym w.split) ∙ all)),
+        ),
+      )
 
-pub visited_next : {F : Type 0} (files : Files F) (call : Call F) (old mid new : Cache) (before between after : List Problem)
-    (place : Option Place) (text : List ℕ) (k : Kept) → All IsName (components call.path.now)
-    → (w : OnWay files call old mid before between place text) → Visits files call mid new between after place text k
-    → Visited files call old new before after (ancestors (w.front ++ w.name ∷ []))
-visited_next files call old mid new before between after place text k clean w s =
-    let front = w.front in
-    let cleanf = way_front_names files call old mid before between place text clean w in
-    record {
-      grows = grows_then files call.files.now call.asked.now old mid new w.visited.grows s.grows;
-      kept = λ q cleanq.
-          s.kept (slashed q)
-          ∙ (ap (λ t. is_kept mid q || bytes_eq t (slashed q)) w.key
-          ∙ (ap (λ b. is_kept mid q || b) (same_key front q cleanf cleanq)
-          ∙ (ap (λ b. b || pointwise bytes_eq q front) (w.visited.kept q cleanq)
-          ∙ (sym (or_assoc (is_kept old q) (is_among (ancestors front) q) (pointwise bytes_eq q front))
-          ∙ ap (λ b. is_kept old q || b) (sym (among-more front q w.name))))));
-      problems = λ tree loads honest are there a.
-          let g = scene_of call.asked.now tree loads in
-          let am = w.visited.grows.agrees tree loads honest are there a in
-          let same : is_kept mid front ≡ is_kept old front =
-          w.visited.kept front cleanf ∙ (ap (λ b. is_kept old front || b) (not_own front) ∙ or_false (is_kept old front)) in
-          let first = option_to_list (new_above g old) in
-          s.problems tree loads honest are front am cleanf w.key w.next
-          ∙ (ap (λ b. between ++ cond (b || is_ignored g front) [] (option_to_list (problem_in g front))) same
-          ∙ (ap (λ (l : List Problem). l ++ problems_at g old front) (w.visited.problems tree loads honest are there a)
-          ∙ (append_assoc before (first ++ gathered g old (ancestors front)) (problems_at g old front)
-          ∙ ap (λ (l : List Problem). before ++ l) (append_assoc first (gathered g old (ancestors front)) (problems_at g old front)
-          ∙ ap (λ (l : List Problem). first ++ l) (sym (gathered-more g old (ancestors front) front)
-          ∙ ap (gathered g old) (sym (ancestors-more front w.name)))))));
-      known = λ tree loads a all.
-          let k = way_known files call old mid before between place text clean w tree loads a all in
-          let e = s.known k.1.1 in
-          (e.0 ∙ k.0, e.1 ∙ k.1.0);
-      soft = λ h. s.soft (w.visited.soft h);
-    }
+module _ {F : Type 0} (files : Files F) (call : Call F) (old mid new : Cache) (before between after : List Problem) (place : Option Place)
+    (text : List ℕ) (k : Kept) (clean : All IsName (components call.path.now)) (w : OnWay files call old mid before between place text)
+    (s : Visits files call mid new between after place text k) where
+  cleanf : All IsName w.front
+  cleanf = way_front_names files call old mid before between place text clean w
 
--- The end of the way.
+  pub visited_next : Visited files call old new before after (ancestors (w.front ++ w.name ∷ []))
+  visited_next = record {
+    grows = grows_then files call.files.now call.asked.now old mid new w.visited.grows s.grows;
+    kept = λ q cleanq.
+        s.kept (slashed q)
+        ∙ (ap (λ t. is_kept mid q || bytes_eq t (slashed q)) w.key
+        ∙ (ap (λ b. is_kept mid q || b) (same_key w.front q cleanf cleanq)
+        ∙ (ap (λ b. b || pointwise bytes_eq q w.front) (w.visited.kept q cleanq)
+        ∙ (sym (or_assoc (is_kept old q) (is_among (ancestors w.front) q) (pointwise bytes_eq q w.front))
+        ∙ ap (λ b. is_kept old q || b) (sym (among-more w.front q w.name))))));
+    problems = λ tree loads honest are there a.
+        let g = scene_of call.asked.now tree loads in
+        let front = w.front in
+        let am = w.visited.grows.agrees tree loads honest are there a in
+        let same : is_kept mid front ≡ is_kept old front =
+        w.visited.kept front cleanf ∙ (ap (λ b. is_kept old front || b) (not_own front) ∙ or_false (is_kept old front)) in
+        let first = option_to_list (new_above g old) in
+        s.problems tree loads honest are front am cleanf w.key w.next
+        ∙ (ap (λ b. between ++ cond (b || is_ignored g front) [] (option_to_list (problem_in g front))) same
+        ∙ (ap (λ (l : List Problem). l ++ problems_at g old front) (w.visited.problems tree loads honest are there a)
+        ∙ (append_assoc before (first ++ gathered g old (ancestors front)) (problems_at g old front)
+        ∙ ap (λ (l : List Problem). before ++ l) (append_assoc first (gathered g old (ancestors front)) (problems_at g old front)
+        ∙ ap (λ (l : List Problem). first ++ l) (sym (gathered-more g old (ancestors front) front)
+        ∙ ap (gathered g old) (sym (ancestors-more front w.name)))))));
+    known = λ tree loads a all.
+        let k = way_known files call old mid before between place text clean w tree loads a all in
+        let e = s.known k.1.1 in
+        (e.0 ∙ k.0, e.1 ∙ k.1.0);
+    soft = λ h. s.soft (w.visited.soft h);
+  }
 
-visited_at : {F : Type 0} (files : Files F) (call : Call F) (old mid new : Cache) (before between after : List Problem)
-    (place : Option Place) (text : List ℕ) (k : Kept) (w : OnWay files call old mid before between place text)
-    → Visits files call mid new between after place text k → kept_at new w.front ≡ Some k
-visited_at files call old mid new before between after place text k w s = ap (λ t. get_by_text new.dirs.map t) (sym w.key) ∙ s.found
+  -- The end of the way.
 
--- where the way ends at this directory, all that the answer needs is kept, and no more
-pub way_needed : {F : Type 0} (files : Files F) (call : Call F) (old mid new : Cache) (before between after : List Problem)
-    (place : Option Place) (text : List ℕ) (k : Kept) → All IsName (components call.path.now)
-    → (w : OnWay files call old mid before between place text) → Visits files call mid new between after place text k
-    → ((g : QueryScene) → Agrees g new → EndsWay g w.front w.rest)
-    → InCall files call (λ g. is_dir_there (g.tree.stat g.root true) ≡ true → Agrees g old
-    → KeepsNeeded (needed g (components call.path.now)) old new)
-way_needed files call old mid new before between after place text k clean w s end tree loads honest are there a =
-    let g = scene_of call.asked.now tree loads in
-    let v = visited_next files call old mid new before between after place text k clean w s in
-    let an = v.grows.agrees tree loads honest are there a in
-    let cleanf = way_front_names files call old mid before between place text clean w in
-    let here = visited_at files call old mid new before between after place text k w s in
-    let opened = in_open g new w.front an cleanf (an.inside w.front k cleanf here) in
-    record {
-      above = an.first w.front k here;
-      dirs = λ q cleanq.
-          v.kept q cleanq
-          ∙ ap (λ l. is_kept old q || is_among l q) (sym (ap (needed g) w.split ∙ needed_seen g w.front w.rest w.name opened (end g an)));
-    }
+  visited_at : kept_at new w.front ≡ Some k
+  visited_at = ap (λ t. get_by_text new.dirs.map t) (sym w.key) ∙ s.found
 
--- and these problems were met
-pub way_problems : {F : Type 0} (files : Files F) (call : Call F) (old mid new : Cache) (before between after : List Problem)
-    (place : Option Place) (text : List ℕ) (k : Kept) → All IsName (components call.path.now)
-    → (w : OnWay files call old mid before between place text) → Visits files call mid new between after place text k
-    → ((g : QueryScene) → Agrees g new → EndsWay g w.front w.rest)
-    → InCall files call (λ g. is_dir_there (g.tree.stat g.root true) ≡ true → Agrees g old
-    → after ≡ before ++ (option_to_list (new_above g old) ++ filter_map (λ p. p) (new_below g old (components call.path.now))))
-way_problems files call old mid new before between after place text k clean w s end tree loads honest are there a =
-    let g = scene_of call.asked.now tree loads in
-    let v = visited_next files call old mid new before between after place text k clean w s in
-    let an = v.grows.agrees tree loads honest are there a in
-    let cleanf = way_front_names files call old mid before between place text clean w in
-    let here = visited_at files call old mid new before between after place text k w s in
-    let opened = in_open g new w.front an cleanf (an.inside w.front k cleanf here) in
-    v.problems tree loads honest are there a
-    ∙ ap (λ (l : List Problem). before ++ (option_to_list (new_above g old) ++ l))
-    (sym (ap (λ l. filter_map (λ p. p) (new_below g old l)) w.split ∙ below_seen g old w.front w.rest w.name opened (end g an)))
+  opened_at : (g : QueryScene) → Agrees g new → list_any (is_ignored g) (ancestors w.front) ≡ false
+  opened_at g an = in_open g new w.front an cleanf (an.inside w.front k cleanf visited_at)
+
+  -- where the way ends at this directory, all that the answer needs is kept, and no more
+  pub way_needed : ((g : QueryScene) → Agrees g new → EndsWay g w.front w.rest)
+      → InCall files call (λ g. is_dir_there (g.tree.stat g.root true) ≡ true → Agrees g old
+      → KeepsNeeded (needed g (components call.path.now)) old new)
+  way_needed end tree loads honest are there a =
+      let g = scene_of call.asked.now tree loads in
+      let an = visited_next.grows.agrees tree loads honest are there a in
+      record {
+        above = an.first w.front k visited_at;
+        dirs = λ q cleanq.
+            visited_next.kept q cleanq
+            ∙ ap (λ l. is_kept old q || is_among l q) (sym (ap (needed g) w.split ∙ needed_seen g w.front w.rest w.name (opened_at g an) (end g an)));
+      }
+
+  -- and these problems were met
+  pub way_problems : ((g : QueryScene) → Agrees g new → EndsWay g w.front w.rest)
+      → InCall files call (λ g. is_dir_there (g.tree.stat g.root true) ≡ true → Agrees g old
+      → after ≡ before ++ (option_to_list (new_above g old) ++ filter_map (λ p. p) (new_below g old (components call.path.now))))
+  way_problems end tree loads honest are there a =
+      let g = scene_of call.asked.now tree loads in
+      let an = visited_next.grows.agrees tree loads honest are there a in
+      visited_next.problems tree loads honest are there a
+      ∙ ap (λ (l : List Problem). before ++ (option_to_list (new_above g old) ++ l))
+      (sym (ap (λ l. filter_map (λ p. p) (new_below g old l)) w.split ∙ below_seen g old w.front w.rest w.name (opened_at g an) (end g an)))
 
 pub ends_shut : (c : Cache) (front rest : List (List ℕ)) → All IsName front → kept_at c front ≡ Some Ignored → (g : QueryScene) → Agrees g c
     → EndsWay g front rest
@@ -423,7 +403,7 @@ pub way_next : {F : Type 0} (files : Files F) (call : Call F) (old mid new : Cac
     → next_on w.front w.name w.rest ≡ Some key → OnWay files call old new before after found key
 way_next files call old mid new before between after place text key found clean w s is =
     let n = next_some w.front w.rest w.name key is in
-    let here = visited_at files call old mid new before between after place text (Loaded found) w s in
+    let here = visited_at files call old mid new before between after place text (Loaded found) clean w s in
     record {
       front = w.front ++ w.name ∷ [];
       name = n.0;

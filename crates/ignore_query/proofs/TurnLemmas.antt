@@ -160,9 +160,7 @@ left_next files f a paths i p q first old new lt at is left goes = record {
 
 one_more : {A B V : Type 0} (f : A → V) (h : B → V) (xs xs' : List A) (ys : List B) (x : A) (y : B) → xs' ≡ xs ++ x ∷ []
     → map f xs ≡ map h ys → f x ≡ h y → map f xs' ≡ map h (ys ++ y ∷ [])
-one_more f h xs xs' ys x y e all one =
-    ap (map f) e ∙ (map-append f xs (x ∷ []) ∙ (ap (λ l. l ++ f x ∷ []) all ∙ (ap (λ v. map h ys ++ v ∷ []) one
-    ∙ sym (map-append h ys (y ∷ [])))))
+one_more f h xs xs' ys x y e all one = rw (e, map-append f xs (x ∷ []), all, one) (sym (map-append h ys (y ∷ [])))
 
 turn_next : (g : QueryScene) (qs : List Question) (ps : List (Option Problem)) (old c c' : Cache) (q : Question)
     → ReportInTurn g qs ps old c → Leaves g q c c' → ReportInTurn g (qs ++ q ∷ []) (ps ++ reported g c q.0 q.1 ∷ []) old c'

@@ -59,9 +59,7 @@ or_true true = refl
 or_true false = refl
 
 pub ignored_problems : (g : QueryScene) (c : Cache) (front : List (List ℕ)) → is_ignored g front ≡ true → problems_at g c front ≡ []
-ignored_problems g c front h =
-    ap (λ b. cond (is_some (kept_at c front) || b) [] (option_to_list (problem_in g front))) h
-    ∙ ap (λ b. cond b [] (option_to_list (problem_in g front))) (or_true (is_some (kept_at c front)))
+ignored_problems g c front h = rw (h, or_true)
 
 -- A directory that isn't ignored adds its own problems.
 
