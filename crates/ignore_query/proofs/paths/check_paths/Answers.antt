@@ -1,6 +1,5 @@
 use Rattle.std.proofs.Common.{List, rules, refl, ◌∙◌, subst}
 use Rattle.std.proofs.lemmas.List.{take_all}
-use Rattle.ignore_query.proofs.QueryLemmas.{passed_on}
 use Rattle.ignore_query.proofs.TurnLemmas.{Entry, Turns, itself, left_then, match_to, turns_none, turns_then}
 use Rattle.ignore_query.proofs.paths.check_paths.Goals as goal
 
@@ -34,7 +33,7 @@ returns-in_err-answer g c =
     record {
       value = search rules;
       reports = search rules;
-      from_kept = λ tree loads h all. (l.known tree loads h all, passed_on _ _ c.from_residual.result c.from_residual.ensures.1);
+      from_kept = λ tree loads h all. (l.known tree loads h all, search rules);
       agrees = l.agrees;
       stays = l.stays;
       loaded = l.loaded;
@@ -52,7 +51,7 @@ returns-in_err-push g c =
     record {
       value = search rules;
       reports = search rules;
-      from_kept = λ tree loads h all. (l.known tree loads h all, passed_on _ _ c.from_residual-in_err-push.result c.from_residual-in_err-push.ensures.1);
+      from_kept = λ tree loads h all. (l.known tree loads h all, search rules);
       agrees = l.agrees;
       stays = l.stays;
       loaded = l.loaded;

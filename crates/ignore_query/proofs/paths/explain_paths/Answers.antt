@@ -1,7 +1,6 @@
 use Rattle.std.proofs.Common.{List, rules, refl, ◌∙◌, subst}
 use Rattle.std.proofs.lemmas.List.{take_all}
 use Rattle.ignore_query.specs.Reached.{scene_of}
-use Rattle.ignore_query.proofs.QueryLemmas.{passed_on}
 use Rattle.ignore_query.proofs.TurnLemmas.{Entry, Turns, explained, explained_to, halves, left_then, pair, turns_none, turns_then}
 use Rattle.ignore_query.proofs.paths.explain_paths.Goals as goal
 
@@ -36,7 +35,7 @@ returns-in_err-explained g c =
       why = search rules;
       value = search rules;
       reports = search rules;
-      from_kept = λ tree loads h all. (l.known tree loads h all, passed_on _ _ c.from_residual.result c.from_residual.ensures.1);
+      from_kept = λ tree loads h all. (l.known tree loads h all, search rules);
       agrees = l.agrees;
       stays = l.stays;
       loaded = l.loaded;
@@ -55,7 +54,7 @@ returns-in_err-push g c =
       why = search rules;
       value = search rules;
       reports = search rules;
-      from_kept = λ tree loads h all. (l.known tree loads h all, passed_on _ _ c.from_residual-in_err-push.result c.from_residual-in_err-push.ensures.1);
+      from_kept = λ tree loads h all. (l.known tree loads h all, search rules);
       agrees = l.agrees;
       stays = l.stays;
       loaded = l.loaded;
