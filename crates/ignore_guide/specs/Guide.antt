@@ -1,12 +1,15 @@
 -- What a place of a guide stands for, and what becomes of an entry there.
-use Rattle.std.specs.Prelude.{◌≡◌, ◌≢◌, ℕ, ◌+◌, Bool, false, nat_lt, All, List, [], ◌∷◌, ◌++◌, length, reverse, Option, None, Some, if◌then◌else◌}
+use Rattle.std.specs.Prelude.{◌≡◌, ◌≢◌, ℕ, ◌+◌, Bool, false, nat_lt, All, List, [], ◌∷◌, ◌++◌, length, reverse, Option, None, Some, Result, Ok, Err, if◌then◌else◌}
 use Rattle.ignore_base.specs.Text.{Bytes, Path}
 use Rattle.ignore_base.specs.Problem.{Problem}
+use Rattle.ignore_base.specs.declared.match_result.Match.{Match}
+use Rattle.ignore_base.specs.declared.fault.Fault.{Fault}
 use Rattle.ignore_files.specs.Gives.{IsHonest}
 use Rattle.ignore_files.specs.Tree.{Tree}
 use Rattle.ignore_files.specs.declared.files.Files.{Ghosts as Files}
+use Rattle.ignore_files.specs.declared.types.Metadata.{Metadata}
 use Rattle.ignore_dir.specs.AboveBy.{IsAboveBy}
-use Rattle.ignore_dir.specs.Limits.{beyond, is_beyond, limited, size_limit}
+use Rattle.ignore_dir.specs.Limits.{beyond, is_beyond, limited, no_match, size_limit}
 use Rattle.ignore_dir.specs.Lists.{IsAfterSlash, Placed}
 use Rattle.ignore_dir.specs.Load.{AreLoads, Loaded, joined_some}
 use Rattle.ignore_dir.specs.LoadsBy.{LoadsBy, reads_of, stats_of}
@@ -17,12 +20,15 @@ use Rattle.ignore_dir.specs.declared.outside.Outside.{Outside}
 use Rattle.ignore_dir.specs.declared.settings.Settings.{Settings}
 use Rattle.ignore_dir.specs.declared.verdict.Verdict.{Verdict}
 use Rattle.ignore_dir.specs.declared.verdict.Verdict.TheVariants as v
+use Rattle.ignore_levels.specs.Reasons.{Why, placed_why}
 use Rattle.ignore_levels.specs.Levels.{IsChain, Passes, counting, level_at, slots_of}
 use Rattle.ignore_levels.specs.declared.list.Level.{Level}
 use Rattle.ignore_levels.specs.declared.list.Place.{Place as LevelPlace}
 use Rattle.ignore_levels.specs.declared.list.Slot.{Slot}
+use Rattle.ignore_guide.specs.Names.{is_name}
 use Rattle.ignore_guide.specs.Places.{entered_at}
 use Rattle.ignore_guide.specs.declared.guide.Guide.{Guide}
+use Rattle.ignore_guide.specs.declared.judge.Entry.{Entry}
 use Rattle.ignore_guide.specs.declared.places.Entered.{Entered}
 use Rattle.ignore_guide.specs.declared.places.Place.{Place}
 
@@ -74,6 +80,11 @@ is_over None size = false
 is_over (Some most) None = false
 is_over (Some most) (Some size) = nat_lt most size
 
+-- the size by this metadata, if it is known
+abbrev pub len_of : Result Metadata Fault → Option ℕ
+len_of (Ok m) = Some m.len
+len_of (Err fault) = None
+
 -- the verdict, and ignore for what is larger than the limit
 abbrev pub within : Settings → Bool → Option ℕ → Verdict → Verdict
 within s is_dir size verdict = if is_over (size_limit s is_dir verdict) size then v.Ignore else verdict
@@ -84,6 +95,14 @@ abbrev pub decided : Settings → Outside → ℕ → Reached → Bytes → Bool
 decided s o depth at name is_dir size =
     if is_beyond s depth is_dir then beyond
     else limited s depth is_dir (within s is_dir size (verdict_at s o (entry at name) is_dir))
+
+-- the same of an entry as it is listed: nothing decides on what has no name
+abbrev pub decided_listed : Settings → Outside → ℕ → Reached → Entry → IncrementalMatch
+decided_listed s o depth at e = if is_name e.name.now then decided s o depth at e.name.now e.is_dir e.size else no_match false
+
+-- what decides on what is reached
+abbrev pub why_at : Settings → Outside → Reached → Bool → Match Why
+why_at s o at is_dir = placed_why s o at.chain at.text at.path is_dir
 
 -- the levels from one on, up to another that stays
 pub data Owns (slots : List Slot) (floor : Option LevelPlace) : Option LevelPlace → LevelPlace → Type 0 where

@@ -1,5 +1,5 @@
 -- When a guide does nothing.
-use Rattle.std.specs.Prelude.{◌≡◌, Bool, true, false, not, ◌&&◌, None}
+use Rattle.std.specs.Prelude.{◌≡◌, Bool, true, false, not, ◌&&◌, None, codes}
 use Rattle.ignore_base.specs.Paths.{has_slash, is_proper}
 use Rattle.ignore_base.specs.Text.{Bytes}
 use Rattle.ignore_guide.specs.Places.{entered_at, has_children_at}
@@ -20,9 +20,23 @@ IsRefused places place name error.NoPlace = entered_at places place ≡ None
 IsRefused places place name error.NoName = is_name name ≡ false
 IsRefused places place name error.HasChildren = ⊥
 
+-- why a call for what is listed at a place did nothing, but for memory: the place is none
+abbrev pub IsNoPlace : Places → Place → GuideError → Type 0
+IsNoPlace places place error.Memory = Unit {0}
+IsNoPlace places place error.NoPlace = entered_at places place ≡ None
+IsNoPlace places place error.NoName = ⊥
+IsNoPlace places place error.HasChildren = ⊥
+
 -- why a directory wasn't left: the place is none, or a directory in it was entered and not left
 abbrev pub IsNotLeft : Places → Place → GuideError → Type 0
 IsNotLeft places place error.Memory = ⊥
 IsNotLeft places place error.NoPlace = entered_at places place ≡ None
 IsNotLeft places place error.NoName = ⊥
 IsNotLeft places place error.HasChildren = has_children_at places place ≡ true
+
+-- the text of each
+abbrev pub error_text : GuideError → Bytes
+error_text error.Memory = codes "out of memory"
+error_text error.NoPlace = codes "no such place"
+error_text error.NoName = codes "not a name"
+error_text error.HasChildren = codes "directories in it were not left"

@@ -1,7 +1,6 @@
 //! Why a guide does nothing.
-ghost use Rattle.std.specs.Prelude.{◌≡◌};
-
 use std::alloc::AllocError;
+use std::{error, fmt};
 
 /// Why a guide does nothing.
 #[derive(Clone, Copy, Debug, PartialEq, Eq)]
@@ -15,6 +14,24 @@ pub enum GuideError {
     /// A directory below the place was entered, and not left.
     HasChildren,
 }
+
+impl fmt::Display for GuideError {
+    ghost use Rattle.std.specs.Prelude.{Some};
+    ghost use Rattle.ignore_guide.specs.Names.{error_text};
+
+    ghost output = { λ e. Some (error_text e) };
+
+    fn fmt<W: fmt::Write>(&self, f: &mut fmt::Formatter<W>) -> fmt::Result {
+        match self {
+            GuideError::Memory => write!(f, "out of memory"),
+            GuideError::NoPlace => write!(f, "no such place"),
+            GuideError::NoName => write!(f, "not a name"),
+            GuideError::HasChildren => write!(f, "directories in it were not left"),
+        }
+    }
+}
+
+impl error::Error for GuideError {}
 
 impl From<AllocError> for GuideError {
     ghost use Rattle.std.specs.Prelude.{◌≡◌};

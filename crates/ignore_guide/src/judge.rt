@@ -1,11 +1,13 @@
 //! What becomes of an entry of a directory that was entered.
-ghost use Rattle.std.specs.Prelude.{◌≡◌, ◌++◌, ℕ, Bool, IfOk, IfErr, false, string_bytes};
+ghost use Rattle.std.specs.Prelude.{◌≡◌, ◌++◌, ℕ, Bool, IfOk, IfErr, false, map, string_bytes};
 ghost use Rattle.ignore_base.specs.Paths.{join_of};
 ghost use Rattle.ignore_dir.specs.Limits.{size_limit};
 ghost use Rattle.ignore_dir.specs.Steps.{Reached, entry, verdict_at};
-ghost use Rattle.ignore_guide.specs.Guide.{Stands, StandsFor, decided, is_over, within};
-ghost use Rattle.ignore_guide.specs.Names.{IsRefused, is_name};
+ghost use Rattle.ignore_guide.specs.Guide.{Stands, StandsFor, decided, decided_listed, is_over, why_at, within};
+ghost use Rattle.ignore_guide.specs.Names.{IsNoPlace, IsRefused, is_name};
+ghost use Rattle.ignore_base.specs.Match.{match_map};
 ghost use Rattle.ignore_levels.specs.Levels.{slots_of};
+ghost use Rattle.ignore_levels.specs.Reasons.{why_of};
 
 use crate::error::GuideError;
 use crate::guide::Guide;
@@ -16,7 +18,8 @@ use ignore_dir::limits::{is_beyond, size_limit};
 use ignore_dir::verdict::Verdict;
 use ignore_dir::{Asked, IncrementalMatch, Settings};
 use ignore_levels::laws::what_counts_decides;
-use ignore_levels::verdict;
+use ignore_base::Match;
+use ignore_levels::{Reason, judge, verdict};
 use std::alloc::{AllocError, Global};
 
 /// An entry of a directory, as its host knows it.
@@ -108,6 +111,34 @@ impl Guide {
         Ok(IncrementalMatch::limited(&self.settings, dir.depth, asked.is_dir, found))
     }
 
+    /// What becomes of an entry as it is listed, where nothing decides on what has no name: `.`, say.
+    fn decide_listed(&self, dir: &Entered, asked: &Entry<'_>) -> Result<IncrementalMatch, AllocError>
+        ensures value { (at : Reached) → Stands (slots_of self.now.levels) dir.now at
+            → IfOk result (λ m. m ≡ decided_listed self.now.settings self.now.outside dir.now.depth at asked.now) }
+    {
+        if !is_name(asked.name) {
+            return Ok(IncrementalMatch::no_match(false));
+        }
+        self.decide_in(dir, asked)
+    }
+
+    /// What becomes of each of some entries as they are listed.
+    fn decide_all_in(
+        &self,
+        dir: &Entered,
+        listed: &[Entry<'_>],
+    ) -> Result<Vec<IncrementalMatch>, AllocError>
+        ensures value { (at : Reached) → Stands (slots_of self.now.levels) dir.now at
+            → IfOk result (λ all. all.items ≡ map (decided_listed self.now.settings self.now.outside dir.now.depth at) listed.now) }
+    {
+        let mut all = Vec::with_capacity(self.alloc, listed.len())?;
+        for asked in listed {
+            let found = self.decide_listed(dir, asked)?;
+            all.push(found)?;
+        }
+        Ok(all)
+    }
+
     /// What becomes of an entry of the directory at a place: its verdict, whether a walk goes on
     /// below it, and whether it is within the limits on depth. It doesn't depend on what was asked
     /// before, and nothing is kept of it.
@@ -126,5 +157,71 @@ impl Guide {
             return Err(GuideError::NoName);
         }
         Ok(self.decide_in(dir, asked)?)
+    }
+
+    /// What becomes of each of some entries of the directory at a place, in their order, as `decide`
+    /// says; on what has no name, as `.`, nothing decides, and a walk doesn't go on below it.
+    ///
+    /// # Errors
+    /// Out of memory, and a place that is none.
+    pub fn decide_all(
+        &self,
+        place: Place,
+        listed: &[Entry<'_>],
+    ) -> Result<Vec<IncrementalMatch>, GuideError>
+        ensures value { (depth : ℕ) (at : Reached) → StandsFor self.now place depth at
+            → IfOk result (λ all. all.items ≡ map (decided_listed self.now.settings self.now.outside depth at) listed.now) }
+        ensures refused { IfErr result (λ e. IsNoPlace self.now.places place e) }
+    {
+        let Some(dir) = self.places.get(place) else {
+            return Err(GuideError::NoPlace);
+        };
+        Ok(self.decide_all_in(dir, listed)?)
+    }
+
+    /// What decides on an entry of a directory.
+    fn why_in(
+        &self,
+        dir: &Entered,
+        name: &str,
+        is_dir: bool,
+    ) -> Result<Match<Reason<'_>>, AllocError>
+        ensures value { (at : Reached) → Stands (slots_of self.now.levels) dir.now at
+            → IfOk result (λ m. match_map (why_of (entry at name.now).text) m ≡ why_at self.now.settings self.now.outside (entry at name.now) is_dir) }
+    {
+        what_counts_decides();
+        let text = followed_by(self.alloc, dir.text.as_str(), name)?;
+        let path = join(self.alloc, dir.path.as_str(), name)?;
+        let asked = Asked {
+            text: text.as_str(),
+            path: path.as_str(),
+            is_dir,
+        };
+        judge(&self.settings, &self.outside, &self.levels, dir.level, &asked)
+    }
+
+    /// What decides on an entry of the directory at a place, and whether it ignores or whitelists it,
+    /// whatever its depth and its size are. A rule of a directory comes with the offset of what it was
+    /// asked about in the directory's text with the name after it.
+    ///
+    /// # Errors
+    /// Out of memory, a place that is none, and a name that is none.
+    pub fn why(
+        &self,
+        place: Place,
+        name: &str,
+        is_dir: bool,
+    ) -> Result<Match<Reason<'_>>, GuideError>
+        ensures value { (depth : ℕ) (at : Reached) → StandsFor self.now place depth at
+            → IfOk result (λ m. match_map (why_of (entry at name.now).text) m ≡ why_at self.now.settings self.now.outside (entry at name.now) is_dir) }
+        ensures refused { IfErr result (λ e. IsRefused self.now.places place name.now e) }
+    {
+        let Some(dir) = self.places.get(place) else {
+            return Err(GuideError::NoPlace);
+        };
+        if !is_name(name) {
+            return Err(GuideError::NoName);
+        }
+        Ok(self.why_in(dir, name, is_dir)?)
     }
 }

@@ -5,11 +5,18 @@
 mod error;
 mod free;
 mod guide;
+mod hosted;
 mod judge;
+pub mod laws;
+mod missing;
 mod open;
 mod places;
+mod told;
 
 pub use error::GuideError;
 pub use guide::{Arrived, Guide};
+pub use hosted::{Call, Given, Step, Waiting};
 pub use judge::Entry;
+pub use missing::{Question, Wanted};
 pub use places::{Entered, Held, Place, Places, Spot};
+pub use told::Told;
