@@ -40,7 +40,13 @@ fn once_for_each_file_that_is_listed(rt: HostRuntime) -> anyhow::Result<()> {
     let tree = tree(rt.alloc())?;
     let mut guide = guide(rt.alloc());
     let (root, _) = root_of(&tree, rt.alloc(), &mut guide)?;
-    let (src, asked) = folder_of(&tree, rt.alloc(), &mut guide, root, Some(&[".gitignore", "a.c"]))?;
+    let (src, asked) = folder_of(
+        &tree,
+        rt.alloc(),
+        &mut guide,
+        root,
+        Some(&[".gitignore", "a.c"]),
+    )?;
     assert_eq!(rt; asked, 1);
     assert_eq!(rt; is_ignored(&guide, src, "keep.o", false), Some(false));
     Ok(())

@@ -11,9 +11,15 @@ fn left(guide: &mut Guide, place: Place) -> Option<GuideError> {
 fn a_directory_is_left_after_those_in_it(rt: HostRuntime) -> anyhow::Result<()> {
     let tree = tree(rt.alloc())?;
     let mut stood = stood(rt.alloc(), &tree)?;
-    assert_eq!(rt; left(&mut stood.guide, stood.root), Some(GuideError::HasChildren));
+    assert_eq!(rt;
+        left(&mut stood.guide, stood.root),
+        Some(GuideError::HasChildren)
+    );
     assert_eq!(rt; left(&mut stood.guide, stood.src), None);
-    assert_eq!(rt; is_ignored(&stood.guide, stood.root, "a.o", false), Some(true));
+    assert_eq!(rt;
+        is_ignored(&stood.guide, stood.root, "a.o", false),
+        Some(true)
+    );
     assert_eq!(rt; left(&mut stood.guide, stood.root), None);
     Ok(())
 }
@@ -23,7 +29,10 @@ fn a_place_that_was_left_is_none(rt: HostRuntime) -> anyhow::Result<()> {
     let tree = tree(rt.alloc())?;
     let mut stood = stood(rt.alloc(), &tree)?;
     assert_eq!(rt; left(&mut stood.guide, stood.src), None);
-    assert_eq!(rt; left(&mut stood.guide, stood.src), Some(GuideError::NoPlace));
+    assert_eq!(rt;
+        left(&mut stood.guide, stood.src),
+        Some(GuideError::NoPlace)
+    );
     assert_eq!(rt; is_ignored(&stood.guide, stood.src, "a.c", false), None);
     Ok(())
 }

@@ -23,7 +23,10 @@ fn dirs(alloc: Global) -> anyhow::Result<MemoryTree> {
 /// A repository with a rule, and a folder with others.
 pub(crate) fn tree(alloc: Global) -> anyhow::Result<MemoryTree> {
     let mut tree = dirs(alloc)?;
-    for (path, rules) in [("/t/.gitignore", "*.o\n"), ("/t/src/.gitignore", "!keep.o\nlogs/\n")] {
+    for (path, rules) in [
+        ("/t/.gitignore", "*.o\n"),
+        ("/t/src/.gitignore", "!keep.o\nlogs/\n"),
+    ] {
         tree.add_file(path, rules.as_bytes())?;
     }
     Ok(tree)
@@ -58,9 +61,18 @@ pub(crate) fn is_ignored(guide: &Guide, place: Place, name: &str, is_dir: bool) 
 fn the_rules_of_a_root_count_in_its_folders(rt: HostRuntime) -> anyhow::Result<()> {
     let tree = tree(rt.alloc())?;
     let stood = stood(rt.alloc(), &tree)?;
-    assert_eq!(rt; is_ignored(&stood.guide, stood.root, "a.o", false), Some(true));
-    assert_eq!(rt; is_ignored(&stood.guide, stood.src, "a.o", false), Some(true));
-    assert_eq!(rt; is_ignored(&stood.guide, stood.src, "a.c", false), Some(false));
+    assert_eq!(rt;
+        is_ignored(&stood.guide, stood.root, "a.o", false),
+        Some(true)
+    );
+    assert_eq!(rt;
+        is_ignored(&stood.guide, stood.src, "a.o", false),
+        Some(true)
+    );
+    assert_eq!(rt;
+        is_ignored(&stood.guide, stood.src, "a.c", false),
+        Some(false)
+    );
     Ok(())
 }
 
@@ -68,10 +80,22 @@ fn the_rules_of_a_root_count_in_its_folders(rt: HostRuntime) -> anyhow::Result<(
 fn the_rules_of_a_folder_count_there(rt: HostRuntime) -> anyhow::Result<()> {
     let tree = tree(rt.alloc())?;
     let stood = stood(rt.alloc(), &tree)?;
-    assert_eq!(rt; is_ignored(&stood.guide, stood.root, "keep.o", false), Some(true));
-    assert_eq!(rt; is_ignored(&stood.guide, stood.src, "keep.o", false), Some(false));
-    assert_eq!(rt; is_ignored(&stood.guide, stood.src, "logs", true), Some(true));
-    assert_eq!(rt; is_ignored(&stood.guide, stood.src, "logs", false), Some(false));
+    assert_eq!(rt;
+        is_ignored(&stood.guide, stood.root, "keep.o", false),
+        Some(true)
+    );
+    assert_eq!(rt;
+        is_ignored(&stood.guide, stood.src, "keep.o", false),
+        Some(false)
+    );
+    assert_eq!(rt;
+        is_ignored(&stood.guide, stood.src, "logs", true),
+        Some(true)
+    );
+    assert_eq!(rt;
+        is_ignored(&stood.guide, stood.src, "logs", false),
+        Some(false)
+    );
     Ok(())
 }
 

@@ -1,7 +1,7 @@
 //! A host that tells what a tree in memory has.
+use ignore_base::Fault;
 use ignore_files::internal::answered;
 use ignore_files::{Contents, FileType, Files, MemoryTree, Name};
-use ignore_base::Fault;
 use ignore_guide::{Given, Guide, Place, Step, Waiting};
 use std::alloc::Global;
 
@@ -42,7 +42,12 @@ fn text_of(path: &Result<Name, Fault>) -> Result<&str, Fault> {
 }
 
 /// Tells what the tree has at the path that is asked about.
-fn told(tree: &MemoryTree, alloc: Global, guide: &mut Guide, waiting: Waiting) -> anyhow::Result<Step> {
+fn told(
+    tree: &MemoryTree,
+    alloc: Global,
+    guide: &mut Guide,
+    waiting: Waiting,
+) -> anyhow::Result<Step> {
     let found = found(alloc, tree, waiting.question.path.as_str())?;
     let given = Given {
         kind: found.kind,

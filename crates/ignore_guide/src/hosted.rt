@@ -249,10 +249,7 @@ fn read_answer(
 }
 
 /// A canonical path.
-fn path_answer(
-    alloc: Global,
-    path: Result<&str, Fault>,
-) -> Result<Result<Name, Fault>, AllocError>
+fn path_answer(alloc: Global, path: Result<&str, Fault>) -> Result<Result<Name, Fault>, AllocError>
     ensures { IfOk result (λ answer. answer ≡ path_answer path.entry) }
 {
     match path {
@@ -297,9 +294,7 @@ fn take_down(
     ensures { OnOk result (IsToldOf question.now given.now told.old told.new) }
 {
     match question.wanted {
-        Wanted::Kind => {
-            told.add_kind(copy_of(alloc, &question.path)?, kind_answer(given.kind))
-        }
+        Wanted::Kind => { told.add_kind(copy_of(alloc, &question.path)?, kind_answer(given.kind)) }
         Wanted::File => take_file(alloc, told, &question.path, given),
         Wanted::Canonical => {
             let answer = path_answer(alloc, given.path)?;

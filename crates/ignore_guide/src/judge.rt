@@ -12,13 +12,13 @@ ghost use Rattle.ignore_levels.specs.Reasons.{why_of};
 use crate::error::GuideError;
 use crate::guide::Guide;
 use crate::places::{Entered, Place};
+use ignore_base::Match;
 use ignore_base::internal::join;
 use ignore_base::text::{has_slash, is_proper};
 use ignore_dir::limits::{is_beyond, size_limit};
 use ignore_dir::verdict::Verdict;
 use ignore_dir::{Asked, IncrementalMatch, Settings};
 use ignore_levels::laws::what_counts_decides;
-use ignore_base::Match;
 use ignore_levels::{Reason, judge, verdict};
 use std::alloc::{AllocError, Global};
 
@@ -49,6 +49,38 @@ pub(crate) fn followed_by(alloc: Global, text: &str, name: &str) -> Result<Strin
     whole.push_str(text)?;
     whole.push_str(name)?;
     Ok(whole)
+}
+
+/// The texts by which rules know an entry of a directory.
+#[derive(Drop)]
+struct Texts {
+    /// Its path as the directories around it see it.
+    text: String,
+    /// Its path.
+    path: String,
+}
+
+/// The texts of the name of a directory.
+fn texts_of(alloc: Global, dir: &Entered, name: &str) -> Result<Texts, AllocError>
+    ensures text { IfOk result (λ texts. string_bytes texts.text ≡ dir.now.text ++ name.now) }
+    ensures path { IfOk result (λ texts. string_bytes texts.path ≡ join_of dir.now.path name.now) }
+{
+    let text = followed_by(alloc, dir.text.as_str(), name)?;
+    let path = join(alloc, dir.path.as_str(), name)?;
+    Ok(Texts { text, path })
+}
+
+/// A question for what has these texts.
+fn asked_by(texts: &Texts, is_dir: bool) -> Asked<'_>
+    ensures text { result.text.now ≡ string_bytes texts.now.text }
+    ensures path { result.path.now ≡ string_bytes texts.now.path }
+    ensures is_dir { result.is_dir ≡ is_dir }
+{
+    Asked {
+        text: texts.text.as_str(),
+        path: texts.path.as_str(),
+        is_dir,
+    }
 }
 
 /// Whether a size is above a limit, where both are known.
@@ -82,20 +114,10 @@ impl Guide {
             → IfOk result (λ v. v ≡ verdict_at self.now.settings self.now.outside (entry at name.now) is_dir) }
     {
         what_counts_decides();
-        let text = followed_by(self.alloc, dir.text.as_str(), name)?;
-        let path = join(self.alloc, dir.path.as_str(), name)?;
-        let asked = Asked {
-            text: text.as_str(),
-            path: path.as_str(),
-            is_dir,
-        };
-        verdict(
-            &self.settings,
-            &self.outside,
-            &self.levels,
-            dir.level,
-            &asked,
-        )
+        let texts = texts_of(self.alloc, dir, name)?;
+        let asked = asked_by(&texts, is_dir);
+        let level = dir.level;
+        verdict(&self.settings, &self.outside, &self.levels, level, &asked)
     }
 
     /// What becomes of an entry of a directory.
@@ -112,7 +134,11 @@ impl Guide {
     }
 
     /// What becomes of an entry as it is listed, where nothing decides on what has no name: `.`, say.
-    fn decide_listed(&self, dir: &Entered, asked: &Entry<'_>) -> Result<IncrementalMatch, AllocError>
+    fn decide_listed(
+        &self,
+        dir: &Entered,
+        asked: &Entry<'_>,
+    ) -> Result<IncrementalMatch, AllocError>
         ensures value { (at : Reached) → Stands (slots_of self.now.levels) dir.now at
             → IfOk result (λ m. m ≡ decided_listed self.now.settings self.now.outside dir.now.depth at asked.now) }
     {
@@ -190,14 +216,10 @@ impl Guide {
             → IfOk result (λ m. match_map (why_of (entry at name.now).text) m ≡ why_at self.now.settings self.now.outside (entry at name.now) is_dir) }
     {
         what_counts_decides();
-        let text = followed_by(self.alloc, dir.text.as_str(), name)?;
-        let path = join(self.alloc, dir.path.as_str(), name)?;
-        let asked = Asked {
-            text: text.as_str(),
-            path: path.as_str(),
-            is_dir,
-        };
-        judge(&self.settings, &self.outside, &self.levels, dir.level, &asked)
+        let texts = texts_of(self.alloc, dir, name)?;
+        let asked = asked_by(&texts, is_dir);
+        let level = dir.level;
+        judge(&self.settings, &self.outside, &self.levels, level, &asked)
     }
 
     /// What decides on an entry of the directory at a place, and whether it ignores or whitelists it,

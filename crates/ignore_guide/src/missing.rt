@@ -161,11 +161,7 @@ pub(crate) struct By<'g> {
 }
 
 /// What is still to be asked before the directory at a path can be loaded.
-pub(crate) fn missing_in(
-    by: By<'_>,
-    told: &Told,
-    path: &str,
-) -> Result<Vec<Question>, AllocError> {
+pub(crate) fn missing_in(by: By<'_>, told: &Told, path: &str) -> Result<Vec<Question>, AllocError> {
     let search = Search {
         told,
         missing: RefCell::new(Vec::new(by.alloc)),
