@@ -1,28 +1,25 @@
 -- What the place of a directory stands for that was settled: below one that was entered, and at a
 -- root.
-use Rattle.std.proofs.Common.{◌≡◌, ℕ, ◌+◌, ◌<◌, List, [], ◌∷◌, ◌++◌, length, map, reverse, All, Option, None, Some, refl, sym, ap, ◌∙◌, subst}
+use Rattle.std.proofs.Common.{◌≡◌, ℕ, ◌+◌, List, [], ◌∷◌, ◌++◌, length, reverse, All, Option, Some, refl, sym, ap, ◌∙◌, subst}
 use Rattle.std.proofs.lemmas.List.Elements.{All-filter}
 use Rattle.ignore_base.specs.Paths.{join_of}
-use Rattle.ignore_base.specs.Problem.{Problem}
 use Rattle.ignore_dir.specs.Above.{dirs_above, names_above, paths_above}
-use Rattle.ignore_dir.specs.AboveBy.{IsAboveBy}
 use Rattle.ignore_dir.specs.Chains.{placed_along, slashed}
 use Rattle.ignore_dir.specs.Lists.{IsAfterSlash, Placed}
 use Rattle.ignore_dir.specs.Scene.{QueryScene}
 use Rattle.ignore_dir.specs.Steps.{Reached, entry, reached_in}
 use Rattle.ignore_dir.specs.declared.dir.Dir.{Dir}
 use Rattle.ignore_dir.proofs.SlashLemmas.{after_slash-end, placed-longer}
-use Rattle.ignore_files.specs.declared.files.Files.{Ghosts as Files}
-use Rattle.ignore_levels.specs.Levels.{IsBelow, IsChain, IsRising, counting, counts, slots_of}
+use Rattle.ignore_levels.specs.Levels.{IsBelow, IsChain, counting, counts, slots_of}
 use Rattle.ignore_levels.specs.declared.list.Place.{Place as LevelPlace}
 use Rattle.ignore_levels.specs.declared.list.Slot.{Slot}
 use Rattle.ignore_levels.proofs.RisingLemmas.{turned}
-use Rattle.ignore_guide.specs.Guide.{KeepsPlaces, StandsFor, holding, root_reached}
+use Rattle.ignore_guide.specs.Guide.{StandsFor, holding, root_reached}
 use Rattle.ignore_guide.specs.Places.{entered_at}
 use Rattle.ignore_guide.specs.declared.guide.Guide.{Guide}
 use Rattle.ignore_guide.specs.declared.places.Entered.{Entered}
 use Rattle.ignore_guide.specs.declared.places.Place.{Place}
-use Rattle.ignore_guide.proofs.StandLemmas.{All-reverse, below-longer, places-kept}
+use Rattle.ignore_guide.proofs.StandLemmas.{All-reverse, below-longer}
 
 -- what a directory that was settled stands for, below any chain of what is around it
 abbrev pub Settles : List Slot → Option LevelPlace → Guide → Place → ℕ → Dir → List ℕ → List ℕ → Type 0

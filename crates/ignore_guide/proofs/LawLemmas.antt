@@ -1,13 +1,12 @@
 -- What becomes of an entry by the place of its directory is what a query answers on the bare tree.
-use Rattle.std.proofs.Common.{◌≡◌, ◌++◌, ◌∷◌, [], ◌+◌, ℕ, Bool, true, false, not, cond, List, Option, None, Some, Result, Ok, Err, length, refl, sym, ap, ◌∙◌, arith}
+use Rattle.std.proofs.Common.{◌≡◌, ◌++◌, ◌∷◌, [], ◌+◌, ℕ, Bool, true, false, not, cond, List, Option, None, Some, Result, Ok, Err, length, refl, sym, ap, ◌∙◌}
 use Rattle.std.proofs.lemmas.Bool.{false≢true}
 use Rattle.std.proofs.lemmas.List.{length-append}
 use Rattle.std.specs.List.{list_any}
-use Rattle.ignore_base.specs.Problem.{Problem}
 use Rattle.ignore_base.specs.declared.fault.Fault.{Fault}
 use Rattle.ignore_files.specs.declared.types.Metadata.{Metadata}
 use Rattle.ignore_dir.specs.Limits.{beyond, is_beyond, is_larger, limited, size_limit}
-use Rattle.ignore_dir.specs.Query.{ancestors, answer_of_rules, has_rules, is_asked, is_ignored, limit_of, names_of, query, rules_verdict, size_of}
+use Rattle.ignore_dir.specs.Query.{ancestors, answer_of_rules, has_rules, is_asked, is_ignored, names_of, query, rules_verdict, size_of}
 use Rattle.ignore_dir.specs.Scene.{QueryScene, path_verdict}
 use Rattle.ignore_dir.specs.Steps.{entry, reached_in, verdict_at}
 use Rattle.ignore_dir.specs.declared.incremental.IncrementalMatch.{IncrementalMatch}

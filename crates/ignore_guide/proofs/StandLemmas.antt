@@ -1,5 +1,5 @@
 -- What a place stands for when directories are added below it, and when levels stay.
-use Rattle.std.proofs.Common.{◌≡◌, ℕ, suc, ◌+◌, ◌<◌, ◌≤◌, Bool, true, false, cond, List, [], ◌∷◌, ◌++◌, length, map, reverse, All, Option, Some, codes, refl, sym, ap, ◌∙◌, subst, arith}
+use Rattle.std.proofs.Common.{◌≡◌, ℕ, suc, ◌+◌, ◌<◌, ◌≤◌, Bool, true, false, cond, List, [], ◌∷◌, ◌++◌, length, map, reverse, All, Option, codes, sym, ap, ◌∙◌, subst, arith}
 use Rattle.std.proofs.lemmas.List.{length-append, length-map, reverse-append}
 use Rattle.std.proofs.lemmas.List.Elements.{All-cons, All-push}
 use Rattle.ignore_base.specs.Problem.{Problem}
@@ -19,8 +19,8 @@ use Rattle.ignore_levels.specs.declared.list.Place.{Place as LevelPlace}
 use Rattle.ignore_levels.specs.declared.list.Slot.{Slot}
 use Rattle.ignore_levels.proofs.ChainLemmas.{chain-kept}
 use Rattle.ignore_levels.proofs.RisingLemmas.{Under, rising-below}
-use Rattle.ignore_guide.specs.Guide.{KeepsPlaces, Stands, StandsFor}
-use Rattle.ignore_guide.specs.Places.{KeepsAll, entered_at}
+use Rattle.ignore_guide.specs.Guide.{KeepsPlaces, Stands}
+use Rattle.ignore_guide.specs.Places.{KeepsAll}
 use Rattle.ignore_guide.specs.declared.guide.Guide.{Guide}
 use Rattle.ignore_guide.specs.declared.places.Entered.{Entered}
 

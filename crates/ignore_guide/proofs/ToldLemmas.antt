@@ -1,6 +1,6 @@
 -- The loads of a tree are those of the tree without sizes, with which the answers of a host are
 -- consistent that told what the tree has.
-use Rattle.std.proofs.Common.{◌≡◌, Bool, true, false, ◌&&◌, ◌||◌, cond, List, [], ◌∷◌, ℕ, Option, None, Some, Result, Ok, Err, is_ok, codes, refl, sym, ap, ◌∙◌, subst}
+use Rattle.std.proofs.Common.{◌≡◌, Bool, true, false, ◌&&◌, ◌||◌, cond, List, [], ◌∷◌, Option, None, Some, Result, Ok, Err, is_ok, codes, refl, sym, ap, ◌∙◌, subst}
 use Rattle.std.specs.Option.{option_to_list}
 use Rattle.ignore_base.specs.Paths.{join_of}
 use Rattle.ignore_base.specs.Problem.{Problem}

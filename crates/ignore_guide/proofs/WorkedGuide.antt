@@ -1,6 +1,6 @@
 -- Worked places: one that is entered, one whose number serves a later directory, one that is free;
 -- and sizes at a limit.
-use Rattle.std.proofs.Common.{◌≡◌, ℕ, [], ◌∷◌, None, Some, true, false, refl, codes}
+use Rattle.std.proofs.Common.{◌≡◌, [], None, Some, true, false, refl, codes}
 use Rattle.ignore_guide.specs.Guide.{is_over}
 use Rattle.ignore_guide.specs.Names.{is_name}
 use Rattle.ignore_guide.specs.Places.{dir_by}

@@ -1,8 +1,7 @@
 -- What a host told, as answers of files.
-use Rattle.std.specs.Prelude.{◌≡◌, ℕ, Bool, true, List, Option, None, Some, Result, Ok, Err, is_some, length, string_bytes, if◌then◌else◌, []}
+use Rattle.std.specs.Prelude.{◌≡◌, Bool, true, Option, None, Some, Result, Ok, Err, is_some, string_bytes, if◌then◌else◌, []}
 use Rattle.std.specs.BTreeMap.{get_by_text}
 use Rattle.std.specs.List.{list_any}
-use Rattle.std.specs.declared.string.String.{String}
 use Rattle.ignore_base.specs.Paths.{strip_prefix_of}
 use Rattle.ignore_base.specs.Text.{Path}
 use Rattle.ignore_base.specs.declared.fault.Fault.{Fault}

@@ -1,4 +1,4 @@
-use Rattle.std.proofs.Common.{◌≡◌, ◌≢◌, Option, Some, sym, subst, ◌∙◌}
+use Rattle.std.proofs.Common.{◌≢◌, Option, Some, sym, subst, ◌∙◌}
 use Rattle.ignore_levels.specs.Levels.{slots_of}
 use Rattle.ignore_levels.specs.declared.list.Place.{Place}
 use Rattle.ignore_levels.proofs.PassLemmas.{keeps-then, passes-kept}

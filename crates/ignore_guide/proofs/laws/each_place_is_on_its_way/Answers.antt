@@ -1,4 +1,4 @@
-use Rattle.std.proofs.Common.{List, ℕ, subst}
+use Rattle.std.proofs.Common.{subst}
 use Rattle.ignore_dir.specs.Steps.{Reached}
 use Rattle.ignore_guide.specs.Guide.{StandsFor}
 use Rattle.ignore_guide.proofs.laws.each_place_is_on_its_way.Goals as goal

@@ -1,4 +1,4 @@
-use Rattle.std.proofs.Common.{◌∷◌, ◌++◌, List, [], Option, ap, map, option_map, ◌∙◌}
+use Rattle.std.proofs.Common.{◌∷◌, ◌++◌, List, [], Option, ap, option_map, ◌∙◌}
 use Rattle.ignore_base.specs.Problem.{Problem, problem_of}
 use Rattle.ignore_dir.specs.Above.{paths_above, problems_of_loads}
 use Rattle.ignore_dir.specs.Load.{joined_some}

@@ -7,7 +7,6 @@ use Rattle.ignore_dir.specs.Steps.{entry}
 use Rattle.ignore_dir.specs.declared.dir.Dir.{Dir}
 use Rattle.ignore_guide.specs.Guide.{StandsFor, holding}
 use Rattle.ignore_guide.specs.Places.{entered_at}
-use Rattle.ignore_guide.specs.declared.places.Entered.{Entered}
 use Rattle.ignore_guide.proofs.EnterLemmas.{path-there, stands-below}
 use Rattle.ignore_guide.proofs.StandLemmas.{places-kept}
 use Rattle.ignore_guide.proofs.guide.Guide.enter.Goals as goal

@@ -1,9 +1,9 @@
-use Rattle.std.proofs.Common.{◌≡◌, List, ℕ, ap, map, option_map, sym, subst, ◌∙◌}
+use Rattle.std.proofs.Common.{ap, option_map, sym, subst, ◌∙◌}
 use Rattle.ignore_base.specs.Problem.{problem_of}
 use Rattle.ignore_dir.specs.Scene.{scene}
 use Rattle.ignore_dir.specs.Steps.{Reached}
 use Rattle.ignore_levels.specs.Levels.{slots_of}
-use Rattle.ignore_guide.specs.Guide.{IsRootBy, StandsFor, root_reached}
+use Rattle.ignore_guide.specs.Guide.{IsRootBy, StandsFor}
 use Rattle.ignore_guide.proofs.EnterLemmas.{root-whole, stands-root}
 use Rattle.ignore_guide.proofs.StandLemmas.{above-below, above-rising, chains-kept, places-kept}
 use Rattle.ignore_guide.proofs.guide.Guide.root.Goals as goal

@@ -1,4 +1,4 @@
-use Rattle.std.proofs.Common.{◌≡◌, List, ℕ, ◌∷◌, length, refl, sym, subst}
+use Rattle.std.proofs.Common.{◌≡◌, List, ℕ, length, refl, sym, subst}
 use Rattle.ignore_dir.specs.Lists.{IsAfterSlash}
 use Rattle.ignore_levels.specs.Levels.{IsBelow, IsChain, counted, counting, slots_of}
 use Rattle.ignore_guide.proofs.StandLemmas.{all-more, places-kept}
