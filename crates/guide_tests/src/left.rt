@@ -1,5 +1,5 @@
 //! Directories that are left.
-use crate::stood::{is_ignored, stood, tree};
+use crate::stood::{is_ignored, stand, tree};
 use ignore_guide::{Guide, GuideError, Place};
 
 /// How leaving a place ends.
@@ -10,7 +10,7 @@ fn left(guide: &mut Guide, place: Place) -> Option<GuideError> {
 #[test]
 fn a_directory_is_left_after_those_in_it(rt: HostRuntime) -> anyhow::Result<()> {
     let tree = tree(rt.alloc())?;
-    let mut stood = stood(rt.alloc(), &tree)?;
+    let mut stood = stand(rt.alloc(), &tree)?;
     assert_eq!(rt;
         left(&mut stood.guide, stood.root),
         Some(GuideError::HasChildren)
@@ -27,7 +27,7 @@ fn a_directory_is_left_after_those_in_it(rt: HostRuntime) -> anyhow::Result<()> 
 #[test]
 fn a_place_that_was_left_is_none(rt: HostRuntime) -> anyhow::Result<()> {
     let tree = tree(rt.alloc())?;
-    let mut stood = stood(rt.alloc(), &tree)?;
+    let mut stood = stand(rt.alloc(), &tree)?;
     assert_eq!(rt; left(&mut stood.guide, stood.src), None);
     assert_eq!(rt;
         left(&mut stood.guide, stood.src),
@@ -40,7 +40,7 @@ fn a_place_that_was_left_is_none(rt: HostRuntime) -> anyhow::Result<()> {
 #[test]
 fn its_number_serves_another_place(rt: HostRuntime) -> anyhow::Result<()> {
     let tree = tree(rt.alloc())?;
-    let mut stood = stood(rt.alloc(), &tree)?;
+    let mut stood = stand(rt.alloc(), &tree)?;
     assert_eq!(rt; left(&mut stood.guide, stood.src), None);
     let again = stood.guide.enter(&tree, stood.root, "src")?.place;
     assert_eq!(rt; again.index, stood.src.index);

@@ -37,7 +37,7 @@ pub(crate) fn guide(alloc: Global) -> Guide {
 }
 
 /// The guide in `/t` and `/t/src`.
-pub(crate) fn stood(alloc: Global, tree: &MemoryTree) -> anyhow::Result<Stood> {
+pub(crate) fn stand(alloc: Global, tree: &MemoryTree) -> anyhow::Result<Stood> {
     let mut guide = guide(alloc);
     let root = guide.root(tree, "/t")?.place;
     let src = guide.enter(tree, root, "src")?.place;
@@ -60,7 +60,7 @@ pub(crate) fn is_ignored(guide: &Guide, place: Place, name: &str, is_dir: bool) 
 #[test]
 fn the_rules_of_a_root_count_in_its_folders(rt: HostRuntime) -> anyhow::Result<()> {
     let tree = tree(rt.alloc())?;
-    let stood = stood(rt.alloc(), &tree)?;
+    let stood = stand(rt.alloc(), &tree)?;
     assert_eq!(rt;
         is_ignored(&stood.guide, stood.root, "a.o", false),
         Some(true)
@@ -79,7 +79,7 @@ fn the_rules_of_a_root_count_in_its_folders(rt: HostRuntime) -> anyhow::Result<(
 #[test]
 fn the_rules_of_a_folder_count_there(rt: HostRuntime) -> anyhow::Result<()> {
     let tree = tree(rt.alloc())?;
-    let stood = stood(rt.alloc(), &tree)?;
+    let stood = stand(rt.alloc(), &tree)?;
     assert_eq!(rt;
         is_ignored(&stood.guide, stood.root, "keep.o", false),
         Some(true)
@@ -102,7 +102,7 @@ fn the_rules_of_a_folder_count_there(rt: HostRuntime) -> anyhow::Result<()> {
 #[test]
 fn what_is_no_name_has_no_answer(rt: HostRuntime) -> anyhow::Result<()> {
     let tree = tree(rt.alloc())?;
-    let stood = stood(rt.alloc(), &tree)?;
+    let stood = stand(rt.alloc(), &tree)?;
     for name in ["", ".", "..", "a/b"] {
         assert_eq!(rt; is_ignored(&stood.guide, stood.src, name, true), None);
     }

@@ -20,7 +20,7 @@ fn kind_at(alloc: Global, tree: &MemoryTree, path: &str) -> anyhow::Result<Optio
     }
 }
 
-fn found(alloc: Global, tree: &MemoryTree, path: &str) -> anyhow::Result<Found> {
+fn look_up(alloc: Global, tree: &MemoryTree, path: &str) -> anyhow::Result<Found> {
     let kind = kind_at(alloc, tree, path)?;
     let read = answered(tree.contents(alloc, path))?;
     let path = answered(tree.canonical(alloc, path))?;
@@ -48,7 +48,7 @@ fn told(
     guide: &mut Guide,
     waiting: Waiting,
 ) -> anyhow::Result<Step> {
-    let found = found(alloc, tree, waiting.question.path.as_str())?;
+    let found = look_up(alloc, tree, waiting.question.path.as_str())?;
     let given = Given {
         kind: found.kind,
         bytes: bytes_of(&found.read),
