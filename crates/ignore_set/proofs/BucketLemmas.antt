@@ -9,7 +9,7 @@ use Rattle.std.proofs.lemmas.Option.{slice_get_within}
 use Rattle.std.proofs.Math.Seq.{drop-append_seam}
 use Rattle.ignore_set.specs.declared.buckets.Buckets.{Buckets}
 use Rattle.ignore_set.specs.Buckets.{AreBucketsOf, IsFrontOf, IsPast}
-use Rattle.ignore_set.specs.Others.{IndexedText, bucket_of, eight_at, eight_of, five_at, five_of, front_of, three_of}
+use Rattle.ignore_set.specs.Others.{IndexedText, bucket_of, eight_at, eight_of, five_at, five_of, front_of, mark_of, three_of, twelve_at, twelve_of}
 use Rattle.ignore_set.proofs.IndexLemmas.{some_same, split}
 use Rattle.ignore_set.proofs.SlotLemmas.{got_append, among_more, among_end}
 
@@ -40,11 +40,77 @@ set_true (z ∷ xs) zero (suc k) got = got
 set_true (z ∷ xs) (suc i) zero got = got
 set_true (z ∷ xs) (suc i) (suc k) got = set_true xs i k got
 
-pub front_fits : (text : List ℕ) → front_of text < 32768
+pub front_fits : (text : List ℕ) → front_of text < 65536
 front_fits [] = omega arith
 front_fits (a ∷ []) = omega arith
 front_fits (a ∷ b ∷ []) = omega arith
 front_fits (a ∷ b ∷ c ∷ text) = omega arith
+
+-- The numbers of a text.
+
+below : (d n : ℕ) → d < n → nat_lt d n ≡ true
+below d n h = grind (arith, nat_tests)
+
+not_below : (d n : ℕ) → n ≤ d → nat_lt d n ≡ false
+not_below d n h = grind (arith, nat_tests)
+
+three_fits : (text : List ℕ) → three_of text < 4096
+three_fits [] = omega arith
+three_fits (a ∷ []) = omega arith
+three_fits (a ∷ b ∷ []) = omega arith
+three_fits (a ∷ b ∷ c ∷ text) = omega arith
+
+-- the mark of a text, by how long the text is
+pub mark_of_three : (text : List ℕ) → length text < 5 → mark_of text ≡ three_of text
+mark_of_three text short =
+    ap (λ b. cond b (three_of text) (cond (nat_lt (length text) 8) (five_of text)
+    (cond (nat_lt (length text) 12) (eight_of text) (twelve_of text)))) (below (length text) 5 short)
+
+from_five : (text : List ℕ) → 5 ≤ length text
+    → mark_of text ≡ cond (nat_lt (length text) 8) (five_of text) (cond (nat_lt (length text) 12) (eight_of text) (twelve_of text))
+from_five text long =
+    ap (λ b. cond b (three_of text) (cond (nat_lt (length text) 8) (five_of text)
+    (cond (nat_lt (length text) 12) (eight_of text) (twelve_of text)))) (not_below (length text) 5 long)
+
+from_eight : (text : List ℕ) → 8 ≤ length text → mark_of text ≡ cond (nat_lt (length text) 12) (eight_of text) (twelve_of text)
+from_eight text long =
+    from_five text (omega (arith, long))
+    ∙ ap (λ b. cond b (five_of text) (cond (nat_lt (length text) 12) (eight_of text) (twelve_of text))) (not_below (length text) 8 long)
+
+pub mark_of_five : (text : List ℕ) → 5 ≤ length text → length text < 8 → mark_of text ≡ five_of text
+mark_of_five text long short =
+    from_five text long
+    ∙ ap (λ b. cond b (five_of text) (cond (nat_lt (length text) 12) (eight_of text) (twelve_of text))) (below (length text) 8 short)
+
+pub mark_of_eight : (text : List ℕ) → 8 ≤ length text → length text < 12 → mark_of text ≡ eight_of text
+mark_of_eight text long short = from_eight text long ∙ ap (λ b. cond b (eight_of text) (twelve_of text)) (below (length text) 12 short)
+
+pub mark_of_twelve : (text : List ℕ) → 12 ≤ length text → mark_of text ≡ twelve_of text
+mark_of_twelve text long =
+    from_eight text (omega (arith, long)) ∙ ap (λ b. cond b (eight_of text) (twelve_of text)) (not_below (length text) 12 long)
+
+-- a number is below another, or no less
+either : {Z : Type 0} (k n : ℕ) → (k < n → Z) → (n ≤ k → Z) → Z
+either k n less more = elim (split k n) [
+  | inl h ↦ less h
+  | inr (inl same) ↦ more (omega (arith, same))
+  | inr (inr h) ↦ more (omega (arith, h))
+]
+
+-- a text has at most four bytes, or five to seven, or eight to eleven, or more
+pub by_length : {Z : Type 0} (k : ℕ) → (k < 5 → Z) → (5 ≤ k → k < 8 → Z) → (8 ≤ k → k < 12 → Z) → (12 ≤ k → Z) → Z
+by_length k three five eight twelve =
+    either k 5 three (λ a. either k 8 (five a) (λ b. either k 12 (eight b) twelve))
+
+pub mark_fits : (text : List ℕ) → mark_of text < 65536
+mark_fits text = by_length (length text)
+    (λ short. omega (arith, mark_of_three text short, three_fits text))
+    (λ long short. omega (arith, mark_of_five text long short))
+    (λ long short. omega (arith, mark_of_eight text long short))
+    (λ long. omega (arith, mark_of_twelve text long))
+
+pub bucket_fits : (text : List ℕ) → bucket_of text < 16384
+bucket_fits text = omega arith
 
 -- The buckets of no needles, and of one more.
 
@@ -52,14 +118,21 @@ pub put_long : (old new : Buckets) (needles : List IndexedText) (n : IndexedText
     → 3 ≤ length n.text → slice_get old.long.items (bucket_of n.text) ≡ Some was
     → new.long.items ≡ set old.long.items (bucket_of n.text) is → is.items ≡ was.items ++ length needles ∷ []
     → new.fronts.items ≡ set old.fronts.items (front_of n.text) true
+    → new.marks.items ≡ set old.marks.items (mark_of n.text) true
     → new.short.items ≡ old.short.items → AreBucketsOf old needles → AreBucketsOf new (needles ++ n ∷ [])
-put_long old new needles n was is long had long_is is_is fronts_is short_is are = record {
+put_long old new needles n was is long had long_is is_is fronts_is marks_is short_is are = record {
   count = ap length long_is ∙ (set_length old.long.items (bucket_of n.text) is ∙ are.count);
   numbers = ap length fronts_is ∙ (set_length old.fronts.items (front_of n.text) true ∙ are.numbers);
+  marked = ap length marks_is ∙ (set_length old.marks.items (mark_of n.text) true ∙ are.marked);
   fronts = λ j x got big. ap (λ l. slice_get l (front_of x.text)) fronts_is ∙ elim (got_append needles n j x got) [
     | inl before ↦ set_true old.fronts.items (front_of n.text) (front_of x.text) (are.fronts j x before big)
     | inr p ↦ ap (λ (y : IndexedText). slice_get (set old.fronts.items (front_of n.text) true) (front_of y.text)) p.1
         ∙ set_here old.fronts.items (front_of n.text) true (omega (arith, are.numbers, front_fits n.text))
+  ];
+  marks = λ j x got big. ap (λ l. slice_get l (mark_of x.text)) marks_is ∙ elim (got_append needles n j x got) [
+    | inl before ↦ set_true old.marks.items (mark_of n.text) (mark_of x.text) (are.marks j x before big)
+    | inr p ↦ ap (λ (y : IndexedText). slice_get (set old.marks.items (mark_of n.text) true) (mark_of y.text)) p.1
+        ∙ set_here old.marks.items (mark_of n.text) true (omega (arith, are.marked, mark_fits n.text))
   ];
   long = λ j x got big. elim (got_append needles n j x got) [
     | inl before ↦ kept j x before big
@@ -106,14 +179,19 @@ put_long old new needles n was is long had long_is is_is fronts_is short_is are 
         )
 
 pub put_short : (old new : Buckets) (needles : List IndexedText) (n : IndexedText) → length n.text < 3
-    → new.long.items ≡ old.long.items → new.fronts.items ≡ old.fronts.items
+    → new.long.items ≡ old.long.items → new.fronts.items ≡ old.fronts.items → new.marks.items ≡ old.marks.items
     → new.short.items ≡ old.short.items ++ length needles ∷ []
     → AreBucketsOf old needles → AreBucketsOf new (needles ++ n ∷ [])
-put_short old new needles n small long_is fronts_is short_is are = record {
+put_short old new needles n small long_is fronts_is marks_is short_is are = record {
   count = ap length long_is ∙ are.count;
   numbers = ap length fronts_is ∙ are.numbers;
+  marked = ap length marks_is ∙ are.marked;
   fronts = λ j x got big. elim (got_append needles n j x got) [
     | inl before ↦ ap (λ l. slice_get l (front_of x.text)) fronts_is ∙ are.fronts j x before big
+    | inr p ↦ absurd (omega (arith, big, small, ap (λ (y : IndexedText). length y.text) p.1))
+  ];
+  marks = λ j x got big. elim (got_append needles n j x got) [
+    | inl before ↦ ap (λ l. slice_get l (mark_of x.text)) marks_is ∙ are.marks j x before big
     | inr p ↦ absurd (omega (arith, big, small, ap (λ (y : IndexedText). length y.text) p.1))
   ];
   long = λ j x got big. elim (got_append needles n j x got) [
@@ -126,52 +204,6 @@ put_short old new needles n small long_is fronts_is short_is are = record {
         (subst (λ k. IsAmong (old.short.items ++ length needles ∷ []) k) (sym p.0) (among_end old.short.items (length needles)))
   ];
 }
-
-below : (d n : ℕ) → d < n → nat_lt d n ≡ true
-below d n h = grind (arith, nat_tests)
-
-not_below : (d n : ℕ) → n ≤ d → nat_lt d n ≡ false
-not_below d n h = grind (arith, nat_tests)
-
-three_fits : (text : List ℕ) → three_of text < 4096
-three_fits [] = omega arith
-three_fits (a ∷ []) = omega arith
-three_fits (a ∷ b ∷ []) = omega arith
-three_fits (a ∷ b ∷ c ∷ text) = omega arith
-
--- the bucket of a text, by how long the text is
-pub bucket_of_three : (text : List ℕ) → length text < 5 → bucket_of text ≡ three_of text
-bucket_of_three text short =
-    ap (λ b. cond b (three_of text) (cond (nat_lt (length text) 8) (five_of text) (eight_of text))) (below (length text) 5 short)
-
-pub bucket_of_five : (text : List ℕ) → 5 ≤ length text → length text < 8 → bucket_of text ≡ five_of text
-bucket_of_five text long short =
-    ap (λ b. cond b (three_of text) (cond (nat_lt (length text) 8) (five_of text) (eight_of text))) (not_below (length text) 5 long)
-    ∙ ap (λ b. cond b (five_of text) (eight_of text)) (below (length text) 8 short)
-
-pub bucket_of_eight : (text : List ℕ) → 8 ≤ length text → bucket_of text ≡ eight_of text
-bucket_of_eight text long =
-    ap (λ b. cond b (three_of text) (cond (nat_lt (length text) 8) (five_of text) (eight_of text)))
-    (not_below (length text) 5 (omega (arith, long)))
-    ∙ ap (λ b. cond b (five_of text) (eight_of text)) (not_below (length text) 8 long)
-
--- a text has at most four bytes, or five to seven, or more
-pub by_length : {Z : Type 0} (k : ℕ) → (k < 5 → Z) → (5 ≤ k → k < 8 → Z) → (8 ≤ k → Z) → Z
-by_length k three five eight = elim (split k 5) [
-  | inl less ↦ three less
-  | inr (inl same) ↦ five (omega (arith, same)) (omega (arith, same))
-  | inr (inr more) ↦ elim (split k 8) [
-    | inl less ↦ five (omega (arith, more)) less
-    | inr (inl same) ↦ eight (omega (arith, same))
-    | inr (inr many) ↦ eight (omega (arith, many))
-  ]
-]
-
-pub bucket_fits : (text : List ℕ) → bucket_of text < 16384
-bucket_fits text = by_length (length text)
-    (λ short. omega (arith, bucket_of_three text short, three_fits text))
-    (λ long short. omega (arith, bucket_of_five text long short))
-    (λ long. omega (arith, bucket_of_eight text long))
 
 pub below_three : (k : ℕ) → (3 ≤ k → ⊥) → k < 3
 below_three k short = elim (split k 3) [
@@ -202,18 +234,27 @@ front_same text front long (rest, e) = same front long ∙ sym (ap front_of e)
     same (a ∷ b ∷ []) long = absurd (omega (arith, long))
     same (a ∷ b ∷ c ∷ l) long = refl
 
--- so it is in one of three buckets
-pub front_bucket : (text front : List ℕ) → 3 ≤ length front → IsFrontOf text front
-    → (bucket_of front ≡ three_of text) ⊎ ((bucket_of front ≡ five_of text) ⊎ (bucket_of front ≡ eight_of text))
-front_bucket text front long f = by_length (length front)
-    (λ short. inl (bucket_of_three front short ∙ three_same 0 text front long f))
-    (λ five short. inr (inl (bucket_of_five front five short
+-- so it has one of four marks
+pub front_mark : (text front : List ℕ) → 3 ≤ length front → IsFrontOf text front
+    → (mark_of front ≡ three_of text) ⊎ ((mark_of front ≡ five_of text)
+    ⊎ ((mark_of front ≡ eight_of text) ⊎ (mark_of front ≡ twelve_of text)))
+front_mark text front long f = by_length (length front)
+    (λ short. inl (mark_of_three front short ∙ three_same 0 text front long f))
+    (λ five short. inr (inl (mark_of_five front five short
     ∙ (ap (λ a. five_at a (three_of (drop 2 front))) (three_same 0 text front long f)
     ∙ ap (λ a. five_at (three_of text) a) (three_same 2 text front (omega (arith, five)) f)))))
-    (λ eight. inr (inr (bucket_of_eight front eight
+    (λ eight short. inr (inr (inl (mark_of_eight front eight short
     ∙ (ap (λ a. eight_at a (three_of (drop 2 front)) (three_of (drop 5 front))) (three_same 0 text front long f)
     ∙ (ap (λ a. eight_at (three_of text) a (three_of (drop 5 front))) (three_same 2 text front (omega (arith, eight)) f)
-    ∙ ap (λ a. eight_at (three_of text) (three_of (drop 2 text)) a) (three_same 5 text front (omega (arith, eight)) f))))))
+    ∙ ap (λ a. eight_at (three_of text) (three_of (drop 2 text)) a) (three_same 5 text front (omega (arith, eight)) f)))))))
+    (λ twelve. inr (inr (inr (mark_of_twelve front twelve
+    ∙ (ap (λ a. twelve_at a (three_of (drop 2 front)) (three_of (drop 5 front)) (three_of (drop 9 front))) (three_same 0 text front long f)
+    ∙ (ap (λ a. twelve_at (three_of text) a (three_of (drop 5 front)) (three_of (drop 9 front)))
+    (three_same 2 text front (omega (arith, twelve)) f)
+    ∙ (ap (λ a. twelve_at (three_of text) (three_of (drop 2 text)) a (three_of (drop 9 front)))
+    (three_same 5 text front (omega (arith, twelve)) f)
+    ∙ ap (λ a. twelve_at (three_of text) (three_of (drop 2 text)) (three_of (drop 5 text)) a)
+    (three_same 9 text front (omega (arith, twelve)) f))))))))
 
 -- a text that ends before has no three bytes from a place on
 pub three_missing : (k : ℕ) (text : List ℕ) → length text < k + 3 → three_of (drop k text) ≡ 0

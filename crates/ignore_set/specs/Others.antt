@@ -38,12 +38,12 @@ mask_of (a ∷ text) = bit_or (first_bit (a ∷ text)) (mask_of text)
 abbrev pub IsMaskOver : List ℕ → ℕ → Type 0
 IsMaskOver text mask = (inside : List ℕ) → HasSubslice text inside → bit_or (mask_of inside) mask ≡ mask
 
--- one of 32,768 numbers, for the first three bytes, or 0 where there are fewer
+-- one of 65,536 numbers, for the first three bytes, or 0 where there are fewer
 abbrev pub front_of : List ℕ → ℕ
 front_of [] = 0
 front_of (a ∷ []) = 0
 front_of (a ∷ b ∷ []) = 0
-front_of (a ∷ b ∷ c ∷ text) = (a * 1031 + b * 31 + c) % 32768
+front_of (a ∷ b ∷ c ∷ text) = (a * 2111 + b * 89 + c) % 65536
 
 -- one of 4,096 numbers, for three bytes
 abbrev pub mixed : ℕ → ℕ → ℕ → ℕ
@@ -56,24 +56,37 @@ three_of (a ∷ []) = 0
 three_of (a ∷ b ∷ []) = 0
 three_of (a ∷ b ∷ c ∷ text) = mixed a b c
 
--- one of 4,096 buckets more, for the numbers of bytes 0 to 2 and 2 to 4
+-- one of 4,096 numbers more, for those of bytes 0 to 2 and 2 to 4
 abbrev pub five_at : ℕ → ℕ → ℕ
 five_at first second = 4096 + (first * 61 + second) % 4096
 
--- one of 8,192 buckets more, for these numbers and that of bytes 5 to 7
+-- one of 16,384 numbers more, for these and that of bytes 5 to 7
 abbrev pub eight_at : ℕ → ℕ → ℕ → ℕ
-eight_at first second third = 8192 + (first * 67 + second * 131 + third) % 8192
+eight_at first second third = 16384 + (first * 67 + second * 131 + third) % 16384
 
--- the bucket of the first five bytes, and of the first eight
+-- one of 32,768 numbers more, for these and that of bytes 9 to 11
+abbrev pub twelve_at : ℕ → ℕ → ℕ → ℕ → ℕ
+twelve_at first second third fourth = 32768 + (first * 67 + second * 131 + third * 263 + fourth) % 32768
+
+-- the number of the first five bytes, of the first eight, and of the first twelve
 abbrev pub five_of : List ℕ → ℕ
 five_of text = five_at (three_of text) (three_of (drop 2 text))
 
 abbrev pub eight_of : List ℕ → ℕ
 eight_of text = eight_at (three_of text) (three_of (drop 2 text)) (three_of (drop 5 text))
 
--- the bucket of a text: by its first three bytes, by five where it has so many, or by eight
+abbrev pub twelve_of : List ℕ → ℕ
+twelve_of text = twelve_at (three_of text) (three_of (drop 2 text)) (three_of (drop 5 text)) (three_of (drop 9 text))
+
+-- the mark of a text: by its first three bytes, or by five, eight or twelve where it has so many
+abbrev pub mark_of : List ℕ → ℕ
+mark_of text =
+    cond (nat_lt (length text) 5) (three_of text)
+    (cond (nat_lt (length text) 8) (five_of text) (cond (nat_lt (length text) 12) (eight_of text) (twelve_of text)))
+
+-- the bucket of a text, by its mark
 abbrev pub bucket_of : List ℕ → ℕ
-bucket_of text = cond (nat_lt (length text) 5) (three_of text) (cond (nat_lt (length text) 8) (five_of text) (eight_of text))
+bucket_of text = mark_of text % 16384
 
 -- for each pattern of no form, the texts one of which is in each text that it matches, by rising
 -- indices

@@ -3,19 +3,22 @@ ghost use Rattle.std.specs.Prelude.{◌≡◌, ◌+◌, ◌≤◌, ◌<◌, ◌+
 ghost use Rattle.std.specs.List.{IsAmong};
 ghost use Rattle.std.specs.Str.Iter.{HasSubslice};
 ghost use Rattle.ignore_set.specs.Buckets.{AreBucketsOf, IsFrontOf, IsPast};
-ghost use Rattle.ignore_set.specs.Others.{IndexedText, bucket_of};
+ghost use Rattle.ignore_set.specs.Others.{IndexedText, bucket_of, mark_of};
 
-use crate::needle::{Needle, eight_at, five_at, front_of, three_from};
+use crate::needle::{Needle, eight_at, five_at, front_of, three_from, twelve_at};
 use std::alloc::{AllocError, Global};
 
 /// The places of needles in their list: of those of at least three bytes under one of 16,384
-/// buckets, by their first three, five or eight bytes, and of the shorter ones. Or no bucket, where
-/// the needles are few. A text is looked up in the buckets only from where a needle's first three
-/// bytes may stand, which most places of most texts aren't.
+/// buckets, by their marks, and of the shorter ones. Or no bucket, where the needles are few. A mark
+/// is one of 65,536 numbers for the first three, five, eight or twelve bytes, as many as the needle
+/// has. A text is looked up in the buckets only from where a needle's first three bytes may stand,
+/// which most places of most texts aren't, and there only by the marks of needles.
 #[derive(Debug, Drop)]
 pub(crate) struct Buckets {
-    /// For each of 32,768 numbers of three bytes, whether a needle begins with such.
+    /// For each of 65,536 numbers of three bytes, whether a needle begins with such.
     fronts: Vec<bool>,
+    /// For each mark, whether a needle has it.
+    marks: Vec<bool>,
     long: Vec<Vec<usize>>,
     short: Vec<usize>,
 }
@@ -27,6 +30,7 @@ impl Buckets {
     {
         Buckets {
             fronts: Vec::new(alloc),
+            marks: Vec::new(alloc),
             long: Vec::new(alloc),
             short: Vec::new(alloc),
         }
@@ -68,7 +72,8 @@ impl Buckets {
             long.push(Vec::new(alloc))?;
         }
         Ok(Buckets {
-            fronts: no_fronts(alloc)?,
+            fronts: none_of(alloc, 65536)?,
+            marks: none_of(alloc, 65536)?,
             long,
             short: Vec::new(alloc),
         })
@@ -77,13 +82,15 @@ impl Buckets {
     /// Puts the place of the needle that follows those that these buckets are of.
     fn put(&mut self, needle: &Needle, place: usize) -> Result<(), AllocError>
         requires long { length self.now.long.items ≡ 16384 }
-        requires fronts { length self.now.fronts.items ≡ 32768 }
+        requires fronts { length self.now.fronts.items ≡ 65536 }
+        requires marks { length self.now.marks.items ≡ 65536 }
         ensures { IfOk result (λ _. (needles : List IndexedText) → AreBucketsOf self.old needles → length needles ≡ place
             → AreBucketsOf self.new (needles ++ needle.now ∷ [])) }
     {
-        match needle.bucket() {
-            Some(bucket) => {
-                self.long[bucket].push(place)?;
+        match needle.mark() {
+            Some(mark) => {
+                self.long[mark % 16384].push(place)?;
+                self.marks[mark] = true;
                 self.fronts[needle.front()] = true;
             }
             None => self.short.push(place)?,
@@ -131,9 +138,26 @@ impl Buckets {
         let first = three_from(bytes, 0);
         let second = three_from(bytes, 2);
         let third = three_from(bytes, 5);
-        let three = self.end_of_bucket(needles, first, bytes, least);
-        let five = self.end_of_bucket(needles, five_at(first, second), bytes, three);
-        self.end_of_bucket(needles, eight_at(first, second, third), bytes, five)
+        let last = twelve_at(first, second, third, three_from(bytes, 9));
+        let three = self.end_of_marked(needles, first, bytes, least);
+        let five = self.end_of_marked(needles, five_at(first, second), bytes, three);
+        let eight = self.end_of_marked(needles, eight_at(first, second, third), bytes, five);
+        self.end_of_marked(needles, last, bytes, eight)
+    }
+
+    /// As `end_of_front`, of the needles with a mark.
+    fn end_of_marked(&self, needles: &[Needle], mark: usize, bytes: &[u8], least: usize) -> usize
+        requires buckets { AreBucketsOf self.now needles.now }
+        requires mark { mark < 65536 }
+        ensures past { (j : ℕ) (n : IndexedText) → slice_get needles.now j ≡ Some n → 3 ≤ length n.text
+            → mark_of n.text ≡ mark → IsFrontOf bytes.now n.text → j < result }
+        ensures least { least ≤ result }
+        ensures within { least ≤ length needles.now → result ≤ length needles.now }
+    {
+        if !self.marks[mark] {
+            return least;
+        }
+        self.end_of_bucket(needles, mark % 16384, bytes, least)
     }
 
     /// As `end_of_front`, of one bucket.
@@ -149,15 +173,15 @@ impl Buckets {
     }
 }
 
-/// That no needle begins with any three bytes.
-fn no_fronts(alloc: Global) -> Result<Vec<bool>, AllocError>
-    ensures { IfOk result (λ fronts. length fronts.items ≡ 32768) }
+/// That no needle has any of so many numbers.
+fn none_of(alloc: Global, count: usize) -> Result<Vec<bool>, AllocError>
+    ensures { IfOk result (λ seen. length seen.items ≡ count) }
 {
-    let mut fronts = Vec::new(alloc);
-    for _ in 0..32768usize {
-        fronts.push(false)?;
+    let mut seen = Vec::new(alloc);
+    for _ in 0..count {
+        seen.push(false)?;
     }
-    Ok(fronts)
+    Ok(seen)
 }
 
 /// One more than the greatest of these places at which a needle is in the text; 0 where none is.

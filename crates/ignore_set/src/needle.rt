@@ -2,7 +2,8 @@
 ghost use Rattle.std.specs.Prelude.{◌≡◌, ◌↔◌, ◌++◌, ◌*◌, ◌^◌, ◌+◌, ◌<◌, ◌≤◌, ℕ, List, IsTrue, IfOk, SomeIff, drop, length, map, string_bytes};
 ghost use Rattle.std.specs.Str.Iter.{HasSubslice};
 ghost use Rattle.ignore_set.specs.Buckets.{IsFrontOf};
-ghost use Rattle.ignore_set.specs.Others.{IsMaskOver, bit_of, bucket_of, eight_at, first_bit, five_at, front_of, mask_of, mixed, three_of};
+ghost use Rattle.ignore_set.specs.Others.{IsMaskOver, bit_of, eight_at, first_bit, five_at, front_of, mark_of, mask_of, mixed, three_of};
+ghost use Rattle.ignore_set.specs.Others.{twelve_at};
 
 use std::alloc::AllocError;
 use std::marker::Model;
@@ -67,20 +68,20 @@ impl Needle {
     /// The number of its first three bytes.
     pub(crate) fn front(&self) -> usize
         ensures value { result ≡ front_of self.now.text }
-        ensures within { result < 32768 }
+        ensures within { result < 65536 }
     {
         front_of(self.text.as_bytes())
     }
 
-    /// The bucket of its first bytes; `None` where it has fewer than three.
-    pub(crate) fn bucket(&self) -> Option<usize>
-        ensures { SomeIff result (3 ≤ length self.now.text) (bucket_of self.now.text) }
+    /// The mark of its first bytes; `None` where it has fewer than three.
+    pub(crate) fn mark(&self) -> Option<usize>
+        ensures { SomeIff result (3 ≤ length self.now.text) (mark_of self.now.text) }
     {
         let bytes = self.text.as_bytes();
         if bytes.len() < 3 {
             return None;
         }
-        Some(bucket_of(bytes))
+        Some(mark_of(bytes))
     }
 }
 
@@ -121,20 +122,20 @@ pub(crate) fn bit_of(a: u8, b: u8, c: u8) -> u64
     1u64 << ((usize::from(a) * 37 + usize::from(b) * 101 + usize::from(c) * 5) % 64)
 }
 
-/// One of 32,768 numbers, for the first three bytes of a text; 0 where it has fewer.
+/// One of 65,536 numbers, for the first three bytes of a text; 0 where it has fewer.
 pub(crate) fn front_of(bytes: &[u8]) -> usize
     ensures value { result ≡ front_of bytes.now }
-    ensures within { result < 32768 }
+    ensures within { result < 65536 }
 {
     if bytes.len() < 3 {
         return 0;
     }
-    (usize::from(bytes[0]) * 1031 + usize::from(bytes[1]) * 31 + usize::from(bytes[2])) % 32768
+    (usize::from(bytes[0]) * 2111 + usize::from(bytes[1]) * 89 + usize::from(bytes[2])) % 65536
 }
 
-/// The bucket of a text that has at least three bytes.
-fn bucket_of(bytes: &[u8]) -> usize
-    ensures { result ≡ bucket_of bytes.now }
+/// The mark of a text that has at least three bytes.
+fn mark_of(bytes: &[u8]) -> usize
+    ensures { result ≡ mark_of bytes.now }
 {
     let first = three_from(bytes, 0);
     if bytes.len() < 5 {
@@ -144,12 +145,16 @@ fn bucket_of(bytes: &[u8]) -> usize
     if bytes.len() < 8 {
         return five_at(first, second);
     }
-    eight_at(first, second, three_from(bytes, 5))
+    let third = three_from(bytes, 5);
+    if bytes.len() < 12 {
+        return eight_at(first, second, third);
+    }
+    twelve_at(first, second, third, three_from(bytes, 9))
 }
 
 /// One of 4,096 numbers, for the three bytes from a place on; 0 where there are fewer.
 pub(crate) fn three_from(bytes: &[u8], at: usize) -> usize
-    requires { at < 8 }
+    requires { at < 16 }
     ensures value { result ≡ three_of (drop at bytes.now) }
     ensures within { result < 4096 }
 {
@@ -166,22 +171,31 @@ fn mixed(a: u8, b: u8, c: u8) -> usize
     (usize::from(a) * 577 + usize::from(b) * 37 + usize::from(c)) % 4096
 }
 
-/// The bucket of five bytes, by the numbers of the first three and of the last three.
+/// The mark of five bytes, by the numbers of the first three and of the last three.
 pub(crate) fn five_at(first: usize, second: usize) -> usize
     requires { (first < 4096) × (second < 4096) }
     ensures value { result ≡ five_at first second }
-    ensures within { result < 16384 }
+    ensures within { result < 65536 }
 {
     4096 + (first * 61 + second) % 4096
 }
 
-/// The bucket of eight bytes, by these numbers of the first five, and that of the last three.
+/// The mark of eight bytes, by these numbers of the first five, and that of the last three.
 pub(crate) fn eight_at(first: usize, second: usize, third: usize) -> usize
     requires { (first < 4096) × (second < 4096) × (third < 4096) }
     ensures value { result ≡ eight_at first second third }
-    ensures within { result < 16384 }
+    ensures within { result < 65536 }
 {
-    8192 + (first * 67 + second * 131 + third) % 8192
+    16384 + (first * 67 + second * 131 + third) % 16384
+}
+
+/// The mark of twelve bytes, by these numbers of the first eight, and that of the last three.
+pub(crate) fn twelve_at(first: usize, second: usize, third: usize, fourth: usize) -> usize
+    requires { (first < 4096) × (second < 4096) × (third < 4096) × (fourth < 4096) }
+    ensures value { result ≡ twelve_at first second third fourth }
+    ensures within { result < 65536 }
+{
+    32768 + (first * 67 + second * 131 + third * 263 + fourth) % 32768
 }
 
 /// Appends these needles of the pattern at an index.
