@@ -1,8 +1,8 @@
 -- Names, kept directories, and offsets in the text of a directory.
-use Rattle.std.proofs.Common.{◌≡◌, ℕ, suc, zero, ◌+◌, ◌<◌, ◌≤◌, List, [], ◌∷◌, ◌++◌, length, take, get_or, All}
-use Rattle.std.proofs.Common.{Bool, true, string_bytes, refl, sym, ap, ◌∙◌, subst, append_assoc, add-one, arith}
+use Rattle.std.proofs.Common.{◌≡◌, ℕ, suc, zero, ◌+◌, ◌≤◌, List, [], ◌∷◌, ◌++◌, length, All}
+use Rattle.std.proofs.Common.{Bool, true, string_bytes, refl, sym, ap, ◌∙◌, subst, append_assoc, arith}
 use Rattle.std.proofs.lemmas.List.{append-nil, length-append}
-use Rattle.std.proofs.lemmas.List.Elements.{All-filter, All-weaker}
+use Rattle.std.proofs.lemmas.List.Elements.{All-cons, All-filter, All-nil, All-weaker}
 use Rattle.ignore_base.specs.Paths.{IsName, JoinsName, directory_of, join_of, joined}
 use Rattle.ignore_dir.specs.declared.dir.Dir.{Dir}
 use Rattle.ignore_dir.specs.Above.{directories_along, dirs_above, names_above, path_along, paths_above}
@@ -27,29 +27,6 @@ front_names [] rest h k d l = absurd (omega (arith, l))
 front_names (x ∷ xs) rest h zero d l = h zero d (omega (arith, l))
 front_names (x ∷ xs) rest h (suc k) d l = front_names xs rest (λ j e m. h (suc j) e (omega (arith, m))) k d (omega (arith, l))
 
-take_next-suc : (names : List (List ℕ)) (i : ℕ) (n : List ℕ) → i < length names → n ≡ get_or names i n
-    → take (suc i) names ≡ take i names ++ n ∷ []
-take_next-suc [] i n lt is = absurd (omega arith)
-take_next-suc (x ∷ xs) zero n lt is = ap (λ y. y ∷ []) (sym is)
-take_next-suc (x ∷ xs) (suc i) n lt is = ap (λ l. x ∷ l) (take_next-suc xs i n (omega arith) is)
-
-pub take_next : (names : List (List ℕ)) (i : ℕ) (n : List ℕ) → i < length names → n ≡ get_or names i n
-    → take (i + 1) names ≡ take i names ++ n ∷ []
-take_next names i n lt is = rw add-one (take_next-suc names i n lt is)
-
-pub take_names : (names : List (List ℕ)) (i : ℕ) → All IsName names → All IsName (take i names)
-take_names [] zero h k d l = h k d l
-take_names [] (suc i) h k d l = h k d l
-take_names (x ∷ xs) zero h k d l = absurd (omega (arith, l))
-take_names (x ∷ xs) (suc i) h zero d l = h zero d (omega (arith, l))
-take_names (x ∷ xs) (suc i) h (suc k) d l = take_names xs i (λ j e m. h (suc j) e (omega (arith, m))) k d (omega (arith, l))
-
-pub take_all : (names : List (List ℕ)) (i : ℕ) → length names ≤ i → take i names ≡ names
-take_all [] zero le = refl
-take_all [] (suc i) le = refl
-take_all (x ∷ xs) zero le = absurd (omega arith)
-take_all (x ∷ xs) (suc i) le = ap (λ l. x ∷ l) (take_all xs i (omega arith))
-
 pub slashed-append : (a b : List (List ℕ)) → slashed (a ++ b) ≡ slashed a ++ slashed b
 slashed-append [] b = refl
 slashed-append (x ∷ xs) b = ap (λ t. x ++ 47 ∷ t) (slashed-append xs b) ∙ sym (append_assoc x (47 ∷ slashed xs) (slashed b))
@@ -72,26 +49,7 @@ loaded_front g c front (n ∷ rest) a names h =
     a.inside (front ++ n ∷ []) (Loaded next.0) (front_names (front ++ n ∷ []) rest (subst (All IsName)
     (sym move) names)) next.1 front n refl
 
-pub take_drop : (names : List (List ℕ)) (i : ℕ) → (rest : List (List ℕ)) × (names ≡ take i names ++ rest)
-take_drop [] zero = ([], refl)
-take_drop [] (suc i) = ([], refl)
-take_drop (x ∷ xs) zero = (x ∷ xs, refl)
-take_drop (x ∷ xs) (suc i) = let r = take_drop xs i in (r.0, ap (λ l. x ∷ l) r.1)
-
-pub loaded_take : (g : QueryScene) (c : Cache) (names : List (List ℕ)) (i : ℕ) → Agrees g c → All IsName names → IsLoaded c names
-    → IsLoaded c (take i names)
-loaded_take g c names i a clean h =
-    let r = take_drop names i in
-    loaded_front g c (take i names) r.0 a (subst (All IsName) r.1 clean) (subst (IsLoaded c) r.1 h)
-
 -- Offsets.
-
-All-cons : {A : Type 0} (P : A → Type 0) (x : A) (xs : List A) → P x → All P xs → All P (x ∷ xs)
-All-cons P x xs h k zero d l = h
-All-cons P x xs h k (suc i) d l = k i d (omega (arith, l))
-
-All-nil : {A : Type 0} (P : A → Type 0) → All P []
-All-nil P k d l = absurd (omega (arith, l))
 
 -- each offset of directories along names is after a slash of the text of the names
 placed-after : (text : List ℕ) (offset : ℕ) (dirs : List Dir) (names : List (List ℕ)) → offset ≡ length text

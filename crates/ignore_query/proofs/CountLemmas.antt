@@ -3,12 +3,14 @@ use lib.Pointwise.{pointwise}
 use Rattle.std.proofs.Common.{◌≡◌, ◌≢◌, ℕ, ◌+◌, Bool, true, false, cond, not, All, List, [], ◌∷◌, filter, length, map, string_bytes}
 use Rattle.std.proofs.Common.{refl, sym, ◌∙◌, ap, subst, arith, zero, suc, ◌&&◌, ◌||◌, Option, Some, is_some, take, ◌-◌}
 use Rattle.std.proofs.Math.Logic.{∥∥₁_elim}
+use Rattle.std.proofs.lemmas.Bool.{and_from, and_parts}
 use Rattle.std.proofs.lemmas.List.Elements.{All-head, All-map, All-tail, All-weaker}
 use Rattle.std.proofs.lemmas.List.Filters.{length-filter_both}
 use Rattle.std.proofs.lemmas.Map.Keys.{IsDistinct-from_sorted}
 use Rattle.std.proofs.lemmas.Map.Text.{is_eq-slice_cmp}
 use Rattle.std.proofs.lemmas.Map.Views.{All-found}
 use Rattle.std.proofs.lemmas.Slice.Eq.{bytes_eq-Decides, slice_eq-Decides}
+use Rattle.std.specs.Cmp.{both_ways}
 use Rattle.std.specs.BTreeMap.{IsOrdered, btree_map_len, get}
 use Rattle.std.specs.Cmp.Lexicographic.{slice_cmp}
 use Rattle.std.specs.List.{AllByRecursion, IsDistinct, list_all, list_any}
@@ -89,12 +91,6 @@ forgotten_sum m left dir clean keys ordered is = ∥∥₁_elim keys (ℕ_set _ 
 
 -- Each is listed once.
 
-both_ways : (a b : Bool) → (a ≡ true → b ≡ true) → (b ≡ true → a ≡ true) → a ≡ b
-both_ways true true f h = refl
-both_ways true false f h = sym (f refl)
-both_ways false true f h = h refl
-both_ways false false f h = refl
-
 pub names_are : (key : List ℕ) (k : IsKey key) → names_in key ≡ k.0
 names_are key k = ap names_in k.2 ∙ names_key k.0 k.1
 
@@ -143,14 +139,6 @@ distinct [] all d = d
 distinct (e ∷ es) all d =
     let P : Entry → Type 0 = λ x. IsKey (string_bytes x.0) in
     (apart e es (All-head P e es all) (All-tail P e es all) d.0, distinct es (All-tail P e es all) d.1)
-
-and_from : (a b : Bool) → a ≡ true → b ≡ true → (a && b) ≡ true
-and_from true b p q = q
-and_from false b p q = p
-
-and_parts : (a b : Bool) → (a && b) ≡ true → (a ≡ true) × (b ≡ true)
-and_parts true b h = (refl, h)
-and_parts false b h = absurd (cc)
 
 proper : Entry → Bool
 proper e = list_all is_proper (names_in (string_bytes e.0))

@@ -1,22 +1,22 @@
 -- What is kept after some directories were forgotten, also for another tree.
 use Rattle.std.proofs.Common.{◌≡◌, ◌≢◌, ℕ, zero, suc, ◌-◌, ◌<◌, ◌≤◌, take, Bool, true, false, not, ◌&&◌, ◌||◌, All, List, [], ◌∷◌, ◌++◌, length}
 use Rattle.std.proofs.Common.{get_or, cond, filter, reverse, Option, Some, None, refl, sym, ◌∙◌, ap, subst, append_assoc}
-use Rattle.std.proofs.Common.{string_bytes, nat_eq, eqb, eqb-true, eq-eqb, String, Global, arith}
+use Rattle.std.proofs.Common.{string_bytes, nat_eq, eqb, eqb-true, eq-eqb, arith}
 use Rattle.std.proofs.lemmas.List.{append-nil}
 use Rattle.std.proofs.lemmas.List.Splits.{join_with_byte-slice_split}
 use Rattle.std.proofs.Math.Dec.{eqb-suc-zero}
 use Rattle.std.proofs.Math.Logic.{∥∥₁_elim}
+use Rattle.std.specs.Cmp.{both_ways}
 use Rattle.std.specs.List.{list_all, starts_with}
-use Rattle.std.specs.Ordering.{is_eq, nat_cmp}
-use Rattle.std.specs.Cmp.Lexicographic.{slice_cmp}
 use Rattle.std.specs.Map.{lookup}
 use Rattle.std.specs.Str.{bytes_eq}
-use Rattle.std.specs.BTreeMap.{BTreeMap, get_by_text}
+use Rattle.std.specs.BTreeMap.{get_by_text}
 use mathlib.Core.HLevel.{⊥_prop}
 use Rattle.std.proofs.lemmas.Map.Text.{is_eq-slice_cmp}
 use Rattle.std.proofs.lemmas.Slice.Eq.{bytes_eq-Decides}
 use Rattle.ignore_base.specs.Paths.{IsName, components, is_proper, join_of, joined}
 use Rattle.ignore_base.proofs.CleanLemmas.{names-components}
+use Rattle.ignore_dir.proofs.ChainLemmas.{slashed-more}
 use Rattle.ignore_dir.specs.declared.dir.Dir.{Dir}
 use Rattle.ignore_dir.specs.Above.{canonical_names, directories_along, dirs_above, names_above, needs_above, path_along, paths_above}
 use Rattle.ignore_dir.specs.Chains.{placed_along, slashed}
@@ -40,16 +40,12 @@ use Rattle.ignore_query.specs.Reached.{scene_of}
 use Rattle.ignore_files.specs.Tree.{Tree}
 use Rattle.ignore_query.specs.Forget.{IsOwn, IsSameKept, is_at_or_below, is_key_in, key_of}
 use Rattle.ignore_query.proofs.ChainLemmas.{counting-most, front_names, loaded_front, path_along-more}
+use Rattle.ignore_query.proofs.EntryLemmas.{Entry, at_text}
+use Rattle.ignore_query.proofs.KeyLemmas.{Map}
 use Rattle.ignore_query.proofs.KeepLemmas.{Ends, SameAbove, Whole, ends, head_whole, last, none, tail_names}
 use Rattle.ignore_query.proofs.ListLemmas.{above-passed}
 
 -- Keys that begin with a key.
-
-both_ways : (a b : Bool) → (a ≡ true → b ≡ true) → (b ≡ true → a ≡ true) → a ≡ b
-both_ways true true f h = refl
-both_ways true false f h = sym (f refl)
-both_ways false true f h = h refl
-both_ways false false f h = refl
 
 and_true : (b : Bool) → (b && true) ≡ b
 and_true true = refl
@@ -129,12 +125,6 @@ key_by_names dir names h clean = ap (starts_with nat_eq (slashed names)) (key_is
 
 -- Entries that are left.
 
-abbrev Entry : Type 0
-Entry = String Global × Kept
-
-abbrev at_text : List ℕ → String Global → Bool
-at_text cs k = is_eq (slice_cmp nat_cmp cs (string_bytes k))
-
 nothing : (b : Bool) (o : Option Kept) → o ≡ None → o ≡ cond b o None
 nothing true o h = refl
 nothing false o h = h
@@ -171,9 +161,6 @@ turned : (b : Bool) (o : Option Kept) → cond (not b) o None ≡ cond b None o
 turned true o = refl
 turned false o = refl
 
-abbrev Map : Type 0
-Map = BTreeMap (String Global) Kept
-
 pub still : (m m' : Map) (dir : List ℕ) → m'.entries ≡ filter (λ e. not (is_key_in dir (string_bytes e.0))) m.entries
     → (cs : List ℕ) → get_by_text m' cs ≡ cond (is_key_in dir cs) None (get_by_text m cs)
 still m m' dir e cs =
@@ -191,11 +178,6 @@ starts_more (q ∷ ps) (x ∷ xs) ys h = and_more (nat_eq q x) (starts_with nat_
     and_more : (b x y : Bool) → (x ≡ true → y ≡ true) → (b && x) ≡ true → (b && y) ≡ true
     and_more true x y f h = f h
     and_more false x y f h = h
-
-slashed-more : (names : List (List ℕ)) (name : List ℕ) → slashed (names ++ name ∷ []) ≡ slashed names ++ (name ++ 47 ∷ [])
-slashed-more [] name = refl
-slashed-more (a ∷ names) name =
-    ap (λ t. a ++ 47 ∷ t) (slashed-more names name) ∙ sym (append_assoc a (47 ∷ slashed names) (name ++ 47 ∷ []))
 
 was : (b : Bool) (o : Option Kept) (k : Kept) → cond b None o ≡ Some k → (b ≡ false) × (o ≡ Some k)
 was true o k h = absurd (cc)
@@ -361,9 +343,7 @@ same_ignored : (a : Shared) (before after : Tree) (loads later : List ℕ → Lo
     → IsSameKept (scene_of a before loads) (scene_of a after later) c → (names : List (List ℕ)) (k : Kept) → All IsName names
     → kept_at c names ≡ Some k → Ends names
     → is_ignored (scene_of a after later) names ≡ is_ignored (scene_of a before loads) names
-same_ignored a before after loads later c old same names k clean kept (none e) =
-    ap (is_ignored (scene_of a after later)) e ∙ (root_ignored (scene_of a before loads) (scene_of a after later)
-    ∙ ap (is_ignored (scene_of a before loads)) (sym e))
+same_ignored a before after loads later c old same names k clean kept (none e) = rw e (root_ignored (scene_of a before loads) (scene_of a after later))
 same_ignored a before after loads later c old same names k clean kept (last front n e) =
     let g = scene_of a before loads in
     let h = scene_of a after later in

@@ -1,6 +1,6 @@
 -- The chain of a directory that is added to the list.
 use Rattle.std.proofs.Common.{◌≡◌, ℕ, ◌+◌, ◌<◌, ◌≤◌, All, List, [], ◌∷◌, ◌++◌, length, reverse, Option}
-use Rattle.std.proofs.Common.{Result, IfOk, refl, sym, ◌∙◌, ap, subst, arith}
+use Rattle.std.proofs.Common.{refl, sym, ◌∙◌, ap, subst, arith}
 use Rattle.std.proofs.lemmas.List.{length-append, reverse-append}
 use Rattle.ignore_base.specs.Paths.{IsName}
 use Rattle.ignore_dir.specs.declared.dir.Dir.{Dir}
@@ -102,7 +102,3 @@ pub grown_chain : (g : QueryScene) (c : Cache) (names : List (List ℕ)) (parent
 grown_chain g c names parent dir offset chain whole d o =
     ap (λ x. counted x offset (counting chain)) d
     ∙ (ap (λ n. counted (g.loads (path_along g.root names)).0 n (counting chain)) o ∙ ap counting whole)
-
-pub ok_chain : {E : Type 0} (r : Result (Option Place) E) (Q : List Placed → Option Place → Type 0) (a b : List Placed) → a ≡ b
-    → IfOk r (Q a) → IfOk r (Q b)
-ok_chain r Q a b e h = subst (λ l. IfOk r (Q l)) e h

@@ -1,5 +1,5 @@
 -- What is kept, and one directory more.
-use Rattle.std.proofs.Common.{◌≡◌, ◌≢◌, ℕ, suc, Bool, true, false, not, ◌||◌, cond, All, Contains, List, [], ◌∷◌, ◌++◌, length}
+use Rattle.std.proofs.Common.{◌≡◌, ◌≢◌, ℕ, suc, Bool, true, false, ◌||◌, cond, All, Contains, List, [], ◌∷◌, ◌++◌, length}
 use Rattle.std.proofs.Common.{Option, Some, None, is_some, refl, sym, ◌∙◌, ap, subst, append_assoc, ◌⊎◌, inl, inr, arith}
 use Rattle.std.proofs.Common.{string_bytes, ◌==◌}
 use Rattle.std.proofs.Math.Dec.{eqb-suc-zero}
@@ -20,7 +20,7 @@ use Rattle.ignore_query.specs.declared.kept.Kept.TheVariants.{Ignored, Loaded}
 use Rattle.ignore_levels.specs.Levels.{Keeps, slots_of}
 use Rattle.ignore_levels.specs.declared.list.Place.{Place}
 use Rattle.ignore_levels.proofs.ChainLemmas.{chain-kept}
-use Rattle.ignore_query.specs.Agrees.{Agrees, IsAbove, IsLoaded, IsNext, IsRight, StandsFor, chain_above, is_loaded}
+use Rattle.ignore_query.specs.Agrees.{Agrees, IsAbove, IsLoaded, IsNext, IsRight, StandsFor, chain_above}
 use Rattle.ignore_query.specs.Listed.{IsBelow, SharesLevels, kept_at}
 use Rattle.ignore_query.specs.Reports.{problem_in, problems_at}
 
@@ -112,10 +112,6 @@ slashed_inj (n ∷ ns) (m ∷ ms) p q e =
 
 -- Kept directories.
 
-pub right_loaded : (g : QueryScene) (c : Cache) (names : List (List ℕ)) (k : Kept) → IsRight g c names k → is_loaded k ≡ not (is_ignored g names)
-right_loaded g c names Ignored h = ap not (sym h)
-right_loaded g c names (Loaded place) h = ap not (sym h.0)
-
 -- what is right stays so where each level stays at its place
 pub right_kept : (g : QueryScene) (c c' : Cache) (names : List (List ℕ)) (k : Kept) → Keeps (slots_of c.levels) (slots_of c'.levels)
     → IsRight g c names k → IsRight g c' names k
@@ -135,16 +131,6 @@ Puts c c' key k = (cs : List ℕ) → get_by_text c'.dirs.map cs ≡ update byte
 
 pub puts_from : (b m a : Cache) (key : List ℕ) (k : Kept) → m.dirs ≡ b.dirs → Puts m a key k → Puts b a key k
 puts_from b m a key k e puts cs = puts cs ∙ ap (λ d. update bytes_eq (get_by_text d.map) key (Some k) cs) e
-
-pub puts_others : (c c' : Cache) (key : List ℕ) (k : Kept) → Puts c c' key k → (cs : List ℕ) → cs ≢ key
-    → get_by_text c'.dirs.map cs ≡ get_by_text c.dirs.map cs
-puts_others c c' key k puts cs ne =
-    let P : (b : Bool) → bytes_eq key cs ≡ b → cond b (Some k) (get_by_text c.dirs.map cs) ≡ get_by_text c.dirs.map cs =
-    λ x. elim x as (λ b. bytes_eq key cs ≡ b → cond b (Some k) (get_by_text c.dirs.map cs) ≡ get_by_text c.dirs.map cs) [
-      | true ↦ λ e. absurd (ne (sym ((bytes_eq-Decides key cs).0 e)))
-      | false ↦ λ e. refl
-    ] in
-    puts cs ∙ P (bytes_eq key cs) refl
 
 same_bytes : (cs : List ℕ) → bytes_eq cs cs ≡ true
 same_bytes cs = (bytes_eq-Decides cs cs).1 refl

@@ -10,9 +10,6 @@ use Rattle.ignore_query.specs.Keys.{AreKeys, IsKey}
 abbrev pub Map : Type 0
 Map = BTreeMap (String Global) Kept
 
-pub keys-none : (m : Map) → ((cs : List ℕ) → get_by_text m cs ≡ None) → AreKeys m
-keys-none m empty key k h = let none = empty key in absurd (cc (none, h))
-
 pub keys-same : (m n : Map) → ((cs : List ℕ) → get_by_text n cs ≡ get_by_text m cs) → AreKeys m → AreKeys n
 keys-same m n same are key k h = are key k (sym (same key) ∙ h)
 

@@ -1,7 +1,8 @@
 -- What is kept of the directories that an answer needs.
 use lib.Pointwise.{pointwise}
-use Rattle.std.proofs.Common.{◌≡◌, ◌≢◌, ℕ, ◌-◌, ◌+◌, ◌<◌, take, drop, get_or, Bool, true, false, not, ◌&&◌, ◌||◌, cond, All, List, [], ◌∷◌, ◌++◌}
+use Rattle.std.proofs.Common.{◌≡◌, ◌≢◌, ℕ, ◌-◌, take, Bool, true, false, not, ◌&&◌, ◌||◌, cond, All, List, [], ◌∷◌, ◌++◌}
 use Rattle.std.proofs.Common.{length, map, Option, Some, None, is_some, refl, sym, ◌∙◌, ap, subst, append_assoc, arith}
+use Rattle.std.proofs.lemmas.Bool.{and_parts}
 use Rattle.std.proofs.lemmas.List.{append-nil, length-append}
 use Rattle.std.proofs.lemmas.List.Splits.{join_with_byte-slice_split, length-slice_split}
 use Rattle.std.proofs.lemmas.List.Sums.{take_while-cons}
@@ -16,7 +17,7 @@ use Rattle.ignore_dir.specs.Query.{ancestors, is_ignored, problem_above, rules_v
 use Rattle.ignore_dir.specs.Scene.{QueryScene, path_verdict}
 use Rattle.ignore_query.specs.declared.kept.Cache.{Cache}
 use Rattle.ignore_query.specs.declared.kept.Kept.{Kept}
-use Rattle.ignore_query.specs.declared.kept.Kept.TheVariants.{Ignored, Loaded}
+use Rattle.ignore_query.specs.declared.kept.Kept.TheVariants.{Loaded}
 use Rattle.ignore_query.specs.Agrees.{Agrees, IsLoaded}
 use Rattle.ignore_query.specs.Listed.{kept_at}
 use Rattle.ignore_query.specs.Needs.{KeepsNeeded, is_among, is_kept, is_known, needed}
@@ -24,7 +25,7 @@ use Rattle.ignore_query.specs.Reports.{new_above, new_below, not_kept, problem_i
 use Rattle.ignore_query.proofs.KeepLemmas.{Ends, ends, last, none}
 use Rattle.ignore_query.proofs.ChainLemmas.{front_names, joined-slashed, loaded_front}
 use Rattle.ignore_levels.specs.declared.list.Place.{Place}
-use Rattle.ignore_query.proofs.NeedLemmas.{any-more, needed_way, or_same, or_true, way, way_at}
+use Rattle.ignore_query.proofs.NeedLemmas.{any-more, needed_way, or_same, way}
 use Rattle.ignore_query.proofs.WayLemmas.{last_inj, left, left_all, left_next}
 
 -- The key of the directory in which a path is.
@@ -106,22 +107,7 @@ parent_open g c front n a clean h =
     any-more g front n ∙ (ap (λ b. b || is_ignored g front) (open_front g c [] front a clean1 h refl)
     ∙ (a.right front (Loaded h.0) clean1 h.1).0)
 
--- where it is kept as ignored, one is
-pub parent_shut : (g : QueryScene) (c : Cache) (front : List (List ℕ)) (n : List ℕ) → Agrees g c → All IsName (front ++ n ∷ [])
-    → kept_at c front ≡ Some Ignored → list_any (is_ignored g) (ancestors (front ++ n ∷ [])) ≡ true
-parent_shut g c front n a clean h =
-    any-more g front n ∙ (ap (λ b. list_any (is_ignored g) (ancestors front) || b) (a.right front Ignored (front_names front (n ∷ []) clean) h)
-    ∙ or_true (list_any (is_ignored g) (ancestors front)))
-
 -- Where all that is needed is kept, something is kept of the root, and so is what is above it.
-
-and_left : (a b : Bool) → (a && b) ≡ true → a ≡ true
-and_left true b h = refl
-and_left false b h = h
-
-and_right : (a b : Bool) → (a && b) ≡ true → b ≡ true
-and_right true b h = h
-and_right false b h = cc
 
 some_kept : (o : Option Kept) → is_some o ≡ true → (k : Kept) × (o ≡ Some k)
 some_kept (Some k) h = (k, refl)
@@ -130,8 +116,8 @@ some_kept None h = cc
 root_known : (g : QueryScene) (c : Cache) (names : List (List ℕ)) → length names ≢ 0 → is_known g c names ≡ true → is_kept c [] ≡ true
 root_known g c [] some h = absurd (some refl)
 root_known g c (n ∷ names) some h =
-    and_left (is_kept c []) (list_all (is_kept c) (cond (is_ignored g []) [] (way g (n ∷ []) names)))
-    (sym (ap (list_all (is_kept c)) (needed_way g (n ∷ names))) ∙ h)
+    (and_parts (is_kept c []) (list_all (is_kept c) (cond (is_ignored g []) [] (way g (n ∷ []) names)))
+    (sym (ap (list_all (is_kept c)) (needed_way g (n ∷ names))) ∙ h)).0
 
 some_components : (path : List ℕ) → length (components path) ≢ 0
 some_components path z = omega (arith, z, length-slice_split is_slash path)
@@ -166,12 +152,12 @@ kept_among : (c : Cache) (needs : List (List (List ℕ))) (q : List (List ℕ)) 
     → is_among needs q ≡ true → is_kept c q ≡ true
 kept_among c [] q all h = absurd (cc)
 kept_among c (d ∷ ds) q all h =
-    let rest = kept_among c ds q (and_right (is_kept c d) (list_all (is_kept c) ds) all) in
+    let rest = kept_among c ds q (and_parts (is_kept c d) (list_all (is_kept c) ds) all).1 in
     let P : (b : Bool) → pointwise bytes_eq q d ≡ b → (b || is_among ds q) ≡ true → is_kept c q ≡ true =
     λ x. elim x as (λ b. pointwise bytes_eq q d ≡ b → (b || is_among ds q) ≡ true → is_kept c q ≡ true) [
       | true ↦ λ e k.
           ap (is_kept c) ((slice_eq-Decides bytes_eq-Decides q d (pointwise bytes_eq q d) refl).0 e)
-          ∙ and_left (is_kept c d) (list_all (is_kept c) ds) all
+          ∙ (and_parts (is_kept c d) (list_all (is_kept c) ds) all).0
       | false ↦ λ e k. rest k
     ] in
     P (pointwise bytes_eq q d) refl h
@@ -193,9 +179,9 @@ none_new g c front (n ∷ rest) all =
     λ x. elim x as (λ b. is_ignored g front ≡ b → not_kept c (cond (not b) (front ∷ more) []) ≡ []) [
       | true ↦ λ e. refl
       | false ↦ λ e.
-          ap (λ b. cond (not b) (front ∷ not_kept c more) (not_kept c more)) (and_left (is_kept c front) _ all)
+          ap (λ b. cond (not b) (front ∷ not_kept c more) (not_kept c more)) (and_parts (is_kept c front) _ all).0
           ∙ none_new g c (front ++ n ∷ []) rest (sym (ap (λ b. list_all (is_kept c) (cond b [] (way g (front ++ n ∷ []) rest))) e)
-          ∙ and_right (is_kept c front) _ all)
+          ∙ (and_parts (is_kept c front) _ all).1)
     ] in
     ap (λ l. not_kept c (take_while (λ f. not (is_ignored g f)) l)) (left_next front n rest)
     ∙ (ap (not_kept c) (take_while-cons (λ f. not (is_ignored g f)) front next) ∙ P (is_ignored g front) refl)
@@ -210,20 +196,6 @@ pub none_above : (g : QueryScene) (c : Cache) → c.has_above ≡ true → new_a
 none_above g c h = ap (λ b. cond b None (problem_above g)) h
 
 -- One directory after the other.
-
--- where all that is left is kept, the next is, and so is what is left after it
-pub known_next : (g : QueryScene) (c : Cache) (names : List (List ℕ)) (i : ℕ) (n : List ℕ) → i < length names → n ≡ get_or names i n
-    → take (i + 1) names ≡ take i names ++ n ∷ [] → list_all (is_kept c) (way g (take i names) (drop i names)) ≡ true
-    → (is_kept c (take i names) ≡ true)
-    × (is_ignored g (take i names) ≡ false → list_all (is_kept c) (way g (take (i + 1) names) (drop (i + 1) names)) ≡ true)
-known_next g c names i n lt is more h =
-    let front = take i names in
-    let rest : List (List (List ℕ)) = way g (take (i + 1) names) (drop (i + 1) names) in
-    let all = sym (ap (list_all (is_kept c)) (way_at g names i n lt is more)) ∙ h in (
-      and_left (is_kept c front) (list_all (is_kept c) (cond (is_ignored g front) [] rest)) all,
-      λ e. ap (λ b. list_all (is_kept c) (cond b [] rest)) (sym e)
-          ∙ and_right (is_kept c front) (list_all (is_kept c) (cond (is_ignored g front) [] rest)) all,
-    )
 
 pub next_top : (front : List (List ℕ)) (n : List ℕ) → front ++ n ∷ [] ≡ [] → ⊥
 next_top [] n e = cc (e)

@@ -13,6 +13,8 @@ pub mod GrowLemmas
 pub mod NeedLemmas
 pub mod WayLemmas
 pub mod WhyLemmas
+pub mod StandLemmas
+pub mod ReadLemmas
 pub mod QueryLemmas
 pub mod FreshLemmas
 pub mod TurnLemmas

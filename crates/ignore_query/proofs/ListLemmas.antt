@@ -2,7 +2,7 @@
 use Rattle.std.proofs.Common.{◌≡◌, ℕ, suc, zero, ◌+◌, ◌-◌, ◌<◌, ◌≤◌, All, List, [], ◌∷◌, ◌++◌, length, reverse, take, Option, Some}
 use Rattle.std.proofs.Common.{None, string_bytes, refl, sym, ◌∙◌, ap, subst, inl, inr, true, false, arith}
 use Rattle.std.proofs.lemmas.List.{length-append, length-map}
-use Rattle.std.proofs.lemmas.List.Elements.{All-filter}
+use Rattle.std.proofs.lemmas.List.Elements.{All-cons, All-filter, All-nil}
 use Rattle.std.specs.BTreeMap.{get_by_text}
 use Rattle.ignore_base.specs.Paths.{IsName, join_of}
 use Rattle.ignore_dir.specs.declared.dir.Dir.{Dir}
@@ -26,13 +26,6 @@ use Rattle.ignore_query.proofs.ChainLemmas.{counting-most, front_names, text-len
 use Rattle.ignore_query.proofs.KeepLemmas.{AddsOne, Ends, SameAbove, above_kept, ends, last, none, put_cases, right_kept}
 
 -- Offsets.
-
-All-nil : {A : Type 0} (P : A → Type 0) → All P []
-All-nil P k d l = absurd (omega (arith, l))
-
-All-cons : {A : Type 0} (P : A → Type 0) (x : A) (xs : List A) → P x → All P xs → All P (x ∷ xs)
-All-cons P x xs h k zero d l = h
-All-cons P x xs h k (suc i) d l = k i d (omega (arith, l))
 
 -- the offset of each directory with a name after it is less than the length of the text
 placed-within : (offset : ℕ) (dirs : List Dir) (names : List (List ℕ)) (most : ℕ) → length dirs ≤ length names

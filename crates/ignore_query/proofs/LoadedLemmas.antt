@@ -1,6 +1,7 @@
 -- The rules of kept directories are those of their loads.
-use Rattle.std.proofs.Common.{◌≡◌, ◌≢◌, ℕ, ◌+◌, ◌<◌, ◌==◌, Bool, true, false, not, ◌||◌, cond, All, List, [], ◌∷◌, ◌++◌, Option, Some, None}
+use Rattle.std.proofs.Common.{◌≡◌, ℕ, ◌+◌, ◌<◌, ◌==◌, Bool, true, false, not, cond, All, List, [], ◌∷◌, ◌++◌, Option, Some, None}
 use Rattle.std.proofs.Common.{length, map, string_bytes, eqb-true, eq-eqb, refl, sym, ◌∙◌, ap, subst, arith}
+use Rattle.std.proofs.lemmas.Bool.{false_from_ne_true, not-false, or_parts}
 use Rattle.std.proofs.lemmas.List.{nil_from_length}
 use Rattle.std.proofs.lemmas.List.Elements.{All-head, All-tail}
 use Rattle.std.proofs.lemmas.Map.Views.{All-found}
@@ -39,22 +40,14 @@ use Rattle.ignore_query.proofs.WhyLemmas.{parent_next}
 
 -- A directory that doesn't count has no rules.
 
-or_false : (a b : Bool) → (a || b) ≡ false → (a ≡ false) × (b ≡ false)
-or_false true b h = absurd (cc (h))
-or_false false b h = (refl, h)
-
-not_false : (b : Bool) → not b ≡ false → b ≡ true
-not_false true h = refl
-not_false false h = absurd (cc (h))
-
 no_rules : (rules : List Rule) → not (length rules == 0) ≡ false → rules ≡ []
-no_rules rules h = nil_from_length rules (eqb-true (length rules) 0 (not_false (length rules == 0) h))
+no_rules rules h = nil_from_length rules (eqb-true (length rules) 0 (not-false (length rules == 0) h))
 
 none_in : (path : List ℕ) (dir : Dir) → counts dir ≡ false → rules_in path dir ≡ []
 none_in path dir h =
-    let a = or_false (not (length dir.custom.rules == 0)) _ (or_false (has_rules dir) dir.mark h).0 in
-    let b = or_false (not (length dir.ignore.rules == 0)) _ a.1 in
-    let d = or_false (not (length dir.gitignore.rules == 0)) _ b.1 in
+    let a = or_parts (not (length dir.custom.rules == 0)) _ (or_parts (has_rules dir) dir.mark h).0 in
+    let b = or_parts (not (length dir.ignore.rules == 0)) _ a.1 in
+    let d = or_parts (not (length dir.gitignore.rules == 0)) _ b.1 in
     let name = named_in path in
     ap (λ (l : List Rule). map (name Custom) l ++ (map (name Ignore) dir.ignore.rules ++ (map (name Gitignore) dir.gitignore.rules
     ++ map (name Exclude) dir.exclude.rules))) (no_rules dir.custom.rules a.0)
@@ -87,12 +80,8 @@ own c key place p f e =
     ap (λ x. own_level c key (Loaded x)) f.is
     ∙ (ap (level_from n) f.found ∙ ap (λ b. cond b (Some f.level) None) (eq-eqb f.level.offset n (f.offset ∙ e)))
 
-off : (b : Bool) → b ≢ true → b ≡ false
-off true h = absurd (h refl)
-off false h = refl
-
 lesser : (level : Level) (n : ℕ) → level.offset < n → level_from n (Some level) ≡ None
-lesser level n lt = ap (λ b. cond b (Some level) None) (off (level.offset == n) (λ h. let e = eqb-true level.offset n h in omega (arith, e, lt)))
+lesser level n lt = ap (λ b. cond b (Some level) None) (false_from_ne_true (level.offset == n) (λ h. let e = eqb-true level.offset n h in omega (arith, e, lt)))
 
 not_own : (c : Cache) (key : List ℕ) (place : Option Place) (chain : List Placed) → IsChain (slots_of c.levels) place chain
     → IsBelow (length (string_bytes c.base) + length key) chain → own_level c key (Loaded place) ≡ None

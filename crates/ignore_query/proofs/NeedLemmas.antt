@@ -1,10 +1,11 @@
 -- What stays kept, and the directories that an answer needs, one by one.
 use lib.Pointwise.{pointwise}
-use Rattle.std.proofs.Common.{◌≡◌, ℕ, ◌+◌, ◌<◌, ◌≤◌, Bool, true, false, not, ◌||◌, cond, All, List, [], ◌∷◌, ◌++◌, length, map}
-use Rattle.std.proofs.Common.{filter, take, drop, get_or, Option, Some, None, is_some, refl, sym, ◌∙◌, ap}
+use Rattle.std.proofs.Common.{◌≡◌, ℕ, Bool, true, false, not, ◌||◌, cond, All, List, [], ◌∷◌, ◌++◌, map}
+use Rattle.std.proofs.Common.{filter, Option, Some, None, is_some, refl, sym, ◌∙◌, ap}
 use Rattle.std.proofs.lemmas.List.{append-nil, map-append}
 use Rattle.std.proofs.lemmas.List.Folds.{list_any-append}
 use Rattle.std.proofs.lemmas.Slice.Eq.{bytes_eq-Decides, slice_eq-Decides}
+use Rattle.std.specs.Cmp.{both_ways}
 use Rattle.std.specs.BTreeMap.{get_by_text}
 use Rattle.std.specs.List.{list_any}
 use Rattle.std.specs.Str.{bytes_eq}
@@ -16,9 +17,9 @@ use Rattle.ignore_levels.specs.Levels.{Keeps, slots_of}
 use Rattle.ignore_levels.proofs.PassLemmas.{keeps-then}
 use Rattle.ignore_query.specs.declared.kept.Cache.{Cache}
 use Rattle.ignore_query.specs.declared.kept.Kept.{Kept}
-use Rattle.ignore_query.specs.Needs.{KeepsNeeded, Stays, is_among, is_kept, needed}
+use Rattle.ignore_query.specs.Needs.{Stays, needed}
 use Rattle.ignore_query.proofs.KeepLemmas.{Puts, SameAbove, puts_stays, slashed_inj}
-use Rattle.ignore_query.proofs.WayLemmas.{drop_all, drop_next, left, left_all, left_next, map-map}
+use Rattle.ignore_query.proofs.WayLemmas.{left, left_all, left_next, map-map, or_true}
 
 -- What stays kept.
 
@@ -65,12 +66,6 @@ known_kept c key k h text =
 
 -- Keys by names.
 
-both_ways : (a b : Bool) → (a ≡ true → b ≡ true) → (b ≡ true → a ≡ true) → a ≡ b
-both_ways true true f h = refl
-both_ways true false f h = sym (f refl)
-both_ways false true f h = h refl
-both_ways false false f h = refl
-
 pub same_key : (a b : List (List ℕ)) → All IsName a → All IsName b → bytes_eq (slashed a) (slashed b) ≡ pointwise bytes_eq b a
 same_key a b p q =
     let same = slice_eq-Decides bytes_eq-Decides b a (pointwise bytes_eq b a) refl in
@@ -97,7 +92,7 @@ ancestors-append (x ∷ xs) b =
     (map-append (λ q. x ∷ q) (ancestors xs) (map (λ q. xs ++ q) (ancestors b))
     ∙ ap (λ (l : List (List (List ℕ))). map (λ q. x ∷ q) (ancestors xs) ++ l) (map-map (λ q. x ∷ q) (λ q. xs ++ q) (ancestors b)))
 
-ancestors-more : (front : List (List ℕ)) (n : List ℕ) → ancestors (front ++ n ∷ []) ≡ ancestors front ++ front ∷ []
+pub ancestors-more : (front : List (List ℕ)) (n : List ℕ) → ancestors (front ++ n ∷ []) ≡ ancestors front ++ front ∷ []
 ancestors-more front n =
     ancestors-append front (n ∷ []) ∙ ap (λ (f : List (List ℕ)). ancestors front ++ f ∷ []) (append-nil front)
 
@@ -105,16 +100,9 @@ pub or_false : (b : Bool) → (b || false) ≡ b
 or_false true = refl
 or_false false = refl
 
-pub or_true : (b : Bool) → (b || true) ≡ true
-or_true true = refl
-or_true false = refl
-
 pub any-more : (g : QueryScene) (front : List (List ℕ)) (n : List ℕ)
     → list_any (is_ignored g) (ancestors (front ++ n ∷ [])) ≡ (list_any (is_ignored g) (ancestors front) || is_ignored g front)
-any-more g front n =
-    ap (list_any (is_ignored g)) (ancestors-more front n)
-    ∙ (list_any-append (is_ignored g) (ancestors front) (front ∷ [])
-    ∙ ap (λ b. list_any (is_ignored g) (ancestors front) || b) (or_false (is_ignored g front)))
+any-more g front n = rw (ancestors-more front n, list_any-append, or_false)
 
 -- what is below an ignored directory is below an ignored one
 closed : (g : QueryScene) (front : List (List ℕ)) (n : List ℕ) (q : List (List ℕ)) → is_ignored g front ≡ true
@@ -136,10 +124,7 @@ none_opened g front n (q ∷ qs) h =
 
 opened_next : (g : QueryScene) (front : List (List ℕ)) (n : List ℕ) → opened g front ≡ true → is_ignored g front ≡ false
     → opened g (front ++ n ∷ []) ≡ true
-opened_next g front n o h =
-    ap not (any-more g front n)
-    ∙ (ap (λ b. not (list_any (is_ignored g) (ancestors front) || b)) h
-    ∙ (ap not (or_false (list_any (is_ignored g) (ancestors front))) ∙ o))
+opened_next g front n o h = rw (any-more g front n, h, or_false) o
 
 way_is : (g : QueryScene) (front rest : List (List ℕ)) → opened g front ≡ true → filter (opened g) (left front rest) ≡ way g front rest
 way_is g front [] o = refl
@@ -158,44 +143,6 @@ pub needed_way : (g : QueryScene) (names : List (List ℕ)) → needed g names �
 unfolding needed
 needed_way g names = ap (filter (opened g)) (sym (left_all names)) ∙ way_is g [] names refl
 
--- the next one
-pub way_at : (g : QueryScene) (names : List (List ℕ)) (i : ℕ) (n : List ℕ) → i < length names → n ≡ get_or names i n
-    → take (i + 1) names ≡ take i names ++ n ∷ []
-    → way g (take i names) (drop i names)
-    ≡ take i names ∷ cond (is_ignored g (take i names)) [] (way g (take (i + 1) names) (drop (i + 1) names))
-way_at g names i n lt is more =
-    ap (way g (take i names)) (drop_next names i n lt is)
-    ∙ ap (λ (f : List (List ℕ)). take i names ∷ cond (is_ignored g (take i names)) [] (way g f (drop (i + 1) names))) (sym more)
-
-pub way_end : (g : QueryScene) (names : List (List ℕ)) (i : ℕ) → length names ≤ i → way g (take i names) (drop i names) ≡ []
-way_end g names i le = ap (way g (take i names)) (drop_all names i le)
-
-or_assoc : (a b c : Bool) → (a || (b || c)) ≡ ((a || b) || c)
+pub or_assoc : (a b c : Bool) → (a || (b || c)) ≡ ((a || b) || c)
 or_assoc true b c = refl
 or_assoc false b c = refl
-
--- what is kept with the directories that are left is kept with the next one and those after it
-pub kept_next : (g : QueryScene) (c c' : Cache) (names q : List (List ℕ)) (i : ℕ) (n : List ℕ) (key : List ℕ) → i < length names
-    → n ≡ get_or names i n → take (i + 1) names ≡ take i names ++ n ∷ [] → All IsName (take i names) → All IsName q
-    → key ≡ slashed (take i names)
-    → is_kept c' q ≡ (is_kept c q || bytes_eq key (slashed q))
-    → (is_kept c q || is_among (way g (take i names) (drop i names)) q)
-    ≡ (is_kept c' q || is_among (cond (is_ignored g (take i names)) [] (way g (take (i + 1) names) (drop (i + 1) names))) q)
-kept_next g c c' names q i n key lt is more clean cleanq k put =
-    let front = take i names in
-    let rest = cond (is_ignored g front) [] (way g (take (i + 1) names) (drop (i + 1) names)) in
-    let here : bytes_eq key (slashed q) ≡ pointwise bytes_eq q front = ap (λ t. bytes_eq t (slashed q)) k ∙ same_key front q clean cleanq in
-    ap (λ l. is_kept c q || is_among l q) (way_at g names i n lt is more)
-    ∙ (or_assoc (is_kept c q) (pointwise bytes_eq q front) (is_among rest q)
-    ∙ ap (λ b. b || is_among rest q) (sym (put ∙ ap (λ b. is_kept c q || b) here)))
-
--- the same after a step that keeps no directory, by the same names
-pub keeps_after : (g : QueryScene) (a b c : Cache) (names ms : List (List ℕ)) → b.dirs ≡ a.dirs → names ≡ ms
-    → KeepsNeeded (needed g names) b c → KeepsNeeded (needed g ms) a c
-keeps_after g a b c names ms same is k = record {
-  above = k.above;
-  dirs = λ q clean.
-      k.dirs q clean
-      ∙ (ap (λ d. is_some (get_by_text d.map (slashed q)) || is_among (needed g names) q) same
-      ∙ ap (λ l. is_kept a q || is_among (needed g l) q) is);
-}

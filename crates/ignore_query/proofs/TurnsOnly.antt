@@ -2,6 +2,7 @@
 -- kept stays kept, and nothing comes to it that no answer needs.
 use Rattle.std.proofs.Common.{◌≡◌, ℕ, Bool, true, false, not, ◌||◌, ◌&&◌, cond, All, List, [], ◌∷◌, ◌++◌, map, Option, Some}
 use Rattle.std.proofs.Common.{None, is_some, refl, sym, ap, ◌∙◌, subst}
+use Rattle.std.proofs.lemmas.Bool.{and_parts}
 use Rattle.std.proofs.lemmas.List.Elements.{All-cons, All-nil}
 use Rattle.std.proofs.lemmas.List.Sums.{take_while-cons}
 use Rattle.std.specs.List.{list_all, take_while}
@@ -42,15 +43,11 @@ Stays-kept old new names stays h = some_stays old new names (kept_at old names) 
 pub Stays-loaded : (old new : Cache) (names : List (List ℕ)) → Stays old new → IsLoaded old names → IsLoaded new names
 Stays-loaded old new names stays (place, h) = (place, stays.dirs names (Loaded place) h)
 
-both_true : (a b : Bool) → (a && b) ≡ true → (a ≡ true) × (b ≡ true)
-both_true true b h = (refl, h)
-both_true false b h = absurd (never h refl)
-
 all_stay : (old new : Cache) (fronts : List (List (List ℕ))) → Stays old new → list_all (is_kept old) fronts ≡ true
     → list_all (is_kept new) fronts ≡ true
 all_stay old new [] stays h = refl
 all_stay old new (front ∷ fronts) stays h =
-    let both = both_true (is_kept old front) (list_all (is_kept old) fronts) h in
+    let both = and_parts (is_kept old front) (list_all (is_kept old) fronts) h in
     ap (λ b. b && list_all (is_kept new) fronts) (Stays-kept old new front stays both.0) ∙ all_stay old new fronts stays both.1
 
 -- where all that an answer needs was kept, it stays kept, and no directory is loaded for it

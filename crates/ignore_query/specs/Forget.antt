@@ -7,17 +7,22 @@ use Rattle.std.specs.Str.{bytes_eq}
 use Rattle.ignore_base.specs.Text.{Bytes, Path}
 use Rattle.ignore_base.specs.Paths.{IsName}
 use Rattle.ignore_dir.specs.Above.{dirs_above, path_along, paths_above}
+use Rattle.ignore_dir.specs.Load as load
 use Rattle.ignore_dir.specs.Query.{is_dir_there}
 use Rattle.ignore_dir.specs.Scene.{QueryScene}
+use Rattle.ignore_files.specs.Tree.{Tree}
 use Rattle.ignore_levels.specs.Levels.{floor_at, slots_of}
 use Rattle.ignore_levels.specs.declared.list.Place.{Place}
 use Rattle.ignore_levels.specs.declared.list.Slot.{Slot}
+use Rattle.ignore_query.specs.declared.asked.Asked.{Asked}
 use Rattle.ignore_query.specs.declared.kept.Cache.{Cache}
 use Rattle.ignore_query.specs.declared.kept.Kept.{Kept}
 use Rattle.ignore_query.specs.declared.kept.Kept.TheVariants.{Loaded}
+use Rattle.ignore_query.specs.Agrees.{Agrees}
 use Rattle.ignore_query.specs.Keys.{dirs_in}
 use Rattle.ignore_query.specs.Listed.{kept_at}
 use Rattle.ignore_query.specs.Needs.{is_among, is_kept}
+use Rattle.ignore_query.specs.Reached.{scene_of}
 
 -- the directory with some names is that with the names `front`, or is below it. `a`, `b` is at or
 -- below `a`, and `ab` isn't
@@ -56,6 +61,13 @@ pub record IsSameKept (g h : QueryScene) (c : Cache) : Type 0 where
       ≡ dirs_above g.loads g.settings (paths_above g.tree g.settings g.root)
   pub dirs : (names : List Bytes) (place : Option Place) → All IsName names → kept_at c names ≡ Some (Loaded place)
       → (h.loads (path_along h.root names)).0 ≡ (g.loads (path_along g.root names)).0
+
+-- what is kept, and agrees with a tree, agrees with each other tree in which all of that is the same
+abbrev pub SameKeptAgrees : Type 0
+SameKeptAgrees = (a : Asked) (before after : Tree) (loads later : Path → load.Loaded) (c : Cache)
+    → let g = scene_of a before loads in
+    let h = scene_of a after later in
+    Agrees g c → IsSameKept g h c → Agrees h c
 
 -- the level at a place is that of what is kept, and its offset is at least a floor
 abbrev pub IsFreed : List Slot → Kept → ℕ → Place → Type 0

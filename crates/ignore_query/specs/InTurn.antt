@@ -1,16 +1,20 @@
 -- Questions that a matcher is asked in turn.
-use Rattle.std.specs.Prelude.{◌≡◌, ◌≢◌, Bool, true, List, [], ◌∷◌, Option}
+use Rattle.std.specs.Prelude.{◌≡◌, ◌≢◌, Bool, true, List, [], ◌∷◌, None, Option}
 use Rattle.ignore_base.specs.Problem.{Problem}
 use Rattle.ignore_base.specs.Text.{Path}
-use Rattle.ignore_dir.specs.Query.{names_of}
+use Rattle.ignore_dir.specs.Query.{limit_of, names_of}
 use Rattle.ignore_dir.specs.Scene.{QueryScene}
 use Rattle.ignore_query.specs.declared.kept.Cache.{Cache}
-use Rattle.ignore_query.specs.Needs.{KeepsNeeded, Stays, is_decided, needed}
+use Rattle.ignore_query.specs.Needs.{KeepsNeeded, Stays, is_decided, is_known, needed}
 use Rattle.ignore_query.specs.Reports.{reported}
 
 -- a question is about a path, and whether that is a directory
 abbrev pub Question : Type 0
 Question = Path × Bool
+
+-- an answer is that from what is kept: all the directories that it needs are kept, and no size is asked
+abbrev pub IsFromKept : QueryScene → Cache → Question → Type 0
+IsFromKept g c q = (is_known g c (names_of q.0) ≡ true) × (limit_of g q.0 q.1 ≡ None)
 
 -- what was kept before a question is `old`, and `new` after it: what was kept stays kept, and
 -- exactly what the answer needs comes to it, where the rules decide

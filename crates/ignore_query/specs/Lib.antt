@@ -11,5 +11,5 @@ pub mod Needs
 pub mod Plain
 pub mod Reached
 pub mod Reports
-pub mod Shut
+pub mod Stands
 pub mod Where

@@ -44,11 +44,14 @@ fn copy_of(dir: &Option<String>) -> Result<Option<String>, AllocError>
     }
 }
 
-/// What one call goes by: the files at hand, and what all queries of the matcher share.
+/// What one call goes by: the files at hand, what all queries of the matcher share, and the path
+/// below the root that is asked about, which is a directory where `is_dir` is set.
 #[derive(Drop)]
 pub(crate) struct Call<'a, F: Files> {
     pub(crate) files: &'a F,
     pub(crate) asked: &'a Asked,
+    pub(crate) path: &'a str,
+    pub(crate) is_dir: bool,
 }
 
 impl<'a, F: Files> Call<'a, F> {

@@ -1,33 +1,26 @@
 //! A matcher of single paths below a root.
-ghost use Rattle.std.specs.Prelude.{◌≡◌, ◌≢◌, true, false, ℕ, List, None, IfOk, IfErr, OnOk, option_map, string_bytes};
-ghost use Rattle.ignore_files.specs.Gives.{IsHonest};
+ghost use Rattle.std.specs.Prelude.{◌≡◌, true, false, ℕ, List, None, IfOk, IfErr, OnOk, option_map, string_bytes};
 ghost use Rattle.ignore_files.specs.Tree.{Tree};
-ghost use Rattle.std.specs.List.{list_all};
 ghost use Rattle.std.specs.Option.{option_copied};
 ghost use Rattle.ignore_base.specs.Normalize.{normalize_of};
-ghost use Rattle.ignore_base.specs.Paths.{components, is_proper};
+ghost use Rattle.ignore_base.specs.Paths.{components};
 ghost use Rattle.ignore_base.specs.Problem.{problem_of, memory};
 ghost use Rattle.ignore_dir.specs.Limits as limits;
-ghost use Rattle.ignore_dir.specs.Load.{Loaded, AreLoads};
+ghost use Rattle.ignore_dir.specs.Load.{Loaded};
 ghost use Rattle.ignore_dir.specs.Query as queries;
 ghost use Rattle.ignore_dir.specs.Scene.{QueryScene};
 ghost use Rattle.ignore_dir.specs.Soft.{IsSoft};
 ghost use Rattle.ignore_query.specs.Agrees.{Agrees};
 ghost use Rattle.ignore_query.specs.Fresh.{KeepsNothing};
-ghost use Rattle.ignore_query.specs.KeptLoads.{KeepsLoads};
 ghost use Rattle.ignore_query.specs.Left.{LeavesMatcher};
-ghost use Rattle.ignore_query.specs.Needs.{KeepsNeeded, Stays, is_decided, is_known, needed};
+ghost use Rattle.ignore_query.specs.Needs.{KeepsNeeded, is_decided, is_known, needed};
 ghost use Rattle.ignore_query.specs.Reached.{dir_of, scene_of};
-ghost use Rattle.ignore_query.specs.Reports.{reported, reported_by_rules};
-ghost use Rattle.ignore_query.specs.Where.{WhereAgrees, WhereDecided};
+ghost use Rattle.ignore_query.specs.Reports.{reported};
+ghost use Rattle.ignore_query.specs.Where.{WhereAgrees};
 
 use crate::asked::{Asked, Call};
-use crate::clean::{depth_for, is_asked};
 use crate::kept::Cache;
-use crate::size::by_size;
 use ignore_base::{Error, text};
-use ignore_dir::limits::is_beyond;
-use ignore_dir::verdict::Verdict;
 use ignore_dir::{IncrementalMatch, Outside, Settings};
 use ignore_files::Files;
 use std::alloc::AllocError;
@@ -169,93 +162,16 @@ impl IncrementalIgnore {
         ensures soft { IfOk result (λ r. IsSoft (option_map problem_of r.1)) }
         ensures out_of_memory { IfErr result (λ e. problem_of e ≡ memory) }
     {
-        Ok(self.answer(files, path, is_dir)?)
-    }
-
-    /// The answer, with what is wrong with what this call read.
-    #[tactic(auto, using(crate::proofs::KeptLoadLemmas::loads_nothing), unfolding(ignore_dir::specs::Query::query, crate::specs::Reports::reported))]
-    fn answer<F: Files>(
-        &mut self,
-        files: &F,
-        path: &str,
-        is_dir: bool,
-    ) -> Result<(IncrementalMatch, Option<Error>), AllocError>
-        ensures value { WhereAgrees F.Files files.now self.old (λ g. IfOk result (λ r. r.0 ≡ (queries.query g path.now is_dir).0)) }
-        ensures reports { WhereAgrees F.Files files.now self.old (λ g. IfOk result (λ r. option_map problem_of r.1 ≡ reported g self.old.cache path.now is_dir)) }
-        ensures stays { Stays self.old.cache self.new.cache }
-        ensures loaded { KeepsLoads F.Files files.now self.old.asked self.old.cache self.new.cache }
-        ensures kept { WhereAgrees F.Files files.now self.old (λ g. is_decided g path.now is_dir ≡ true
-            → OnOk result (KeepsNeeded (needed g (queries.names_of path.now)) self.old.cache self.new.cache)) }
-        ensures unchanged { WhereAgrees F.Files files.now self.old (λ g. is_decided g path.now is_dir ≢ true → self.new.cache ≡ self.old.cache) }
-        ensures from_kept { (tree : Tree) (loads : List ℕ → Loaded) → let g = scene_of self.old.asked tree loads in
-            Agrees g self.old.cache → is_known g self.old.cache (queries.names_of path.now) ≡ true
-            → queries.limit_of g path.now is_dir ≡ None → (self.new.cache ≡ self.old.cache)
-            × IfOk result (λ r. (r.0 ≡ (queries.query g path.now is_dir).0) × (r.1 ≡ None)) }
-        ensures unasked { queries.is_asked (string_bytes self.old.asked.root) path.now ≡ false → (self.new.cache ≡ self.old.cache)
-            × IfOk result (λ r. (r.0 ≡ limits.no_match is_dir) × (r.1 ≡ None)) }
-        ensures beyond { queries.is_asked (string_bytes self.old.asked.root) path.now ≡ true
-            → limits.is_beyond self.old.asked.settings (queries.depth_of_path path.now) is_dir ≡ true → (self.new.cache ≡ self.old.cache)
-            × IfOk result (λ r. (r.0 ≡ limits.beyond) × (r.1 ≡ None)) }
-        ensures agrees { WhereAgrees F.Files files.now self.old (λ g. Agrees g self.new.cache) }
-        ensures soft { IfOk result (λ r. IsSoft (option_map problem_of r.1)) }
-        ensures same { self.new.asked ≡ self.old.asked }
-    {
-        if !is_asked(self.root(), path) {
-            return Ok((IncrementalMatch::no_match(is_dir), None));
-        }
-        let depth = depth_for(&self.asked.settings, path);
-        if is_beyond(&self.asked.settings, depth, is_dir) {
-            return Ok((IncrementalMatch::beyond(), None));
-        }
+        let (asked, cache) = (&self.asked, &mut self.cache);
         let call = Call {
             files,
-            asked: &self.asked,
-        };
-        if self.cache.has_rules(&call, path)? {
-            return self.answer_of_rules(files, path, is_dir);
-        }
-        let answer = IncrementalMatch::limited(&self.asked.settings, depth, is_dir, Verdict::None);
-        Ok((answer, None))
-    }
-
-    /// The answer that the rules give, where they decide.
-    fn answer_of_rules<F: Files>(
-        &mut self,
-        files: &F,
-        path: &str,
-        is_dir: bool,
-    ) -> Result<(IncrementalMatch, Option<Error>), AllocError>
-        requires named { list_all is_proper (components path.now) ≡ true }
-        ensures value { WhereDecided F.Files files.now self.old path.now (λ g.
-            IfOk result (λ r. r.0 ≡ (queries.answer_of_rules g path.now is_dir).0)) }
-        ensures reports { WhereDecided F.Files files.now self.old path.now (λ g.
-            IfOk result (λ r. option_map problem_of r.1 ≡ reported_by_rules g self.old.cache path.now is_dir)) }
-        ensures stays { Stays self.old.cache self.new.cache }
-        ensures loaded { KeepsLoads F.Files files.now self.old.asked self.old.cache self.new.cache }
-        ensures kept { WhereDecided F.Files files.now self.old path.now (λ g.
-            OnOk result (KeepsNeeded (needed g (queries.names_of path.now)) self.old.cache self.new.cache)) }
-        ensures from_kept { (tree : Tree) (loads : List ℕ → Loaded) → let g = scene_of self.old.asked tree loads in
-            Agrees g self.old.cache → queries.is_asked g.root path.now ≡ true → queries.has_rules tree g.root path.now ≡ true
-            → is_known g self.old.cache (queries.names_of path.now) ≡ true → queries.limit_of g path.now is_dir ≡ None
-            → (self.new.cache ≡ self.old.cache)
-            × IfOk result (λ r. (r.0 ≡ (queries.answer_of_rules g path.now is_dir).0) × (r.1 ≡ None)) }
-        ensures agrees { WhereDecided F.Files files.now self.old path.now (λ g.
-            Agrees g self.new.cache) }
-        ensures soft { IfOk result (λ r. IsSoft (option_map problem_of r.1)) }
-        ensures same { self.new.asked ≡ self.old.asked }
-    {
-        let (asked, cache) = (&self.asked, &mut self.cache);
-        let call = Call { files, asked };
-        let mut errors = Vec::new(call.alloc());
-        let verdict = cache.decide(&call, path, is_dir, &mut errors)?;
-        let verdict = by_size(&call, path, is_dir, verdict, &mut errors)?;
-        let settings = &asked.settings;
-        let answer = IncrementalMatch::limited(
-            settings,
-            depth_for(settings, path),
+            asked,
+            path,
             is_dir,
-            verdict,
-        );
+        };
+        let mut errors = Vec::new(call.alloc());
+        let stand = cache.stand(&call, &mut errors)?;
+        let answer = cache.answer(&call, stand, &mut errors)?;
         Ok((answer, Error::joined(errors)))
     }
 }

@@ -3,13 +3,12 @@
 
 mod asked;
 mod clean;
-mod decide;
 mod dirs;
 mod explain;
 mod forget;
 mod incremental;
 mod kept;
-mod known;
+mod keys;
 pub mod laws;
 mod load;
 mod paths;
@@ -18,6 +17,7 @@ mod reasons;
 mod root;
 mod rules;
 mod size;
+mod stand;
 
 pub use asked::Asked;
 pub use dirs::Dirs;

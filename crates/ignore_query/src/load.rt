@@ -1,32 +1,31 @@
 //! Directories that are looked up, or loaded and kept.
-ghost use Rattle.std.specs.Prelude.{◌≡◌, ◌≢◌, ◌++◌, ◌∷◌, [], ℕ, List, All, Some};
-ghost use Rattle.std.specs.Prelude.{IfOk, IsOk, OnOk, Option, true, not, ◌||◌, map, option_map, is_some, string_bytes, if◌then◌else◌};
+ghost use Rattle.std.specs.Prelude.{◌≡◌, ◌++◌, [], ℕ, List, All, Some};
+ghost use Rattle.std.specs.Prelude.{IfOk, OnOk, Option, true, ◌||◌, map, is_some, string_bytes, if◌then◌else◌};
 ghost use Rattle.std.specs.BTreeMap.{get_by_text};
-ghost use Rattle.std.specs.List.{filter_map, list_all, list_any};
 ghost use Rattle.std.specs.Option.{option_to_list};
 ghost use Rattle.std.specs.Str.{bytes_eq};
-ghost use Rattle.ignore_base.specs.Paths.{IsName, components, is_proper};
+ghost use Rattle.ignore_base.specs.Paths.{IsName};
 ghost use Rattle.ignore_base.specs.Problem.{Problem, problem_of};
 ghost use Rattle.ignore_dir.specs.Above.{path_along};
 ghost use Rattle.ignore_dir.specs.Chains.{slashed};
 ghost use Rattle.ignore_dir.specs.Load.{Loaded};
 ghost use Rattle.ignore_dir.specs.LoadsBy.{LoadsBy, reads_of, stats_of};
-ghost use Rattle.ignore_dir.specs.Query.{ancestors, is_ignored, rules_verdict};
+ghost use Rattle.ignore_dir.specs.Query.{is_ignored};
 ghost use Rattle.ignore_dir.specs.Soft.{AllSoft};
 ghost use Rattle.ignore_files.specs.Tree.{Tree};
 ghost use Rattle.ignore_levels.specs.Levels.{Keeps, slots_of};
 ghost use Rattle.ignore_query.specs.declared.kept.Kept as kept;
-ghost use Rattle.ignore_query.specs.Agrees.{Agrees, IsNext, IsRight, is_loaded};
-ghost use Rattle.ignore_query.specs.KeptLoads.{IsFound, KeepsLoads};
-ghost use Rattle.ignore_query.specs.Keys.{IsKey};
+ghost use Rattle.ignore_query.specs.Agrees.{Agrees, IsNext, IsRight};
+ghost use Rattle.ignore_query.specs.KeptLoads.{IsFound};
 ghost use Rattle.ignore_query.specs.Listed.{IsBelow};
-ghost use Rattle.ignore_query.specs.Needs.{KeepsNeeded, Stays, is_known, needed};
 ghost use Rattle.ignore_query.specs.Reached.{scene_of};
-ghost use Rattle.ignore_query.specs.Reports.{new_below, problem_in, problems_at};
-ghost use Rattle.ignore_query.specs.Where.{InCall, WhereKept, WhereNext, WhereRooted};
+ghost use Rattle.ignore_query.specs.Reports.{problem_in, problems_at};
+ghost use Rattle.ignore_query.specs.Stands.{Grows, IsNextKey};
+ghost use Rattle.ignore_query.specs.Where.{InCall, WhereNext};
 
 use crate::asked::{Asked, Call};
 use crate::kept::{Cache, Kept};
+use crate::keys::without_slash;
 use ignore_base::Error;
 use ignore_base::internal::join;
 use ignore_base::text::join_law;
@@ -34,22 +33,9 @@ use ignore_dir::Dir;
 use ignore_dir::errors::push_some;
 use ignore_dir::laws::{one_load, steps_are_whole};
 use ignore_dir::load::load_directory;
-use ignore_dir::names::components;
-use ignore_dir::verdict::Verdict;
 use ignore_files::Files;
 use ignore_levels::Place;
 use std::alloc::{AllocError, Global};
-
-/// The names of a directory below the root, joined, by its key.
-pub(crate) fn without_slash(key: &str) -> &str
-    ensures root { key.now ≡ [] → result.now ≡ [] }
-    ensures below { (path : List ℕ) → key.now ≡ path ++ 47 ∷ [] → result.now ≡ path }
-{
-    match key.strip_suffix('/') {
-        Some(path) => path,
-        None => key,
-    }
-}
 
 /// The path of a directory, by its key.
 fn path_of(alloc: Global, root: &str, key: &str) -> Result<String, AllocError>
@@ -130,29 +116,22 @@ impl Cache {
 
     /// Looks the directory with this key up, in one that stands at a place. Where nothing is kept
     /// of it, judges it, loads it unless it is ignored, and keeps it. Returns what is kept of it.
-    #[tactic(auto, using(crate::proofs::KeptLoadLemmas::loads_nothing))]
-    fn keep<F: Files>(
+    #[tactic(auto, using(crate::proofs::StandLemmas::grows_itself))]
+    pub(crate) fn keep<F: Files>(
         &mut self,
         call: &Call<'_, F>,
         place: Option<Place>,
         key: &str,
         errors: &mut Vec<Error>,
     ) -> Result<Kept, AllocError>
-        requires named { IsKey key.now }
-        ensures stays { Stays self.old self.new }
-        ensures loaded { (names : List (List ℕ)) → All IsName names → key.now ≡ slashed names → IsNext self.old names place
-            → KeepsLoads F.Files call.now.files.now call.now.asked.now self.old self.new }
+        requires next { IsNextKey self.now key.now place }
+        ensures grows { Grows F.Files call.now.files.now call.now.asked.now self.old self.new }
         ensures kept { OnOk result ((text : List ℕ) → is_some (get_by_text self.new.dirs.map text)
             ≡ (is_some (get_by_text self.old.dirs.map text) || bytes_eq key.now text)) }
-        ensures others { (text : List ℕ) → text ≢ key.now → get_by_text self.new.dirs.map text ≡ get_by_text self.old.dirs.map text }
-        ensures above { (self.new.has_above ≡ self.old.has_above) × ((self.new.above ≡ self.old.above) × (self.new.base ≡ self.old.base)) }
-        ensures agrees { WhereNext F.Files call.now self.old place key.now (λ g names. Agrees g self.new) }
-        ensures value { WhereNext F.Files call.now self.old place key.now (λ g names.
-            IfOk result (λ k. is_loaded k ≡ not (is_ignored g names))) }
         ensures found { IfOk result (λ k. get_by_text self.new.dirs.map key.now ≡ Some k) }
         ensures problems { WhereNext F.Files call.now self.old place key.now (λ g names.
             OnOk result (map problem_of errors.new.items ≡ map problem_of errors.old.items ++ problems_at g self.old names)) }
-        ensures known { is_some (get_by_text self.old.dirs.map key.now) ≡ true → (self.new ≡ self.old) × ((errors.new ≡ errors.old) × IsOk result) }
+        ensures known { is_some (get_by_text self.old.dirs.map key.now) ≡ true → (self.new ≡ self.old) × (errors.new ≡ errors.old) }
         ensures soft { AllSoft (map problem_of errors.old.items) → OnOk result (AllSoft (map problem_of errors.new.items)) }
     {
         if let Some(kept) = self.dirs.map.get(key) {
@@ -162,84 +141,5 @@ impl Cache {
         let kept = self.find(call, place, key, errors)?;
         self.dirs.insert(text, kept)?;
         Ok(kept)
-    }
-}
-
-impl Cache {
-    /// Keeps the proper ancestors of a path of these names, from the root down to the first ignored
-    /// one. Returns what is kept of the last of them.
-    pub(crate) fn keep_way<F: Files>(
-        &mut self,
-        call: &Call<'_, F>,
-        names: &[&str],
-        errors: &mut Vec<Error>,
-    ) -> Result<Kept, AllocError>
-        requires named { All IsName (map (λ n. n.now) names.now) }
-        ensures stays { Stays self.old self.new }
-        ensures loaded { self.old.has_above ≡ true → KeepsLoads F.Files call.now.files.now call.now.asked.now self.old self.new }
-        ensures kept { WhereRooted F.Files call.now self.old (map (λ n. n.now) names.now) (λ g all.
-            OnOk result (KeepsNeeded (needed g all) self.old self.new)) }
-        ensures agrees { WhereRooted F.Files call.now self.old (map (λ n. n.now) names.now) (λ g all.
-            Agrees g self.new) }
-        ensures value { WhereRooted F.Files call.now self.old (map (λ n. n.now) names.now) (λ g all.
-            IfOk result (λ k. is_loaded k ≡ not (list_any (is_ignored g) (ancestors all)))) }
-        ensures found { WhereRooted F.Files call.now self.old (map (λ n. n.now) names.now) (λ g all.
-            IfOk result (λ k. (place : Option Place) → k ≡ kept.Kept.Loaded place → IsNext self.new all place)) }
-        ensures problems { WhereRooted F.Files call.now self.old (map (λ n. n.now) names.now) (λ g all.
-            OnOk result (map problem_of errors.new.items
-            ≡ map problem_of errors.old.items ++ filter_map (λ p. p) (new_below g self.old all))) }
-        ensures known { (tree : Tree) (loads : List ℕ → Loaded) → let g = scene_of call.now.asked.now tree loads in
-            let all = map (λ n. n.now) names.now in Agrees g self.old → All IsName all → self.old.has_above ≡ true
-            → is_known g self.old all ≡ true → (self.new ≡ self.old) × ((errors.new ≡ errors.old)
-            × IfOk result (λ k. (is_loaded k ≡ not (list_any (is_ignored g) (ancestors all)))
-            × ((place : Option Place) → k ≡ kept.Kept.Loaded place → IsNext self.old all place))) }
-        ensures soft { AllSoft (map problem_of errors.old.items) → OnOk result (AllSoft (map problem_of errors.new.items)) }
-    {
-        let mut key = String::new(call.alloc());
-        let mut place = self.above;
-        for name in names {
-            match self.keep(call, place, key.as_str(), errors)? {
-                Kept::Ignored => return Ok(Kept::Ignored),
-                Kept::Loaded(found) => place = found,
-            }
-            key.push_str(*name)?;
-            key.push('/')?;
-        }
-        Ok(Kept::Loaded(place))
-    }
-
-    /// What the rules say of a path of names. Its proper ancestors are kept then, down to the first
-    /// ignored one.
-    #[tactic(auto, using(crate::proofs::KeptLoadLemmas::loads_nothing))]
-    pub(crate) fn rules_verdict<F: Files>(
-        &mut self,
-        call: &Call<'_, F>,
-        path: &str,
-        is_dir: bool,
-        errors: &mut Vec<Error>,
-    ) -> Result<Verdict, AllocError>
-        requires named { list_all is_proper (components path.now) ≡ true }
-        ensures stays { Stays self.old self.new }
-        ensures loaded { self.old.has_above ≡ true → KeepsLoads F.Files call.now.files.now call.now.asked.now self.old self.new }
-        ensures kept { WhereKept F.Files call.now self.old path.now (λ g.
-            OnOk result (KeepsNeeded (needed g (components path.now)) self.old self.new)) }
-        ensures agrees { WhereKept F.Files call.now self.old path.now (λ g.
-            Agrees g self.new) }
-        ensures value { WhereKept F.Files call.now self.old path.now (λ g.
-            IfOk result (λ v. v ≡ rules_verdict g (components path.now) is_dir)) }
-        ensures problems { WhereKept F.Files call.now self.old path.now (λ g.
-            OnOk result (map problem_of errors.new.items ≡ map problem_of errors.old.items
-            ++ filter_map (λ p. p) (new_below g self.old (components path.now)))) }
-        ensures from_kept { (tree : Tree) (loads : List ℕ → Loaded) → let g = scene_of call.now.asked.now tree loads in
-            Agrees g self.old → list_all is_proper (components path.now) ≡ true → self.old.has_above ≡ true
-            → is_known g self.old (components path.now) ≡ true → (self.new ≡ self.old) × ((errors.new ≡ errors.old)
-            × IfOk result (λ v. v ≡ rules_verdict g (components path.now) is_dir)) }
-        ensures soft { AllSoft (map problem_of errors.old.items) → OnOk result (AllSoft (map problem_of errors.new.items)) }
-    {
-        let names = components(call.alloc(), path)?;
-        match self.keep_way(call, names.as_slice(), errors)? {
-            Kept::Ignored => Ok(Verdict::Ignore),
-            Kept::Loaded(place) => self.verdict_at(call.asked, place, path, is_dir),
-        }
     }
 }

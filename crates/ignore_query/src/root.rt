@@ -8,10 +8,9 @@ ghost use Rattle.ignore_dir.specs.Soft.{AllSoft};
 ghost use Rattle.ignore_files.specs.Gives.{IsHonest};
 ghost use Rattle.ignore_files.specs.Tree.{Tree};
 ghost use Rattle.ignore_query.specs.Agrees.{Agrees};
-ghost use Rattle.ignore_query.specs.KeptLoads.{KeepsLoads};
-ghost use Rattle.ignore_query.specs.Needs.{Stays};
 ghost use Rattle.ignore_query.specs.Reached.{scene_of};
 ghost use Rattle.ignore_query.specs.Reports.{new_above};
+ghost use Rattle.ignore_query.specs.Stands.{Grows};
 ghost use Rattle.ignore_query.specs.Where.{InCall};
 
 use crate::asked::Call;
@@ -35,19 +34,16 @@ fn is_dir_there<F: Files>(alloc: Global, files: &F, path: &str) -> Result<bool, 
 }
 
 impl Cache {
-    /// Whether the rules decide on a path: whether it has a name, and the root is a directory.
-    pub(crate) fn has_rules<F: Files>(
-        &self,
-        call: &Call<'_, F>,
-        path: &str,
-    ) -> Result<bool, AllocError>
+    /// Whether the rules decide on the path of a call: whether it has a name, and the root is a
+    /// directory.
+    pub(crate) fn has_rules<F: Files>(&self, call: &Call<'_, F>) -> Result<bool, AllocError>
         ensures value { (tree : Tree) (loads : List ℕ → Loaded) → IsHonest F.Files call.now.files.now tree
             → Agrees (scene_of call.now.asked.now tree loads) self.now
-            → IfOk result (λ yes. yes ≡ queries.has_rules tree (string_bytes call.now.asked.now.root) path.now) }
-        ensures known { self.now.has_above ≡ true → IfOk result (λ yes. yes ≡ not (length path.now == 0)) }
-        ensures named { IfOk result (λ yes. yes ≡ true → length path.now ≢ 0) }
+            → IfOk result (λ yes. yes ≡ queries.has_rules tree (string_bytes call.now.asked.now.root) call.now.path.now) }
+        ensures known { self.now.has_above ≡ true → IfOk result (λ yes. yes ≡ not (length call.now.path.now == 0)) }
+        ensures named { IfOk result (λ yes. yes ≡ true → length call.now.path.now ≢ 0) }
     {
-        if path.is_empty() {
+        if call.path.is_empty() {
             return Ok(false);
         }
         if self.has_above {
@@ -57,16 +53,13 @@ impl Cache {
     }
 
     /// Keeps what is above the root, which is a directory.
-    #[tactic(auto, using(crate::proofs::KeptLoadLemmas::loads_nothing))]
+    #[tactic(auto, using(crate::proofs::StandLemmas::grows_itself))]
     pub(crate) fn keep_above<F: Files>(
         &mut self,
         call: &Call<'_, F>,
         errors: &mut Vec<Error>,
     ) -> Result<(), AllocError>
-        ensures agrees { InCall F.Files call.now (λ g. queries.is_dir_there (g.tree.stat g.root true) ≡ true
-            → Agrees g self.old → Agrees g self.new) }
-        ensures stays { Stays self.old self.new }
-        ensures loaded { KeepsLoads F.Files call.now.files.now call.now.asked.now self.old self.new }
+        ensures grows { Grows F.Files call.now.files.now call.now.asked.now self.old self.new }
         ensures kept { OnOk result (self.new.has_above ≡ true) }
         ensures same { self.new.dirs ≡ self.old.dirs }
         ensures known { self.old.has_above ≡ true → (self.new ≡ self.old) × (errors.new ≡ errors.old) }

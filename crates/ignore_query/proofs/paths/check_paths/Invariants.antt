@@ -1,26 +1,11 @@
-use Rattle.std.proofs.Common.{◌≡◌, ℕ, List, All, length, map, option_map, take, string_bytes}
-use Rattle.ignore_files.specs.Gives.{IsHonest}
-use Rattle.ignore_files.specs.Tree.{Tree}
-use Rattle.ignore_base.specs.Problem.{problem_of}
-use Rattle.ignore_dir.specs.Load.{Loaded, AreLoads}
-use Rattle.ignore_dir.specs.Soft.{IsSoft}
-use Rattle.ignore_query.specs.Agrees.{Agrees}
-use Rattle.ignore_query.specs.KeptLoads.{KeepsLoads}
-use Rattle.ignore_query.specs.Needs.{Stays}
-use Rattle.ignore_query.specs.Reached.{scene_of}
-use Rattle.ignore_query.proofs.TurnLemmas.{AreAsked}
+use Rattle.std.proofs.Common.{◌≡◌, take}
+use Rattle.ignore_query.proofs.TurnLemmas.{Turns, itself, match_to}
 use Rattle.ignore_query.proofs.paths.check_paths.Given as goal
 
 -- the answers so far are those to the paths before this one, in turn
 abbrev pub invariant-loop-path : goal.invariant-loop-path
 invariant-loop-path g l = record {
   same : l.matcher.asked ≡ l.fn.matcher.asked;
-  stays : Stays l.fn.matcher.cache l.matcher.cache;
-  loaded : KeepsLoads g.F.Files l.files l.fn.matcher.asked l.fn.matcher.cache l.matcher.cache;
-  each : length l.answers.items ≡ length (take l.path-index l.paths);
-  soft : All (λ r. IsSoft (option_map problem_of r.1)) l.answers.items;
-  asked : (tree : Tree) (loads : List ℕ → Loaded) → IsHonest g.F.Files l.files tree
-      → AreLoads tree l.fn.matcher.asked.settings loads → Agrees (scene_of l.fn.matcher.asked tree loads) l.fn.matcher.cache
-      → AreAsked (scene_of l.fn.matcher.asked tree loads) (map (λ p. (string_bytes p.0, p.1)) (take l.path-index l.paths))
-      l.answers.items l.fn.matcher.cache l.matcher.cache;
+  turns : Turns itself match_to g.F.Files l.files l.fn.matcher.asked l.paths (take l.path-index l.paths) l.fn.matcher.cache l.matcher.cache
+      l.answers.items;
 }

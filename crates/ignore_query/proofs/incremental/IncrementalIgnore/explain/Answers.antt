@@ -1,86 +1,164 @@
-use Rattle.std.proofs.Common.{rules, ap, ◌∙◌, sym}
+use Rattle.std.proofs.Common.{◌++◌, List, map, inl, inr, refl, sym, ap, ◌∙◌, subst}
+use Rattle.ignore_base.specs.Problem.{Problem, joined_problems, problem_of}
+use Rattle.ignore_dir.specs.Soft.{AllSoft, IsSoft}
+use Rattle.ignore_dir.proofs.SoftLemmas.{joined-soft}
+use Rattle.ignore_query.specs.Agrees.{Agrees}
+use Rattle.ignore_query.specs.Reached.{scene_of}
+use Rattle.ignore_query.specs.Stands.{StandsIn, problems_of_loads, problems_of_size}
+use Rattle.ignore_query.proofs.QueryLemmas.{no_error, passed_on}
+use Rattle.ignore_query.proofs.ReadLemmas.{reported_is, sizes_unlimited, stands_beyond, stands_unasked}
 use Rattle.ignore_dir.specs.Limits.{is_below}
 use Rattle.ignore_dir.specs.Query.{depth_of_path}
 use Rattle.ignore_why.specs.QueryWhy.{answer_of, query_why_of}
 use Rattle.ignore_why.proofs.QueryWhyLemmas.{answers-by_reason}
-use Rattle.ignore_query.specs.Reached.{scene_of}
-use Rattle.ignore_query.specs.declared.asked.Asked.{Asked}
 use Rattle.ignore_query.proofs.WhyLemmas.{answer_at, far_beyond}
 use Rattle.ignore_query.proofs.incremental.IncrementalIgnore.explain.Goals as goal
 
-pub returns-clause-value : goal.returns-clause-value
-returns-clause-value g c = λ tree loads honest are agrees.
-    let scene = scene_of c.args.self.now.asked tree loads in
-    let path = c.args.path.now in
-    let is_dir = c.args.is_dir in
-    let why = query_why_of c.in_ok-reason.reason in
-    c.answer_of-answer.ensures
-    ∙ (answer_at c.reason.new.self.asked.settings c.depth_for.result (depth_of_path path) is_dir why (λ verdict. c.depth_for.ensures.limited is_dir verdict)
-    ∙ (ap (λ (a : Asked). answer_of a.settings (depth_of_path path) is_dir why) c.reason.ensures.same
-    ∙ (ap (answer_of scene.settings (depth_of_path path) is_dir) (c.in_ok-reason.ensures.why tree loads honest are agrees)
-    ∙ sym (answers-by_reason scene path is_dir))))
+pub returns-in_err-stand-clause-leaves : goal.returns-in_err-stand-clause-leaves
+returns-in_err-stand-clause-leaves g c = record {
+  same = refl;
+  stays = c.stand.ensures.leaves.stays;
+  loaded = c.stand.ensures.leaves.loaded;
+  agrees = c.stand.ensures.leaves.agrees;
+  unchanged = c.stand.ensures.leaves.unchanged;
+}
 
 pub returns-in_err-reason-clause-leaves : goal.returns-in_err-reason-clause-leaves
 returns-in_err-reason-clause-leaves g c = record {
-  same = c.reason.ensures.same;
-  stays = c.reason.ensures.stays;
-  loaded = c.reason.ensures.loaded;
-  agrees = c.reason.ensures.agrees;
-  unchanged = c.reason.ensures.unchanged;
+  same = refl;
+  stays = c.stand.ensures.leaves.stays;
+  loaded = c.stand.ensures.leaves.loaded;
+  agrees = c.stand.ensures.leaves.agrees;
+  unchanged = c.stand.ensures.leaves.unchanged;
 }
 
 pub returns-clause-leaves : goal.returns-clause-leaves
 returns-clause-leaves g c = record {
-  same = c.reason.ensures.same;
-  stays = c.reason.ensures.stays;
-  loaded = c.reason.ensures.loaded;
-  agrees = c.reason.ensures.agrees;
-  unchanged = c.reason.ensures.unchanged;
+  same = refl;
+  stays = c.stand.ensures.leaves.stays;
+  loaded = c.stand.ensures.leaves.loaded;
+  agrees = c.stand.ensures.leaves.agrees;
+  unchanged = c.stand.ensures.leaves.unchanged;
 }
 
+pub returns-clause-reports : goal.returns-clause-reports
+returns-clause-reports g c = λ tree loads honest are agrees.
+    let s = scene_of c.args.self.now.asked tree loads in
+    let path = c.args.path.now in
+    let w : StandsIn g.F.Files _ s c.stand.new.self c.in_ok-stand.stand = record {
+      agrees = c.stand.ensures.leaves.agrees tree loads honest are agrees;
+      stands = c.in_ok-stand.ensures.stands;
+      unruled = c.in_ok-stand.ensures.unruled tree loads honest are agrees;
+      sized = inl honest;
+    } in
+    c.joined.ensures
+    ∙ (ap joined_problems (c.in_ok-reason.ensures.problems tree loads w
+    ∙ ap (λ (l : List Problem). l ++ problems_of_size s path c.args.is_dir) (c.in_ok-stand.ensures.problems tree loads honest are agrees
+    ∙ ap (λ (l : List Problem). l ++ problems_of_loads s c.args.self.now.cache path c.args.is_dir) (ap (map problem_of) c.new-errors.ensures.items)))
+    ∙ sym (reported_is s c.args.self.now.cache path c.args.is_dir))
+
+pub returns-clause-soft : goal.returns-clause-soft
+returns-clause-soft g c =
+    let none' = subst AllSoft (sym (ap (map problem_of) c.new-errors.ensures.items)) tt in
+    subst IsSoft (sym c.joined.ensures) (joined-soft _ (c.in_ok-reason.ensures.soft (c.in_ok-stand.ensures.soft none')))
+
+-- From what is kept.
+
+pub returns-in_err-stand-clause-from_kept : goal.returns-in_err-stand-clause-from_kept
+returns-in_err-stand-clause-from_kept g c = λ tree loads agrees known unlimited. (c.stand.ensures.leaves.known tree loads agrees known, passed_on _ _ c.from_residual.result c.from_residual.ensures.1)
+
 pub returns-in_err-reason-clause-from_kept : goal.returns-in_err-reason-clause-from_kept
-returns-in_err-reason-clause-from_kept g c = λ tree loads agrees known unasked.
-    ((c.reason.ensures.from_kept tree loads agrees known unasked).0, search rules)
+returns-in_err-reason-clause-from_kept g c = λ tree loads agrees known unlimited. (c.stand.ensures.leaves.known tree loads agrees known, passed_on _ _ c.from_residual-in_err-reason.result c.from_residual-in_err-reason.ensures.1)
 
 pub returns-clause-from_kept : goal.returns-clause-from_kept
-returns-clause-from_kept g c = λ tree loads agrees known unasked.
-    let scene = scene_of c.args.self.now.asked tree loads in
+returns-clause-from_kept g c = λ tree loads agrees known unlimited.
+    let s = scene_of c.args.self.now.asked tree loads in
     let path = c.args.path.now in
-    let is_dir = c.args.is_dir in
-    let why = query_why_of c.in_ok-reason.reason in
-    let kept = c.in_ok-reason.ensures.from_kept tree loads agrees known unasked in (
-      kept.0,
+    let same = c.stand.ensures.leaves.known tree loads agrees known in
+    let from = c.in_ok-stand.ensures.from_kept tree loads agrees known in
+    let w : StandsIn g.F.Files _ s c.stand.new.self c.in_ok-stand.stand = record {
+      agrees = subst (λ x. Agrees s x) (sym same) agrees;
+      stands = c.in_ok-stand.ensures.stands;
+      unruled = from.1;
+      sized = inr unlimited;
+    } in
+    let none' = no_error _ (c.joined.ensures ∙ ap joined_problems (c.in_ok-reason.ensures.problems tree loads w
+    ∙ (ap (λ (l : List Problem). l ++ problems_of_size s path c.args.is_dir) (from.0 ∙ ap (map problem_of) c.new-errors.ensures.items)
+    ∙ sizes_unlimited s path c.args.is_dir unlimited))) in
+    let why = c.in_ok-reason.ensures.why tree loads w in (
+      same,
       (
-        kept.1.0,
+        why,
         (
           c.answer_of-answer.ensures
-              ∙ (answer_at c.reason.new.self.asked.settings c.depth_for.result (depth_of_path path) is_dir why (λ verdict. c.depth_for.ensures.limited is_dir verdict)
-              ∙ (ap (λ (a : Asked). answer_of a.settings (depth_of_path path) is_dir why) c.reason.ensures.same
-              ∙ (ap (answer_of scene.settings (depth_of_path path) is_dir) kept.1.0 ∙ sym (answers-by_reason scene path is_dir)))),
-          kept.1.1,
+              ∙ (answer_at s.settings c.depth_for.result (depth_of_path path) c.args.is_dir (query_why_of c.in_ok-reason.reason)
+              (λ verdict. c.depth_for.ensures.limited c.args.is_dir verdict)
+              ∙ (ap (answer_of s.settings (depth_of_path path) c.args.is_dir) why ∙ sym (answers-by_reason s path c.args.is_dir))),
+          none',
         ),
       ),
     )
 
 -- By the path and the settings alone.
 
+pub returns-in_err-stand-clause-unasked : goal.returns-in_err-stand-clause-unasked
+returns-in_err-stand-clause-unasked g c = λ off. (c.stand.ensures.leaves.outside (λ w. let on = w.asked in absurd (cc (on, off))), passed_on _ _ c.from_residual.result c.from_residual.ensures.1)
+
+pub returns-in_err-reason-clause-unasked : goal.returns-in_err-reason-clause-unasked
+returns-in_err-reason-clause-unasked g c = λ off. (c.stand.ensures.leaves.outside (λ w. let on = w.asked in absurd (cc (on, off))), passed_on _ _ c.from_residual-in_err-reason.result c.from_residual-in_err-reason.ensures.1)
+
 pub returns-clause-unasked : goal.returns-clause-unasked
 returns-clause-unasked g c = λ off.
-    let said = c.in_ok-reason.ensures.unasked off in
-    (said.0, (said.1.0, (c.answer_of-answer.ensures ∙ ap (answer_of c.reason.new.self.asked.settings c.depth_for.result c.args.is_dir) said.1.0, said.1.1)))
+    let a = c.args.self.now.asked in
+    let said = c.in_ok-reason.ensures.unasked (stands_unasked a c.stand.new.self c.args.path.now c.args.is_dir _ off c.in_ok-stand.ensures.stands) in
+    let errors = ap (λ v. map problem_of v.items) said.0
+    ∙ (ap (λ v. map problem_of v.items) (c.in_ok-stand.ensures.outside (λ w. let on = w.asked in absurd (cc (on, off)))) ∙ ap (map problem_of) c.new-errors.ensures.items) in
+    let none' = no_error _ (c.joined.ensures ∙ ap joined_problems errors) in
+    (c.stand.ensures.leaves.outside (λ w. let on = w.asked in absurd (cc (on, off))), (said.1, (c.answer_of-answer.ensures ∙ ap (answer_of a.settings c.depth_for.result c.args.is_dir) said.1, none')))
+
+pub returns-in_err-stand-clause-beyond : goal.returns-in_err-stand-clause-beyond
+returns-in_err-stand-clause-beyond g c = λ on far. (c.stand.ensures.leaves.outside (λ w. let off = w.within in absurd (cc (off, far))), passed_on _ _ c.from_residual.result c.from_residual.ensures.1)
+
+pub returns-in_err-reason-clause-beyond : goal.returns-in_err-reason-clause-beyond
+returns-in_err-reason-clause-beyond g c = λ on far. (c.stand.ensures.leaves.outside (λ w. let off = w.within in absurd (cc (off, far))), passed_on _ _ c.from_residual-in_err-reason.result c.from_residual-in_err-reason.ensures.1)
 
 pub returns-clause-beyond : goal.returns-clause-beyond
-returns-clause-beyond g c = λ asked far.
-    let s = c.reason.new.self.asked.settings in
-    let said = c.in_ok-reason.ensures.beyond asked far in (
-      said.0,
+returns-clause-beyond g c = λ on far.
+    let a = c.args.self.now.asked in
+    let said = c.in_ok-reason.ensures.beyond (stands_beyond a c.stand.new.self c.args.path.now c.args.is_dir _ on far c.in_ok-stand.ensures.stands) in
+    let errors = ap (λ v. map problem_of v.items) said.0
+    ∙ (ap (λ v. map problem_of v.items) (c.in_ok-stand.ensures.outside (λ w. let off = w.within in absurd (cc (off, far)))) ∙ ap (map problem_of) c.new-errors.ensures.items) in
+    let none' = no_error _ (c.joined.ensures ∙ ap joined_problems errors) in (
+      c.stand.ensures.leaves.outside (λ w. let off = w.within in absurd (cc (off, far))),
       (
-        said.1.0,
+        said.1,
         (
-          c.answer_of-answer.ensures ∙ (ap (answer_of s c.depth_for.result c.args.is_dir) said.1.0
-              ∙ far_beyond s c.depth_for.result c.args.is_dir
-              (is_below c.args.self.now.asked.settings.max_depth (depth_of_path c.args.path.now))),
-          said.1.1,
+          c.answer_of-answer.ensures ∙ (ap (answer_of a.settings c.depth_for.result c.args.is_dir) said.1
+              ∙ far_beyond a.settings c.depth_for.result c.args.is_dir (is_below a.settings.max_depth (depth_of_path c.args.path.now))),
+          none',
         ),
       ),
     )
+
+pub returns-clause-why : goal.returns-clause-why
+returns-clause-why g c = λ tree loads honest are agrees. c.in_ok-reason.ensures.why tree loads (record {
+  agrees = c.stand.ensures.leaves.agrees tree loads honest are agrees;
+  stands = c.in_ok-stand.ensures.stands;
+  unruled = c.in_ok-stand.ensures.unruled tree loads honest are agrees;
+  sized = inl honest;
+})
+
+pub returns-clause-value : goal.returns-clause-value
+returns-clause-value g c = λ tree loads honest are agrees.
+    let s = scene_of c.args.self.now.asked tree loads in
+    let path = c.args.path.now in
+    let why = c.in_ok-reason.ensures.why tree loads (record {
+      agrees = c.stand.ensures.leaves.agrees tree loads honest are agrees;
+      stands = c.in_ok-stand.ensures.stands;
+      unruled = c.in_ok-stand.ensures.unruled tree loads honest are agrees;
+      sized = inl honest;
+    }) in
+    c.answer_of-answer.ensures
+    ∙ (answer_at s.settings c.depth_for.result (depth_of_path path) c.args.is_dir (query_why_of c.in_ok-reason.reason)
+    (λ verdict. c.depth_for.ensures.limited c.args.is_dir verdict)
+    ∙ (ap (answer_of s.settings (depth_of_path path) c.args.is_dir) why ∙ sym (answers-by_reason s path c.args.is_dir)))

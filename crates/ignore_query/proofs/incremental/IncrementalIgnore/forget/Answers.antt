@@ -1,4 +1,5 @@
-use Rattle.std.proofs.Common.{◌≡◌, ◌∷◌, [], Bool, true, false, not, ◌&&◌, None, cond, ap, ◌∙◌, string_bytes}
+use Rattle.std.proofs.Common.{◌∷◌, [], not, None, cond, ap, ◌∙◌, string_bytes}
+use Rattle.std.proofs.lemmas.Bool.{and_parts}
 use Rattle.std.specs.Str.{bytes_eq}
 use Rattle.ignore_dir.specs.Chains.{slashed}
 use Rattle.ignore_dir.specs.Query.{is_clean}
@@ -7,17 +8,13 @@ use Rattle.ignore_query.specs.Reached.{scene_of}
 use Rattle.ignore_query.proofs.ForgetLemmas.{Forgets, key_by_names, later_agrees, left_agrees}
 use Rattle.ignore_query.proofs.incremental.IncrementalIgnore.forget.Goals as goal
 
-and_right : (a b : Bool) → (a && b) ≡ true → b ≡ true
-and_right true b h = h
-and_right false b h = cc
-
 pub returns-then-not-is_asked-clause-agrees : goal.returns-then-not-is_asked-clause-agrees
 returns-then-not-is_asked-clause-agrees c = λ before after loads later old same.
     later_agrees c.args.self.now.asked before after loads later c.args.self.now.cache old same
 
 pub returns-clause-forgotten : goal.returns-clause-forgotten
 returns-clause-forgotten c = λ names clean asked.
-    let clean' = and_right (not (bytes_eq (string_bytes c.args.self.now.asked.root) (45 ∷ []))) (is_clean c.args.dir.now) asked in
+    let clean' = (and_parts (not (bytes_eq (string_bytes c.args.self.now.asked.root) (45 ∷ []))) (is_clean c.args.dir.now) asked).1 in
     c.forget.ensures.looked (slashed names)
     ∙ ap (λ b. cond b None (kept_at c.args.self.now.cache names)) (key_by_names c.args.dir.now names clean' clean)
 

@@ -7,7 +7,7 @@ use Rattle.ignore_why.specs.Cited.{cited_of}
 use Rattle.ignore_why.specs.QueryWhy.QueryWhy.{inside}
 use Rattle.ignore_query.specs.declared.kept.Kept.TheVariants.{Ignored}
 use Rattle.ignore_query.specs.Listed.{kept_at}
-use Rattle.ignore_query.specs.Shut.{open_in}
+use Rattle.ignore_query.specs.Stands.{open_in}
 use Rattle.ignore_query.proofs.ChainLemmas.{joined-slashed}
 use Rattle.ignore_query.proofs.KeepLemmas.{key_end}
 use Rattle.ignore_query.proofs.WhyLemmas.{components-of, not_open, opened_is}

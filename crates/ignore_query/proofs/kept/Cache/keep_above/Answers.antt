@@ -10,43 +10,19 @@ use Rattle.ignore_query.specs.declared.kept.Kept.TheVariants.{Loaded}
 use Rattle.ignore_dir.specs.Lists.{Placed}
 use Rattle.ignore_levels.specs.Levels.{IsChain, IsRising, counting}
 use Rattle.ignore_query.specs.Reached.{scene_of}
-use Rattle.ignore_query.proofs.KeptLoadLemmas.{along-rising, loads_same}
-use Rattle.ignore_query.proofs.ListLemmas.{above-rising, first_agrees, grown_agrees, placed_above}
+use Rattle.ignore_query.proofs.KeptLoadLemmas.{along-rising}
+use Rattle.ignore_query.proofs.ListLemmas.{above-rising, first_agrees, placed_above}
+use Rattle.ignore_query.proofs.StandLemmas.{grows_levels}
 use Rattle.std.specs.Option.{option_to_list}
 use Rattle.ignore_base.specs.Problem.{Problem, problem_of}
 use Rattle.ignore_dir.specs.Soft.{AllSoft, IsSoft}
 use Rattle.ignore_dir.proofs.SoftLemmas.{joined_all-soft, more_soft}
 use Rattle.ignore_query.proofs.kept.Cache.keep_above.Goals as goal
 
-pub returns-in_err-self-clause-agrees : goal.returns-in_err-self-clause-agrees
-returns-in_err-self-clause-agrees g c = λ tree loads honest are there agrees.
-    grown_agrees (scene_of c.args.call.now.asked.now tree loads) c.args.self.now (record c.args.self.now { levels = c.add_all.new.self }) agrees
-    (refl, (refl, refl)) c.in_err-self.ensures.levels (λ key. refl)
-
-pub returns-clause-agrees : goal.returns-clause-agrees
-returns-clause-agrees g c = λ tree loads honest are there agrees.
-    let scene = scene_of c.args.call.now.asked.now tree loads in
-    let found = c.in_ok-found.found in
-    let set = c.ground.ensures.settings in
-    let honest' = subst (λ f. IsHonest g.F.Files f tree) (sym c.ground.ensures.files) honest in
-    let are' = subst (λ s. AreLoads tree s loads) (sym set) are in
-    let root = c.as_str.ensures.value in
-    let dirs : found.dirs.items ≡ placed_above scene = c.in_ok-found.ensures.dirs tree loads honest' are'
-    ∙ (ap (λ s. placed_along 1 (dirs_above loads s (paths_above tree s c.as_str.result.now)) (names_above tree s c.as_str.result.now)) set
-    ∙ ap (λ r. placed_along 1 (dirs_above loads scene.settings (paths_above tree scene.settings r)) (names_above tree scene.settings r)) root) in
-    let base = c.in_ok-found.ensures.base tree honest'
-    ∙ (ap (λ s. 47 ∷ slashed (names_above tree s c.as_str.result.now)) set ∙ ap (λ r. 47 ∷ slashed (names_above tree scene.settings r)) root) in
-    let after : Cache = record {
-      has_above = true;
-      above = c.in_ok-self.field-0;
-      base = found.base;
-      levels = c.add_all.new.self;
-      dirs = c.args.self.now.dirs;
-    } in
-    first_agrees scene c.args.self.now after agrees c.if-self.false refl there
-    (subst (λ (l : List Placed). IsChain c.add_all.new.self.slots.items c.in_ok-self.field-0 (counting (reverse l))) dirs
-    (c.in_ok-self.ensures.chain (subst (IsRising 0) (sym dirs) (above-rising scene))))
-    base refl
+pub returns-in_err-self-clause-grows : goal.returns-in_err-self-clause-grows
+returns-in_err-self-clause-grows g c =
+    grows_levels g.F.Files c.args.call.now.files.now c.args.call.now.asked.now c.args.self.now
+    (record c.args.self.now { levels = c.add_all.new.self }) (refl, (refl, refl)) c.in_err-self.ensures.levels (λ key. refl)
 
 soft_from : (p : Option Problem) → AllSoft (option_to_list p) → IsSoft p
 soft_from None h = tt
@@ -59,13 +35,8 @@ returns-clause-soft g c = λ soft.
     subst AllSoft (sym c.in_ok-push_some.ensures.added) (more_soft (map problem_of c.args.errors.now.items)
     (option_map problem_of c.in_ok-joined_some.field-0) soft one)
 
-pub returns-in_err-self-clause-loaded : goal.returns-in_err-self-clause-loaded
-returns-in_err-self-clause-loaded g c =
-    loads_same g.F.Files c.args.call.now.files.now c.args.call.now.asked.now c.args.self.now
-    (record c.args.self.now { levels = c.add_all.new.self }) refl (λ q. refl)
-
-pub returns-clause-loaded : goal.returns-clause-loaded
-returns-clause-loaded g c =
+pub returns-clause-grows : goal.returns-clause-grows
+returns-clause-grows g c =
     let files = c.args.call.now.files.now in
     let asked = c.args.call.now.asked.now in
     let found = c.in_ok-found.found in
@@ -78,12 +49,42 @@ returns-clause-loaded g c =
     (subst (λ f. IsAboveBy g.F.Files f c.ground.result.settings.now c.as_str.result.now dirs base reported) c.ground.ensures.files
     c.in_ok-found.ensures.answered)) in
     record {
-      above = λ off on. record {
-        dirs = dirs;
-        reported = reported;
-        loads = loads;
-        stands = c.in_ok-self.ensures.chain
-            (along-rising (stats_of g.F.Files files) (reads_of g.F.Files files) asked.settings loads.0 dirs base reported loads.2);
+      stays = record {
+        above = λ on. let off = c.if-self.false in absurd (cc (on, off));
+        dirs = λ names k h. h;
+        levels = c.in_ok-self.ensures.levels;
       };
-      dirs = λ names place clean none now. let is : None ≡ Some (Loaded place) = sym none ∙ now in absurd (cc (is));
+      loaded = record {
+        above = λ off on. record {
+          dirs = dirs;
+          reported = reported;
+          loads = loads;
+          stands = c.in_ok-self.ensures.chain
+              (along-rising (stats_of g.F.Files files) (reads_of g.F.Files files) asked.settings loads.0 dirs base reported loads.2);
+        };
+        dirs = λ names place clean none now. let is : None ≡ Some (Loaded place) = sym none ∙ now in absurd (cc (is));
+      };
+      agrees = λ tree loads honest are there agrees.
+          let scene = scene_of c.args.call.now.asked.now tree loads in
+          let found = c.in_ok-found.found in
+          let set = c.ground.ensures.settings in
+          let honest' = subst (λ f. IsHonest g.F.Files f tree) (sym c.ground.ensures.files) honest in
+          let are' = subst (λ s. AreLoads tree s loads) (sym set) are in
+          let root = c.as_str.ensures.value in
+          let dirs : found.dirs.items ≡ placed_above scene = c.in_ok-found.ensures.dirs tree loads honest' are'
+          ∙ (ap (λ s. placed_along 1 (dirs_above loads s (paths_above tree s c.as_str.result.now)) (names_above tree s c.as_str.result.now)) set
+          ∙ ap (λ r. placed_along 1 (dirs_above loads scene.settings (paths_above tree scene.settings r)) (names_above tree scene.settings r)) root) in
+          let base = c.in_ok-found.ensures.base tree honest'
+          ∙ (ap (λ s. 47 ∷ slashed (names_above tree s c.as_str.result.now)) set ∙ ap (λ r. 47 ∷ slashed (names_above tree scene.settings r)) root) in
+          let after : Cache = record {
+            has_above = true;
+            above = c.in_ok-self.field-0;
+            base = found.base;
+            levels = c.add_all.new.self;
+            dirs = c.args.self.now.dirs;
+          } in
+          first_agrees scene c.args.self.now after agrees c.if-self.false refl there
+          (subst (λ (l : List Placed). IsChain c.add_all.new.self.slots.items c.in_ok-self.field-0 (counting (reverse l))) dirs
+          (c.in_ok-self.ensures.chain (subst (IsRising 0) (sym dirs) (above-rising scene))))
+          base refl;
     }
