@@ -1,0 +1,7 @@
+pub mod EnterLemmas
+pub mod FreeLemmas
+pub mod HostLemmas
+pub mod LawLemmas
+pub mod StandLemmas
+pub mod ToldLemmas
+pub mod WorkedGuide

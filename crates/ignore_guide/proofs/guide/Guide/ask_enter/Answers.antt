@@ -1,0 +1,14 @@
+use Rattle.std.proofs.Common.{List, ℕ, subst}
+use Rattle.std.proofs.lemmas.Result.{IfOk-weaker}
+use Rattle.ignore_guide.specs.Hosted.{StepGives}
+use Rattle.ignore_guide.specs.contracts.told.ToldFiles.TheImpl.{ghosts}
+use Rattle.ignore_guide.specs.declared.hosted.Call.TheVariants as call
+use Rattle.ignore_guide.proofs.guide.Guide.ask_enter.Goals as goal
+
+pub returns-clause-gives : goal.returns-clause-gives
+returns-clause-gives c =
+    IfOk-weaker c.go.result _ _ (λ step h. (
+      c.in_ok-told.told,
+      c.in_ok-told.ensures,
+      subst (λ (p : List ℕ). StepGives ghosts (call.Enter c.args.parent p) c.in_ok-told.told c.args.self.now step c.go.new.self) c.in_ok-name.ensures h,
+    )) c.go.ensures.gives

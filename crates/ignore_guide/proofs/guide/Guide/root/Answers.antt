@@ -1,0 +1,69 @@
+use Rattle.std.proofs.Common.{ap, option_map, sym, subst, ◌∙◌}
+use Rattle.ignore_base.specs.Problem.{problem_of}
+use Rattle.ignore_dir.specs.Scene.{scene}
+use Rattle.ignore_dir.specs.Steps.{Reached}
+use Rattle.ignore_levels.specs.Levels.{slots_of}
+use Rattle.ignore_guide.specs.Guide.{IsRootBy, StandsFor}
+use Rattle.ignore_guide.proofs.EnterLemmas.{root-whole, stands-root}
+use Rattle.ignore_guide.proofs.StandLemmas.{above-below, above-rising, chains-kept, places-kept}
+use Rattle.ignore_guide.proofs.guide.Guide.root.Goals as goal
+
+pub returns-in_err-level-clause-kept : goal.returns-in_err-level-clause-kept
+returns-in_err-level-clause-kept g c =
+    places-kept c.args.self.now (record c.args.self.now { levels = c.add_all.new.self }) (λ place e h. h)
+    (chains-kept (slots_of c.args.self.now.levels) (slots_of c.add_all.new.self) c.in_err-level.ensures.levels)
+
+pub returns-in_err-arrived-clause-kept : goal.returns-in_err-arrived-clause-kept
+returns-in_err-arrived-clause-kept g c = λ place depth at s. c.in_err-arrived.ensures.kept place depth at
+    (places-kept c.args.self.now (record c.args.self.now { levels = c.add_all.new.self }) (λ place e h. h)
+    (chains-kept (slots_of c.args.self.now.levels) (slots_of c.add_all.new.self) c.in_ok-level.ensures.levels) place depth at s)
+
+pub returns-clause-kept : goal.returns-clause-kept
+returns-clause-kept g c = λ place depth at s. c.in_ok-arrived.ensures.kept place depth at
+    (places-kept c.args.self.now (record c.args.self.now { levels = c.add_all.new.self }) (λ place e h. h)
+    (chains-kept (slots_of c.args.self.now.levels) (slots_of c.add_all.new.self) c.in_ok-level.ensures.levels) place depth at s)
+
+pub returns-clause-answered : goal.returns-clause-answered
+returns-clause-answered g c =
+    let rooted = c.in_ok-rooted.rooted in
+    let o = rooted.opened in
+    let f = c.args.files.now in
+    let st = c.args.self.now.settings in
+    let root = c.args.root.now in
+    let by = c.in_ok-rooted.ensures.answered in
+    let is = by.is_above in
+    let stand = stands-root (slots_of c.add_all.new.self) c.in_ok-level.level c.settle.new.self c.in_ok-arrived.arrived.place o.depth rooted.above.items
+    o.dir o.text o.path root c.in_ok-arrived.ensures.stands
+    (c.in_ok-level.ensures.chain (above-rising g.F.Files f st root rooted.above.items o.text by.far is))
+    (above-below g.F.Files f st root rooted.above.items o.text by.far is)
+    c.in_ok-rooted.ensures.placed c.in_ok-rooted.ensures.ends c.in_ok-rooted.ensures.path c.in_ok-rooted.ensures.depth in
+    let reported = ap (option_map problem_of) c.in_ok-arrived.ensures.error in (
+      rooted.above.items,
+      o.text,
+      o.dir,
+      subst (λ p. IsRootBy g.F.Files f st root rooted.above.items o.text o.dir p) (sym reported) by,
+      stand,
+    )
+
+pub returns-clause-stands : goal.returns-clause-stands
+returns-clause-stands g c = λ tree loads honest are.
+    let rooted = c.in_ok-rooted.rooted in
+    let o = rooted.opened in
+    let f = c.args.files.now in
+    let st = c.args.self.now.settings in
+    let root = c.args.root.now in
+    let by = c.in_ok-rooted.ensures.answered in
+    let is = by.is_above in
+    let s = scene tree loads st c.args.self.now.outside root in
+    let stand = stands-root (slots_of c.add_all.new.self) c.in_ok-level.level c.settle.new.self c.in_ok-arrived.arrived.place o.depth rooted.above.items
+    o.dir o.text o.path root c.in_ok-arrived.ensures.stands
+    (c.in_ok-level.ensures.chain (above-rising g.F.Files f st root rooted.above.items o.text by.far is))
+    (above-below g.F.Files f st root rooted.above.items o.text by.far is)
+    c.in_ok-rooted.ensures.placed c.in_ok-rooted.ensures.ends c.in_ok-rooted.ensures.path c.in_ok-rooted.ensures.depth in
+    subst (λ (at : Reached). StandsFor c.settle.new.self c.in_ok-arrived.arrived.place 1 at)
+    (root-whole s rooted.above.items o.dir o.text (c.steps_are_whole.ensures.root s) (c.in_ok-rooted.ensures.above tree loads honest are)
+    (c.in_ok-rooted.ensures.dir tree loads honest are) (c.in_ok-rooted.ensures.text tree loads honest are)) stand
+
+pub returns-clause-problem : goal.returns-clause-problem
+returns-clause-problem g c = λ tree loads honest are.
+    ap (option_map problem_of) c.in_ok-arrived.ensures.error ∙ c.in_ok-rooted.ensures.problem tree loads honest are

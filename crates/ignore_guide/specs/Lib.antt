@@ -1,0 +1,5 @@
+pub mod Guide
+pub mod Hosted
+pub mod Names
+pub mod Places
+pub mod Told

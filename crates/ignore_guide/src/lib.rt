@@ -1,0 +1,23 @@
+//! A guide for hosts that walk by themselves: the directories that were entered, and what decides
+//! on the entries of each.
+#![tactic(auto)]
+
+mod error;
+mod free;
+mod guide;
+mod hosted;
+pub mod internal;
+mod judge;
+pub mod laws;
+mod missing;
+mod open;
+mod places;
+mod told;
+
+pub use error::GuideError;
+pub use guide::{Arrived, Guide};
+pub use hosted::{Call, Given, Step, Waiting};
+pub use judge::Entry;
+pub use missing::{Question, Wanted};
+pub use places::{Entered, Held, Place, Places, Spot};
+pub use told::Told;
