@@ -30,6 +30,13 @@
 extern "C" {
 #endif
 
+/* The version of this header, 1.0.0, as ignore_version has it: 10,000 times its first number,
+   100 times its second, and its third. */
+#define IGNORE_VERSION 10000
+
+/* The version of the library. */
+uint32_t ignore_version(void);
+
 /* What a call answers. */
 enum {
     IGNORE_OK = 0,        /* it did what it is for */
@@ -125,7 +132,14 @@ uint32_t ignore_rules_matched(ignore_rules *rules, const uint8_t *path, size_t p
 uint32_t ignore_rules_matched_path_or_any_parents(ignore_rules *rules, const uint8_t *path,
                                                   size_t path_length, bool is_dir);
 
-/* The same two, with the rule that decided: `reason`, and in `room` the first bytes, as many as
+/* The same as git asks: from the root down, the first folder that the path is in and that is ignored
+   decides, and nothing below it is whitelisted; else the path itself does. The folders are what
+   precedes each slash of the path without the root, but one at its start; the root isn't asked, and
+   has no match. Answers as ignore_rules_matched. */
+uint32_t ignore_rules_matched_as_git(ignore_rules *rules, const uint8_t *path, size_t path_length,
+                                     bool is_dir);
+
+/* The same three, with the rule that decided: `reason`, and in `room` the first bytes, as many as
    there is room for, of its source, its line and its glob, one after the other. With another answer
    than IGNORE_IGNORE and IGNORE_WHITELIST the reason is all zeros, and the room is as before. */
 uint32_t ignore_rules_decided(ignore_rules *rules, const uint8_t *path, size_t path_length,
@@ -135,6 +149,16 @@ uint32_t ignore_rules_decided_path_or_any_parents(ignore_rules *rules, const uin
                                                   size_t path_length, bool is_dir,
                                                   ignore_reason *reason, uint8_t *room,
                                                   size_t room_length);
+uint32_t ignore_rules_decided_as_git(ignore_rules *rules, const uint8_t *path, size_t path_length,
+                                     bool is_dir, ignore_reason *reason, uint8_t *room,
+                                     size_t room_length);
+
+/* The rule at an index, counted from 0 in the order in which they were added: IGNORE_IGNORE, or
+   IGNORE_WHITELIST where it has a `!`, with `reason` and `room` as above; IGNORE_NONE where there
+   are no more rules than that. Also IGNORE_NO_MEMORY, and IGNORE_MISUSED before
+   `ignore_rules_build`. */
+uint32_t ignore_rules_rule(ignore_rules *rules, size_t index, ignore_reason *reason, uint8_t *room,
+                           size_t room_length);
 
 /* How many rules ignore, and how many whitelist: IGNORE_OK, or IGNORE_MISUSED before
    `ignore_rules_build`, and then both are 0. */
@@ -282,16 +306,17 @@ uint32_t ignore_builder_add_override(ignore_builder *builder, const uint8_t *glo
 uint32_t ignore_builder_set_overrides(ignore_builder *builder);
 
 /* File types: a glob more of one, a definition (`html:*.html`, `web:include:html,css`), the types
-   that are there by default, none of a name; which are chosen, and which are to be ignored (`all`
-   stands for those that are there). IGNORE_REFUSED where the name of a type or a definition is
-   invalid: nothing is added, and the problem is kept. The choice counts from ignore_builder_set_types
-   on, which answers IGNORE_REFUSED where no type has a chosen name, or a glob of one is invalid, and
-   then changes nothing but the problem. */
+   that are there by default, all 219 of the original's table, none of a name; which are chosen, and
+   which are to be ignored (`all` stands for those that are there). IGNORE_REFUSED where the name of a
+   type or a definition is invalid: nothing is added, and the problem is kept. The choice counts from
+   ignore_builder_set_types on, which answers IGNORE_REFUSED where no type has a chosen name, or a
+   glob of one is invalid, and then changes nothing but the problem. */
 uint32_t ignore_builder_type_add(ignore_builder *builder, const uint8_t *name, size_t name_length,
                                  const uint8_t *glob, size_t glob_length);
 uint32_t ignore_builder_type_add_def(ignore_builder *builder, const uint8_t *definition,
                                      size_t definition_length);
 uint32_t ignore_builder_type_add_defaults(ignore_builder *builder);
+uint32_t ignore_builder_type_add_all_defaults(ignore_builder *builder);
 uint32_t ignore_builder_type_clear(ignore_builder *builder, const uint8_t *name,
                                    size_t name_length);
 uint32_t ignore_builder_type_select(ignore_builder *builder, const uint8_t *name,
@@ -348,6 +373,64 @@ uint32_t ignore_matcher_new(ignore_builder *builder, ignore_tree *tree, ignore_m
    IGNORE_NO_MEMORY (what was kept stays kept) and IGNORE_MISUSED, and then `found` is all false. */
 uint32_t ignore_matcher_matched(ignore_matcher *matcher, ignore_tree *tree, const uint8_t *path,
                                 size_t path_length, bool is_dir, ignore_found *found);
+
+/* Why a matcher answers as it does. */
+enum {
+    IGNORE_WHY_NOT_ASKED = 1,   /* nothing was asked: the path isn't clean, or the root is `-` */
+    IGNORE_WHY_UNRULED = 2,     /* no rule is asked: the path is the root, or that is no directory */
+    IGNORE_WHY_TOO_SHALLOW = 3, /* a file above the least depth */
+    IGNORE_WHY_TOO_DEEP = 4,    /* below the greatest depth */
+    IGNORE_WHY_NO_RULE = 5,     /* nothing decides */
+    IGNORE_WHY_RULE = 6,        /* a rule */
+    IGNORE_WHY_OVERRIDE = 7,    /* a glob of a command line */
+    IGNORE_WHY_NO_OVERRIDE = 8, /* none of these matches, and some glob whitelists */
+    IGNORE_WHY_TYPE = 9,        /* a chosen file type */
+    IGNORE_WHY_NO_TYPE = 10,    /* none of these matches, and a type is selected */
+    IGNORE_WHY_HIDDEN = 11,     /* a leading dot of the name */
+    IGNORE_WHY_LARGER = 12      /* the size, which is above its limit */
+};
+
+/* In which list a rule stands. They are asked in this order, and the first that has a match decides:
+   custom names, `.ignore`, `.gitignore`, `info/exclude` of a repository, git's global file, files of
+   ignore_builder_add_ignore. */
+enum {
+    IGNORE_RANK_CUSTOM = 1,
+    IGNORE_RANK_IGNORE = 2,
+    IGNORE_RANK_GITIGNORE = 3,
+    IGNORE_RANK_EXCLUDE = 4,
+    IGNORE_RANK_GLOBAL = 5,
+    IGNORE_RANK_EXPLICIT = 6
+};
+
+/* A reason. What isn't said to be set is 0, or false. */
+typedef struct ignore_why {
+    uint32_t kind;     /* IGNORE_WHY_.. */
+    uint32_t rank;     /* of a rule: IGNORE_RANK_.. */
+    uint64_t line;     /* of a rule: the number of its line, from 1; 0 where that isn't known */
+    uint64_t size;     /* of IGNORE_WHY_LARGER: the size in bytes */
+    uint64_t limit;    /* and the greatest that isn't left out */
+    size_t directory;  /* bytes of the directory whose list the rule is in, up to and with its last
+                          slash. The root stands as `/` where its canonical path isn't known, or
+                          isn't asked: none of `parents` and git's three settings is on. None for
+                          the global file, and for one that was added by name */
+    size_t source;     /* bytes of the path of the file that the rule was read from */
+    size_t pattern;    /* bytes of the line of a rule, without white space at the end; of a glob of a
+                          command line, as it was written; of the name of a file type */
+    size_t glob;       /* bytes of the last glob of the file type that matches */
+    size_t ancestor;   /* bytes of the ignored directory, where the path is in one */
+    bool has_source;   /* whether the path of the file is known */
+    bool is_inside;    /* whether the path is in an ignored directory: the first one on the way from
+                          the root, by its path below the root; all else is the reason of that */
+} ignore_why;
+
+/* The same as ignore_matcher_matched, with the reason: `why`, and in `room` the first bytes, as many
+   as there is room for, of its texts, one after the other: the directory, the source, the pattern,
+   the glob, the ancestor. The answer, `found` and what the matcher keeps are those of
+   ignore_matcher_matched. With another answer than IGNORE_NONE, IGNORE_IGNORE and IGNORE_WHITELIST
+   `why` is all zeros, and the room is as before. */
+uint32_t ignore_matcher_explained(ignore_matcher *matcher, ignore_tree *tree, const uint8_t *path,
+                                  size_t path_length, bool is_dir, ignore_found *found,
+                                  ignore_why *why, uint8_t *room, size_t room_length);
 
 /* Forgets what is kept of the directory at a path below the root, and of those below it, so that
    they are read anew, and counts them: IGNORE_OK, IGNORE_NOT_UTF8 or IGNORE_MISUSED. The empty path is

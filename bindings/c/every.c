@@ -76,6 +76,10 @@ static void choose_all(ignore_builder *builder) {
     CALL(IGNORE_MISUSED, ignore_builder_add_override(builder, TEXT("a")));
     CALL(IGNORE_MISUSED, ignore_builder_set_overrides(builder));
     CALL(IGNORE_OK, ignore_builder_type_add_defaults(builder));
+    CALL(IGNORE_OK, ignore_builder_type_negate(builder, TEXT("elixir")));
+    CALL(IGNORE_REFUSED, ignore_builder_set_types(builder));
+    CALL(IGNORE_OK, ignore_builder_type_add_all_defaults(builder));
+    CALL(IGNORE_OK, ignore_builder_set_types(builder));
     CALL(IGNORE_OK, ignore_builder_type_add(builder, TEXT("mine"), TEXT("*.mine")));
     CALL(IGNORE_REFUSED, ignore_builder_type_add(builder, TEXT("a b"), TEXT("*.mine")));
     CALL(IGNORE_OK, ignore_builder_problem(builder, room, sizeof room, &whole));
@@ -123,6 +127,7 @@ static void misuse(ignore_builder *builder, ignore_tree *tree, ignore_matcher *m
     CALL(IGNORE_MISUSED, ignore_builder_add(&in_tree, TEXT("/x")));
     CALL(IGNORE_MISUSED, ignore_builder_hidden(&in_tree, true));
     CALL(IGNORE_MISUSED, ignore_builder_type_add_defaults(&in_tree));
+    CALL(IGNORE_MISUSED, ignore_builder_type_add_all_defaults(&in_tree));
     CALL(IGNORE_MISUSED, ignore_builder_problem(&in_tree, room, sizeof room, &whole));
     HOLDS(whole == 0);
     CALL(IGNORE_MISUSED, ignore_matcher_new(&in_tree, &in_builder, &made));
@@ -136,6 +141,95 @@ static void misuse(ignore_builder *builder, ignore_tree *tree, ignore_matcher *m
     ignore_walk not_items = {tree->at};
     CALL(IGNORE_MISUSED, ignore_walk_next(&not_items, &entry, room, sizeof room));
     HOLDS(!entry.is_entry && entry.path == 0 && entry.error == 0);
+}
+
+/* Asks why, and compares the answer, the kind of the reason, and its texts, one after the other. */
+static ignore_why why(ignore_matcher *matcher, ignore_tree *tree, const char *path, uint32_t answer,
+                      uint32_t kind, const char *texts) {
+    ignore_why told;
+    ignore_found found, alone;
+    uint8_t room[64];
+    CALL(answer, ignore_matcher_explained(matcher, tree, TEXT(path), false, &found, &told, room,
+                                          sizeof room));
+    HOLDS(told.kind == kind && told.is_inside == (told.ancestor > 0));
+    same(texts, room, told.directory + told.source + told.pattern + told.glob + told.ancestor);
+    CALL(answer, ignore_matcher_matched(matcher, tree, TEXT(path), false, &alone));
+    HOLDS(found.should_descend == alone.should_descend
+          && found.is_within_depth == alone.is_within_depth);
+    return told;
+}
+
+/* Why is asked with each kind of reason; `/t/.ignore` has `f`, `/rules` has `*.tmp`. */
+static void explain_all(ignore_matcher *matcher, ignore_tree *tree) {
+    ignore_tree in_matcher = {matcher->at};
+    ignore_found found = {true, true};
+    ignore_why told = {.kind = 9, .pattern = 9, .is_inside = true};
+    uint8_t room[8] = "####";
+    CALL(IGNORE_NOT_UTF8, ignore_matcher_explained(matcher, tree, NOT_UTF8, false, &found, &told,
+                                                   room, 4));
+    HOLDS(!found.is_within_depth && told.kind == 0 && told.pattern == 0 && !told.is_inside);
+    told.kind = 9;
+    CALL(IGNORE_MISUSED, ignore_matcher_explained(matcher, &in_matcher, TEXT("f"), false, &found,
+                                                  &told, room, 4));
+    HOLDS(told.kind == 0 && !memcmp(room, "####", 4));
+    CALL(IGNORE_IGNORE, ignore_matcher_explained(matcher, tree, TEXT("x.bak"), false, &found, &told,
+                                                 room, 4));
+    HOLDS(told.pattern == 6 && !memcmp(room, "!*.b", 4));
+    told = why(matcher, tree, "f", IGNORE_IGNORE, IGNORE_WHY_RULE, "//t/.ignoref");
+    HOLDS(told.rank == IGNORE_RANK_IGNORE && told.line == 1 && told.has_source);
+    HOLDS(told.directory == 1 && told.source == 10 && told.pattern == 1);
+    told = why(matcher, tree, "x.tmp", IGNORE_IGNORE, IGNORE_WHY_RULE, "/rules*.tmp");
+    HOLDS(told.rank == IGNORE_RANK_EXPLICIT && told.directory == 0 && told.source == 6);
+    told = why(matcher, tree, "f/in/x", IGNORE_IGNORE, IGNORE_WHY_RULE, "//t/.ignoreff");
+    HOLDS(told.ancestor == 1 && told.pattern == 1);
+    told = why(matcher, tree, "big", IGNORE_IGNORE, IGNORE_WHY_LARGER, "");
+    HOLDS(told.size == 1 << 20 && told.limit == 1000 && told.rank == 0);
+    told = why(matcher, tree, ".x/y", IGNORE_IGNORE, IGNORE_WHY_HIDDEN, ".x");
+    HOLDS(told.size == 0 && !told.has_source);
+    why(matcher, tree, "x.o", IGNORE_NONE, IGNORE_WHY_NO_RULE, "");
+    why(matcher, tree, "./f", IGNORE_NONE, IGNORE_WHY_NOT_ASKED, "");
+    why(matcher, tree, "", IGNORE_IGNORE, IGNORE_WHY_TOO_SHALLOW, "");
+}
+
+/* The reasons of globs that whitelist, of file types, of the greatest depth, and of a root that is
+   none. */
+static void explain_chosen(void) {
+    ignore_tree tree;
+    ignore_builder builder;
+    ignore_matcher matcher;
+    CALL(IGNORE_OK, ignore_tree_new(TEXT("/"), &tree));
+    CALL(IGNORE_OK, ignore_tree_add_dir(&tree, TEXT("/t")));
+    CALL(IGNORE_OK, ignore_tree_add_file(&tree, TEXT("/f"), TEXT("")));
+    CALL(IGNORE_OK, ignore_builder_new(TEXT("/t"), &builder));
+    CALL(IGNORE_OK, ignore_builder_max_depth(&builder, true, 2));
+    CALL(IGNORE_OK, ignore_builder_type_add(&builder, TEXT("web"), TEXT("*.css")));
+    CALL(IGNORE_OK, ignore_builder_type_add(&builder, TEXT("old"), TEXT("*.old")));
+    CALL(IGNORE_OK, ignore_builder_type_select(&builder, TEXT("web")));
+    CALL(IGNORE_OK, ignore_builder_type_negate(&builder, TEXT("old")));
+    CALL(IGNORE_OK, ignore_builder_set_types(&builder));
+    CALL(IGNORE_OK, ignore_matcher_new(&builder, &tree, &matcher));
+    ignore_why told =
+        why(&matcher, &tree, "a.css", IGNORE_WHITELIST, IGNORE_WHY_TYPE, "web*.css");
+    HOLDS(told.pattern == 3 && told.glob == 5);
+    why(&matcher, &tree, "a.old", IGNORE_IGNORE, IGNORE_WHY_TYPE, "old*.old");
+    why(&matcher, &tree, "a.c", IGNORE_IGNORE, IGNORE_WHY_NO_TYPE, "");
+    why(&matcher, &tree, "a/b/c", IGNORE_IGNORE, IGNORE_WHY_TOO_DEEP, "");
+    why(&matcher, &tree, "", IGNORE_NONE, IGNORE_WHY_UNRULED, "");
+    ignore_matcher_free(matcher);
+    CALL(IGNORE_OK, ignore_builder_overrides(&builder, TEXT("/t"), false));
+    CALL(IGNORE_OK, ignore_builder_add_override(&builder, TEXT("*.c")));
+    CALL(IGNORE_OK, ignore_builder_set_overrides(&builder));
+    CALL(IGNORE_OK, ignore_matcher_new(&builder, &tree, &matcher));
+    why(&matcher, &tree, "a.c", IGNORE_WHITELIST, IGNORE_WHY_OVERRIDE, "*.c");
+    why(&matcher, &tree, "a.css", IGNORE_IGNORE, IGNORE_WHY_NO_OVERRIDE, "");
+    ignore_matcher_free(matcher);
+    ignore_builder_free(builder);
+    CALL(IGNORE_OK, ignore_builder_new(TEXT("/f"), &builder));
+    CALL(IGNORE_OK, ignore_matcher_new(&builder, &tree, &matcher));
+    why(&matcher, &tree, "a", IGNORE_NONE, IGNORE_WHY_UNRULED, "");
+    ignore_matcher_free(matcher);
+    ignore_builder_free(builder);
+    ignore_tree_free(tree);
 }
 
 static void ask_all(ignore_matcher *matcher, ignore_tree *tree) {
@@ -200,8 +294,60 @@ static void ask_rules(ignore_rules *rules) {
     HOLDS(reason.pattern == 0 && !reason.is_only_dir);
     CALL(IGNORE_IGNORE, ignore_rules_decided(rules, TEXT("x"), true, &reason, room, sizeof room));
     HOLDS(reason.line == 1 && reason.has_source);
+    CALL(IGNORE_IGNORE, ignore_rules_rule(rules, 0, &reason, room, sizeof room));
+    same("BUILD/**/BUILD", room, reason.source + reason.pattern + reason.glob);
+    HOLDS(reason.is_only_dir && !reason.has_source);
+    CALL(IGNORE_WHITELIST, ignore_rules_rule(rules, 1, &reason, room, sizeof room));
+    same("s!Keep\\ **/Keep\\ ", room, reason.source + reason.pattern + reason.glob);
+    CALL(IGNORE_IGNORE, ignore_rules_rule(rules, 2, &reason, room, 1));
+    HOLDS(reason.line == 1 && reason.source == 1 && reason.pattern == 1 && room[0] == 'f');
+    CALL(IGNORE_NONE, ignore_rules_rule(rules, 3, &reason, room, sizeof room));
+    CALL(IGNORE_NONE, ignore_rules_rule(rules, SIZE_MAX, &reason, room, sizeof room));
+    HOLDS(reason.line == 0 && reason.pattern == 0 && !reason.has_source && room[0] == 'f');
     CALL(IGNORE_NONE, ignore_rules_matched(rules, TEXT("y"), false));
     CALL(IGNORE_NOT_UTF8, ignore_rules_matched(rules, NOT_UTF8, false));
+}
+
+/* As git asks: folders from the root down, which isn't asked. */
+static void ask_as_git(void) {
+    static const ignore_rule_options options = {false, true, false};
+    static const struct {
+        const char *path;
+        uint32_t code;
+        const char *texts;
+    } asked[] = {
+        {"/r/a/keep/x", IGNORE_IGNORE, "a/**/a"}, {"a/b/a/keep", IGNORE_IGNORE, "a/**/a"},
+        {"/r/b/keep", IGNORE_WHITELIST, "!keep**/keep"}, {"/r/keep/x", IGNORE_NONE, ""},
+        {"a", IGNORE_NONE, ""}, {"", IGNORE_NONE, ""}, {"/r/", IGNORE_NONE, ""},
+        {"/else/x", IGNORE_NONE, ""}, {"/else/a/x", IGNORE_IGNORE, "a/**/a"},
+    };
+    ignore_rules rules;
+    ignore_reason reason;
+    uint8_t room[32];
+    CALL(IGNORE_OK, ignore_rules_new(TEXT("/r"), &options, &rules));
+    CALL(IGNORE_MISUSED, ignore_rules_matched_as_git(&rules, TEXT("a"), false));
+    CALL(IGNORE_OK, ignore_rules_add_line(&rules, TEXT(""), TEXT("a/")));
+    CALL(IGNORE_OK, ignore_rules_add_line(&rules, TEXT(""), TEXT("!keep")));
+    CALL(IGNORE_OK, ignore_rules_build(&rules));
+    for (size_t i = 0; i < sizeof asked / sizeof *asked; i++) {
+        CALL(asked[i].code, ignore_rules_matched_as_git(&rules, TEXT(asked[i].path), false));
+        CALL(asked[i].code, ignore_rules_decided_as_git(&rules, TEXT(asked[i].path), false, &reason,
+                                                        room, sizeof room));
+        same(asked[i].texts, room, reason.source + reason.pattern + reason.glob);
+    }
+    CALL(IGNORE_NOT_UTF8, ignore_rules_matched_as_git(&rules, NOT_UTF8, false));
+    CALL(IGNORE_NOT_UTF8, ignore_rules_decided_as_git(&rules, NOT_UTF8, false, &reason, room, 9));
+    HOLDS(reason.pattern == 0 && !reason.is_only_dir);
+    ignore_rules_free(rules);
+    CALL(IGNORE_OK, ignore_rules_new(TEXT(""), &options, &rules));
+    CALL(IGNORE_OK, ignore_rules_add_line(&rules, TEXT(""), TEXT("*/")));
+    CALL(IGNORE_OK, ignore_rules_build(&rules));
+    CALL(IGNORE_IGNORE, ignore_rules_matched_path_or_any_parents(&rules, TEXT("a"), false));
+    CALL(IGNORE_NONE, ignore_rules_matched_as_git(&rules, TEXT("a"), false));
+    CALL(IGNORE_IGNORE, ignore_rules_matched_as_git(&rules, TEXT("a"), true));
+    CALL(IGNORE_NONE, ignore_rules_matched_as_git(&rules, TEXT(""), true));
+    CALL(IGNORE_IGNORE, ignore_rules_matched_as_git(&rules, TEXT("a/b"), false));
+    ignore_rules_free(rules);
 }
 
 static void rules_round(void) {
@@ -215,6 +361,7 @@ static void rules_round(void) {
     CALL(IGNORE_MISUSED, ignore_rules_counts(&rules, &counts));
     HOLDS(counts.ignores == 0 && counts.whitelists == 0);
     CALL(IGNORE_MISUSED, ignore_rules_matched(&rules, TEXT("a"), false));
+    CALL(IGNORE_MISUSED, ignore_rules_rule(&rules, 0, &(ignore_reason){0}, room, sizeof room));
     CALL(IGNORE_NONE, ignore_rules_problem(&rules, room, sizeof room, &whole));
     HOLDS(whole == 0);
     CALL(IGNORE_REFUSED, ignore_rules_add_line(&rules, TEXT(""), TEXT("[a")));
@@ -248,6 +395,7 @@ static void tree_round(void) {
     CALL(IGNORE_OK, ignore_matcher_new(&builder, &tree, &matcher));
     misuse(&builder, &tree, &matcher);
     ask_all(&matcher, &tree);
+    explain_all(&matcher, &tree);
     walk_all(&builder, &tree);
     CALL(IGNORE_OK, ignore_builder_add(&builder, TEXT("/w")));
     ignore_matcher_free(matcher);
@@ -328,6 +476,9 @@ int main(void) {
     whole += each_fails(faults_round);
     whole += each_fails(untold_round);
     whole += each_fails(tree_round);
+    whole += each_fails(explain_chosen);
+    whole += each_fails(ask_as_git);
+    CALL(IGNORE_VERSION, ignore_version());
     printf("%lu allocations failed in turn, %lu wrong answers\n", whole, wrong);
     return wrong > 0 || whole == 0;
 }

@@ -229,7 +229,7 @@ static struct {
     ignore_matcher matcher;
 } kept;
 
-/* Has a text of one of four kinds put into a room: the length of all of it. */
+/* Has a text of one of five kinds put into a room: the length of all of it. */
 static size_t put(int kind, size_t all, uint8_t *room, size_t size) {
     size_t whole = 0;
     if (kind == 0) {
@@ -242,6 +242,12 @@ static size_t put(int kind, size_t all, uint8_t *room, size_t size) {
     } else if (kind == 2) {
         CALL(IGNORE_OK,
              ignore_matcher_normalize(&kept.matcher, TEXT("/t/./a//b/"), room, size, &whole));
+    } else if (kind == 3) {
+        ignore_found found;
+        ignore_why why;
+        CALL(IGNORE_IGNORE, ignore_matcher_explained(&kept.matcher, &kept.tree, TEXT("f/x"), false,
+                                                     &found, &why, room, size));
+        whole = why.directory + why.source + why.pattern + why.glob + why.ancestor;
     } else {
         ignore_walk items;
         ignore_walk_entry entry;
@@ -253,11 +259,12 @@ static size_t put(int kind, size_t all, uint8_t *room, size_t size) {
     return whole;
 }
 
-/* The texts of a problem, of a rule, of a path and of an item, for rooms from nothing on: the first
-   bytes, as many as there is room for, and the length of all. */
+/* The texts of a problem, of a rule, of a path, of a reason and of an item, for rooms from nothing on:
+   the first bytes, as many as there is room for, and the length of all. */
 static void rooms(void) {
     static const char *const told[] = {
-        "error parsing glob '{': unclosed alternates", "sourcea.o**/a.o", "a/b", "/t",
+        "error parsing glob '{': unclosed alternates", "sourcea.o**/a.o", "a/b",
+        "/t//t/.ignoref/f", "/t",
     };
     ignore_rule_options options = {false, true, false};
     CALL(IGNORE_OK, ignore_rules_new(TEXT(""), &options, &kept.rules));
@@ -265,9 +272,10 @@ static void rooms(void) {
     CALL(IGNORE_REFUSED, ignore_rules_add_line(&kept.rules, TEXT(""), TEXT("{")));
     CALL(IGNORE_OK, ignore_tree_new(TEXT("/"), &kept.tree));
     CALL(IGNORE_OK, ignore_tree_add_dir(&kept.tree, TEXT("/t")));
+    CALL(IGNORE_OK, ignore_tree_add_file(&kept.tree, TEXT("/t/.ignore"), TEXT("f/\n")));
     CALL(IGNORE_OK, ignore_builder_new(TEXT("/t"), &kept.builder));
     CALL(IGNORE_OK, ignore_matcher_new(&kept.builder, &kept.tree, &kept.matcher));
-    for (int kind = 0; kind < 4; kind++) {
+    for (int kind = 0; kind < 5; kind++) {
         size_t all = strlen(told[kind]);
         if (kind == 1)
             CALL(IGNORE_OK, ignore_rules_build(&kept.rules));

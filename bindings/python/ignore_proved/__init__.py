@@ -7,6 +7,7 @@
 
     with Matcher("project") as matcher:
         matcher.is_ignored("build/a.o")
+        print(matcher.explain("build/a.o"))         # project/.gitignore:3:build/
     for entry in walk("project"):
         print(entry.path)
 """
@@ -19,7 +20,8 @@ from ._errors import (
     OutsideError,
     TreeError,
 )
-from .matcher import Match, Matcher, TreeMatcher
+from .answers import Cause, Explanation, Match, Rank
+from .matcher import Matcher, TreeMatcher
 from .rules import Answer, Decision, Reason, Rules
 from .tree import Builder, Tree
 from .walk import Item, TreeWalk, walk
@@ -29,7 +31,9 @@ __version__ = "1.0.0"
 __all__ = [
     "Answer",
     "Builder",
+    "Cause",
     "Decision",
+    "Explanation",
     "IgnoreError",
     "InvalidRuleError",
     "Item",
@@ -39,6 +43,7 @@ __all__ = [
     "MisusedError",
     "NotUtf8Error",
     "OutsideError",
+    "Rank",
     "Reason",
     "Rules",
     "Tree",

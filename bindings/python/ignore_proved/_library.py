@@ -55,6 +55,25 @@ class Found(Structure):
     _fields_ = [("should_descend", c_bool), ("is_within_depth", c_bool)]
 
 
+class WhyParts(Structure):
+    """`ignore_why`."""
+
+    _fields_ = [
+        ("kind", c_uint32),
+        ("rank", c_uint32),
+        ("line", c_uint64),
+        ("size", c_uint64),
+        ("limit", c_uint64),
+        ("directory", c_size_t),
+        ("source", c_size_t),
+        ("pattern", c_size_t),
+        ("glob", c_size_t),
+        ("ancestor", c_size_t),
+        ("has_source", c_bool),
+        ("is_inside", c_bool),
+    ]
+
+
 class WalkEntry(Structure):
     """`ignore_walk_entry`."""
 
@@ -71,6 +90,7 @@ class WalkEntry(Structure):
 TEXT = [c_char_p, c_size_t]
 ONE = [POINTER(Handle)]
 CALLS = {
+    "version": [],
     "rules_new": [*TEXT, POINTER(RuleOptions), POINTER(Handle)],
     "rules_set_options": [*ONE, POINTER(RuleOptions)],
     "rules_add_line": [*ONE, *TEXT, *TEXT],
@@ -79,10 +99,13 @@ CALLS = {
     "rules_build": ONE,
     "rules_matched": [*ONE, *TEXT, c_bool],
     "rules_matched_path_or_any_parents": [*ONE, *TEXT, c_bool],
+    "rules_matched_as_git": [*ONE, *TEXT, c_bool],
     "rules_decided": [*ONE, *TEXT, c_bool, POINTER(ReasonParts), c_char_p, c_size_t],
     "rules_decided_path_or_any_parents": [
         *ONE, *TEXT, c_bool, POINTER(ReasonParts), c_char_p, c_size_t,
     ],
+    "rules_decided_as_git": [*ONE, *TEXT, c_bool, POINTER(ReasonParts), c_char_p, c_size_t],
+    "rules_rule": [*ONE, c_size_t, POINTER(ReasonParts), c_char_p, c_size_t],
     "rules_counts": [*ONE, POINTER(Counts)],
     "tree_new": [*TEXT, *ONE],
     "tree_add_dir": [*ONE, *TEXT],
@@ -111,11 +134,15 @@ CALLS = {
     "builder_type_negate": [*ONE, *TEXT],
     "builder_type_clear": [*ONE, *TEXT],
     "builder_type_add_defaults": ONE,
+    "builder_type_add_all_defaults": ONE,
     "builder_set_types": ONE,
     "builder_add_ignore": [*ONE, *ONE, *TEXT],
     "builder_problem": [*ONE, c_char_p, c_size_t, POINTER(c_size_t)],
     "matcher_new": [*ONE, *ONE, *ONE],
     "matcher_matched": [*ONE, *ONE, *TEXT, c_bool, POINTER(Found)],
+    "matcher_explained": [
+        *ONE, *ONE, *TEXT, c_bool, POINTER(Found), POINTER(WhyParts), c_char_p, c_size_t,
+    ],
     "matcher_forget": [*ONE, *TEXT, POINTER(c_size_t)],
     "matcher_normalize": [*ONE, *TEXT, c_char_p, c_size_t, POINTER(c_size_t)],
     "walk_new": [*ONE, *ONE, *ONE],

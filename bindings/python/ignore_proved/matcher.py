@@ -4,12 +4,13 @@ from __future__ import annotations
 import ctypes
 import os
 from ctypes import byref, c_size_t
-from typing import Any, Dict, Iterable, List, NamedTuple, Optional
+from typing import Any, Dict, Iterable, List, Optional
 
 from . import _library as lib
 from ._errors import checked, error_of
 from ._names import of_disk, told
 from ._owner import Owner, handle_of
+from .answers import Cause, Explanation, Match, explanation_of, lengths_of
 from .host import Host
 from .rules import DECISIONS, Decision, Path, encoded, several
 from .tree import Builder, Tree, text
@@ -19,34 +20,6 @@ from .tree import Builder, Tree, text
 CHOICES = ("overrides", "types", "types_not", "type_defs", "lines", "ignore_files")
 #: The file by which a tree has lines that are given.
 LINES = "/\0lines"
-
-
-class Match(NamedTuple):
-    """What becomes of a path: what decides, whether a walk would enter it, and whether it is as
-    deep as the limits on depth ask.
-    """
-
-    decision: Decision
-    should_descend: bool
-    is_within_depth: bool
-
-    @property
-    def is_ignore(self) -> bool:
-        """Whether the path is ignored."""
-        return self.decision is Decision.IGNORE
-
-    @property
-    def is_whitelist(self) -> bool:
-        """Whether the path is whitelisted."""
-        return self.decision is Decision.WHITELIST
-
-    @property
-    def is_none(self) -> bool:
-        """Whether nothing decides."""
-        return self.decision is Decision.NONE
-
-    def __bool__(self) -> bool:
-        return self.is_ignore
 
 
 class TreeMatcher(Owner):
@@ -71,6 +44,23 @@ class TreeMatcher(Owner):
         if kind is None:
             raise error_of(code)
         return Match(kind, found.should_descend, found.is_within_depth)
+
+    def explain(self, tree: Tree, path: Path, is_dir: bool) -> Explanation:
+        """The same, and why."""
+        given, is_dir, found, parts = encoded(path), bool(is_dir), lib.Found(), lib.WhyParts()
+        handle, at, room = self.handle, handle_of(Tree, tree), ctypes.create_string_buffer(512)
+        while True:
+            code = lib.library.ignore_matcher_explained(
+                handle, at, given, len(given), is_dir, byref(found), byref(parts), room, len(room)
+            )
+            kind = DECISIONS.get(code)
+            if kind is None:
+                raise error_of(code)
+            whole = sum(lengths_of(parts))
+            if whole <= len(room):
+                match = Match(kind, found.should_descend, found.is_within_depth)
+                return explanation_of(match, parts, room.raw[:whole])
+            room = ctypes.create_string_buffer(whole)
 
     def forget(self, folder: Path = "") -> int:
         """Forgets what is kept of a directory and of those below it, and counts them."""
@@ -103,7 +93,7 @@ class Matcher:
     - `overrides`: globs as of a command line, relative to the root, which whitelist what they
       match, or with a leading `!` ignore it, before anything else decides;
     - `types`, `types_not`: names of file types that are whitelisted, or ignored, of those of
-      `Builder.add_default_types` and of `type_defs`, as `web:*.{html,css}`;
+      `Builder.add_all_default_types` and of `type_defs`, as `web:*.{html,css}`;
     - `ignore_files`: paths of files of rules, which are relative to the working directory;
     - `lines`: lines of such a file that are relative to the root, and count after those files.
 
@@ -129,7 +119,7 @@ class Matcher:
         if chosen["overrides"]:
             builder.overrides(told(self.root), chosen["overrides"])
         if chosen["types"] or chosen["types_not"]:
-            builder.add_default_types()
+            builder.add_all_default_types()
             for definition in chosen["type_defs"]:
                 builder.add_type_def(definition)
             builder.choose_types(chosen["types"], chosen["types_not"])
@@ -150,16 +140,21 @@ class Matcher:
         below = self._below(path)
         if below is None:
             return Match(Decision.NONE, bool(is_dir), True)
-        if is_dir is None:
-            whole = os.path.join(self.root, below)
-            is_dir = os.path.isdir(whole) and not os.path.islink(whole)
-        return self.known(below, is_dir)
+        return self.known(below, self._is_dir(below) if is_dir is None else is_dir)
 
     def known(self, below: str, is_dir: bool) -> Match:
         """The same of a clean path below the root."""
-        self._host.tell_way(os.path.dirname(below))
-        self._host.tell_size(below, is_dir)
+        self._told(below, is_dir)
         return self._matcher.match(self._host.tree, told(below), is_dir)
+
+    def explain(self, path: Path, is_dir: Optional[bool] = None) -> Explanation:
+        """As `match`, with the reason: the rule, its file and its line, or what else decides."""
+        below = self._below(path)
+        if below is None:
+            return Explanation(Match(Decision.NONE, bool(is_dir), True), Cause.NOT_ASKED)
+        is_dir = self._is_dir(below) if is_dir is None else is_dir
+        self._told(below, is_dir)
+        return self._matcher.explain(self._host.tree, told(below), is_dir)
 
     def entered(self, below: str, names: Iterable[str]) -> None:
         """Tells what is in a directory below the root, so that the disk isn't asked."""
@@ -195,6 +190,16 @@ class Matcher:
 
     def __exit__(self, *raised: object) -> None:
         self.close()
+
+    def _is_dir(self, below: str) -> bool:
+        """Whether the disk has a directory there, and no link."""
+        whole = os.path.join(self.root, below)
+        return os.path.isdir(whole) and not os.path.islink(whole)
+
+    def _told(self, below: str, is_dir: bool) -> None:
+        """Has the tree told what decides on a clean path below the root."""
+        self._host.tell_way(os.path.dirname(below))
+        self._host.tell_size(below, is_dir)
 
     def _below(self, path: Path) -> Optional[str]:
         """A path, clean and relative to the root; None where it isn't at or below the root."""

@@ -5,7 +5,7 @@ import ctypes
 import os
 from ctypes import byref, c_size_t
 from enum import Enum
-from typing import Any, Iterable, Iterator, NamedTuple, Optional, Tuple, TypeVar, Union
+from typing import Any, Iterable, List, NamedTuple, Optional, Tuple, TypeVar, Union
 
 from . import _library as lib
 from ._errors import InvalidRuleError, checked, error_of
@@ -66,7 +66,7 @@ class Answer(NamedTuple):
 
 NO_MATCH = Answer(Decision.NONE, None)
 ALONE = lib.library.ignore_rules_matched
-WITH_PARENTS = lib.library.ignore_rules_matched_path_or_any_parents
+AS_GIT = lib.library.ignore_rules_matched_as_git
 
 
 def encoded(path: Path) -> bytes:
@@ -104,10 +104,8 @@ class Rules(Owner):
         git_trailing_spaces: bool = False,
     ) -> None:
         self._is_built = False
-        self._ignores_root = False
-        self._root = encoded(root)
         self._room = ctypes.create_string_buffer(1024)
-        name, handle = self._root, lib.Handle()
+        name, handle = encoded(root), lib.Handle()
         options = lib.RuleOptions(case_insensitive, allow_unclosed_class, git_trailing_spaces)
         checked(lib.library.ignore_rules_new(name, len(name), byref(options), byref(handle)))
         self._own(handle)
@@ -190,23 +188,10 @@ class Rules(Owner):
         is said of what it holds. The root itself isn't asked.
         """
         text, is_dir = encoded(path), bool(is_dir)
-        # (the nearest match decides, unless it may be of the root or have an ignored one above it)
-        code = WITH_PARENTS(self.built(), text, len(text), is_dir)
-        if code == lib.NONE:
-            return False
-        if code == lib.IGNORE and not self._ignores_root:
-            return True
-        if code not in (lib.IGNORE, lib.WHITELIST, lib.OUTSIDE):
+        code: int = AS_GIT(self.built(), text, len(text), is_dir)
+        if code not in (lib.NONE, lib.IGNORE, lib.WHITELIST):
             raise error_of(code)
-        return self._is_ignored_from_the_top(text, is_dir)
-
-    def may_match(self, path: Path, is_dir: bool = False) -> bool:
-        """False where no rule matches the path, or a folder that it is in; one call for them."""
-        text = encoded(path)
-        code: int = WITH_PARENTS(self.built(), text, len(text), bool(is_dir))
-        if code not in (lib.NONE, lib.IGNORE, lib.WHITELIST, lib.OUTSIDE):
-            raise error_of(code)
-        return code != lib.NONE
+        return code == lib.IGNORE
 
     def match_line(self, path: Path, is_dir: bool = False) -> Tuple[Decision, int]:
         """What the rules say of this path alone, with the number of the line that decided, as it
@@ -225,14 +210,11 @@ class Rules(Owner):
         """What git says of a path: that of the first ignored folder on the way from the root, which
         isn't asked itself, and else that of the path.
         """
-        text, is_dir = encoded(path), bool(is_dir)
-        if not self.may_match(text, is_dir):
-            return NO_MATCH
-        for folder in folders_of(self._root, text):
-            answer = self.match(folder, True)
-            if answer.is_ignore:
-                return answer
-        return self.match(text, is_dir)
+        return self._answer(lib.library.ignore_rules_decided_as_git, path, is_dir)
+
+    def rules(self) -> List[Answer]:
+        """All rules, in their order: whether each ignores or whitelists, and its parts."""
+        return [self._listed(index) for index in range(len(self))]
 
     @property
     def num_ignores(self) -> int:
@@ -248,24 +230,11 @@ class Rules(Owner):
         counts = self._counts()
         return int(counts.ignores + counts.whitelists)
 
-    def _is_ignored_from_the_top(self, text: bytes, is_dir: bool) -> bool:
-        for folder in folders_of(self._root, text):
-            if self._alone(folder, True) == lib.IGNORE:
-                return True
-        return self._alone(text, is_dir) == lib.IGNORE
-
-    def _alone(self, text: bytes, is_dir: bool) -> int:
-        code: int = ALONE(self.built(), text, len(text), is_dir)
-        if code not in (lib.NONE, lib.IGNORE, lib.WHITELIST):
-            raise error_of(code)
-        return code
-
     def built(self) -> Any:
         """The handle's address, once the matcher is built, which takes no line any more."""
         if not self._is_built:
             self._call("build")
             self._is_built = True
-            self._ignores_root = self._alone(b"", True) == lib.IGNORE
         return self.handle
 
     def _added(self, code: int) -> None:
@@ -285,11 +254,18 @@ class Rules(Owner):
             self._room = ctypes.create_string_buffer(whole.value)
 
     def _answer(self, ask: Any, path: Path, is_dir: bool) -> Answer:
-        text, is_dir, parts = encoded(path), bool(is_dir), lib.ReasonParts()
-        handle = self.built()
+        text, is_dir = encoded(path), bool(is_dir)
+        return self._told(ask, text, len(text), is_dir)
+
+    def _listed(self, index: int) -> Answer:
+        return self._told(lib.library.ignore_rules_rule, index)
+
+    def _told(self, ask: Any, *words: object) -> Answer:
+        """What a call answers that tells a rule."""
+        handle, parts = self.built(), lib.ReasonParts()
         while True:
             room = self._room
-            code = ask(handle, text, len(text), is_dir, byref(parts), room, len(room))
+            code = ask(handle, *words, byref(parts), room, len(room))
             if code == lib.NONE:
                 return NO_MATCH
             if code not in (lib.IGNORE, lib.WHITELIST):
@@ -303,27 +279,6 @@ class Rules(Owner):
         counts = lib.Counts()
         checked(lib.library.ignore_rules_counts(self.built(), byref(counts)))
         return counts
-
-
-def below_root(root: bytes, path: bytes) -> int:
-    """Where a path begins below the root: after the root, if it is written with the path."""
-    begin = 2 if path.startswith(b"./") else 0
-    root = root[2:] if root.startswith(b"./") else root
-    is_here = root.startswith(b".") and not root.strip(b"./")
-    if is_here or b"/" not in path[begin:] or not path.startswith(root, begin):
-        return begin
-    end = begin + len(root)
-    if root and not root.endswith(b"/") and path[end:end + 1] not in (b"", b"/"):
-        return begin
-    return end + path.startswith(b"/", end)
-
-
-def folders_of(root: bytes, path: bytes) -> Iterator[bytes]:
-    """The folders that a path is in, below the root, from the top down."""
-    end = path.find(b"/", below_root(root, path) + 1)
-    while end >= 0:
-        yield path[:end]
-        end = path.find(b"/", end + 1)
 
 
 def reason_of(parts: lib.ReasonParts, texts: bytes) -> Reason:

@@ -185,8 +185,13 @@ class Builder(Owner):
         return self
 
     def add_default_types(self) -> "Builder":
-        """Adds the file types that are there by default, as `rust` and `c`. ripgrep lists more."""
+        """Adds the file types that are there by default, as `rust` and `c`."""
         self._tried("type_add_defaults")
+        return self
+
+    def add_all_default_types(self) -> "Builder":
+        """Adds all of ripgrep's file types: those of its whole table, of 219 rows."""
+        self._tried("type_add_all_defaults")
         return self
 
     def clear_type(self, name: str) -> "Builder":

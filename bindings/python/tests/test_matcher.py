@@ -8,8 +8,8 @@ import unittest
 from unittest import mock
 
 from ignore_proved import (
-    Builder, Decision, InvalidRuleError, LimitError, Matcher, MisusedError, Tree, TreeError,
-    TreeMatcher, TreeWalk, _names, walk,
+    Builder, Cause, Decision, InvalidRuleError, LimitError, Matcher, MisusedError, Rank, Tree,
+    TreeError, TreeMatcher, TreeWalk, _names, walk,
 )
 
 
@@ -156,6 +156,61 @@ class Disk(unittest.TestCase):
             self.put("a/.ignore", "y\n")
             matcher.forget("a")
             self.assertTrue(matcher.is_ignored("a/y"))
+
+    def test_a_matcher_says_why(self):
+        self.put(".git/info/exclude", "excluded\n")
+        self.put(".gitignore", "*.o\n!keep.o\n\nsub/  \n")
+        self.put("a/sub/x")
+        self.put("large.bin", "12345")
+        top = str(self.top)
+        with Matcher(self.top, max_filesize=4) as matcher:
+            why = matcher.explain("a/b.o")
+            self.assertEqual(why.match, matcher.match("a/b.o"))
+            self.assertEqual((why.cause, why.rank, why.line), (Cause.RULE, Rank.GITIGNORE, 1))
+            self.assertEqual((why.source, why.directory), (top + "/.gitignore", top + "/"))
+            self.assertEqual((why.pattern, why.glob, why.ancestor), ("*.o", None, None))
+            self.assertEqual(str(why), top + "/.gitignore:1:*.o")
+            why = matcher.explain("a/keep.o")
+            self.assertTrue(why.match.is_whitelist)
+            self.assertEqual((why.pattern, why.line), ("!keep.o", 2))
+            why = matcher.explain("a/sub/x")
+            self.assertEqual((why.ancestor, why.pattern, why.line), ("a/sub", "sub/", 4))
+            self.assertIs(matcher.explain("excluded").rank, Rank.EXCLUDE)
+            why = matcher.explain("large.bin")
+            self.assertEqual((why.cause, why.size, why.limit), (Cause.LARGER, 5, 4))
+            self.assertEqual(str(why), "larger than 4")
+            for path, cause, text in [
+                ("a.c", Cause.NO_RULE, "no rule"), (".x", Cause.HIDDEN, "hidden"),
+                ("/elsewhere", Cause.NOT_ASKED, "not asked"), ("", Cause.UNRULED, "not asked"),
+            ]:
+                why = matcher.explain(path, is_dir=path == "")
+                self.assertEqual((why.cause, str(why)), (cause, text))
+                self.assertIsNone(why.pattern)
+        with Matcher(self.top, overrides=["*.c"], types=["c"], min_depth=1, max_depth=2) as matcher:
+            for path, text in [
+                ("a.c", "override *.c"), ("a.h", "no override"), ("", "above the least depth"),
+                ("a/b/c", "below the greatest depth"),
+            ]:
+                self.assertEqual(str(matcher.explain(path, is_dir=False)), text)
+        with Matcher(self.top, types=["c"]) as matcher:
+            why = matcher.explain("a.c", is_dir=False)
+            self.assertEqual((str(why), why.glob), ("type c", "*.[chH]"))
+            self.assertEqual(str(matcher.explain("a.rs", is_dir=False)), "no type")
+        long = "x" * 3000
+        with Matcher(self.top, lines=[long]) as matcher:
+            why = matcher.explain(long, is_dir=False)
+            self.assertEqual((why.pattern, why.rank), (long, Rank.EXPLICIT))
+
+    def test_the_reason_of_an_odd_name(self):
+        odd = os.fsencode(self.top) + b"/a\xff"
+        os.makedirs(odd)
+        with open(odd + b"/.ignore", "wb") as file:
+            file.write(b"y\n")
+        with Matcher(self.top) as matcher:
+            why = matcher.explain(b"a\xff/y", is_dir=True)
+            self.assertEqual(why.directory, os.fsdecode(odd) + "/")
+            self.assertEqual(why.source, os.fsdecode(odd) + "/.ignore")
+            self.assertEqual(matcher.explain(b"a\xff/y/z", is_dir=False).ancestor, "a\udcff/y")
 
     def test_a_walk_yields_what_no_rule_ignores(self):
         self.put(".git/HEAD")
@@ -345,6 +400,8 @@ class Disk(unittest.TestCase):
             ({"types": ["rust"]}, ["a.rs", "d", "d/e.rs", "other"]),
             ({"types_not": ["rust"], "max_depth": 1}, ["b.py", "c.web", "d", "other", "rules"]),
             ({"types": ["web"], "type_defs": ["web:*.web"]}, ["c.web", "d", "other"]),
+            ({"types_not": ["elixir", "txt"], "max_depth": 1, "overrides": ["!rules"]},
+             ["a.rs", "b.py", "c.web", "d", "other"]),
             ({"lines": ["d/f.txt", "/*.rs", "other", "rules"]}, ["b.py", "c.web", "d", "d/e.rs"]),
             ({"ignore_files": [self.top / "rules"], "max_depth": 1},
              ["a.rs", "b.py", "c.web", "other", "rules"]),

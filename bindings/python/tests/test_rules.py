@@ -5,6 +5,7 @@ import pathlib
 import tempfile
 import unittest
 
+import ignore_proved
 from ignore_proved import (
     Decision,
     InvalidRuleError,
@@ -55,6 +56,7 @@ class RulesTest(unittest.TestCase):
             with Rules("", lines) as rules:
                 for path in ignored + kept:
                     self.assertEqual(rules.is_ignored(path), path in ignored, (lines, path))
+                    self.assertIs(bool(rules.match_as_git(path)), path in ignored)
         rows = [("r", "r/a"), ("./r", "./r/a"), ("/r", "/r/a"), ("/", "/a"), (".", "./a"),
                 ("r/", "r/a"), ("r", "a"), ("", "/a"), ("r", "r/r/a")]
         for root, path in rows:
@@ -62,6 +64,27 @@ class RulesTest(unittest.TestCase):
                 self.assertEqual(rules.is_ignored(path), path.count("r") > 1, (root, path))
         with Rules("/r", ["other/", "!a"]) as rules:
             self.assertTrue(rules.is_ignored("/other/a"))
+            self.assertEqual(rules.match_as_git("/r/other/a").reason.pattern, "other/")
+            self.assertTrue(rules.match_as_git("/r/x/a").is_whitelist)
+            self.assertIsNone(rules.match_as_git("/r/x").reason)
+        with Rules("", ["*/"]) as rules:
+            self.assertFalse(rules.is_ignored("", is_dir=True))
+
+    def test_the_rules_are_listed(self):
+        with Rules("", ["*.o", "", "!keep.o"]) as rules:
+            rules.add_file("f", "# none\nbuild/\n" + "x" * 3000 + "\n")
+            listed = rules.rules()
+            self.assertEqual([(it.decision.name, it.reason.line) for it in listed],
+                             [("IGNORE", None), ("WHITELIST", None), ("IGNORE", 2), ("IGNORE", 3)])
+            self.assertEqual([it.reason.pattern for it in listed],
+                             ["*.o", "!keep.o", "build/", "x" * 3000])
+            self.assertEqual(listed[2], rules.match("build", is_dir=True))
+        self.assertEqual(Rules("").rules(), [])
+
+    def test_the_version_is_that_of_the_library(self):
+        first, second, third = map(int, ignore_proved.__version__.split("."))
+        version = 10000 * first + 100 * second + third
+        self.assertEqual(ignore_proved._library.library.ignore_version(), version)
 
     def test_a_file_on_disk(self):
         with tempfile.TemporaryDirectory() as folder:

@@ -1,6 +1,6 @@
 //! Rules of gitignore files, as in the original's module of this name.
 
-use crate::library::{self, Counts, Reason, RuleOptions, Rules};
+use crate::library::{self, Counts, Manner, Reason, RuleOptions, Rules};
 use crate::{Error, Match};
 use std::cell::RefCell;
 use std::fs;
@@ -164,7 +164,7 @@ impl Gitignore {
 
     /// What the rules say of a path, with the rule that decided.
     pub fn matched<P: AsRef<Path>>(&self, path: P, is_dir: bool) -> Result<Match<Glob>, Error> {
-        self.decided(path.as_ref(), is_dir, false)
+        self.decided(path.as_ref(), is_dir, Manner::Alone)
     }
 
     /// The same of the path, or else of the nearest of its parents that has a match.
@@ -173,7 +173,17 @@ impl Gitignore {
         path: P,
         is_dir: bool,
     ) -> Result<Match<Glob>, Error> {
-        self.decided(path.as_ref(), is_dir, true)
+        self.decided(path.as_ref(), is_dir, Manner::WithParents)
+    }
+
+    /// What git says of a path: that of the first ignored folder on the way from the root, which
+    /// isn't asked itself, and else that of the path.
+    pub fn matched_as_git<P: AsRef<Path>>(
+        &self,
+        path: P,
+        is_dir: bool,
+    ) -> Result<Match<Glob>, Error> {
+        self.decided(path.as_ref(), is_dir, Manner::AsGit)
     }
 
     /// What the rules say of a path, without the rule that decided, which costs less.
@@ -207,11 +217,11 @@ impl Gitignore {
         self.counts.whitelists
     }
 
-    fn decided(&self, path: &Path, is_dir: bool, with_parents: bool) -> Result<Match<Glob>, Error> {
+    fn decided(&self, path: &Path, is_dir: bool, manner: Manner) -> Result<Match<Glob>, Error> {
         let Asked { rules, room } = &mut *self.asked.borrow_mut();
         let mut reason = Reason::default();
         loop {
-            let code = rules.decided(bytes_of(path), is_dir, with_parents, &mut reason, room);
+            let code = rules.decided(bytes_of(path), is_dir, manner, &mut reason, room);
             let whole = reason.source + reason.pattern + reason.glob;
             match code {
                 library::NONE => return Ok(Match::None),

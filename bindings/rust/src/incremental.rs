@@ -1,8 +1,9 @@
 //! Matchers of single paths, under the original's names, over directories on disk.
 
+use crate::explanation::Explanation;
 use crate::gitignore::{done, error_of};
 use crate::host::{Host, Known};
-use crate::library::{self, Builder, Found, Label, Matcher, Switch};
+use crate::library::{self, Builder, Explained, Found, Label, Matcher, Switch, Why};
 use crate::names::{of_disk, told};
 use crate::walk::Walk;
 use crate::Error;
@@ -19,6 +20,27 @@ pub struct IncrementalMatch {
 }
 
 impl IncrementalMatch {
+    /// The answer of a code, or the error that it stands for.
+    pub(crate) fn of(code: u32, found: Found) -> Result<IncrementalMatch, Error> {
+        match code {
+            library::NONE | library::IGNORE | library::WHITELIST => Ok(IncrementalMatch {
+                code,
+                descends: found.should_descend,
+                is_within: found.is_within_depth,
+            }),
+            code => Err(error_of(code)),
+        }
+    }
+
+    /// The answer for a path outside of the root.
+    pub(crate) fn outside(is_dir: bool) -> IncrementalMatch {
+        IncrementalMatch {
+            code: library::NONE,
+            descends: is_dir,
+            is_within: true,
+        }
+    }
+
     /// Whether nothing decides.
     pub fn is_none(&self) -> bool {
         self.code == library::NONE
@@ -206,31 +228,50 @@ impl IncrementalIgnore {
     ) -> Result<IncrementalMatch, Error> {
         match self.normalize(&self.host.root.join(path))? {
             Some(below) => self.known(&below, is_dir),
-            None => Ok(IncrementalMatch {
-                code: library::NONE,
-                descends: is_dir,
-                is_within: true,
-            }),
+            None => Ok(IncrementalMatch::outside(is_dir)),
         }
     }
 
     /// The same of a clean path below the root.
     pub(crate) fn known(&mut self, below: &Path, is_dir: bool) -> Result<IncrementalMatch, Error> {
-        self.host.way(below.parent().unwrap_or(Path::new("")))?;
-        if self.asks_sizes && !is_dir {
-            self.host.size(below)?;
-        }
+        self.tell(below, is_dir)?;
         let (mut found, text) = (Found::default(), told(below));
         let code = self
             .matcher
             .matched(&mut self.host.tree, &text, is_dir, &mut found);
-        match code {
-            library::NONE | library::IGNORE | library::WHITELIST => Ok(IncrementalMatch {
-                code,
-                descends: found.should_descend,
-                is_within: found.is_within_depth,
-            }),
-            code => Err(error_of(code)),
+        IncrementalMatch::of(code, found)
+    }
+
+    /// Has the tree told what decides on a clean path below the root.
+    fn tell(&mut self, below: &Path, is_dir: bool) -> Result<(), Error> {
+        self.host.way(below.parent().unwrap_or(Path::new("")))?;
+        if self.asks_sizes && !is_dir {
+            self.host.size(below)?;
+        }
+        Ok(())
+    }
+
+    /// As `matched`, with the reason: the rule, its file and its line, or what else decides.
+    pub fn explain<P: AsRef<Path>>(&mut self, path: P, is_dir: bool) -> Result<Explanation, Error> {
+        let Some(below) = self.normalize(&self.host.root.join(path))? else {
+            return Ok(Explanation::outside(is_dir));
+        };
+        self.tell(&below, is_dir)?;
+        let text = told(&below);
+        let mut given = Explained {
+            found: Found::default(),
+            why: Why::default(),
+            room: vec![0; 512],
+        };
+        loop {
+            let tree = &mut self.host.tree;
+            let code = self.matcher.explained(tree, &text, is_dir, &mut given);
+            let answer = IncrementalMatch::of(code, given.found)?;
+            let whole = given.why.whole();
+            if whole <= given.room.len() {
+                return Explanation::of(answer, &given.why, &given.room[..whole]);
+            }
+            given.room.resize(whole, 0);
         }
     }
 

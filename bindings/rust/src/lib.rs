@@ -3,6 +3,7 @@
 #![deny(unsafe_code)]
 
 mod error;
+mod explanation;
 pub mod gitignore;
 mod host;
 mod incremental;
@@ -13,6 +14,7 @@ mod names;
 mod walk;
 
 pub use error::Error;
+pub use explanation::{Cause, Explanation, NamedRule, NamedType, Reason, RuleRank};
 pub use incremental::{IncrementalIgnore, IncrementalMatch, WalkBuilder};
 pub use walk::{DirEntry, Walk};
 

@@ -56,10 +56,46 @@ pub struct Found {
     pub is_within_depth: bool,
 }
 
+/// Why a matcher answers as it does, by the lengths of the texts.
+#[repr(C)]
+#[derive(Clone, Copy, Default)]
+pub struct Why {
+    pub kind: u32,
+    pub rank: u32,
+    pub line: u64,
+    pub size: u64,
+    pub limit: u64,
+    pub directory: usize,
+    pub source: usize,
+    pub pattern: usize,
+    pub glob: usize,
+    pub ancestor: usize,
+    pub has_source: bool,
+    pub is_inside: bool,
+}
+
+/// What a matcher answers, with the reason, and a room for the texts of that.
+pub struct Explained {
+    pub found: Found,
+    pub why: Why,
+    pub room: Vec<u8>,
+}
+
 type TextCall = unsafe extern "C" fn(*mut Handle, *const u8, usize) -> u32;
 type TwoTextsCall = unsafe extern "C" fn(*mut Handle, *const u8, usize, *const u8, usize) -> u32;
 type SwitchCall = unsafe extern "C" fn(*mut Handle, bool) -> u32;
 type LimitCall = unsafe extern "C" fn(*mut Handle, bool, usize) -> u32;
+type DecidedCall =
+    unsafe extern "C" fn(*mut Handle, *const u8, usize, bool, *mut Reason, *mut u8, usize) -> u32;
+
+/// How rules are asked about a path: by itself, or else its nearest parent that has a match, or from
+/// the root down.
+#[derive(Clone, Copy)]
+pub enum Manner {
+    Alone,
+    WithParents,
+    AsGit,
+}
 
 extern "C" {
     fn ignore_tree_new(cwd: *const u8, length: usize, tree: *mut Handle) -> u32;
@@ -141,6 +177,17 @@ extern "C" {
         is_dir: bool,
         found: *mut Found,
     ) -> u32;
+    fn ignore_matcher_explained(
+        matcher: *mut Handle,
+        tree: *mut Handle,
+        path: *const u8,
+        length: usize,
+        is_dir: bool,
+        found: *mut Found,
+        why: *mut Why,
+        room: *mut u8,
+        room_length: usize,
+    ) -> u32;
     fn ignore_matcher_forget(
         matcher: *mut Handle,
         dir: *const u8,
@@ -194,6 +241,15 @@ extern "C" {
         room_length: usize,
     ) -> u32;
     fn ignore_rules_decided_path_or_any_parents(
+        rules: *mut Handle,
+        path: *const u8,
+        length: usize,
+        is_dir: bool,
+        reason: *mut Reason,
+        room: *mut u8,
+        room_length: usize,
+    ) -> u32;
+    fn ignore_rules_decided_as_git(
         rules: *mut Handle,
         path: *const u8,
         length: usize,
@@ -266,20 +322,19 @@ impl Rules {
         unsafe { ignore_rules_matched(&mut self.0, path.as_ptr(), path.len(), is_dir) }
     }
 
-    /// The answer for the path, alone or with its parents; the rule that decided in `reason` and
-    /// `room`.
+    /// The answer for the path in a manner; the rule that decided in `reason` and `room`.
     pub fn decided(
         &mut self,
         path: &[u8],
         is_dir: bool,
-        with_parents: bool,
+        manner: Manner,
         reason: &mut Reason,
         room: &mut [u8],
     ) -> u32 {
-        let ask = if with_parents {
-            ignore_rules_decided_path_or_any_parents
-        } else {
-            ignore_rules_decided
+        let ask: DecidedCall = match manner {
+            Manner::Alone => ignore_rules_decided,
+            Manner::WithParents => ignore_rules_decided_path_or_any_parents,
+            Manner::AsGit => ignore_rules_decided_as_git,
         };
         unsafe {
             ask(
@@ -475,6 +530,28 @@ impl Matcher {
     ) -> u32 {
         let (at, length) = (path.as_ptr(), path.len());
         unsafe { ignore_matcher_matched(&mut self.0, &mut tree.0, at, length, is_dir, found) }
+    }
+
+    pub fn explained(
+        &mut self,
+        tree: &mut Tree,
+        path: &[u8],
+        is_dir: bool,
+        told: &mut Explained,
+    ) -> u32 {
+        unsafe {
+            ignore_matcher_explained(
+                &mut self.0,
+                &mut tree.0,
+                path.as_ptr(),
+                path.len(),
+                is_dir,
+                &mut told.found,
+                &mut told.why,
+                told.room.as_mut_ptr(),
+                told.room.len(),
+            )
+        }
     }
 
     pub fn forget(&mut self, dir: &[u8], count: &mut usize) -> u32 {

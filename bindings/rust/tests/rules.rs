@@ -36,6 +36,28 @@ fn the_last_rule_decides() {
 }
 
 #[test]
+fn an_ignored_folder_decides_from_the_top_down() {
+    let mut builder = GitignoreBuilder::new("r").expect("memory");
+    for line in ["a/", "!a/b", "!keep"] {
+        builder.add_line(None, line).expect("a valid line");
+    }
+    let rules = builder.build().expect("memory");
+    let ask = |path: &str| rules.matched_as_git(path, false).expect("memory");
+    for path in ["a/b", "r/a/b", "x/a/b/keep"] {
+        assert_eq!(ask(path).inner().expect("a rule").original(), "a/");
+        assert!(ask(path).is_ignore());
+    }
+    assert!(ask("r/x/keep").is_whitelist());
+    assert!(ask("keep/x").is_none() && ask("").is_none());
+    let all = rules_of(&["*/"]);
+    assert!(all.matched_as_git("a", false).expect("memory").is_none());
+    assert!(all
+        .matched_as_git("a/b", false)
+        .expect("memory")
+        .is_ignore());
+}
+
+#[test]
 fn errors_say_why() {
     let mut builder = GitignoreBuilder::new("").expect("memory");
     match builder.add_line(None, "{") {

@@ -1,5 +1,5 @@
 //! Matchers and walks of folders on disk.
-use ignore_proved::{Error, IncrementalIgnore, WalkBuilder};
+use ignore_proved::{Cause, Error, IncrementalIgnore, Match, Reason, RuleRank, WalkBuilder};
 use std::ffi::OsStr;
 use std::fs;
 use std::os::unix::ffi::OsStrExt;
@@ -81,6 +81,52 @@ fn a_matcher_reads_what_decides() {
     folder.put("a/.ignore", "y\n");
     matcher.forget("a").expect("memory");
     assert!(matcher.matched("a/y", false).expect("memory").is_ignore());
+}
+
+#[test]
+fn a_matcher_says_why() {
+    let folder = Folder::new("why");
+    folder.put(".git/info/exclude", "excluded\n");
+    folder.put(".gitignore", "*.o\n!keep.o\n\nsub/  \n");
+    folder.put("large.bin", "12345");
+    let mut builder = WalkBuilder::new(&folder.0).expect("a root");
+    builder.max_filesize(Some(4)).max_depth(Some(3));
+    let mut matcher = builder.build_matcher().expect("memory");
+    let mut ask = |path: &str| matcher.explain(path, false).expect("memory");
+    let why = ask("a/b.o");
+    assert!(why.answer.is_ignore());
+    let Reason::Decided(Match::Ignore(Cause::Rule(rule))) = &why.reason else {
+        panic!("{why:?}");
+    };
+    assert_eq!((rule.rank, rule.line), (RuleRank::Gitignore, Some(1)));
+    assert_eq!(rule.original, "*.o");
+    assert_eq!(rule.source, Some(folder.0.join(".gitignore")));
+    assert_eq!(rule.directory, Some(folder.0.join("")));
+    let file = folder.0.join(".gitignore").display().to_string();
+    assert_eq!(why.to_string(), format!("{file}:1:*.o"));
+    let why = ask("keep.o");
+    assert!(matches!(why.reason, Reason::Decided(Match::Whitelist(_))));
+    assert_eq!(why.to_string(), format!("{file}:2:!keep.o"));
+    let why = ask("sub/x");
+    assert!(
+        matches!(&why.reason, Reason::Inside { directory, .. } if directory == Path::new("sub"))
+    );
+    assert_eq!(why.to_string(), format!("{file}:4:sub/"));
+    assert_eq!(
+        ask("large.bin").reason,
+        Reason::Larger { size: 5, limit: 4 }
+    );
+    for (path, text) in [
+        ("a.c", "no rule"),
+        (".x", "hidden"),
+        ("/elsewhere", "not asked"),
+        ("a/b/c/d", "below the greatest depth"),
+    ] {
+        assert_eq!(ask(path).to_string(), text);
+    }
+    let long = "x".repeat(3000);
+    folder.put("l/.ignore", &long);
+    assert!(ask(&format!("l/{long}")).to_string().ends_with(&long));
 }
 
 #[test]

@@ -1,5 +1,6 @@
 //! The exports of builders that tell globs, file types and files of rules.
 ghost use Rattle.std.specs.Prelude.{◌≡◌, List, ℕ, length, map, string_bytes};
+ghost use Rattle.ignore.specs.TypeWords.{all_default_rows};
 ghost use Rattle.ignore_kept.specs.Kinds.{setup_in};
 ghost use Rattle.ignore_kept.specs.Rooms.{put_in};
 ghost use Rattle.ignore_kept.specs.Wishes.{Adds, DefaultsAdded, TellsOf, Wished};
@@ -103,6 +104,22 @@ fn defaults_added(builder: Handle) -> (Handle, u32)
 {
     let mut kept = open(builder);
     let code = done(wish::add_defaults(&mut kept));
+    (close(kept), code)
+}
+
+/// Adds all file types of the original's table.
+#[unsafe(no_mangle)]
+pub extern "C" fn ignore_builder_type_add_all_defaults(builder: &mut Handle) -> u32
+    ensures { DefaultsAdded all_default_rows builder.old.value result builder.new.value }
+{
+    mem::replace_with(builder, (), |builder, ()| all_defaults_added(builder))
+}
+
+fn all_defaults_added(builder: Handle) -> (Handle, u32)
+    ensures { DefaultsAdded all_default_rows builder.value result.1 result.0.value }
+{
+    let mut kept = open(builder);
+    let code = done(wish::add_all_defaults(&mut kept));
     (close(kept), code)
 }
 

@@ -9,6 +9,7 @@ mod loose;
 mod matcher;
 mod rules;
 mod tree;
+mod version;
 mod walk;
 
 pub use handle::Handle;

@@ -1,5 +1,6 @@
 //! The exports of matchers of single paths.
 ghost use Rattle.std.specs.Prelude.{◌≡◌, List, ℕ, Result, Ok, Err, IfOk, IfErr, length, string_bytes};
+ghost use Rattle.ignore_kept.specs.Explained.{AsksWhy};
 ghost use Rattle.ignore_kept.specs.Matching.{Asks, Builds, ForgetsTold, NormalText};
 ghost use Rattle.ignore_kept.specs.Rooms.{put_in};
 ghost use Rattle.ignore_kept.specs.Stops.{ended_code};
@@ -9,6 +10,7 @@ ghost use Rattle.ignore_kept.specs.declared.stopped.Stopped.{Stopped};
 use crate::handle::{Handle, close, give_back, lend, open};
 use core::mem;
 use ignore_kept::asker::{self, Asked, Found};
+use ignore_kept::explained::{self, Told, Why};
 use ignore_kept::room::put;
 use ignore_kept::{Kept, Stopped};
 use std::alloc::Global;
@@ -78,6 +80,43 @@ fn answered(matcher: Handle, asked: Asked<'_>) -> (Handle, (u32, Found))
     let mut kept = open(matcher);
     let given = asker::ask(&mut kept, asked);
     (close(kept), (asker::code(&given), asker::rest_of(&given)))
+}
+
+/// What becomes of a path below the root of a matcher, by a tree, and why.
+#[unsafe(no_mangle)]
+pub extern "C" fn ignore_matcher_explained(
+    matcher: &mut Handle,
+    tree: &mut Handle,
+    path: &[u8],
+    is_dir: bool,
+    found: &mut Found,
+    why: &mut Why,
+    room: &mut [u8],
+) -> u32
+    ensures tree { tree.new.value ≡ tree.old.value }
+    ensures told { (text : List ℕ) × AsksWhy matcher.old.value tree.old.value path.now is_dir result found.new why.new text matcher.new.value × (room.new ≡ put_in text room.old) }
+{
+    let files = mem::replace_with(tree, (), |tree, ()| lend(tree));
+    let asked = Asked {
+        tree: &files,
+        path,
+        is_dir,
+    };
+    let told = mem::replace_with(matcher, asked, explained);
+    mem::replace_with(tree, files, give_back);
+    *found = told.found;
+    *why = told.why;
+    put(&told.text, room);
+    told.code
+}
+
+fn explained(matcher: Handle, asked: Asked<'_>) -> (Handle, Told)
+    ensures { AsksWhy matcher.value asked.entry.tree.now asked.entry.path.now asked.entry.is_dir result.1.code result.1.found result.1.why result.1.text.items result.0.value }
+{
+    let mut kept = open(matcher);
+    let alloc = *Box::allocator(&kept);
+    let told = explained::explain(alloc, &mut kept, asked);
+    (close(kept), told)
 }
 
 /// Forgets what is kept of the directory at a path and of those below it, and counts them.

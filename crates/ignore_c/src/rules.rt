@@ -1,15 +1,16 @@
 //! The exports of rules.
-ghost use Rattle.std.specs.Prelude.{◌≡◌, false, true, IfOk, IfErr, List, ℕ, Result, Ok, Err, length, string_bytes};
-ghost use Rattle.ignore_kept.specs.Asks.{AsksCode, Counted, Explains};
+ghost use Rattle.std.specs.Prelude.{◌≡◌, IfOk, IfErr, List, ℕ, Result, Ok, Err, length, string_bytes};
+ghost use Rattle.ignore_kept.specs.Asks.{AsksCode, Counted, Explains, TellsRule};
 ghost use Rattle.ignore_kept.specs.Codes.{done_code};
 ghost use Rattle.ignore_kept.specs.Lines.{Begins, Builds, FileAdds, LineAdds, SetsOptions, TellsProblem};
 ghost use Rattle.ignore_kept.specs.Rooms.{put_in};
+ghost use Rattle.ignore_kept.specs.declared.ask.Manner.TheVariants as manner;
 ghost use Rattle.ignore_kept.specs.declared.kept.Kept.{Kept};
 ghost use Rattle.ignore_kept.specs.declared.refused.Refused.{Refused};
 
 use crate::handle::{Handle, close, open};
 use core::mem;
-use ignore_kept::ask::{self, Question, Told, alone, with_parents};
+use ignore_kept::ask::{self, Question, Told, alone, as_git, with_parents};
 use ignore_kept::lines::{self, Problem};
 use ignore_kept::room::put;
 use ignore_kept::{Counts, Kept, Reason, Refused, RuleOptions};
@@ -140,7 +141,7 @@ fn built(rules: Handle) -> (Handle, u32)
 #[unsafe(no_mangle)]
 pub extern "C" fn ignore_rules_matched(rules: &mut Handle, path: &[u8], is_dir: bool) -> u32
     ensures kept { rules.new.value ≡ rules.old.value }
-    ensures told { AsksCode rules.old.value false path.now is_dir result }
+    ensures told { AsksCode rules.old.value manner.Alone path.now is_dir result }
 {
     mem::replace_with(rules, alone(path, is_dir), matched)
 }
@@ -153,14 +154,24 @@ pub extern "C" fn ignore_rules_matched_path_or_any_parents(
     is_dir: bool,
 ) -> u32
     ensures kept { rules.new.value ≡ rules.old.value }
-    ensures told { AsksCode rules.old.value true path.now is_dir result }
+    ensures told { AsksCode rules.old.value manner.WithParents path.now is_dir result }
 {
     mem::replace_with(rules, with_parents(path, is_dir), matched)
 }
 
+/// What the rules say of a path as git asks them: from the root down the first ignored directory that
+/// it is in decides, and else the path itself.
+#[unsafe(no_mangle)]
+pub extern "C" fn ignore_rules_matched_as_git(rules: &mut Handle, path: &[u8], is_dir: bool) -> u32
+    ensures kept { rules.new.value ≡ rules.old.value }
+    ensures told { AsksCode rules.old.value manner.AsGit path.now is_dir result }
+{
+    mem::replace_with(rules, as_git(path, is_dir), matched)
+}
+
 fn matched(rules: Handle, asked: Question<'_>) -> (Handle, u32)
     ensures kept { result.0.value ≡ rules.value }
-    ensures told { AsksCode rules.value asked.entry.parents asked.entry.path.now asked.entry.is_dir result.1 }
+    ensures told { AsksCode rules.value asked.entry.manner asked.entry.path.now asked.entry.is_dir result.1 }
 {
     let kept = open(rules);
     let code = ask::code(&kept, asked);
@@ -178,7 +189,7 @@ pub extern "C" fn ignore_rules_decided(
     room: &mut [u8],
 ) -> u32
     ensures kept { rules.new.value ≡ rules.old.value }
-    ensures told { (text : List ℕ) × Explains rules.old.value false path.now is_dir result reason.new text × (room.new ≡ put_in text room.old) }
+    ensures told { (text : List ℕ) × Explains rules.old.value manner.Alone path.now is_dir result reason.new text × (room.new ≡ put_in text room.old) }
 {
     hand_over(
         mem::replace_with(rules, alone(path, is_dir), explained),
@@ -197,10 +208,29 @@ pub extern "C" fn ignore_rules_decided_path_or_any_parents(
     room: &mut [u8],
 ) -> u32
     ensures kept { rules.new.value ≡ rules.old.value }
-    ensures told { (text : List ℕ) × Explains rules.old.value true path.now is_dir result reason.new text × (room.new ≡ put_in text room.old) }
+    ensures told { (text : List ℕ) × Explains rules.old.value manner.WithParents path.now is_dir result reason.new text × (room.new ≡ put_in text room.old) }
 {
     hand_over(
         mem::replace_with(rules, with_parents(path, is_dir), explained),
+        reason,
+        room,
+    )
+}
+
+/// As `ignore_rules_matched_as_git`, with the rule that decided.
+#[unsafe(no_mangle)]
+pub extern "C" fn ignore_rules_decided_as_git(
+    rules: &mut Handle,
+    path: &[u8],
+    is_dir: bool,
+    reason: &mut Reason,
+    room: &mut [u8],
+) -> u32
+    ensures kept { rules.new.value ≡ rules.old.value }
+    ensures told { (text : List ℕ) × Explains rules.old.value manner.AsGit path.now is_dir result reason.new text × (room.new ≡ put_in text room.old) }
+{
+    hand_over(
+        mem::replace_with(rules, as_git(path, is_dir), explained),
         reason,
         room,
     )
@@ -219,10 +249,34 @@ fn hand_over(told: Told, reason: &mut Reason, room: &mut [u8]) -> u32
 
 fn explained(rules: Handle, asked: Question<'_>) -> (Handle, Told)
     ensures kept { result.0.value ≡ rules.value }
-    ensures told { Explains rules.value asked.entry.parents asked.entry.path.now asked.entry.is_dir result.1.code result.1.reason result.1.text.items }
+    ensures told { Explains rules.value asked.entry.manner asked.entry.path.now asked.entry.is_dir result.1.code result.1.reason result.1.text.items }
 {
     let kept = open(rules);
     let told = ask::explain(*Box::allocator(&kept), &kept, asked);
+    (close(kept), told)
+}
+
+/// The rule at an index: whether it ignores or whitelists, its parts, and the first bytes of its
+/// source, its line and its glob.
+#[unsafe(no_mangle)]
+pub extern "C" fn ignore_rules_rule(
+    rules: &mut Handle,
+    index: usize,
+    reason: &mut Reason,
+    room: &mut [u8],
+) -> u32
+    ensures kept { rules.new.value ≡ rules.old.value }
+    ensures told { (text : List ℕ) × TellsRule rules.old.value index result reason.new text × (room.new ≡ put_in text room.old) }
+{
+    hand_over(mem::replace_with(rules, index, rule), reason, room)
+}
+
+fn rule(rules: Handle, index: usize) -> (Handle, Told)
+    ensures kept { result.0.value ≡ rules.value }
+    ensures told { TellsRule rules.value index result.1.code result.1.reason result.1.text.items }
+{
+    let kept = open(rules);
+    let told = ask::rule(*Box::allocator(&kept), &kept, index);
     (close(kept), told)
 }
 

@@ -1,6 +1,9 @@
 pub mod Adding
 pub mod Telling
+pub mod AsGit
 pub mod Asking
+pub mod Explaining
 pub mod Listing
 pub mod Wishing
 pub mod WorkedRooms
+pub mod WorkedReasons

@@ -1,5 +1,5 @@
 -- Worked rooms, items and numbers, as C is told them, and what a call isn't refused for.
-use Rattle.std.proofs.Common.{◌≡◌, ◌∙◌, ◌<◌, ℕ, Bool, true, false, [], ◌∷◌, codes, None, Some, Ok, Err, length, refl, sym, ap, inl, inr, arith}
+use Rattle.std.proofs.Common.{◌≡◌, ◌∙◌, ◌<◌, ℕ, Bool, true, [], ◌∷◌, codes, None, Some, Ok, Err, length, refl, sym, ap, inl, inr, arith}
 use Rattle.ignore.specs.WalkWords.{Item}
 use Rattle.ignore.specs.declared.options.WalkOptions.{WalkOptions}
 use Rattle.ignore_base.specs.Problem.{io, memory}
@@ -13,6 +13,8 @@ use Rattle.ignore_rules.specs.Rules.{Building, Rule, Ruleset}
 use Rattle.ignore_kept.specs.Asks.{Asks}
 use Rattle.ignore_kept.specs.Matching.{IsBuilt}
 use Rattle.ignore_kept.specs.Rooms.{put_in}
+use Rattle.ignore_kept.specs.declared.ask.Manner.{Manner}
+use Rattle.ignore_kept.specs.declared.ask.Manner.TheVariants.{Alone, WithParents, AsGit}
 use Rattle.ignore_kept.specs.Walking.{TellsNext, end_of, text_told}
 use Rattle.ignore_kept.specs.Wishes.{IsEarly}
 use Rattle.ignore_kept.specs.declared.kept.Kept.TheVariants as keeps
@@ -39,15 +41,19 @@ withheld room old new item entry text (inl given) = absurd (omega (arith, given.
 withheld room old new item entry text (inr (inl kept)) = omega (arith, kept.3, ap length kept.2)
 withheld room old new item entry text (inr (inr none)) = absurd (omega (arith, none.0))
 
--- rules aren't refused as misused, nor as outside where a path is asked about alone; and with its
--- parents only a path below the root has an answer
-pub not_misused : (rules : Ruleset) (parents is_dir : Bool) (path : Path) → ¬ Asks (keeps.Rules rules) parents path is_dir (Err refused.Misused)
-not_misused rules parents is_dir path h = cc h
+-- rules aren't refused as misused, nor as outside where a path is asked about alone or as git asks; and
+-- with its parents only a path below the root has an answer
+pub not_misused : (rules : Ruleset) (manner : Manner) (is_dir : Bool) (path : Path) → ¬ Asks (keeps.Rules rules) manner path is_dir (Err refused.Misused)
+not_misused rules manner is_dir path h = cc h
 
-pub not_outside : (rules : Ruleset) (is_dir : Bool) (path : Path) → ¬ Asks (keeps.Rules rules) false path is_dir (Err refused.Outside)
-not_outside rules is_dir path (others, is, parents, outside) = cc parents
+pub not_outside : (rules : Ruleset) (is_dir : Bool) (path : Path) → ¬ Asks (keeps.Rules rules) Alone path is_dir (Err refused.Outside)
+not_outside rules is_dir path (others, is, manner, outside) = cc manner
 
-pub only_below : (rules : Ruleset) (is_dir : Bool) (path : Path) (found : Match Rule) → Asks (keeps.Rules rules) true path is_dir (Ok found)
+pub not_outside_as_git : (rules : Ruleset) (is_dir : Bool) (path : Path) → ¬ Asks (keeps.Rules rules) AsGit path is_dir (Err refused.Outside)
+not_outside_as_git rules is_dir path (others, is, manner, outside) = cc manner
+
+pub only_below : (rules : Ruleset) (is_dir : Bool) (path : Path) (found : Match Rule)
+    → Asks (keeps.Rules rules) WithParents path is_dir (Ok found)
     → is_under_root rules path ≡ true
 only_below rules is_dir path found (others, is, below, said) =
     let same : rules ≡ others = cc is in

@@ -1,14 +1,17 @@
 -- What C is told of a path, by the rules of a handle.
-use Rattle.std.specs.Prelude.{◌≡◌, ℕ, Bool, true, false, [], ◌++◌, Option, Some, None, Result, Ok, Err, is_some, length}
+use Rattle.std.specs.Prelude.{◌≡◌, ℕ, Bool, true, false, [], ◌++◌, Option, Some, None, Result, Ok, Err, is_some, length, slice_get}
 use Rattle.std.specs.Str.{IsUtf8}
 use Rattle.ignore_base.specs.Text.{Bytes, Path}
 use Rattle.ignore_base.specs.declared.match_result.Match.{Match}
 use Rattle.ignore_base.specs.declared.match_result.Match.TheVariants.{Ignore, Whitelist}
 use Rattle.ignore_base.specs.declared.match_result.Match.TheVariants.{None as NoMatch}
-use Rattle.ignore_rules.specs.Answer.{answer}
+use Rattle.ignore_rules.specs.Answer.{answer, decision_of}
 use Rattle.ignore_rules.specs.Parents.{answer_with_parents, is_under_root}
 use Rattle.ignore_rules.specs.Rules.{Rule, Ruleset, ignore_count, whitelist_count}
+use Rattle.ignore_kept.specs.AsGit.{answer_as_git}
 use Rattle.ignore_kept.specs.Codes.{answer_code}
+use Rattle.ignore_kept.specs.declared.ask.Manner.{Manner}
+use Rattle.ignore_kept.specs.declared.ask.Manner.TheVariants.{Alone, WithParents, AsGit}
 use Rattle.ignore_kept.specs.declared.kept.Kept.{Kept}
 use Rattle.ignore_kept.specs.declared.kept.Kept.TheVariants as keeps
 use Rattle.ignore_kept.specs.declared.refused.Refused.{Refused}
@@ -26,26 +29,28 @@ rules_of (keeps.Walk walk) = None
 rules_of keeps.Lent = None
 rules_of (keeps.Rules rules) = Some rules
 
--- what these rules say of a path, alone or with its parents
-abbrev pub said : Ruleset → Bool → Path → Bool → Match Rule
-said rules false path is_dir = answer rules.root rules.rules path is_dir
-said rules true path is_dir = answer_with_parents rules.root rules.rules path is_dir
+-- what these rules say of a path: by itself, or else its nearest parent that has a match, or as git
+-- asks, from the root down
+abbrev pub said : Ruleset → Manner → Path → Bool → Match Rule
+said rules Alone path is_dir = answer rules.root rules.rules path is_dir
+said rules WithParents path is_dir = answer_with_parents rules.root rules.rules path is_dir
+said rules AsGit path is_dir = answer_as_git rules path is_dir
 
--- asking a handle, with parents or without, about a path gives this match, or this reason why not
-abbrev pub Asks : Kept → Bool → Bytes → Bool → Result (Match Rule) Refused → Type 0
-Asks kept parents path is_dir (Ok found) =
-    (rules : Ruleset) × (rules_of kept ≡ Some rules) × (parents ≡ true → is_under_root rules path ≡ true)
-    × (found ≡ said rules parents path is_dir)
-Asks kept parents path is_dir (Err NotUtf8) = ¬ (IsUtf8 path)
-Asks kept parents path is_dir (Err Memory) = Unit {0}
-Asks kept parents path is_dir (Err Misused) = rules_of kept ≡ None
-Asks kept parents path is_dir (Err Outside) =
-    (rules : Ruleset) × (rules_of kept ≡ Some rules) × (parents ≡ true) × (is_under_root rules path ≡ false)
-Asks kept parents path is_dir (Err Line) = ⊥
+-- asking a handle in a manner about a path gives this match, or this reason why not
+abbrev pub Asks : Kept → Manner → Bytes → Bool → Result (Match Rule) Refused → Type 0
+Asks kept manner path is_dir (Ok found) =
+    (rules : Ruleset) × (rules_of kept ≡ Some rules) × (manner ≡ WithParents → is_under_root rules path ≡ true)
+    × (found ≡ said rules manner path is_dir)
+Asks kept manner path is_dir (Err NotUtf8) = ¬ (IsUtf8 path)
+Asks kept manner path is_dir (Err Memory) = Unit {0}
+Asks kept manner path is_dir (Err Misused) = rules_of kept ≡ None
+Asks kept manner path is_dir (Err Outside) =
+    (rules : Ruleset) × (rules_of kept ≡ Some rules) × (manner ≡ WithParents) × (is_under_root rules path ≡ false)
+Asks kept manner path is_dir (Err Line) = ⊥
 
 -- asking gives this number
-abbrev pub AsksCode : Kept → Bool → Bytes → Bool → ℕ → Type 0
-AsksCode kept parents path is_dir code = (given : Result (Match Rule) Refused) × Asks kept parents path is_dir given × (code ≡ answer_code given)
+abbrev pub AsksCode : Kept → Manner → Bytes → Bool → ℕ → Type 0
+AsksCode kept manner path is_dir code = (given : Result (Match Rule) Refused) × Asks kept manner path is_dir given × (code ≡ answer_code given)
 
 -- the source of a rule; empty where it has none
 abbrev pub source_text : Option Path → Bytes
@@ -97,10 +102,30 @@ text_given (Ok found) = match_text found
 text_given (Err refused) = []
 
 -- asking gives this number, this reason and these texts
-abbrev pub Explains : Kept → Bool → Bytes → Bool → ℕ → Reason → Bytes → Type 0
-Explains kept parents path is_dir code reason text =
-    (given : Result (Match Rule) Refused) × Asks kept parents path is_dir given × (code ≡ answer_code given)
+abbrev pub Explains : Kept → Manner → Bytes → Bool → ℕ → Reason → Bytes → Type 0
+Explains kept manner path is_dir code reason text =
+    (given : Result (Match Rule) Refused) × Asks kept manner path is_dir given × (code ≡ answer_code given)
     × (reason ≡ reason_given given) × (text ≡ text_given given)
+
+-- the rule at an index, with what it does; none where there are no more rules than that
+abbrev pub listed : Option Rule → Match Rule
+listed None = NoMatch
+listed (Some rule) = decision_of rule
+
+-- asking a handle for the rule at an index gives this, or this reason why not
+abbrev pub Lists : Kept → ℕ → Result (Match Rule) Refused → Type 0
+Lists kept index (Ok found) = (rules : Ruleset) × (rules_of kept ≡ Some rules) × (found ≡ listed (slice_get rules.rules index))
+Lists kept index (Err Memory) = Unit {0}
+Lists kept index (Err Misused) = rules_of kept ≡ None
+Lists kept index (Err NotUtf8) = ⊥
+Lists kept index (Err Outside) = ⊥
+Lists kept index (Err Line) = ⊥
+
+-- asking gives this number, these parts of the rule and these texts
+abbrev pub TellsRule : Kept → ℕ → ℕ → Reason → Bytes → Type 0
+TellsRule kept index code reason text =
+    (given : Result (Match Rule) Refused) × Lists kept index given × (code ≡ answer_code given) × (reason ≡ reason_given given)
+    × (text ≡ text_given given)
 
 -- how many rules ignore, and how many whitelist
 abbrev pub counts_of : Ruleset → Counts

@@ -1,11 +1,13 @@
 pub mod Rooms
 pub mod Codes
 pub mod Lines
+pub mod AsGit
 pub mod Asks
 pub mod Kinds
 pub mod Stops
 pub mod Trees
 pub mod Setups
 pub mod Matching
+pub mod Explained
 pub mod Walking
 pub mod Wishes

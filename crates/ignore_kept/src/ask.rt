@@ -1,35 +1,48 @@
 //! What the rules of a handle say of a path.
-ghost use Rattle.std.specs.Prelude.{◌≡◌, ◌++◌, [], false, true, IfOk, IfErr, Ok, Err, string_bytes};
+ghost use Rattle.std.specs.Prelude.{◌≡◌, ◌++◌, [], IfOk, IfErr, Ok, Err, slice_get, string_bytes};
 ghost use Rattle.ignore_base.specs.Match.{match_map};
-ghost use Rattle.ignore_kept.specs.Asks.{Asks, AsksCode, Explains, Counted, match_reason, no_reason, match_text, reason_of, rule_text, source_text};
+ghost use Rattle.ignore_kept.specs.Asks.{Asks, AsksCode, Counted, Explains, Lists, TellsRule, listed, match_reason, no_reason, match_text, reason_of, rule_text, source_text};
 ghost use Rattle.ignore_kept.specs.Codes.{match_code, refusal_code};
+ghost use Rattle.ignore_kept.specs.declared.ask.Manner.TheVariants as manner;
 
+use crate::as_git::matched_as_git;
 use crate::kept::Kept;
 use crate::refused::Refused;
 use crate::room::text_of;
 use crate::rule::{Counts, Reason};
 use ignore::Match;
-use ignore::gitignore::Glob;
+use ignore::gitignore::{Gitignore, Glob};
 use std::alloc::{AllocError, Global};
 
-/// A path that is asked about: alone, or with its parents.
+/// How a path is asked about.
+#[derive(Clone, Copy, Drop)]
+pub enum Manner {
+    /// By itself.
+    Alone,
+    /// Or else its nearest parent that has a match.
+    WithParents,
+    /// From the root down: an ignored directory that it is in decides.
+    AsGit,
+}
+
+/// A path that is asked about.
 #[derive(Clone, Copy, Drop)]
 pub struct Question<'q> {
     pub path: &'q [u8],
     pub is_dir: bool,
-    pub parents: bool,
+    pub manner: Manner,
 }
 
-/// A path alone.
+/// A path by itself.
 pub fn alone(path: &[u8], is_dir: bool) -> Question<'_>
     ensures path { result.path.now ≡ path.now }
     ensures is_dir { result.is_dir ≡ is_dir }
-    ensures parents { result.parents ≡ false }
+    ensures manner { result.manner ≡ manner.Alone }
 {
     Question {
         path,
         is_dir,
-        parents: false,
+        manner: Manner::Alone,
     }
 }
 
@@ -37,12 +50,25 @@ pub fn alone(path: &[u8], is_dir: bool) -> Question<'_>
 pub fn with_parents(path: &[u8], is_dir: bool) -> Question<'_>
     ensures path { result.path.now ≡ path.now }
     ensures is_dir { result.is_dir ≡ is_dir }
-    ensures parents { result.parents ≡ true }
+    ensures manner { result.manner ≡ manner.WithParents }
 {
     Question {
         path,
         is_dir,
-        parents: true,
+        manner: Manner::WithParents,
+    }
+}
+
+/// A path as git asks about it.
+pub fn as_git(path: &[u8], is_dir: bool) -> Question<'_>
+    ensures path { result.path.now ≡ path.now }
+    ensures is_dir { result.is_dir ≡ is_dir }
+    ensures manner { result.manner ≡ manner.AsGit }
+{
+    Question {
+        path,
+        is_dir,
+        manner: Manner::AsGit,
     }
 }
 
@@ -56,20 +82,23 @@ pub struct Told {
 
 /// What the rules say.
 fn ask<'k>(kept: &'k Kept, asked: Question<'_>) -> Result<Match<&'k Glob>, Refused>
-    ensures answered { IfOk result (λ m. Asks kept.now asked.entry.parents asked.entry.path.now asked.entry.is_dir (Ok (match_map (λ g. g.now) m))) }
-    ensures refused { IfErr result (λ e. Asks kept.now asked.entry.parents asked.entry.path.now asked.entry.is_dir (Err e)) }
+    ensures answered { IfOk result (λ m. Asks kept.now asked.entry.manner asked.entry.path.now asked.entry.is_dir (Ok (match_map (λ g. g.now) m))) }
+    ensures refused { IfErr result (λ e. Asks kept.now asked.entry.manner asked.entry.path.now asked.entry.is_dir (Err e)) }
 {
     let Kept::Rules(rules) = kept else {
         return Err(Refused::Misused);
     };
     let path = text_of(asked.path)?;
-    if !asked.parents {
-        return Ok(rules.matched(path, asked.is_dir)?);
+    match asked.manner {
+        Manner::Alone => Ok(rules.matched(path, asked.is_dir)?),
+        Manner::WithParents => {
+            if !rules.is_under_root(path) {
+                return Err(Refused::Outside);
+            }
+            Ok(rules.matched_path_or_any_parents(path, asked.is_dir)?)
+        }
+        Manner::AsGit => Ok(matched_as_git(rules, path, asked.is_dir)?),
     }
-    if !rules.is_under_root(path) {
-        return Err(Refused::Outside);
-    }
-    Ok(rules.matched_path_or_any_parents(path, asked.is_dir)?)
 }
 
 fn match_code(found: &Match<&Glob>) -> u32
@@ -84,7 +113,7 @@ fn match_code(found: &Match<&Glob>) -> u32
 
 /// The number of what the rules say.
 pub fn code(kept: &Kept, asked: Question<'_>) -> u32
-    ensures { AsksCode kept.now asked.entry.parents asked.entry.path.now asked.entry.is_dir result }
+    ensures { AsksCode kept.now asked.entry.manner asked.entry.path.now asked.entry.is_dir result }
 {
     match ask(kept, asked) {
         Ok(found) => match_code(&found),
@@ -94,7 +123,7 @@ pub fn code(kept: &Kept, asked: Question<'_>) -> u32
 
 /// What the rules say, with the rule that decided.
 pub fn explain(alloc: Global, kept: &Kept, asked: Question<'_>) -> Told
-    ensures { Explains kept.now asked.entry.parents asked.entry.path.now asked.entry.is_dir result.code result.reason result.text.items }
+    ensures { Explains kept.now asked.entry.manner asked.entry.path.now asked.entry.is_dir result.code result.reason result.text.items }
 {
     match ask(kept, asked) {
         Ok(found) => match text_of_match(alloc, &found) {
@@ -106,6 +135,43 @@ pub fn explain(alloc: Global, kept: &Kept, asked: Question<'_>) -> Told
             Err(_) => untold(alloc, Refused::Memory),
         },
         Err(refused) => untold(alloc, refused),
+    }
+}
+
+/// The rule at an index: whether it ignores or whitelists, and its parts.
+pub fn rule(alloc: Global, kept: &Kept, index: usize) -> Told
+    ensures { TellsRule kept.now index result.code result.reason result.text.items }
+{
+    match list(kept, index) {
+        Ok(found) => match text_of_match(alloc, &found) {
+            Ok(text) => Told {
+                code: match_code(&found),
+                reason: reason_of_match(&found),
+                text,
+            },
+            Err(_) => untold(alloc, Refused::Memory),
+        },
+        Err(refused) => untold(alloc, refused),
+    }
+}
+
+fn list(kept: &Kept, index: usize) -> Result<Match<&Glob>, Refused>
+    ensures listed { IfOk result (λ m. Lists kept.now index (Ok (match_map (λ g. g.now) m))) }
+    ensures refused { IfErr result (λ e. Lists kept.now index (Err e)) }
+{
+    let Kept::Rules(rules) = kept else {
+        return Err(Refused::Misused);
+    };
+    Ok(listed(rules, index))
+}
+
+fn listed(rules: &Gitignore, index: usize) -> Match<&Glob>
+    ensures { match_map (λ g. g.now) result ≡ listed (slice_get rules.now.rules index) }
+{
+    match rules.rules().get(index) {
+        None => Match::None,
+        Some(rule) if rule.is_whitelist() => Match::Whitelist(rule),
+        Some(rule) => Match::Ignore(rule),
     }
 }
 

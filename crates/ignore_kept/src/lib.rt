@@ -2,9 +2,11 @@
 //! handles and the exports.
 #![tactic(auto)]
 
+mod as_git;
 pub mod ask;
 pub mod asker;
 pub mod change;
+pub mod explained;
 mod kept;
 pub mod lines;
 mod refused;

@@ -2,6 +2,7 @@
 ghost use Rattle.std.specs.Prelude.{◌≡◌, false, IfOk, OnOk, OnErr, map, string_bytes};
 ghost use Rattle.ignore_rules.specs.Rules.{begun, with_case_insensitive, with_unclosed_class};
 ghost use Rattle.ignore_base.specs.Problem.{problem_of};
+ghost use Rattle.ignore_types.specs.AllDefaults.{all_default_rows};
 ghost use Rattle.ignore_types.specs.Defaults.{with_defaults};
 ghost use Rattle.ignore_kept.specs.Kinds.{setup_in, tree_in};
 ghost use Rattle.ignore_kept.specs.Wishes.{AddsDefaults, AddsOf, AddsRules, Blames, Takes, TellsOf, Wishes, well};
@@ -244,6 +245,29 @@ fn defaults(setup: &mut Setup) -> Result<(), Error>
     ensures unchanged { OnErr result (setup.new ≡ setup.old) }
 {
     setup.types.push_defaults()?;
+    setup.problem = None;
+    Ok(())
+}
+
+/// Adds all types of the original's table to the builder that is kept.
+#[tactic(auto, using(crate::proofs::Wishing::adds_defaults, crate::proofs::Wishing::adds_no_defaults))]
+pub fn add_all_defaults(kept: &mut Kept) -> Result<(), Stopped>
+    ensures { AddsDefaults all_default_rows kept.old result kept.new }
+{
+    let Kept::Setup(setup) = kept else {
+        return Err(Stopped::Misused);
+    };
+    match all_defaults(setup) {
+        Ok(()) => Ok(()),
+        Err(_) => Err(Stopped::Memory),
+    }
+}
+
+fn all_defaults(setup: &mut Setup) -> Result<(), Error>
+    ensures added { OnOk result (setup.new ≡ record (well setup.old) { types = with_defaults all_default_rows setup.old.types }) }
+    ensures unchanged { OnErr result (setup.new ≡ setup.old) }
+{
+    setup.types.push_all_defaults()?;
     setup.problem = None;
     Ok(())
 }

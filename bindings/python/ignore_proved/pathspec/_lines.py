@@ -4,12 +4,12 @@ from __future__ import annotations
 import os
 import threading
 from ctypes import byref
-from typing import Any, Dict, NamedTuple, Optional, Sequence, Union
+from typing import Any, Dict, Iterator, NamedTuple, Optional, Sequence, Union
 
 from .. import _library as lib
 from .._errors import error_of
 from .._names import told
-from ..rules import ALONE, Rules, folders_of
+from ..rules import ALONE, Rules
 from ._git import of_git, trimmed
 
 
@@ -151,11 +151,20 @@ class Lines:
         if above is not None and not text.startswith((b"/", b"./")):
             said = self._joined(own, above, folder, True) if folder else NOTHING
         else:
-            for each in folders_of(b"", text):
+            for each in folders_of(text):
                 said = own.folders.get(each) or self._joined(own, said, each, True)
                 own.keep(each, said)
         own.keep(folder, said)
         return said
+
+
+def folders_of(path: bytes) -> Iterator[bytes]:
+    """The folders that a path is in, from the top down, which itself isn't one."""
+    begin = 2 if path.startswith(b"./") else 0
+    end = path.find(b"/", begin + path.startswith(b"/", begin) + 1)
+    while end >= 0:
+        yield path[:end]
+        end = path.find(b"/", end + 1)
 
 
 def checked(code: int) -> int:
