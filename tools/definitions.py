@@ -3,6 +3,7 @@
 `headline.py` writes a page of them; the checksums of mutants count them.
 """
 import functools
+import itertools
 import os
 import re
 
@@ -50,8 +51,8 @@ class File:
             nonlocal said, item
             names = [it for line in item for it in NAMES.findall(line)]
             if names:
-                # (of several that name each other the comments stand inside)
-                inner = [it.strip()[2:].strip() for it in item if it.startswith("  --")]
+                # (of several that name each other the comments stand inside, that of the first at once)
+                inner = [it.strip()[2:].strip() for it in itertools.takewhile(lambda it: it.startswith("  --"), item[1:])]
                 found.append(Definition(self.place, names, plain(said or inner), "\n".join(item)))
             said, item = [], []
 

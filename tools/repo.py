@@ -21,6 +21,7 @@ VERSIONED = {
     "crates/ig_options/src/words.rt": 'VERSION: &str = "{}"',
     "man/ig.1": '"ig {}"',
     "man/igwalk.1": '"igwalk {}"',
+    "include/ignore_proved.h": "/* The version of this header, {}, as",
     "bindings/python/pyproject.toml": '\nversion = "{}"\n',
     "bindings/python/ignore_proved/__init__.py": '\n__version__ = "{}"\n',
     "bindings/rust/Cargo.toml": '\nversion = "{}"\n',

@@ -24,7 +24,8 @@ class Call:
 
     def __init__(self, crate, path, name, file):
         # `path` is the name by which a check prints it, `name` the one by which it is called.
-        self.crate, self.path, self.name, self.file = crate, path, name, file
+        # `face` is the one by which it is called through the crate that a caller lists.
+        self.crate, self.path, self.name, self.face, self.file = crate, path, name, name, file
         self.doc, self.head, self.clauses = "", "", []
         # The type or the trait whose it is, if it is of one, and the trait that has it, by which it
         # may be called without its name.
@@ -264,17 +265,3 @@ def calls_of(crate):
             if call.clauses or not trait:
                 found.append(call)
     return found, surface.handed
-
-
-# Comments
-
-
-def comment_of(file):
-    """What the first comment of a file of definitions or of a proof says, without the list of the
-    characters whose numbers stand in it."""
-    said = []
-    for line in read(file).split("\n"):
-        if not line.startswith("--") or re.match(r"-- \d", line):
-            break
-        said.append(line[2:].strip())
-    return " ".join(said)

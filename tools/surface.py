@@ -23,8 +23,10 @@ CLAUSE = re.compile(r"\s*(requires|ensures)\b")
 def calls(crates):
     """The calls that `ignore` has, and those that it re-exports, without what is for dependents."""
     found = {it.key(): it for it in calls_of(crates[FACE])[0]}
-    for _, path in reexports(crates, FACE):
-        found |= {it.key(): it for it in calls_at(crates, path)}
+    for name, path in reexports(crates, FACE):
+        for call, rest in calls_at(crates, path):
+            call.face = name + rest
+            found[call.key()] = call
     return [it for it in found.values() if "For dependents" not in it.doc]
 
 
@@ -34,11 +36,14 @@ def reexports(crates, name):
 
 
 def calls_at(crates, path):
-    """The calls of the item, or in the module, at a path: of its crate, or re-exported by it."""
+    """The calls of the item, or in the module, at a path, of its crate or re-exported by it; with each
+    what of its name comes after the path."""
     crate, _, inner = path.partition("::")
     found = [it for it in calls_of(crates[crate])[0] if is_in(re.split(r"\W* ", it.name)[0], inner)]
+    found = [(it, it.name[len(inner) :]) for it in found]
     for name, further in reexports(crates, crate):
-        found += calls_at(crates, further) if is_in(name, inner) else []
+        if is_in(name, inner):
+            found += [(it, name[len(inner) :] + rest) for it, rest in calls_at(crates, further)]
     return found
 
 

@@ -16,10 +16,9 @@ use Rattle.ignore.specs.declared.options.WalkOptions.{WalkOptions}
 use Rattle.ignore.specs.Asked.{IsOutside}
 use Rattle.ignore.specs.ItsList.{ForItsList}
 
--- a scene is one of a walk in a tree, by options, by rules from outside, and by an order and a
--- filter that `owner` keeps: it has the tree and the loads of its directories, the settings, these
--- rules, a function by which the filter answers, and an order by which the comparison answers, in
--- which two names may tie
+-- a scene is one of a walk in a tree, by options and rules from outside: it has the tree and the
+-- loads of its directories, the settings, these rules, a function by which the filter of `owner`
+-- answers, and a strict weak order by which its comparison does
 pub record IsSceneOf {S : Type 0} (calls : Callbacks S) (owner : S) (b : WalkOptions) (order : Order) (t : Tree) (o : Outside)
     (g : Scene) : Type 0 where
   pub tree : g.tree ≡ t
@@ -30,38 +29,38 @@ pub record IsSceneOf {S : Type 0} (calls : Callbacks S) (owner : S) (b : WalkOpt
   pub filter : calls.filters owner g.keep
   pub sorted : IsOrderBy order (calls.compares owner) g.order
 
--- the limit of steps is too low for the list of the definition, in each tree that the files are
--- consistent with
+-- each list that there is (there may be none) takes more steps than the limit, in each tree that
+-- the files are consistent with
 abbrev pub IsAboveLimit : {F S : Type 0} → Files F → Callbacks S → F → S → Env → WalkOptions → Order → Type 0
 IsAboveLimit files calls f owner env b order =
     (tree : Tree) → IsHonest files f tree
     → ForItsList (IsSceneOf calls owner b order tree) env b tree (λ g items n. b.limit < n)
 
--- there are rules from outside, as they are read in each tree that the files are consistent with
+-- in each tree that the files are consistent with there are rules from outside, as they are read
+-- there
 abbrev pub ReadsOutside : {F : Type 0} → Files F → F → Env → WalkOptions → Type 0
 ReadsOutside files f env b = (tree : Tree) → IsHonest files f tree → (outside : Outside) × IsOutside tree env b outside
 
--- by given rules from outside a finished walk in a tree has yielded these items: in each scene of it
--- the roots give just them, in steps that the limit allows. They are, root by root, the reachable
--- entries that the rules keep, parents first, siblings in the chosen order, errors in their places
+-- by given rules from outside a finished walk in a tree has yielded these items: in each scene of
+-- the walk they are what the roots give (`Whole`), in at most as many steps as the limit
 abbrev pub HasYielded : {S : Type 0} → Callbacks S → S → WalkOptions → Order → Tree → Outside → List Item → Type 0
 HasYielded calls owner b order tree outside all =
     (g : Scene) → IsSceneOf calls owner b order tree outside g → (n : ℕ) × (n ≤ b.limit) × Whole g b.roots all n
 
 -- these items are the list of the definition in a tree: a finished walk has yielded them by any
--- rules from outside as they are read there (and there are no two such)
+-- rules from outside as they are read there, which are one by the law `one_outside`
 abbrev pub IsListIn : {S : Type 0} → Callbacks S → S → Env → WalkOptions → Order → Tree → List Item → Type 0
 IsListIn calls owner env b order tree all =
     (outside : Outside) → IsOutside tree env b outside → HasYielded calls owner b order tree outside all
 
--- the headline: what a finished walk has yielded is the list of the definition, in each tree that
--- the files are consistent with
+-- the headline: these items are the list of the definition, in each tree that the files are
+-- consistent with
 abbrev pub Headline : {F S : Type 0} → Files F → Callbacks S → F → S → Env → WalkOptions → Order → List Item → Type 0
 Headline files calls f owner env b order all = (tree : Tree) → IsHonest files f tree → IsListIn calls owner env b order tree all
 
--- no other list is that of the definition in a tree: there are rules from outside, as they are read,
--- by which whatever the roots give in a scene of the walk is these items, in steps that the limit
--- allows
+-- no other list is that of the definition in a tree: by the rules from outside, as they are read
+-- there, whatever the roots give in a scene of the walk is these items, in at most as many steps as
+-- the limit
 abbrev pub IsOnlyListIn : {S : Type 0} → Callbacks S → S → Env → WalkOptions → Order → Tree → List Item → Type 0
 IsOnlyListIn calls owner env b order tree all =
     ForItsList (IsSceneOf calls owner b order tree) env b tree (λ g items n. (all ≡ items) × (n ≤ b.limit))

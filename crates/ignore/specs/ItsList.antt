@@ -9,9 +9,9 @@ use Rattle.ignore_walk.specs.Whole.{Whole}
 use Rattle.ignore.specs.declared.options.WalkOptions.{WalkOptions}
 use Rattle.ignore.specs.Asked.{IsOutside}
 
--- `Holds` is so of the list of the definition, and of the number of its steps, by options, in a
--- tree: there are rules from outside, as they were read, by which it holds for what the roots give
--- in each scene of these rules (`IsScene`)
+-- `Holds` is true of the list of the definition and of the number of its steps, in a tree: there
+-- are rules from outside, as they were read, and by these it is true of whatever the roots give in
+-- each scene that is an `IsScene` (an argument, as `Holds` is)
 abbrev pub ForItsList : (Outside → Scene → Type 0) → Env → WalkOptions → Tree → (Scene → List Item → ℕ → Type 0) → Type 0
 ForItsList IsScene env b tree Holds =
     (o : Outside) × IsOutside tree env b o

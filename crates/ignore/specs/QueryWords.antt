@@ -3,7 +3,7 @@ pub use Rattle.ignore_dir.specs.Limits.{beyond, inverted, is_beyond, is_none, is
 pub use Rattle.ignore_dir.specs.Query.{depth_of_path, limit_of}
 pub use Rattle.ignore_dir.specs.Soft.{IsSoft}
 pub use Rattle.ignore_levels.specs.Levels.{level_at, slots_of}
-pub use Rattle.ignore_query.specs.Forget.{IsOwn, is_key_in}
+pub use Rattle.ignore_query.specs.Forget.{IsOwn, SameKeptAgrees, is_key_in}
 pub use Rattle.ignore_query.specs.Fresh.{NothingAgrees, NothingReportsAll}
 pub use Rattle.ignore_query.specs.KeptLoads.{KeepsLoads}
 pub use Rattle.ignore_query.specs.Needs.{is_decided, is_known}

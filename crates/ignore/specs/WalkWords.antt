@@ -14,7 +14,7 @@ pub use Rattle.ignore_dir.specs.declared.settings.Settings.{Settings}
 pub use Rattle.ignore_query.specs.Agrees.{Agrees, kept_at}
 pub use Rattle.ignore_query.specs.Forget.{IsSameKept, ListsKept, is_at_or_below, kept_dirs, kept_from}
 pub use Rattle.ignore_query.specs.Fresh.{KeepsNothing}
-pub use Rattle.ignore_query.specs.InTurn.{Leaves, Question, ReportInTurn}
+pub use Rattle.ignore_query.specs.InTurn.{IsFromKept, Leaves, Question, ReportInTurn}
 pub use Rattle.ignore_query.specs.Left.{LeavesMatcher}
 pub use Rattle.ignore_query.specs.KeptRules.{kept_rules, rules_in, rules_of}
 pub use Rattle.ignore_query.specs.Needs.{KeepsNeeded, Stays, needed}

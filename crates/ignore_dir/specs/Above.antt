@@ -60,6 +60,6 @@ kept_above s d =
 abbrev pub dirs_above : (Path → Loaded) → Settings → List Path → List Dir
 dirs_above loads s paths = map (λ path. kept_above s (loads path).0) paths
 
--- the problem of each of them, if any
+-- the problem of the load of each of these directories, if any
 abbrev pub problems_of_loads : (Path → Loaded) → List Path → List (Option Problem)
 problems_of_loads loads paths = map (λ path. (loads path).1) paths

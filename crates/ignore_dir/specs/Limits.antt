@@ -39,7 +39,7 @@ abbrev pub is_below : Option ℕ → ℕ → Bool
 is_below std.None depth = false
 is_below (Some most) depth = nat_lt most depth
 
--- the depth is the greatest depth, if there is one, or below it
+-- there is a greatest depth, and the depth is at least that
 abbrev pub is_deepest : Option ℕ → ℕ → Bool
 is_deepest std.None depth = false
 is_deepest (Some most) depth = nat_le most depth
@@ -70,7 +70,7 @@ limited s depth is_dir v =
 abbrev pub size_limit : Settings → Bool → Verdict → Option ℕ
 size_limit s is_dir v = if is_dir || is_ignore v then std.None else s.max_filesize
 
--- the size by this metadata is above the limit
+-- there is a limit, and the size by this metadata is more
 abbrev pub is_larger : Option ℕ → Result Metadata Fault → Bool
 is_larger std.None size = false
 is_larger (Some most) (Ok m) = nat_lt most m.len

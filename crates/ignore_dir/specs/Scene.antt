@@ -21,7 +21,7 @@ pub record QueryScene : Type 0 where
   pub outside : Outside
   pub root : Path
 
--- a scene of these
+-- the scene of queries that has these parts
 abbrev pub scene : Tree → (Path → Loaded) → Settings → Outside → Path → QueryScene
 scene tree loads s outside root = record { tree = tree; loads = loads; settings = s; outside = outside; root = root }
 

@@ -16,7 +16,7 @@ abbrev pub path_of : Path → Branch → Path
 path_of root [] = root
 path_of root (name ∷ b) = join_of (path_of root b) name
 
--- the directories from a place up to its root, the nearest first
+-- the paths of the directories from a place up to its root, the nearest first
 abbrev pub entered : Path → Branch → List Path
 entered root [] = root ∷ []
 entered root (name ∷ b) = path_of root (name ∷ b) ∷ entered root b

@@ -42,7 +42,8 @@ identity_at tree path = known (tree.identity path true)
 abbrev pub is_same : Identity → Identity → Bool
 is_same a b = (a.device == b.device) && (a.inode == b.inode)
 
--- the first of these directories with an identity, unless a fault is met before
+-- the first of these directories that has this identity, unless the identity of one before it can't
+-- be known
 abbrev pub same_among : Tree → Identity → List Path → Result (Option Path) Fault
 same_among tree id [] = Ok None
 same_among tree id (path ∷ paths) =
@@ -81,7 +82,7 @@ found g path depth kind =
     then or_failed path depth (followed_link path depth) (g.tree.stat path true)
     else Ok (record { path = path; depth = depth; kind = Some kind; followed = false })
 
--- a listed thing, or a fault in its place where its name is no name
+-- a listed thing, or a fault in its place where its name is empty, `.` or `..`, or has a slash
 abbrev pub named : Listed → Listed
 named (thing.Entry name kind) = if is_proper name && not (has_slash name) then thing.Entry name kind else thing.Fault BadName
 named (thing.Fault fault) = thing.Fault fault
@@ -91,7 +92,8 @@ abbrev pub branch_below : Branch → Listed → Branch
 branch_below b (thing.Entry name kind) = name ∷ b
 branch_below b (thing.Fault fault) = b
 
--- a listed thing is an entry, or a problem in its place
+-- a listed thing is an entry, or a problem in its place: it is found, then looked at for a loop,
+-- and then for its device
 unfoldable pub child : Scene → Path → Branch → Listed → Result Entry Problem
 child g root b (thing.Entry name kind) =
     and_then (λ (e : Entry). with_device g (is_dir_kind e.kind) e)

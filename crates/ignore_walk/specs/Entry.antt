@@ -24,11 +24,12 @@ pub record Entry : Type 0 where
 abbrev pub entry_of : DirEntry → Entry
 entry_of e = record { path = string_bytes e.path; depth = e.depth; kind = e.kind; followed = e.followed }
 
--- the problem of the files of rules of the directory that it is, if any
+-- the problem of the load of the directory that it is or leads to, if any
 abbrev pub problem_in : DirEntry → Option Problem
 problem_in e = option_map problem_of e.error
 
--- what a walk yields: an entry with such a problem, if any; or a problem in an entry's place
+-- what a walk yields: an entry, with the problem of the load of the directory that it is or leads
+-- to, if any; or a problem alone
 abbrev pub Item : Type 0
 Item = Result (Entry × Option Problem) Problem
 

@@ -8,9 +8,9 @@ use Rattle.ignore_dir.specs.declared.outside.Outside.{Outside}
 use Rattle.ignore_dir.specs.declared.settings.Settings.{Settings}
 use Rattle.ignore_walk.specs.Entry.{Entry}
 
--- all that stays the same in a walk: the tree with the loads of its directories, the settings, the
--- rules from outside, whether other devices than that of a root stay closed, the filter, and the
--- order of the names in a directory, if one was chosen: whether one comes before another
+-- all that stays the same in a walk: the tree, the loads of its directories, the settings, the rules
+-- from outside, whether other devices than that of a root stay closed, the filter, and, if an order
+-- was chosen, whether one name in a directory comes before another
 pub record Scene : Type 0 where
   pub tree : Tree
   pub loads : Path → Loaded

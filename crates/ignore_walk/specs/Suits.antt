@@ -17,13 +17,15 @@ use Rattle.ignore_walk.specs.declared.callbacks.Order.{Order}
 use Rattle.ignore_walk.specs.declared.callbacks.Order.TheVariants.{Listed, ByName, ByPath}
 use Rattle.ignore_walk.specs.declared.ground.Ground.{Ground}
 
--- one name of a directory comes before another, by a comparison of names or of paths
+-- the order that is chosen, if one is: in it a name of a directory comes before another as a
+-- comparison puts the two names, or their paths
 abbrev pub order_by : Order → (Path → Path → Ordering) → Option (Path → Bytes → Bytes → Bool)
 order_by Listed cmp = None
 order_by ByName cmp = Some (λ dir a b. is_lt (cmp a b))
 order_by ByPath cmp = Some (λ dir a b. is_lt (cmp (join_of dir a) (join_of dir b)))
 
--- the order is chosen by a comparison by which the value answers, and in which two may tie
+-- what is chosen is the order of a comparison by which the value answers, and which is a strict
+-- weak order (as the one is by which all tie)
 abbrev pub IsOrderBy : Order → ((Path → Path → Ordering) → Type 0) → Option (Path → Bytes → Bytes → Bool) → Type 0
 IsOrderBy order answers_by chosen =
     (cmp : Path → Path → Ordering) × answers_by cmp × IsStrictWeakOrder (λ a b. is_lt (cmp a b)) × (chosen ≡ order_by order cmp)

@@ -19,7 +19,7 @@ use Rattle.ignore_walk.specs.Child.{is_dir_kind, identity_at, named, branch_belo
 use Rattle.ignore_walk.specs.Entry.{Entry, Item, failed_at}
 use Rattle.ignore_walk.specs.Scene.{Scene, queries}
 
--- an entry is a directory, or a root that links to one
+-- an entry is a directory, or a root that leads to one
 abbrev pub leads_in : Scene → Branch → Entry → Bool
 leads_in g [] e = is_dir_there (g.tree.stat e.path true)
 leads_in g (name ∷ b) e = is_dir_kind e.kind
@@ -28,7 +28,7 @@ leads_in g (name ∷ b) e = is_dir_kind e.kind
 unfoldable pub ignores : Scene → Path → Branch → Bool → Bool
 ignores g root b is_dir = is_ignore (path_verdict (queries g root) (reverse b) is_dir)
 
--- an entry that is no directory is too large
+-- an entry is no directory, and larger than the limit of size
 abbrev pub is_too_large : Scene → Entry → Bool
 is_too_large g e = not (is_dir_kind e.kind) && is_larger g.settings.max_filesize (g.tree.stat e.path g.settings.follow_links)
 
@@ -39,7 +39,7 @@ is_skipped g root [] e = false
 is_skipped g root (name ∷ b) e =
     ignores g root (name ∷ b) (is_dir_kind e.kind) || (is_too_large g e || not (g.keep e))
 
--- a depth is not above the least depth, if there is one
+-- the depth is at least the least depth, where there is one
 abbrev pub is_at_least : Option ℕ → ℕ → Bool
 is_at_least None depth = true
 is_at_least (Some least) depth = nat_le least depth
@@ -54,8 +54,8 @@ are_apart (Err fault) other = false
 abbrev pub is_foreign : Scene → Path → Entry → Bool
 is_foreign g root e = g.same_file_system && are_apart (identity_at g.tree root) (identity_at g.tree e.path)
 
--- what becomes of an entry: it is skipped; it is yielded; it is yielded with its load; or so, and
--- then what it lists
+-- what becomes of an entry: it is skipped; it is yielded, if its depth allows that (`yielded`); the
+-- same with the problem of its load; or the same with that, and then what it lists
 pub data Fate : Type 0 where
   skip : Fate
   yield : Fate
@@ -70,15 +70,16 @@ fate g root b e =
     else if is_foreign g root e then load
     else enter
 
--- an entry is yielded unless it is above the least depth
+-- an entry is yielded unless its depth is less than the least depth
 abbrev pub yielded : Settings → Entry → Option Problem → List Item
 yielded s e problem = if is_at_least s.min_depth e.depth then Ok (e, problem) ∷ [] else []
 
--- a directory is yielded with the problem of its load
+-- as `yielded`, for a directory with the problem of its load
 abbrev pub loaded : Scene → Entry → List Item
 loaded g e = yielded g.settings e (g.loads e.path).1
 
--- a listing, with each name that is none as a fault; one that fails lists nothing
+-- a listing, with a fault in the place of each listed name that is no name; one that fails lists
+-- nothing
 abbrev pub listing_of : Result (List Listed) Fault → List Listed
 listing_of (Ok xs) = map named xs
 listing_of (Err fault) = []
@@ -110,7 +111,10 @@ mutual
   -- the items that an entry or a problem gives, and the steps below it: one for each listed thing,
   -- and one for each directory whose listing is asked
   pub data WalkedOne (g : Scene) (root : Path) : Branch → Result Entry Problem → List Item → ℕ → Type 0 where
+    -- a problem is an item whatever the rules, the filter and the limits say
     failed : {b : Branch} {p : Problem} → WalkedOne g root b (Err p) (Err p ∷ []) 0
+    -- of an entry the fate decides: a leaf is `yielded`, a closed directory `loaded`, and a dir
+    -- `loaded` and entered
     skipped : {b : Branch} {e : Entry} → fate g root b e ≡ skip → WalkedOne g root b (Ok e) [] 0
     leaf : {b : Branch} {e : Entry} → fate g root b e ≡ yield → WalkedOne g root b (Ok e) (yielded g.settings e None) 0
     closed : {b : Branch} {e : Entry} → fate g root b e ≡ load → WalkedOne g root b (Ok e) (loaded g e) 0

@@ -18,7 +18,7 @@ use Rattle.ignore_walk.specs.Entry.{Entry, Item, stdin_entry}
 use Rattle.ignore_walk.specs.Scene.{Scene}
 use Rattle.ignore_walk.specs.Walked.{WalkedOne}
 
--- a root is a link that stays one: links aren't followed, and it leads to no file
+-- a root is a link that stays one: links aren't followed, and what it leads to isn't a regular file
 abbrev pub stays_link : Scene → FileType → FileType → Bool
 stays_link g own kind = is_symlink own && not (g.settings.follow_links || is_file kind)
 
@@ -29,11 +29,13 @@ root_by g root own kind =
     then record { path = root; depth = 0; kind = Some Symlink; followed = false }
     else record { path = root; depth = 0; kind = Some kind; followed = is_symlink own }
 
--- the same where its own kind is known, and what it leads to is asked
+-- the entry of a root with this metadata of its own, or a problem where `stat` of what it leads to
+-- has a fault
 abbrev pub root_of : Scene → Path → Metadata → Result Entry Problem
 root_of g root own = or_failed root 0 (λ (m : Metadata). Ok (root_by g root own.file_type m.file_type)) (g.tree.stat root true)
 
--- a root is an entry, or a problem in its place
+-- a root is an entry, or a problem in its place: `stat` of it has a fault, or of what it leads to
+-- (`root_of`), or its identity isn't known and has to be
 unfoldable pub root_entry : Scene → Path → Result Entry Problem
 root_entry g root =
     and_then (with_device g (is_dir_there (g.tree.stat root true))) (or_failed root 0 (root_of g root) (g.tree.stat root false))
@@ -42,7 +44,7 @@ root_entry g root =
 abbrev pub above_root : Scene → Path → List Path
 above_root g root = if is_dir_there (g.tree.stat root true) then paths_above g.tree g.settings root else []
 
--- those that weren't seen
+-- of these paths those that aren't among the ones that were seen
 abbrev pub unseen : List Path → List Path → List Path
 unseen seen paths = filter (λ path. not (list_any (bytes_eq path) seen)) paths
 
@@ -51,8 +53,8 @@ unseen seen paths = filter (λ path. not (list_any (bytes_eq path) seen)) paths
 abbrev pub reported_before : Scene → List Path → Path → List Item
 reported_before g seen root = map Err (option_to_list (joined_some (problems_of_loads g.loads (unseen seen (above_root g root)))))
 
--- the items that roots give where these directories are above earlier ones, and the steps: one for
--- each root, and those below it
+-- given the directories that are above earlier roots, and then the roots: the items that these
+-- give, and the steps, one for each root, and those below it
 pub data WalkedRoots (g : Scene) : List Path → List Path → List Item → ℕ → Type 0 where
   none : {seen : List Path} → WalkedRoots g seen [] [] 0
   stdin : {seen roots : List Path} {items : List Item} {n : ℕ} → WalkedRoots g seen roots items n
