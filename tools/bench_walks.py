@@ -11,10 +11,13 @@ import sys
 import tempfile
 import time
 
+import figures
+
 TOP = os.path.dirname(os.path.dirname(os.path.abspath(__file__)))
 # Proved programs, as the gate or `tools/launch --prove igwalk` leaves them, or others to compare.
 IGWALK = os.environ.get("IGWALK") or f"{TOP}/crates/igwalk/out/igwalk"
 IG = os.environ.get("IG") or f"{TOP}/crates/ig/out/ig"
+TIME = "/usr/bin/time"
 ROUNDS = 9
 # The system calls that are counted beside all.
 CALLS = ("statx", "newfstatat", "getdents64", "openat", "read")
@@ -28,13 +31,21 @@ def wanted(*programs):
 
 
 def timed(words, cwd):
-    """The wall seconds, the processor seconds and the peak memory in bytes of a program."""
+    """The wall seconds and the processor seconds of a program."""
     start = time.perf_counter()
     with open(os.devnull, "wb") as out:
         process = subprocess.Popen(words, cwd=cwd, stdout=out, stderr=out)
         _, status, used = os.wait4(process.pid, 0)
     process.returncode = os.waitstatus_to_exitcode(status)
-    return time.perf_counter() - start, used.ru_utime + used.ru_stime, used.ru_maxrss * 1024
+    return time.perf_counter() - start, used.ru_utime + used.ru_stime
+
+
+def peak(words, cwd):
+    """The peak memory of a program in bytes, by a program that starts it: what this process starts has
+    its peak at first."""
+    with tempfile.NamedTemporaryFile("r", encoding="ascii") as said, open(os.devnull, "wb") as out:
+        subprocess.run([TIME, "-f", "%M", "-o", said.name, *words], cwd=cwd, stdout=out, stderr=out)
+        return int(said.read().split()[-1]) * 1024
 
 
 # Roots below one file of rules
@@ -111,7 +122,7 @@ def folders_of(listed, tree):
 def floor(tree, bench):
     """What `igwalk list` takes beside a program that lists the same folders by the kit alone, in
     turns: medians."""
-    wanted(IGWALK, bench)
+    wanted(IGWALK, TIME, bench)
     listed = subprocess.run([IGWALK, "list", "."], cwd=tree, stdout=subprocess.PIPE, stderr=subprocess.DEVNULL)
     with tempfile.NamedTemporaryFile("w", encoding="utf-8", errors="surrogateescape") as file:
         folders = folders_of(listed.stdout, tree)
@@ -123,12 +134,13 @@ def floor(tree, bench):
         for _ in range(ROUNDS):
             for name, words in ways.items():
                 found[name].append(timed(words, tree))
+        peaks = {name: peak(words, tree) for name, words in ways.items()}
     print(f"{tree}: {listed.stdout.count(chr(10).encode())} entries are listed, in {len(folders)} folders\n")
     print(f"{'':28} {'ms':>8} {'processor':>10} {'MB':>7} {'to floor':>9}")
     base = statistics.median(it[0] for it in found["floor"])
     for name, ones in found.items():
-        wall, used, memory = (statistics.median(it[at] for it in ones) for at in range(3))
-        print(f"{name:28} {wall * 1000:8.1f} {used * 1000:10.1f} {memory / 1e6:7.1f} {wall / base:9.2f}")
+        wall, used = (statistics.median(it[at] for it in ones) for at in range(2))
+        print(f"{name:28} {wall * 1000:8.1f} {used * 1000:10.1f} {peaks[name] / 1e6:7.1f} {wall / base:9.2f}")
 
 
 # A walk beside ripgrep
@@ -142,43 +154,69 @@ def calls_of(words, cwd):
     return {name: int(count) for count, name in found if name != "total"}
 
 
-# Each way to list a tree, and the one that it is compared with: by the rules, and without any.
-WAYS = {
-    "rg --files -j1 --sort path": None,
-    "igwalk list": "rg --files -j1 --sort path",
-    "ig ls --files": "rg --files -j1 --sort path",
-    "rg --files -j1": None,
-    "ig ls --files --sort none": "rg --files -j1",
-    "rg --files -uu -j1 --sort path": None,
-    "ig ls --files -I -H": "rg --files -uu -j1 --sort path",
-    "rg --files -uu -j1": None,
-    "ig ls --files -I -H --sort none": "rg --files -uu -j1",
-}
+# Two ways to list a tree: one by a program of this library, and the one that it is compared with. They
+# go by the rules, or by none (`-I -H`, `-uu`, and `find`), and sort, or leave the order of the system.
+PAIRS = [
+    ("igwalk list", "rg --files -j1 --sort path"),
+    ("ig ls --files", "rg --files -j1 --sort path"),
+    ("ig ls --files --sort none", "rg --files -j1"),
+    ("ig ls --files --sort none", "fd --type f --threads 1"),
+    ("ig ls --files -I -H", "rg --files -uu -j1 --sort path"),
+    ("ig ls --files -I -H --sort none", "rg --files -uu -j1"),
+    ("ig ls --files -I -H --sort none", "find . -type f"),
+]
+# The programs of this library, and names that others have elsewhere.
+PROGRAMS = {"ig": IG, "igwalk": IGWALK, "fd": "fd" if shutil.which("fd") else "fdfind"}
 
 
-def walks(tree):
-    """What the ways to list a tree take, in turns: medians, the ratio of the wall times and that of the
-    least times of the processor, which other work disturbs less, and system calls."""
-    wanted(IGWALK, IG, "rg", "strace")
-    program = {"rg": "rg", "ig": IG, "igwalk": IGWALK}
-    ways = {it: [program[it.split()[0]], *it.split()[1:], "."] for it in WAYS}
-    found = {name: [] for name in ways}
+def words_of(way):
+    """The command of a way, over the working directory."""
+    name, *words = way.split()
+    return [PROGRAMS.get(name, name), *words, *([] if "." in words else ["."])]
+
+
+def walks(tree, name=None):
+    """What the ways to list a tree take, in turns: medians, peaks and system calls; then of each pair
+    the ratio of the wall times, that of the least times of the processor, which other work disturbs
+    less, and that of the peaks. With a name of the tree, the first and the last are kept."""
+    wanted(IGWALK, IG, TIME, "rg", "strace")
+    pairs = [it for it in PAIRS if shutil.which(words_of(it[1])[0])]
+    ways = {way: words_of(way) for pair in pairs for way in pair}
+    found = {way: [] for way in ways}
     for _ in range(ROUNDS):
-        for name, words in ways.items():
-            found[name].append(timed(words, tree))
+        for way, words in ways.items():
+            found[way].append(timed(words, tree))
+    peaks = {way: peak(words, tree) for way, words in ways.items()}
     print(f"{tree}: {listed_by(ways['igwalk list'], tree)} entries are listed, without rules "
           f"{listed_by(ways['ig ls --files -I -H'], tree)} files\n")
-    print(f"{'':32} {'ms':>8} {'processor':>10} {'MB':>7} {'to rg':>6} {'least':>6} "
-          f"{' '.join(f'{it:>11}' for it in CALLS)} {'all calls':>10}")
-    for name, ones in found.items():
-        wall, used, memory = (statistics.median(it[at] for it in ones) for at in range(3))
-        other = found[WAYS[name] or name]
-        to_other = wall / statistics.median(it[0] for it in other)
-        least = min(it[1] for it in ones) / min(it[1] for it in other)
-        calls = calls_of(ways[name], tree)
+    names = " ".join(f"{it:>11}" for it in CALLS)
+    print(f"{'':32} {'ms':>8} {'processor':>10} {'MB':>7} {names} {'all calls':>10}")
+    for way, ones in found.items():
+        wall, used = (statistics.median(it[at] for it in ones) for at in range(2))
+        calls = calls_of(ways[way], tree)
         shown = " ".join(f"{calls.get(it, 0):11}" for it in CALLS)
-        print(f"{name:32} {wall * 1000:8.1f} {used * 1000:10.1f} {memory / 1e6:7.1f} {to_other:6.2f} {least:6.2f} "
-              f"{shown} {sum(calls.values()):10}")
+        print(f"{way:32} {wall * 1000:8.1f} {used * 1000:10.1f} {peaks[way] / 1e6:7.1f} {shown} "
+              f"{sum(calls.values()):10}")
+    print_pairs(pairs, found, peaks, name)
+
+
+def print_pairs(pairs, found, peaks, name):
+    """A line for each pair, and with a name of the tree their figures, which are kept."""
+    print(f"\n{'':66} {'time':>6} {'least':>6} {'memory':>6}")
+    kept = []
+    for own, other in pairs:
+        wall = ratio(found, own, other, 0, statistics.median)
+        least, memory = ratio(found, own, other, 1, min), peaks[own] / peaks[other]
+        print(f"{own:32} to {other:30} {wall:6.2f} {least:6.2f} {memory:6.2f}")
+        kept += [{"of": of, "what": name, "ours": own, "beside": other, "ratio": figures.rounded(it),
+                  "command": "tools/bench walks TREE"} for of, it in (("time", wall), ("memory", memory))]
+    if name:
+        figures.keep(kept)
+
+
+def ratio(found, own, other, at, one):
+    """One of the times of a way, as a part of that of another way."""
+    return one(it[at] for it in found[own]) / one(it[at] for it in found[other])
 
 
 def listed_by(words, tree):
