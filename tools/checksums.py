@@ -3,9 +3,11 @@
 They rest on the crate's own files, and of the crates below it on what it sees of them: the types and
 traits that it names, or that such a type or the head of such a call names; the heads and clauses of
 the calls of these, and of other public calls, that it names, or that a trait has; and the
-definitions that these clauses and the crate's own files rest on. What stands in private functions,
-private fields, calls and types that it has no name of and other definitions of those crates doesn't
-change them, nor do comments and layout.
+definitions that these clauses and the crate's own files rest on. It may name types of a crate that
+it lists or imports from, and what such a crate hands on under a name that it has; a type or a head
+names those of its own crate and of the crates below that. What stands in private functions, private
+fields, calls and types that it has no name of and other definitions of those crates doesn't change
+them, nor do comments and layout.
 """
 import functools
 import hashlib
@@ -44,7 +46,7 @@ class Checksums:
         self.calls = functools.cache(lambda name: calls_of(crates[name]))
         self.types = functools.cache(lambda name: types_of(crates[name]))
         self.aliases = functools.cache(lambda name: aliases_of(crates[name]))
-        self.resting = {}
+        self.resting, self.paths = {}, {}
         lines_of.cache_clear()
 
     def of(self, crate):
@@ -58,7 +60,7 @@ class Checksums:
                 text = without_layout(path, read(f"{crate.folder}/{path}"))
                 summed.update(repr((path, text)).encode())
                 named |= set(re.findall(r"\w+", text))
-        seen = self.seen_by(named, self.crates.below(crate))
+        seen = self.seen_by(crate, named)
         for name in seen.below:
             for said in self.said_of(name, seen):
                 summed.update(repr(said).encode())
@@ -66,36 +68,69 @@ class Checksums:
             summed.update(repr((one.place, without_layout(".antt", one.text))).encode())
         return summed.hexdigest()
 
-    def seen_by(self, named, below):
+    def seen_by(self, crate, named):
         """What a crate that has these words sees of the crates below it."""
-        seen = Seen(named, below, self.traits(below))
+        seen = Seen(named, {it: self.crates.below(self.crates[it]) for it in self.crates.below(crate)})
+        for name in seen.below:
+            seen.known |= {(name, it) for it in self.names(name)}
+            seen.traits |= self.traits(name)
+            seen.imported[name] = self.imported(name)
+        for name in seen.below:
+            if name in crate.uses or name in named:
+                seen.see([name], named)
+                for target, words in self.handed(name, named):
+                    seen.see([target], words)
         grown = None
         while grown != len(seen.types):
             grown = len(seen.types)
-            for name in below:
+            for name in seen.below:
                 for modules, type_name, text in self.types(name):
-                    if type_name in seen.types:
-                        seen.add(text)
+                    if (name, type_name) in seen.types:
+                        seen.add(name, text)
                 for it in self.calls(name)[0]:
                     if seen.has_call(it):
-                        seen.add(it.head)
+                        seen.add(name, it.head)
                 for own, other in self.aliases(name):
-                    if other in seen.types:
-                        seen.types.add(own)
+                    if seen.has(name, other):
+                        seen.add(name, own)
         return seen
 
-    def traits(self, below):
-        """The names of the traits of these crates."""
-        return {name for it in below for _, name, text in self.types(it) if text.startswith("pub trait ")}
+    def handed(self, name, named):
+        """What a crate hands on under names that are among these: a type with its crate; of a module
+        whatever is among these."""
+        for own, other in self.calls(name)[1]:
+            target, last = other.split("::")[0], other.split("::")[-1]
+            if is_named(own, named) and target in self.crates:
+                yield target, {last} if last in self.names(target) else named
+
+    def names(self, name):
+        """The names of the types and traits of a crate, and those under which it hands on others."""
+        return {it for _, it, _ in self.types(name)} | {it for one in self.aliases(name) for it in one}
+
+    def imported(self, name):
+        """The words of the paths by which a crate names what is in other crates."""
+        if name not in self.paths:
+            files = [file for _, file in modules_of(self.crates[name])]
+            text = "\n".join("\n".join(lines_of(f"{self.crates[name].folder}/{it}")) for it in files)
+            found = re.findall(r"\b(\w+)::((?:\w+::)*(?:\w+|\{[^;]*\}))", text)
+            named = {it for crate, path in found if crate in self.crates for it in re.findall(r"\w+", path)}
+            self.paths[name] = named
+        return self.paths[name]
+
+    def traits(self, name):
+        """The names of the traits of a crate."""
+        return {it for _, it, text in self.types(name) if text.startswith("pub trait ")}
 
     def said_of(self, name, seen):
         """What a crate sees of the sources of one below it: the public calls, and the types."""
-        yield name, sorted(self.calls(name)[1])
+        for own, other in sorted(self.calls(name)[1]):
+            if is_named(own, seen.named):
+                yield name, own, other
         for it in sorted(self.called(name, seen), key=lambda one: one.path):
-            yield it.path, it.name, without_layout(".rt", "\n".join([it.head, *it.clauses]))
+            yield name, it.path, it.name, without_layout(".rt", "\n".join([it.head, *it.clauses]))
         for modules, type_name, text in self.types(name):
-            if type_name in seen.types:
-                yield modules, without_layout(".rt", text)
+            if (name, type_name) in seen.types:
+                yield name, modules, without_layout(".rt", text)
 
     def called(self, name, seen):
         """The public calls of a crate that one which sees this may make."""
@@ -121,6 +156,11 @@ class Checksums:
         return self.resting[call]
 
 
+def is_named(path, words):
+    """Whether a path may be named by these words: they have its first and its last one."""
+    return {path.split("::")[0], path.split("::")[-1]} <= words
+
+
 def is_model(call):
     """Whether these are the ghost members by which a private form is seen as a value. (Crates above
     see the value alone.)"""
@@ -128,22 +168,36 @@ def is_model(call):
 
 
 class Seen:
-    """What a crate sees of those below it: its own words, and the names of types and traits."""
+    """What a crate sees of those below it: its own words, and types and traits, each as the name of
+    its crate and its own."""
 
-    def __init__(self, named, below, traits):
-        self.named, self.below, self.traits = named, below, traits
-        self.types = set(named)
+    def __init__(self, named, below):
+        self.named, self.below = named, list(below)
+        self.around = {name: [*others, name] for name, others in below.items()}
+        self.types, self.traits, self.known, self.imported = set(), set(), set(), {}
 
-    def add(self, text):
-        """Adds what a head or a type names."""
-        self.types |= set(re.findall(r"\b[A-Z]\w*", text))
+    def see(self, names, words):
+        """Adds what these crates have under these words."""
+        self.types |= {(it, word) for it in names for word in words} & self.known
+
+    def add(self, name, text):
+        """Adds what a head or a type of a crate names: of itself, or, where it has none of that name or
+        imports one, also of the crates below it."""
+        words = set(re.findall(r"\b[A-Z]\w*", text))
+        own = {it for it in words if (name, it) in self.known} - self.imported[name]
+        self.see([name], own)
+        self.see(self.around[name], words - own)
+
+    def has(self, name, word):
+        """Whether a type or trait is seen that a crate has, or one of the crates below it."""
+        return any((it, word) in self.types for it in self.around[name])
 
     def has_call(self, call):
         """Whether the crate may make a call: it names it, and the type that has it is seen; or a
         trait has it, and both are seen, or the trait is of no crate of these."""
-        if is_model(call) or (call.owner and call.owner not in self.types):
+        if is_model(call) or (call.owner and not self.has(call.crate, call.owner)):
             return False
-        if call.trait and (call.trait in self.types or call.trait not in self.traits):
+        if call.trait and (self.has(call.crate, call.trait) or call.trait not in self.traits):
             return True
         return call.path.split("::")[-1] in self.named
 
