@@ -68,7 +68,7 @@ abbrev chosen : Bool → Bool → Bool → Answer → Answer → Answer → Answ
 chosen asked out rules a b c d = cond (not asked) a (cond out b (cond rules c d))
 
 -- what holds of each answer that is given holds of the one that is chosen
-choose : (P : Answer → Type 0) (asked out rules : Bool) (a b c d : Answer) → P a → (out ≡ true → P b) → P c → P d
+pub choose : (P : Answer → Type 0) (asked out rules : Bool) (a b c d : Answer) → P a → (out ≡ true → P b) → P c → P d
     → P (chosen asked out rules a b c d)
 choose P false out rules a b c d x y z w = x
 choose P true true rules a b c d x y z w = y refl

@@ -4,6 +4,7 @@ pub mod KeptEntries
 pub mod LeftLemmas
 pub mod MiddleLemmas
 pub mod OneSurvey
+pub mod SomeSurvey
 pub mod SuitLemmas
 pub mod SurveyLemmas
 pub mod WorkedFaults

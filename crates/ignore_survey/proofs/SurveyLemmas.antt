@@ -22,7 +22,7 @@ use Rattle.ignore_survey.specs.Survey.Each.{none, fault, leaf, inner}
 
 -- the order of names is one in which two may tie, and so is that of listed things
 
-names_order : IsStrictWeakOrder (λ (a b : List ℕ). is_lt (slice_cmp nat_cmp a b))
+pub names_order : IsStrictWeakOrder (λ (a b : List ℕ). is_lt (slice_cmp nat_cmp a b))
 names_order = ranks_by nat_list_cmp_total (λ (a : List ℕ). a)
 
 pub things_order : IsStrictWeakOrder (comes_before (λ a b. is_lt (slice_cmp nat_cmp a b)))

@@ -1,6 +1,7 @@
 //! Laws of the definitions, as calls that do nothing: each contract is the law.
 ghost use Rattle.std.specs.Prelude.{◌≡◌, ◌↔◌, ◌<◌, List, ℕ, [], Ok, bytes_eq, codes, false, true};
 ghost use Rattle.ignore_dir.specs.Scene as below;
+ghost use Rattle.ignore_files.specs.Dirs.{IsNumbered};
 ghost use Rattle.ignore_survey.specs.Agreement.{IsKept, IsPlain};
 ghost use Rattle.ignore_survey.specs.Survey.{IsSurvey, Item};
 ghost use Rattle.ignore_walk.specs.Entry.{Entry as Walked, Item as WalkItem};
@@ -16,6 +17,15 @@ use ignore_walk::laws::{walk_agrees_with_queries, walk_yields_what_it_shows};
 pub fn one_survey()
     ensures { (g : below.QueryScene) (xs ys : List Item) → IsSurvey g xs → IsSurvey g ys → ys ≡ xs }
 {}
+
+/// Where the directories of a tree can be numbered (`IsNumbered`; for a tree in memory see
+/// `MemoryTree::is_numbered`), a survey of any root of it gives a list of items, and by `one_survey`
+/// one alone.
+pub fn some_survey()
+    ensures { (g : below.QueryScene) (n : ℕ) → IsNumbered g.tree n → (items : List Item) × IsSurvey g items }
+{
+    join_law();
+}
 
 /// The entries of a survey that aren't ignored are those of the walk of its root but the root itself,
 /// where that is a directory, and where the walk has the same settings, follows no links, filters
