@@ -74,30 +74,30 @@ class Checksums:
         for name in seen.below:
             seen.known |= {(name, it) for it in self.names(name)}
             seen.traits |= self.traits(name)
-            seen.imported[name] = self.imported(name)
         for name in seen.below:
             if name in crate.uses or name in named:
-                seen.see([name], named)
-                for target, words in self.handed(name, named):
+                for target, words in [(name, named), *self.handed(name, named)]:
                     seen.see([target], words)
+                    seen.functions |= {target} if words is named else set()
         grown = None
         while grown != len(seen.types):
             grown = len(seen.types)
             for name in seen.below:
+                files = dict(modules_of(self.crates[name]))
                 for modules, type_name, text in self.types(name):
                     if (name, type_name) in seen.types:
-                        seen.add(name, text)
+                        seen.add(name, text, self.imported(name, files[modules]))
                 for it in self.calls(name)[0]:
                     if seen.has_call(it):
-                        seen.add(name, it.head)
+                        seen.add(name, it.head, self.imported(name, it.file))
                 for own, other in self.aliases(name):
                     if seen.has(name, other):
-                        seen.add(name, own)
+                        seen.add(name, own, {})
         return seen
 
     def handed(self, name, named):
-        """What a crate hands on under names that are among these: a type with its crate; of a module
-        whatever is among these."""
+        """What a crate hands on under names that are among these: a type with its crate; of a module,
+        and where it is a function, whatever is among these."""
         for own, other in self.calls(name)[1]:
             target, last = other.split("::")[0], other.split("::")[-1]
             if is_named(own, named) and target in self.crates:
@@ -107,15 +107,26 @@ class Checksums:
         """The names of the types and traits of a crate, and those under which it hands on others."""
         return {it for _, it, _ in self.types(name)} | {it for one in self.aliases(name) for it in one}
 
-    def imported(self, name):
-        """The words of the paths by which a crate names what is in other crates."""
-        if name not in self.paths:
-            files = [file for _, file in modules_of(self.crates[name])]
-            text = "\n".join("\n".join(lines_of(f"{self.crates[name].folder}/{it}")) for it in files)
-            found = re.findall(r"\b(\w+)::((?:\w+::)*(?:\w+|\{[^;]*\}))", text)
-            named = {it for crate, path in found if crate in self.crates for it in re.findall(r"\w+", path)}
-            self.paths[name] = named
-        return self.paths[name]
+    def imported(self, name, file):
+        """The words of the paths by which a file of a crate names what is in other crates, each with
+        those of them that are the repository's; of words that it names by its own crate, or by no
+        path, those of the crate's first file."""
+        if (name, file) not in self.paths:
+            modules = dict(modules_of(self.crates[name]))
+            own = {"crate", "self", "super", *(it[-1] for it in modules if it)}
+            text = "\n".join(lines_of(f"{self.crates[name].folder}/{file}"))
+            found, inside = {}, set()
+            for crate, path in re.findall(r"\b([a-z]\w*)::((?:\w+::)*(?:\w+|\{[^;]*\}))", text):
+                words = re.findall(r"\w+", path)
+                inside |= set(words) if crate in own else set()
+                for word in words if crate not in own else ():
+                    found.setdefault(word, set()).update({crate} & set(self.crates))
+            if file != modules[()]:
+                first = self.imported(name, modules[()])
+                found = {it: ones | first.get(it, set()) for it, ones in found.items() if it not in inside}
+                found = {**first, **found}
+            self.paths[name, file] = found
+        return self.paths[name, file]
 
     def traits(self, name):
         """The names of the traits of a crate."""
@@ -174,23 +185,25 @@ class Seen:
     def __init__(self, named, below):
         self.named, self.below = named, list(below)
         self.around = {name: [*others, name] for name, others in below.items()}
-        self.types, self.traits, self.known, self.imported = set(), set(), set(), {}
+        self.types, self.traits, self.known, self.functions = set(), set(), set(), set()
 
     def see(self, names, words):
         """Adds what these crates have under these words."""
         self.types |= {(it, word) for it in names for word in words} & self.known
 
-    def add(self, name, text):
-        """Adds what a head or a type of a crate names: of itself, or, where it has none of that name or
-        imports one, also of the crates below it."""
-        words = set(re.findall(r"\b[A-Z]\w*", text))
-        own = {it for it in words if (name, it) in self.known} - self.imported[name]
-        self.see([name], own)
-        self.see(self.around[name], words - own)
+    def add(self, name, text, imported):
+        """Adds what a head or a type in a file of a crate names, of which the file imports these words
+        of these crates: of them, of itself, or, where there are none, of the crates below it."""
+        for word in set(re.findall(r"\b[A-Z]\w*", text)):
+            own = {name} if (name, word) in self.known else set()
+            others = imported.get(word, () if own else self.around[name])
+            self.see({*own, *others, *(it for one in others for it in self.around[one])}, {word})
 
     def has(self, name, word):
-        """Whether a type or trait is seen that a crate has, or one of the crates below it."""
-        return any((it, word) in self.types for it in self.around[name])
+        """Whether a type or trait is seen that a crate has, or, where it has none of that name, one of
+        the crates below it."""
+        around = [name] if (name, word) in self.known else self.around[name]
+        return any((it, word) in self.types for it in around)
 
     def has_call(self, call):
         """Whether the crate may make a call: it names it, and the type that has it is seen; or a
@@ -199,6 +212,8 @@ class Seen:
             return False
         if call.trait and (self.has(call.crate, call.trait) or call.trait not in self.traits):
             return True
+        if not call.owner and call.crate not in self.functions:
+            return False
         return call.path.split("::")[-1] in self.named
 
 
