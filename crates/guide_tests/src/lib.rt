@@ -6,6 +6,8 @@ mod asked;
 #[cfg(test)]
 mod left;
 #[cfg(test)]
+mod listed;
+#[cfg(test)]
 mod stood;
 #[cfg(test)]
 mod teller;

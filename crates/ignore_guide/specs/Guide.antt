@@ -1,5 +1,6 @@
 -- What a place of a guide stands for, and what becomes of an entry there.
 use Rattle.std.specs.Prelude.{◌≡◌, ◌≢◌, ℕ, Bool, false, nat_lt, All, List, [], ◌∷◌, ◌++◌, length, reverse, Option, None, Some, Result, Ok, Err, if◌then◌else◌}
+use Rattle.ignore_base.specs.Paths.{join_of}
 use Rattle.ignore_base.specs.Text.{Bytes, Path}
 use Rattle.ignore_base.specs.Problem.{Problem}
 use Rattle.ignore_base.specs.Match.{match_map}
@@ -29,6 +30,8 @@ use Rattle.ignore_levels.specs.declared.list.Slot.{Slot}
 use Rattle.ignore_why.specs.Cited.{Cited, cited}
 use Rattle.ignore_guide.specs.Names.{is_name}
 use Rattle.ignore_guide.specs.Places.{entered_at}
+use Rattle.ignore_guide.specs.declared.error.GuideError.{GuideError}
+use Rattle.ignore_guide.specs.declared.error.GuideError.TheVariants as error
 use Rattle.ignore_guide.specs.declared.guide.Guide.{Guide}
 use Rattle.ignore_guide.specs.declared.judge.Entry.{Entry}
 use Rattle.ignore_guide.specs.declared.places.Entered.{Entered}
@@ -40,6 +43,11 @@ pub record Stands (slots : List Slot) (dir : Entered) (at : Reached) : Type 0 wh
   pub inside : All (λ p. IsAfterSlash at.text p.1) (counting at.chain)
   pub text : dir.text ≡ at.text
   pub path : dir.path ≡ at.path
+
+-- the texts by which rules know an entry of a directory: its path as the directories around it see
+-- it, and its path
+abbrev pub AreTexts : Entered → Bytes → Bytes → Path → Type 0
+AreTexts dir name text path = (text ≡ dir.text ++ name) × (path ≡ join_of dir.path name)
 
 -- a place stands for the directory that is reached, whose entries are so many names below the root
 pub record StandsFor (g : Guide) (place : Place) (depth : ℕ) (at : Reached) : Type 0 where
@@ -56,6 +64,13 @@ KeepsPlaces old new = (place : Place) (depth : ℕ) (at : Reached) → StandsFor
 pub record IsSameGuide (old new : Guide) : Type 0 where
   pub settings : new.settings ≡ old.settings
   pub outside : new.outside ≡ old.outside
+
+-- after an error nothing changed, unless memory ran out
+abbrev pub IsUnchanged : GuideError → Guide → Guide → Type 0
+IsUnchanged error.Memory old new = Unit {0}
+IsUnchanged error.NoPlace old new = new ≡ old
+IsUnchanged error.NoName old new = new ≡ old
+IsUnchanged error.HasChildren old new = new ≡ old
 
 -- what is reached, with what the directory there holds: it is the nearest, and a slash follows in
 -- the text

@@ -12,7 +12,7 @@ ghost use Rattle.ignore_dir.specs.Steps.{Reached, entered, entry, reached_in};
 ghost use Rattle.ignore_dir.specs.declared.dir.Dir.{Dir};
 ghost use Rattle.ignore_files.specs.Gives.{IsHonest};
 ghost use Rattle.ignore_files.specs.Tree.{Tree};
-ghost use Rattle.ignore_guide.specs.Guide.{AreApart, InGuide, IsRootBy, IsSameGuide, KeepsPlaces, StandsFor, holding, root_reached};
+ghost use Rattle.ignore_guide.specs.Guide.{AreApart, InGuide, IsRootBy, IsSameGuide, IsUnchanged, KeepsPlaces, StandsFor, holding, root_reached};
 ghost use Rattle.ignore_guide.specs.Names.{IsAsked, IsLeft, IsNotLeft, IsRefused};
 ghost use Rattle.ignore_guide.specs.Places.{IsGone, entered_at};
 ghost use Rattle.ignore_guide.specs.declared.error.GuideError.TheVariants.{Memory};
@@ -175,6 +175,7 @@ impl Guide {
         ensures same { IsSameGuide self.old self.new }
         ensures there { IfOk result (λ r. IsAsked self.old.places parent name.now) }
         ensures refused { IfErr result (λ e. IsRefused self.old.places parent name.now e) }
+        ensures unchanged { IfErr result (λ e. IsUnchanged e self.old self.new) }
     {
         let Some(dir) = self.places.get(parent) else {
             return Err(GuideError::NoPlace);

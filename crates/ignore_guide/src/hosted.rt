@@ -1,7 +1,7 @@
 //! A guide whose host is asked for what it needs, one path at a time.
 ghost use Rattle.std.specs.Prelude.{◌≡◌, IfErr, IfOk, List, OnOk, Some, string_bytes, ℕ};
 ghost use Rattle.std.specs.BTreeMap.{get_by_text};
-ghost use Rattle.ignore_guide.specs.Guide.{IsSameGuide, KeepsPlaces};
+ghost use Rattle.ignore_guide.specs.Guide.{IsSameGuide, IsUnchanged, KeepsPlaces};
 ghost use Rattle.ignore_guide.specs.Hosted.{CallRefused, Comes, IsToldOf, StepGives, kind_answer, path_answer, read_answer, told_more};
 ghost use Rattle.ignore_guide.specs.Names.{IsAsked, IsRefused};
 ghost use Rattle.ignore_guide.specs.Places.{IsGone};
@@ -16,7 +16,8 @@ use crate::guide::{Arrived, Guide};
 use crate::judge::is_name;
 use crate::missing::{By, Question, Wanted, missing_at_root, missing_in};
 use crate::places::{Entered, Place};
-use crate::told::{Told, lacked_in};
+use crate::survey::{Listed, Survey};
+use crate::told::Told;
 use ignore_base::Fault;
 use ignore_base::internal::join;
 use ignore_files::{Bytes, Contents, FileType, Files, Metadata, Name};
@@ -42,6 +43,8 @@ pub struct Waiting {
     pub question: Question,
     /// What it is asked afterwards.
     pub rest: Vec<Question>,
+    /// Whether nothing else is missing then.
+    pub is_all: bool,
 }
 
 /// How far a call has come.
@@ -97,6 +100,7 @@ impl Guide {
     fn come(&mut self, call: &Call, told: &Told) -> Result<Arrived, GuideError>
         ensures comes { IfOk result (λ r. Comes ⟦<Told as Files>⟧ told.now call.now self.old r self.new) }
         ensures refused { IfErr result (λ e. CallRefused self.old.places call.now e) }
+        ensures unchanged { IfErr result (λ e. IsUnchanged e self.old self.new) }
         ensures kept { KeepsPlaces self.old self.new }
         ensures gone { (place : Place) → IsGone self.old.places place → IsGone self.new.places place }
         ensures same { IsSameGuide self.old self.new }
@@ -109,9 +113,16 @@ impl Guide {
 
     /// Goes on with a call: its host is asked where something is missing, and else the directory is
     /// loaded.
-    fn go(&mut self, call: Call, told: Told, rest: Vec<Question>) -> Result<Step, GuideError>
+    fn go(
+        &mut self,
+        call: Call,
+        told: Told,
+        rest: Vec<Question>,
+        is_all: bool,
+    ) -> Result<Step, GuideError>
         ensures gives { IfOk result (λ step. StepGives ⟦<Told as Files>⟧ call told self.old step self.new) }
         ensures refused { IfErr result (λ e. CallRefused self.old.places call e) }
+        ensures unchanged { IfErr result (λ e. IsUnchanged e self.old self.new) }
         ensures kept { KeepsPlaces self.old self.new }
         ensures gone { (place : Place) → IsGone self.old.places place → IsGone self.new.places place }
         ensures same { IsSameGuide self.old self.new }
@@ -123,15 +134,21 @@ impl Guide {
                 told,
                 question,
                 rest,
+                is_all,
             }));
         }
-        let mut missing = self.missing(&call, &told)?;
+        let mut missing = if is_all {
+            Vec::new(self.alloc)
+        } else {
+            self.missing(&call, &told)?
+        };
         if let Some(question) = missing.pop() {
             return Ok(Step::Wants(Waiting {
                 call,
                 told,
                 question,
                 rest: missing,
+                is_all,
             }));
         }
         let arrived = self.come(&call, &told)?;
@@ -152,7 +169,7 @@ impl Guide {
     {
         let root = Name::from_str(self.alloc, root)?;
         let told = Told::nothing(self.alloc);
-        self.go(Call::Root(root), told, Vec::new(self.alloc))
+        self.go(Call::Root(root), told, Vec::new(self.alloc), false)
     }
 
     /// Enters the directory of a name in the one at a place, as `enter`, by what its host is asked.
@@ -173,6 +190,7 @@ impl Guide {
         ensures same { IsSameGuide self.old self.new }
         ensures there { IfOk result (λ step. IsAsked self.old.places parent name.now) }
         ensures refused { IfErr result (λ e. IsRefused self.old.places parent name.now e) }
+        ensures unchanged { IfErr result (λ e. IsUnchanged e self.old self.new) }
     {
         let Some(dir) = self.places.get(parent) else {
             return Err(GuideError::NoPlace);
@@ -180,9 +198,15 @@ impl Guide {
         if !is_name(name) {
             return Err(GuideError::NoName);
         }
-        let told = self.told_at_first(dir, name, names)?;
+        let survey = self.survey(dir, name, names)?;
+        let told = Told::lacking(self.alloc, survey.lacked);
         let name = Name::from_str(self.alloc, name)?;
-        self.go(Call::Enter(parent, name), told, Vec::new(self.alloc))
+        self.go(
+            Call::Enter(parent, name),
+            told,
+            survey.questions,
+            survey.is_all,
+        )
     }
 
     /// Takes down what its host tells of the path that it was asked about, and goes on with the call.
@@ -194,31 +218,32 @@ impl Guide {
         ensures gives { IfOk result (λ step. (told : Told) × IsToldOf waiting.question given.now waiting.told told
             × StepGives ⟦<Told as Files>⟧ waiting.call told self.old step self.new) }
         ensures refused { IfErr result (λ e. CallRefused self.old.places waiting.call e) }
+        ensures unchanged { IfErr result (λ e. IsUnchanged e self.old self.new) }
         ensures kept { KeepsPlaces self.old self.new }
         ensures gone { (place : Place) → IsGone self.old.places place → IsGone self.new.places place }
         ensures same { IsSameGuide self.old self.new }
     {
         let mut told = waiting.told;
         take_down(self.alloc, &mut told, &waiting.question, given)?;
-        self.go(waiting.call, told, waiting.rest)
+        self.go(waiting.call, told, waiting.rest, waiting.is_all)
     }
 
-    /// What is told of a directory at first: what it lacks, by the names that it lists.
-    fn told_at_first(
+    /// What the names that a directory lists say, where they are told.
+    fn survey(
         &self,
         dir: &Entered,
         name: &str,
         names: Option<&[&str]>,
-    ) -> Result<Told, AllocError>
-        ensures { IfOk result (λ told. IsAlmostFresh told) }
-    {
+    ) -> Result<Survey, AllocError> {
         let Some(names) = names else {
-            return Ok(Told::lacking(self.alloc, Vec::new(self.alloc)));
+            return Ok(Survey::nothing(self.alloc));
         };
         let path = join(self.alloc, dir.path.as_str(), name)?;
-        let custom = self.settings.custom.as_slice();
-        let lacked = lacked_in(self.alloc, custom, path.as_str(), names)?;
-        Ok(Told::lacking(self.alloc, lacked))
+        let listed = Listed {
+            dir: path.as_str(),
+            names,
+        };
+        Survey::of(self.alloc, &self.settings, listed)
     }
 }
 

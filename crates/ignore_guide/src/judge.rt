@@ -1,9 +1,10 @@
 //! What becomes of an entry of a directory that was entered.
-ghost use Rattle.std.specs.Prelude.{◌≡◌, ◌++◌, ℕ, Bool, IfOk, IfErr, IsSome, false, map, string_bytes};
+ghost use Rattle.std.specs.Prelude.{◌≡◌, ◌++◌, [], ℕ, Bool, IfOk, IfErr, IsSome, OnOk, false, map, string_bytes};
 ghost use Rattle.ignore_base.specs.Paths.{join_of};
 ghost use Rattle.ignore_dir.specs.Limits.{size_limit};
 ghost use Rattle.ignore_dir.specs.Steps.{Reached, entry, verdict_at};
-ghost use Rattle.ignore_guide.specs.Guide.{Stands, StandsFor, cause_at, decided, decided_listed, is_over, why_at, within};
+ghost use Rattle.ignore_base.specs.Text.{Bytes};
+ghost use Rattle.ignore_guide.specs.Guide.{AreTexts, Stands, StandsFor, cause_at, decided, decided_listed, is_over, why_at, within};
 ghost use Rattle.ignore_guide.specs.Names.{IsAsked, IsNoPlace, IsRefused, is_name};
 ghost use Rattle.ignore_guide.specs.Places.{entered_at};
 ghost use Rattle.ignore_base.specs.Match.{match_map};
@@ -63,10 +64,32 @@ struct Texts {
     path: String,
 }
 
+/// How many bytes a name has at most on most file systems. Longer ones take another allocation.
+const NAME_BYTES: usize = 255;
+
+impl Texts {
+    /// With room for the names after these texts.
+    fn after(alloc: Global, text: &str, path: &str) -> Result<Texts, AllocError> {
+        Ok(Texts {
+            text: String::with_capacity(alloc, text.len().saturating_add(NAME_BYTES))?,
+            path: String::with_capacity(alloc, path.len().saturating_add(NAME_BYTES))?,
+        })
+    }
+}
+
+/// Makes a text another with a name after it.
+fn put_after(text: &mut String, around: &str, name: &str) -> Result<(), AllocError>
+    ensures { OnOk result (string_bytes text.new ≡ around.now ++ name.now) }
+{
+    text.clear();
+    text.push_str(around)?;
+    text.push_str(name)?;
+    Ok(())
+}
+
 /// The texts of the name of a directory.
 fn texts_of(alloc: Global, dir: &Entered, name: &str) -> Result<Texts, AllocError>
-    ensures text { IfOk result (λ texts. string_bytes texts.text ≡ dir.now.text ++ name.now) }
-    ensures path { IfOk result (λ texts. string_bytes texts.path ≡ join_of dir.now.path name.now) }
+    ensures { IfOk result (λ texts. AreTexts dir.now name.now (string_bytes texts.text) (string_bytes texts.path)) }
 {
     let text = followed_by(alloc, dir.text.as_str(), name)?;
     let path = join(alloc, dir.path.as_str(), name)?;
@@ -111,44 +134,54 @@ fn within(settings: &Settings, is_dir: bool, size: Option<u64>, verdict: Verdict
 }
 
 impl Guide {
-    /// What the rules say of an entry of a directory.
-    fn verdict_in(&self, dir: &Entered, name: &str, is_dir: bool) -> Result<Verdict, AllocError>
-        ensures value { (at : Reached) → Stands (slots_of self.now.levels) dir.now at
-            → IfOk result (λ v. v ≡ verdict_at self.now.settings self.now.outside (entry at name.now) is_dir) }
+    /// What the rules say of an entry of a directory, by its texts.
+    fn verdict_in(&self, dir: &Entered, texts: &Texts, is_dir: bool) -> Result<Verdict, AllocError>
+        ensures value { (at : Reached) (name : Bytes) → Stands (slots_of self.now.levels) dir.now at → AreTexts dir.now name (string_bytes texts.now.text) (string_bytes texts.now.path)
+            → IfOk result (λ v. v ≡ verdict_at self.now.settings self.now.outside (entry at name) is_dir) }
     {
         what_counts_decides();
-        let texts = texts_of(self.alloc, dir, name)?;
-        let asked = asked_by(&texts, is_dir);
+        let asked = asked_by(texts, is_dir);
         let level = dir.level;
         verdict(&self.settings, &self.outside, &self.levels, level, &asked)
     }
 
-    /// What becomes of an entry of a directory.
-    fn decide_in(&self, dir: &Entered, asked: &Entry<'_>) -> Result<IncrementalMatch, AllocError>
-        ensures value { (at : Reached) → Stands (slots_of self.now.levels) dir.now at
+    /// What becomes of an entry of a directory, by its texts.
+    fn decide_in(
+        &self,
+        dir: &Entered,
+        texts: &Texts,
+        asked: &Entry<'_>,
+    ) -> Result<IncrementalMatch, AllocError>
+        ensures value { (at : Reached) → Stands (slots_of self.now.levels) dir.now at → AreTexts dir.now asked.now.name.now (string_bytes texts.now.text) (string_bytes texts.now.path)
             → IfOk result (λ m. m ≡ decided self.now.settings self.now.outside dir.now.depth at asked.now.name.now asked.now.is_dir asked.now.size) }
     {
         if is_beyond(&self.settings, dir.depth, asked.is_dir) {
             return Ok(IncrementalMatch::beyond());
         }
-        let found = self.verdict_in(dir, asked.name, asked.is_dir)?;
+        let found = self.verdict_in(dir, texts, asked.is_dir)?;
         let found = within(&self.settings, asked.is_dir, asked.size, found);
         Ok(IncrementalMatch::limited(&self.settings, dir.depth, asked.is_dir, found))
     }
 
     /// What becomes of an entry as it is listed, where nothing decides on what has no name: `.`, say.
+    /// What the texts were doesn't matter.
+    #[tactic(auto, using(crate::proofs::NameLemmas::name_joined))]
     fn decide_listed(
         &self,
         dir: &Entered,
+        below: &str,
+        texts: &mut Texts,
         asked: &Entry<'_>,
     ) -> Result<IncrementalMatch, AllocError>
-        ensures value { (at : Reached) → Stands (slots_of self.now.levels) dir.now at
+        ensures value { below.now ≡ join_of dir.now.path [] → (at : Reached) → Stands (slots_of self.now.levels) dir.now at
             → IfOk result (λ m. m ≡ decided_listed self.now.settings self.now.outside dir.now.depth at asked.now) }
     {
         if !is_name(asked.name) {
             return Ok(IncrementalMatch::no_match(false));
         }
-        self.decide_in(dir, asked)
+        put_after(&mut texts.text, dir.text.as_str(), asked.name)?;
+        put_after(&mut texts.path, below, asked.name)?;
+        self.decide_in(dir, texts, asked)
     }
 
     /// What becomes of each of some entries as they are listed.
@@ -160,9 +193,11 @@ impl Guide {
         ensures value { (at : Reached) → Stands (slots_of self.now.levels) dir.now at
             → IfOk result (λ all. all.items ≡ map (decided_listed self.now.settings self.now.outside dir.now.depth at) listed.now) }
     {
+        let below = join(self.alloc, dir.path.as_str(), "")?;
+        let mut texts = Texts::after(self.alloc, dir.text.as_str(), below.as_str())?;
         let mut all = Vec::with_capacity(self.alloc, listed.len())?;
         for asked in listed {
-            let found = self.decide_listed(dir, asked)?;
+            let found = self.decide_listed(dir, below.as_str(), &mut texts, asked)?;
             all.push(found)?;
         }
         Ok(all)
@@ -186,7 +221,8 @@ impl Guide {
         if !is_name(asked.name) {
             return Err(GuideError::NoName);
         }
-        Ok(self.decide_in(dir, asked)?)
+        let texts = texts_of(self.alloc, dir, asked.name)?;
+        Ok(self.decide_in(dir, &texts, asked)?)
     }
 
     /// What becomes of each of some entries of the directory at a place, in their order, as `decide`

@@ -12,6 +12,7 @@ pub mod laws;
 mod missing;
 mod open;
 mod places;
+mod survey;
 mod told;
 
 pub use error::GuideError;

@@ -2,7 +2,8 @@
 //!
 //! The load is tried over what was told. What wasn't told is noted, and taken for missing, and a file
 //! of rules for an empty one, so that no file is parsed: a `.git` file and `commondir`, which lead on
-//! to others, are the only ones whose bytes matter here.
+//! to others, are the only ones whose bytes matter here. Where a listing shows that no repository
+//! begins in a directory, its names alone say what is asked (`survey`).
 use crate::told::{Told, copied};
 use ignore_base::Fault;
 use ignore_base::text::file_name;
@@ -43,8 +44,8 @@ struct Search<'t> {
     missing: RefCell<Vec<Question>>,
 }
 
-/// Whether a question is among some.
-fn is_among(questions: &[Question], path: &str) -> bool {
+/// Whether one of some questions is of a path.
+pub(crate) fn is_asked(questions: &[Question], path: &str) -> bool {
     for question in questions {
         if question.path.as_str() == path {
             return true;
@@ -60,7 +61,7 @@ fn add(
     wanted: Wanted,
     path: &str,
 ) -> Result<(), AllocError> {
-    if is_among(questions.as_slice(), path) {
+    if is_asked(questions.as_slice(), path) {
         return Ok(());
     }
     let path = Name::from_str(alloc, path)?;
@@ -226,4 +227,22 @@ pub fn missing_outside(alloc: Global, told: &Told, env: &Env) -> Result<Vec<Ques
         }
     }
     Ok(missing)
+}
+
+/// Adds what is still to be asked before files of rules at some paths can be read. For dependents.
+///
+/// # Errors
+/// Out of memory.
+pub fn missing_files(
+    alloc: Global,
+    told: &Told,
+    paths: &[Name],
+    missing: &mut Vec<Question>,
+) -> Result<(), AllocError> {
+    for path in paths {
+        if told.reads.get(path.as_str()).is_none() {
+            add(alloc, missing, Wanted::File, path.as_str())?;
+        }
+    }
+    Ok(())
 }

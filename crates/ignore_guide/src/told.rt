@@ -1,15 +1,14 @@
 //! What a host told: files whose answers are those that it gave.
-ghost use Rattle.std.specs.Prelude.{◌≡◌, IfOk, List, None, OnOk, Some, is_some, map, string_bytes, ℕ, if◌then◌else◌};
+ghost use Rattle.std.specs.Prelude.{◌≡◌, IfOk, List, None, OnOk, Some, drop, false, is_some, length, map, string_bytes, ℕ, if◌then◌else◌};
 ghost use Rattle.std.specs.BTreeMap.{get_by_text};
 ghost use Rattle.std.specs.List.{list_any};
 ghost use Rattle.std.specs.Option.{option_copied};
 ghost use Rattle.std.specs.Str.{bytes_eq};
-ghost use Rattle.ignore_base.specs.Paths.{strip_prefix_of};
+ghost use Rattle.ignore_base.specs.Paths.{at_bound, strip_prefix_of};
 ghost use Rattle.ignore_guide.specs.Told.{IsAlmostFresh, IsFresh, is_absent};
 
 use ignore_base::Fault;
-use ignore_base::internal::join;
-use ignore_base::text::{has_slash, is_proper, strip_prefix};
+use ignore_base::text::strip_prefix;
 use ignore_files::{Bytes, Contents, Files, Identity, Listing, Metadata, Name, Refusal};
 use std::alloc::{AllocError, Global};
 use std::collections::BTreeMap;
@@ -27,10 +26,27 @@ pub struct Told {
     pub lacked: Vec<String>,
 }
 
+/// Whether what follows as much of a path as another is long is empty or begins with a slash, or
+/// there is no such part: else the path is neither the other one nor below it, whatever its first
+/// part is, which takes longer to compare.
+fn may_reach(lacked: &str, path: &str) -> bool
+    ensures { result ≡ false → at_bound lacked.now (drop (length lacked.now) path.now) ≡ false }
+{
+    match path.get(lacked.len()..) {
+        Some(rest) => {
+            rest.is_empty() || rest.starts_with('/') || lacked.is_empty() || lacked.ends_with('/')
+        }
+        None => true,
+    }
+}
+
 /// Whether a path is one at which nothing is, or below it.
 fn is_absent(lacked: &str, path: &str) -> bool
     ensures { result ≡ is_absent lacked.now path.now }
 {
+    if !may_reach(lacked, path) {
+        return false;
+    }
     match strip_prefix(lacked, path) {
         Some(_) => true,
         None => false,
@@ -38,24 +54,10 @@ fn is_absent(lacked: &str, path: &str) -> bool
 }
 
 /// Whether nothing is at a path, since it is one of these, or below one.
-fn is_among(lacked: &[String], path: &str) -> bool
+pub(crate) fn is_among(lacked: &[String], path: &str) -> bool
     ensures { result ≡ list_any (λ l. is_absent (string_bytes l) path.now) lacked.now }
 {
     lacked.iter().any(|other| is_absent(other.as_str(), path))
-}
-
-/// Whether a listing shows that nothing has a name, which is plain: each name in it is another, ASCII
-/// case not regarded.
-fn is_lacked(names: &[&str], name: &str) -> bool {
-    if !is_proper(name) || has_slash(name) || !name.is_ascii() {
-        return false;
-    }
-    for other in names {
-        if other.eq_ignore_ascii_case(name) {
-            return false;
-        }
-    }
-    true
 }
 
 impl Told {
@@ -138,37 +140,6 @@ impl Told {
         self.paths.insert(path, answer)?;
         Ok(())
     }
-}
-
-/// Adds the path of a name in a directory that a listing of it lacks.
-fn add_lacked(
-    alloc: Global,
-    lacked: &mut Vec<String>,
-    dir: &str,
-    name: &str,
-    names: &[&str],
-) -> Result<(), AllocError> {
-    if is_lacked(names, name) {
-        lacked.push(join(alloc, dir, name)?)?;
-    }
-    Ok(())
-}
-
-/// The paths at which nothing is of all that decides in a directory, by the names that it lists.
-pub(crate) fn lacked_in(
-    alloc: Global,
-    custom: &[Name],
-    dir: &str,
-    names: &[&str],
-) -> Result<Vec<String>, AllocError> {
-    let mut lacked = Vec::new(alloc);
-    for name in custom {
-        add_lacked(alloc, &mut lacked, dir, name.as_str(), names)?;
-    }
-    for name in [".ignore", ".gitignore", ".git", ".jj"] {
-        add_lacked(alloc, &mut lacked, dir, name, names)?;
-    }
-    Ok(lacked)
 }
 
 /// A copy of what was read.

@@ -8,7 +8,7 @@ use Rattle.ignore_guide.proofs.guide.Guide.ask_enter.Goals as goal
 pub returns-clause-gives : goal.returns-clause-gives
 returns-clause-gives c =
     IfOk-weaker c.go.result _ _ (λ step h. (
-      c.in_ok-told.told,
-      c.in_ok-told.ensures,
-      subst (λ (p : List ℕ). StepGives ghosts (call.Enter c.args.parent p) c.in_ok-told.told c.args.self.now step c.go.new.self) c.in_ok-name.ensures h,
+      c.lacking-told.result,
+      c.lacking-told.ensures.fresh,
+      subst (λ (p : List ℕ). StepGives ghosts (call.Enter c.args.parent p) c.lacking-told.result c.args.self.now step c.go.new.self) c.in_ok-name.ensures h,
     )) c.go.ensures.gives
