@@ -1,14 +1,16 @@
 -- A table of pairs is right for the rules of both tables, and a table of sets for its rule.
 use Rattle.std.proofs.Common.{◌≡◌, ℕ, ◌+◌, ◌<◌, ◌≤◌, Bool, true, false, List, [], ◌∷◌, ◌++◌, Option, None, Some, slice_get, arith, refl}
-use Rattle.std.proofs.Common.{sym, ap, subst, ◌∙◌, cond, ltb, inl, inr}
+use Rattle.std.proofs.Common.{sym, subst, cond, ltb, inl, inr}
 use Rattle.std.specs.Option.{option_or}
 use Rattle.std.proofs.lemmas.Bool.{cases_lt, cond_below, cond_above}
 use Rattle.ignore_base.specs.Text.{Chars}
+use Rattle.ignore_glob.specs.DoesMatch.{does_match}
 use Rattle.ignore_glob.specs.PositionSets.{IsSetAfter}
 use Rattle.ignore_glob.specs.Reading.{Reading}
 use Rattle.ignore_rules.specs.Answer.{does_apply}
 use Rattle.ignore_rules.specs.Rules.{Rule}
-use Rattle.ignore_every.specs.Machines.{AreSetsAfter, IsLastOf, Table, IsRight, IsRightTable, IsPairing, IsLeaf}
+use Rattle.ignore_every.specs.Machines.{AreSetsAfter, IsLastOf, IsIn, HasTaking, Table, IsRightTable, IsPairing, IsLeaf}
+use Rattle.ignore_every.proofs.Pushes.{slice_get_front, slice_get_back}
 
 module _ (rules : List Rule) (low mid high : ℕ) (order : low ≤ mid) (more : mid ≤ high) where
   -- the sets of both
@@ -47,6 +49,13 @@ module _ (rules : List Rule) (low mid high : ℕ) (order : low ≤ mid) (more : 
   last_of_both text is_dir None None left right =
       λ i rule lo hi at. elim (cases_lt i mid) [ inl h ↦ left i rule lo h at | inr h ↦ right i rule h hi at ]
 
+  both_taking : (text : Chars) (x y : List ℕ) → HasTaking rules low mid text x → HasTaking rules mid high text y
+      → HasTaking rules low high text (x ++ y)
+  both_taking text x y left right i rule lo hi at takes = elim (cases_lt i mid) [
+    | inl h ↦ (let there = left i rule lo h at takes in (there.0, slice_get_front x y there.0 i there.1))
+    | inr h ↦ (let there = right i rule h hi at takes in slice_get_back x y there.0 i there.1)
+  ]
+
   pub pairing_right : (letters : List ℕ) (left right table : Table) (parts : ℕ → ℕ × ℕ) → IsRightTable rules letters low mid left
       → IsRightTable rules letters mid high right → IsPairing left right parts table → IsRightTable rules letters low high table
   pairing_right letters left right table parts l r pairing =
@@ -68,6 +77,12 @@ module _ (rules : List Rule) (low mid high : ℕ) (order : low ≤ mid) (more : 
               (last_of_both text is_dir from.0 from.1
               (l.1.decides (parts s).0 is_dir from.0 from.2 text (left_sets (l.0 (parts s).0) (r.0 (parts s).1) text all))
               (r.1.decides (parts s).1 is_dir from.1 from.3 text (right_sets (l.0 (parts s).0) (r.0 (parts s).1) text all))));
+          takes = λ s known is text all.
+              (let from = pairing.takes s known is in
+              subst (λ o. HasTaking rules low high text o) (sym from.4)
+              (both_taking text from.0 from.1
+              (l.1.takes (parts s).0 from.0 from.2 text (left_sets (l.0 (parts s).0) (r.0 (parts s).1) text all))
+              (r.1.takes (parts s).1 from.1 from.3 text (right_sets (l.0 (parts s).0) (r.0 (parts s).1) text all))));
         },
       )
 
@@ -96,6 +111,13 @@ module _ (rules : List Rule) (index : ℕ) (rule : Rule) (place : slice_get rule
   one_last text is_dir false e =
       λ i other lo hi at. subst (λ r. does_apply text is_dir r ≡ false) (only i other lo hi at) e
 
+  one_taking : (text : Chars) (known : List ℕ) → (does_match rule.reading text ≡ true → IsIn known index)
+      → HasTaking rules index (index + 1) text known
+  one_taking text known has i other lo hi at takes =
+      let same : index ≡ i = omega (arith, lo, hi) in
+      let own : other ≡ rule = sym (only i other lo hi at) in
+      subst (λ k. IsIn known k) same (has (subst (λ (r : Rule). does_match r.reading text ≡ true) own takes))
+
   pub leaf_right : (letters : List ℕ) (sets : ℕ → List Bool) (table : Table) → IsLeaf letters index rule.is_only_dir rule.reading sets table
       → IsRightTable rules letters index (index + 1) table
   leaf_right letters sets table leaf = (
@@ -106,6 +128,7 @@ module _ (rules : List Rule) (index : ℕ) (rule : Rule) (place : slice_get rule
       decides = λ s is_dir k is text all.
           subst (λ o. IsLastOf rules index (index + 1) text is_dir o) (sym (leaf.decides s is_dir k is text (one_set (sets s) text all)))
           (one_last text is_dir (does_apply text is_dir rule) refl);
+      takes = λ s known is text all. one_taking text known (leaf.takes s known is text (one_set (sets s) text all));
     },
   )
 
@@ -132,3 +155,17 @@ two_right rules letters low a b c d high starts meet ends order more left right 
     let p2 : IsPairing left right' parts table = subst (λ x. IsPairing x right' parts table) same_left pairing in
     let p3 : IsPairing left right parts table = subst (λ x. IsPairing left x parts table) same_right p2 in
     pairing_right rules low b high order more letters left right table parts l2 r3 p3
+
+-- the table of no rules
+pub none_right : (rules : List Rule) (letters : List ℕ) (low high : ℕ) → low ≡ high → (table : Table)
+    → ((s : ℕ) (is_dir : Bool) (k : Option ℕ) → table.decider s is_dir ≡ Some k → k ≡ None) → IsRightTable rules letters low high table
+none_right rules letters low high same table undecided = (
+  λ s i. [],
+  record {
+    first = λ i rule lo hi at. absurd (omega (arith, lo, hi, same));
+    steps = λ s a t c goes at text all i rule lo hi is. absurd (omega (arith, lo, hi, same));
+    decides = λ s is_dir k is text all.
+        subst (λ o. IsLastOf rules low high text is_dir o) (sym (undecided s is_dir k is)) (λ i rule lo hi at. absurd (omega (arith, lo, hi, same)));
+    takes = λ s known is text all i rule lo hi at does. absurd (omega (arith, lo, hi, same));
+  },
+)

@@ -1,11 +1,11 @@
 -- A path that is walked to the end of a name is one that is asked about.
-use Rattle.std.proofs.Common.{◌≡◌, ◌≢◌, ℕ, Bool, true, false, List, [], ◌∷◌, ◌++◌, All, refl, sym, ap, subst, ◌∙◌, append_assoc, ◌⊎◌, inl, inr, cond, eqb}
+use Rattle.std.proofs.Common.{◌≡◌, ℕ, Bool, true, false, List, [], ◌∷◌, ◌++◌, All, refl, sym, ap, subst, ◌∙◌, append_assoc, ◌⊎◌, inl, inr, cond, eqb}
 use Rattle.std.specs.Char.{IsScalar}
 use Rattle.std.proofs.lemmas.Bool.Decides.{Decides-eqb}
-use Rattle.std.proofs.lemmas.List.Elements.{All-nil, All-cons, All-push, All-head, All-tail}
+use Rattle.std.proofs.lemmas.List.Elements.{All-nil, All-push, All-head, All-tail}
 use Rattle.ignore_base.specs.Text.{Chars, slash, is_slash}
 use Rattle.ignore_rules.specs.Rules.{Rule}
-use Rattle.ignore_every.specs.Questions.{IsNameCharacter, IsCleanName, path_of, IsClean, IsIgnored, HasNoIgnoredAncestor, IsReached, IsAsked}
+use Rattle.ignore_every.specs.Questions.{IsNameCharacter, IsCleanName, path_of, IsClean, IsIgnored, HasNoIgnoredAncestor, IsAsked}
 use Rattle.ignore_every.specs.Names.{after_dot, name_after, is_named, IsNext}
 use Rattle.ignore_every.specs.declared.place.NameStart.{NameStart}
 use Rattle.ignore_every.specs.declared.place.NameStart.TheVariants.{Empty, Dot, Dots, Named}
@@ -111,16 +111,16 @@ module _ (reached : Bool) (rules : List Rule) where
           }
 
 -- where a path is cut that has one more character
-nothing_between : (xs : Chars) (c : ℕ) (ys : Chars) → xs ++ c ∷ ys ≡ [] → ⊥
+pub nothing_between : (xs : Chars) (c : ℕ) (ys : Chars) → xs ++ c ∷ ys ≡ [] → ⊥
 nothing_between [] c ys e = absurd (cc e)
 nothing_between (x ∷ xs) c ys e = absurd (cc e)
 
 -- the cut is before the last character, or earlier
-Cut : Chars → ℕ → Chars → Chars → Type 0
+unfoldable pub Cut : Chars → ℕ → Chars → Chars → Type 0
 Cut u c above below =
     ((c ≡ slash) × (u ≡ above)) ⊎ ((rest : Chars) × (u ≡ above ++ slash ∷ rest))
 
-last_cut : (u : Chars) (c : ℕ) (above below : Chars) → u ++ c ∷ [] ≡ above ++ slash ∷ below → Cut u c above below
+pub last_cut : (u : Chars) (c : ℕ) (above below : Chars) → u ++ c ∷ [] ≡ above ++ slash ∷ below → Cut u c above below
 unfolding Cut
 last_cut [] c [] below e = inl (cc e, refl)
 last_cut [] c (x ∷ above) below e =

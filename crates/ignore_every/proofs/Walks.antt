@@ -6,8 +6,8 @@ use Rattle.std.proofs.lemmas.List.Elements.{All-head, All-tail}
 use Rattle.std.proofs.lemmas.Bool.Decides.{Decides-eqb}
 use Rattle.ignore_base.specs.Text.{Chars, slash, is_slash}
 use Rattle.ignore_rules.specs.Rules.{Rule}
-use Rattle.ignore_every.specs.Questions.{IsNameCharacter, IsCleanName, path_of, IsClean, IsIgnored, HasNoIgnoredAncestor, IsReached, IsAsked}
-use Rattle.ignore_every.specs.Names.{after_dot, name_after, is_named}
+use Rattle.ignore_every.specs.Questions.{IsNameCharacter, IsCleanName, path_of, IsClean, IsIgnored, HasNoIgnoredAncestor, IsAsked}
+use Rattle.ignore_every.specs.Names.{after_dot, name_after}
 use Rattle.ignore_every.specs.declared.place.NameStart.{NameStart}
 use Rattle.ignore_every.specs.declared.place.NameStart.TheVariants.{Empty, Dot, Dots, Named}
 

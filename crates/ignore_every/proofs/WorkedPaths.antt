@@ -2,7 +2,7 @@
 use Rattle.std.proofs.Common.{◌≡◌, true, false, [], ◌∷◌, refl}
 use Rattle.ignore_every.specs.Names.{name_after, is_named}
 use Rattle.ignore_every.specs.Questions.{path_of}
-use Rattle.ignore_every.specs.declared.place.NameStart.TheVariants.{Empty, Dot, Dots, Named}
+use Rattle.ignore_every.specs.declared.place.NameStart.TheVariants.{Empty, Named}
 
 -- `a`, `b` and `c` make `a/b/c`
 names_are_joined : path_of (97 ∷ []) ((98 ∷ []) ∷ (99 ∷ []) ∷ []) ≡ 97 ∷ 47 ∷ 98 ∷ 47 ∷ 99 ∷ []

@@ -1,17 +1,14 @@
--- Tables that go over all paths: states, each for the sets of positions that a path leads to.
-use Rattle.std.specs.Prelude.{◌≡◌, ◌≢◌, ◌<◌, ◌≤◌, ◌↔◌, ◌==◌, ℕ, suc, Bool, true, false, List, [], ◌∷◌, ◌++◌, Option, None, Some, slice_get}
-use Rattle.std.specs.Prelude.{cond, not, ◌&&◌, ◌||◌, length}
+-- Tables that go over all texts: states, each for the sets of positions that a text leads to.
+use Rattle.std.specs.Prelude.{◌≡◌, ◌≢◌, ◌<◌, ◌≤◌, ◌==◌, ℕ, Bool, true, false, List, [], ◌∷◌, ◌++◌, Option, None, Some, slice_get}
+use Rattle.std.specs.Prelude.{cond, not, ◌&&◌, ◌||◌}
 use Rattle.std.specs.Option.{option_or}
 use Rattle.std.specs.Char.{IsScalar}
-use Rattle.ignore_base.specs.Text.{Chars, slash, is_slash}
+use Rattle.ignore_base.specs.Text.{Chars, is_slash}
 use Rattle.ignore_glob.specs.PositionSets.{IsSetAfter, AreAlike}
 use Rattle.ignore_glob.specs.DoesMatch.{does_match}
 use Rattle.ignore_glob.specs.Reading.{Reading}
 use Rattle.ignore_rules.specs.Answer.{does_apply}
 use Rattle.ignore_rules.specs.Rules.{Rule}
-use Rattle.ignore_every.specs.declared.place.NameStart.TheVariants.{Empty}
-use Rattle.ignore_every.specs.declared.place.Place.{Place}
-use Rattle.ignore_every.specs.Names.{name_after, is_named}
 
 -- for each rule from the first index up to the second, its set is the one that the text leads to
 abbrev pub AreSetsAfter : List Rule → ℕ → ℕ → (ℕ → List Bool) → Chars → Type 0
@@ -26,11 +23,21 @@ IsLastOf rules low high text is_dir (Some k) =
     (low ≤ k) × (k < high) × ((rule : Rule) → slice_get rules k ≡ Some rule → does_apply text is_dir rule ≡ true)
     × ((i : ℕ) (rule : Rule) → k < i → i < high → slice_get rules i ≡ Some rule → does_apply text is_dir rule ≡ false)
 
--- a table of states: where each leads by a letter, where that is known, and which rule decides there
--- for a file and for a directory
+-- the list has the index
+abbrev pub IsIn : List ℕ → ℕ → Type 0
+IsIn indices i = (j : ℕ) × (slice_get indices j ≡ Some i)
+
+-- of the rules from the first index up to the second, each whose glob takes the text is in the list
+abbrev pub HasTaking : List Rule → ℕ → ℕ → Chars → List ℕ → Type 0
+HasTaking rules low high text known =
+    (i : ℕ) (rule : Rule) → low ≤ i → i < high → slice_get rules i ≡ Some rule → does_match rule.reading text ≡ true → IsIn known i
+
+-- a table of states: where each leads by a letter, where that is known, which rule decides there for
+-- a file and for a directory, and the rules whose globs take what leads there
 pub record Table : Type 0 where
   pub next : ℕ → ℕ → Option ℕ
   pub decider : ℕ → Bool → Option (Option ℕ)
+  pub taking : ℕ → Option (List ℕ)
 
 -- The table is right for the rules from the first index up to the second, where its states stand
 -- for these sets. A letter is known by the character that stands for it.
@@ -40,6 +47,8 @@ pub record IsRight (rules : List Rule) (letters : List ℕ) (low high : ℕ) (ta
       → (text : Chars) → AreSetsAfter rules low high (sets s) text → AreSetsAfter rules low high (sets t) (text ++ c ∷ [])
   pub decides : (s : ℕ) (is_dir : Bool) (k : Option ℕ) → table.decider s is_dir ≡ Some k
       → (text : Chars) → AreSetsAfter rules low high (sets s) text → IsLastOf rules low high text is_dir k
+  pub takes : (s : ℕ) (known : List ℕ) → table.taking s ≡ Some known
+      → (text : Chars) → AreSetsAfter rules low high (sets s) text → HasTaking rules low high text known
 
 -- the table is right, whatever its states stand for
 abbrev pub IsRightTable : List Rule → List ℕ → ℕ → ℕ → Table → Type 0
@@ -56,11 +65,18 @@ IsPairDecider left right parts table s is_dir =
     (k : Option ℕ) → table.decider s is_dir ≡ Some k
     → (x y : Option ℕ) × (left.decider (parts s).0 is_dir ≡ Some x) × (right.decider (parts s).1 is_dir ≡ Some y) × (k ≡ option_or y x)
 
+-- the rules that take what leads there are those of both tables
+abbrev pub IsPairTaking : Table → Table → (ℕ → ℕ × ℕ) → Table → ℕ → Type 0
+IsPairTaking left right parts table s =
+    (known : List ℕ) → table.taking s ≡ Some known
+    → (x y : List ℕ) × (left.taking (parts s).0 ≡ Some x) × (right.taking (parts s).1 ≡ Some y) × (known ≡ x ++ y)
+
 -- The table is one of these pairs of states of two tables, the right one for later rules.
 pub record IsPairing (left right : Table) (parts : ℕ → ℕ × ℕ) (table : Table) : Type 0 where
   pub first : parts 0 ≡ (0, 0)
   pub steps : (s a : ℕ) → IsPairStep left right parts table s a
   pub decides : (s : ℕ) (is_dir : Bool) → IsPairDecider left right parts table s is_dir
+  pub takes : (s : ℕ) → IsPairTaking left right parts table s
 
 -- the table of a pattern goes from set to set
 abbrev pub IsLeafStep : List ℕ → Reading → (ℕ → List Bool) → Table → ℕ → ℕ → Type 0
@@ -74,11 +90,18 @@ IsLeafDecider index only_dir reading sets table s is_dir =
     (k : Option ℕ) → table.decider s is_dir ≡ Some k
     → (text : Chars) → IsSetAfter reading text (sets s) → k ≡ cond ((not only_dir || is_dir) && does_match reading text) (Some index) None
 
+-- the rule of the pattern, which has this index, is in the list where its glob takes the text
+abbrev pub IsLeafTaking : ℕ → Reading → (ℕ → List Bool) → Table → ℕ → Type 0
+IsLeafTaking index reading sets table s =
+    (known : List ℕ) → table.taking s ≡ Some known
+    → (text : Chars) → IsSetAfter reading text (sets s) → does_match reading text ≡ true → IsIn known index
+
 -- The table is one of these sets of one rule, which has this index.
 pub record IsLeaf (letters : List ℕ) (index : ℕ) (only_dir : Bool) (reading : Reading) (sets : ℕ → List Bool) (table : Table) : Type 0 where
   pub first : IsSetAfter reading [] (sets 0)
   pub steps : (s a : ℕ) → IsLeafStep letters reading sets table s a
   pub decides : (s : ℕ) (is_dir : Bool) → IsLeafDecider index only_dir reading sets table s is_dir
+  pub takes : (s : ℕ) → IsLeafTaking index reading sets table s
 
 -- each character that a path may have is alike to the one that stands for some letter: by the tests
 -- of each rule, and by what it does to a name
@@ -103,31 +126,7 @@ abbrev pub is_cut : List Rule → Option (Option ℕ) → Bool
 is_cut rules None = false
 is_cut rules (Some k) = ignores rules k
 
--- paths go on from here by this character: a slash follows a name only, and where only reached
--- paths are asked about, none that is ignored
-abbrev pub goes_on : Bool → List Rule → Table → Place → ℕ → Bool
-goes_on reached rules table place c =
-    cond (is_slash c) (is_named place.name && not (reached && is_cut rules (table.decider place.state true))) true
-
--- the place leads to another by the letter, at most one character deeper, where paths go on so
-abbrev pub IsClosedStep : Bool → List Rule → List ℕ → Table → List Place → ℕ → ℕ → Type 0
-IsClosedStep reached rules letters table places i a =
-    (here : Place) (c : ℕ) → slice_get places i ≡ Some here → slice_get letters a ≡ Some c
-    → goes_on reached rules table here c ≡ true
-    → (j : ℕ) × (there : Place) × (slice_get places j ≡ Some there) × (table.next here.state a ≡ Some there.state)
-    × (there.name ≡ name_after here.name c) × (there.depth ≤ suc here.depth)
-
--- The places are closed: the first is that of the empty path, and each leads to another by each
--- letter by which paths go on, at most one character deeper.
-pub record IsClosed (reached : Bool) (rules : List Rule) (letters : List ℕ) (table : Table) (places : List Place) : Type 0 where
-  pub root : Place
-  pub first : slice_get places 0 ≡ Some root
-  pub begins : (root.state ≡ 0) × (root.name ≡ Empty) × (root.depth ≡ 0)
-  pub steps : (i a : ℕ) → IsClosedStep reached rules letters table places i a
-
--- the place stands for the path: it is a name's, at most as deep as the path is long, and what the
--- table says of it is which rule decides there
-pub record IsPlaceOf (rules : List Rule) (table : Table) (path : Chars) (place : Place) : Type 0 where
-  pub named : is_named place.name ≡ true
-  pub deep : place.depth ≤ length path
-  pub decides : (is_dir : Bool) (k : Option ℕ) → table.decider place.state is_dir ≡ Some k → IsLastOf rules 0 (length rules) path is_dir k
+-- the state, a directory, is known not to be ignored
+abbrev pub is_free : List Rule → Option (Option ℕ) → Bool
+is_free rules None = false
+is_free rules (Some k) = not (ignores rules k)

@@ -1,5 +1,5 @@
 -- Questions: clean relative paths, which of them rules reach, and which rule decides.
-use Rattle.std.specs.Prelude.{◌≡◌, ◌≢◌, ◌<◌, ◌⊎◌, ℕ, Bool, true, false, List, [], ◌∷◌, ◌++◌, Some, slice_get, All}
+use Rattle.std.specs.Prelude.{◌≡◌, ◌≢◌, ◌<◌, ℕ, Bool, true, false, List, [], ◌∷◌, ◌++◌, Some, slice_get, All}
 use Rattle.std.specs.Char.{IsScalar}
 use Rattle.ignore_base.specs.Text.{Chars, slash}
 use Rattle.ignore_base.specs.declared.match_result.Match.TheVariants.{Ignore}

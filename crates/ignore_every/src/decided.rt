@@ -14,7 +14,12 @@ use ignore_rules::internal::applies;
 use std::alloc::{AllocError, Global};
 
 /// Whether the rule with this index is there and applies to a path.
-fn applies_at(rules: &[Glob], index: usize, path: &str, is_dir: bool) -> Result<bool, AllocError>
+pub(crate) fn applies_at(
+    rules: &[Glob],
+    index: usize,
+    path: &str,
+    is_dir: bool,
+) -> Result<bool, AllocError>
     ensures is { IfOk result (λ yes. IsTrue yes → (rule : Rule) × (slice_get rules.now index ≡ Some rule)
         × (does_apply (chars path.now) is_dir rule ≡ true)) }
     ensures isnt { IfOk result (λ yes. yes ≡ false → (rule : Rule) → slice_get rules.now index ≡ Some rule
@@ -47,7 +52,11 @@ pub(crate) fn decides(
 }
 
 /// The last rule that applies to a path.
-fn last_applying(rules: &[Glob], path: &str, is_dir: bool) -> Result<Option<usize>, AllocError> {
+pub(crate) fn last_applying(
+    rules: &[Glob],
+    path: &str,
+    is_dir: bool,
+) -> Result<Option<usize>, AllocError> {
     for index in (0..rules.len()).rev() {
         if applies_at(rules, index, path, is_dir)? {
             return Ok(Some(index));

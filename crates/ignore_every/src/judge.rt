@@ -46,7 +46,7 @@ impl<'a> Judge<'a> {
         }
         if !all_miss(
             &self.trail.places,
-            self.search.rows,
+            self.search.left.rows,
             index,
             Some(text.len()),
         ) {
@@ -62,8 +62,8 @@ impl<'a> Judge<'a> {
             (λ question. IsShortest self.now.search.reached self.now.rules.now.rules index (chars (string_bytes question.path))
             question.is_dir)) }
     {
-        let Some((place, is_dir)) = self.trail.first_decided(self.search.rows, index) else {
-            if !all_miss(&self.trail.places, self.search.rows, index, None) {
+        let Some((place, is_dir)) = self.trail.first_decided(self.search.left.rows, index) else {
+            if !all_miss(&self.trail.places, self.search.left.rows, index, None) {
                 return Err(Error::Rejected);
             }
             return Ok(None);
@@ -103,7 +103,10 @@ impl<'a> Judge<'a> {
                 let finding = self.example(index, question)?;
                 Ok(finding)
             }
-            None => Ok(Finding::Overruled),
+            None => {
+                let named = self.reasons(index)?;
+                Ok(Finding::Overruled(named))
+            }
         }
     }
 
@@ -114,9 +117,10 @@ impl<'a> Judge<'a> {
     {
         let search = Search {
             reached: false,
-            rules: self.search.rules,
+            both: self.search.both,
+            left: self.search.left,
+            right: self.search.right,
             letters: self.search.letters,
-            rows: self.search.rows,
         };
         match trail_of(self.alloc, &search, room) {
             Ok(trail) => Ok(Some(Judge {
@@ -133,7 +137,11 @@ impl<'a> Judge<'a> {
     /// Whether each rule decides at some place.
     pub(crate) fn are_all_decided(&self) -> bool {
         for index in 0..self.rules.len() {
-            if self.trail.first_decided(self.search.rows, index).is_none() {
+            if self
+                .trail
+                .first_decided(self.search.left.rows, index)
+                .is_none()
+            {
                 return false;
             }
         }
@@ -150,12 +158,13 @@ fn characters(alloc: Global, text: &str) -> Result<Vec<char>, AllocError>
 
 /// What is found of a rule that decides on no reached question.
 fn finding_of_unreached(
-    rules: &Gitignore,
+    reached: &Judge<'_>,
     any: Option<&Judge<'_>>,
     index: usize,
 ) -> Result<Finding, Error>
-    requires { IfSome any (λ other. IsOver false rules.now.rules other.now) }
-    ensures { IfOk result (λ finding. DecidesNever true rules.now.rules index → IsRightFinding rules.now.rules index finding) }
+    requires { IfSome any (λ other. IsOver false reached.now.rules.now.rules other.now) }
+    ensures { IfOk result (λ finding. DecidesNever true reached.now.rules.now.rules index
+        → IsRightFinding reached.now.rules.now.rules index finding) }
 {
     match any {
         Some(judge) => {
@@ -180,7 +189,7 @@ pub(crate) fn finding_of(
     match found {
         Some(question) => Ok(Finding::Live(question)),
         None => {
-            let finding = finding_of_unreached(reached.rules, any, index)?;
+            let finding = finding_of_unreached(reached, any, index)?;
             Ok(finding)
         }
     }

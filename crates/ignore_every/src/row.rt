@@ -1,6 +1,7 @@
 //! The states of a table.
-ghost use Rattle.std.specs.Prelude.{◌≡◌, ◌≤◌, ℕ, IsTrue, Some, None};
-ghost use Rattle.ignore_every.specs.Rows.{next_of, decider_of};
+ghost use Rattle.std.specs.Prelude.{◌≡◌, ◌≤◌, ℕ, IsTrue, IfSome, Some, None, false};
+ghost use Rattle.ignore_every.specs.Machines.{IsIn};
+ghost use Rattle.ignore_every.specs.Rows.{next_of, decider_of, taking_of};
 
 /// One state of a table.
 #[derive(Debug, Drop)]
@@ -11,6 +12,8 @@ pub struct Row {
     pub file: Option<usize>,
     /// The rule that decides for a directory.
     pub dir: Option<usize>,
+    /// The rules whose globs take what leads here, in order.
+    pub taking: Vec<usize>,
 }
 
 /// Where a state leads by a letter, where that is known.
@@ -42,6 +45,30 @@ pub(crate) fn decider_of(rows: &[Row], state: usize, is_dir: bool) -> Option<Opt
     }
 }
 
+/// The rules whose globs take what leads to a state, if there is such a state.
+pub(crate) fn taking_of(rows: &[Row], state: usize) -> Option<&[usize]>
+    ensures is { IfSome result (λ known. taking_of rows.now state ≡ Some known.now) }
+    ensures isnt { result ≡ None → taking_of rows.now state ≡ None }
+{
+    match rows.get(state) {
+        Some(row) => Some(row.taking.as_slice()),
+        None => None,
+    }
+}
+
+/// Whether an index is in a list.
+pub(crate) fn is_in(indices: &[usize], wanted: usize) -> bool
+    ensures yes { IsTrue result → IsIn indices.now wanted }
+    ensures no { result ≡ false → IsIn indices.now wanted → ⊥ }
+{
+    for index in indices {
+        if *index == wanted {
+            return true;
+        }
+    }
+    false
+}
+
 /// How many letters the row of a state goes to.
 pub(crate) fn row_length(rows: &[Row], state: usize) -> usize
     ensures { (letter : ℕ) → result ≤ letter → next_of rows.now state letter ≡ None }
@@ -54,7 +81,8 @@ pub(crate) fn row_length(rows: &[Row], state: usize) -> usize
 
 /// Whether there is a number, and it is this one.
 pub(crate) fn is_some_of(number: Option<usize>, wanted: usize) -> bool
-    ensures { IsTrue result → number ≡ Some wanted }
+    ensures yes { IsTrue result → number ≡ Some wanted }
+    ensures no { result ≡ false → number ≡ Some wanted → ⊥ }
 {
     match number {
         Some(found) => found == wanted,
@@ -64,7 +92,8 @@ pub(crate) fn is_some_of(number: Option<usize>, wanted: usize) -> bool
 
 /// Whether two numbers are both absent or are the same.
 pub(crate) fn is_same(a: Option<usize>, b: Option<usize>) -> bool
-    ensures { IsTrue result → a ≡ b }
+    ensures yes { IsTrue result → a ≡ b }
+    ensures no { result ≡ false → a ≡ b → ⊥ }
 {
     match a {
         Some(x) => is_some_of(b, x),

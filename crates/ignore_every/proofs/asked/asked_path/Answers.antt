@@ -1,9 +1,9 @@
-use Rattle.std.proofs.Common.{◌≡◌, ◌++◌, ◌∷◌, [], get_or, string_bytes, encode_utf8, refl, sym, ap, subst, ◌∙◌}
+use Rattle.std.proofs.Common.{◌≡◌, ◌++◌, ◌∷◌, [], string_bytes, encode_utf8, refl, sym, ap, subst, ◌∙◌}
 use Rattle.std.specs.Str.{chars}
 use Rattle.std.proofs.lemmas.Slice.{pushed}
 use Rattle.std.proofs.lemmas.Str.{chars-nil, IsUtf8-string_bytes}
 use Rattle.ignore_every.specs.Names.{IsNext}
-use Rattle.ignore_every.specs.declared.place.NameStart.TheVariants.{Empty, Named}
+use Rattle.ignore_every.specs.declared.place.NameStart.TheVariants.{Empty}
 use Rattle.ignore_every.proofs.Texts.{begun, chars_push, grown}
 use Rattle.ignore_every.proofs.Walked.{named_is, walk_on, walked_asked}
 use Rattle.ignore_every.proofs.Walks.{Walked, at_root}

@@ -1,4 +1,4 @@
-use Rattle.std.proofs.Common.{true, MatchOption, string_bytes, subst}
+use Rattle.std.proofs.Common.{MatchOption, string_bytes, subst}
 use Rattle.std.specs.Str.{chars}
 use Rattle.ignore_every.specs.Findings.{DecidesNever, IsShortest}
 use Rattle.ignore_every.specs.declared.findings.Question.{Question}

@@ -1,4 +1,4 @@
-use Rattle.std.proofs.Common.{◌≡◌, ◌↔◌, ◌++◌, ◌∷◌, [], ℕ, ◌<◌, ◌≤◌, Some, length, slice_get, arith, below_more, refl, subst}
+use Rattle.std.proofs.Common.{◌≡◌, ◌↔◌, ◌++◌, ◌∷◌, [], ℕ, ◌≤◌, Some, length, slice_get, arith, below_more, refl, subst}
 use Rattle.std.proofs.lemmas.Option.{slice_get_read, slice_get_within}
 use Rattle.ignore_glob.specs.PositionSets.{AreAlike, IsSetAfter}
 use Rattle.ignore_glob.specs.Reading.{Reading}

@@ -1,4 +1,4 @@
-use Rattle.std.proofs.Common.{◌≡◌, ℕ, ◌<◌, ◌≤◌, Some, length, slice_get, get_or, arith, inl, inr}
+use Rattle.std.proofs.Common.{get_or, arith, inl, inr}
 use Rattle.std.proofs.lemmas.Bool.{cases_lt, leb-true}
 use Rattle.std.proofs.lemmas.Option.{slice_get-get_or}
 use Rattle.ignore_every.specs.declared.letters.Interval.{Interval}

@@ -1,4 +1,4 @@
-use Rattle.std.proofs.Common.{◌≡◌, ◌+◌, ◌<◌, arith, subst, IfSome}
+use Rattle.std.proofs.Common.{◌≡◌, ◌+◌, arith, subst, IfSome}
 use Rattle.ignore_every.specs.Rows.{table_of}
 use Rattle.ignore_every.specs.Sets.{set_of}
 use Rattle.ignore_every.specs.Trees.{IsRuleAt}

@@ -1,4 +1,4 @@
-use Rattle.std.proofs.Common.{◌≡◌, ℕ, List, Some, IfSome, string_bytes, subst, ◌∙◌, ap}
+use Rattle.std.proofs.Common.{◌≡◌, IfSome, string_bytes, subst, ◌∙◌, ap}
 use Rattle.std.specs.Str.{chars}
 use Rattle.ignore_every.specs.Findings.{IsInFolder}
 use Rattle.ignore_every.proofs.judge.Judge.example.Goals as goal

@@ -1,4 +1,4 @@
-use Rattle.std.proofs.Common.{◌≡◌, ℕ, ◌<◌, ◌≤◌, Some, None, arith, below_more, inl, inr}
+use Rattle.std.proofs.Common.{◌≡◌, None, arith, below_more, inl, inr}
 use Rattle.std.proofs.lemmas.Bool.{cases_lt}
 use Rattle.ignore_every.specs.Rows.{next_of}
 use Rattle.ignore_every.proofs.leaf.Leaf.are_steps_right.Goals as goal
