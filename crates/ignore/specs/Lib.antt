@@ -17,3 +17,5 @@ pub mod RuleWords
 pub mod GlobWords
 pub mod TypeWords
 pub mod QueryWords
+pub mod GuideWords
+pub mod EveryWords

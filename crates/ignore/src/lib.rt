@@ -5,8 +5,10 @@
 mod builder;
 mod closures;
 mod collect;
+pub mod every;
 pub mod files;
 pub mod glob;
+pub mod guide;
 mod limited;
 mod options;
 mod walk;

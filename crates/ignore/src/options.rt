@@ -4,6 +4,7 @@ ghost use Rattle.ignore.specs.Builder.{unset};
 
 mod copy;
 mod filters;
+mod guides;
 mod limits;
 mod matchers;
 mod outside;
