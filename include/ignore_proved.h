@@ -13,12 +13,14 @@
      and freed once, by `.._free`, to which it is passed by value. After that it isn't used, nor is
      a copy of it. A handle that wasn't made isn't passed: after another answer than IGNORE_OK
      `.._new` has made none, and nothing is to be freed.
-   - At most one call at a time has a handle, and the handle stays on the thread that made it.
+   - At most one call at a time has a handle. Between two calls it may go to another thread, as by a
+     lock or a join: it leads to memory of `malloc` and to nothing of a thread.
    - `malloc`, `realloc` and `free` are of one allocator, which aligns as C asks.
    - No call is made from a signal handler, nor in the forked child of a process with threads.
    - Two handles that one call is given are two: a matcher and a tree, say, and not one twice.
    - Where a call answers IGNORE_NO_MEMORY, or IGNORE_NOT_UTF8, or IGNORE_MISUSED, it has changed
-     nothing of its handles; a matcher may have read more directories, by which no answer changes. */
+     nothing of its handles; a matcher may have read more directories, by which no answer changes, and
+     of a guide the call that waited may have ended. */
 #ifndef IGNORE_PROVED_H
 #define IGNORE_PROVED_H
 
@@ -53,7 +55,8 @@ enum {
     IGNORE_NO_PARENT = 12, /* what a path of a tree should be in isn't a directory there */
     IGNORE_EXISTS = 13,    /* something is at a path of a tree already */
     IGNORE_MISSING = 14,   /* nothing of the kind is at a path of a tree */
-    IGNORE_ROOM = 15       /* the room is too small for an item of a walk, which stays the next */
+    IGNORE_ROOM = 15,      /* the room is too small for an item of a walk, which stays the next */
+    IGNORE_WANTS = 16      /* a guide has to know something first: ignore_guide_wanted */
     /* 8 is for a handle that another one uses: no call answers it, since a walk is made at once. */
 };
 
@@ -349,8 +352,9 @@ void ignore_builder_free(ignore_builder builder);
    decides there: the files of rules (`.gitignore`, `.ignore`, custom names), `.git` with its
    `info/exclude` (or the file `.git` and where it leads), `.jj`, and links on the way. A directory
    that is told by halves is read by halves, and what was read is kept: after the rest is told,
-   ignore_matcher_forget is called for it. Where each directory is told whole before something below
-   it is asked about, each answer is the one that the whole tree gives. */
+   ignore_matcher_forget is called for it. Where the tree has changed since, and all that is kept is
+   still the same in it, each answer is the one that the tree gives as it is then. So it is where each
+   directory is told whole before something below it is asked about. */
 typedef struct ignore_matcher {
     uint8_t *at;
 } ignore_matcher;
@@ -483,6 +487,155 @@ uint32_t ignore_walk_next(ignore_walk *walk, ignore_walk_entry *entry, uint8_t *
 
 /* Frees a walk. */
 void ignore_walk_free(ignore_walk walk);
+
+/* A guide, for a host that lists directories itself: which entries of a directory count. The host
+   enters a directory below one that it entered before, asks about the entries that it lists, and
+   leaves it. There is no tree: where the guide has to know something, the call answers IGNORE_WANTS,
+   `ignore_guide_wanted` says of which path, the host answers by `ignore_guide_give`, and so on until
+   the directory has its place. What is read of a directory, in which order, where a `.git` file and
+   git's configuration lead, is the guide's to know: the host reads paths.
+
+       code = ignore_guide_enter(&guide, &parent, name, length, names, names_length, &place);
+       while (code == IGNORE_WANTS) {
+           ignore_guide_wanted(&guide, &wanted, path, sizeof path, &whole);
+           .. reads the path ..
+           code = ignore_guide_give(&guide, kind, bytes, n, fault, &place);
+       }
+
+   The host chooses which directories it enters and in which order, which links it follows, and how
+   far it goes: an ignored directory isn't entered. */
+typedef struct ignore_guide {
+    uint8_t *at;
+} ignore_guide;
+
+/* A directory that was entered and not left. A place that was left never stands for another. */
+typedef struct ignore_place {
+    size_t index;
+    uint64_t serial;
+} ignore_place;
+
+/* What a guide wants to know of a path; links are followed, in the path and at its end. */
+enum {
+    IGNORE_WANTED_KIND = 1,     /* what is there */
+    IGNORE_WANTED_FILE = 2,     /* what is there, and where that isn't a directory its bytes */
+    IGNORE_WANTED_CANONICAL = 3 /* its canonical path */
+};
+
+/* No fault; the faults are those of trees. */
+#define IGNORE_NO_FAULT UINT32_C(255)
+
+/* No size is known. */
+#define IGNORE_NO_SIZE UINT64_MAX
+
+/* No sizes: a pointer, which isn't null, and a length. */
+#define IGNORE_NO_SIZES (const uint64_t *)sizeof(uint64_t), (size_t)0
+
+/* A guide with the settings, globs, types, names, explicit files, directory and environment of a
+   builder, whose roots don't count, and which may be freed before it. Nothing is read so far.
+   IGNORE_OK, IGNORE_NO_MEMORY or IGNORE_MISUSED. */
+uint32_t ignore_guide_new(ignore_builder *builder, ignore_guide *guide);
+
+/* Adds a file of rules, as ignore_builder_add_ignore does, after the others. It is wanted with the
+   first root. IGNORE_OK, IGNORE_NOT_UTF8, IGNORE_NO_MEMORY, or IGNORE_MISUSED once a root was begun. */
+uint32_t ignore_guide_add_ignore(ignore_guide *guide, const uint8_t *path, size_t path_length);
+
+/* Begins a root, by its path; a guide may have several. Git's global file and the files of
+   ignore_guide_add_ignore are read with the first one, what counts above a root and in it with each.
+   IGNORE_OK, and the place of the root; IGNORE_WANTS where something is to be known first. Also
+   IGNORE_NOT_UTF8, IGNORE_NO_MEMORY, and IGNORE_MISUSED while a call waits. With another answer than
+   IGNORE_OK the place is all zeros. */
+uint32_t ignore_guide_root(ignore_guide *guide, const uint8_t *root, size_t root_length,
+                           ignore_place *place);
+
+/* Enters the directory of a name in the one at a place. `names` are those that it lists, each ended
+   by a zero, and then nothing is wanted that isn't there; where they are empty it isn't known what it
+   lists. (They are copied as far as they matter.) As ignore_guide_root; IGNORE_MISUSED, too, where the
+   place is none, where the name is empty, `.` or `..` or has a slash, and where the names don't end
+   with a zero. */
+uint32_t ignore_guide_enter(ignore_guide *guide, const ignore_place *parent, const uint8_t *name,
+                            size_t name_length, const uint8_t *names, size_t names_length,
+                            ignore_place *place);
+
+/* What the call that waits wants to know: IGNORE_OK, IGNORE_WANTED_.. in `wanted`, the length of the
+   path in `whole`, and its first bytes, as many as there is room for. It says the same until it is
+   given. IGNORE_NONE where no call waits, IGNORE_NO_MEMORY or IGNORE_MISUSED, and then `wanted` and
+   `whole` are 0. A path is absolute where the root was, or as it is from where the root is. */
+uint32_t ignore_guide_wanted(ignore_guide *guide, uint32_t *wanted, uint8_t *room,
+                             size_t room_length, size_t *whole);
+
+/* Answers that, and goes on with the call that waits: what comes is what this one would have
+   answered. `kind` is 1 for a file, 2 for a directory, 4 for something else, 0 where nothing is
+   there (nor does a link lead anywhere), or that can't be known; it doesn't count for a canonical
+   path. `bytes` are those of the file, or the canonical path. `fault` is IGNORE_NO_FAULT, or why it
+   couldn't be read: bytes *and* a fault are half a file. IGNORE_NOT_UTF8 where the canonical path
+   isn't, and IGNORE_MISUSED where no call waits, or a number is none of these; then nothing changes.
+   After IGNORE_NO_MEMORY the call that waited has ended without a place, and is made again. */
+uint32_t ignore_guide_give(ignore_guide *guide, uint32_t kind, const uint8_t *bytes, size_t n,
+                           uint32_t fault, ignore_place *place);
+
+/* What becomes of an entry of the directory at a place: IGNORE_NONE, IGNORE_IGNORE or
+   IGNORE_WHITELIST, and the rest in `found`. `is_dir` is of what a link leads to where the host
+   follows it. `size` matters where the builder has a greatest size: of IGNORE_NO_SIZE the limit
+   leaves nothing out. It changes nothing, and may be asked while a call waits. Also IGNORE_NOT_UTF8,
+   IGNORE_NO_MEMORY and IGNORE_MISUSED (the place is none, or the name), and then `found` is all
+   false. */
+uint32_t ignore_guide_decide(ignore_guide *guide, const ignore_place *place, const uint8_t *name,
+                             size_t name_length, bool is_dir, uint64_t size, ignore_found *found);
+
+/* The same of a whole listing: `names`, each ended by a zero; of each its kind, 2 for a directory;
+   its size, or IGNORE_NO_SIZES. `codes` has a number for each: what ignore_guide_decide answers, and
+   4 where a walk descends, and 8 where it is within depth. A name that is empty, `.` or `..` or has a
+   slash gets IGNORE_NONE + 8. IGNORE_OK; or IGNORE_NOT_UTF8, IGNORE_NO_MEMORY, or IGNORE_MISUSED (the
+   place is none, or there aren't as many of each), and then `codes` are as before. */
+uint32_t ignore_guide_decide_all(ignore_guide *guide, const ignore_place *place,
+                                 const uint8_t *names, size_t names_length, const uint8_t *kinds,
+                                 size_t n, const uint64_t *sizes, size_t sizes_length,
+                                 uint8_t *codes, size_t codes_length);
+
+/* Which rule decides on an entry of the directory at a place, whatever its depth and its size are:
+   IGNORE_NONE, IGNORE_IGNORE or IGNORE_WHITELIST, with `why` and `room` as for
+   ignore_matcher_explained. It changes nothing. Also as ignore_guide_decide, and then `why` is all
+   zeros, and the room is as before. */
+uint32_t ignore_guide_why(ignore_guide *guide, const ignore_place *place, const uint8_t *name,
+                          size_t name_length, bool is_dir, ignore_why *why, uint8_t *room,
+                          size_t room_length);
+
+/* Leaves the directory at a place, which is none from then on. Each is left once, those below it
+   first. IGNORE_OK; or IGNORE_MISUSED where the place is none, where a directory below it wasn't left,
+   and while a call waits. */
+uint32_t ignore_guide_leave(ignore_guide *guide, const ignore_place *place);
+
+/* What kind of problem it is. */
+enum {
+    IGNORE_PROBLEM_FAULT = 1, /* a file couldn't be read, or not to its end */
+    IGNORE_PROBLEM_GLOB = 2,  /* the glob of a line is invalid */
+    IGNORE_PROBLEM_OTHER = 3  /* something else */
+};
+
+/* A part of what is wrong with the files of rules of a directory. What isn't said to be set is 0, or
+   false. */
+typedef struct ignore_problem {
+    uint32_t kind;   /* IGNORE_PROBLEM_.. */
+    uint32_t fault;  /* of IGNORE_PROBLEM_FAULT: IGNORE_FAULT_.. */
+    uint64_t line;   /* the number of the line, from 1; 0 where it is of no line */
+    size_t path;     /* bytes of the path of the file */
+    size_t glob;     /* of IGNORE_PROBLEM_GLOB: bytes of the glob, as it was written */
+    size_t text;     /* bytes of what is wrong, in words */
+    bool has_path;   /* whether the path is known */
+    bool has_glob;   /* whether the glob is known */
+} ignore_problem;
+
+/* The part at an index, from 0, of what is wrong with the files of rules of the directory that was
+   entered last, or of the root that was begun, with those above it and, with the first root, of
+   ignore_guide_add_ignore: IGNORE_OK, the part, and in `room` the first bytes, as many as there is
+   room for, of its path, its glob and its text, one after the other. IGNORE_NONE where there are no
+   more parts than that. Also IGNORE_NO_MEMORY and IGNORE_MISUSED. With another answer than IGNORE_OK
+   the part is all zeros, and the room is as before. */
+uint32_t ignore_guide_problem(ignore_guide *guide, size_t index, ignore_problem *problem,
+                              uint8_t *room, size_t room_length);
+
+/* Frees a guide, also while a call waits. */
+void ignore_guide_free(ignore_guide guide);
 
 #ifdef __cplusplus
 }

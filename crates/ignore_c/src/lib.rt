@@ -4,6 +4,7 @@
 
 mod builder;
 mod choice;
+mod guide;
 mod handle;
 mod loose;
 mod matcher;

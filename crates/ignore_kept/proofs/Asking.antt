@@ -1,14 +1,15 @@
 -- A matcher is one of what the handle keeps.
-use Rattle.std.proofs.Common.{arith, ◌≡◌, ◌≢◌, ◌+◌, ℕ, suc, Bool, List, [], ◌∷◌, ◌++◌, length-append, Result, Ok, Err, IfOk, IfErr, inr, refl, sym, ap, subst, ◌∙◌, length}
+use Rattle.std.proofs.Common.{arith, ◌≡◌, ◌≢◌, ◌+◌, ℕ, suc, Bool, List, [], ◌∷◌, ◌++◌, length-append, Result, Ok, Err, IfOk, IfErr, inl, inr, refl, sym, ap, subst, ◌∙◌, length}
 use Rattle.std.specs.Prelude.{All}
-use Rattle.ignore.specs.WalkWords.{Agrees, AreMatchers, IncrementalIgnore, IncrementalMatch, KeepsNothing, Stays, query}
+use Rattle.ignore.specs.QueryWords.{SameKeptAgrees}
+use Rattle.ignore.specs.WalkWords.{Agrees, AreMatchers, IncrementalIgnore, IncrementalMatch, KeepsNothing, Loaded, Stays, query, scene_of}
 use Rattle.ignore.specs.declared.options.WalkOptions.{WalkOptions}
 use Rattle.ignore_files.specs.Answers.{tree_of}
 use Rattle.ignore_files.specs.declared.env.Env.{Env}
 use Rattle.ignore_base.specs.Text.{Path}
 use Rattle.ignore_files.specs.Memory.{Memory}
 use Rattle.ignore_kept.specs.Kinds.{matcher_in, setup_in, tree_in}
-use Rattle.ignore_kept.specs.Matching.{Builds, Forgets, Forgot, InScene, IsBuilt, Matches, keeping}
+use Rattle.ignore_kept.specs.Matching.{Builds, Forgets, Forgot, InScene, IsBuilt, IsRight, Matches, keeping}
 use Rattle.ignore_kept.specs.Setups as setup
 use Rattle.ignore_kept.specs.Trees as tree
 use Rattle.ignore_kept.specs.declared.kept.Kept.{Kept}
@@ -42,6 +43,12 @@ one_matcher tree env options copy taken ms (Ok m) copied same are fresh counted 
 one_matcher tree env options copy taken ms (Err e) copied same are fresh counted one misused =
     subst (λ (s : Stopped). IsBuilt tree env options (Err s)) (sym misused.0)
     (λ single. misused.1 (counted ∙ ap (λ (b : WalkOptions). length b.roots) (same ∙ copied) ∙ single))
+
+-- what is right for a scene agrees with it
+pub right : SameKeptAgrees → (m : IncrementalIgnore) (tree : Memory) (loads : Path → Loaded)
+    → IsRight m (scene_of m.asked (tree_of tree) loads) → Agrees (scene_of m.asked (tree_of tree) loads) m.cache
+right stays m tree loads (inl agree) = agree
+right stays m tree loads (inr (earlier, past, h)) = stays m.asked earlier (tree_of tree) past loads m.cache h.0 h.1
 
 answered : (kept files : Kept) (path : Path) (is_dir : Bool) (old : IncrementalIgnore) (told : Memory)
     (r : Result IncrementalMatch Stopped) (new : IncrementalIgnore) → kept ≡ keeping old → files ≡ tree.keeping told

@@ -3,7 +3,13 @@ pub mod Telling
 pub mod AsGit
 pub mod Asking
 pub mod Explaining
+pub mod Leading
+pub mod Decided
+pub mod Named
+pub mod Parting
+pub mod Giving
 pub mod Listing
 pub mod Wishing
 pub mod WorkedRooms
 pub mod WorkedReasons
+pub mod WorkedGuides

@@ -26,6 +26,7 @@ rules_of (keeps.Tree tree) = None
 rules_of (keeps.Setup setup) = None
 rules_of (keeps.Matcher matcher) = None
 rules_of (keeps.Walk walk) = None
+rules_of (keeps.Guide guided) = None
 rules_of keeps.Lent = None
 rules_of (keeps.Rules rules) = Some rules
 
@@ -138,5 +139,6 @@ Counted (keeps.Lines lines) code counts = (code ≡ 9) × (counts ≡ record { i
 Counted (keeps.Tree tree) code counts = (code ≡ 9) × (counts ≡ record { ignores = 0; whitelists = 0 })
 Counted (keeps.Setup setup) code counts = (code ≡ 9) × (counts ≡ record { ignores = 0; whitelists = 0 })
 Counted (keeps.Matcher matcher) code counts = (code ≡ 9) × (counts ≡ record { ignores = 0; whitelists = 0 })
+Counted (keeps.Guide guided) code counts = (code ≡ 9) × (counts ≡ record { ignores = 0; whitelists = 0 })
 Counted (keeps.Walk walk) code counts = (code ≡ 9) × (counts ≡ record { ignores = 0; whitelists = 0 })
 Counted keeps.Lent code counts = (code ≡ 9) × (counts ≡ record { ignores = 0; whitelists = 0 })

@@ -37,7 +37,7 @@ abbrev pub answer_in : Result Explained Stopped → Result IncrementalMatch Stop
 answer_in (Ok e) = Ok e.answer
 answer_in (Err stopped) = Err stopped
 
--- a reason is the one of the definition in each scene of the tree with which what is kept agrees
+-- a reason is the one of the definition in each scene of the tree for which what is kept is right
 abbrev pub Reasons : Kept → Kept → Bytes → Bool → Result Explained Stopped → Type 0
 Reasons old tree path is_dir (Ok e) =
     (before : IncrementalIgnore) × (files : Memory) × (matcher_in old ≡ Some before) × (tree_in tree ≡ Some files)

@@ -1,7 +1,8 @@
--- What a handle keeps: a tree, a builder, a matcher, a walk.
+-- What a handle keeps: a tree, a builder, a matcher, a walk, a guide.
 use Rattle.std.specs.Prelude.{Option, Some, None}
 use Rattle.ignore.specs.WalkWords.{IncrementalIgnore}
 use Rattle.ignore_files.specs.Memory.{Memory}
+use Rattle.ignore_kept.specs.declared.guided.Guided.{Guided}
 use Rattle.ignore_kept.specs.declared.kept.Kept.{Kept}
 use Rattle.ignore_kept.specs.declared.kept.Kept.TheVariants as keeps
 use Rattle.ignore_kept.specs.declared.setup.Setup.{Setup}
@@ -15,6 +16,7 @@ tree_in (keeps.Tree tree) = Some tree
 tree_in (keeps.Setup setup) = None
 tree_in (keeps.Matcher matcher) = None
 tree_in (keeps.Walk walk) = None
+tree_in (keeps.Guide guided) = None
 tree_in keeps.Lent = None
 
 -- the settings that a handle keeps, if it keeps some
@@ -25,6 +27,7 @@ setup_in (keeps.Tree tree) = None
 setup_in (keeps.Setup setup) = Some setup
 setup_in (keeps.Matcher matcher) = None
 setup_in (keeps.Walk walk) = None
+setup_in (keeps.Guide guided) = None
 setup_in keeps.Lent = None
 
 -- the matcher of single paths that a handle keeps, if it keeps one
@@ -35,6 +38,7 @@ matcher_in (keeps.Tree tree) = None
 matcher_in (keeps.Setup setup) = None
 matcher_in (keeps.Matcher matcher) = Some matcher
 matcher_in (keeps.Walk walk) = None
+matcher_in (keeps.Guide guided) = None
 matcher_in keeps.Lent = None
 
 -- the walk that a handle keeps, if it keeps one
@@ -45,4 +49,16 @@ walk_in (keeps.Tree tree) = None
 walk_in (keeps.Setup setup) = None
 walk_in (keeps.Matcher matcher) = None
 walk_in (keeps.Walk walk) = Some walk
+walk_in (keeps.Guide guided) = None
 walk_in keeps.Lent = None
+
+-- the guide that a handle keeps, if it keeps one
+abbrev pub guided_in : Kept → Option Guided
+guided_in (keeps.Lines lines) = None
+guided_in (keeps.Rules rules) = None
+guided_in (keeps.Tree tree) = None
+guided_in (keeps.Setup setup) = None
+guided_in (keeps.Matcher matcher) = None
+guided_in (keeps.Walk walk) = None
+guided_in (keeps.Guide guided) = Some guided
+guided_in keeps.Lent = None

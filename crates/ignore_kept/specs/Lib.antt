@@ -10,4 +10,9 @@ pub mod Setups
 pub mod Matching
 pub mod Explained
 pub mod Walking
+pub mod Given
+pub mod Listings
+pub mod Guides
+pub mod Deciding
+pub mod Parts
 pub mod Wishes

@@ -57,19 +57,27 @@ Builds builder tree (Err Limit) = ⊥
 Builds builder tree (Err Invalid) = ⊥
 Builds builder tree (Err (Tree error)) = ⊥
 
--- P holds of each scene of a matcher over a tree with which what it keeps agrees
+-- what a matcher keeps is right for a scene: it agrees with it, or with one of an earlier tree in which
+-- all that is kept is the same
+abbrev pub IsRight : IncrementalIgnore → QueryScene → Type 0
+IsRight matcher h =
+    Agrees h matcher.cache
+    ⊎ ((earlier : Files) × (past : Path → Loaded) × (let g = scene_of matcher.asked earlier past in
+    Agrees g matcher.cache × IsSameKept g h matcher.cache))
+
+-- P holds of each scene of a matcher over a tree for which what it keeps is right
 abbrev pub InScene : IncrementalIgnore → Memory → (QueryScene → Type 0) → Type 0
 InScene matcher tree P =
     (loads : Path → Loaded) → AreLoads (tree_of tree) matcher.asked.settings loads
-    → let g = scene_of matcher.asked (tree_of tree) loads in Agrees g matcher.cache → P g
+    → let g = scene_of matcher.asked (tree_of tree) loads in IsRight matcher g → P g
 
--- asking leads from a matcher to one that is asked by the same, that agrees where it did, and that
--- keeps what it kept
+-- asking leads from a matcher to one that is asked by the same, that agrees where what was kept was
+-- right, and that keeps what it kept
 abbrev pub StaysIn : IncrementalIgnore → Memory → IncrementalIgnore → Type 0
 StaysIn old tree new = InScene old tree (λ g. Agrees g new.cache) × Stays old.cache new.cache × (new.asked ≡ old.asked)
 
 -- asking a matcher's handle about a path, by a tree's, gives the answer of the definition in each
--- scene of the tree with which what is kept agrees, or says why there is none
+-- scene of the tree for which what is kept is right, or says why there is none
 abbrev pub Matches : Kept → Kept → Bytes → Bool → Result IncrementalMatch Stopped → Kept → Type 0
 Matches old tree path is_dir (Ok found) new =
     (before after : IncrementalIgnore) × (files : Memory) × (matcher_in old ≡ Some before) × (tree_in tree ≡ Some files)

@@ -2,6 +2,8 @@
 use Rattle.std.specs.Prelude.{ℕ, Result, Ok, Err}
 use Rattle.ignore_files.specs.declared.tree_error.TreeError.{TreeError}
 use Rattle.ignore_files.specs.declared.tree_error.TreeError.TheVariants as tree
+use Rattle.ignore_guide.specs.declared.error.GuideError.{GuideError}
+use Rattle.ignore_guide.specs.declared.error.GuideError.TheVariants as error
 use Rattle.ignore_kept.specs.declared.refused.Refused.{Refused}
 use Rattle.ignore_kept.specs.declared.refused.Refused.TheVariants as refused
 use Rattle.ignore_kept.specs.declared.stopped.Stopped.{Stopped}
@@ -36,3 +38,10 @@ stopped_by refused.Memory = Memory
 stopped_by refused.Line = Invalid
 stopped_by refused.Misused = Misused
 stopped_by refused.Outside = Invalid
+
+-- why a guide does nothing: a place, or a name, that is none is a call that isn't to be made
+abbrev pub guide_stop : GuideError → Stopped
+guide_stop error.Memory = Memory
+guide_stop error.NoPlace = Misused
+guide_stop error.NoName = Misused
+guide_stop error.HasChildren = Misused

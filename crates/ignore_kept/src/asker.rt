@@ -9,6 +9,7 @@ use crate::kept::Kept;
 use crate::room::text_of;
 use crate::stopped::Stopped;
 use ignore::files::{Env, MemoryTree};
+use ignore::query_laws::what_is_kept_stays_right;
 use ignore::{Error, IncrementalIgnore, IncrementalMatch, WalkBuilder, WalkOptions};
 
 /// What becomes of a path besides the verdict: whether a walk would enter the directory, and whether
@@ -122,6 +123,7 @@ fn query(
     ensures out_of_memory { IfErr result (λ e. e ≡ Memory) }
 {
     tree.is_honest();
+    what_is_kept_stays_right();
     let found = matcher.matched(tree, path, is_dir)?;
     Ok(found)
 }

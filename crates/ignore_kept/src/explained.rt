@@ -14,6 +14,7 @@ use crate::kept::Kept;
 use crate::room::text_of;
 use crate::stopped::Stopped;
 use ignore::files::MemoryTree;
+use ignore::query_laws::what_is_kept_stays_right;
 use ignore::{
     Cause, Explanation, IncrementalIgnore, IncrementalMatch, Match, NamedRule, NamedType, Reason,
     RuleRank,
@@ -116,6 +117,7 @@ fn query(
     ensures out_of_memory { IfErr result (λ e. e ≡ Memory) }
 {
     tree.is_honest();
+    what_is_kept_stays_right();
     let (explanation, _) = matcher.explain(tree, path, is_dir)?;
     Ok(explanation)
 }
@@ -147,7 +149,7 @@ fn untold(alloc: Global, stopped: Stopped) -> Told
     }
 }
 
-const NO_WHY: Why = Why {
+pub(crate) const NO_WHY: Why = Why {
     kind: 0,
     rank: 0,
     line: 0,
@@ -163,7 +165,7 @@ const NO_WHY: Why = Why {
 };
 
 /// The numbers of parts, and the lengths of their texts.
-fn told_as(parts: &Lent<'_>) -> Why
+pub(crate) fn told_as(parts: &Lent<'_>) -> Why
     ensures { result ≡ told_as (parts_of parts.now) }
 {
     Why {
@@ -183,7 +185,7 @@ fn told_as(parts: &Lent<'_>) -> Why
 }
 
 /// The texts of parts, one after the other.
-fn texts_of(alloc: Global, parts: &Lent<'_>) -> Result<Vec<u8>, AllocError>
+pub(crate) fn texts_of(alloc: Global, parts: &Lent<'_>) -> Result<Vec<u8>, AllocError>
     ensures { IfOk result (λ text. text.items ≡ texts_of (parts_of parts.now)) }
 {
     let mut text = Vec::from_slice(alloc, parts.directory.as_bytes())?;
@@ -231,7 +233,7 @@ fn inside_parts<'r>(directory: &'r str, parts: Lent<'r>) -> Lent<'r>
     }
 }
 
-fn said_parts(said: &Match<Cause>) -> Lent<'_>
+pub(crate) fn said_parts(said: &Match<Cause>) -> Lent<'_>
     ensures { parts_of result ≡ said_parts (match_map cited_of said.now) }
 {
     match said {

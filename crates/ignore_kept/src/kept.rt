@@ -1,5 +1,6 @@
 //! What a handle keeps.
 
+use crate::guided::Guided;
 use crate::setup::Setup;
 use crate::walked::Walked;
 use ignore::files::MemoryTree;
@@ -28,6 +29,8 @@ pub enum Kept {
     Matcher(IncrementalIgnore),
     /// The items of a walk.
     Walk(Walked),
+    /// A guide for a host that walks by itself.
+    Guide(Guided),
     /// Nothing: a call has what was kept, and gives it back before it ends.
     Lent,
 }

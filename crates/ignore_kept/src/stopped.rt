@@ -7,6 +7,7 @@ ghost use Rattle.ignore_kept.specs.Stops.{ended_code, stop_code, tree_code};
 use crate::refused::Refused;
 use ignore::Error;
 use ignore::files::TreeError;
+use ignore::guide::GuideError;
 use std::alloc::{AllocError, AllocFailed};
 
 /// Why a call did nothing.
@@ -98,6 +99,23 @@ impl From<Error> for Stopped {
 
     fn from(_error: Error) -> Stopped {
         Stopped::Memory
+    }
+}
+
+/// Of calls of a guide: a place, or a name, that is none is a call that isn't to be made.
+impl From<GuideError> for Stopped {
+    ghost use Rattle.std.specs.Prelude.{◌≡◌};
+    ghost use Rattle.ignore_kept.specs.Stops.{guide_stop};
+
+    ghost from_gives = { λ e stopped. stopped ≡ guide_stop e };
+
+    fn from(error: GuideError) -> Stopped {
+        match error {
+            GuideError::Memory => Stopped::Memory,
+            GuideError::NoPlace => Stopped::Misused,
+            GuideError::NoName => Stopped::Misused,
+            GuideError::HasChildren => Stopped::Misused,
+        }
     }
 }
 
