@@ -2,7 +2,7 @@ use crate::Error;
 use std::ffi::OsStr;
 use std::fs::{self, FileType, Metadata};
 use std::io;
-use std::os::unix::fs::{DirEntryExt, MetadataExt};
+use std::os::unix::fs::MetadataExt;
 use std::path::{Path, PathBuf};
 
 /// How standard input is shown.
@@ -135,21 +135,16 @@ impl DirEntry {
     }
 
     /// An entry as its directory lists it.
-    pub(crate) fn listed(entry: &fs::DirEntry, depth: usize) -> Result<DirEntry, Error> {
-        let path = entry.path();
-        let kind = match entry.file_type() {
-            Ok(kind) => kind,
-            Err(error) => return Err(Error::of_walk(error, &path, depth)),
-        };
+    pub(crate) fn listed(path: PathBuf, kind: FileType, ino: u64, depth: usize) -> DirEntry {
         let disk = OnDisk {
             path,
             kind,
             is_followed: false,
             depth,
-            ino: entry.ino(),
+            ino,
         };
         let what = What::Disk(disk);
-        Ok(DirEntry { what, err: None })
+        DirEntry { what, err: None }
     }
 }
 

@@ -1,8 +1,9 @@
 //! Matchers of single paths.
 
-use crate::decide::{Asked, Decision, Dir, Guide, Place, Plan};
+use crate::decide::{Asked, Begun, Decision, Guide, Place, Plan};
 use crate::error::Errors;
 use crate::library::Verdict;
+use crate::names::told;
 use crate::Error;
 use std::collections::HashMap;
 use std::ffi::OsStr;
@@ -20,7 +21,6 @@ use std::{env, fmt};
 pub struct IncrementalIgnore {
     root: PathBuf,
     plan: Arc<Plan>,
-    max_filesize: Option<u64>,
     follow_links: bool,
     /// What was read, which one call has at a time.
     kept: Mutex<Option<Kept>>,
@@ -29,7 +29,6 @@ pub struct IncrementalIgnore {
 /// The directories that were entered.
 struct Kept {
     guide: Guide,
-    above: Place,
     dirs: HashMap<PathBuf, Known>,
 }
 
@@ -43,7 +42,6 @@ impl Clone for IncrementalIgnore {
         IncrementalIgnore {
             root: self.root.clone(),
             plan: self.plan.clone(),
-            max_filesize: self.max_filesize,
             follow_links: self.follow_links,
             kept: Mutex::new(None),
         }
@@ -59,16 +57,10 @@ impl fmt::Debug for IncrementalIgnore {
 }
 
 impl IncrementalIgnore {
-    pub(crate) fn new(
-        root: &Path,
-        plan: &Arc<Plan>,
-        max_filesize: Option<u64>,
-        follow_links: bool,
-    ) -> IncrementalIgnore {
+    pub(crate) fn new(root: &Path, plan: &Arc<Plan>, follow_links: bool) -> IncrementalIgnore {
         IncrementalIgnore {
             root: root.to_path_buf(),
             plan: plan.clone(),
-            max_filesize,
             follow_links,
             kept: Mutex::new(None),
         }
@@ -116,32 +108,41 @@ impl IncrementalIgnore {
         let Some(names) = names_of(path).filter(|_| !self.is_stdin()) else {
             return undecided(is_dir);
         };
+        let limited = |verdict| self.plan.limited(names.len(), is_dir, verdict);
+        let whole = limited(Verdict::None);
         let kept = self.kept.get_mut().unwrap_or_else(PoisonError::into_inner);
         if kept.is_none() && self.root.is_dir() {
             *kept = Some(Kept::of(&self.plan, &self.root, errors));
         }
-        let Some(kept) = kept else {
-            return undecided(is_dir);
-        };
-        let Some((name, way)) = names.split_last() else {
-            return kept.decide(Path::new(""), OsStr::new(""), &self.root, is_dir);
+        let (Some(kept), Some((name, way)), Verdict::None) =
+            (kept, names.split_last(), whole.verdict)
+        else {
+            return whole;
         };
         let Some(dir) = kept.way(&self.root, way, errors) else {
-            return ignored();
+            return limited(Verdict::Ignore);
         };
-        let whole = self.root.join(&dir).join(name);
-        let decision = kept.decide(&dir, name, &whole, is_dir);
-        match self.max_filesize {
-            Some(most) if !is_dir && decision.verdict != Verdict::Ignore => {
-                match size(&whole, self.follow_links) {
-                    Ok(size) if size > most => return ignored(),
-                    Ok(_) => {}
-                    Err(error) => errors.push(Error::Io(error).with_path(whole)),
-                }
-            }
-            _ => {}
+        let shown = self.root.join(&dir);
+        let text = told(Path::new(name));
+        let asked = |size| Asked {
+            name,
+            told: &text,
+            dir: &shown,
+            is_dir,
+            size,
+        };
+        let decision = kept.decide(&dir, &asked(None));
+        if is_dir || decision.verdict == Verdict::Ignore || !self.plan.asks_sizes() {
+            return decision;
         }
-        decision
+        let path = shown.join(name);
+        match size(&path, self.follow_links) {
+            Ok(size) => kept.decide(&dir, &asked(Some(size))),
+            Err(error) => {
+                errors.push(Error::Io(error).with_path(path));
+                decision
+            }
+        }
     }
 }
 
@@ -161,28 +162,14 @@ fn undecided(is_dir: bool) -> Decision {
     }
 }
 
-fn ignored() -> Decision {
-    Decision {
-        verdict: Verdict::Ignore,
-        should_descend: false,
-        is_within_depth: true,
-    }
-}
-
 impl Kept {
     fn of(plan: &Arc<Plan>, root: &Path, errors: &mut Errors) -> Kept {
-        let mut guide = Guide::new(plan);
-        let (above, error) = guide.root(root);
-        errors.add(error);
-        let dir = Dir {
-            name: OsStr::new(""),
-            path: root,
-            is_link: false,
-        };
-        let (place, error) = guide.enter(&above, &dir, None);
-        errors.add(error);
+        let mut guide = Guide::new(plan, false);
+        let Begun { place, above, own } = guide.root(root);
+        errors.add(above);
+        errors.add(own);
         let dirs = HashMap::from([(PathBuf::new(), Known::Entered(place))]);
-        Kept { guide, above, dirs }
+        Kept { guide, dirs }
     }
 
     /// The directory of these names below the root, which is entered with all on the way to it;
@@ -203,32 +190,35 @@ impl Kept {
                 Some(Known::Ignored) => return None,
                 None => {}
             }
-            let path = root.join(&dir);
-            if self.decide(&parent, name, &path, true).verdict == Verdict::Ignore {
+            let (text, shown) = (told(Path::new(name)), root.join(&parent));
+            let asked = Asked {
+                name,
+                told: &text,
+                dir: &shown,
+                is_dir: true,
+                size: None,
+            };
+            let above = match self.dirs.get(&parent) {
+                Some(Known::Entered(above)) => above.clone(),
+                _ => return None,
+            };
+            if self.guide.decide(&above, &asked).verdict == Verdict::Ignore {
                 self.dirs.insert(dir, Known::Ignored);
                 return None;
             }
-            let entered = Dir {
-                name,
-                path: &path,
-                is_link: path.is_symlink(),
-            };
-            let above = match self.dirs.get(&parent) {
-                Some(Known::Entered(place)) => place,
-                _ => &self.above,
-            };
-            let (place, error) = self.guide.enter(above, &entered, None);
+            let (place, error) = self.guide.enter(&above, &text, &[]);
             errors.add(error);
             self.dirs.insert(dir.clone(), Known::Entered(place));
         }
         Some(dir)
     }
 
-    fn decide(&mut self, dir: &Path, name: &OsStr, path: &Path, is_dir: bool) -> Decision {
-        let Some(Known::Entered(place)) = self.dirs.get(dir) else {
-            return ignored();
+    fn decide(&mut self, dir: &Path, asked: &Asked<'_>) -> Decision {
+        let (guide, dirs) = (&mut self.guide, &self.dirs);
+        let Some(Known::Entered(place)) = dirs.get(dir) else {
+            return undecided(asked.is_dir);
         };
-        self.guide.decide(place, &Asked { name, path, is_dir })
+        guide.decide(place, asked)
     }
 }
 

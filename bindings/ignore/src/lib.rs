@@ -26,6 +26,7 @@ pub mod gitignore;
 mod incremental;
 #[allow(missing_docs)]
 mod library;
+mod listing;
 mod matched;
 mod names;
 pub mod overrides;

@@ -9,6 +9,32 @@
 use std::alloc::{handle_alloc_error, Layout};
 use std::ptr::null_mut;
 
+macro_rules! owner {
+    ($(#[$text:meta])* $name:ident, $free:ident) => {
+        $(#[$text])*
+        pub struct $name(Handle);
+
+        // Nothing of a thread is in a handle, which has one owner.
+        unsafe impl Send for $name {}
+
+        impl Drop for $name {
+            fn drop(&mut self) {
+                unsafe { $free(Handle { at: self.0.at }) }
+            }
+        }
+
+        impl std::fmt::Debug for $name {
+            fn fmt(&self, f: &mut std::fmt::Formatter<'_>) -> std::fmt::Result {
+                f.write_str(stringify!($name))
+            }
+        }
+    };
+}
+
+mod guide;
+
+pub use guide::{Fault, Given, Guide, Kind, Problem, Spot, Wanted, What};
+
 const OK: u32 = 0;
 const NONE: u32 = 1;
 const IGNORE: u32 = 2;
@@ -70,16 +96,13 @@ pub enum Verdict {
 type At = *mut Handle;
 type Text = *const u8;
 type TextCall = unsafe extern "C" fn(At, Text, usize) -> u32;
-type TwoTextsCall = unsafe extern "C" fn(At, Text, usize, Text, usize) -> u32;
 type SwitchCall = unsafe extern "C" fn(At, bool) -> u32;
 type LimitCall = unsafe extern "C" fn(At, bool, usize) -> u32;
 type DecidedCall = unsafe extern "C" fn(At, Text, usize, bool, *mut Reason, *mut u8, usize) -> u32;
 
 extern "C" {
     fn ignore_tree_new(cwd: Text, length: usize, tree: At) -> u32;
-    fn ignore_tree_add_dir(tree: At, path: Text, length: usize) -> u32;
     fn ignore_tree_add_file(tree: At, path: Text, length: usize, bytes: Text, n: usize) -> u32;
-    fn ignore_tree_add_link(tree: At, path: Text, length: usize, target: Text, n: usize) -> u32;
     fn ignore_tree_free(tree: Handle);
     fn ignore_builder_new(root: Text, length: usize, builder: At) -> u32;
     fn ignore_builder_add_custom_ignore_filename(builder: At, text: Text, length: usize) -> u32;
@@ -111,17 +134,7 @@ extern "C" {
     fn ignore_builder_add_ignore(builder: At, tree: At, path: Text, length: usize) -> u32;
     fn ignore_builder_problem(builder: At, room: *mut u8, length: usize, whole: *mut usize) -> u32;
     fn ignore_builder_free(builder: Handle);
-    fn ignore_matcher_new(builder: At, tree: At, matcher: At) -> u32;
-    fn ignore_matcher_matched(
-        matcher: At,
-        tree: At,
-        path: Text,
-        length: usize,
-        is_dir: bool,
-        found: *mut Found,
-    ) -> u32;
-    fn ignore_matcher_forget(matcher: At, dir: Text, length: usize, count: *mut usize) -> u32;
-    fn ignore_matcher_free(matcher: Handle);
+    fn ignore_builder_max_filesize(builder: At, is_set: bool, most: u64) -> u32;
     fn ignore_rules_new(root: Text, length: usize, options: *const RuleOptions, rules: At) -> u32;
     fn ignore_rules_set_options(rules: At, options: *const RuleOptions) -> u32;
     fn ignore_rules_add_line(rules: At, from: Text, length: usize, line: Text, n: usize) -> u32;
@@ -207,28 +220,6 @@ fn whole_text(mut call: impl FnMut(*mut u8, usize, *mut usize) -> u32) -> String
     }
 }
 
-macro_rules! owner {
-    ($(#[$text:meta])* $name:ident, $free:ident) => {
-        $(#[$text])*
-        pub struct $name(Handle);
-
-        // Nothing of a thread is in a handle, which has one owner.
-        unsafe impl Send for $name {}
-
-        impl Drop for $name {
-            fn drop(&mut self) {
-                unsafe { $free(Handle { at: self.0.at }) }
-            }
-        }
-
-        impl std::fmt::Debug for $name {
-            fn fmt(&self, f: &mut std::fmt::Formatter<'_>) -> std::fmt::Result {
-                f.write_str(stringify!($name))
-            }
-        }
-    };
-}
-
 owner!(
     /// Rules of gitignore lines.
     Rules,
@@ -244,12 +235,6 @@ owner!(
     Builder,
     ignore_builder_free
 );
-owner!(
-    /// A matcher of single paths.
-    Matcher,
-    ignore_matcher_free
-);
-
 impl Rules {
     /// Rules of a root, without lines.
     pub fn new(root: &[u8], options: &RuleOptions) -> Rules {
@@ -328,36 +313,31 @@ impl Tree {
         }))
     }
 
-    fn text(&mut self, call: TextCall, path: &[u8]) -> bool {
-        let code = unsafe { call(&mut self.0, path.as_ptr(), path.len()) };
-        self.told(code)
-    }
-
-    fn two(&mut self, call: TwoTextsCall, path: &[u8], text: &[u8]) -> bool {
-        let (to, n) = (text.as_ptr(), text.len());
-        let code = unsafe { call(&mut self.0, path.as_ptr(), path.len(), to, n) };
-        self.told(code)
-    }
-
-    /// Whether something was told; what doesn't fit into the tree is left out of it.
-    fn told(&self, code: u32) -> bool {
-        if code == NO_MEMORY {
-            wrong(code)
-        }
-        code == OK
-    }
-
-    pub fn add_dir(&mut self, path: &[u8]) -> bool {
-        self.text(ignore_tree_add_dir, path)
-    }
-
+    /// Adds a file. Whether it was told; what doesn't fit into the tree is left out of it.
     pub fn add_file(&mut self, path: &[u8], bytes: &[u8]) -> bool {
-        self.two(ignore_tree_add_file, path, bytes)
+        let (at, n) = (bytes.as_ptr(), bytes.len());
+        was_told(unsafe { ignore_tree_add_file(&mut self.0, path.as_ptr(), path.len(), at, n) })
+    }
+}
+
+#[cfg(test)]
+impl Tree {
+    pub fn add_dir(&mut self, path: &[u8]) -> bool {
+        was_told(unsafe { ignore_tree_add_dir(&mut self.0, path.as_ptr(), path.len()) })
     }
 
     pub fn add_link(&mut self, path: &[u8], target: &[u8]) -> bool {
-        self.two(ignore_tree_add_link, path, target)
+        let (at, n) = (target.as_ptr(), target.len());
+        was_told(unsafe { ignore_tree_add_link(&mut self.0, path.as_ptr(), path.len(), at, n) })
     }
+}
+
+/// Whether something was told to a tree.
+fn was_told(code: u32) -> bool {
+    if code == NO_MEMORY {
+        wrong(code)
+    }
+    code == OK
 }
 
 /// A setting that is on or off.
@@ -434,6 +414,12 @@ impl Builder {
         done(unsafe { call(&mut self.0, depth.is_some(), depth.unwrap_or(0)) })
     }
 
+    /// The size above which a file is ignored.
+    pub fn max_filesize(&mut self, most: Option<u64>) {
+        let (is_set, most) = (most.is_some(), most.unwrap_or(0));
+        done(unsafe { ignore_builder_max_filesize(&mut self.0, is_set, most) })
+    }
+
     /// Takes the globs of a command line. Whether each is one.
     pub fn overrides<'g>(
         &mut self,
@@ -484,30 +470,6 @@ impl Builder {
     }
 }
 
-impl Matcher {
-    /// The matcher of a builder with one root.
-    pub fn new(builder: &mut Builder, tree: &mut Tree) -> Matcher {
-        Matcher(made(|at| unsafe {
-            ignore_matcher_new(&mut builder.0, &mut tree.0, at)
-        }))
-    }
-
-    /// What becomes of a path below the root.
-    pub fn matched(&mut self, tree: &mut Tree, path: &[u8], is_dir: bool) -> (Verdict, Found) {
-        let mut found = Found::default();
-        let (at, n) = (path.as_ptr(), path.len());
-        let code =
-            unsafe { ignore_matcher_matched(&mut self.0, &mut tree.0, at, n, is_dir, &mut found) };
-        (verdict(code), found)
-    }
-
-    /// Forgets a directory below the root.
-    pub fn forget(&mut self, dir: &[u8]) {
-        let mut count = 0;
-        done(unsafe { ignore_matcher_forget(&mut self.0, dir.as_ptr(), dir.len(), &mut count) })
-    }
-}
-
 /// An item of the library's own walk, with which tests compare.
 #[cfg(test)]
 #[derive(Debug)]
@@ -534,8 +496,9 @@ struct WalkEntry {
 
 #[cfg(test)]
 extern "C" {
+    fn ignore_tree_add_dir(tree: At, path: Text, length: usize) -> u32;
+    fn ignore_tree_add_link(tree: At, path: Text, length: usize, target: Text, n: usize) -> u32;
     fn ignore_builder_follow_links(builder: At, on: bool) -> u32;
-    fn ignore_builder_max_filesize(builder: At, is_set: bool, most: u64) -> u32;
     fn ignore_walk_new(builder: At, tree: At, walk: At) -> u32;
     fn ignore_walk_next(walk: At, entry: *mut WalkEntry, room: *mut u8, length: usize) -> u32;
     fn ignore_walk_free(walk: Handle);
@@ -543,11 +506,9 @@ extern "C" {
 
 #[cfg(test)]
 impl Builder {
-    /// What a walk does besides the rules.
-    pub fn walks(&mut self, follow_links: bool, max_filesize: Option<u64>) {
-        done(unsafe { ignore_builder_follow_links(&mut self.0, follow_links) });
-        let (is_set, most) = (max_filesize.is_some(), max_filesize.unwrap_or(0));
-        done(unsafe { ignore_builder_max_filesize(&mut self.0, is_set, most) });
+    /// Whether a walk follows links.
+    pub fn follow_links(&mut self, yes: bool) {
+        done(unsafe { ignore_builder_follow_links(&mut self.0, yes) });
     }
 }
 

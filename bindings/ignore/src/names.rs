@@ -5,8 +5,9 @@
 //! is. So no two names are told as one.
 
 use std::borrow::Cow;
-use std::os::unix::ffi::OsStrExt;
-use std::path::Path;
+use std::ffi::OsString;
+use std::os::unix::ffi::{OsStrExt, OsStringExt};
+use std::path::{Path, PathBuf};
 use std::str::from_utf8;
 
 const FIRST: u32 = 0xF700;
@@ -49,9 +50,22 @@ pub fn told(path: &Path) -> Cow<'_, [u8]> {
     Cow::Owned(text.into_bytes())
 }
 
+/// The path of the disk that the library knows by a text.
+pub fn of_disk(text: &[u8]) -> PathBuf {
+    let mut bytes = Vec::with_capacity(text.len());
+    for c in String::from_utf8_lossy(text).chars() {
+        if is_private(c) {
+            bytes.push((u32::from(c) - FIRST) as u8);
+        } else {
+            bytes.extend_from_slice(c.encode_utf8(&mut [0; 4]).as_bytes());
+        }
+    }
+    PathBuf::from(OsString::from_vec(bytes))
+}
+
 #[cfg(test)]
 mod tests {
-    use super::told;
+    use super::{of_disk, told};
     use std::collections::HashSet;
     use std::ffi::OsStr;
     use std::os::unix::ffi::OsStrExt;
@@ -75,6 +89,7 @@ mod tests {
         let mut texts = HashSet::new();
         for name in names {
             let text = told(Path::new(OsStr::from_bytes(name))).into_owned();
+            assert_eq!(of_disk(&text).as_os_str().as_bytes(), name);
             assert!(texts.insert(String::from_utf8(text).expect("UTF-8")));
         }
         assert!(texts.contains("\u{f7ff}") && texts.contains("\u{f7ef}\u{f79f}\u{f7bf}"));

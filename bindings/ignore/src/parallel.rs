@@ -4,16 +4,17 @@
 //! entries to be visited. Work that was put there and isn't done yet is counted; the walk ends when
 //! there is none, or when a visitor says so. A thread that has nothing to do sleeps.
 
-use crate::decide::{Answers, Asked, Dir, Guide, Place, Plan};
+use crate::decide::{Answers, Asked, Begun, Guide, Place, Plan};
 use crate::entry::{identity, DirEntry, Follows, Identity};
 use crate::library::Verdict;
-use crate::walk::{check_loop, deciding, Manner};
+use crate::listing::{Listed, Listing};
+use crate::names::told;
+use crate::walk::{check_loop, made, Manner};
 use crate::Error;
-use std::ffi::OsString;
 use std::path::{Path, PathBuf};
 use std::sync::atomic::{AtomicBool, Ordering};
 use std::sync::{Arc, Condvar, Mutex, MutexGuard, OnceLock, PoisonError};
-use std::{fs, iter, panic, thread};
+use std::{iter, panic, thread};
 
 /// What a visitor says of the rest of the walk.
 #[derive(Clone, Copy, Debug, Eq, PartialEq)]
@@ -84,15 +85,14 @@ struct Root {
     path: PathBuf,
     /// Its device, where another one isn't entered.
     device: Option<u64>,
-    /// What is above it, as the first thread read it.
-    above: OnceLock<Arc<Answers>>,
+    /// What decides above it and in it, as the first thread read it.
+    answers: OnceLock<Arc<Answers>>,
 }
 
 /// A directory that is entered once, and told to each thread that works below it.
 struct Folder {
     root: Arc<Root>,
     parent: Option<Arc<Folder>>,
-    name: OsString,
     path: PathBuf,
     identity: Option<Identity>,
     /// What is in it that decides, as the thread read it that entered it.
@@ -103,6 +103,11 @@ impl Folder {
     /// The directories from this one to its root.
     fn up(self: &Arc<Folder>) -> impl Iterator<Item = &Arc<Folder>> {
         iter::successors(Some(self), |folder| folder.parent.as_ref())
+    }
+
+    /// Its name.
+    fn name(&self) -> &Path {
+        Path::new(self.path.file_name().unwrap_or(self.path.as_os_str()))
     }
 }
 
@@ -118,6 +123,9 @@ enum Work {
 
 /// So many entries are visited by the thread that takes them.
 const TOGETHER: usize = 16;
+
+/// So much of one directory is put on the stack at once.
+const AT_ONCE: usize = 64;
 
 #[derive(Default)]
 struct State {
@@ -293,11 +301,11 @@ impl WalkParallel {
         };
         let entry = DirEntry::at(&path, 0, Follows::Hidden);
         let entry = entry.map_err(|error| Error::of_walk(error, &path, 0))?;
-        let above = OnceLock::new();
+        let answers = OnceLock::new();
         let root = Arc::new(Root {
             path,
             device,
-            above,
+            answers,
         });
         Ok(Work::Root(root, entry))
     }
@@ -315,7 +323,8 @@ struct Worker<'w, 's> {
     shared: &'w Shared,
     visitor: Box<dyn ParallelVisitor + 's>,
     guide: Option<Guide>,
-    above: Option<(Arc<Root>, Place)>,
+    root: Option<(Arc<Root>, Place)>,
+    /// The directories on the way, the root as the first.
     way: Vec<Entered>,
 }
 
@@ -330,7 +339,7 @@ impl<'w, 's> Worker<'w, 's> {
             shared,
             visitor,
             guide: None,
-            above: None,
+            root: None,
             way: Vec::new(),
         }
     }
@@ -345,8 +354,8 @@ impl<'w, 's> Worker<'w, 's> {
     }
 
     fn guide(&mut self) -> &mut Guide {
-        let plan = &self.walk.plan;
-        self.guide.get_or_insert_with(|| Guide::new(plan))
+        let (plan, shares) = (&self.walk.plan, self.walk.count() > 1);
+        self.guide.get_or_insert_with(|| Guide::new(plan, shares))
     }
 
     fn work(&mut self, work: Work) -> WalkState {
@@ -360,17 +369,19 @@ impl<'w, 's> Worker<'w, 's> {
                 WalkState::Continue
             }
             Work::Root(_, entry) if !entry.is_dir() => self.show(entry),
-            Work::Root(root, entry) => match self.begin(&root) {
-                WalkState::Quit => WalkState::Quit,
-                _ => {
-                    let folder = self.folder(&root, None, &entry);
-                    match folder {
-                        Ok(folder) => self.enter(&folder, entry),
-                        Err(error) => self.visitor.visit(Err(error)),
+            Work::Root(root, entry) => {
+                let Begun { place, above, own } = self.begin(&root);
+                if let Some(error) = above {
+                    if self.visitor.visit(Err(error)).is_quit() {
+                        return WalkState::Quit;
                     }
                 }
-            },
-            Work::Folder(folder, entry) => self.enter(&folder, entry),
+                match self.folder(&root, None, &entry) {
+                    Ok(folder) => self.enter(&folder, entry, Some((place, own))),
+                    Err(error) => self.visitor.visit(Err(error)),
+                }
+            }
+            Work::Folder(folder, entry) => self.enter(&folder, entry, None),
         }
     }
 
@@ -382,30 +393,30 @@ impl<'w, 's> Worker<'w, 's> {
         }
     }
 
-    /// Begins a root, and shows what is wrong above it.
-    fn begin(&mut self, root: &Arc<Root>) -> WalkState {
+    /// Begins a root.
+    fn begin(&mut self, root: &Arc<Root>) -> Begun {
         self.leave_root();
-        let (place, error) = self.guide().root(&root.path);
-        root.above.get_or_init(|| place.answers());
-        self.above = Some((root.clone(), place));
-        match error {
-            Some(error) => self.visitor.visit(Err(error)),
-            None => WalkState::Continue,
+        let begun = self.guide().root(&root.path);
+        if let Some(answers) = begun.place.answers() {
+            root.answers.get_or_init(|| answers);
         }
+        self.root = Some((root.clone(), begun.place.clone()));
+        begun
     }
 
     fn leave_root(&mut self) {
         self.leave_below(0);
-        if let Some((_, place)) = self.above.take() {
+        if let Some((_, place)) = self.root.take() {
             self.guide().leave(&place);
         }
     }
 
-    /// Leaves the directories on the way from the one with this number on.
+    /// Leaves the directories on the way from the one with this number on; but the root stays.
     fn leave_below(&mut self, count: usize) {
         while self.way.len() > count {
-            if let Some(Entered { place, .. }) = self.way.pop() {
-                self.guide().leave(&place);
+            match self.way.pop() {
+                Some(Entered { place, .. }) if !self.way.is_empty() => self.guide().leave(&place),
+                _ => {}
             }
         }
     }
@@ -421,32 +432,27 @@ impl<'w, 's> Worker<'w, 's> {
             false => None,
             true => Some(identity(&path).map_err(|e| Error::of_walk(e, &path, entry.depth()))?),
         };
-        let name = match parent {
-            Some(_) => entry.file_name().to_os_string(),
-            None => OsString::new(),
-        };
         Ok(Arc::new(Folder {
             root: root.clone(),
             parent: parent.cloned(),
-            name,
             path,
             identity,
             answers: OnceLock::new(),
         }))
     }
 
-    /// Has the directories on the way to a directory entered, by what other threads read of them.
+    /// Has a directory and those on the way to it entered, by what other threads were told of them.
     fn go_to(&mut self, parent: &Arc<Folder>) {
         let root = &parent.root;
-        if !self
-            .above
+        let is_there = self
+            .root
             .as_ref()
-            .is_some_and(|(it, _)| Arc::ptr_eq(it, root))
-        {
+            .is_some_and(|(it, _)| Arc::ptr_eq(it, root));
+        if !is_there {
             self.leave_root();
-            let answers = root.above.get().expect("a root that was begun").clone();
+            let answers = root.answers.get().expect("a root that was begun").clone();
             let place = self.guide().adopt_root(&root.path, answers);
-            self.above = Some((root.clone(), place));
+            self.root = Some((root.clone(), place));
         }
         let mut wanted: Vec<&Arc<Folder>> = parent.up().collect();
         wanted.reverse();
@@ -455,32 +461,35 @@ impl<'w, 's> Worker<'w, 's> {
             .take_while(|(it, folder)| Arc::ptr_eq(&it.folder, folder))
             .count();
         self.leave_below(same);
-        if let (Some(guide), Some((root, above))) = (&mut self.guide, &self.above) {
-            let entered = self.way.iter().map(|it| &it.place);
-            guide.renew(&root.path, iter::once(above).chain(entered));
-        }
         for folder in &wanted[same..] {
-            let answers = folder
-                .answers
-                .get()
-                .expect("a directory that was entered")
-                .clone();
-            let place = self.with_place(|guide, above| guide.adopt(above, &folder.name, answers));
+            let place = match folder.parent {
+                None => self.with_place(|_, root| root.clone()),
+                Some(_) => {
+                    let answers = folder.answers.get().cloned().unwrap_or_default();
+                    let name = told(folder.name());
+                    self.with_place(|guide, parent| guide.adopt(parent, &name, answers))
+                }
+            };
             let folder = Arc::clone(folder);
             self.way.push(Entered { folder, place });
         }
     }
 
-    /// What a call makes of the guide and of the last directory on the way.
+    /// What a call makes of the guide and of the last directory on the way, or else the root.
     fn with_place<R>(&mut self, call: impl FnOnce(&mut Guide, &Place) -> R) -> R {
-        let above = self.above.as_ref().map(|(_, place)| place);
-        let last = self.way.last().map(|it| &it.place).or(above);
+        let root = self.root.as_ref().map(|(_, place)| place);
+        let last = self.way.last().map(|it| &it.place).or(root);
         let guide = self.guide.as_mut().expect("a guide with a root");
         call(guide, last.expect("a root that was begun"))
     }
 
     /// Enters a directory, shows it, and puts what is in it on the stack.
-    fn enter(&mut self, folder: &Arc<Folder>, mut entry: DirEntry) -> WalkState {
+    fn enter(
+        &mut self,
+        folder: &Arc<Folder>,
+        mut entry: DirEntry,
+        begun: Option<(Place, Option<Error>)>,
+    ) -> WalkState {
         let manner = &self.walk.manner;
         let depth = entry.depth();
         if !manner.lists(depth) {
@@ -501,41 +510,29 @@ impl<'w, 's> Worker<'w, 's> {
                 }
             }
         }
-        let listed = match fs::read_dir(&folder.path) {
-            Ok(listed) => listed,
+        let mut listing = match Listing::read(&folder.path) {
+            Ok(listing) => listing,
             Err(error) => {
                 let state = self.show(entry);
                 if state != WalkState::Continue {
                     return state;
                 }
-                return self
-                    .visitor
-                    .visit(Err(Error::of_walk(error, &folder.path, depth)));
+                let error = Error::of_walk(error, &folder.path, depth);
+                return self.visitor.visit(Err(error));
             }
         };
-        let (mut entries, mut errors) = (Vec::new(), Vec::new());
-        for item in listed {
-            match item {
-                Ok(item) => entries.push(item),
-                Err(error) => errors.push(Error::of_walk(error, &folder.path, depth + 1)),
-            }
-        }
-        if let Some(parent) = &folder.parent {
-            self.go_to(parent);
-        } else {
-            self.leave_below(0);
-        }
-        let error = self.enter_place(folder, entry.path_is_symlink(), &entries);
+        let error = self.enter_place(folder, &listing, begun);
         entry.set_error(error);
         let state = self.show(entry);
         if state != WalkState::Continue {
             return state;
         }
-        let state = self.sort_out(folder, entries, depth + 1);
+        let state = self.sort_out(folder, &mut listing, depth + 1);
         if state.is_quit() {
             return state;
         }
-        for error in errors {
+        while let Some(error) = listing.next_error() {
+            let error = Error::of_walk(error, &folder.path, depth + 1);
             if self.visitor.visit(Err(error)).is_quit() {
                 return WalkState::Quit;
             }
@@ -543,36 +540,45 @@ impl<'w, 's> Worker<'w, 's> {
         WalkState::Continue
     }
 
+    /// Enters a directory; one that was begun as a root has its place.
     fn enter_place(
         &mut self,
         folder: &Arc<Folder>,
-        is_link: bool,
-        entries: &[fs::DirEntry],
+        listing: &Listing,
+        begun: Option<(Place, Option<Error>)>,
     ) -> Option<Error> {
-        let listed = deciding(&self.walk.plan, entries.iter());
-        let dir = Dir {
-            name: &folder.name,
-            path: &folder.path,
-            is_link,
+        let (place, error) = match (begun, &folder.parent) {
+            (Some(begun), _) => {
+                self.leave_below(0);
+                begun
+            }
+            (None, parent) => {
+                if let Some(parent) = parent {
+                    self.go_to(parent);
+                }
+                let name = told(folder.name());
+                self.with_place(|guide, parent| guide.enter(parent, &name, listing.names()))
+            }
         };
-        let (place, error) =
-            self.with_place(|guide, above| guide.enter(above, &dir, Some(&listed)));
-        folder.answers.get_or_init(|| place.answers());
+        if let Some(answers) = place.answers() {
+            folder.answers.get_or_init(|| answers);
+        }
         let folder = folder.clone();
         self.way.push(Entered { folder, place });
         error
     }
 
     /// Puts the entries of a directory on the stack that are kept.
-    fn sort_out(
-        &mut self,
-        folder: &Arc<Folder>,
-        entries: Vec<fs::DirEntry>,
-        depth: usize,
-    ) -> WalkState {
+    fn sort_out(&mut self, folder: &Arc<Folder>, listing: &mut Listing, depth: usize) -> WalkState {
         let (mut work, mut together) = (Vec::new(), Vec::new());
-        for entry in entries {
-            match self.kept(folder, &entry, depth) {
+        while let Some(listed) = listing.next() {
+            if work.len() == AT_ONCE {
+                if self.shared.is_over() {
+                    return WalkState::Quit;
+                }
+                self.shared.put(work.drain(..).rev());
+            }
+            match self.kept(folder, listing, &listed, depth) {
                 Ok(None) => {}
                 Ok(Some((Some(child), entry))) => work.push(Work::Folder(child, entry)),
                 Ok(Some((None, entry))) => {
@@ -602,29 +608,47 @@ impl<'w, 's> Worker<'w, 's> {
     fn kept(
         &mut self,
         folder: &Arc<Folder>,
-        entry: &fs::DirEntry,
+        listing: &Listing,
+        listed: &Listed,
         depth: usize,
     ) -> Result<Option<(Option<Arc<Folder>>, DirEntry)>, Error> {
         let manner = &self.walk.manner;
-        let mut entry = DirEntry::listed(entry, depth)?;
-        if manner.follow_links && entry.is_symlink() {
+        let is_link = listed.kind.is_ok_and(|kind| kind.is_symlink());
+        let mut followed = None;
+        if manner.follow_links && is_link {
             // An error without a depth, as programs know it from earlier versions of the original.
-            let target = DirEntry::at(entry.path(), depth, Follows::Shown);
-            entry = target.map_err(|error| Error::Io(error).with_path(entry.path()))?;
+            let link = made(listing, listed, &folder.path, depth)?;
+            let target = DirEntry::at(link.path(), depth, Follows::Shown);
+            let entry = target.map_err(|error| Error::Io(error).with_path(link.path()))?;
             if entry.is_dir() {
-                check_loop(
-                    &entry,
-                    folder.up().map(|it| (it.path.as_path(), it.identity)),
-                )?;
+                let above = folder.up().map(|it| (it.path.as_path(), it.identity));
+                check_loop(&entry, above)?;
             }
+            followed = Some(entry);
         }
-        let asked = Asked {
-            name: entry.file_name(),
-            path: entry.path(),
-            is_dir: entry.is_dir(),
+        let kind_is_dir = listed.kind.is_ok_and(|kind| kind.is_dir());
+        let asked = |size| Asked {
+            name: listing.name(listed),
+            told: listing.told(listed),
+            dir: &folder.path,
+            is_dir: followed.as_ref().map_or(kind_is_dir, DirEntry::is_dir),
+            size,
         };
-        let decision = self.with_place(|guide, place| guide.decide(place, &asked));
-        if decision.verdict == Verdict::Ignore || manner.leaves_out(&entry)? {
+        let mut ignores = |size| {
+            let asked = asked(size);
+            self.with_place(|guide, place| guide.decide(place, &asked))
+                .verdict
+                == Verdict::Ignore
+        };
+        if listed.kind.is_ok() && ignores(None) {
+            return Ok(None);
+        }
+        let is_too_large = |size| ignores(Some(size));
+        let entry = match &followed {
+            Some(entry) => entry.clone(),
+            None => made(listing, listed, &folder.path, depth)?,
+        };
+        if manner.leaves_out(&entry, is_too_large)? {
             return Ok(None);
         }
         let child = match entry.is_dir() {

@@ -2,7 +2,7 @@
 
 use std::ffi::OsStr;
 use std::os::unix::ffi::OsStrExt;
-use std::path::Path;
+use std::path::{Path, PathBuf};
 
 /// The path without a leading `./`, if it has one.
 pub(crate) fn without_dot_slash(path: &Path) -> &Path {
@@ -22,4 +22,12 @@ pub(crate) fn last_name(path: &Path) -> Option<&OsStr> {
         _ if bytes.is_empty() => None,
         name => Some(OsStr::from_bytes(name)),
     }
+}
+
+/// The path of a name in a directory, in memory that is taken once.
+pub(crate) fn joined(dir: &Path, name: &OsStr) -> PathBuf {
+    let mut path = PathBuf::with_capacity(dir.as_os_str().len() + name.len() + 1);
+    path.push(dir);
+    path.push(name);
+    path
 }

@@ -1,116 +1,100 @@
-//! What of the disk decides, read as facts that can be told, by this thread and by others.
-//!
-//! Paths of facts are absolute, without links on their way.
+//! What a guide wants to know, read from the disk.
 
-use std::ffi::OsString;
-use std::fs::{self, FileType, Metadata};
-use std::path::{Component, Path, PathBuf};
+use crate::library::{Fault, Given, Kind, Wanted};
+use crate::names::{of_disk, told};
+use std::fs::{self, File};
+use std::io::{self, Read};
+use std::path::Path;
 use std::sync::Arc;
 
-/// So many links may be on the way to a path.
-const LINKS: usize = 40;
-
-/// What is at a path.
-#[derive(Clone, Debug)]
-pub(crate) enum Fact {
-    Dir(PathBuf),
-    File(PathBuf, Arc<[u8]>),
-    Link(PathBuf, PathBuf),
+/// That nothing is at a path.
+pub(crate) fn nothing() -> Given {
+    failed(Kind::Nothing, Fault::NotFound)
 }
 
-/// Reads facts.
-#[derive(Debug, Default)]
-pub(crate) struct Reader {
-    pub facts: Vec<Fact>,
-}
-
-/// A name in a directory, with what the directory says that it is.
-pub(crate) struct Listed {
-    pub name: OsString,
-    pub kind: Option<FileType>,
-}
-
-impl Reader {
-    /// Where a path leads from a directory that has no links on its way, and what is there. Each
-    /// directory and each link on the way is a fact.
-    pub(crate) fn lead(&mut self, from: &Path, path: &Path) -> (PathBuf, Option<Metadata>) {
-        let (mut real, mut waiting, mut links) = (from.to_path_buf(), Vec::new(), 0);
-        let mut found = None;
-        push_names(&mut waiting, &mut real, path);
-        while let Some(name) = waiting.pop() {
-            if name == ".." {
-                real.pop();
-                continue;
-            }
-            let here = real.join(&name);
-            let Ok(seen) = fs::symlink_metadata(&here) else {
-                return (
-                    waiting.iter().rev().fold(here, |at, name| at.join(name)),
-                    None,
-                );
-            };
-            if seen.is_symlink() {
-                let Ok(target) = fs::read_link(&here) else {
-                    return (here, None);
-                };
-                push_names(&mut waiting, &mut real, &target);
-                self.facts.push(Fact::Link(here.clone(), target));
-                links += 1;
-                if links > LINKS {
-                    return (here, None);
-                }
-                continue;
-            }
-            real = here;
-            if seen.is_dir() {
-                self.facts.push(Fact::Dir(real.clone()));
-            } else if !waiting.is_empty() {
-                return (real, None);
-            }
-            found = Some(seen);
-        }
-        match found {
-            Some(found) => (real, Some(found)),
-            None => {
-                let found = fs::symlink_metadata(&real).ok();
-                (real, found)
-            }
-        }
-    }
-
-    /// The bytes of the file to which a path leads, which are a fact, if there is one.
-    pub(crate) fn file(&mut self, from: &Path, path: &Path) -> Option<Arc<[u8]>> {
-        let (real, found) = self.lead(from, path);
-        if !found?.is_file() {
-            return None;
-        }
-        self.plain_file(real)
-    }
-
-    /// The bytes of the file at a path without links.
-    pub(crate) fn plain_file(&mut self, real: PathBuf) -> Option<Arc<[u8]>> {
-        let bytes: Arc<[u8]> = fs::read(&real).ok()?.into();
-        self.facts.push(Fact::File(real, bytes.clone()));
-        Some(bytes)
+fn failed(kind: Kind, fault: Fault) -> Given {
+    Given {
+        kind,
+        bytes: Arc::default(),
+        fault: Some(fault),
     }
 }
 
-/// Puts the names of a path before those that wait, of which the last is the next. An absolute path
-/// begins at the top.
-fn push_names(waiting: &mut Vec<OsString>, real: &mut PathBuf, path: &Path) {
-    if path.is_absolute() {
-        *real = PathBuf::from("/");
+/// The fault that stands for what the system answered.
+fn fault_of(error: &io::Error) -> Fault {
+    match error.raw_os_error() {
+        Some(2) => Fault::NotFound,
+        Some(1 | 13) => Fault::PermissionDenied,
+        Some(20) => Fault::NotADirectory,
+        Some(21) => Fault::IsADirectory,
+        Some(40) => Fault::LinkLimit,
+        _ => Fault::Other,
     }
-    let names = path.components().filter_map(|part| match part {
-        Component::Normal(_) | Component::ParentDir => Some(part.as_os_str().to_os_string()),
-        _ => None,
-    });
-    let names: Vec<OsString> = names.collect();
-    waiting.extend(names.into_iter().rev());
 }
 
-/// The first line of a text.
-pub(crate) fn first_line(text: &[u8]) -> Option<String> {
-    let text = String::from_utf8_lossy(text);
-    text.lines().next().map(str::to_string)
+/// What the system answered, by the fault that stands for it.
+pub(crate) fn error_of(fault: Fault) -> io::Error {
+    match fault {
+        Fault::NotFound => io::Error::from_raw_os_error(2),
+        Fault::PermissionDenied => io::Error::from_raw_os_error(13),
+        Fault::NotADirectory => io::Error::from_raw_os_error(20),
+        Fault::IsADirectory => io::Error::from_raw_os_error(21),
+        Fault::LinkLimit => io::Error::from_raw_os_error(40),
+        Fault::InvalidData => io::Error::new(
+            io::ErrorKind::InvalidData,
+            "stream did not contain valid UTF-8",
+        ),
+        Fault::Other => io::Error::new(io::ErrorKind::Other, "input or output failed"),
+    }
+}
+
+/// Reads what is wanted of the path that the library knows by a text.
+pub(crate) fn read(wanted: Wanted, text: &[u8]) -> Given {
+    let path = of_disk(text);
+    if wanted == Wanted::Canonical {
+        return canonical(&path);
+    }
+    let found = match fs::metadata(&path) {
+        Ok(found) => found,
+        Err(error) => return failed(Kind::Nothing, fault_of(&error)),
+    };
+    let kind = match found.file_type() {
+        it if it.is_file() => Kind::File,
+        it if it.is_dir() => Kind::Dir,
+        _ => Kind::Other,
+    };
+    match (wanted, kind) {
+        (Wanted::Kind, _) => Given {
+            kind,
+            bytes: Arc::default(),
+            fault: None,
+        },
+        (_, Kind::File) => content(&path, found.len()),
+        (_, Kind::Dir) => failed(kind, Fault::IsADirectory),
+        _ => failed(kind, Fault::Other),
+    }
+}
+
+fn canonical(path: &Path) -> Given {
+    match fs::canonicalize(path) {
+        Ok(real) => Given {
+            kind: Kind::Nothing,
+            bytes: Arc::new(told(&real).into_owned()),
+            fault: None,
+        },
+        Err(error) => failed(Kind::Nothing, fault_of(&error)),
+    }
+}
+
+/// What can be read of a file, of which the size is known that it has.
+fn content(path: &Path, size: u64) -> Given {
+    let room = usize::try_from(size).unwrap_or(0).min(1 << 20) + 1;
+    let mut bytes = Vec::with_capacity(room);
+    // (without a limit the system would be asked for the size once more)
+    let ended = File::open(path).and_then(|file| file.take(u64::MAX).read_to_end(&mut bytes));
+    Given {
+        kind: Kind::File,
+        bytes: Arc::new(bytes),
+        fault: ended.err().map(|error| fault_of(&error)),
+    }
 }

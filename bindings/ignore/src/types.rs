@@ -15,10 +15,11 @@
 //! ```
 
 use crate::default_types::ROWS;
-use crate::library::{Builder, Matcher, Switch, Tree, Verdict};
+use crate::library::{Builder, Guide, Spot, Switch, Verdict};
 use crate::names::told;
 use crate::paths::last_name;
 use crate::pool::Pool;
+use crate::reader::nothing;
 use crate::{Error, Match};
 use std::collections::BTreeMap;
 use std::ffi::OsStr;
@@ -83,11 +84,11 @@ struct Whole {
     ready: Pool<Asker>,
 }
 
-/// A matcher of file types alone, over a tree with nothing in it.
+/// A guide of file types alone, which reads nothing.
 #[derive(Debug)]
 struct Asker {
-    tree: Tree,
-    matcher: Matcher,
+    guide: Guide,
+    place: Spot,
 }
 
 impl Asker {
@@ -95,15 +96,14 @@ impl Asker {
         let mut builder = Builder::new(b"/");
         builder.switch(Switch::StandardFilters, false);
         choose(&mut builder, choices)?;
-        let mut tree = Tree::new(b"/");
-        let matcher = Matcher::new(&mut builder, &mut tree);
-        Ok(Asker { tree, matcher })
+        let mut guide = Guide::new(&mut builder);
+        let place = guide.root(b"/", &mut |_, _| nothing());
+        Ok(Asker { guide, place })
     }
 
     fn ask(&mut self, name: &OsStr) -> Verdict {
-        self.matcher
-            .matched(&mut self.tree, &told(Path::new(name)), false)
-            .0
+        let name = told(Path::new(name));
+        self.guide.decide(self.place, &name, false, None).0
     }
 }
 

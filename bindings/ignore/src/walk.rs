@@ -1,20 +1,22 @@
 //! Walks by one thread, and what walks go by.
 
-use crate::decide::{Asked, Dir, Explicit, Guide, Place, Plan, Settings};
+use crate::decide::{Asked, Begun, Explicit, Guide, Place, Plan, Settings};
 use crate::entry::{identity, is_file, DirEntry, Follows, Identity};
 use crate::error::Errors;
 use crate::gitignore::GitignoreBuilder;
 use crate::incremental::IncrementalIgnore;
 use crate::library::Verdict;
+use crate::listing::{Listed, Listing};
+use crate::names::told;
 use crate::overrides::Override;
 use crate::parallel::WalkParallel;
-use crate::reader::Listed;
+use crate::paths::joined;
 use crate::types::Types;
 use crate::Error;
 use std::cmp::Ordering;
 use std::collections::VecDeque;
 use std::ffi::OsStr;
-use std::fs::{self, File};
+use std::fs::{self, File, FileType};
 use std::io;
 use std::os::fd::AsFd;
 use std::os::unix::fs::MetadataExt;
@@ -42,7 +44,7 @@ pub(crate) struct Filter(Arc<Predicate>);
 pub(crate) struct Manner {
     pub min_depth: usize,
     pub max_depth: Option<usize>,
-    pub max_filesize: Option<u64>,
+    pub asks_sizes: bool,
     pub follow_links: bool,
     pub same_file_system: bool,
     pub skip: Option<Identity>,
@@ -51,17 +53,20 @@ pub(crate) struct Manner {
 
 impl Manner {
     /// Whether an entry below a root, which the rules keep, is left out: for being standard output,
-    /// for its size, or by the filter.
-    pub(crate) fn leaves_out(&self, entry: &DirEntry) -> Result<bool, Error> {
+    /// for its size, as the rules say, or by the filter.
+    pub(crate) fn leaves_out(
+        &self,
+        entry: &DirEntry,
+        is_too_large: impl FnOnce(u64) -> bool,
+    ) -> Result<bool, Error> {
         if let Some(stdout) = self.skip {
             if is_file(entry, stdout)? {
                 return Ok(true);
             }
         }
-        if let Some(most) = self.max_filesize.filter(|_| !entry.is_dir()) {
-            if entry.metadata().is_ok_and(|found| found.len() > most) {
-                return Ok(true);
-            }
+        let found = (self.asks_sizes && !entry.is_dir()).then(|| entry.metadata());
+        if found.is_some_and(|it| it.is_ok_and(|found| is_too_large(found.len()))) {
+            return Ok(true);
         }
         Ok(self
             .filter
@@ -94,7 +99,6 @@ pub struct WalkBuilder {
     settings: Settings,
     min_depth: Option<usize>,
     max_depth: Option<usize>,
-    max_filesize: Option<u64>,
     follow_links: bool,
     same_file_system: bool,
     threads: usize,
@@ -110,7 +114,6 @@ impl fmt::Debug for WalkBuilder {
             .field("settings", &self.settings)
             .field("min_depth", &self.min_depth)
             .field("max_depth", &self.max_depth)
-            .field("max_filesize", &self.max_filesize)
             .field("follow_links", &self.follow_links)
             .field("same_file_system", &self.same_file_system)
             .field("threads", &self.threads)
@@ -134,7 +137,6 @@ impl WalkBuilder {
             settings: Settings::at_first(),
             min_depth: None,
             max_depth: None,
-            max_filesize: None,
             follow_links: false,
             same_file_system: false,
             threads: 0,
@@ -158,7 +160,7 @@ impl WalkBuilder {
         Manner {
             min_depth: self.min_depth.unwrap_or(0),
             max_depth: self.max_depth,
-            max_filesize: self.max_filesize,
+            asks_sizes: self.settings.max_filesize.is_some(),
             follow_links: self.follow_links,
             same_file_system: self.same_file_system,
             skip: self.skip,
@@ -174,7 +176,7 @@ impl WalkBuilder {
             manner: self.manner(),
             sorter: self.sorter.clone(),
             guide: Mutex::new(None),
-            above: None,
+            root: None,
             device: None,
             levels: Vec::new(),
             ready: VecDeque::new(),
@@ -192,9 +194,7 @@ impl WalkBuilder {
             ..self.settings.clone()
         };
         let plan = Plan::new(settings);
-        let made = |root: &PathBuf| {
-            IncrementalIgnore::new(root, &plan, self.max_filesize, self.follow_links)
-        };
+        let made = |root: &PathBuf| IncrementalIgnore::new(root, &plan, self.follow_links);
         self.paths.iter().map(made).collect()
     }
 
@@ -241,7 +241,7 @@ impl WalkBuilder {
 
     /// The size above which a file is ignored.
     pub fn max_filesize(&mut self, filesize: Option<u64>) -> &mut WalkBuilder {
-        self.max_filesize = filesize;
+        self.settings.max_filesize = filesize;
         self
     }
 
@@ -417,66 +417,74 @@ fn stdout_file() -> Option<Identity> {
     found.is_file().then(|| (found.dev(), found.ino()))
 }
 
-/// The entries of a directory.
-enum Entries {
-    AsListed(vec::IntoIter<io::Result<fs::DirEntry>>),
-    Sorted(vec::IntoIter<Result<DirEntry, Error>>),
-}
-
-impl Entries {
-    /// The entries of a listing, sorted if they are to be.
-    fn read(listing: fs::ReadDir, depth: usize, sorter: Option<&Sorter>) -> Entries {
-        let Some(sorter) = sorter else {
-            return Entries::AsListed(listing.collect::<Vec<_>>().into_iter());
-        };
-        let mut all: Vec<_> = listing.map(|item| listed(item, depth)).collect();
-        all.sort_by(|one, other| match (one, other) {
-            (Ok(one), Ok(other)) => match sorter {
-                Sorter::ByName(compare) => compare(one.file_name(), other.file_name()),
-                Sorter::ByPath(compare) => compare(one.path(), other.path()),
-            },
-            (one, other) => one.is_ok().cmp(&other.is_ok()),
-        });
-        Entries::Sorted(all.into_iter())
-    }
-
-    fn next(&mut self, depth: usize) -> Option<Result<DirEntry, Error>> {
-        match self {
-            Entries::AsListed(all) => all.next().map(|item| listed(item, depth)),
-            Entries::Sorted(all) => all.next(),
-        }
-    }
-
-    /// What of them decides in their directory.
-    fn deciding(&self, plan: &Plan) -> Vec<Listed> {
-        match self {
-            Entries::AsListed(all) => deciding(plan, all.as_slice().iter().flatten()),
-            Entries::Sorted(all) => {
-                let all = all.as_slice().iter().flatten();
-                let deciding = all.filter(|entry| plan.decides(entry.file_name()));
-                let found = deciding.map(|entry| Listed {
-                    name: entry.file_name().to_os_string(),
-                    kind: entry.file_type(),
-                });
-                found.collect()
-            }
-        }
-    }
-}
-
-fn listed(item: io::Result<fs::DirEntry>, depth: usize) -> Result<DirEntry, Error> {
-    match item {
-        Ok(entry) => DirEntry::listed(&entry, depth),
-        Err(error) => Err(Error::Io(error).with_depth(depth)),
-    }
-}
-
 /// A directory that is walked.
 struct Level {
-    place: Arc<Place>,
+    place: Place,
     path: PathBuf,
     identity: Option<Identity>,
-    entries: Entries,
+    listing: Listing,
+    /// The entries, where they are sorted: then the listing is empty.
+    sorted: vec::IntoIter<Result<DirEntry, Error>>,
+}
+
+/// What is next in a directory.
+enum Next {
+    Listed(Listed),
+    Sorted(Result<DirEntry, Error>),
+}
+
+impl Level {
+    fn next(&mut self, depth: usize) -> Option<Next> {
+        if let Some(listed) = self.listing.next() {
+            return Some(Next::Listed(listed));
+        }
+        let next = self.sorted.next().or_else(|| {
+            let error = self.listing.next_error()?;
+            Some(Err(Error::Io(error).with_depth(depth)))
+        });
+        next.map(Next::Sorted)
+    }
+}
+
+/// The entry of a listing, in the directory at a path.
+pub(crate) fn made(
+    listing: &Listing,
+    listed: &Listed,
+    dir: &Path,
+    depth: usize,
+) -> Result<DirEntry, Error> {
+    let path = joined(dir, listing.name(listed));
+    match listed.kind {
+        Ok(kind) => Ok(DirEntry::listed(path, kind, listed.ino, depth)),
+        Err(number) => {
+            let error = io::Error::from_raw_os_error(number);
+            Err(Error::of_walk(error, &path, depth))
+        }
+    }
+}
+
+/// All entries of a listing, sorted. Errors come first.
+fn sorted(
+    listing: &mut Listing,
+    dir: &Path,
+    depth: usize,
+    sorter: &Sorter,
+) -> vec::IntoIter<Result<DirEntry, Error>> {
+    let mut all = Vec::new();
+    while let Some(listed) = listing.next() {
+        all.push(made(listing, &listed, dir, depth));
+    }
+    while let Some(error) = listing.next_error() {
+        all.push(Err(Error::Io(error).with_depth(depth)));
+    }
+    all.sort_by(|one, other| match (one, other) {
+        (Ok(one), Ok(other)) => match sorter {
+            Sorter::ByName(compare) => compare(one.file_name(), other.file_name()),
+            Sorter::ByPath(compare) => compare(one.path(), other.path()),
+        },
+        (one, other) => one.is_ok().cmp(&other.is_ok()),
+    });
+    all.into_iter()
 }
 
 /// A walk by one thread: the entries that the rules keep, a directory before what is in it.
@@ -490,7 +498,7 @@ pub struct Walk {
     sorter: Option<Sorter>,
     /// The guide, which one call has at a time.
     guide: Mutex<Option<Guide>>,
-    above: Option<Place>,
+    root: Option<Place>,
     /// The device of the root, where another one isn't entered.
     device: Option<u64>,
     levels: Vec<Level>,
@@ -507,12 +515,6 @@ impl Walk {
     #[allow(clippy::should_implement_trait)]
     pub fn from_iter<P: AsRef<Path>, I: IntoIterator<Item = P>>(paths: I) -> Walk {
         WalkBuilder::from_iter(paths).build()
-    }
-
-    fn guide(&mut self) -> &mut Guide {
-        let plan = &self.plan;
-        let guide = self.guide.get_mut().unwrap_or_else(PoisonError::into_inner);
-        guide.get_or_insert_with(|| Guide::new(plan))
     }
 
     /// Begins a root.
@@ -536,26 +538,22 @@ impl Walk {
             }
         }
         if is_dir {
-            let (above, error) = self.guide().root(path);
-            self.ready.extend(error.map(Err));
-            self.enter(&above, OsStr::new(""), entry);
-            self.above = Some(above);
+            let Begun { place, above, own } = guide_of(&mut self.guide, &self.plan).root(path);
+            self.ready.extend(above.map(Err));
+            self.root = Some(place.clone());
+            self.enter(entry, Parent::Root(place, own));
         } else {
             self.give(entry);
         }
         Ok(())
     }
 
-    /// Leaves the last directory.
+    /// Leaves the last directory. A root is left where the next one begins.
     fn leave(&mut self) {
-        let Some(left) = self.levels.pop() else {
-            return;
-        };
-        self.guide().leave(&left.place);
-        let guide = self.guide.get_mut().unwrap_or_else(PoisonError::into_inner);
-        let entered = self.levels.iter().map(|level| &*level.place);
-        if let (Some(guide), Some(top)) = (guide, self.levels.first()) {
-            guide.renew(&top.path, self.above.iter().chain(entered));
+        if let Some(left) = self.levels.pop() {
+            if !self.levels.is_empty() {
+                guide_of(&mut self.guide, &self.plan).leave(&left.place);
+            }
         }
     }
 
@@ -567,7 +565,7 @@ impl Walk {
 
     /// Enters a directory, unless it is as deep as the walk goes, or on another device, and gives
     /// it.
-    fn enter(&mut self, parent: &Place, name: &OsStr, mut entry: DirEntry) {
+    fn enter(&mut self, mut entry: DirEntry, parent: Parent) {
         let depth = entry.depth();
         let path = entry.path().to_path_buf();
         let failed = |error| Err(Error::of_walk(error, &path, depth));
@@ -581,28 +579,63 @@ impl Walk {
         if !self.manner.lists(depth) || is_elsewhere {
             return self.give(entry);
         }
-        let entries = match fs::read_dir(&path) {
-            Ok(listing) => Entries::read(listing, depth + 1, self.sorter.as_ref()),
+        let mut listing = match Listing::read(&path) {
+            Ok(listing) => listing,
             Err(error) => {
                 self.give(entry);
                 return self.ready.push_back(failed(error));
             }
         };
-        let deciding = entries.deciding(&self.plan);
-        let dir = Dir {
-            name,
-            path: &path,
-            is_link: entry.path_is_symlink(),
+        let (place, error) = match parent {
+            Parent::Root(place, own) => (place, own),
+            Parent::Dir(parent) => {
+                let name = told(Path::new(entry.file_name()));
+                let guide = guide_of(&mut self.guide, &self.plan);
+                guide.enter(&parent, &name, listing.names())
+            }
         };
-        let (place, error) = self.guide().enter(parent, &dir, Some(&deciding));
         entry.set_error(error);
         self.give(entry);
+        let sorted = match &self.sorter {
+            None => Vec::new().into_iter(),
+            Some(sorter) => {
+                let mut whole = std::mem::take(&mut listing);
+                sorted(&mut whole, &path, depth + 1, sorter)
+            }
+        };
         self.levels.push(Level {
-            place: Arc::new(place),
+            place,
             path,
             identity: found,
-            entries,
+            listing,
+            sorted,
         });
+    }
+
+    /// What becomes of an entry as it is listed. It is made only where the rules keep it.
+    fn visit_listed(&mut self, listed: &Listed) -> Result<(), Error> {
+        let depth = self.levels.len();
+        let Some(level) = self.levels.last() else {
+            return Ok(());
+        };
+        let is_followed = |kind: &FileType| self.manner.follow_links && kind.is_symlink();
+        if let Some(kind) = listed.kind.ok().filter(|kind| !is_followed(kind)) {
+            let asked = Asked {
+                name: level.listing.name(listed),
+                told: level.listing.told(listed),
+                dir: &level.path,
+                is_dir: kind.is_dir(),
+                size: None,
+            };
+            let guide = guide_of(&mut self.guide, &self.plan);
+            if guide.decide(&level.place, &asked).verdict == Verdict::Ignore {
+                return Ok(());
+            }
+            let entry = made(&level.listing, listed, &level.path, depth)?;
+            return self.keep(entry);
+        }
+        let entry = made(&level.listing, listed, &level.path, depth)?;
+        self.visit(entry)
     }
 
     /// What becomes of an entry below a root.
@@ -618,26 +651,53 @@ impl Walk {
                 check_loop(&entry, above)?;
             }
         }
-        let Some(place) = self.levels.last().map(|level| level.place.clone()) else {
-            return Ok(());
-        };
-        let asked = Asked {
-            name: entry.file_name(),
-            path: entry.path(),
-            is_dir: entry.is_dir(),
-        };
-        let decision = self.guide().decide(&place, &asked);
-        if decision.verdict == Verdict::Ignore || self.manner.leaves_out(&entry)? {
+        let guide = guide_of(&mut self.guide, &self.plan);
+        match ignores(guide, self.levels.last(), &entry, None) {
+            true => Ok(()),
+            false => self.keep(entry),
+        }
+    }
+
+    /// What becomes of an entry that the rules keep.
+    fn keep(&mut self, entry: DirEntry) -> Result<(), Error> {
+        let (guide, plan, level) = (&mut self.guide, &self.plan, self.levels.last());
+        let is_too_large = |size| ignores(guide_of(guide, plan), level, &entry, Some(size));
+        if self.manner.leaves_out(&entry, is_too_large)? {
             return Ok(());
         }
-        if entry.is_dir() {
-            let name = entry.file_name().to_os_string();
-            self.enter(&place, &name, entry);
-        } else {
-            self.give(entry);
+        match self.levels.last().map(|level| level.place.clone()) {
+            Some(place) if entry.is_dir() => self.enter(entry, Parent::Dir(place)),
+            _ => self.give(entry),
         }
         Ok(())
     }
+}
+
+/// The directory in which one is entered; a root was entered before, and its problem is known.
+enum Parent {
+    Root(Place, Option<Error>),
+    Dir(Place),
+}
+
+/// Whether the rules ignore an entry of a directory, of which the size may be known.
+fn ignores(guide: &mut Guide, level: Option<&Level>, entry: &DirEntry, size: Option<u64>) -> bool {
+    let name = entry.file_name();
+    level.is_some_and(|level| {
+        let asked = Asked {
+            name,
+            told: &told(Path::new(name)),
+            dir: &level.path,
+            is_dir: entry.is_dir(),
+            size,
+        };
+        guide.decide(&level.place, &asked).verdict == Verdict::Ignore
+    })
+}
+
+/// The guide, which is made where it is wanted first.
+fn guide_of<'g>(guide: &'g mut Mutex<Option<Guide>>, plan: &Arc<Plan>) -> &'g mut Guide {
+    let guide = guide.get_mut().unwrap_or_else(PoisonError::into_inner);
+    guide.get_or_insert_with(|| Guide::new(plan, false))
 }
 
 /// The entry to which a link leads.
@@ -651,8 +711,10 @@ pub(crate) fn check_loop<'a>(
     link: &DirEntry,
     mut above: impl Iterator<Item = (&'a Path, Option<Identity>)>,
 ) -> Result<(), Error> {
-    let found = identity(link.path());
+    // (as in the original the directory is opened, so one that can't be is an error)
+    let found = File::open(link.path()).and_then(|file| file.metadata());
     let found = found.map_err(|error| Error::of_walk(error, link.path(), link.depth()))?;
+    let found = (found.dev(), found.ino());
     match above.find(|(_, identity)| *identity == Some(found)) {
         None => Ok(()),
         Some((ancestor, _)) => {
@@ -660,20 +722,6 @@ pub(crate) fn check_loop<'a>(
             Err(Error::Loop { ancestor, child }.with_depth(link.depth()))
         }
     }
-}
-
-/// Of a listing, what decides.
-pub(crate) fn deciding<'a>(
-    plan: &Plan,
-    entries: impl Iterator<Item = &'a fs::DirEntry>,
-) -> Vec<Listed> {
-    let named = entries.map(|entry| (entry.file_name(), entry));
-    let deciding = named.filter(|(name, _)| plan.decides(name));
-    let listed = deciding.map(|(name, entry)| Listed {
-        name,
-        kind: entry.file_type().ok(),
-    });
-    listed.collect()
 }
 
 impl Iterator for Walk {
@@ -685,20 +733,17 @@ impl Iterator for Walk {
                 return Some(item);
             }
             let depth = self.levels.len();
-            let result = match self
-                .levels
-                .last_mut()
-                .map(|level| level.entries.next(depth))
-            {
-                Some(Some(Ok(entry))) => self.visit(entry),
-                Some(Some(Err(error))) => Err(error),
+            let result = match self.levels.last_mut().map(|level| level.next(depth)) {
+                Some(Some(Next::Listed(listed))) => self.visit_listed(&listed),
+                Some(Some(Next::Sorted(Ok(entry)))) => self.visit(entry),
+                Some(Some(Next::Sorted(Err(error)))) => Err(error),
                 Some(None) => {
                     self.leave();
                     Ok(())
                 }
                 None => {
-                    if let Some(above) = self.above.take() {
-                        self.guide().leave(&above);
+                    if let Some(root) = self.root.take() {
+                        guide_of(&mut self.guide, &self.plan).leave(&root);
                     }
                     let path = self.paths.next()?;
                     self.start(&path)

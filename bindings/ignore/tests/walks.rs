@@ -51,12 +51,15 @@ fn entries_tell_what_they_are() {
 #[test]
 fn problems_of_files_of_rules_are_told_once_with_their_directory() {
     let room = Room::new();
-    room.put(".ignore", "{\n")
+    room.put(".ignore", "{\n[z-a]\n")
         .put("top/.git/info/exclude", "[z-a]\n")
         .put("top/a/x", "");
-    room.put("top/a/.gitignore", "x\n{\n{a\n");
+    room.put("top/a/.gitignore", "x\n{\n{a\n")
+        .put("other/y", "");
     for threads in 0..3 {
         let mut builder = WalkBuilder::new(room.path().join("top"));
+        // A second root below the same folder: what is above is told once.
+        builder.add(room.path().join("other"));
         builder.hidden(false).threads(threads);
         let mut items = Vec::new();
         if threads == 0 {
@@ -73,10 +76,14 @@ fn problems_of_files_of_rules_are_told_once_with_their_directory() {
         let above: Vec<_> = items.iter().filter_map(|it| it.as_ref().err()).collect();
         assert_eq!(above.len(), 1);
         let text = above[0].to_string();
-        assert!(text.starts_with(&format!(
-            "{}: line 1: ",
-            room.path().join(".ignore").display()
-        )));
+        let file = room.path().join(".ignore").display().to_string();
+        let starts = [1, 2].map(|line| format!("{file}: line {line}: "));
+        let lines: Vec<&str> = text.lines().collect();
+        assert_eq!(lines.len(), 2, "{text}");
+        assert!(lines
+            .iter()
+            .zip(&starts)
+            .all(|(line, start)| line.starts_with(start)));
         let told: Vec<(String, Vec<String>)> = items
             .iter()
             .filter_map(|it| it.as_ref().ok())

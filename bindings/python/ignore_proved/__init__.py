@@ -21,6 +21,8 @@ from ._errors import (
     TreeError,
 )
 from .answers import Cause, Explanation, Match, Rank
+from .guide import Guide, Listed, Problem
+from .host import Given
 from .matcher import Matcher, TreeMatcher
 from .rules import Answer, Decision, Reason, Rules
 from .tree import Builder, Tree
@@ -34,15 +36,19 @@ __all__ = [
     "Cause",
     "Decision",
     "Explanation",
+    "Given",
+    "Guide",
     "IgnoreError",
     "InvalidRuleError",
     "Item",
     "LimitError",
+    "Listed",
     "Match",
     "Matcher",
     "MisusedError",
     "NotUtf8Error",
     "OutsideError",
+    "Problem",
     "Rank",
     "Reason",
     "Rules",

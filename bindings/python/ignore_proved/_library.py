@@ -7,7 +7,9 @@ from ctypes import POINTER, Structure, c_bool, c_char_p, c_size_t, c_uint32, c_u
 
 OK, NONE, IGNORE, WHITELIST, NOT_UTF8, NO_MEMORY = range(6)
 LIMIT, REFUSED, MISUSED, OUTSIDE = 6, 7, 9, 10
-NOT_CLEAN, NO_PARENT, EXISTS, MISSING, ROOM = range(11, 16)
+NOT_CLEAN, NO_PARENT, EXISTS, MISSING, ROOM, WANTS = range(11, 17)
+NO_FAULT = 255
+NO_SIZE = 2 ** 64 - 1
 
 #: The name of the shared object, and the variable of the environment that may give its path.
 NAME = "libignore_proved.so"
@@ -87,6 +89,27 @@ class WalkEntry(Structure):
     ]
 
 
+class Place(Structure):
+    """`ignore_place`."""
+
+    _fields_ = [("index", c_size_t), ("serial", c_uint64)]
+
+
+class ProblemParts(Structure):
+    """`ignore_problem`."""
+
+    _fields_ = [
+        ("kind", c_uint32),
+        ("fault", c_uint32),
+        ("line", c_uint64),
+        ("path", c_size_t),
+        ("glob", c_size_t),
+        ("text", c_size_t),
+        ("has_path", c_bool),
+        ("has_glob", c_bool),
+    ]
+
+
 TEXT = [c_char_p, c_size_t]
 ONE = [POINTER(Handle)]
 CALLS = {
@@ -145,6 +168,19 @@ CALLS = {
     ],
     "matcher_forget": [*ONE, *TEXT, POINTER(c_size_t)],
     "matcher_normalize": [*ONE, *TEXT, c_char_p, c_size_t, POINTER(c_size_t)],
+    "guide_new": [*ONE, *ONE],
+    "guide_add_ignore": [*ONE, *TEXT],
+    "guide_root": [*ONE, *TEXT, POINTER(Place)],
+    "guide_enter": [*ONE, POINTER(Place), *TEXT, *TEXT, POINTER(Place)],
+    "guide_wanted": [*ONE, POINTER(c_uint32), c_char_p, c_size_t, POINTER(c_size_t)],
+    "guide_give": [*ONE, c_uint32, *TEXT, c_uint32, POINTER(Place)],
+    "guide_decide": [*ONE, POINTER(Place), *TEXT, c_bool, c_uint64, POINTER(Found)],
+    "guide_decide_all": [
+        *ONE, POINTER(Place), *TEXT, *TEXT, POINTER(c_uint64), c_size_t, c_char_p, c_size_t,
+    ],
+    "guide_why": [*ONE, POINTER(Place), *TEXT, c_bool, POINTER(WhyParts), c_char_p, c_size_t],
+    "guide_leave": [*ONE, POINTER(Place)],
+    "guide_problem": [*ONE, c_size_t, POINTER(ProblemParts), c_char_p, c_size_t],
     "walk_new": [*ONE, *ONE, *ONE],
     "walk_next": [*ONE, POINTER(WalkEntry), c_char_p, c_size_t],
 }
@@ -161,7 +197,7 @@ LABELS = [
 ]
 CALLS.update({f"builder_{name}": [*ONE, c_bool] for name in SWITCHES})
 CALLS.update({f"builder_{name}": [*ONE, *TEXT] for name in LABELS})
-FREES = ["rules_free", "tree_free", "builder_free", "matcher_free", "walk_free"]
+FREES = ["rules_free", "tree_free", "builder_free", "matcher_free", "walk_free", "guide_free"]
 
 
 def places() -> list[str]:

@@ -3,15 +3,18 @@ from __future__ import annotations
 
 import ctypes
 import os
+from contextlib import suppress
 from ctypes import byref, c_size_t
-from typing import Any, Dict, Iterable, List, Optional
+from dataclasses import replace
+from typing import Any, Dict, List, NamedTuple, Optional, Tuple, Union
 
 from . import _library as lib
-from ._errors import checked, error_of
+from ._errors import InvalidRuleError, TreeError, checked, error_of
 from ._names import of_disk, told
 from ._owner import Owner, handle_of
 from .answers import Cause, Explanation, Match, explanation_of, lengths_of
-from .host import Host
+from .guide import Guide
+from .host import FILE, known_env, read
 from .rules import DECISIONS, Decision, Path, encoded, several
 from .tree import Builder, Tree, text
 
@@ -83,6 +86,70 @@ class TreeMatcher(Owner):
             room = ctypes.create_string_buffer(whole.value)
 
 
+class Recipe:
+    """A root on disk, without links on its way, and the builder of what was given for it."""
+
+    def __init__(self, root: Path, settings: Dict[str, Any]) -> None:
+        self.root = os.path.realpath(path_of(root))
+        self.limits = Limits(*(settings.get(name) for name in Limits._fields))
+        self.env = known_env()
+        chosen = {name: list(several(settings.pop(name, ()))) for name in CHOICES}
+        custom = [path_of(name) for name in several(settings.pop("custom_ignore_filenames", ()))]
+        self.builder = Builder(told(self.root), **settings).env(**self.env)
+        self.builder.set(custom_ignore_filenames=[told(name) for name in custom])
+        self._choose(chosen)
+
+    def _choose(self, chosen: Dict[str, List[Any]]) -> None:
+        """Has the builder go by what was given besides the settings."""
+        builder = self.builder
+        if chosen["overrides"]:
+            builder.overrides(told(self.root), chosen["overrides"])
+        if chosen["types"] or chosen["types_not"]:
+            builder.add_all_default_types()
+            for definition in chosen["type_defs"]:
+                builder.add_type_def(definition)
+            builder.choose_types(chosen["types"], chosen["types_not"])
+        with Tree("/") as tree:
+            for file in chosen["ignore_files"]:
+                whole = os.path.join(of_disk(self.env["current_dir"] or "/"), path_of(file))
+                builder.add_ignore(tree, tell_file(tree, whole))
+            if chosen["lines"]:
+                # (no file of the disk has this name, and the rules are relative to the root)
+                tree.add_file(LINES, encoded("".join(f"{line}\n" for line in chosen["lines"])))
+                builder.current_dir(told(self.root)).add_ignore(tree, LINES)
+                builder.current_dir(self.env["current_dir"] or "/")
+
+
+class Limits(NamedTuple):
+    """The limits that a builder was told."""
+
+    min_depth: Optional[int]
+    max_depth: Optional[int]
+    max_filesize: Optional[int]
+
+
+def tell_file(tree: Tree, path: str) -> str:
+    """Tells a tree a file of the disk, and returns its path there."""
+    given, known = read(FILE, path), told(os.path.normpath(path))
+    if given.fault is not None:
+        raise InvalidRuleError(f"{path}: it can't be read")
+    folder = ""
+    for name in known.split("/")[1:-1]:
+        folder += f"/{name}"
+        with suppress(TreeError):
+            tree.add_dir(folder)
+    try:
+        tree.add_file(known, given.content)
+    except TreeError:
+        tree.rewrite_file(known, given.content)
+    return known
+
+
+#: Where a path stands: a cause for which no rule is asked; the place of its directory; or, where
+#: that is ignored, the place of the one around the first ignored directory, and its path.
+Stand = Union[Cause, lib.Place, Tuple[lib.Place, str]]
+
+
 class Matcher:
     """Whether a walk of a directory on disk would yield paths below it.
 
@@ -102,34 +169,19 @@ class Matcher:
     """
 
     def __init__(self, root: Path = ".", **settings: Any) -> None:
-        self.root = os.path.realpath(path_of(root))
-        chosen = {name: list(several(settings.pop(name, ()))) for name in CHOICES}
-        names = settings.pop("custom_ignore_filenames", ())
-        custom = [path_of(name) for name in several(names)]
-        self._host = Host(self.root, custom, settings.get("max_filesize") is not None)
-        self._builder = Builder(told(self.root), **settings).env(**self._host.known_env())
-        self._builder.set(custom_ignore_filenames=[told(name) for name in custom])
-        self._choose(chosen)
-        self._host.tell_way("")
-        self._matcher = TreeMatcher(self._builder, self._host.tree)
+        recipe = Recipe(root, settings)
+        self.root, self._limits = recipe.root, recipe.limits
+        with recipe.builder as builder, Tree(recipe.env["current_dir"] or "/") as tree:
+            self._guide = Guide(builder)
+            # (by this paths are made clean; it is asked nothing else)
+            self._texts = TreeMatcher(builder, tree)
+        #: The directories that were entered, by their paths below the root; None is an ignored one.
+        self._places: Dict[str, Optional[lib.Place]] = {}
+        self._begin()
 
-    def _choose(self, chosen: Dict[str, List[Any]]) -> None:
-        """Has the builder go by what was given besides the settings."""
-        builder, host = self._builder, self._host
-        if chosen["overrides"]:
-            builder.overrides(told(self.root), chosen["overrides"])
-        if chosen["types"] or chosen["types_not"]:
-            builder.add_all_default_types()
-            for definition in chosen["type_defs"]:
-                builder.add_type_def(definition)
-            builder.choose_types(chosen["types"], chosen["types_not"])
-        for file in chosen["ignore_files"]:
-            builder.add_ignore(host.tree, told(host.tell_file(path_of(file))))
-        if chosen["lines"]:
-            # (no file of the disk has this name, and the rules are relative to this directory)
-            host.tree.add_file(LINES, encoded("".join(f"{line}\n" for line in chosen["lines"])))
-            builder.current_dir(told(self.root)).add_ignore(host.tree, LINES)
-            builder.current_dir(told(host.cwd))
+    def _begin(self) -> None:
+        if os.path.isdir(self.root):
+            self._places[""] = self._guide.root(self.root)
 
     def match(self, path: Path, is_dir: Optional[bool] = None) -> Match:
         """What becomes of a path, which is below the root, or in it where it is relative.
@@ -140,31 +192,28 @@ class Matcher:
         below = self._below(path)
         if below is None:
             return Match(Decision.NONE, bool(is_dir), True)
-        return self.known(below, self._is_dir(below) if is_dir is None else is_dir)
-
-    def known(self, below: str, is_dir: bool) -> Match:
-        """The same of a clean path below the root."""
-        self._told(below, is_dir)
-        return self._matcher.match(self._host.tree, told(below), is_dir)
+        is_dir = self._is_dir(below) if is_dir is None else bool(is_dir)
+        return self._answer(self._stand(below, is_dir), below, is_dir)
 
     def explain(self, path: Path, is_dir: Optional[bool] = None) -> Explanation:
         """As `match`, with the reason: the rule, its file and its line, or what else decides."""
         below = self._below(path)
         if below is None:
             return Explanation(Match(Decision.NONE, bool(is_dir), True), Cause.NOT_ASKED)
-        is_dir = self._is_dir(below) if is_dir is None else is_dir
-        self._told(below, is_dir)
-        return self._matcher.explain(self._host.tree, told(below), is_dir)
-
-    def entered(self, below: str, names: Iterable[str]) -> None:
-        """Tells what is in a directory below the root, so that the disk isn't asked."""
-        deciding = [name for name in names if name in self._host.names]
-        self._host.tell_listed(below, deciding)
-
-    def left(self, below: str) -> int:
-        """Forgets what is kept of a clean path below the root and below it, and counts it."""
-        self._host.forget(below)
-        return self._matcher.forget(told(below))
+        is_dir = self._is_dir(below) if is_dir is None else bool(is_dir)
+        stand = self._stand(below, is_dir)
+        match = self._answer(stand, below, is_dir)
+        if isinstance(stand, Cause):
+            return Explanation(match, stand)
+        if isinstance(stand, tuple):
+            around, folder = stand
+            _, parts, texts = self._guide.why(around, os.path.basename(folder), True)
+            return replace(explanation_of(match, parts, texts), ancestor=folder)
+        decided, parts, texts = self._guide.why(stand, os.path.basename(below), is_dir)
+        if match.is_ignore and decided is not Decision.IGNORE:
+            size = self._size(below, is_dir)
+            return Explanation(match, Cause.LARGER, size=size, limit=self._limits.max_filesize)
+        return explanation_of(match, parts, texts)
 
     def is_ignored(self, path: Path, is_dir: Optional[bool] = None) -> bool:
         """Whether the path is ignored, or a folder below the root that it is in."""
@@ -173,17 +222,24 @@ class Matcher:
     def forget(self, folder: Path = "") -> int:
         """Forgets what is kept of a directory below the root and of those below it, so that it is
         read anew: after its files of rules have changed. It returns how many were kept.
-
-        A file of rules that is made or removed takes some memory for good each time; one that is
-        written anew takes none.
         """
         below = self._below(folder)
-        return 0 if below is None else self.left(below)
+        if below is None:
+            return 0
+        inside = f"{below}/" if below else ""
+        gone = [it for it in self._places if it == below or it.startswith(inside)]
+        for it in sorted(gone, key=lambda it: it.count("/") if it else -1, reverse=True):
+            place = self._places.pop(it)
+            if place is not None:
+                self._guide.leave(place)
+        if not below:
+            self._begin()
+        return len(gone)
 
     def close(self) -> None:
         """Frees the matcher. After that it isn't used."""
-        for it in (self._matcher, self._builder, self._host.tree):
-            it.close()
+        self._guide.close()
+        self._texts.close()
 
     def __enter__(self) -> "Matcher":
         return self
@@ -191,21 +247,68 @@ class Matcher:
     def __exit__(self, *raised: object) -> None:
         self.close()
 
+    def _stand(self, below: str, is_dir: bool) -> Stand:
+        """Where a clean path stands. The directories on the way to it are entered."""
+        depth, (least, most, _) = depth_of(below), self._limits
+        if most is not None and most < depth:
+            return Cause.TOO_DEEP
+        if not is_dir and least is not None and depth < least:
+            return Cause.TOO_SHALLOW
+        place = self._places.get("")
+        if place is None or not below:
+            return Cause.UNRULED
+        folder = os.path.dirname(below)
+        known = self._places.get(folder)
+        if known is not None:
+            return known
+        at = ""
+        for name in folder.split("/"):
+            at = f"{at}/{name}" if at else name
+            if at not in self._places:
+                ignored = self._guide.decide(place, name, True).is_ignore
+                self._places[at] = None if ignored else self._guide.enter(place, name)
+            found = self._places[at]
+            if found is None:
+                return place, at
+            place = found
+        return place
+
+    def _answer(self, stand: Stand, below: str, is_dir: bool) -> Match:
+        depth, (least, most, _) = depth_of(below), self._limits
+        if stand in (Cause.TOO_DEEP, Cause.TOO_SHALLOW):
+            return Match(Decision.IGNORE, False, False)
+        is_within = least is None or least <= depth
+        if isinstance(stand, Cause):
+            return Match(Decision.NONE, is_dir and (most is None or depth < most), is_within)
+        if isinstance(stand, tuple):
+            return Match(Decision.IGNORE, False, is_within)
+        name = os.path.basename(below)
+        return self._guide.decide(stand, name, is_dir, self._size(below, is_dir))
+
+    def _size(self, below: str, is_dir: bool) -> Optional[int]:
+        """The size of what is there, where it matters: of a link, that of its text."""
+        if self._limits.max_filesize is None or is_dir:
+            return None
+        try:
+            return os.lstat(os.path.join(self.root, below)).st_size
+        except OSError:
+            return None
+
     def _is_dir(self, below: str) -> bool:
         """Whether the disk has a directory there, and no link."""
         whole = os.path.join(self.root, below)
         return os.path.isdir(whole) and not os.path.islink(whole)
 
-    def _told(self, below: str, is_dir: bool) -> None:
-        """Has the tree told what decides on a clean path below the root."""
-        self._host.tell_way(os.path.dirname(below))
-        self._host.tell_size(below, is_dir)
-
     def _below(self, path: Path) -> Optional[str]:
         """A path, clean and relative to the root; None where it isn't at or below the root."""
         whole = os.path.join(self.root, path_of(path))
-        below = self._matcher.normalize(told(whole))
+        below = self._texts.normalize(told(whole))
         return None if below is None else of_disk(below)
+
+
+def depth_of(below: str) -> int:
+    """How many names a clean path has."""
+    return below.count("/") + 1 if below else 0
 
 
 def path_of(path: Path) -> str:

@@ -6,18 +6,16 @@ import os
 from ctypes import byref
 from errno import EILSEQ
 from itertools import repeat
-from typing import Any, Callable, Iterator, List, NamedTuple, Optional
+from typing import Any, Callable, Iterator, List, NamedTuple, Optional, Tuple
 
 from . import _library as lib
 from ._errors import checked, error_of
 from ._names import is_utf8
 from ._owner import Owner, handle_of, number
-from .matcher import Matcher
+from .guide import DESCENDS, VERDICT, WITHIN, Guide, Listed
+from .matcher import Recipe
 from .rules import Path
 from .tree import Builder, Tree
-
-
-Entries = Iterator["os.DirEntry[str]"]
 
 
 class Item(NamedTuple):
@@ -95,23 +93,42 @@ def walk(
         raise TypeError("walk follows no links")
     same, limit = settings.pop("same_file_system", False), settings.pop("limit", None)
     left = None if limit is None else number(limit)
-    matcher = Matcher(root, **settings)
+    recipe = Recipe(root, settings)
+    how = Listing(sort, onerror, recipe.limits.max_filesize is not None, left)
+    with recipe.builder as builder:
+        guide = Guide(builder)
     try:
-        device = os.stat(matcher.root).st_dev if same else None
-        found = listed(matcher, matcher.root, "", sort)
+        device = os.stat(recipe.root).st_dev if same else None
+        found = how.listed(recipe.root)
+        place = guide.root(recipe.root)
+        first = Folder(place, recipe.root, iter(how.decided(guide, place, found)))
     except BaseException:
-        matcher.close()
+        guide.close()
         raise
-    return entries_below(matcher, Listing(found, sort, onerror, device, left))
+    return entries_below(guide, first, how, device)
+
+
+class Found(NamedTuple):
+    """The entries of a directory, and what a guide is told of them."""
+
+    entries: List["os.DirEntry[str]"]
+    listed: Listed
+
+
+class Folder(NamedTuple):
+    """A directory that was entered, and its entries with what becomes of each."""
+
+    place: lib.Place
+    path: str
+    entries: Iterator[Tuple["os.DirEntry[str]", int]]
 
 
 class Listing(NamedTuple):
-    """The entries of a root, and how those below it are listed."""
+    """How directories are listed."""
 
-    entries: List["os.DirEntry[str]"]
     sort: bool
     onerror: Optional[Callable[[OSError], object]]
-    device: Optional[int]
+    asks_sizes: bool
     limit: Optional[int]
 
     def report(self, error: OSError) -> None:
@@ -124,53 +141,60 @@ class Listing(NamedTuple):
         yield from repeat(None) if self.limit is None else repeat(None, self.limit)
         raise error_of(lib.LIMIT)
 
-    def below(self, matcher: Matcher, entry: "os.DirEntry[str]", below: str) -> Optional[Entries]:
-        """The entries of a directory, unless it is of another file system, or can't be listed."""
-        try:
-            if self.device is not None and self.device != os.lstat(entry.path).st_dev:
-                return None
-            return iter(listed(matcher, entry.path, below, self.sort))
-        except OSError as error:
-            self.report(error)
-            return None
+    def listed(self, path: str) -> Found:
+        """The entries of a directory."""
+        with os.scandir(path) as entries:
+            found = list(entries)
+        if self.sort:
+            found.sort(key=lambda entry: os.fsencode(entry.name))
+        are_dirs = (entry.is_dir(follow_symlinks=False) for entry in found)
+        return Found(found, Listed.of([entry.name for entry in found], are_dirs))
+
+    def decided(
+        self, guide: Guide, place: lib.Place, found: Found
+    ) -> Iterator[Tuple["os.DirEntry[str]", int]]:
+        """The entries of a directory that was entered, with what becomes of each."""
+        sizes = None
+        if self.asks_sizes:
+            sizes = [size_of(*it) for it in zip(found.entries, found.listed.kinds)]
+        return zip(found.entries, guide.decide_all(place, found.listed, sizes))
 
 
-def entries_below(matcher: Matcher, how: Listing) -> Iterator["os.DirEntry[str]"]:
-    """Yields the entries below a root. What the matcher keeps of a directory is forgotten as it is
-    left.
-    """
-    with matcher:
-        folders, ways, steps = [iter(how.entries)], [""], how.steps()
+def size_of(entry: "os.DirEntry[str]", kind: int) -> int:
+    """The size of what isn't a directory, where it is known: of a link, that of its text."""
+    try:
+        return lib.NO_SIZE if kind == 2 else entry.stat(follow_symlinks=False).st_size
+    except OSError:
+        return lib.NO_SIZE
+
+
+def entries_below(
+    guide: Guide, first: Folder, how: Listing, device: Optional[int]
+) -> Iterator["os.DirEntry[str]"]:
+    """Yields the entries below a root. A directory is left after what is in it."""
+    with guide:
+        folders, steps = [first], how.steps()
         next(steps)
         while folders:
-            entry = next(folders[-1], None)
+            entry, code = next(folders[-1].entries, (None, 0))
             next(steps)
             if entry is None:
-                folders.pop()
-                matcher.left(ways.pop())
+                guide.leave(folders.pop().place)
                 continue
-            below = f"{ways[-1]}/{entry.name}" if ways[-1] else entry.name
-            is_dir = entry.is_dir(follow_symlinks=False)
-            found = matcher.known(below, is_dir)
-            if found.is_ignore:
+            if code & VERDICT == lib.IGNORE:
                 continue
-            if found.is_within_depth:
+            if code & WITHIN:
                 if is_utf8(entry.name):
                     yield entry
                 else:
                     how.report(OSError(EILSEQ, "the name isn't UTF-8", entry.path))
-            if is_dir and found.should_descend:
-                inside = how.below(matcher, entry, below)
-                if inside is not None:
-                    folders.append(inside)
-                    ways.append(below)
-
-
-def listed(matcher: Matcher, path: str, below: str, sort: bool) -> List["os.DirEntry[str]"]:
-    """The entries of a directory, which the matcher is told."""
-    with os.scandir(path) as entries:
-        found = list(entries)
-    matcher.entered(below, (entry.name for entry in found))
-    if sort:
-        found.sort(key=lambda entry: os.fsencode(entry.name))
-    return found
+            if code & DESCENDS:
+                try:
+                    if device is not None and device != os.lstat(entry.path).st_dev:
+                        continue
+                    found = how.listed(entry.path)
+                except OSError as error:
+                    how.report(error)
+                    continue
+                place = guide.enter(folders[-1].place, entry.name, found.listed)
+                folders.append(Folder(place, entry.path, how.decided(guide, place, found)))

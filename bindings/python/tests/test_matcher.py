@@ -8,8 +8,8 @@ import unittest
 from unittest import mock
 
 from ignore_proved import (
-    Builder, Cause, Decision, InvalidRuleError, LimitError, Matcher, MisusedError, Rank, Tree,
-    TreeError, TreeMatcher, TreeWalk, _names, walk,
+    Builder, Cause, Decision, Guide, InvalidRuleError, LimitError, Matcher, MisusedError, Rank,
+    Tree, TreeError, TreeMatcher, TreeWalk, _names, walk,
 )
 
 
@@ -427,17 +427,29 @@ class Disk(unittest.TestCase):
             with self.assertRaises(TypeError):
                 walk(self.top, **{name: "*.rs"})
 
-    def test_a_directory_is_forgotten_as_it_is_left(self):
+    def test_a_directory_is_left_after_what_is_in_it(self):
         for number in range(30):
             self.put(f"{number}/in/.ignore", "x\n")
-        seen = []
-        with mock.patch.object(sys.modules["ignore_proved.walk"], "Matcher",
-                               lambda *words: seen.append(Matcher(*words)) or seen[0]):
+        inside = []
+
+        class Counting(Guide):
+            def root(self, path):
+                inside.append("")
+                return super().root(path)
+
+            def enter(self, parent, name, listed=None):
+                inside.append(name)
+                return super().enter(parent, name, listed)
+
+            def leave(self, place):
+                inside.pop()
+                super().leave(place)
+
+        with mock.patch.object(sys.modules["ignore_proved.walk"], "Guide", Counting):
             for entry in walk(self.top, sort=True):
-                depth = os.path.relpath(entry.path, self.top).count("/") + 1
-                self.assertLessEqual(len(seen[0]._host._told), depth)
-                if entry.name == "9":
-                    self.assertEqual(seen[0].forget(), 1)
+                names = os.path.relpath(entry.path, self.top).split("/")
+                self.assertEqual(inside, ["", *names[:-1]])
+        self.assertEqual(inside, [])
 
 
 if __name__ == "__main__":

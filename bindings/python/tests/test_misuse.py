@@ -12,8 +12,8 @@ import unittest
 from unittest import mock
 
 from ignore_proved import (
-    Builder, Matcher, MisusedError, NotUtf8Error, Rules, Tree, TreeError, TreeMatcher, TreeWalk,
-    walk,
+    Builder, Guide, Matcher, MisusedError, NotUtf8Error, Rules, Tree, TreeError, TreeMatcher,
+    TreeWalk, walk,
 )
 from ignore_proved import _library as lib
 from ignore_proved import _owner
@@ -23,12 +23,14 @@ def each_kind():
     """One object of each kind, and a call of it."""
     tree, builder, rules = Tree("/"), Builder("/"), Rules("", ["a"])
     matcher, items = TreeMatcher(builder, tree), TreeWalk(builder, tree)
+    guide = Guide(builder)
     return [
         (tree, lambda: tree.add_dir("/a")),
         (builder, lambda: builder.add("/a")),
         (rules, lambda: rules.is_ignored("a")),
         (matcher, lambda: matcher.match(Tree("/"), "a", False)),
         (items, lambda: next(items)),
+        (guide, lambda: guide.problems()),
     ]
 
 
@@ -205,7 +207,7 @@ class Misuse(unittest.TestCase):
             thread.start()
             thread.join()
             call()
-        self.assertEqual(len(found), 10)
+        self.assertEqual(len(found), 12)
 
     def test_what_another_thread_collects_is_freed_by_its_own(self):
         with Freed("tree") as freed:

@@ -114,7 +114,6 @@ struct Texts<'t> {
     source: &'t [u8],
     pattern: &'t [u8],
     glob: &'t [u8],
-    ancestor: &'t [u8],
 }
 
 impl Explanation {
@@ -125,41 +124,24 @@ impl Explanation {
             reason: Reason::Unasked,
         }
     }
+}
 
-    /// An answer with a reason of which the texts stand one after the other.
-    pub(crate) fn of(
-        answer: IncrementalMatch,
-        why: &Why,
-        texts: &[u8],
-    ) -> Result<Explanation, Error> {
-        let (directory, texts) = texts.split_at(why.directory);
-        let (source, texts) = texts.split_at(why.source);
-        let (pattern, texts) = texts.split_at(why.pattern);
-        let (glob, ancestor) = texts.split_at(why.glob);
-        let texts = Texts {
-            directory,
-            source,
-            pattern,
-            glob,
-            ancestor,
-        };
-        let reason = match why.kind {
-            1 => Reason::Unasked,
-            2 => Reason::Unruled,
-            3 => Reason::TooShallow,
-            4 => Reason::TooDeep,
-            12 => Reason::Larger {
-                size: why.size,
-                limit: why.limit,
-            },
-            _ if why.is_inside => Reason::Inside {
-                directory: of_disk(texts.ancestor),
-                cause: said(answer, why, &texts)?,
-            },
-            _ => Reason::Decided(said(answer, why, &texts)?),
-        };
-        Ok(Explanation { answer, reason })
-    }
+/// What decides, by a reason of which the texts stand one after the other.
+pub(crate) fn cause_of(
+    answer: IncrementalMatch,
+    why: &Why,
+    texts: &[u8],
+) -> Result<Match<Cause>, Error> {
+    let (directory, texts) = texts.split_at(why.directory);
+    let (source, texts) = texts.split_at(why.source);
+    let (pattern, texts) = texts.split_at(why.pattern);
+    let texts = Texts {
+        directory,
+        source,
+        pattern,
+        glob: &texts[..why.glob],
+    };
+    said(answer, why, &texts)
 }
 
 /// What decides, as the answer goes by it.

@@ -1,13 +1,13 @@
 //! Matchers of single paths, under the original's names, over directories on disk.
 
-use crate::explanation::Explanation;
+use crate::explanation::{cause_of, Cause, Explanation, Reason};
 use crate::gitignore::{done, error_of};
-use crate::host::{Host, Known};
-use crate::library::{self, Builder, Explained, Found, Label, Matcher, Switch, Why};
+use crate::host::{read, Known};
+use crate::library::{self, Builder, Found, Guide, Label, Matcher, Spot, Switch, Tree, Why};
 use crate::names::{of_disk, told};
 use crate::walk::Walk;
-use crate::Error;
-use std::ffi::{OsStr, OsString};
+use crate::{Error, Match};
+use std::collections::HashMap;
 use std::fs;
 use std::path::{Path, PathBuf};
 
@@ -72,9 +72,16 @@ impl IncrementalMatch {
 pub struct WalkBuilder {
     builder: Builder,
     root: PathBuf,
-    custom: Vec<String>,
-    asks_sizes: bool,
+    limits: Limits,
     failed: u32,
+}
+
+/// The limits of a walk, as far as the rules don't know them.
+#[derive(Clone, Copy, Default)]
+struct Limits {
+    min_depth: Option<usize>,
+    max_depth: Option<usize>,
+    max_filesize: Option<u64>,
 }
 
 impl WalkBuilder {
@@ -84,8 +91,7 @@ impl WalkBuilder {
         Ok(WalkBuilder {
             builder: Builder::new(&told(&root)).map_err(error_of)?,
             root,
-            custom: Vec::new(),
-            asks_sizes: false,
+            limits: Limits::default(),
             failed: library::OK,
         })
     }
@@ -147,34 +153,35 @@ impl WalkBuilder {
 
     /// How many names below the root an entry may be.
     pub fn max_depth(&mut self, depth: Option<usize>) -> &mut Self {
+        self.limits.max_depth = depth;
         self.failed = self.failed.max(self.builder.depth(true, depth));
         self
     }
 
     /// How many names below the root an entry is at least.
     pub fn min_depth(&mut self, depth: Option<usize>) -> &mut Self {
+        self.limits.min_depth = depth;
         self.failed = self.failed.max(self.builder.depth(false, depth));
         self
     }
 
     /// The size above which a file is ignored.
     pub fn max_filesize(&mut self, size: Option<u64>) -> &mut Self {
-        self.asks_sizes = size.is_some();
+        self.limits.max_filesize = size;
         self.failed = self.failed.max(self.builder.max_filesize(size));
         self
     }
 
     /// Adds a name of custom files of rules.
     pub fn add_custom_ignore_filename(&mut self, name: &str) -> &mut Self {
-        self.custom.push(name.to_string());
         self.failed = self
             .failed
             .max(self.builder.label(Label::Custom, &told(Path::new(name))));
         self
     }
 
-    /// The matcher of the root.
-    pub fn build_matcher(&mut self) -> Result<IncrementalIgnore, Error> {
+    /// The guide of the settings, of which the environment is known.
+    fn guide(&mut self) -> Result<(Guide, Known), Error> {
         done(self.failed)?;
         let known = Known::of_process()?;
         let texts = [
@@ -189,34 +196,66 @@ impl WalkBuilder {
                 done(self.builder.label(label, &told(text)))?;
             }
         }
-        let mut host = Host::new(self.root.clone(), &self.custom, known)?;
-        host.way(Path::new(""))?;
-        let matcher = Matcher::new(&mut self.builder, &mut host.tree).map_err(error_of)?;
+        Ok((Guide::new(&mut self.builder).map_err(error_of)?, known))
+    }
+
+    /// The matcher of the root.
+    pub fn build_matcher(&mut self) -> Result<IncrementalIgnore, Error> {
+        let (mut guide, known) = self.guide()?;
+        let mut dirs = HashMap::new();
+        if self.root.is_dir() {
+            let place = guide.root(&told(&self.root), &mut read).map_err(error_of)?;
+            dirs.insert(PathBuf::new(), Kept::Entered(place));
+        }
+        let mut tree = Tree::new(&told(&known.current_dir)).map_err(error_of)?;
         Ok(IncrementalIgnore {
-            matcher,
-            host,
-            asks_sizes: self.asks_sizes,
+            texts: Matcher::new(&mut self.builder, &mut tree).map_err(error_of)?,
+            guide,
+            dirs,
+            root: self.root.clone(),
+            limits: self.limits,
         })
     }
 
     /// A walk of the root.
     pub fn build(&mut self) -> Result<Walk, Error> {
-        Walk::by(self.build_matcher()?)
+        let asks_sizes = self.limits.max_filesize.is_some();
+        Ok(Walk::by(self.guide()?.0, self.root.clone(), asks_sizes))
     }
+}
+
+/// What is kept of a directory below the root.
+enum Kept {
+    Entered(Spot),
+    Ignored,
 }
 
 /// A matcher of single paths below a root on disk. What decides is read as it is needed, and kept
 /// until `forget`.
 pub struct IncrementalIgnore {
-    matcher: Matcher,
-    host: Host,
-    asks_sizes: bool,
+    guide: Guide,
+    /// The directories on the way to paths that were asked, by their paths below the root.
+    dirs: HashMap<PathBuf, Kept>,
+    /// By this paths are made clean; it is asked nothing else.
+    texts: Matcher,
+    root: PathBuf,
+    limits: Limits,
+}
+
+/// Where a path stands that is below the root.
+enum Stand {
+    /// No rule is asked.
+    At(Reason),
+    /// The directory is ignored that it is in: its parent's place, its own path.
+    Inside(Spot, PathBuf),
+    /// It is in the directory at a place.
+    In(Spot),
 }
 
 impl IncrementalIgnore {
     /// The root, without links on its way.
     pub fn root(&self) -> &Path {
-        &self.host.root
+        &self.root
     }
 
     /// What becomes of a path, which is below the root, or in it where it is relative. A path
@@ -226,86 +265,173 @@ impl IncrementalIgnore {
         path: P,
         is_dir: bool,
     ) -> Result<IncrementalMatch, Error> {
-        match self.normalize(&self.host.root.join(path))? {
-            Some(below) => self.known(&below, is_dir),
-            None => Ok(IncrementalMatch::outside(is_dir)),
-        }
-    }
-
-    /// The same of a clean path below the root.
-    pub(crate) fn known(&mut self, below: &Path, is_dir: bool) -> Result<IncrementalMatch, Error> {
-        self.tell(below, is_dir)?;
-        let (mut found, text) = (Found::default(), told(below));
-        let code = self
-            .matcher
-            .matched(&mut self.host.tree, &text, is_dir, &mut found);
-        IncrementalMatch::of(code, found)
-    }
-
-    /// Has the tree told what decides on a clean path below the root.
-    fn tell(&mut self, below: &Path, is_dir: bool) -> Result<(), Error> {
-        self.host.way(below.parent().unwrap_or(Path::new("")))?;
-        if self.asks_sizes && !is_dir {
-            self.host.size(below)?;
-        }
-        Ok(())
+        let Some(below) = self.normalize(&self.root.join(path))? else {
+            return Ok(IncrementalMatch::outside(is_dir));
+        };
+        let stand = self.stand(&below, is_dir)?;
+        self.answer(&stand, &below, is_dir)
     }
 
     /// As `matched`, with the reason: the rule, its file and its line, or what else decides.
     pub fn explain<P: AsRef<Path>>(&mut self, path: P, is_dir: bool) -> Result<Explanation, Error> {
-        let Some(below) = self.normalize(&self.host.root.join(path))? else {
+        let Some(below) = self.normalize(&self.root.join(path))? else {
             return Ok(Explanation::outside(is_dir));
         };
-        self.tell(&below, is_dir)?;
-        let text = told(&below);
-        let mut given = Explained {
-            found: Found::default(),
-            why: Why::default(),
-            room: vec![0; 512],
-        };
-        loop {
-            let tree = &mut self.host.tree;
-            let code = self.matcher.explained(tree, &text, is_dir, &mut given);
-            let answer = IncrementalMatch::of(code, given.found)?;
-            let whole = given.why.whole();
-            if whole <= given.room.len() {
-                return Explanation::of(answer, &given.why, &given.room[..whole]);
+        let stand = self.stand(&below, is_dir)?;
+        let answer = self.answer(&stand, &below, is_dir)?;
+        let reason = match stand {
+            Stand::At(reason) => reason,
+            Stand::Inside(parent, directory) => {
+                let cause = self.why(parent, &directory, true)?;
+                Reason::Inside { directory, cause }
             }
-            given.room.resize(whole, 0);
+            Stand::In(place) => match (self.over(&below, is_dir), answer.is_ignore()) {
+                (Some((size, limit)), true)
+                    if !self.decided(place, &below, is_dir, None)?.is_ignore() =>
+                {
+                    Reason::Larger { size, limit }
+                }
+                _ => Reason::Decided(self.why(place, &below, is_dir)?),
+            },
+        };
+        Ok(Explanation { answer, reason })
+    }
+
+    /// Where a clean path stands; the directories on the way to it are entered.
+    fn stand(&mut self, below: &Path, is_dir: bool) -> Result<Stand, Error> {
+        let depth = below.components().count();
+        if self.limits.max_depth.is_some_and(|most| most < depth) {
+            return Ok(Stand::At(Reason::TooDeep));
         }
+        if !is_dir && self.limits.min_depth.is_some_and(|least| depth < least) {
+            return Ok(Stand::At(Reason::TooShallow));
+        }
+        let Some(Kept::Entered(root)) = self.dirs.get(Path::new("")) else {
+            return Ok(Stand::At(Reason::Unruled));
+        };
+        let (mut place, mut dir) = (*root, PathBuf::new());
+        let Some(parent) = below.parent() else {
+            return Ok(Stand::At(Reason::Unruled));
+        };
+        if let Some(Kept::Entered(known)) = self.dirs.get(parent) {
+            return Ok(Stand::In(*known));
+        }
+        for name in parent.components() {
+            dir.push(name);
+            match self.dirs.get(&dir) {
+                Some(Kept::Entered(known)) => {
+                    place = *known;
+                    continue;
+                }
+                Some(Kept::Ignored) => return Ok(Stand::Inside(place, dir)),
+                None => {}
+            }
+            if self.decided(place, &dir, true, None)?.is_ignore() {
+                self.dirs.insert(dir.clone(), Kept::Ignored);
+                return Ok(Stand::Inside(place, dir));
+            }
+            let name = told(Path::new(name.as_os_str()));
+            let found = self.guide.enter(place, &name, &[], &mut read);
+            place = found.map_err(error_of)?;
+            self.dirs.insert(dir.clone(), Kept::Entered(place));
+        }
+        Ok(Stand::In(place))
     }
 
-    /// Whether what has this name decides in its directory.
-    pub(crate) fn decides(&self, name: &OsStr) -> bool {
-        self.host.decides(name)
+    fn answer(
+        &mut self,
+        stand: &Stand,
+        below: &Path,
+        is_dir: bool,
+    ) -> Result<IncrementalMatch, Error> {
+        let depth = below.components().count();
+        let is_within = !self.limits.min_depth.is_some_and(|least| depth < least);
+        let is_deepest = self.limits.max_depth.is_some_and(|most| most <= depth);
+        let (code, descends, is_within) = match stand {
+            Stand::At(Reason::TooDeep | Reason::TooShallow) => (library::IGNORE, false, false),
+            Stand::At(_) => (library::NONE, is_dir && !is_deepest, is_within),
+            Stand::Inside(..) => (library::IGNORE, false, is_within),
+            Stand::In(place) => {
+                let size = self.over(below, is_dir).map(|(size, _)| size);
+                return self.decided(*place, below, is_dir, size);
+            }
+        };
+        Ok(IncrementalMatch {
+            code,
+            descends,
+            is_within,
+        })
     }
 
-    /// Has the matcher told a directory of which all names that decide are known.
-    pub(crate) fn entered(&mut self, below: &Path, names: &[OsString]) -> Result<(), Error> {
-        self.host.listed(below, Some(names))
+    /// What becomes of a path in the directory at a place.
+    fn decided(
+        &mut self,
+        place: Spot,
+        below: &Path,
+        is_dir: bool,
+        size: Option<u64>,
+    ) -> Result<IncrementalMatch, Error> {
+        let mut found = Found::default();
+        let name = told(Path::new(below.file_name().unwrap_or_default()));
+        let size = size.unwrap_or(library::NO_SIZE);
+        let code = self.guide.decide(place, &name, is_dir, size, &mut found);
+        IncrementalMatch::of(code, found)
+    }
+
+    /// The size of what is at a path, and the limit, where it is larger. That of a link is of its
+    /// text.
+    fn over(&self, below: &Path, is_dir: bool) -> Option<(u64, u64)> {
+        let limit = self.limits.max_filesize.filter(|_| !is_dir)?;
+        let size = fs::symlink_metadata(self.root.join(below)).ok()?.len();
+        (size > limit).then_some((size, limit))
+    }
+
+    /// What decides on a path in the directory at a place.
+    fn why(&mut self, place: Spot, below: &Path, is_dir: bool) -> Result<Match<Cause>, Error> {
+        let name = told(Path::new(below.file_name().unwrap_or_default())).into_owned();
+        let (mut why, mut room) = (Why::default(), vec![0; 512]);
+        loop {
+            let code = self.guide.why(place, &name, is_dir, &mut why, &mut room);
+            let answer = IncrementalMatch::of(code, Found::default())?;
+            let whole = why.whole();
+            if whole <= room.len() {
+                return cause_of(answer, &why, &room[..whole]);
+            }
+            room.resize(whole, 0);
+        }
     }
 
     /// Forgets a directory below the root and those below it, so that they are read anew, and counts
     /// them.
     pub fn forget<P: AsRef<Path>>(&mut self, dir: P) -> Result<usize, Error> {
-        let Some(below) = self.normalize(&self.host.root.join(dir))? else {
+        let Some(below) = self.normalize(&self.root.join(dir))? else {
             return Ok(0);
         };
-        self.left(&below)
-    }
-
-    /// The same of a clean path below the root.
-    pub(crate) fn left(&mut self, below: &Path) -> Result<usize, Error> {
-        self.host.forget(below);
-        let mut count = 0;
-        done(self.matcher.forget(&told(below), &mut count))?;
-        Ok(count)
+        let mut gone: Vec<PathBuf> = self
+            .dirs
+            .keys()
+            .filter(|it| it.starts_with(&below))
+            .cloned()
+            .collect();
+        // The deepest ones first.
+        gone.sort_by_key(|it| std::cmp::Reverse(it.components().count()));
+        for dir in &gone {
+            if let Some(Kept::Entered(place)) = self.dirs.remove(dir) {
+                done(self.guide.leave(place))?;
+            }
+        }
+        if below.as_os_str().is_empty() && self.root.is_dir() {
+            let place = self.guide.root(&told(&self.root), &mut read);
+            let place = place.map_err(error_of)?;
+            self.dirs.insert(below, Kept::Entered(place));
+        }
+        Ok(gone.len())
     }
 
     fn normalize(&mut self, path: &Path) -> Result<Option<PathBuf>, Error> {
         let (mut room, mut whole) = (vec![0; 256], 0);
         loop {
-            match self.matcher.normalize(&told(path), &mut room, &mut whole) {
+            match self.texts.normalize(&told(path), &mut room, &mut whole) {
                 library::NONE => return Ok(None),
                 code => done(code)?,
             }

@@ -8,6 +8,7 @@ pub mod gitignore;
 mod host;
 mod incremental;
 mod library;
+mod listing;
 #[cfg(doctest)]
 mod misuse;
 mod names;

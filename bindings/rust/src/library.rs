@@ -1,5 +1,9 @@
 //! The library's calls, each as a safe function: a slice is lent for the call, and a handle is
 //! owned by one value, which frees it.
+//!
+//! Between two calls a handle may go to another thread, as the header says: it leads to memory that
+//! `malloc` gave, and to nothing else. So the values here are `Send`; they aren't `Sync`, since each
+//! call wants the handle for itself.
 #![allow(unsafe_code)]
 
 use std::ptr::null_mut;
@@ -12,6 +16,10 @@ pub const NOT_UTF8: u32 = 4;
 pub const NO_MEMORY: u32 = 5;
 pub const REFUSED: u32 = 7;
 pub const OUTSIDE: u32 = 10;
+const WANTS: u32 = 16;
+const NO_FAULT: u32 = 255;
+/// No size is known.
+pub const NO_SIZE: u64 = u64::MAX;
 
 #[repr(C)]
 #[derive(Clone, Copy)]
@@ -74,15 +82,31 @@ pub struct Why {
     pub is_inside: bool,
 }
 
-/// What a matcher answers, with the reason, and a room for the texts of that.
-pub struct Explained {
-    pub found: Found,
-    pub why: Why,
-    pub room: Vec<u8>,
+/// A directory that was entered and not left.
+#[repr(C)]
+#[derive(Clone, Copy, Debug, Default, PartialEq, Eq)]
+pub struct Spot {
+    index: usize,
+    serial: u64,
+}
+
+/// What a guide wants to know of a path.
+#[derive(Clone, Copy, Debug, PartialEq, Eq)]
+pub enum Wanted {
+    Kind,
+    File,
+    Canonical,
+}
+
+/// What a guide is told of a path: what is there (0 nothing, 1 a file, 2 a directory, 4 something
+/// else), and what was read, or the number of the fault by which it wasn't.
+pub struct Given {
+    pub kind: u32,
+    pub bytes: Vec<u8>,
+    pub fault: Option<u32>,
 }
 
 type TextCall = unsafe extern "C" fn(*mut Handle, *const u8, usize) -> u32;
-type TwoTextsCall = unsafe extern "C" fn(*mut Handle, *const u8, usize, *const u8, usize) -> u32;
 type SwitchCall = unsafe extern "C" fn(*mut Handle, bool) -> u32;
 type LimitCall = unsafe extern "C" fn(*mut Handle, bool, usize) -> u32;
 type DecidedCall =
@@ -99,37 +123,6 @@ pub enum Manner {
 
 extern "C" {
     fn ignore_tree_new(cwd: *const u8, length: usize, tree: *mut Handle) -> u32;
-    fn ignore_tree_add_dir(tree: *mut Handle, path: *const u8, length: usize) -> u32;
-    fn ignore_tree_add_file(
-        tree: *mut Handle,
-        path: *const u8,
-        length: usize,
-        bytes: *const u8,
-        bytes_length: usize,
-    ) -> u32;
-    fn ignore_tree_add_link(
-        tree: *mut Handle,
-        path: *const u8,
-        length: usize,
-        target: *const u8,
-        target_length: usize,
-    ) -> u32;
-    fn ignore_tree_rewrite_file(
-        tree: *mut Handle,
-        path: *const u8,
-        length: usize,
-        bytes: *const u8,
-        bytes_length: usize,
-    ) -> u32;
-    fn ignore_tree_set_size(tree: *mut Handle, path: *const u8, length: usize, size: u64) -> u32;
-    fn ignore_tree_remove(tree: *mut Handle, path: *const u8, length: usize) -> u32;
-    fn ignore_tree_cut_contents(
-        tree: *mut Handle,
-        path: *const u8,
-        length: usize,
-        bytes: usize,
-        fault: u32,
-    ) -> u32;
     fn ignore_tree_free(tree: Handle);
     fn ignore_builder_new(root: *const u8, length: usize, builder: *mut Handle) -> u32;
     fn ignore_builder_add_custom_ignore_filename(
@@ -169,31 +162,6 @@ extern "C" {
     fn ignore_builder_max_filesize(builder: *mut Handle, is_set: bool, most: u64) -> u32;
     fn ignore_builder_free(builder: Handle);
     fn ignore_matcher_new(builder: *mut Handle, tree: *mut Handle, matcher: *mut Handle) -> u32;
-    fn ignore_matcher_matched(
-        matcher: *mut Handle,
-        tree: *mut Handle,
-        path: *const u8,
-        length: usize,
-        is_dir: bool,
-        found: *mut Found,
-    ) -> u32;
-    fn ignore_matcher_explained(
-        matcher: *mut Handle,
-        tree: *mut Handle,
-        path: *const u8,
-        length: usize,
-        is_dir: bool,
-        found: *mut Found,
-        why: *mut Why,
-        room: *mut u8,
-        room_length: usize,
-    ) -> u32;
-    fn ignore_matcher_forget(
-        matcher: *mut Handle,
-        dir: *const u8,
-        length: usize,
-        count: *mut usize,
-    ) -> u32;
     fn ignore_matcher_normalize(
         matcher: *mut Handle,
         path: *const u8,
@@ -203,6 +171,70 @@ extern "C" {
         whole: *mut usize,
     ) -> u32;
     fn ignore_matcher_free(matcher: Handle);
+    fn ignore_guide_new(builder: *mut Handle, guide: *mut Handle) -> u32;
+    fn ignore_guide_root(
+        guide: *mut Handle,
+        root: *const u8,
+        length: usize,
+        place: *mut Spot,
+    ) -> u32;
+    fn ignore_guide_enter(
+        guide: *mut Handle,
+        parent: *const Spot,
+        name: *const u8,
+        length: usize,
+        names: *const u8,
+        names_length: usize,
+        place: *mut Spot,
+    ) -> u32;
+    fn ignore_guide_wanted(
+        guide: *mut Handle,
+        wanted: *mut u32,
+        room: *mut u8,
+        length: usize,
+        whole: *mut usize,
+    ) -> u32;
+    fn ignore_guide_give(
+        guide: *mut Handle,
+        kind: u32,
+        bytes: *const u8,
+        length: usize,
+        fault: u32,
+        place: *mut Spot,
+    ) -> u32;
+    fn ignore_guide_decide(
+        guide: *mut Handle,
+        place: *const Spot,
+        name: *const u8,
+        length: usize,
+        is_dir: bool,
+        size: u64,
+        found: *mut Found,
+    ) -> u32;
+    fn ignore_guide_decide_all(
+        guide: *mut Handle,
+        place: *const Spot,
+        names: *const u8,
+        names_length: usize,
+        kinds: *const u8,
+        count: usize,
+        sizes: *const u64,
+        sizes_length: usize,
+        codes: *mut u8,
+        codes_length: usize,
+    ) -> u32;
+    fn ignore_guide_why(
+        guide: *mut Handle,
+        place: *const Spot,
+        name: *const u8,
+        length: usize,
+        is_dir: bool,
+        why: *mut Why,
+        room: *mut u8,
+        room_length: usize,
+    ) -> u32;
+    fn ignore_guide_leave(guide: *mut Handle, place: *const Spot) -> u32;
+    fn ignore_guide_free(guide: Handle);
     fn ignore_rules_new(
         root: *const u8,
         length: usize,
@@ -268,8 +300,10 @@ extern "C" {
     fn ignore_rules_free(rules: Handle);
 }
 
-/// A handle of rules, which it owns. It is neither `Send` nor `Sync`: that a handle may go to
-/// another thread isn't proved of the library.
+// Nothing of a thread is in a handle, which has one owner.
+unsafe impl Send for Handle {}
+
+/// A handle of rules, which it owns.
 pub struct Rules(Handle);
 
 impl Rules {
@@ -377,51 +411,6 @@ impl Tree {
     pub fn new(cwd: &[u8]) -> Result<Tree, u32> {
         made(|at| unsafe { ignore_tree_new(cwd.as_ptr(), cwd.len(), at) }).map(Tree)
     }
-
-    fn text(&mut self, call: TextCall, path: &[u8]) -> u32 {
-        unsafe { call(&mut self.0, path.as_ptr(), path.len()) }
-    }
-
-    fn two(&mut self, call: TwoTextsCall, path: &[u8], text: &[u8]) -> u32 {
-        unsafe {
-            call(
-                &mut self.0,
-                path.as_ptr(),
-                path.len(),
-                text.as_ptr(),
-                text.len(),
-            )
-        }
-    }
-
-    pub fn add_dir(&mut self, path: &[u8]) -> u32 {
-        self.text(ignore_tree_add_dir, path)
-    }
-
-    pub fn add_file(&mut self, path: &[u8], bytes: &[u8]) -> u32 {
-        self.two(ignore_tree_add_file, path, bytes)
-    }
-
-    pub fn add_link(&mut self, path: &[u8], target: &[u8]) -> u32 {
-        self.two(ignore_tree_add_link, path, target)
-    }
-
-    pub fn rewrite_file(&mut self, path: &[u8], bytes: &[u8]) -> u32 {
-        self.two(ignore_tree_rewrite_file, path, bytes)
-    }
-
-    pub fn remove(&mut self, path: &[u8]) -> u32 {
-        self.text(ignore_tree_remove, path)
-    }
-
-    pub fn set_size(&mut self, path: &[u8], size: u64) -> u32 {
-        unsafe { ignore_tree_set_size(&mut self.0, path.as_ptr(), path.len(), size) }
-    }
-
-    /// Has the reading of a file be refused.
-    pub fn deny(&mut self, path: &[u8]) -> u32 {
-        unsafe { ignore_tree_cut_contents(&mut self.0, path.as_ptr(), path.len(), 0, 1) }
-    }
 }
 
 impl Drop for Tree {
@@ -521,43 +510,6 @@ impl Matcher {
         made(|at| unsafe { ignore_matcher_new(&mut builder.0, &mut tree.0, at) }).map(Matcher)
     }
 
-    pub fn matched(
-        &mut self,
-        tree: &mut Tree,
-        path: &[u8],
-        is_dir: bool,
-        found: &mut Found,
-    ) -> u32 {
-        let (at, length) = (path.as_ptr(), path.len());
-        unsafe { ignore_matcher_matched(&mut self.0, &mut tree.0, at, length, is_dir, found) }
-    }
-
-    pub fn explained(
-        &mut self,
-        tree: &mut Tree,
-        path: &[u8],
-        is_dir: bool,
-        told: &mut Explained,
-    ) -> u32 {
-        unsafe {
-            ignore_matcher_explained(
-                &mut self.0,
-                &mut tree.0,
-                path.as_ptr(),
-                path.len(),
-                is_dir,
-                &mut told.found,
-                &mut told.why,
-                told.room.as_mut_ptr(),
-                told.room.len(),
-            )
-        }
-    }
-
-    pub fn forget(&mut self, dir: &[u8], count: &mut usize) -> u32 {
-        unsafe { ignore_matcher_forget(&mut self.0, dir.as_ptr(), dir.len(), count) }
-    }
-
     pub fn normalize(&mut self, path: &[u8], room: &mut [u8], whole: &mut usize) -> u32 {
         let (at, length) = (path.as_ptr(), path.len());
         let (to, most) = (room.as_mut_ptr(), room.len());
@@ -568,5 +520,146 @@ impl Matcher {
 impl Drop for Matcher {
     fn drop(&mut self) {
         unsafe { ignore_matcher_free(self.0) }
+    }
+}
+
+/// What decides in the directories that were entered and not left, which it owns.
+pub struct Guide(Handle);
+
+/// Answers a guide: what it wants to know of the path that it knows by a text.
+pub type Answer<'a> = &'a mut dyn FnMut(Wanted, &[u8]) -> Given;
+
+impl Guide {
+    /// The guide of a builder.
+    pub fn new(builder: &mut Builder) -> Result<Guide, u32> {
+        made(|at| unsafe { ignore_guide_new(&mut builder.0, at) }).map(Guide)
+    }
+
+    /// Begins a root, and returns its place, or the code of why it has none.
+    pub fn root(&mut self, root: &[u8], answer: Answer<'_>) -> Result<Spot, u32> {
+        let mut place = Spot::default();
+        let (at, length) = (root.as_ptr(), root.len());
+        let code = unsafe { ignore_guide_root(&mut self.0, at, length, &mut place) };
+        self.answered(code, place, answer)
+    }
+
+    /// Enters the directory of a name in another. What it lists is told where there are names, each
+    /// ended by a zero.
+    pub fn enter(
+        &mut self,
+        parent: Spot,
+        name: &[u8],
+        names: &[u8],
+        answer: Answer<'_>,
+    ) -> Result<Spot, u32> {
+        let mut place = Spot::default();
+        let (at, length) = (name.as_ptr(), name.len());
+        let (names, most) = (names.as_ptr(), names.len());
+        let (handle, to) = (&mut self.0, &mut place);
+        let code = unsafe { ignore_guide_enter(handle, &parent, at, length, names, most, to) };
+        self.answered(code, place, answer)
+    }
+
+    /// Gives what a call wants to know, until it has a place.
+    fn answered(&mut self, code: u32, place: Spot, answer: Answer<'_>) -> Result<Spot, u32> {
+        let (mut code, mut place, mut room) = (code, place, Vec::new());
+        while code == WANTS {
+            let (wanted, path) = self.wanted(&mut room)?;
+            let given = answer(wanted, path);
+            let (at, length) = (given.bytes.as_ptr(), given.bytes.len());
+            let (kind, fault) = (given.kind, given.fault.unwrap_or(NO_FAULT));
+            code = unsafe { ignore_guide_give(&mut self.0, kind, at, length, fault, &mut place) };
+        }
+        match code {
+            OK => Ok(place),
+            code => Err(code),
+        }
+    }
+
+    fn wanted<'r>(&mut self, room: &'r mut Vec<u8>) -> Result<(Wanted, &'r [u8]), u32> {
+        let (mut wanted, mut whole) = (0, 256);
+        loop {
+            room.resize(room.len().max(whole), 0);
+            let (to, most) = (room.as_mut_ptr(), room.len());
+            let asked =
+                unsafe { ignore_guide_wanted(&mut self.0, &mut wanted, to, most, &mut whole) };
+            match asked {
+                OK if whole <= room.len() => break,
+                OK => {}
+                code => return Err(code),
+            }
+        }
+        let wanted = match wanted {
+            1 => Wanted::Kind,
+            2 => Wanted::File,
+            _ => Wanted::Canonical,
+        };
+        Ok((wanted, &room[..whole]))
+    }
+
+    /// What becomes of an entry of a directory that was entered.
+    pub fn decide(
+        &mut self,
+        place: Spot,
+        name: &[u8],
+        is_dir: bool,
+        size: u64,
+        found: &mut Found,
+    ) -> u32 {
+        let (at, length) = (name.as_ptr(), name.len());
+        unsafe { ignore_guide_decide(&mut self.0, &place, at, length, is_dir, size, found) }
+    }
+
+    /// What becomes of each name of a listing, each ended by a zero, with its kind: a number for
+    /// each, of the answer, and 4 where a walk descends, and 8 where it is within depth.
+    pub fn decide_all(
+        &mut self,
+        place: Spot,
+        names: &[u8],
+        kinds: &[u8],
+        codes: &mut Vec<u8>,
+    ) -> u32 {
+        codes.clear();
+        codes.resize(kinds.len(), 0);
+        let no_sizes: &[u64] = &[];
+        unsafe {
+            ignore_guide_decide_all(
+                &mut self.0,
+                &place,
+                names.as_ptr(),
+                names.len(),
+                kinds.as_ptr(),
+                kinds.len(),
+                no_sizes.as_ptr(),
+                0,
+                codes.as_mut_ptr(),
+                codes.len(),
+            )
+        }
+    }
+
+    /// Which rule decides on an entry of a directory that was entered.
+    pub fn why(
+        &mut self,
+        place: Spot,
+        name: &[u8],
+        is_dir: bool,
+        why: &mut Why,
+        room: &mut [u8],
+    ) -> u32 {
+        let (at, length) = (name.as_ptr(), name.len());
+        let (to, most) = (room.as_mut_ptr(), room.len());
+        unsafe { ignore_guide_why(&mut self.0, &place, at, length, is_dir, why, to, most) }
+    }
+
+    /// Leaves a directory.
+    pub fn leave(&mut self, place: Spot) -> u32 {
+        unsafe { ignore_guide_leave(&mut self.0, &place) }
+    }
+}
+
+impl Drop for Guide {
+    fn drop(&mut self) {
+        unsafe { ignore_guide_free(self.0) }
     }
 }

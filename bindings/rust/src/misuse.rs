@@ -28,21 +28,17 @@
 /// let other = matcher.clone();
 /// ```
 ///
-/// It stays on its thread.
+/// It may go to another thread, but two don't have it at once.
 ///
-/// ```compile_fail,E0277
-/// let rules = ignore_proved::gitignore::Gitignore::new(".gitignore").unwrap();
-/// std::thread::spawn(move || rules.matched("a", false).is_ok());
+/// ```
+/// let rules = ignore_proved::gitignore::GitignoreBuilder::new("").unwrap().build().unwrap();
+/// let asked = std::thread::spawn(move || rules.matched("a", false).is_ok());
+/// assert!(asked.join().unwrap());
 /// ```
 ///
 /// ```compile_fail,E0277
 /// let rules = ignore_proved::gitignore::Gitignore::new(".gitignore").unwrap();
 /// std::thread::scope(|scope| { scope.spawn(|| rules.matched("a", false).is_ok()); });
-/// ```
-///
-/// ```compile_fail,E0277
-/// let walk = ignore_proved::Walk::new(".").unwrap();
-/// std::thread::spawn(move || walk.count());
 /// ```
 ///
 /// One call at a time has a matcher.

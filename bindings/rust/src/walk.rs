@@ -1,12 +1,14 @@
-//! Walks of a directory on disk, by the answers of its matcher.
+//! Walks of a directory on disk, by the answers of a guide.
 
-use crate::incremental::{IncrementalIgnore, WalkBuilder};
-use crate::names::is_utf8;
-use crate::Error;
-use std::ffi::OsString;
+use crate::gitignore::{done, error_of};
+use crate::host::read;
+use crate::library::{Found, Guide, Spot, IGNORE, NONE, WHITELIST};
+use crate::listing::{Listed, Listing};
+use crate::names::{is_utf8, told};
+use crate::{Error, WalkBuilder};
 use std::fs::{self, FileType};
+use std::io;
 use std::path::{Path, PathBuf};
-use std::vec;
 
 /// An entry of a walk.
 #[derive(Debug)]
@@ -38,9 +40,12 @@ impl DirEntry {
     }
 }
 
+/// A directory that was entered, with what becomes of its entries.
 struct Folder {
-    below: PathBuf,
-    entries: vec::IntoIter<fs::DirEntry>,
+    place: Spot,
+    path: PathBuf,
+    listing: Listing,
+    codes: Vec<u8>,
 }
 
 /// A walk: the entries below a root that no rule ignores, a directory before what is in it, as the
@@ -48,8 +53,10 @@ struct Folder {
 /// place of its entries, and an entry whose name isn't UTF-8 is one in its own; both have the path.
 /// What is in a directory with such a name is yielded.
 pub struct Walk {
-    matcher: IncrementalIgnore,
+    guide: Guide,
+    asks_sizes: bool,
     folders: Vec<Folder>,
+    /// The directory that is entered next.
     waiting: Option<PathBuf>,
 }
 
@@ -59,46 +66,102 @@ impl Walk {
         WalkBuilder::new(root)?.build()
     }
 
-    pub(crate) fn by(matcher: IncrementalIgnore) -> Result<Walk, Error> {
-        Ok(Walk {
-            matcher,
+    pub(crate) fn by(guide: Guide, root: PathBuf, asks_sizes: bool) -> Walk {
+        Walk {
+            guide,
+            asks_sizes,
             folders: Vec::new(),
-            waiting: Some(PathBuf::new()),
-        })
+            waiting: Some(root),
+        }
     }
 
-    /// Lists a directory, which the matcher is told.
-    fn enter(&mut self, below: PathBuf) -> Result<(), Error> {
-        let path = self.matcher.root().join(&below);
-        let listed = fs::read_dir(&path).and_then(Iterator::collect::<Result<Vec<_>, _>>);
-        let entries = listed.map_err(|error| Error::Io(error).at(path))?;
-        let names = entries.iter().map(fs::DirEntry::file_name);
-        let names: Vec<OsString> = names.filter(|it| self.matcher.decides(it)).collect();
-        self.matcher.entered(&below, &names)?;
+    /// Lists a directory, and enters it.
+    fn enter(&mut self, path: PathBuf) -> Result<(), Error> {
+        let listing = match Listing::read(&path) {
+            Ok(listing) => listing,
+            Err(error) => return Err(Error::Io(error).at(path)),
+        };
+        let place = match (self.folders.last(), path.file_name()) {
+            (Some(parent), Some(name)) => {
+                let (place, name) = (parent.place, told(Path::new(name)));
+                self.guide.enter(place, &name, listing.names(), &mut read)
+            }
+            _ => self.guide.root(&told(&path), &mut read),
+        };
         self.folders.push(Folder {
-            below,
-            entries: entries.into_iter(),
+            place: place.map_err(error_of)?,
+            path,
+            listing,
+            codes: Vec::new(),
         });
-        Ok(())
+        self.decide()
     }
 
-    /// What becomes of an entry, if it is yielded.
-    fn entry(&mut self, below: PathBuf, entry: &fs::DirEntry) -> Result<Option<DirEntry>, Error> {
-        let kind = entry
-            .file_type()
-            .map_err(|error| Error::Io(error).at(entry.path()))?;
-        let found = self.matcher.known(&below, kind.is_dir())?;
-        if found.is_ignore() {
+    /// Decides on what was read last of the last directory.
+    fn decide(&mut self) -> Result<(), Error> {
+        let Some(folder) = self.folders.last_mut() else {
+            return Ok(());
+        };
+        let (names, kinds) = (folder.listing.read_last(), folder.listing.kinds());
+        folder.codes.clear();
+        if kinds.is_empty() {
+            return Ok(());
+        }
+        let (place, codes) = (folder.place, &mut folder.codes);
+        let decided = done(self.guide.decide_all(place, names, &kinds, codes));
+        if decided.is_err() {
+            folder.listing = Listing::default();
+        }
+        decided
+    }
+
+    /// Reads on in the last directory, or leaves it where there is no more.
+    fn go_on(&mut self) -> Result<(), Error> {
+        let Some(folder) = self.folders.last_mut() else {
+            return Ok(());
+        };
+        match folder.listing.read_on() {
+            Ok(true) => return self.decide(),
+            Ok(false) => {}
+            Err(error) => return Err(Error::Io(error).at(&folder.path)),
+        }
+        let place = folder.place;
+        self.folders.pop();
+        done(self.guide.leave(place))
+    }
+
+    /// What becomes of an entry of the last directory that the rules keep, if it is yielded.
+    fn entry(&mut self, listed: &Listed) -> Result<Option<DirEntry>, Error> {
+        let depth = self.folders.len();
+        let Some(folder) = self.folders.last() else {
+            return Ok(None);
+        };
+        let (code, name) = (folder.codes[listed.index], folder.listing.name(listed));
+        let mut path = PathBuf::with_capacity(folder.path.as_os_str().len() + name.len() + 1);
+        path.push(&folder.path);
+        path.push(name);
+        let kind = match listed.kind {
+            Ok(kind) => kind,
+            Err(number) => return Err(Error::Io(io::Error::from_raw_os_error(number)).at(path)),
+        };
+        if self.asks_sizes && !kind.is_dir() {
+            if let Ok(found) = fs::symlink_metadata(&path) {
+                let (place, name) = (folder.place, folder.listing.told(listed));
+                let (size, mut rest) = (found.len(), Found::default());
+                match self.guide.decide(place, name, false, size, &mut rest) {
+                    IGNORE => return Ok(None),
+                    NONE | WHITELIST => {}
+                    code => return Err(error_of(code)),
+                }
+            }
+        }
+        if kind.is_dir() && code & 4 != 0 {
+            self.waiting = Some(path.clone());
+        }
+        if code & 8 == 0 {
             return Ok(None);
         }
-        if kind.is_dir() && found.should_descend() {
-            self.waiting = Some(below);
-        }
-        if !found.is_within_depth() {
-            return Ok(None);
-        }
-        let (path, depth) = (entry.path(), self.folders.len());
-        if !is_utf8(&entry.file_name()) {
+        if !is_utf8(name) {
             return Err(Error::NotUtf8.at(path));
         }
         Ok(Some(DirEntry { path, kind, depth }))
@@ -110,45 +173,24 @@ impl Iterator for Walk {
 
     fn next(&mut self) -> Option<Self::Item> {
         loop {
-            if let Some(below) = self.waiting.take() {
-                if let Err(error) = self.enter(below) {
+            if let Some(path) = self.waiting.take() {
+                if let Err(error) = self.enter(path) {
                     return Some(Err(error));
                 }
             }
             let folder = self.folders.last_mut()?;
-            let Some(entry) = folder.entries.next() else {
-                let left = self.folders.pop().map(|it| self.matcher.left(&it.below));
-                match left {
-                    Some(Err(error)) => return Some(Err(error)),
-                    _ => continue,
+            let Some(listed) = folder.listing.next() else {
+                match self.go_on() {
+                    Err(error) => return Some(Err(error)),
+                    Ok(()) => continue,
                 }
             };
-            let below = folder.below.join(entry.file_name());
-            if let Some(item) = self.entry(below, &entry).transpose() {
+            if u32::from(folder.codes[listed.index] & 3) == IGNORE {
+                continue;
+            }
+            if let Some(item) = self.entry(&listed).transpose() {
                 return Some(item);
             }
         }
-    }
-}
-
-#[cfg(test)]
-mod tests {
-    use super::Walk;
-    use std::fs;
-
-    #[test]
-    fn a_directory_is_forgotten_as_it_is_left() {
-        let top = std::env::temp_dir().join(format!("ignore_proved_left_{}", std::process::id()));
-        for number in 0..20 {
-            let folder = top.join(number.to_string()).join("in");
-            fs::create_dir_all(&folder).expect("a folder");
-            fs::write(folder.join(".ignore"), "x\n").expect("a file");
-        }
-        let mut walk = Walk::new(&top).expect("a walk");
-        let items = walk.by_ref().take(40).filter(Result::is_ok).count();
-        let kept = walk.matcher.forget("").expect("memory");
-        fs::remove_dir_all(&top).expect("the folder goes");
-        assert_eq!(items, 40);
-        assert!(kept <= 3, "{kept} are kept");
     }
 }

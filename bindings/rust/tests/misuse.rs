@@ -3,6 +3,7 @@ use ignore_proved::gitignore::{Gitignore, GitignoreBuilder};
 use ignore_proved::{DirEntry, Error, IncrementalIgnore, Match, Walk, WalkBuilder};
 use std::mem;
 use std::path::{Path, PathBuf};
+use std::thread;
 
 /// Doesn't compile where a type has a trait: both impls then fit.
 macro_rules! lacks {
@@ -18,15 +19,10 @@ macro_rules! lacks {
     };
 }
 
-lacks!(Gitignore: Send);
 lacks!(Gitignore: Sync);
-lacks!(GitignoreBuilder: Send);
 lacks!(GitignoreBuilder: Sync);
-lacks!(WalkBuilder: Send);
 lacks!(WalkBuilder: Sync);
-lacks!(IncrementalIgnore: Send);
 lacks!(IncrementalIgnore: Sync);
-lacks!(Walk: Send);
 lacks!(Walk: Sync);
 lacks!(Gitignore: Clone);
 lacks!(IncrementalIgnore: Clone);
@@ -39,6 +35,28 @@ fn what_is_told_goes_to_other_threads() {
     is_sent::<Error>();
     is_sent::<DirEntry>();
     is_sent::<Match<ignore_proved::gitignore::Glob>>();
+}
+
+fn is_moved<T: Send>() {}
+
+#[test]
+fn values_go_to_other_threads() {
+    is_moved::<Gitignore>();
+    is_moved::<GitignoreBuilder>();
+    is_moved::<WalkBuilder>();
+    let mut builder = WalkBuilder::new(".").expect("a root");
+    let mut matcher = builder.build_matcher().expect("memory");
+    let mut walk = builder.build().expect("a walk");
+    let first = walk.next().is_some();
+    let elsewhere = thread::spawn(move || {
+        let found = matcher.matched("src", true).expect("memory").is_none();
+        (found && first, matcher, walk)
+    });
+    let (found, matcher, walk) = elsewhere.join().expect("no panic");
+    thread::spawn(move || drop(matcher))
+        .join()
+        .expect("no panic");
+    assert!(found && walk.count() > 0);
 }
 
 #[test]

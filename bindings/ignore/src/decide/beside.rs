@@ -343,7 +343,8 @@ fn told_builder(chosen: &Chosen, root: &Path) -> Builder {
         builder.type_choose(name, *is_negated);
     }
     assert!(builder.set_types());
-    builder.walks(chosen.follow_links, chosen.max_filesize);
+    builder.follow_links(chosen.follow_links);
+    builder.max_filesize(chosen.max_filesize);
     builder
 }
 

@@ -1,0 +1,202 @@
+"""Guides: which entries of directories count, for who lists these himself."""
+from __future__ import annotations
+
+import ctypes
+import os
+from ctypes import byref, c_size_t, c_uint32
+from typing import Callable, Iterable, List, NamedTuple, Optional, Sequence, Tuple
+
+from . import _library as lib
+from ._errors import checked, error_of
+from ._names import of_disk, told
+from ._owner import Owner, handle_of, number
+from .answers import Match, lengths_of
+from .host import Given, read
+from .rules import DECISIONS, Decision, Path, encoded
+from .tree import Builder, text
+
+NO_SIZES = (ctypes.c_uint64 * 1)()
+NOTHING = Given(0, b"", 0)
+#: By a code of `decide_all`: the verdict, that a walk descends, that it is within depth.
+VERDICT, DESCENDS, WITHIN = 3, 4, 8
+
+Reads = Callable[[int, str], Given]
+
+
+class Problem(NamedTuple):
+    """A part of what is wrong with a file of rules; what isn't known is None."""
+
+    path: Optional[str]
+    line: Optional[int]
+    glob: Optional[str]
+    text: str
+
+
+class Listed(NamedTuple):
+    """The names of a directory as a guide takes them, and which of them are directories."""
+
+    names: bytes
+    kinds: bytes
+
+    @classmethod
+    def of(cls, names: Iterable[str], are_dirs: Iterable[bool]) -> "Listed":
+        """The names, and whether each is a directory."""
+        kinds = bytes(2 if is_dir else 1 for is_dir in are_dirs)
+        # (no name has a zero, so all are told at once; an empty directory lists itself)
+        joined = told("\0".join(names)).encode("utf-8") if kinds else b"."
+        return cls(joined + b"\0", kinds)
+
+
+class Guide(Owner):
+    """What decides in the directories that were entered and not left, by the settings of a builder.
+
+    Directories are entered below a root or one another, their entries are decided on, and they are
+    left, those below them first. What has to be known of a path is read from the disk, or by
+    `reads(wanted, path)`: 1 is what is there, 2 its content too, 3 its canonical path.
+    """
+
+    _kind = "guide"
+
+    def __init__(self, builder: Builder, reads: Reads = read) -> None:
+        handle = lib.Handle()
+        checked(lib.library.ignore_guide_new(handle_of(Builder, builder), byref(handle)))
+        self._own(handle)
+        self._reads = reads
+        self._found = lib.Found()
+
+    def root(self, path: Path) -> lib.Place:
+        """Begins a root, by its path."""
+        place = lib.Place()
+        given = text(told(os.fsdecode(encoded(path))))
+        code = lib.library.ignore_guide_root(self.handle, *given, byref(place))
+        return self._answered(code, place)
+
+    def enter(self, parent: lib.Place, name: str, listed: Optional[Listed] = None) -> lib.Place:
+        """Enters the directory of a name in another, of which it may be known what it lists."""
+        place, names = lib.Place(), listed.names if listed else b""
+        given = text(told(name))
+        code = lib.library.ignore_guide_enter(
+            self.handle, byref(parent), *given, names, len(names), byref(place)
+        )
+        return self._answered(code, place)
+
+    def decide(
+        self, place: lib.Place, name: str, is_dir: bool, size: Optional[int] = None
+    ) -> Match:
+        """What becomes of an entry of a directory that was entered."""
+        found, given = self._found, told(name).encode("utf-8")
+        size = lib.NO_SIZE if size is None else number(size)
+        code = lib.library.ignore_guide_decide(
+            self.handle, byref(place), given, len(given), bool(is_dir), size, byref(found)
+        )
+        kind = DECISIONS.get(code)
+        if kind is None:
+            raise error_of(code)
+        return Match(kind, found.should_descend, found.is_within_depth)
+
+    def decide_all(
+        self, place: lib.Place, listed: Listed, sizes: Optional[Sequence[int]] = None
+    ) -> bytes:
+        """The same of all that a directory lists, by a number for each: 1, 2 and 3 stand for the
+        decisions; 4 is added where a walk would enter it, 8 where it is as deep as asked.
+        """
+        names, kinds = listed
+        count, given, most = len(kinds), NO_SIZES, 0
+        if sizes is not None:
+            given, most = (ctypes.c_uint64 * max(len(sizes), 1))(*sizes), len(sizes)
+        codes = ctypes.create_string_buffer(max(count, 1))
+        if count:
+            checked(lib.library.ignore_guide_decide_all(
+                self.handle, byref(place), names, len(names), kinds, count, given, most,
+                codes, count,
+            ))
+        return codes.raw[:count]
+
+    def why(
+        self, place: lib.Place, name: str, is_dir: bool
+    ) -> Tuple[Decision, lib.WhyParts, bytes]:
+        """Which rule decides on an entry, whatever its depth and its size are: the decision, the
+        parts of the reason, and its texts.
+        """
+        parts, room = lib.WhyParts(), ctypes.create_string_buffer(512)
+        given = text(told(name))
+        while True:
+            code = lib.library.ignore_guide_why(
+                self.handle, byref(place), *given, bool(is_dir), byref(parts), room, len(room)
+            )
+            kind = DECISIONS.get(code)
+            if kind is None:
+                raise error_of(code)
+            whole = sum(lengths_of(parts))
+            if whole <= len(room):
+                return kind, parts, room.raw[:whole]
+            room = ctypes.create_string_buffer(whole)
+
+    def leave(self, place: lib.Place) -> None:
+        """Leaves a directory, after those below it."""
+        self._call("leave", byref(place))
+
+    def problems(self) -> Sequence[Problem]:
+        """What is wrong with the files of rules of the directory that was entered last."""
+        found: List[Problem] = []
+        room = ctypes.create_string_buffer(512)
+        while True:
+            parts = lib.ProblemParts()
+            code = lib.library.ignore_guide_problem(
+                self.handle, len(found), byref(parts), room, len(room)
+            )
+            if code == lib.NONE:
+                return found
+            checked(code)
+            whole = parts.path + parts.glob + parts.text
+            if whole > len(room):
+                room = ctypes.create_string_buffer(whole)
+                continue
+            found.append(problem_of(parts, room.raw[:whole]))
+
+    def _answered(self, code: int, place: lib.Place) -> lib.Place:
+        """Gives what a call wants to know, until it has a place."""
+        room, wanted, whole = ctypes.create_string_buffer(512), c_uint32(), c_size_t()
+        while code == lib.WANTS:
+            handle = self.handle
+            checked(lib.library.ignore_guide_wanted(
+                handle, byref(wanted), room, len(room), byref(whole)
+            ))
+            if whole.value > len(room):
+                room = ctypes.create_string_buffer(whole.value)
+                continue
+            path = of_disk(room.raw[: whole.value].decode("utf-8"))
+            try:
+                given = self._reads(wanted.value, path)
+            except BaseException:
+                self._end(place)
+                raise
+            code = self._give(given, place)
+        checked(code)
+        return place
+
+    def _give(self, given: Given, place: lib.Place) -> int:
+        """Gives what the call that waits wants to know, and returns what that answers."""
+        kind, content, fault = given
+        fault = lib.NO_FAULT if fault is None else fault
+        give = lib.library.ignore_guide_give
+        code: int = give(self.handle, kind, content, len(content), fault, byref(place))
+        return code
+
+    def _end(self, place: lib.Place) -> None:
+        """Ends the call that waits: nothing is there, and the directory is left."""
+        code = lib.WANTS
+        while code == lib.WANTS:
+            code = self._give(NOTHING, place)
+        if code == lib.OK:
+            self.leave(place)
+
+
+def problem_of(parts: lib.ProblemParts, texts: bytes) -> Problem:
+    """A problem of its parts, and of its texts, one after the other."""
+    path, rest = texts[: parts.path], texts[parts.path:]
+    glob, said = rest[: parts.glob], rest[parts.glob:]
+    return Problem(
+        of_disk(path.decode("utf-8")) if parts.has_path else None, parts.line or None,
+        glob.decode("utf-8") if parts.has_glob else None, said.decode("utf-8", "replace"),
+    )
