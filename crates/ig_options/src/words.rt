@@ -5,7 +5,8 @@ use crate::given::given_words;
 use crate::options::Options;
 use crate::sizes::size_of;
 use crate::table::{
-    ALIASES, ASKED, Alias, ELSEWHERE, IGNORED, LIST, Row, TYPES, Takes, UNUSED, WHAT, WHAT_OF_WHY,
+    ALIASES, ASKED, Alias, ELSEWHERE, IGNORED, LIST, Row, SAME, TYPES, Takes, UNUSED, WHAT,
+    WHAT_OF_SAME, WHAT_OF_WHY,
 };
 use clap::error::ErrorKind;
 use clap::{Arg, ArgAction, ArgMatches, Command, Error, value_parser};
@@ -25,11 +26,13 @@ pub enum Task {
     Why,
     /// `unused`: the rules that decide nothing.
     Unused,
+    /// `same`: whether two files of rules say the same.
+    Same,
     /// `types`: the file types and their globs.
     Types,
 }
 
-/// The id of the roots, and of the paths of `why`.
+/// The id of the roots, of the paths of `why`, and of the files of `same`.
 const ROOTS: &str = "root";
 
 /// The id of the size above which a file is ignored.
@@ -43,7 +46,7 @@ const SORT_FILES: &str = "sort-files";
 /// How the commands are used.
 const USAGE: &str = "\
 ig [ls] [OPTIONS] [ROOT]...
-       ig ignored|why|unused|types [OPTIONS] ... (see their --help)";
+       ig ignored|why|unused|same|types [OPTIONS] ... (see their --help)";
 
 /// What the long help of a list ends with.
 const LONG_HELP: &str = "\
@@ -111,6 +114,30 @@ Example:
 Status: 0 where something was listed, 1 where nothing was, 2 where something was
 reported.";
 
+/// What the long help of `same` ends with.
+const SAME_HELP: &str = "\
+Two files of rules say the same where they do so of every path, whatever a tree
+holds: both ignore it, both whitelist it, or neither has a rule for it. What is
+in an ignored folder is ignored. Where they differ, a shortest path on which
+they do is written twice, after what OLD and then what NEW says of it:
+ignore, whitelist or none, a tab, SOURCE:LINE:PATTERN of the rule that decides,
+or :: where none does, and a tab. A path that ends with a slash is a folder. OLD
+or NEW may be -, for standard input. An invalid line is reported, and the other
+lines are compared.
+
+Example:
+  git show HEAD:.gitignore | ig same - .gitignore
+                               whether a .gitignore says what it said
+
+Status: 0 where they say the same, 1 where they differ, 2 where something was
+reported, as that there is too much to compare.";
+
+/// What is wrong with the number of the files that are compared.
+const NOT_TWO: &str = "two files are compared, OLD and NEW";
+
+/// What is wrong with two files that are both standard input.
+const INPUT_TWICE: &str = "standard input, '-', can be only one of OLD and NEW";
+
 /// What is wrong with a size.
 const WRONG_SIZE: &str =
     "invalid value for '--max-filesize <SIZE>': a size is a number, with K, M or G after it or not";
@@ -141,11 +168,12 @@ pub fn read_words(alloc: Global, words: &[String]) -> Result<(Task, Options), Er
 const LONGEST_NEAR: usize = 9;
 
 /// The commands, by the words that they are called by.
-const COMMANDS: [(&str, Task); 5] = [
+const COMMANDS: [(&str, Task); 6] = [
     ("ls", Task::List),
     ("ignored", Task::Ignored),
     ("why", Task::Why),
     ("unused", Task::Unused),
+    ("same", Task::Same),
     ("types", Task::Types),
 ];
 
@@ -188,7 +216,7 @@ fn options_of(alloc: Global, task: Task, matches: &ArgMatches<'_>) -> Result<Opt
     if let Some(text) = matches.get_str(SIZE_LIMIT) {
         options.max_filesize = size_of(text);
     }
-    if task == Task::Why {
+    if task == Task::Why || task == Task::Same {
         options.paths = given_words(alloc, matches.get_strs(ROOTS).unwrap_or(&[]))?;
     }
     Ok(options)
@@ -203,9 +231,20 @@ fn wrong_of(
     if matches.get_str(SIZE_LIMIT).is_some() && options.max_filesize.is_none() {
         return Some((ErrorKind::ValueValidation, WRONG_SIZE));
     }
-    if task == Task::Why {
-        let text = wrong_paths(options)?;
-        return Some((ErrorKind::ArgumentConflict, text));
+    match task {
+        Task::Why => Some((ErrorKind::ArgumentConflict, wrong_paths(options)?)),
+        Task::Same => wrong_files(matches.get_strs(ROOTS).unwrap_or(&[])),
+        _ => None,
+    }
+}
+
+/// What is wrong with the words for OLD and NEW, and of which kind that is.
+fn wrong_files(words: &[&str]) -> Option<(ErrorKind, &'static str)> {
+    let &[old, new] = words else {
+        return Some((ErrorKind::WrongNumberOfValues, NOT_TWO));
+    };
+    if old == "-" && new == "-" {
+        return Some((ErrorKind::ArgumentConflict, INPUT_TWICE));
     }
     None
 }
@@ -239,6 +278,7 @@ fn command_of<'a>(alloc: Global, task: Task) -> Result<Command<'a>, AllocError> 
         Task::Ignored => ignored_command(alloc),
         Task::Why => why_command(alloc),
         Task::Unused => unused_command(alloc),
+        Task::Same => same_command(alloc),
         Task::Types => types_command(alloc),
     }
 }
@@ -292,6 +332,17 @@ fn unused_command<'a>(alloc: Global) -> Result<Command<'a>, AllocError> {
         .after_long_help(UNUSED_HELP)
         .arg(root)?;
     with_groups(alloc, command, Task::Unused, &UNUSED)
+}
+
+/// The parser of `ig same`.
+fn same_command<'a>(alloc: Global) -> Result<Command<'a>, AllocError> {
+    let command = plain_command(alloc, "ig same")?
+        .about("Says whether two files of rules say the same of every path.")
+        .override_usage("ig same [OPTIONS] OLD NEW")
+        .after_help("ig same --help has all options.")
+        .after_long_help(SAME_HELP)
+        .arg(roots_of(alloc, "OLD and NEW; - is standard input").value_name("FILE"))?;
+    with_groups(alloc, command, Task::Same, &SAME)
 }
 
 /// The parser of `ig types`.
@@ -383,10 +434,10 @@ fn help_in(task: Task, long: &str, help: &'static str) -> &'static str {
 
 /// What an option is for in a command.
 fn heading_in(task: Task, heading: &'static str) -> &'static str {
-    if task == Task::Why && heading == WHAT {
-        WHAT_OF_WHY
-    } else {
-        heading
+    match task {
+        Task::Why if heading == WHAT => WHAT_OF_WHY,
+        Task::Same if heading == WHAT => WHAT_OF_SAME,
+        _ => heading,
     }
 }
 
@@ -476,7 +527,7 @@ fn read_kinds(options: &mut Options, matches: &ArgMatches<'_>) {
     options.links = matches.get_flag("links");
     options.null = matches.get_flag("null") || matches.get_flag("zero");
     options.stdin = matches.get_flag("stdin");
-    options.only_ignored = matches.get_flag("only-ignored");
+    options.only_ignored = matches.get_flag("only-ignored") || matches.get_flag("ignored");
     options.reasons = matches.get_flag("verbose");
     options.quiet = matches.get_flag("quiet");
     options.stats = matches.get_flag("stats");
