@@ -29,9 +29,10 @@ pub enum Finding {
     /// It decides, but on no question that the rules reach: all is in folders that they ignore. That
     /// holds of these rules alone, as a file of rules elsewhere may re-include a folder.
     DeadByFolders(Example),
-    /// It decides on no question at all: it applies to none, or later rules decide wherever it
-    /// applies. That holds whatever other files of rules say.
-    Overruled,
+    /// It decides on no question at all, and that holds whatever other files of rules say: where it
+    /// applies, these rules decide, and no other does. They are told by their indices, which grow. Of
+    /// a rule that applies to nothing there are none.
+    Overruled(Vec<usize>),
     /// It decides on no question that the rules reach. Whether it decides on any would have needed
     /// more states than the limit.
     Unreached,

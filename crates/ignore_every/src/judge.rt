@@ -103,7 +103,7 @@ impl<'a> Judge<'a> {
                 let finding = self.example(index, question)?;
                 Ok(finding)
             }
-            None => Ok(Finding::Overruled),
+            None => Ok(Finding::Overruled(Vec::new(self.alloc))),
         }
     }
 

@@ -4,6 +4,7 @@
 mod alphabet;
 mod analysis;
 mod asked;
+mod compare;
 mod decided;
 mod error;
 mod findings;
@@ -20,8 +21,11 @@ mod place;
 mod places;
 mod room;
 mod row;
+mod said;
 mod trail;
 
 pub use analysis::Analysis;
+pub use compare::compare;
 pub use error::Error;
 pub use findings::{Example, Finding, Question};
+pub use said::{Comparison, Counted, Difference, Folder, Said, Verdict};
