@@ -16,4 +16,5 @@ pub mod Unused
 pub mod Rules
 pub mod Found
 pub mod Input
+pub mod Same
 pub mod Run

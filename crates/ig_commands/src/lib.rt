@@ -13,6 +13,7 @@ mod repositories;
 mod root;
 mod rules;
 pub mod run;
+mod same;
 mod stop;
 mod types;
 mod unused;

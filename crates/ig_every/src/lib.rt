@@ -5,5 +5,5 @@ mod compared;
 mod input;
 mod reading;
 
-pub use compared::{MOST_STATES, compare_rules};
-pub use reading::{RulesRead, read_file, read_input};
+pub use compared::{MOST_STATES, compare_rules, rule_in, shown};
+pub use reading::{RulesRead, Sides, given_at, read_sides, takes_input};

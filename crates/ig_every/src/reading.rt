@@ -5,10 +5,10 @@ ghost use Rattle.ignore_files.specs.Gives.{IsHonest};
 ghost use Rattle.ignore_files.specs.Tree.{Tree};
 ghost use Rattle.ignore_files.specs.declared.types.Contents.{Contents};
 ghost use Rattle.ignore_files.specs.declared.types.Refusal.{Refusal};
-ghost use Rattle.ig_every.specs.Reading.{IsRead, IsReadBy, begun_by, input_file};
+ghost use Rattle.ig_every.specs.Reading.{AreRead, IsRead, IsReadBy, IsSide, begun_by, given_at, input_file, is_input, takes_input};
 
 use crate::input::Input;
-use ig_options::Options;
+use ig_options::{Given, Options};
 use ignore_base::Error;
 use ignore_files::Files;
 use ignore_rules::gitignore::{Gitignore, GitignoreBuilder};
@@ -23,12 +23,81 @@ pub struct RulesRead {
     pub problem: Option<Error>,
 }
 
+/// What was read of two files that are compared.
+#[derive(Drop)]
+pub struct Sides {
+    /// Of OLD.
+    pub old: RulesRead,
+    /// Of NEW.
+    pub new: RulesRead,
+}
+
+/// The rules of the two files that the options name. `input` has the bytes of standard input, where
+/// one of them is `-`.
+///
+/// # Errors
+/// `Error::Memory` alone.
+pub fn read_sides<F: Files>(
+    alloc: Global,
+    files: &F,
+    options: &Options,
+    input: &[u8],
+) -> Result<Sides, Error>
+    ensures read { (tree : Tree) → IsHonest F.Files files.now tree → IfOk result (AreRead tree input.now options.now) }
+    ensures out_of_memory { IfErr result (λ e. problem_of e ≡ memory) }
+{
+    let old = read_side(alloc, files, options, given_at(options, 0), input)?;
+    let new = read_side(alloc, files, options, given_at(options, 1), input)?;
+    Ok(Sides { old, new })
+}
+
+/// Whether one of the two files is standard input.
+pub fn takes_input(options: &Options) -> bool
+    ensures { result ≡ takes_input options.now }
+{
+    is_input(given_at(options, 0)) || is_input(given_at(options, 1))
+}
+
+/// The file that is given at a place, from 0; the empty path without one.
+pub fn given_at(options: &Options, place: usize) -> &str
+    ensures { result.now ≡ given_at options.now place }
+{
+    match options.paths.get(place) {
+        Some(Given::Path(path)) => path.as_str(),
+        _ => "",
+    }
+}
+
+/// Whether a path is that of standard input.
+fn is_input(path: &str) -> bool
+    ensures { result ≡ is_input path.now }
+{
+    path == "-"
+}
+
+/// The rules of a file, or of standard input.
+fn read_side<F: Files>(
+    alloc: Global,
+    files: &F,
+    options: &Options,
+    path: &str,
+    input: &[u8],
+) -> Result<RulesRead, Error>
+    ensures read { (tree : Tree) → IsHonest F.Files files.now tree → IfOk result (IsSide tree input.now options.now path.now) }
+    ensures out_of_memory { IfErr result (λ e. problem_of e ≡ memory) }
+{
+    if is_input(path) {
+        return read_input(alloc, options, input);
+    }
+    read_file(alloc, files, options, path)
+}
+
 /// The rules of the file at a path, whose lines are read as the options say. They are asked at their
 /// own root, so the folder of the file doesn't count.
 ///
 /// # Errors
 /// `Error::Memory` alone.
-pub fn read_file<F: Files>(
+fn read_file<F: Files>(
     alloc: Global,
     files: &F,
     options: &Options,
@@ -52,7 +121,7 @@ pub fn read_file<F: Files>(
 ///
 /// # Errors
 /// `Error::Memory` alone.
-pub fn read_input(alloc: Global, options: &Options, bytes: &[u8]) -> Result<RulesRead, Error>
+fn read_input(alloc: Global, options: &Options, bytes: &[u8]) -> Result<RulesRead, Error>
     ensures read { IfOk result (λ r. IsRead options.now (codes "-") (input_file bytes.now) r.rules (option_map problem_of r.problem)) }
     ensures out_of_memory { IfErr result (λ e. problem_of e ≡ memory) }
 {

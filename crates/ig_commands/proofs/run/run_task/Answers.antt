@@ -11,65 +11,77 @@ pub returns-in_default-clause-ended : goal.returns-in_default-clause-ended
 returns-in_default-clause-ended g c =
     let out = g.W.Write.contents c.args.out.now in
     let err = g.E.Write.contents c.args.err.now in
-    ends_none g.F.Files c.args.world.now.files.now c.args.world.now.env.now c.args.options.now types_at_first c.args.task (Appends out out)
+    ends_none g.F.Files c.args.world.now.files.now c.args.world.now.env.now c.args.call.now.options.now types_at_first c.args.call.now.task (g.R.Read.remaining c.args.input) (Appends out out)
     (Appends err err) Memory (appends_nothing out, appends_nothing err)
 
 pub returns-in-List-clause-done : goal.returns-in-List-clause-done
 returns-in-List-clause-done g c =
-    does_as g.F.Files c.args.world.now.files.now c.args.world.now.env.now c.args.options.now c.in-Ok.first types_at_first command.List c.args.task
-    c.list.result (Appends (g.W.Write.contents c.args.out.now) (g.W.Write.contents c.list.new.out))
+    does_as g.F.Files c.args.world.now.files.now c.args.world.now.env.now c.args.call.now.options.now c.in-Ok.first types_at_first command.List c.args.call.now.task
+    (g.R.Read.remaining c.args.input) c.list.result (Appends (g.W.Write.contents c.args.out.now) (g.W.Write.contents c.list.new.out))
     (Appends (g.E.Write.contents c.args.err.now) (g.E.Write.contents c.list.new.err)) c.in-Ok.ensures.value c.in-List.is c.list.ensures.lists
 
 pub returns-in-List-clause-ended : goal.returns-in-List-clause-ended
 returns-in-List-clause-ended g c =
-    ends_as g.F.Files c.args.world.now.files.now c.args.world.now.env.now c.args.options.now c.in-Ok.first types_at_first command.List c.args.task
-    c.list.result (Appends (g.W.Write.contents c.args.out.now) (g.W.Write.contents c.list.new.out))
+    ends_as g.F.Files c.args.world.now.files.now c.args.world.now.env.now c.args.call.now.options.now c.in-Ok.first types_at_first command.List c.args.call.now.task
+    (g.R.Read.remaining c.args.input) c.list.result (Appends (g.W.Write.contents c.args.out.now) (g.W.Write.contents c.list.new.out))
     (Appends (g.E.Write.contents c.args.err.now) (g.E.Write.contents c.list.new.err)) c.in-Ok.ensures.value c.in-List.is c.list.ensures.ended
 
 pub returns-in-Ignored-clause-done : goal.returns-in-Ignored-clause-done
 returns-in-Ignored-clause-done g c =
-    does_as g.F.Files c.args.world.now.files.now c.args.world.now.env.now c.args.options.now c.in-Ok.first types_at_first command.Ignored c.args.task
-    c.list_ignored.result (Appends (g.W.Write.contents c.args.out.now) (g.W.Write.contents c.list_ignored.new.out))
+    does_as g.F.Files c.args.world.now.files.now c.args.world.now.env.now c.args.call.now.options.now c.in-Ok.first types_at_first command.Ignored c.args.call.now.task
+    (g.R.Read.remaining c.args.input) c.list_ignored.result (Appends (g.W.Write.contents c.args.out.now) (g.W.Write.contents c.list_ignored.new.out))
     (Appends (g.E.Write.contents c.args.err.now) (g.E.Write.contents c.list_ignored.new.err)) c.in-Ok.ensures.value c.in-Ignored.is c.list_ignored.ensures.lists
 
 pub returns-in-Ignored-clause-ended : goal.returns-in-Ignored-clause-ended
 returns-in-Ignored-clause-ended g c =
-    ends_as g.F.Files c.args.world.now.files.now c.args.world.now.env.now c.args.options.now c.in-Ok.first types_at_first command.Ignored c.args.task
-    c.list_ignored.result (Appends (g.W.Write.contents c.args.out.now) (g.W.Write.contents c.list_ignored.new.out))
+    ends_as g.F.Files c.args.world.now.files.now c.args.world.now.env.now c.args.call.now.options.now c.in-Ok.first types_at_first command.Ignored c.args.call.now.task
+    (g.R.Read.remaining c.args.input) c.list_ignored.result (Appends (g.W.Write.contents c.args.out.now) (g.W.Write.contents c.list_ignored.new.out))
     (Appends (g.E.Write.contents c.args.err.now) (g.E.Write.contents c.list_ignored.new.err)) c.in-Ok.ensures.value c.in-Ignored.is c.list_ignored.ensures.ended
 
 pub returns-in-Why-clause-done : goal.returns-in-Why-clause-done
 returns-in-Why-clause-done g c =
-    does_as g.F.Files c.args.world.now.files.now c.args.world.now.env.now c.args.options.now c.in-Ok.first types_at_first command.Why c.args.task
-    c.why.result (Appends (g.W.Write.contents c.args.out.now) (g.W.Write.contents c.why.new.out))
+    does_as g.F.Files c.args.world.now.files.now c.args.world.now.env.now c.args.call.now.options.now c.in-Ok.first types_at_first command.Why c.args.call.now.task
+    (g.R.Read.remaining c.args.input) c.why.result (Appends (g.W.Write.contents c.args.out.now) (g.W.Write.contents c.why.new.out))
     (Appends (g.E.Write.contents c.args.err.now) (g.E.Write.contents c.why.new.err)) c.in-Ok.ensures.value c.in-Why.is c.why.ensures.answers
 
 pub returns-in-Why-clause-ended : goal.returns-in-Why-clause-ended
 returns-in-Why-clause-ended g c =
-    ends_as g.F.Files c.args.world.now.files.now c.args.world.now.env.now c.args.options.now c.in-Ok.first types_at_first command.Why c.args.task
-    c.why.result (Appends (g.W.Write.contents c.args.out.now) (g.W.Write.contents c.why.new.out))
+    ends_as g.F.Files c.args.world.now.files.now c.args.world.now.env.now c.args.call.now.options.now c.in-Ok.first types_at_first command.Why c.args.call.now.task
+    (g.R.Read.remaining c.args.input) c.why.result (Appends (g.W.Write.contents c.args.out.now) (g.W.Write.contents c.why.new.out))
     (Appends (g.E.Write.contents c.args.err.now) (g.E.Write.contents c.why.new.err)) c.in-Ok.ensures.value c.in-Why.is c.why.ensures.ended
 
 pub returns-in-Unused-clause-done : goal.returns-in-Unused-clause-done
 returns-in-Unused-clause-done g c =
-    does_as g.F.Files c.args.world.now.files.now c.args.world.now.env.now c.args.options.now c.in-Ok.first types_at_first command.Unused c.args.task
-    c.list_unused.result (Appends (g.W.Write.contents c.args.out.now) (g.W.Write.contents c.list_unused.new.out))
+    does_as g.F.Files c.args.world.now.files.now c.args.world.now.env.now c.args.call.now.options.now c.in-Ok.first types_at_first command.Unused c.args.call.now.task
+    (g.R.Read.remaining c.args.input) c.list_unused.result (Appends (g.W.Write.contents c.args.out.now) (g.W.Write.contents c.list_unused.new.out))
     (Appends (g.E.Write.contents c.args.err.now) (g.E.Write.contents c.list_unused.new.err)) c.in-Ok.ensures.value c.in-Unused.is c.list_unused.ensures.lists
 
 pub returns-in-Unused-clause-ended : goal.returns-in-Unused-clause-ended
 returns-in-Unused-clause-ended g c =
-    ends_as g.F.Files c.args.world.now.files.now c.args.world.now.env.now c.args.options.now c.in-Ok.first types_at_first command.Unused c.args.task
-    c.list_unused.result (Appends (g.W.Write.contents c.args.out.now) (g.W.Write.contents c.list_unused.new.out))
+    ends_as g.F.Files c.args.world.now.files.now c.args.world.now.env.now c.args.call.now.options.now c.in-Ok.first types_at_first command.Unused c.args.call.now.task
+    (g.R.Read.remaining c.args.input) c.list_unused.result (Appends (g.W.Write.contents c.args.out.now) (g.W.Write.contents c.list_unused.new.out))
     (Appends (g.E.Write.contents c.args.err.now) (g.E.Write.contents c.list_unused.new.err)) c.in-Ok.ensures.value c.in-Unused.is c.list_unused.ensures.ended
 
 pub returns-in-Types-clause-done : goal.returns-in-Types-clause-done
 returns-in-Types-clause-done g c =
-    does_as g.F.Files c.args.world.now.files.now c.args.world.now.env.now c.args.options.now c.in-Ok.first types_at_first command.Types c.args.task
-    c.list_types.result (Appends (g.W.Write.contents c.args.out.now) (g.W.Write.contents c.list_types.new.out))
+    does_as g.F.Files c.args.world.now.files.now c.args.world.now.env.now c.args.call.now.options.now c.in-Ok.first types_at_first command.Types c.args.call.now.task
+    (g.R.Read.remaining c.args.input) c.list_types.result (Appends (g.W.Write.contents c.args.out.now) (g.W.Write.contents c.list_types.new.out))
     (Appends (g.E.Write.contents c.args.err.now) (g.E.Write.contents c.list_types.new.err)) c.in-Ok.ensures.value c.in-Types.is c.list_types.ensures.lists
 
 pub returns-in-Types-clause-ended : goal.returns-in-Types-clause-ended
 returns-in-Types-clause-ended g c =
-    ends_as g.F.Files c.args.world.now.files.now c.args.world.now.env.now c.args.options.now c.in-Ok.first types_at_first command.Types c.args.task
-    c.list_types.result (Appends (g.W.Write.contents c.args.out.now) (g.W.Write.contents c.list_types.new.out))
+    ends_as g.F.Files c.args.world.now.files.now c.args.world.now.env.now c.args.call.now.options.now c.in-Ok.first types_at_first command.Types c.args.call.now.task
+    (g.R.Read.remaining c.args.input) c.list_types.result (Appends (g.W.Write.contents c.args.out.now) (g.W.Write.contents c.list_types.new.out))
     (Appends (g.E.Write.contents c.args.err.now) (g.E.Write.contents c.list_types.new.err)) c.in-Ok.ensures.value c.in-Types.is c.list_types.ensures.ended
+
+pub returns-in-Same-clause-done : goal.returns-in-Same-clause-done
+returns-in-Same-clause-done g c =
+    does_as g.F.Files c.args.world.now.files.now c.args.world.now.env.now c.args.call.now.options.now c.in-Ok.first types_at_first command.Same c.args.call.now.task
+    (g.R.Read.remaining c.args.input) c.same.result (Appends (g.W.Write.contents c.args.out.now) (g.W.Write.contents c.same.new.out))
+    (Appends (g.E.Write.contents c.args.err.now) (g.E.Write.contents c.same.new.err)) c.in-Ok.ensures.value c.in-Same.is c.same.ensures.compares
+
+pub returns-in-Same-clause-ended : goal.returns-in-Same-clause-ended
+returns-in-Same-clause-ended g c =
+    ends_as g.F.Files c.args.world.now.files.now c.args.world.now.env.now c.args.call.now.options.now c.in-Ok.first types_at_first command.Same c.args.call.now.task
+    (g.R.Read.remaining c.args.input) c.same.result (Appends (g.W.Write.contents c.args.out.now) (g.W.Write.contents c.same.new.out))
+    (Appends (g.E.Write.contents c.args.err.now) (g.E.Write.contents c.same.new.err)) c.in-Ok.ensures.value c.in-Same.is c.same.ensures.ended
