@@ -6,6 +6,7 @@ mod counts;
 mod form;
 mod ignored;
 mod input;
+mod lint;
 mod listing;
 mod names;
 mod reports;

@@ -1,5 +1,5 @@
 //! The rules of a file that is compared or linted.
-ghost use Rattle.std.specs.Prelude.{◌≡◌, IfOk, IfErr, Result, codes, option_map};
+ghost use Rattle.std.specs.Prelude.{◌≡◌, IfOk, IfErr, Result, option_map};
 ghost use Rattle.ignore_base.specs.Problem.{memory, problem_of};
 ghost use Rattle.ignore_files.specs.Gives.{IsHonest};
 ghost use Rattle.ignore_files.specs.Tree.{Tree};
@@ -87,7 +87,7 @@ fn read_side<F: Files>(
     ensures out_of_memory { IfErr result (λ e. problem_of e ≡ memory) }
 {
     if is_input(path) {
-        return read_input(alloc, options, input);
+        return read_bytes(alloc, options, path, input);
     }
     read_file(alloc, files, options, path)
 }
@@ -117,16 +117,21 @@ fn read_file<F: Files>(
     })
 }
 
-/// The rules of the bytes of standard input, as of a file of the path `-`.
+/// The rules of these bytes, as of a file at a path.
 ///
 /// # Errors
 /// `Error::Memory` alone.
-fn read_input(alloc: Global, options: &Options, bytes: &[u8]) -> Result<RulesRead, Error>
-    ensures read { IfOk result (λ r. IsRead options.now (codes "-") (input_file bytes.now) r.rules (option_map problem_of r.problem)) }
+pub(crate) fn read_bytes(
+    alloc: Global,
+    options: &Options,
+    path: &str,
+    bytes: &[u8],
+) -> Result<RulesRead, Error>
+    ensures read { IfOk result (λ r. IsRead options.now path.now (input_file bytes.now) r.rules (option_map problem_of r.problem)) }
     ensures out_of_memory { IfErr result (λ e. problem_of e ≡ memory) }
 {
     let input = Input { bytes };
-    read_file(alloc, &input, options, "-")
+    read_file(alloc, &input, options, path)
 }
 
 /// A builder of no rules, of which lines are read as the options say.

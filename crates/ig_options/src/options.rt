@@ -12,8 +12,8 @@ pub struct Options {
     pub roots: Vec<String>,
     /// Whether no root is given: paths are then written without the `./` of the root `.`.
     pub is_bare: bool,
-    /// The paths that `why` is asked about, or the files that `same` compares, as they are given by
-    /// words.
+    /// The paths that `why` is asked about, the files that `same` compares, or those that `lint` looks
+    /// at, as they are given by words.
     pub paths: Vec<Given>,
     /// `--stdin` of `why`: the paths are those of standard input.
     pub stdin: bool,
@@ -30,6 +30,8 @@ pub struct Options {
     pub links: bool,
     /// `-0`, and `-z` of `why`: a path ends in NUL, and not in a newline.
     pub null: bool,
+    /// `--json` of `lint`: each line of the output is an object of JSON.
+    pub json: bool,
     /// `-q`: nothing is written to the output.
     pub quiet: bool,
     /// `--stats`: counts are reported at the end.
@@ -108,6 +110,7 @@ impl Options {
             dirs: false,
             links: false,
             null: false,
+            json: false,
             quiet: false,
             stats: false,
             no_messages: false,

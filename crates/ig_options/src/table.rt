@@ -48,7 +48,7 @@ pub enum Alias {
 }
 
 /// What an option does in a command, where that isn't what it does in `ig ls`.
-pub const ELSEWHERE: [(Task, &str, &str); 17] = [
+pub const ELSEWHERE: [(Task, &str, &str); 21] = [
     (
         Task::Ignored,
         "hidden",
@@ -98,6 +98,22 @@ pub const ELSEWHERE: [(Task, &str, &str); 17] = [
         Task::Why,
         "quiet",
         "Write nothing: the status says whether a path is ignored",
+    ),
+    (
+        Task::Lint,
+        "hidden",
+        "Without effect: hidden entries are met",
+    ),
+    (Task::Lint, "unrestricted", "As --no-ignore"),
+    (
+        Task::Lint,
+        "null",
+        "End each field in NUL, not in a colon or a newline",
+    ),
+    (
+        Task::Lint,
+        "quiet",
+        "Write nothing: the status says whether anything is wrong",
     ),
     (
         Task::Same,
@@ -530,6 +546,15 @@ pub const COMPARED: [Row; 1] = [(
     "Only whether a path is ignored counts, for a tree with one file",
 )];
 
+/// The options of `ig lint` alone.
+pub const JSON: [Row; 1] = [(
+    "json",
+    None,
+    Takes::Switch("no-json"),
+    PRINT,
+    "Write each as an object of JSON, a line each",
+)];
+
 /// The options of `ig ls`.
 pub const LIST: [&[Row]; 14] = [
     &KINDS, &FILTERS, &READING, &WALK, &DEPTH, &SIZE, &GLOBS, &ENDS, &STATS, &QUIET, &ORDER,
@@ -554,6 +579,11 @@ pub const UNUSED: [&[Row]; 7] = [
 
 /// The options of `ig same`.
 pub const SAME: [&[Row]; 6] = [&COMPARED, &READING, &ENDS, &QUIET, &REPORTS, &TAKEN];
+
+/// The options of `ig lint`.
+pub const LINT: [&[Row]; 7] = [
+    &FILTERS, &READING, &JSON, &ENDS, &QUIET, &REPORTS, &TAKEN,
+];
 
 /// The options of `ig types`.
 pub const TYPES: [&[Row]; 1] = [&[(

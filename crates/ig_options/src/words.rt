@@ -5,7 +5,7 @@ use crate::given::given_words;
 use crate::options::Options;
 use crate::sizes::size_of;
 use crate::table::{
-    ALIASES, ASKED, Alias, ELSEWHERE, IGNORED, LIST, Row, SAME, TYPES, Takes, UNUSED, WHAT,
+    ALIASES, ASKED, Alias, ELSEWHERE, IGNORED, LINT, LIST, Row, SAME, TYPES, Takes, UNUSED, WHAT,
     WHAT_OF_SAME, WHAT_OF_WHY,
 };
 use clap::error::ErrorKind;
@@ -26,13 +26,15 @@ pub enum Task {
     Why,
     /// `unused`: the rules that decide nothing.
     Unused,
+    /// `lint`: what is wrong with files of rules.
+    Lint,
     /// `same`: whether two files of rules say the same.
     Same,
     /// `types`: the file types and their globs.
     Types,
 }
 
-/// The id of the roots, of the paths of `why`, and of the files of `same`.
+/// The id of the roots, of the paths of `why`, and of the files of `lint` and `same`.
 const ROOTS: &str = "root";
 
 /// The id of the size above which a file is ignored.
@@ -46,7 +48,7 @@ const SORT_FILES: &str = "sort-files";
 /// How the commands are used.
 const USAGE: &str = "\
 ig [ls] [OPTIONS] [ROOT]...
-       ig ignored|why|unused|same|types [OPTIONS] ... (see their --help)";
+       ig ignored|why|unused|lint|same|types [OPTIONS] ... (see their --help)";
 
 /// What the long help of a list ends with.
 const LONG_HELP: &str = "\
@@ -114,6 +116,21 @@ Example:
 Status: 0 where something was listed, 1 where nothing was, 2 where something was
 reported.";
 
+/// What the long help of `lint` ends with.
+const LINT_HELP: &str = "\
+Each line is FILE:LINE: RULE: what is wrong. A rule is listed that decides on no
+path at all, whatever a tree holds: it matches nothing, or later lines decide
+wherever it does. So is one that decides in ignored folders alone, a rule that
+stands twice, an invalid line, and what is read otherwise than it looks: white
+space at the end that counts or that git reads otherwise, a carriage return or a
+byte order mark in a line, and a line that isn't UTF-8 and hides the rest.
+
+Example:
+  ig lint .gitignore           what is wrong with a file
+
+Status: 0 where nothing is wrong, 1 where something is, 2 where something was
+reported, as that there is too much to judge.";
+
 /// What the long help of `same` ends with.
 const SAME_HELP: &str = "\
 Two files of rules say the same where they do so of every path, whatever a tree
@@ -168,11 +185,12 @@ pub fn read_words(alloc: Global, words: &[String]) -> Result<(Task, Options), Er
 const LONGEST_NEAR: usize = 9;
 
 /// The commands, by the words that they are called by.
-const COMMANDS: [(&str, Task); 6] = [
+const COMMANDS: [(&str, Task); 7] = [
     ("ls", Task::List),
     ("ignored", Task::Ignored),
     ("why", Task::Why),
     ("unused", Task::Unused),
+    ("lint", Task::Lint),
     ("same", Task::Same),
     ("types", Task::Types),
 ];
@@ -216,10 +234,18 @@ fn options_of(alloc: Global, task: Task, matches: &ArgMatches<'_>) -> Result<Opt
     if let Some(text) = matches.get_str(SIZE_LIMIT) {
         options.max_filesize = size_of(text);
     }
-    if task == Task::Why || task == Task::Same {
+    if has_paths(task) {
         options.paths = given_words(alloc, matches.get_strs(ROOTS).unwrap_or(&[]))?;
     }
     Ok(options)
+}
+
+/// Whether the words of a command are paths, and no roots.
+fn has_paths(task: Task) -> bool {
+    match task {
+        Task::Why | Task::Lint | Task::Same => true,
+        _ => false,
+    }
 }
 
 /// What is wrong with options that the parser accepts, and of which kind that is.
@@ -278,6 +304,7 @@ fn command_of<'a>(alloc: Global, task: Task) -> Result<Command<'a>, AllocError> 
         Task::Ignored => ignored_command(alloc),
         Task::Why => why_command(alloc),
         Task::Unused => unused_command(alloc),
+        Task::Lint => lint_command(alloc),
         Task::Same => same_command(alloc),
         Task::Types => types_command(alloc),
     }
@@ -332,6 +359,18 @@ fn unused_command<'a>(alloc: Global) -> Result<Command<'a>, AllocError> {
         .after_long_help(UNUSED_HELP)
         .arg(root)?;
     with_groups(alloc, command, Task::Unused, &UNUSED)
+}
+
+/// The parser of `ig lint`.
+fn lint_command<'a>(alloc: Global) -> Result<Command<'a>, AllocError> {
+    let files = "Files of rules; those of the working directory, where none is given";
+    let command = plain_command(alloc, "ig lint")?
+        .about("Lists what is wrong with files of rules, whatever a tree holds.")
+        .override_usage("ig lint [OPTIONS] [FILE]...")
+        .after_help("ig lint --help has all options.")
+        .after_long_help(LINT_HELP)
+        .arg(roots_of(alloc, files).value_name("FILE"))?;
+    with_groups(alloc, command, Task::Lint, &LINT)
 }
 
 /// The parser of `ig same`.
@@ -529,6 +568,7 @@ fn read_kinds(options: &mut Options, matches: &ArgMatches<'_>) {
     options.stdin = matches.get_flag("stdin");
     options.only_ignored = matches.get_flag("only-ignored") || matches.get_flag("ignored");
     options.reasons = matches.get_flag("verbose");
+    options.json = matches.get_flag("json");
     options.quiet = matches.get_flag("quiet");
     options.stats = matches.get_flag("stats");
     options.no_messages = matches.get_flag("no-messages");

@@ -1,0 +1,165 @@
+//! What is wrong with lines by themselves.
+
+use crate::diagnostic::{Diagnostic, Wrong};
+use ig_options::Options;
+use ignore_base::Error;
+use ignore_rules::gitignore::{Gitignore, GitignoreBuilder};
+use std::alloc::{AllocError, Global};
+use std::str;
+
+/// A byte order mark.
+const MARK: &str = "\u{feff}";
+
+/// What a line parses to by itself.
+#[derive(Drop)]
+enum Parsed {
+    /// A comment or a blank line.
+    Nothing,
+    /// The text of its rule.
+    Rule(String),
+    /// The text of a rule whose glob is invalid, and why.
+    Invalid(String, String),
+}
+
+/// Adds what is wrong with each line of a file, by itself, in their order.
+///
+/// # Errors
+/// Out of memory.
+pub(crate) fn lint_lines(
+    alloc: Global,
+    options: &Options,
+    bytes: &[u8],
+    found: &mut Vec<Diagnostic>,
+) -> Result<(), AllocError> {
+    let mut number = 0u64;
+    for line in bytes.split(|byte| *byte == b'\n') {
+        number = number.saturating_add(1);
+        let Ok(text) = str::from_utf8(without_return(line)) else {
+            return add(alloc, number, "", Wrong::NotUtf8, found);
+        };
+        lint_line(alloc, options, (number, text), found)?;
+    }
+    Ok(())
+}
+
+/// A line without the carriage return that it ends with.
+fn without_return(line: &[u8]) -> &[u8] {
+    match line.split_last() {
+        Some((b'\r', rest)) => rest,
+        _ => line,
+    }
+}
+
+/// Adds what is wrong with a line.
+fn lint_line(
+    alloc: Global,
+    options: &Options,
+    line: (u64, &str),
+    found: &mut Vec<Diagnostic>,
+) -> Result<(), AllocError> {
+    let (number, text) = line;
+    let content = content_of(number, text);
+    let here = parsed_line(alloc, content, options, options.git_trailing_spaces)?;
+    let git = parsed_line(alloc, content, options, true)?;
+    let rule = text_of(&here);
+    if has_mark(number, text) {
+        add(alloc, number, rule, Wrong::Mark, found)?;
+    }
+    if content.contains('\r') {
+        add(alloc, number, rule, Wrong::Return, found)?;
+    }
+    if rule != text_of(&git) {
+        add(alloc, number, rule, Wrong::GitSpace, found)?;
+    } else if rule.trim_end().len() < rule.len() {
+        add(alloc, number, rule, Wrong::Space, found)?;
+    }
+    if let Parsed::Invalid(rule, why) = here {
+        found.push(Diagnostic {
+            line: number,
+            rule,
+            wrong: Wrong::Invalid(why),
+        })?;
+    }
+    Ok(())
+}
+
+/// What is parsed of a line: of the first one what follows each mark that it begins with.
+fn content_of(number: u64, text: &str) -> &str {
+    if number == 1 {
+        text.trim_start_matches(MARK)
+    } else {
+        text
+    }
+}
+
+/// Whether a line has a byte order mark that isn't the first of its file.
+fn has_mark(number: u64, text: &str) -> bool {
+    let rest = if number == 1 {
+        text.strip_prefix(MARK).unwrap_or(text)
+    } else {
+        text
+    };
+    rest.contains(MARK)
+}
+
+/// Adds what is wrong.
+fn add(
+    alloc: Global,
+    line: u64,
+    rule: &str,
+    wrong: Wrong,
+    found: &mut Vec<Diagnostic>,
+) -> Result<(), AllocError> {
+    let rule = String::from_str(alloc, rule)?;
+    found.push(Diagnostic { line, rule, wrong })?;
+    Ok(())
+}
+
+/// The text of a line's rule; empty for none.
+fn text_of(parsed: &Parsed) -> &str {
+    match parsed {
+        Parsed::Nothing => "",
+        Parsed::Rule(text) => text.as_str(),
+        Parsed::Invalid(text, _) => text.as_str(),
+    }
+}
+
+/// What a line parses to, with white space at its end read by git's own rule or not.
+fn parsed_line(
+    alloc: Global,
+    text: &str,
+    options: &Options,
+    as_git: bool,
+) -> Result<Parsed, AllocError> {
+    match rule_of(alloc, text, options, as_git) {
+        Ok(rules) => first_of(alloc, &rules),
+        Err(Error::Glob {
+            glob: Some(glob),
+            err,
+        }) => Ok(Parsed::Invalid(glob, err)),
+        Err(_) => Err(AllocError),
+    }
+}
+
+/// The rules of a line: one, or none.
+fn rule_of(
+    alloc: Global,
+    text: &str,
+    options: &Options,
+    as_git: bool,
+) -> Result<Gitignore, Error> {
+    let mut builder = GitignoreBuilder::new(alloc, "")?;
+    builder
+        .case_insensitive(options.ignore_file_case_insensitive)?
+        .git_trailing_spaces(as_git);
+    builder.push_line(None, text)?;
+    Ok(builder.into_gitignore())
+}
+
+/// The first of some rules, if there is one.
+fn first_of(alloc: Global, rules: &Gitignore) -> Result<Parsed, AllocError> {
+    match rules.rules().first() {
+        Some(rule) => Ok(Parsed::Rule(String::from_str(alloc, rule.original())?)),
+        None => Ok(Parsed::Nothing),
+    }
+}

@@ -1,0 +1,50 @@
+//! What is wrong with a file of rules.
+
+use crate::dead::lint_rules;
+use crate::diagnostic::Diagnostic;
+use crate::lines::lint_lines;
+use crate::reading::read_bytes;
+use ig_options::Options;
+use ignore_every::Error as Refused;
+use ignore_files::Contents;
+use std::alloc::Global;
+
+/// What is wrong with a file of rules.
+#[derive(Drop)]
+pub struct Linted {
+    /// What is wrong with its lines by themselves, in their order, and then with its rules.
+    pub found: Vec<Diagnostic>,
+    /// Why its rules weren't judged, where they weren't.
+    pub refused: Option<Refused>,
+}
+
+/// What is wrong with a file, of which this was read: with its lines by themselves, and then with the
+/// rules that decide on no path. Where these need too many states, it is said that they weren't
+/// judged.
+///
+/// # Errors
+/// `Refused::Memory` alone.
+pub fn lint(
+    alloc: Global,
+    options: &Options,
+    path: &str,
+    contents: &Contents,
+) -> Result<Linted, Refused> {
+    let bytes = contents.bytes.as_slice();
+    let mut found = Vec::new(alloc);
+    lint_lines(alloc, options, bytes, &mut found)?;
+    let Ok(read) = read_bytes(alloc, options, path, bytes) else {
+        return Err(Refused::Memory);
+    };
+    match lint_rules(alloc, &read.rules, &mut found) {
+        Ok(()) => Ok(Linted {
+            found,
+            refused: None,
+        }),
+        Err(Refused::Memory) => Err(Refused::Memory),
+        Err(refused) => Ok(Linted {
+            found,
+            refused: Some(refused),
+        }),
+    }
+}
