@@ -4,6 +4,7 @@ use Rattle.std.specs.Prelude.{if◌then◌else◌}
 use Rattle.ignore_base.specs.Problem.{Problem, problem_of, several, at_line, at_path, at_depth, loop, io, glob, unrecognized, invalid_definition}
 use Rattle.ignore_base.specs.Problem.{memory}
 use Rattle.ignore_base.specs.Text.{Bytes, Path}
+use Rattle.ignore_every.specs.Verdicts.{verdict_of}
 use Rattle.ignore_every.specs.declared.error.Error.TheVariants as refused
 use Rattle.ignore_every.specs.declared.error.Error.{Error as Refused}
 use Rattle.ignore_every.specs.declared.said.Comparison.{Comparison}

@@ -10,7 +10,7 @@ ghost use Rattle.ignore_files.specs.Tree.{Tree};
 ghost use Rattle.ig_every.specs.Compared.{AreCompared, counted_by};
 ghost use Rattle.ig_every.specs.Reading.{AreRead};
 ghost use Rattle.ig_commands.specs.Reports.{is_known, report_of};
-ghost use Rattle.ig_commands.specs.Same.{Compares, IsInput, SameAsked, SameEnds, comparison_text, difference_text, do_differ, is_fault, is_unopened, is_unread, refused_line, side, side_told, status_by, told, verdict_word};
+ghost use Rattle.ig_commands.specs.Same.{Compares, IsInput, SameAsked, SameEnds, comparison_text, difference_text, do_differ, is_fault, is_told, is_unopened, is_unread, refused_line, side, side_told, status_by, told, verdict_word};
 ghost use Rattle.ig_commands.specs.Stops.{EndsAfter, IsUnwritten};
 
 use crate::form::{Form, Origin, write_after, write_before, write_no_rule, write_rule};
@@ -85,15 +85,14 @@ fn report_and_compare<W: Write, E: Write>(
     ensures compares { IfOk result (λ status. Compares options.now sides.now status (Appends (W.contents out.old) (W.contents out.new)) (Appends (E.contents err.old) (E.contents err.new))) }
     ensures ended { IfErr result (EndsAfter [] (told options.now sides.now) (Appends (W.contents out.old) (W.contents out.new)) (Appends (E.contents err.old) (E.contents err.new))) }
 {
-    let old = report_side(options, &sides.old, err)?;
-    let new = report_side(options, &sides.new, err)?;
+    let reported = report_sides(options, sides, err)?;
     if is_unread(&sides.old) || is_unread(&sides.new) {
         return Ok(2);
     }
     match compare_rules(alloc, options, &sides.old.rules, &sides.new.rules) {
         Ok(comparison) => {
             let differ = write_comparison(alloc, options, sides, &comparison, out)?;
-            Ok(status_by(old || new, differ))
+            Ok(status_by(reported, differ))
         }
         Err(refused) => refuse_comparison(options, refused, err),
     }
@@ -138,6 +137,17 @@ fn is_fault(error: &Error) -> bool
         Error::Io(_) => true,
         _ => false,
     }
+}
+
+/// Reports what is wrong with both files. It returns whether anything is that counts.
+fn report_sides<E: Write>(options: &Options, sides: &Sides, err: &mut E) -> Result<bool, Stop>
+    ensures reports { IfOk result (λ any. (any ≡ is_told options.now sides.now)
+        × Appends (E.contents err.old) (E.contents err.new) (told options.now sides.now)) }
+    ensures ended { IfErr result (λ stop. stop ≡ Stop.Silence) }
+{
+    let old = report_side(options, &sides.old, err)?;
+    let new = report_side(options, &sides.new, err)?;
+    Ok(old || new)
 }
 
 /// Reports what is wrong with a file. It returns whether anything is that counts.

@@ -1,5 +1,5 @@
 -- Two lists of rules, compared over all paths.
-use Rattle.std.specs.Prelude.{◌≡◌, [], ◌∷◌, ◌++◌, List, Option, None, Some, slice_get, string_bytes, if◌then◌else◌}
+use Rattle.std.specs.Prelude.{ℕ, [], ◌∷◌, ◌++◌, List, Option, None, Some, slice_get, string_bytes, if◌then◌else◌}
 use Rattle.std.specs.Str.{chars}
 use Rattle.ignore_base.specs.Text.{Path}
 use Rattle.ignore_every.specs.Verdicts.{IsShortestDifference, SaySame, rule_of}

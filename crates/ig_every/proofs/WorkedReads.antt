@@ -1,0 +1,19 @@
+-- Worked examples: which file is standard input, and how a path is written.
+use Rattle.std.proofs.Common.{◌≡◌, List, [], ◌∷◌, codes, Option, None, Some, true, false, refl}
+use Rattle.ignore_rules.specs.Rules.{Rule}
+use Rattle.ig_options.specs.declared.given.Given.TheVariants.{Path as Named, NotText}
+use Rattle.ig_every.specs.Compared.{rule_with}
+use Rattle.ig_every.specs.Reading.{is_input, path_in}
+
+-- `-` is standard input, and neither `./-` nor the empty path is
+pub inputs : (is_input (codes "-") ≡ true) × (is_input (codes "./-") ≡ false) × (is_input [] ≡ false)
+inputs = (refl, refl, refl)
+
+-- a file that isn't given has the empty path
+pub paths : (path_in None ≡ []) × (path_in (Some (NotText 3)) ≡ [])
+paths = (refl, refl)
+
+-- of two rules the one with the index 1 is the second, and there is none with the index 2
+pub with_index : (a b : Rule) → (rule_with (a ∷ (b ∷ [])) (Some 1) ≡ Some b) × (rule_with (a ∷ (b ∷ [])) (Some 2) ≡ None)
+    × (rule_with (a ∷ (b ∷ [])) None ≡ None)
+with_index a b = (refl, refl, refl)
