@@ -101,5 +101,6 @@ module _ (reached : Bool) (rules : List Rule) (letters : List ℕ) (table : Tabl
           named = ap is_named here.name;
           deep = here.deep;
           decides = λ is_dir k e. right.1.decides here.place.state is_dir k e path here.sets;
+          takes = λ known e. right.1.takes here.place.state known e path here.sets;
         },
       )

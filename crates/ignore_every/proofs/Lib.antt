@@ -5,6 +5,7 @@ pub mod Closed
 pub mod Missing
 pub mod Pairs
 pub mod Pushes
+pub mod Overruling
 pub mod RowLemmas
 pub mod Texts
 mod WorkedPaths

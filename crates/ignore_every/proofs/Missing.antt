@@ -14,7 +14,7 @@ use Rattle.ignore_every.specs.declared.place.Place.{Place}
 use Rattle.ignore_every.proofs.Closed.{asked_place}
 
 -- a rule that decides is the last one that applies
-only_decider : (rules : List Rule) (text : Chars) (is_dir : Bool) (k : Option ℕ) (index : ℕ) → IsLastOf rules 0 (length rules) text is_dir k
+pub only_decider : (rules : List Rule) (text : Chars) (is_dir : Bool) (k : Option ℕ) (index : ℕ) → IsLastOf rules 0 (length rules) text is_dir k
     → Decides rules index text is_dir → k ≡ Some index
 only_decider rules text is_dir None index last decided =
     let fits = slice_get_within rules index decided.rule decided.place in

@@ -1,14 +1,28 @@
 -- A table of pairs is right for the rules of both tables, and a table of sets for its rule.
-use Rattle.std.proofs.Common.{◌≡◌, ℕ, ◌+◌, ◌<◌, ◌≤◌, Bool, true, false, List, [], ◌∷◌, ◌++◌, Option, None, Some, slice_get, arith, refl}
+use Rattle.std.proofs.Common.{◌≡◌, ℕ, zero, suc, ◌+◌, ◌<◌, ◌≤◌, Bool, true, false, List, [], ◌∷◌, ◌++◌, Option, None, Some, slice_get, arith, refl}
 use Rattle.std.proofs.Common.{sym, ap, subst, ◌∙◌, cond, ltb, inl, inr}
 use Rattle.std.specs.Option.{option_or}
 use Rattle.std.proofs.lemmas.Bool.{cases_lt, cond_below, cond_above}
 use Rattle.ignore_base.specs.Text.{Chars}
+use Rattle.ignore_glob.specs.DoesMatch.{does_match}
 use Rattle.ignore_glob.specs.PositionSets.{IsSetAfter}
 use Rattle.ignore_glob.specs.Reading.{Reading}
 use Rattle.ignore_rules.specs.Answer.{does_apply}
 use Rattle.ignore_rules.specs.Rules.{Rule}
-use Rattle.ignore_every.specs.Machines.{AreSetsAfter, IsLastOf, Table, IsRight, IsRightTable, IsPairing, IsLeaf}
+use Rattle.ignore_every.specs.Machines.{AreSetsAfter, IsLastOf, IsIn, HasTaking, Table, IsRight, IsRightTable, IsPairing, IsLeaf}
+
+-- what is in a list is in it and another
+in_front : (xs ys : List ℕ) (i : ℕ) → IsIn xs i → IsIn (xs ++ ys) i
+in_front xs ys i has = (has.0, go xs has.0 has.1)
+  where
+    go : (xs : List ℕ) (j : ℕ) → slice_get xs j ≡ Some i → slice_get (xs ++ ys) j ≡ Some i
+    go [] j e = absurd (cc e)
+    go (x ∷ xs) zero e = e
+    go (x ∷ xs) (suc j) e = go xs j e
+
+in_back : (xs ys : List ℕ) (i : ℕ) → IsIn ys i → IsIn (xs ++ ys) i
+in_back [] ys i has = has
+in_back (x ∷ xs) ys i has = let later = in_back xs ys i has in (suc later.0, later.1)
 
 module _ (rules : List Rule) (low mid high : ℕ) (order : low ≤ mid) (more : mid ≤ high) where
   -- the sets of both
@@ -47,6 +61,13 @@ module _ (rules : List Rule) (low mid high : ℕ) (order : low ≤ mid) (more : 
   last_of_both text is_dir None None left right =
       λ i rule lo hi at. elim (cases_lt i mid) [ inl h ↦ left i rule lo h at | inr h ↦ right i rule h hi at ]
 
+  both_taking : (text : Chars) (x y : List ℕ) → HasTaking rules low mid text x → HasTaking rules mid high text y
+      → HasTaking rules low high text (x ++ y)
+  both_taking text x y left right i rule lo hi at takes = elim (cases_lt i mid) [
+    | inl h ↦ in_front x y i (left i rule lo h at takes)
+    | inr h ↦ in_back x y i (right i rule h hi at takes)
+  ]
+
   pub pairing_right : (letters : List ℕ) (left right table : Table) (parts : ℕ → ℕ × ℕ) → IsRightTable rules letters low mid left
       → IsRightTable rules letters mid high right → IsPairing left right parts table → IsRightTable rules letters low high table
   pairing_right letters left right table parts l r pairing =
@@ -68,6 +89,12 @@ module _ (rules : List Rule) (low mid high : ℕ) (order : low ≤ mid) (more : 
               (last_of_both text is_dir from.0 from.1
               (l.1.decides (parts s).0 is_dir from.0 from.2 text (left_sets (l.0 (parts s).0) (r.0 (parts s).1) text all))
               (r.1.decides (parts s).1 is_dir from.1 from.3 text (right_sets (l.0 (parts s).0) (r.0 (parts s).1) text all))));
+          takes = λ s known is text all.
+              (let from = pairing.takes s known is in
+              subst (λ o. HasTaking rules low high text o) (sym from.4)
+              (both_taking text from.0 from.1
+              (l.1.takes (parts s).0 from.0 from.2 text (left_sets (l.0 (parts s).0) (r.0 (parts s).1) text all))
+              (r.1.takes (parts s).1 from.1 from.3 text (right_sets (l.0 (parts s).0) (r.0 (parts s).1) text all))));
         },
       )
 
@@ -96,6 +123,13 @@ module _ (rules : List Rule) (index : ℕ) (rule : Rule) (place : slice_get rule
   one_last text is_dir false e =
       λ i other lo hi at. subst (λ r. does_apply text is_dir r ≡ false) (only i other lo hi at) e
 
+  one_taking : (text : Chars) (known : List ℕ) → (does_match rule.reading text ≡ true → IsIn known index)
+      → HasTaking rules index (index + 1) text known
+  one_taking text known has i other lo hi at takes =
+      let same : index ≡ i = omega (arith, lo, hi) in
+      let own : other ≡ rule = sym (only i other lo hi at) in
+      subst (λ k. IsIn known k) same (has (subst (λ (r : Rule). does_match r.reading text ≡ true) own takes))
+
   pub leaf_right : (letters : List ℕ) (sets : ℕ → List Bool) (table : Table) → IsLeaf letters index rule.is_only_dir rule.reading sets table
       → IsRightTable rules letters index (index + 1) table
   leaf_right letters sets table leaf = (
@@ -106,6 +140,7 @@ module _ (rules : List Rule) (index : ℕ) (rule : Rule) (place : slice_get rule
       decides = λ s is_dir k is text all.
           subst (λ o. IsLastOf rules index (index + 1) text is_dir o) (sym (leaf.decides s is_dir k is text (one_set (sets s) text all)))
           (one_last text is_dir (does_apply text is_dir rule) refl);
+      takes = λ s known is text all. one_taking text known (leaf.takes s known is text (one_set (sets s) text all));
     },
   )
 

@@ -26,11 +26,21 @@ IsLastOf rules low high text is_dir (Some k) =
     (low ≤ k) × (k < high) × ((rule : Rule) → slice_get rules k ≡ Some rule → does_apply text is_dir rule ≡ true)
     × ((i : ℕ) (rule : Rule) → k < i → i < high → slice_get rules i ≡ Some rule → does_apply text is_dir rule ≡ false)
 
--- a table of states: where each leads by a letter, where that is known, and which rule decides there
--- for a file and for a directory
+-- the list has the index
+abbrev pub IsIn : List ℕ → ℕ → Type 0
+IsIn indices i = (j : ℕ) × (slice_get indices j ≡ Some i)
+
+-- of the rules from the first index up to the second, each whose glob takes the text is in the list
+abbrev pub HasTaking : List Rule → ℕ → ℕ → Chars → List ℕ → Type 0
+HasTaking rules low high text known =
+    (i : ℕ) (rule : Rule) → low ≤ i → i < high → slice_get rules i ≡ Some rule → does_match rule.reading text ≡ true → IsIn known i
+
+-- a table of states: where each leads by a letter, where that is known, which rule decides there for
+-- a file and for a directory, and the rules whose globs take what leads there
 pub record Table : Type 0 where
   pub next : ℕ → ℕ → Option ℕ
   pub decider : ℕ → Bool → Option (Option ℕ)
+  pub taking : ℕ → Option (List ℕ)
 
 -- The table is right for the rules from the first index up to the second, where its states stand
 -- for these sets. A letter is known by the character that stands for it.
@@ -40,6 +50,8 @@ pub record IsRight (rules : List Rule) (letters : List ℕ) (low high : ℕ) (ta
       → (text : Chars) → AreSetsAfter rules low high (sets s) text → AreSetsAfter rules low high (sets t) (text ++ c ∷ [])
   pub decides : (s : ℕ) (is_dir : Bool) (k : Option ℕ) → table.decider s is_dir ≡ Some k
       → (text : Chars) → AreSetsAfter rules low high (sets s) text → IsLastOf rules low high text is_dir k
+  pub takes : (s : ℕ) (known : List ℕ) → table.taking s ≡ Some known
+      → (text : Chars) → AreSetsAfter rules low high (sets s) text → HasTaking rules low high text known
 
 -- the table is right, whatever its states stand for
 abbrev pub IsRightTable : List Rule → List ℕ → ℕ → ℕ → Table → Type 0
@@ -56,11 +68,18 @@ IsPairDecider left right parts table s is_dir =
     (k : Option ℕ) → table.decider s is_dir ≡ Some k
     → (x y : Option ℕ) × (left.decider (parts s).0 is_dir ≡ Some x) × (right.decider (parts s).1 is_dir ≡ Some y) × (k ≡ option_or y x)
 
+-- the rules that take what leads there are those of both tables
+abbrev pub IsPairTaking : Table → Table → (ℕ → ℕ × ℕ) → Table → ℕ → Type 0
+IsPairTaking left right parts table s =
+    (known : List ℕ) → table.taking s ≡ Some known
+    → (x y : List ℕ) × (left.taking (parts s).0 ≡ Some x) × (right.taking (parts s).1 ≡ Some y) × (known ≡ x ++ y)
+
 -- The table is one of these pairs of states of two tables, the right one for later rules.
 pub record IsPairing (left right : Table) (parts : ℕ → ℕ × ℕ) (table : Table) : Type 0 where
   pub first : parts 0 ≡ (0, 0)
   pub steps : (s a : ℕ) → IsPairStep left right parts table s a
   pub decides : (s : ℕ) (is_dir : Bool) → IsPairDecider left right parts table s is_dir
+  pub takes : (s : ℕ) → IsPairTaking left right parts table s
 
 -- the table of a pattern goes from set to set
 abbrev pub IsLeafStep : List ℕ → Reading → (ℕ → List Bool) → Table → ℕ → ℕ → Type 0
@@ -74,11 +93,18 @@ IsLeafDecider index only_dir reading sets table s is_dir =
     (k : Option ℕ) → table.decider s is_dir ≡ Some k
     → (text : Chars) → IsSetAfter reading text (sets s) → k ≡ cond ((not only_dir || is_dir) && does_match reading text) (Some index) None
 
+-- the rule of the pattern, which has this index, is in the list where its glob takes the text
+abbrev pub IsLeafTaking : ℕ → Reading → (ℕ → List Bool) → Table → ℕ → Type 0
+IsLeafTaking index reading sets table s =
+    (known : List ℕ) → table.taking s ≡ Some known
+    → (text : Chars) → IsSetAfter reading text (sets s) → does_match reading text ≡ true → IsIn known index
+
 -- The table is one of these sets of one rule, which has this index.
 pub record IsLeaf (letters : List ℕ) (index : ℕ) (only_dir : Bool) (reading : Reading) (sets : ℕ → List Bool) (table : Table) : Type 0 where
   pub first : IsSetAfter reading [] (sets 0)
   pub steps : (s a : ℕ) → IsLeafStep letters reading sets table s a
   pub decides : (s : ℕ) (is_dir : Bool) → IsLeafDecider index only_dir reading sets table s is_dir
+  pub takes : (s : ℕ) → IsLeafTaking index reading sets table s
 
 -- each character that a path may have is alike to the one that stands for some letter: by the tests
 -- of each rule, and by what it does to a name
@@ -126,8 +152,9 @@ pub record IsClosed (reached : Bool) (rules : List Rule) (letters : List ℕ) (t
   pub steps : (i a : ℕ) → IsClosedStep reached rules letters table places i a
 
 -- the place stands for the path: it is a name's, at most as deep as the path is long, and what the
--- table says of it is which rule decides there
+-- table says of it is which rule decides there and which take the path
 pub record IsPlaceOf (rules : List Rule) (table : Table) (path : Chars) (place : Place) : Type 0 where
   pub named : is_named place.name ≡ true
   pub deep : place.depth ≤ length path
   pub decides : (is_dir : Bool) (k : Option ℕ) → table.decider place.state is_dir ≡ Some k → IsLastOf rules 0 (length rules) path is_dir k
+  pub takes : (known : List ℕ) → table.taking place.state ≡ Some known → HasTaking rules 0 (length rules) path known

@@ -26,9 +26,18 @@ decider_at (Some row) is_dir = Some (cond is_dir row.dir row.file)
 abbrev pub decider_of : List Row → ℕ → Bool → Option (Option ℕ)
 decider_of rows s is_dir = decider_at (slice_get rows s) is_dir
 
+-- the rules whose globs take what leads to a row
+abbrev pub taking_at : Option Row → Option (List ℕ)
+taking_at None = None
+taking_at (Some row) = Some row.taking.items
+
+-- the rules whose globs take what leads to a state
+abbrev pub taking_of : List Row → ℕ → Option (List ℕ)
+taking_of rows s = taking_at (slice_get rows s)
+
 -- the table of rows
 abbrev pub table_of : List Row → Table
-table_of rows = record { next = next_of rows; decider = decider_of rows }
+table_of rows = record { next = next_of rows; decider = decider_of rows; taking = taking_of rows }
 
 -- the pair of a state; of no state the first
 abbrev pub part_of : List (ℕ × ℕ) → ℕ → ℕ × ℕ

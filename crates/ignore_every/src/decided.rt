@@ -14,7 +14,12 @@ use ignore_rules::internal::applies;
 use std::alloc::{AllocError, Global};
 
 /// Whether the rule with this index is there and applies to a path.
-fn applies_at(rules: &[Glob], index: usize, path: &str, is_dir: bool) -> Result<bool, AllocError>
+pub(crate) fn applies_at(
+    rules: &[Glob],
+    index: usize,
+    path: &str,
+    is_dir: bool,
+) -> Result<bool, AllocError>
     ensures is { IfOk result (λ yes. IsTrue yes → (rule : Rule) × (slice_get rules.now index ≡ Some rule)
         × (does_apply (chars path.now) is_dir rule ≡ true)) }
     ensures isnt { IfOk result (λ yes. yes ≡ false → (rule : Rule) → slice_get rules.now index ≡ Some rule

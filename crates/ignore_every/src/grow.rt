@@ -6,7 +6,7 @@ use crate::leaf::{Leaf, LeafRule};
 use crate::node::{Branch, Made, Node};
 use crate::pair::{Pair, later};
 use crate::room::Room;
-use crate::row::{Row, decider_of, next_of};
+use crate::row::{Row, decider_of, next_of, taking_of};
 use ignore_glob::internal::{Automaton, Flags};
 use ignore_rules::gitignore::Glob;
 use ignore_rules::internal::automaton;
@@ -90,9 +90,18 @@ fn leaf_of(
         };
         let file = decider_at(rule, set, false);
         let dir = decider_at(rule, set, true);
+        let mut taking = Vec::new(alloc);
+        if rule.automaton.ends(set) {
+            taking.push(rule.index)?;
+        }
         let steps = steps_of(alloc, &rule.automaton, set, letters)?;
         let next = found.next(alloc, steps, room)?;
-        rows.push(Row { next, file, dir })?;
+        rows.push(Row {
+            next,
+            file,
+            dir,
+            taking,
+        })?;
     }
     let Sets { sets, numbers: _ } = found;
     Ok(Leaf { sets, rows })
@@ -147,6 +156,16 @@ fn decider_at_pair(
     later(after, earlier)
 }
 
+/// Adds the rules whose globs take what leads to a state.
+fn push_taking(taking: &mut Vec<usize>, rows: &[Row], state: usize) -> Result<(), AllocError> {
+    if let Some(known) = taking_of(rows, state) {
+        for index in known {
+            taking.push(*index)?;
+        }
+    }
+    Ok(())
+}
+
 /// The table of the rules of two tables.
 fn pair_of(
     alloc: Global,
@@ -173,7 +192,15 @@ fn pair_of(
             let r = next_of(right, part.1, letter);
             next.push(found.step(l, r, room)?)?;
         }
-        rows.push(Row { next, file, dir })?;
+        let mut taking = Vec::new(alloc);
+        push_taking(&mut taking, left, part.0)?;
+        push_taking(&mut taking, right, part.1)?;
+        rows.push(Row {
+            next,
+            file,
+            dir,
+            taking,
+        })?;
     }
     let Parts { parts, numbers: _ } = found;
     Ok(Pair { parts, rows })

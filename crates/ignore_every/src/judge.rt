@@ -103,7 +103,10 @@ impl<'a> Judge<'a> {
                 let finding = self.example(index, question)?;
                 Ok(finding)
             }
-            None => Ok(Finding::Overruled(Vec::new(self.alloc))),
+            None => {
+                let named = self.reasons(index)?;
+                Ok(Finding::Overruled(named))
+            }
         }
     }
 

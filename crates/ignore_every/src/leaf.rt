@@ -2,11 +2,11 @@
 ghost use Rattle.std.specs.Prelude.{◌≡◌, ◌++◌, ◌∷◌, [], ℕ, IsTrue, IfOk, Some, None, true, false, cond};
 ghost use Rattle.ignore_base.specs.Text.{Chars};
 ghost use Rattle.ignore_glob.specs.PositionSets.{IsSetAfter};
-ghost use Rattle.ignore_every.specs.Machines.{IsLeaf, IsLeafStep, IsLeafDecider};
+ghost use Rattle.ignore_every.specs.Machines.{IsLeaf, IsLeafStep, IsLeafDecider, IsLeafTaking};
 ghost use Rattle.ignore_every.specs.Sets.{set_of};
 ghost use Rattle.ignore_every.specs.Rows.{table_of};
 
-use crate::row::{Row, decider_of, is_same, next_of, row_length};
+use crate::row::{Row, decider_of, is_in, is_same, next_of, row_length, taking_of};
 use ignore_glob::internal::{Automaton, Flags};
 use std::alloc::AllocError;
 
@@ -123,6 +123,22 @@ impl Leaf {
         is_same(decider, decided(rule.index, applies))
     }
 
+    fn is_taking_right(&self, rule: &LeafRule, state: usize) -> bool
+        ensures { IsTrue result → IsLeafTaking rule.now.index rule.now.automaton (set_of self.now.sets.items)
+            (table_of self.now.rows.items) state }
+    {
+        let Some(known) = taking_of(&self.rows, state) else {
+            return true;
+        };
+        let Some(set) = self.sets.get(state) else {
+            return false;
+        };
+        if !rule.automaton.ends(set) {
+            return true;
+        }
+        is_in(known, rule.index)
+    }
+
     fn is_state_right(
         &self,
         letters: &[char],
@@ -135,14 +151,20 @@ impl Leaf {
             (set_of self.now.sets.items) (table_of self.now.rows.items) state false) }
         ensures dir { IfOk result (λ right. IsTrue right → IsLeafDecider rule.now.index rule.now.is_only_dir rule.now.automaton
             (set_of self.now.sets.items) (table_of self.now.rows.items) state true) }
+        ensures takes { IfOk result (λ right. IsTrue right → IsLeafTaking rule.now.index rule.now.automaton
+            (set_of self.now.sets.items) (table_of self.now.rows.items) state) }
     {
+        if !self.is_taking_right(rule, state) {
+            return Ok(false);
+        }
         if !self.is_decider_right(rule, state, false) {
             return Ok(false);
         }
         if !self.is_decider_right(rule, state, true) {
             return Ok(false);
         }
-        self.are_steps_right(letters, &rule.automaton, state)
+        let are_right = self.are_steps_right(letters, &rule.automaton, state)?;
+        Ok(are_right)
     }
 
     /// Whether this is the table of these sets of the rule.

@@ -1,10 +1,10 @@
 //! Tables of pairs: of the states of two tables, for the rules of both.
-ghost use Rattle.std.specs.Prelude.{◌≡◌, ℕ, IsTrue, true, false};
+ghost use Rattle.std.specs.Prelude.{◌≡◌, ◌++◌, ℕ, IsTrue, true, false};
 ghost use Rattle.std.specs.Option.{option_or};
-ghost use Rattle.ignore_every.specs.Machines.{IsPairing, IsPairStep, IsPairDecider};
+ghost use Rattle.ignore_every.specs.Machines.{IsPairing, IsPairStep, IsPairDecider, IsPairTaking};
 ghost use Rattle.ignore_every.specs.Rows.{table_of, part_of};
 
-use crate::row::{Row, decider_of, is_same, is_some_of, next_of, row_length};
+use crate::row::{Row, decider_of, is_same, is_some_of, next_of, row_length, taking_of};
 
 /// A table of pairs of states.
 #[derive(Debug, Drop)]
@@ -33,6 +33,17 @@ pub(crate) fn later(right: Option<usize>, left: Option<usize>) -> Option<usize>
         Some(index) => Some(index),
         None => left,
     }
+}
+
+/// Whether a list is two others, one after the other.
+fn is_joined(list: &[usize], earlier: &[usize], after: &[usize]) -> bool
+    ensures { IsTrue result → list.now ≡ earlier.now ++ after.now }
+{
+    if list.len() < earlier.len() {
+        return false;
+    }
+    let (front, back) = list.split_at(earlier.len());
+    front == earlier && back == after
 }
 
 impl Pair {
@@ -79,6 +90,23 @@ impl Pair {
         is_same(decider, later(after, earlier))
     }
 
+    fn is_taking_right(&self, left: &[Row], right: &[Row], state: usize) -> bool
+        ensures { IsTrue result → IsPairTaking (table_of left.now) (table_of right.now) (part_of self.now.parts.items)
+            (table_of self.now.rows.items) state }
+    {
+        let Some(known) = taking_of(&self.rows, state) else {
+            return true;
+        };
+        let from = part_of(&self.parts, state);
+        let Some(earlier) = taking_of(left, from.0) else {
+            return false;
+        };
+        let Some(after) = taking_of(right, from.1) else {
+            return false;
+        };
+        is_joined(known, earlier, after)
+    }
+
     fn is_state_right(&self, left: &[Row], right: &[Row], state: usize) -> bool
         ensures steps { IsTrue result → (letter : ℕ) → IsPairStep (table_of left.now) (table_of right.now) (part_of self.now.parts.items)
             (table_of self.now.rows.items) state letter }
@@ -86,7 +114,12 @@ impl Pair {
             (table_of self.now.rows.items) state false }
         ensures dir { IsTrue result → IsPairDecider (table_of left.now) (table_of right.now) (part_of self.now.parts.items)
             (table_of self.now.rows.items) state true }
+        ensures takes { IsTrue result → IsPairTaking (table_of left.now) (table_of right.now) (part_of self.now.parts.items)
+            (table_of self.now.rows.items) state }
     {
+        if !self.is_taking_right(left, right, state) {
+            return false;
+        }
         if !self.is_decider_right(left, right, state, false) {
             return false;
         }

@@ -1,6 +1,7 @@
 //! The states of a table.
-ghost use Rattle.std.specs.Prelude.{◌≡◌, ◌≤◌, ℕ, IsTrue, Some, None};
-ghost use Rattle.ignore_every.specs.Rows.{next_of, decider_of};
+ghost use Rattle.std.specs.Prelude.{◌≡◌, ◌≤◌, ℕ, IsTrue, IfSome, Some, None, false};
+ghost use Rattle.ignore_every.specs.Machines.{IsIn};
+ghost use Rattle.ignore_every.specs.Rows.{next_of, decider_of, taking_of};
 
 /// One state of a table.
 #[derive(Debug, Drop)]
@@ -11,6 +12,8 @@ pub struct Row {
     pub file: Option<usize>,
     /// The rule that decides for a directory.
     pub dir: Option<usize>,
+    /// The rules whose globs take what leads here, in order.
+    pub taking: Vec<usize>,
 }
 
 /// Where a state leads by a letter, where that is known.
@@ -40,6 +43,30 @@ pub(crate) fn decider_of(rows: &[Row], state: usize, is_dir: bool) -> Option<Opt
         }
         None => None,
     }
+}
+
+/// The rules whose globs take what leads to a state, if there is such a state.
+pub(crate) fn taking_of(rows: &[Row], state: usize) -> Option<&[usize]>
+    ensures is { IfSome result (λ known. taking_of rows.now state ≡ Some known.now) }
+    ensures isnt { result ≡ None → taking_of rows.now state ≡ None }
+{
+    match rows.get(state) {
+        Some(row) => Some(row.taking.as_slice()),
+        None => None,
+    }
+}
+
+/// Whether an index is in a list.
+pub(crate) fn is_in(indices: &[usize], wanted: usize) -> bool
+    ensures yes { IsTrue result → IsIn indices.now wanted }
+    ensures no { result ≡ false → IsIn indices.now wanted → ⊥ }
+{
+    for index in indices {
+        if *index == wanted {
+            return true;
+        }
+    }
+    false
 }
 
 /// How many letters the row of a state goes to.

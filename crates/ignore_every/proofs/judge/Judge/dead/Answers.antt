@@ -16,12 +16,12 @@ returns-in_ok-finding-in-Some c = λ never.
     c.in_ok-finding-in-Some.ensures never
     (subst (λ r. IsShortest r rules index (chars (string_bytes q.path)) q.is_dir) c.requires.mode shortest)
 
-pub returns-in-None : goal.returns-in-None
-returns-in-None c = λ unreached.
+pub returns-in_ok-named-in-None : goal.returns-in_ok-named-in-None
+returns-in_ok-named-in-None c = λ unreached.
     let judge = c.args.self.now in
     let rules = judge.rules.now.rules in
     let index = c.args.index in
     let never : DecidesNever judge.search.reached rules index =
     subst (λ o. MatchOption o (DecidesNever judge.search.reached rules index) (λ (p : Question). IsShortest judge.search.reached rules index (chars (string_bytes p.path)) p.is_dir))
     c.in-None.is c.in_ok-found.ensures in
-    subst (λ r. DecidesNever r rules index) c.requires.mode never
+    (subst (λ r. DecidesNever r rules index) c.requires.mode never, c.in_ok-named-in-None.ensures)

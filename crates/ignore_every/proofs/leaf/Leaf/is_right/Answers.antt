@@ -1,10 +1,10 @@
 use Rattle.std.proofs.Common.{◌≡◌, ℕ, ◌<◌, ◌≤◌, Bool, true, false, List, Option, [], length, arith, below_more, inl, inr, subst, ap, ◌∙◌}
 use Rattle.std.proofs.lemmas.Bool.{cases_lt}
 use Rattle.ignore_glob.specs.PositionSets.{IsSetAfter}
-use Rattle.ignore_every.specs.Machines.{IsLeafStep, IsLeafDecider}
+use Rattle.ignore_every.specs.Machines.{IsLeafStep, IsLeafDecider, IsLeafTaking}
 use Rattle.ignore_every.specs.Rows.{table_of}
 use Rattle.ignore_every.specs.Sets.{set_of}
-use Rattle.ignore_every.proofs.RowLemmas.{next_past, decider_past, both_kinds}
+use Rattle.ignore_every.proofs.RowLemmas.{next_past, decider_past, taking_past, both_kinds}
 use Rattle.ignore_every.proofs.leaf.Leaf.is_right.Goals as goal
 
 pub loop-state-preserved : goal.loop-state-preserved
@@ -15,6 +15,7 @@ loop-state-preserved c =
       steps = below_more _ _ c.loop-state.invariant.steps (here.steps right);
       files = below_more _ _ c.loop-state.invariant.files (here.file right);
       dirs = below_more _ _ c.loop-state.invariant.dirs (here.dir right);
+      takes = below_more _ _ c.loop-state.invariant.takes (here.takes right);
     }
 
 pub returns : goal.returns
@@ -34,9 +35,14 @@ returns c = λ t.
           (c.loop-state.invariant.files s h) (c.loop-state.invariant.dirs s h) is_dir
       | inr h ↦ λ k is. absurd (decider_past rows s is_dir k (omega (arith, past, h)) is)
     ] in
+    let takes : (s : ℕ) → IsLeafTaking rule.index rule.automaton sets (table_of rows) s = λ s. elim (cases_lt s c.loop-state.state) [
+      | inl h ↦ c.loop-state.invariant.takes s h
+      | inr h ↦ λ known is. absurd (taking_past rows s known (omega (arith, past, h)) is)
+    ] in
     let begun = c.is_set_of.ensures c.if-not-is_set_of.false ∙ ap (λ ss. set_of ss 0) c.deref.ensures.value in
     record {
       first = subst (λ flags. IsSetAfter rule.automaton [] flags) begun c.in_ok-begun.ensures;
       steps = steps;
       decides = decides;
+      takes = takes;
     }

@@ -1,5 +1,5 @@
 use Rattle.std.proofs.Common.{ℕ, ◌<◌, true, false}
-use Rattle.ignore_every.specs.Machines.{IsLeafStep, IsLeafDecider}
+use Rattle.ignore_every.specs.Machines.{IsLeafStep, IsLeafDecider, IsLeafTaking}
 use Rattle.ignore_every.specs.Rows.{table_of}
 use Rattle.ignore_every.specs.Sets.{set_of}
 use Rattle.ignore_every.proofs.leaf.Leaf.is_right.Given as goal
@@ -13,4 +13,6 @@ invariant-loop-state l = record {
       → IsLeafDecider l.rule.index l.rule.is_only_dir l.rule.automaton (set_of l.self.sets.items) (table_of l.self.rows.items) s false;
   dirs : (s : ℕ) → s < l.state
       → IsLeafDecider l.rule.index l.rule.is_only_dir l.rule.automaton (set_of l.self.sets.items) (table_of l.self.rows.items) s true;
+  takes : (s : ℕ) → s < l.state
+      → IsLeafTaking l.rule.index l.rule.automaton (set_of l.self.sets.items) (table_of l.self.rows.items) s;
 }

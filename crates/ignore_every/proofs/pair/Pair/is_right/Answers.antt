@@ -1,8 +1,8 @@
 use Rattle.std.proofs.Common.{◌≡◌, ℕ, ◌<◌, ◌≤◌, Bool, true, false, Option, None, Some, length, arith, below_more, inl, inr, refl, sym, ap, ◌∙◌}
 use Rattle.std.proofs.lemmas.Bool.{cases_lt}
-use Rattle.ignore_every.specs.Machines.{Table, IsPairStep, IsPairDecider}
+use Rattle.ignore_every.specs.Machines.{Table, IsPairStep, IsPairDecider, IsPairTaking}
 use Rattle.ignore_every.specs.Rows.{table_of, part_of}
-use Rattle.ignore_every.proofs.RowLemmas.{next_past, decider_past, both_kinds}
+use Rattle.ignore_every.proofs.RowLemmas.{next_past, decider_past, taking_past, both_kinds}
 use Rattle.ignore_every.proofs.pair.Pair.is_right.Goals as goal
 
 pub loop-state-preserved : goal.loop-state-preserved
@@ -13,6 +13,7 @@ loop-state-preserved c =
       steps = below_more _ _ c.loop-state.invariant.steps (here.steps right);
       files = below_more _ _ c.loop-state.invariant.files (here.file right);
       dirs = below_more _ _ c.loop-state.invariant.dirs (here.dir right);
+      takes = below_more _ _ c.loop-state.invariant.takes (here.takes right);
     }
 
 zeros : (p : ℕ × ℕ) → p.0 ≡ 0 → p.1 ≡ 0 → p ≡ (0, 0)
@@ -36,8 +37,13 @@ returns c = λ t.
           (c.loop-state.invariant.dirs s h) is_dir
       | inr h ↦ λ k is. absurd (decider_past rows s is_dir k (omega (arith, past, h)) is)
     ] in
+    let takes : (s : ℕ) → IsPairTaking left right parts (table_of rows) s = λ s. elim (cases_lt s c.loop-state.state) [
+      | inl h ↦ c.loop-state.invariant.takes s h
+      | inr h ↦ λ known is. absurd (taking_past rows s known (omega (arith, past, h)) is)
+    ] in
     record {
       first = ap (λ ps. part_of ps 0) (sym c.deref.ensures.value) ∙ (sym c.part_of-first.ensures ∙ zeros c.part_of-first.result one two);
       steps = steps;
       decides = decides;
+      takes = takes;
     }

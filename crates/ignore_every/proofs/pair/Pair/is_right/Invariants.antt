@@ -1,5 +1,5 @@
 use Rattle.std.proofs.Common.{ℕ, ◌<◌, true, false}
-use Rattle.ignore_every.specs.Machines.{IsPairStep, IsPairDecider}
+use Rattle.ignore_every.specs.Machines.{IsPairStep, IsPairDecider, IsPairTaking}
 use Rattle.ignore_every.specs.Rows.{table_of, part_of}
 use Rattle.ignore_every.proofs.pair.Pair.is_right.Given as goal
 
@@ -12,4 +12,6 @@ invariant-loop-state l = record {
       → IsPairDecider (table_of l.left) (table_of l.right) (part_of l.self.parts.items) (table_of l.self.rows.items) s false;
   dirs : (s : ℕ) → s < l.state
       → IsPairDecider (table_of l.left) (table_of l.right) (part_of l.self.parts.items) (table_of l.self.rows.items) s true;
+  takes : (s : ℕ) → s < l.state
+      → IsPairTaking (table_of l.left) (table_of l.right) (part_of l.self.parts.items) (table_of l.self.rows.items) s;
 }
