@@ -4,7 +4,7 @@ use Rattle.std.specs.Prelude.{if◌then◌else◌}
 use Rattle.ignore_base.specs.Problem.{Problem, problem_of, several, at_line, at_path, at_depth, loop, io, glob, unrecognized, invalid_definition}
 use Rattle.ignore_base.specs.Problem.{memory}
 use Rattle.ignore_base.specs.Text.{Bytes, Path}
-use Rattle.ignore_every.specs.Verdicts.{verdict_of}
+use Rattle.ignore_every.specs.Verdicts.{IsComparison, said_verdict}
 use Rattle.ignore_every.specs.declared.error.Error.TheVariants as refused
 use Rattle.ignore_every.specs.declared.error.Error.{Error as Refused}
 use Rattle.ignore_every.specs.declared.said.Comparison.{Comparison}
@@ -18,7 +18,7 @@ use Rattle.ignore_files.specs.Tree.{Tree}
 use Rattle.ignore_files.specs.declared.files.Files.{Ghosts as Files}
 use Rattle.ignore_rules.specs.Rules.{Rule, Ruleset}
 use Rattle.ig_options.specs.declared.options.Options.{Options}
-use Rattle.ig_every.specs.Compared.{AreCompared, counted_by, rule_in, shown}
+use Rattle.ig_every.specs.Compared.{counted_by, rule_in, shown}
 use Rattle.ig_every.specs.Reading.{AreRead, given_at, takes_input}
 use Rattle.ig_every.specs.declared.reading.RulesRead.{RulesRead}
 use Rattle.ig_every.specs.declared.reading.Sides.{Sides}
@@ -87,7 +87,7 @@ fields_of base null (Some r) = rule_fields base null (unwrap_or r.from []) r.lin
 
 -- a path after what a file says of it: the verdict, and the rule by which it is said
 abbrev pub side : Option Path → Bool → Ruleset → Said → Path → Bytes
-side base null g said path = verdict_word (verdict_of said) ++ (before_path null ++ (fields_of base null (rule_in g.rules said) ++ after_path null path))
+side base null g said path = verdict_word (said_verdict said) ++ (before_path null ++ (fields_of base null (rule_in g.rules said) ++ after_path null path))
 
 -- a path at which two files differ, after what each says of it; with `-q` nothing is written
 abbrev pub difference_text : Options → Sides → Difference → Bytes
@@ -126,7 +126,7 @@ abbrev pub Compares : Options → Sides → ℕ → (Bytes → Type 0) → (Byte
 Compares o sides status out err =
     (((is_unread sides.old || is_unread sides.new) ≡ true) × (status ≡ 2) × out [] × err (told o sides))
     ⊎ ((((is_unread sides.old || is_unread sides.new) ≡ false)
-    × ((c : Comparison) × AreCompared (counted_by o) sides.old.rules.rules sides.new.rules.rules c
+    × ((c : Comparison) × IsComparison (counted_by o) sides.old.rules.rules sides.new.rules.rules c
     × (status ≡ status_by (is_told o sides) (do_differ c)) × out (comparison_text o sides c) × err (told o sides)))
     ⊎ ((reason : Refused) × (status ≡ 2) × out [] × err (told o sides ++ refused_line o reason)))
 

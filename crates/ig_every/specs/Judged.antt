@@ -1,8 +1,8 @@
 -- What is wrong with the rules of a file: those that decide on no path, or on none that is reached.
-use Rattle.std.specs.Prelude.{◌≡◌, ◌<◌, ℕ, true, false, List, [], ◌∷◌, Option, None, Some, length, slice_get, string_bytes, unwrap_or}
-use Rattle.ignore_every.specs.Findings.{DecidesNever, IsShortest}
-use Rattle.ignore_base.specs.Text.{Chars}
-use Rattle.std.specs.Prelude.{Bool}
+use Rattle.std.specs.Prelude.{◌≡◌, ◌<◌, ℕ, Bool, true, false, List, [], ◌∷◌, Option, None, Some, length, map, slice_get, string_bytes, unwrap_or}
+use Rattle.ignore_base.specs.Text.{Bytes, Chars}
+use Rattle.ignore_every.specs.Findings.{AreReasons, DecidesNever, IsExample, IsShortest}
+use Rattle.ignore_every.specs.declared.findings.Example.{Example}
 use Rattle.ignore_rules.specs.Rules.{Rule}
 use Rattle.ig_every.specs.declared.diagnostic.Diagnostic.{Diagnostic}
 use Rattle.ig_every.specs.declared.diagnostic.Wrong.{Wrong}
@@ -10,42 +10,70 @@ use Rattle.ig_every.specs.declared.diagnostic.Wrong.TheVariants.{NotUtf8, Mark, 
 use Rattle.ig_every.specs.declared.diagnostic.Wrong.TheVariants.{InFolders, Unreached}
 
 -- the number of the line of a rule, and 0 for none
-abbrev pub number_in : Rule → ℕ
-number_in rule = unwrap_or rule.line 0
+abbrev pub number_in : Option Rule → ℕ
+number_in None = 0
+number_in (Some rule) = unwrap_or rule.line 0
 
--- a later rule is written as this one, and stands at this line
-pub record IsAgain (rules : List Rule) (index : ℕ) (rule : Rule) (line : ℕ) : Type 0 where
+-- the number of the line of the rule with an index
+abbrev pub line_in : List Rule → ℕ → ℕ
+line_in rules index = number_in (slice_get rules index)
+
+-- a rule is written so
+abbrev pub IsWritten : Bytes → Option Rule → Type 0
+IsWritten text None = ⊥
+IsWritten text (Some rule) = rule.original ≡ text
+
+-- a later rule is written so, and stands at this line
+pub record IsAgain (rules : List Rule) (index : ℕ) (text : Bytes) (line : ℕ) : Type 0 where
   pub place : ℕ
-  pub other : Rule
   pub later : index < place
-  pub stands : slice_get rules place ≡ Some other
-  pub written : other.original ≡ rule.original
-  pub number : line ≡ number_in other
+  pub written : IsWritten text (slice_get rules place)
+  pub number : line ≡ line_in rules place
 
--- what is wrong with the rule with an index is so
-abbrev pub IsSo : List Rule → ℕ → Rule → Wrong → Type 0
-IsSo rules index rule (Again line) = IsAgain rules index rule line
-IsSo rules index rule Nothing = DecidesNever false rules index
-IsSo rules index rule (Overruled lines) = DecidesNever false rules index
-IsSo rules index rule (InFolders folder line) = DecidesNever true rules index
-IsSo rules index rule Unreached = DecidesNever true rules index
-IsSo rules index rule NotUtf8 = ⊥
-IsSo rules index rule Mark = ⊥
-IsSo rules index rule Return = ⊥
-IsSo rules index rule Space = ⊥
-IsSo rules index rule GitSpace = ⊥
-IsSo rules index rule (Invalid why) = ⊥
+-- these lines are those of the rules that decide where this one applies, and no question has it decide
+pub record IsOverruled (rules : List Rule) (index : ℕ) (lines : List ℕ) : Type 0 where
+  pub never : DecidesNever false rules index
+  pub named : List ℕ
+  pub reasons : AreReasons rules index named
+  pub numbers : lines ≡ map (line_in rules) named
 
--- this is wrong with the rule with an index, if anything is
-abbrev pub IsWrong : List Rule → ℕ → Rule → Option Wrong → Type 0
-IsWrong rules index rule (Some wrong) = IsSo rules index rule wrong
-IsWrong rules index rule None = (path : Chars) × (is_dir : Bool) × IsShortest true rules index path is_dir
+-- it decides on no question that the rules reach; but on one in this folder, which the rule of this line
+-- ignores
+pub record IsHidden (rules : List Rule) (index : ℕ) (folder : Bytes) (line : ℕ) : Type 0 where
+  pub never : DecidesNever true rules index
+  pub example : Example
+  pub is_example : IsExample rules index example
+  pub folder_is : folder ≡ string_bytes example.folder
+  pub number : line ≡ line_in rules example.rule
 
--- this is wrong with the rule with an index, which it names; or nothing is, and the rule decides on a
--- question that the rules reach, and no shorter one
+-- what is wrong with the rule with an index, which is written so, is so
+abbrev pub IsSo : List Rule → ℕ → Bytes → Wrong → Type 0
+IsSo rules index text (Again line) = IsAgain rules index text line
+IsSo rules index text Nothing = IsOverruled rules index []
+IsSo rules index text (Overruled lines) = IsOverruled rules index lines.items
+IsSo rules index text (InFolders folder line) = IsHidden rules index (string_bytes folder) line
+IsSo rules index text Unreached = DecidesNever true rules index
+IsSo rules index text NotUtf8 = ⊥
+IsSo rules index text Mark = ⊥
+IsSo rules index text Return = ⊥
+IsSo rules index text Space = ⊥
+IsSo rules index text GitSpace = ⊥
+IsSo rules index text (Invalid why) = ⊥
+
+-- this is wrong with the rule with an index, if anything is; else it decides on a question that the
+-- rules reach, and on no shorter one
+abbrev pub IsWrong : List Rule → ℕ → Bytes → Option Wrong → Type 0
+IsWrong rules index text (Some wrong) = IsSo rules index text wrong
+IsWrong rules index text None = (path : Chars) × (is_dir : Bool) × IsShortest true rules index path is_dir
+
+-- the same with the line and the text of the rule
+pub record IsNamed (rules : List Rule) (index : ℕ) (d : Diagnostic) : Type 0 where
+  pub line : d.line ≡ line_in rules index
+  pub written : IsWritten (string_bytes d.rule) (slice_get rules index)
+  pub wrong : IsSo rules index (string_bytes d.rule) d.wrong
+
 abbrev pub IsJudged : List Rule → ℕ → Option Diagnostic → Type 0
-IsJudged rules index (Some d) =
-    (rule : Rule) × (slice_get rules index ≡ Some rule) × (d.line ≡ number_in rule) × (string_bytes d.rule ≡ rule.original) × IsSo rules index rule d.wrong
+IsJudged rules index (Some d) = IsNamed rules index d
 IsJudged rules index None = (path : Chars) × (is_dir : Bool) × IsShortest true rules index path is_dir
 
 -- so it is with each rule

@@ -1,7 +1,8 @@
 //! Two lists of rules, compared over all paths.
 ghost use Rattle.std.specs.Prelude.{◌≡◌, IfOk, string_bytes};
 ghost use Rattle.std.specs.Option.{option_copied};
-ghost use Rattle.ig_every.specs.Compared.{AreCompared, counted_by, rule_in, shown};
+ghost use Rattle.ignore_every.specs.Verdicts.{IsComparison};
+ghost use Rattle.ig_every.specs.Compared.{counted_by, rule_in, shown};
 
 use ig_options::Options;
 use ignore_every::{Comparison, Counted, Error, Question, Said, compare};
@@ -23,7 +24,7 @@ pub fn compare_rules(
     old: &Gitignore,
     new: &Gitignore,
 ) -> Result<Comparison, Error>
-    ensures { IfOk result (AreCompared (counted_by options.now) old.now.rules new.now.rules) }
+    ensures { IfOk result (IsComparison (counted_by options.now) old.now.rules new.now.rules) }
 {
     compare(alloc, old, new, counted_by(options), MOST_STATES)
 }

@@ -1,11 +1,11 @@
 //! Rules that decide on no path, or on none that is reached.
-ghost use Rattle.std.specs.Prelude.{◌≡◌, ◌++◌, ◌<◌, ℕ, IfOk, IfSome, IsNone, List, Option, Some, length, slice_get};
+ghost use Rattle.std.specs.Prelude.{◌≡◌, ◌++◌, ◌<◌, ℕ, IfOk, IfSome, List, Option, length, map, slice_get};
 ghost use Rattle.std.specs.List.{flat_map};
 ghost use Rattle.ignore_every.specs.Findings.{IsRightFinding};
 ghost use Rattle.ignore_rules.specs.Rules.{Rule};
-ghost use Rattle.ig_every.specs.Judged.{AreJudged, IsJudged, IsWrong, list_of, number_in};
+ghost use Rattle.ignore_base.specs.Text.{Bytes};
+ghost use Rattle.ig_every.specs.Judged.{AreJudged, IsAgain, IsJudged, IsOverruled, IsSo, IsWritten, IsWrong, line_in, list_of};
 ghost use Rattle.ig_every.specs.declared.diagnostic.Diagnostic.{Diagnostic};
-ghost use Rattle.ig_every.specs.declared.diagnostic.Wrong.TheVariants.{Again};
 
 use crate::compared::MOST_STATES;
 use crate::diagnostic::{Diagnostic, Wrong};
@@ -48,49 +48,74 @@ fn diagnostic_of(
     requires right { IsRightFinding rules.now index finding }
     ensures { IfOk result (IsJudged rules.now index) }
 {
-    let rule = &rules[index];
-    let again = again_after(rules, index, rule.original());
-    let Some(wrong) = wrong_of(alloc, rules, finding, again)? else {
+    let original = rules[index].original();
+    let Some(wrong) = wrong_of(alloc, rules, index, finding)? else {
         return Ok(None);
     };
     Ok(Some(Diagnostic {
         line: line_of(rules, index),
-        rule: String::from_str(alloc, rule.original())?,
+        rule: String::from_str(alloc, original)?,
         wrong,
     }))
 }
 
-/// What is wrong with a rule of which this was found, where the same stands again at this line, if it
-/// does.
+/// What is wrong with the rule with an index, of which this was found, if anything is: that the same
+/// stands again, before all else.
 fn wrong_of(
     alloc: Global,
     rules: &[Glob],
+    index: usize,
     finding: Finding,
-    again: Option<u64>,
 ) -> Result<Option<Wrong>, AllocError>
-    ensures again { IfSome again (λ line. IfOk result (λ wrong. wrong ≡ Some (Again line))) }
-    ensures judged { IsNone again → (index : ℕ) (rule : Rule) → IsRightFinding rules.now index finding → IfOk result (IsWrong rules.now index rule) }
+    requires within { index < length rules.now }
+    requires right { IsRightFinding rules.now index finding }
+    ensures { (text : Bytes) → IsWritten text (slice_get rules.now index) → IfOk result (IsWrong rules.now index text) }
 {
-    if let Some(line) = again {
-        return Ok(Some(Wrong::Again(line)));
+    match again_after(rules, index) {
+        Some(line) => Ok(Some(Wrong::Again(line))),
+        None => found_wrong(alloc, rules, index, finding),
     }
+}
+
+/// What is wrong with the rule with an index, of which this was found.
+fn found_wrong(
+    alloc: Global,
+    rules: &[Glob],
+    index: usize,
+    finding: Finding,
+) -> Result<Option<Wrong>, AllocError>
+    requires right { IsRightFinding rules.now index finding }
+    ensures { (text : Bytes) → IfOk result (IsWrong rules.now index text) }
+{
     match finding {
         Finding::Live(_) => Ok(None),
         Finding::DeadByFolders(example) => {
             let line = line_of(rules, example.rule);
             Ok(Some(Wrong::InFolders(example.folder, line)))
         }
-        Finding::Overruled(by) if by.is_empty() => Ok(Some(Wrong::Nothing)),
-        Finding::Overruled(by) => Ok(Some(Wrong::Overruled(lines_of(alloc, rules, &by)?))),
+        Finding::Overruled(named) => Ok(Some(overruled(lines_of(alloc, rules, &named)?))),
         Finding::Unreached => Ok(Some(Wrong::Unreached)),
     }
 }
 
-/// The line of the first rule after an index that is written in this way.
-fn again_after(rules: &[Glob], index: usize, original: &str) -> Option<u64>
-    ensures { IfSome result (λ line. (place : ℕ) × (other : Rule) × (index < place) × (slice_get rules.now place ≡ Some other)
-        × (other.original ≡ original.now) × (line ≡ number_in other)) }
+/// That the rules of these lines decide wherever one applies: it applies to nothing, where there are
+/// none.
+fn overruled(lines: Vec<u64>) -> Wrong
+    ensures { (rules : List Rule) (index : ℕ) (text : Bytes) → IsOverruled rules index lines.items → IsSo rules index text result }
 {
+    if lines.is_empty() {
+        Wrong::Nothing
+    } else {
+        Wrong::Overruled(lines)
+    }
+}
+
+/// The line of the first rule after an index that is written as the one with it.
+fn again_after(rules: &[Glob], index: usize) -> Option<u64>
+    requires within { index < length rules.now }
+    ensures { (text : Bytes) → IsWritten text (slice_get rules.now index) → IfSome result (IsAgain rules.now index text) }
+{
+    let original = rules[index].original();
     for place in index..rules.len() {
         if place > index && rules[place].original() == original {
             return Some(line_of(rules, place));
@@ -100,7 +125,9 @@ fn again_after(rules: &[Glob], index: usize, original: &str) -> Option<u64>
 }
 
 /// The lines of the rules with these indices.
-fn lines_of(alloc: Global, rules: &[Glob], indices: &[usize]) -> Result<Vec<u64>, AllocError> {
+fn lines_of(alloc: Global, rules: &[Glob], indices: &[usize]) -> Result<Vec<u64>, AllocError>
+    ensures { IfOk result (λ lines. lines.items ≡ map (line_in rules.now) indices.now) }
+{
     let mut lines = Vec::new(alloc);
     for index in indices {
         lines.push(line_of(rules, *index))?;
@@ -108,9 +135,9 @@ fn lines_of(alloc: Global, rules: &[Glob], indices: &[usize]) -> Result<Vec<u64>
     Ok(lines)
 }
 
-/// The line of the rule with an index.
+/// The line of the rule with an index; 0 for none.
 fn line_of(rules: &[Glob], index: usize) -> u64
-    ensures { (rule : Rule) → slice_get rules.now index ≡ Some rule → result ≡ number_in rule }
+    ensures { result ≡ line_in rules.now index }
 {
     match rules.get(index) {
         Some(rule) => rule.line().unwrap_or(0),

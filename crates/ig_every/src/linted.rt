@@ -1,4 +1,7 @@
 //! What is wrong with a file of rules.
+ghost use Rattle.std.specs.Prelude.{◌≡◌, IfErr, IfOk};
+ghost use Rattle.ignore_every.specs.declared.error.Error.TheVariants.{Memory};
+ghost use Rattle.ig_every.specs.Linted.{IsLinted};
 
 use crate::dead::lint_rules;
 use crate::diagnostic::Diagnostic;
@@ -29,7 +32,10 @@ pub fn lint(
     options: &Options,
     path: &str,
     contents: &Contents,
-) -> Result<Linted, Refused> {
+) -> Result<Linted, Refused>
+    ensures linted { IfOk result (IsLinted options.now path.now contents.now.bytes) }
+    ensures out_of_memory { IfErr result (λ refused. refused ≡ Memory) }
+{
     let bytes = contents.bytes.as_slice();
     let mut found = Vec::new(alloc);
     lint_lines(alloc, options, bytes, &mut found)?;

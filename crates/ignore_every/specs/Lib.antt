@@ -7,3 +7,4 @@ pub mod Letters
 pub mod Trees
 pub mod Findings
 pub mod Sound
+pub mod Verdicts

@@ -1,5 +1,8 @@
 //! Whether two lists of rules say the same.
 
+ghost use Rattle.std.specs.Prelude.{IfOk};
+ghost use Rattle.ignore_every.specs.Verdicts.{IsComparison};
+
 use crate::error::Error;
 use crate::said::{Comparison, Counted, Difference};
 use ignore_rules::gitignore::Gitignore;
@@ -19,6 +22,8 @@ pub fn compare(
     new: &Gitignore,
     counted: Counted,
     limit: usize,
-) -> Result<Comparison, Error> {
+) -> Result<Comparison, Error>
+    ensures { IfOk result (IsComparison counted old.now.rules new.now.rules) }
+{
     Err(Error::Rejected)
 }
