@@ -1,5 +1,5 @@
 -- What a run of the program does.
-use Rattle.std.specs.Prelude.{◌≡◌, ◌⊎◌, ℕ, Bool, false, true, [], Option, None}
+use Rattle.std.specs.Prelude.{◌≡◌, ◌⊎◌, ℕ, Bool, false, true, [], Option, None, ⊤}
 use Rattle.std.specs.Io.KnownBytes.{Appends, Keeps}
 use Rattle.ignore_base.specs.Problem.{Problem}
 use Rattle.ignore_base.specs.Text.{Bytes}
@@ -21,6 +21,10 @@ use Rattle.ig_commands.specs.Unused.{UnusedAsked, UnusedEnds}
 use Rattle.ig_commands.specs.Why.{InputAsked, InputEnds, WhyAsked, WhyEnds}
 use Rattle.ig_commands.specs.declared.stop.Stop.{Stop}
 
+-- a status of `lint`. What it writes and reports isn't stated, nor why it ends early
+abbrev pub IsLintStatus : ℕ → Type 0
+IsLintStatus status = (status ≡ 0) ⊎ ((status ≡ 1) ⊎ (status ≡ 2))
+
 -- a command was carried out, with this status, where standard input has these bytes, if they are known;
 -- the draft has the file types that exist at first
 abbrev pub Does : {F : Type 0} → Files F → F → Env → Options → Draft → Task → Option Bytes → ℕ → (Bytes → Type 0) → (Bytes → Type 0) → Type 0
@@ -28,6 +32,7 @@ Does files f env o first command.List input status out err = ListsAsked files f 
 Does files f env o first command.Ignored input status out err = IgnoredAsked files f env o first status out err
 Does files f env o first command.Why input status out err = WhyAsked files f env o first status out err
 Does files f env o first command.Unused input status out err = UnusedAsked files f env o first status out err
+Does files f env o first command.Lint input status out err = IsLintStatus status
 Does files f env o first command.Same input status out err = SameAsked files f o input status out err
 Does files f env o first command.Types input status out err = ListsTypes o.type_add first status out err
 
@@ -37,6 +42,7 @@ Ends files f env o first command.List input out err stop = EndsAsked files f env
 Ends files f env o first command.Ignored input out err stop = IgnoredEnds files f env o first out err stop
 Ends files f env o first command.Why input out err stop = WhyEnds files f env o first out err stop
 Ends files f env o first command.Unused input out err stop = UnusedEnds files f env o first out err stop
+Ends files f env o first command.Lint input out err stop = ⊤
 Ends files f env o first command.Same input out err stop = SameEnds files f o input out err stop
 Ends files f env o first command.Types input out err stop = EndsAfter [] [] out err stop
 

@@ -9,6 +9,7 @@ mod input;
 mod lint;
 mod listing;
 mod names;
+mod reinclude;
 mod reports;
 mod repositories;
 mod root;

@@ -1,19 +1,22 @@
 //! The command `lint`: what is wrong with files of rules.
+ghost use Rattle.std.specs.Prelude.{IfErr, IfOk, ⊤};
+ghost use Rattle.ig_commands.specs.Run.{IsLintStatus};
 
 use crate::asking::{Asked, asked_met};
 use crate::counts::{Counts, Seen, status_of};
 use crate::form::{Form, write_text};
 use crate::ignored::{matchers_of, note_item};
 use crate::names::end_names;
+use crate::reinclude::is_reincluded;
 use crate::reports::report_all;
 use crate::stop::Stop;
 use crate::worktree::{Worktree, roots_of};
 use crate::writing::{refuse_or_end, write_bytes, write_stop};
 use commands::World;
-use ig_every::{Diagnostic, Linted, json_of, lint, text_of};
+use ig_every::{Diagnostic, Linted, Wrong, json_of, lint, text_of};
 use ig_options::{Given, Options};
 use ignore::IncrementalIgnore;
-use ignore_base::Fault;
+use ignore_base::{Error, Fault};
 use ignore_base::text::file_name;
 use ignore_every::Error as Refused;
 use ignore_files::{Contents, Files, Name, Refusal};
@@ -35,25 +38,68 @@ pub(crate) fn lint_files<F: Files, W: Write, E: Write>(
     first: TypesBuilder,
     out: &mut W,
     err: &mut E,
-) -> Result<u8, Stop> {
+) -> Result<u8, Stop>
+    ensures status { IfOk result IsLintStatus }
+    ensures ended { IfErr result (λ _. ⊤) }
+{
     if options.paths.is_empty() {
         return lint_below(world, options, first, out, err);
     }
-    let mut counts = Counts::begun(0);
+    match given_paths(world.alloc, options) {
+        Ok(paths) => lint_all(world, options, &paths, out, err),
+        Err(_) => Err(Stop::Memory),
+    }
+}
+
+/// The paths of the files that are given.
+fn given_paths(alloc: Global, options: &Options) -> Result<Vec<Name>, AllocError> {
+    let mut paths = Vec::new(alloc);
     for given in &options.paths {
         if let Given::Path(path) = given {
-            counts = counts.and(lint_file(world, options, path.as_str(), out, err)?);
+            paths.push(Name::from_str(alloc, path.as_str())?)?;
         }
+    }
+    Ok(paths)
+}
+
+/// Writes what is wrong with each of these files. It returns the status.
+fn lint_all<F: Files, W: Write, E: Write>(
+    world: &World<'_, F>,
+    options: &Options,
+    paths: &[Name],
+    out: &mut W,
+    err: &mut E,
+) -> Result<u8, Stop>
+    ensures { IfOk result IsLintStatus }
+{
+    let all = Linting {
+        world,
+        options,
+        paths,
+    };
+    let mut counts = Counts::begun(0);
+    for path in paths {
+        counts = counts.and(lint_file(&all, path.as_str(), out, err)?);
     }
     Ok(status_by(counts))
 }
 
+/// Which files are looked at, and by which options.
+#[derive(Drop)]
+struct Linting<'l, 'w, F: Files> {
+    world: &'l World<'w, F>,
+    options: &'l Options,
+    paths: &'l [Name],
+}
+
 /// The status: 2 where something was reported, else 1 where something is wrong, and else 0.
-fn status_by(counts: Counts) -> u8 {
+fn status_by(counts: Counts) -> u8
+    ensures { IsLintStatus result }
+{
     match status_of(counts) {
         0 => 1,
         1 => 0,
-        other => other,
+        _ => 2,
     }
 }
 
@@ -64,18 +110,17 @@ fn lint_below<F: Files, W: Write, E: Write>(
     first: TypesBuilder,
     out: &mut W,
     err: &mut E,
-) -> Result<u8, Stop> {
+) -> Result<u8, Stop>
+    ensures { IfOk result IsLintStatus }
+{
     let asked = match asked_met(world, options, first) {
         Ok(asked) => asked,
         Err(error) => return refuse_or_end(&error, err),
     };
     let mut paths = Vec::new(world.alloc);
     let reported = find_files(world, options, asked, &mut paths, err)?;
-    let mut counts = Counts::begun(reported);
-    for path in &paths {
-        counts = counts.and(lint_file(world, options, path.as_str(), out, err)?);
-    }
-    Ok(status_by(counts))
+    let status = lint_all(world, options, &paths, out, err)?;
+    Ok(if reported > 0 { 2 } else { status })
 }
 
 /// Adds the paths of the files of rules that are met. It returns how many times something was
@@ -174,14 +219,14 @@ fn is_among(name: &str, names: &[Name]) -> bool {
 
 /// Writes what is wrong with a file.
 fn lint_file<F: Files, W: Write, E: Write>(
-    world: &World<'_, F>,
-    options: &Options,
+    all: &Linting<'_, '_, F>,
     path: &str,
     out: &mut W,
     err: &mut E,
 ) -> Result<Counts, Stop> {
-    match world.files.contents(world.alloc, path) {
-        Ok(contents) => lint_contents(world.alloc, options, (path, &contents), out, err),
+    let alloc = all.world.alloc;
+    match all.world.files.contents(alloc, path) {
+        Ok(contents) => lint_contents(all, path, &contents, out, err),
         Err(Refusal::Fault(fault)) => {
             report_fault(path, fault, err)?;
             Ok(Counts::begun(1))
@@ -191,28 +236,57 @@ fn lint_file<F: Files, W: Write, E: Write>(
 }
 
 /// Writes what is wrong with a file, of which this was read.
-fn lint_contents<W: Write, E: Write>(
-    alloc: Global,
-    options: &Options,
-    read: (&str, &Contents),
+fn lint_contents<F: Files, W: Write, E: Write>(
+    all: &Linting<'_, '_, F>,
+    path: &str,
+    contents: &Contents,
     out: &mut W,
     err: &mut E,
 ) -> Result<Counts, Stop> {
-    let (path, contents) = read;
-    let linted = match lint(alloc, options, path, contents) {
-        Ok(linted) => linted,
-        Err(_) => return Err(Stop::Memory),
+    let Ok(linted) = lint(all.world.alloc, all.options, path, contents) else {
+        return Err(Stop::Memory);
     };
     let mut counts = Counts::begun(0);
-    for found in &linted.found {
-        write_found(alloc, options, path, found, out)?;
+    for diagnostic in &linted.found {
+        let found = write_told(all, path, diagnostic, out)?;
         counts = counts.with(Seen {
             reported: false,
-            found: true,
+            found,
         });
     }
     let reported = report_wanting(path, contents.fault, &linted, err)?;
     Ok(counts.and(Counts::begun(u64::from(reported))))
+}
+
+/// Writes what is wrong with a line, unless another file mends it. It returns whether none does.
+fn write_told<F: Files, W: Write>(
+    all: &Linting<'_, '_, F>,
+    path: &str,
+    diagnostic: &Diagnostic,
+    out: &mut W,
+) -> Result<bool, Stop> {
+    match is_mended(all, path, diagnostic) {
+        Ok(false) => {
+            write_found(all.world.alloc, all.options, path, diagnostic, out)?;
+            Ok(true)
+        }
+        Ok(true) => Ok(false),
+        Err(_) => Err(Stop::Memory),
+    }
+}
+
+/// Whether a rule decides in ignored folders alone, and another file re-includes the folder.
+fn is_mended<F: Files>(
+    all: &Linting<'_, '_, F>,
+    path: &str,
+    diagnostic: &Diagnostic,
+) -> Result<bool, Error> {
+    match &diagnostic.wrong {
+        Wrong::InFolders(folder, _) => {
+            is_reincluded(all.world, all.options, all.paths, path, folder.as_str())
+        }
+        _ => Ok(false),
+    }
 }
 
 /// Reports that a file can't be read to its end, or that its rules weren't judged. It returns whether

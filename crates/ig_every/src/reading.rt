@@ -97,7 +97,7 @@ fn read_side<F: Files>(
 ///
 /// # Errors
 /// `Error::Memory` alone.
-fn read_file<F: Files>(
+pub fn read_file<F: Files>(
     alloc: Global,
     files: &F,
     options: &Options,

@@ -85,3 +85,15 @@ returns-in-Same-clause-ended g c =
     ends_as g.F.Files c.args.world.now.files.now c.args.world.now.env.now c.args.call.now.options.now c.in-Ok.first types_at_first command.Same c.args.call.now.task
     (g.R.Read.remaining c.args.input) c.same.result (Appends (g.W.Write.contents c.args.out.now) (g.W.Write.contents c.same.new.out))
     (Appends (g.E.Write.contents c.args.err.now) (g.E.Write.contents c.same.new.err)) c.in-Ok.ensures.value c.in-Same.is c.same.ensures.ended
+
+pub returns-in-Lint-clause-done : goal.returns-in-Lint-clause-done
+returns-in-Lint-clause-done g c =
+    does_as g.F.Files c.args.world.now.files.now c.args.world.now.env.now c.args.call.now.options.now c.in-Ok.first types_at_first command.Lint c.args.call.now.task
+    (g.R.Read.remaining c.args.input) c.lint_files.result (Appends (g.W.Write.contents c.args.out.now) (g.W.Write.contents c.lint_files.new.out))
+    (Appends (g.E.Write.contents c.args.err.now) (g.E.Write.contents c.lint_files.new.err)) c.in-Ok.ensures.value c.in-Lint.is c.lint_files.ensures.status
+
+pub returns-in-Lint-clause-ended : goal.returns-in-Lint-clause-ended
+returns-in-Lint-clause-ended g c =
+    ends_as g.F.Files c.args.world.now.files.now c.args.world.now.env.now c.args.call.now.options.now c.in-Ok.first types_at_first command.Lint c.args.call.now.task
+    (g.R.Read.remaining c.args.input) c.lint_files.result (Appends (g.W.Write.contents c.args.out.now) (g.W.Write.contents c.lint_files.new.out))
+    (Appends (g.E.Write.contents c.args.err.now) (g.E.Write.contents c.lint_files.new.err)) c.in-Ok.ensures.value c.in-Lint.is c.lint_files.ensures.ended
