@@ -26,6 +26,11 @@ ends_none files f env o first command.Lint input out err stop h = tt
 ends_none files f env o first command.Same input out err stop h = inl (inl h)
 ends_none files f env o first command.Types input out err stop h = h
 
+-- of an early end nothing may be said
+pub ends_in_any_way : (r : Result ℕ Stop) → IfErr r (λ stop. Unit {0})
+ends_in_any_way (Ok status) = tt
+ends_in_any_way (Err stop) = tt
+
 pub keeps_same : (a : Option (List ℕ)) → Keeps a a
 keeps_same None = tt
 keeps_same (Some xs) = refl

@@ -1,5 +1,5 @@
 //! The command `lint`: what is wrong with files of rules.
-ghost use Rattle.std.specs.Prelude.{IfErr, IfOk, ⊤};
+ghost use Rattle.std.specs.Prelude.{IfOk};
 ghost use Rattle.ig_commands.specs.Run.{IsLintStatus};
 
 use crate::asking::{Asked, asked_met};
@@ -16,8 +16,8 @@ use commands::World;
 use ig_every::{Diagnostic, Linted, Wrong, json_of, lint, text_of};
 use ig_options::{Given, Options};
 use ignore::IncrementalIgnore;
-use ignore_base::{Error, Fault};
 use ignore_base::text::file_name;
+use ignore_base::{Error, Fault};
 use ignore_every::Error as Refused;
 use ignore_files::{Contents, Files, Name, Refusal};
 use ignore_survey::Survey;
@@ -40,7 +40,6 @@ pub(crate) fn lint_files<F: Files, W: Write, E: Write>(
     err: &mut E,
 ) -> Result<u8, Stop>
     ensures status { IfOk result IsLintStatus }
-    ensures ended { IfErr result (λ _. ⊤) }
 {
     if options.paths.is_empty() {
         return lint_below(world, options, first, out, err);

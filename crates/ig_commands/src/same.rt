@@ -17,7 +17,9 @@ use crate::reports::{report_rules, report_some};
 use crate::stop::Stop;
 use crate::writing::write_bytes;
 use commands::World;
-use ig_every::{RulesRead, Sides, compare_rules, given_at, read_sides, rule_in, shown, takes_input};
+use ig_every::{
+    RulesRead, Sides, compare_rules, given_at, read_sides, rule_in, shown, takes_input,
+};
 use ig_options::Options;
 use ignore_base::Error;
 use ignore_every::{Comparison, Difference, Error as Refused, Said, Verdict};
@@ -100,11 +102,7 @@ fn report_and_compare<W: Write, E: Write>(
 fn status_by(reported: bool, differ: bool) -> u8
     ensures { result ≡ status_by reported differ }
 {
-    if reported {
-        2
-    } else {
-        u8::from(differ)
-    }
+    if reported { 2 } else { u8::from(differ) }
 }
 
 /// Whether a file can't be read at all.
@@ -161,11 +159,7 @@ fn report_side<E: Write>(options: &Options, side: &RulesRead, err: &mut E) -> Re
 }
 
 /// Reports why two files can't be compared, unless memory ran out, which ends the command.
-fn refuse_comparison<E: Write>(
-    options: &Options,
-    refused: Refused,
-    err: &mut E,
-) -> Result<u8, Stop>
+fn refuse_comparison<E: Write>(options: &Options, refused: Refused, err: &mut E) -> Result<u8, Stop>
     ensures reports { IfOk result (λ status. (status ≡ 2)
         × Appends (E.contents err.old) (E.contents err.new) (refused_line options.now refused)) }
     ensures ended { IfErr result (λ stop. (stop ≡ Stop.Memory) ⊎ (stop ≡ Stop.Silence)) }

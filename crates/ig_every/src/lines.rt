@@ -133,21 +133,18 @@ fn parsed_line(
 ) -> Result<Parsed, AllocError> {
     match rule_of(alloc, text, options, as_git) {
         Ok(rules) => first_of(alloc, &rules),
-        Err(Error::Glob {
-            glob: Some(glob),
-            err,
-        }) => Ok(Parsed::Invalid(glob, err)),
+        Err(
+            Error::Glob {
+                glob: Some(glob),
+                err,
+            },
+        ) => Ok(Parsed::Invalid(glob, err)),
         Err(_) => Err(AllocError),
     }
 }
 
 /// The rules of a line: one, or none.
-fn rule_of(
-    alloc: Global,
-    text: &str,
-    options: &Options,
-    as_git: bool,
-) -> Result<Gitignore, Error> {
+fn rule_of(alloc: Global, text: &str, options: &Options, as_git: bool) -> Result<Gitignore, Error> {
     let mut builder = GitignoreBuilder::new(alloc, "")?;
     builder
         .case_insensitive(options.ignore_file_case_insensitive)?

@@ -10,9 +10,18 @@ use std::alloc::{AllocError, Global};
 /// Out of memory.
 pub fn text_of(alloc: Global, wrong: &Wrong) -> Result<String, AllocError> {
     match wrong {
-        Wrong::NotUtf8 => plain(alloc, "isn't UTF-8: neither this line nor any after it is read"),
-        Wrong::Mark => plain(alloc, "has a byte order mark that isn't the first of the file"),
-        Wrong::Return => plain(alloc, "has a carriage return that isn't the last of the line"),
+        Wrong::NotUtf8 => plain(
+            alloc,
+            "isn't UTF-8: neither this line nor any after it is read",
+        ),
+        Wrong::Mark => plain(
+            alloc,
+            "has a byte order mark that isn't the first of the file",
+        ),
+        Wrong::Return => plain(
+            alloc,
+            "has a carriage return that isn't the last of the line",
+        ),
         Wrong::Space => plain(alloc, "the white space at its end counts"),
         Wrong::GitSpace => plain(alloc, "git reads the white space at its end otherwise"),
         Wrong::Invalid(why) => format!(in alloc; "invalid: {why}"),
@@ -85,7 +94,12 @@ fn lines_in(alloc: Global, wrong: &Wrong) -> Result<Vec<Value>, AllocError> {
 /// Out of memory.
 pub fn json_of(alloc: Global, file: &str, found: &Diagnostic) -> Result<String, AllocError> {
     let mut members = Map::new(alloc);
-    put(&mut members, alloc, "file", Value::try_from_str(alloc, file)?)?;
+    put(
+        &mut members,
+        alloc,
+        "file",
+        Value::try_from_str(alloc, file)?,
+    )?;
     put(&mut members, alloc, "line", Value::from(found.line))?;
     let rule = Value::try_from_str(alloc, found.rule.as_str())?;
     put(&mut members, alloc, "rule", rule)?;

@@ -125,11 +125,7 @@ pub const ELSEWHERE: [(Task, &str, &str); 21] = [
         "quiet",
         "Write nothing: the status says whether they differ",
     ),
-    (
-        Task::Same,
-        "threads",
-        "One thread compares, whatever N is",
-    ),
+    (Task::Same, "threads", "One thread compares, whatever N is"),
 ];
 
 /// The orders of `--sort`.
@@ -573,17 +569,13 @@ pub const ASKED: [&[Row]; 8] = [
 ];
 
 /// The options of `ig unused`.
-pub const UNUSED: [&[Row]; 7] = [
-    &FILTERS, &READING, &ENDS, &STATS, &QUIET, &REPORTS, &TAKEN,
-];
+pub const UNUSED: [&[Row]; 7] = [&FILTERS, &READING, &ENDS, &STATS, &QUIET, &REPORTS, &TAKEN];
 
 /// The options of `ig same`.
 pub const SAME: [&[Row]; 6] = [&COMPARED, &READING, &ENDS, &QUIET, &REPORTS, &TAKEN];
 
 /// The options of `ig lint`.
-pub const LINT: [&[Row]; 7] = [
-    &FILTERS, &READING, &JSON, &ENDS, &QUIET, &REPORTS, &TAKEN,
-];
+pub const LINT: [&[Row]; 7] = [&FILTERS, &READING, &JSON, &ENDS, &QUIET, &REPORTS, &TAKEN];
 
 /// The options of `ig types`.
 pub const TYPES: [&[Row]; 1] = [&[(

@@ -3,7 +3,7 @@ use Rattle.commands.proofs.LineLemmas.{appends_nothing}
 use Rattle.std.specs.Io.KnownBytes.{Appends}
 use Rattle.ig_commands.specs.Run.{types_at_first}
 use Rattle.ig_commands.specs.declared.stop.Stop.TheVariants.{Memory}
-use Rattle.ig_commands.proofs.RunLemmas.{does_as, ends_as, ends_none}
+use Rattle.ig_commands.proofs.RunLemmas.{does_as, ends_as, ends_in_any_way, ends_none}
 use Rattle.ig_commands.proofs.run.run_task.Goals as goal
 
 -- out of memory for the types, no command begins
@@ -96,4 +96,4 @@ pub returns-in-Lint-clause-ended : goal.returns-in-Lint-clause-ended
 returns-in-Lint-clause-ended g c =
     ends_as g.F.Files c.args.world.now.files.now c.args.world.now.env.now c.args.call.now.options.now c.in-Ok.first types_at_first command.Lint c.args.call.now.task
     (g.R.Read.remaining c.args.input) c.lint_files.result (Appends (g.W.Write.contents c.args.out.now) (g.W.Write.contents c.lint_files.new.out))
-    (Appends (g.E.Write.contents c.args.err.now) (g.E.Write.contents c.lint_files.new.err)) c.in-Ok.ensures.value c.in-Lint.is c.lint_files.ensures.ended
+    (Appends (g.E.Write.contents c.args.err.now) (g.E.Write.contents c.lint_files.new.err)) c.in-Ok.ensures.value c.in-Lint.is (ends_in_any_way c.lint_files.result)
