@@ -1,5 +1,4 @@
 //! What a list of rules says of a question, and where two lists differ.
-ghost use Rattle.std.specs.Prelude.{◌≡◌};
 
 use crate::findings::Question;
 
@@ -66,8 +65,13 @@ pub enum Comparison {
 }
 
 impl Said {
+    ghost use Rattle.std.specs.Prelude.{◌≡◌};
+    ghost use Rattle.ignore_every.specs.Verdicts.{said_verdict, said_rule};
+
     /// The verdict alone.
-    pub fn verdict(&self) -> Verdict {
+    pub fn verdict(&self) -> Verdict
+        ensures { result ≡ said_verdict self.now }
+    {
         match self {
             Said::Nothing => Verdict::None,
             Said::Ignored(_) => Verdict::Ignore,
@@ -78,7 +82,9 @@ impl Said {
 
     /// The index of the rule by which it is said, if any: the one that decides, or the one that
     /// ignores the folder.
-    pub fn rule(&self) -> Option<usize> {
+    pub fn rule(&self) -> Option<usize>
+        ensures { result ≡ said_rule self.now }
+    {
         match self {
             Said::Nothing => None,
             Said::Ignored(rule) => Some(*rule),
