@@ -8,7 +8,10 @@ use Rattle.ignore_base.specs.declared.match_result.Match.{Match}
 use Rattle.ignore_base.specs.declared.match_result.Match.TheVariants as M
 use Rattle.ignore_rules.specs.Answer.{does_apply, decision_of, rule_answer, list_answer}
 use Rattle.ignore_rules.specs.Rules.{Rule}
+use Rattle.ignore_every.specs.Agreement.{rule_verdict, verdict_by}
 use Rattle.ignore_every.specs.Questions.{IsIgnored, Decides}
+use Rattle.ignore_every.specs.Verdicts.{verdict_of}
+use Rattle.ignore_every.specs.declared.said.Verdict.TheVariants as V
 use Rattle.ignore_every.specs.Machines.{IsLastOf, ignores, ignores_at}
 
 -- the rule answers nothing where it doesn't apply, and its decision where it applies
@@ -64,3 +67,51 @@ ignores_then rules text is_dir (Some k) last known = go (slice_get rules k) refl
           (λ i later less is. last.3 i later less (slice_get_within rules i later is) is)
           ∙ flag rule rule.is_whitelist refl right,
     )
+
+-- what is within a list is there
+slice_is_there : (rules : List Rule) (k : ℕ) → k < length rules → slice_get rules k ≡ None → ⊥
+slice_is_there [] k less none = omega (arith, less)
+slice_is_there (rule ∷ rules) zero less none = cc none
+slice_is_there (rule ∷ rules) (suc k) less none = slice_is_there rules k (omega (arith, less)) none
+
+-- a known decider that doesn't ignore means that the rules don't ignore
+pub free_then : (rules : List Rule) (text : Chars) (is_dir : Bool) (k : Option ℕ) → IsLastOf rules 0 (length rules) text is_dir k
+    → ignores rules k ≡ false → IsIgnored rules text is_dir → ⊥
+free_then rules text is_dir None last known ignored =
+    let none = none_answers rules text is_dir (λ i rule at. last i rule (omega arith) (slice_get_within rules i rule at) at) in
+    let wrong : M.None ≡ M.Ignore ignored.0 = sym none ∙ ignored.1 in
+    absurd (cc wrong)
+free_then rules text is_dir (Some k) last known ignored = go (slice_get rules k) refl known
+  where
+    flag : (rule : Rule) (b : Bool) → rule.is_whitelist ≡ b → not b ≡ false → decision_of rule ≡ M.Ignore ignored.0 → ⊥
+    flag rule false e wrong is = cc wrong
+    flag rule true e right is =
+        let white : decision_of rule ≡ M.Whitelist rule = ap (λ b. cond b (M.Whitelist rule) (M.Ignore rule)) e in
+        cc (sym white ∙ is)
+
+    go : (o : Option Rule) → slice_get rules k ≡ o → ignores_at o ≡ false → ⊥
+    go None at known = slice_is_there rules k last.1 at
+    go (Some rule) at known =
+        let answers = last_answers rules text is_dir k rule at (last.2 rule at)
+        (λ i later less is. last.3 i later less (slice_get_within rules i later is) is) in
+        flag rule rule.is_whitelist refl known (sym answers ∙ ignored.1)
+
+-- the verdict of the answer is that of the known decider
+pub verdict_then : (rules : List Rule) (text : Chars) (is_dir : Bool) (k : Option ℕ) → IsLastOf rules 0 (length rules) text is_dir k
+    → verdict_by rules k ≡ verdict_of (list_answer rules text is_dir)
+verdict_then rules text is_dir None last =
+    ap verdict_of (sym (none_answers rules text is_dir (λ i rule at. last i rule (omega arith) (slice_get_within rules i rule at) at)))
+verdict_then rules text is_dir (Some k) last = go (slice_get rules k) refl
+  where
+    flag : (rule : Rule) (b : Bool) → rule.is_whitelist ≡ b → rule_verdict (Some rule) ≡ verdict_of (decision_of rule)
+    flag rule true e =
+        ap (λ b. cond b V.Whitelist V.Ignore) e ∙ ap verdict_of (sym (ap (λ b. cond b (M.Whitelist rule) (M.Ignore rule)) e))
+    flag rule false e =
+        ap (λ b. cond b V.Whitelist V.Ignore) e ∙ ap verdict_of (sym (ap (λ b. cond b (M.Whitelist rule) (M.Ignore rule)) e))
+
+    go : (o : Option Rule) → slice_get rules k ≡ o → rule_verdict (slice_get rules k) ≡ verdict_of (list_answer rules text is_dir)
+    go None at = absurd (slice_is_there rules k last.1 at)
+    go (Some rule) at =
+        let answers = last_answers rules text is_dir k rule at (last.2 rule at)
+        (λ i later less is. last.3 i later less (slice_get_within rules i later is) is) in
+        ap rule_verdict at ∙ (flag rule rule.is_whitelist refl ∙ ap verdict_of (sym answers))

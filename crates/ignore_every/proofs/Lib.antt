@@ -3,6 +3,7 @@ pub mod Walks
 pub mod Walked
 pub mod Closed
 pub mod Missing
+pub mod Agreeing
 pub mod Pairs
 pub mod Pushes
 pub mod Overruling

@@ -8,7 +8,8 @@ use Rattle.ignore_base.specs.Text.{Chars}
 use Rattle.ignore_rules.specs.Answer.{does_apply}
 use Rattle.ignore_rules.specs.Rules.{Rule}
 use Rattle.ignore_every.specs.Findings.{DecidesNever, IsShortest, Misses, MissesBefore, is_before}
-use Rattle.ignore_every.specs.Machines.{IsLastOf, Table, IsRightTable, IsAlphabet, IsClosed}
+use Rattle.ignore_every.specs.Machines.{IsLastOf}
+use Rattle.ignore_every.specs.Searches.{Scope, IsSoundSearch}
 use Rattle.ignore_every.specs.Questions.{IsAsked, Decides}
 use Rattle.ignore_every.specs.declared.place.Place.{Place}
 use Rattle.ignore_every.proofs.Closed.{asked_place}
@@ -34,39 +35,35 @@ only_decider rules text is_dir (Some j) index last decided = elim (cases_lt j in
 ]
 
 -- what is nearer is before the bound too
-nearer : (a b : ℕ) (bound : Option ℕ) → a ≤ b → is_before b bound ≡ true → is_before a bound ≡ true
+pub nearer : (a b : ℕ) (bound : Option ℕ) → a ≤ b → is_before b bound ≡ true → is_before a bound ≡ true
 nearer a b None le h = refl
 nearer a b (Some d) le h =
     let less : b < d = (Decides-ltb b d).0 h in (Decides-ltb a d).1 (omega (arith, le, less))
 
-pub missed : (reached : Bool) (rules : List Rule) (letters : List ℕ) (table : Table) (places : List Place)
-    → IsRightTable rules letters 0 (length rules) table → IsAlphabet rules letters → IsClosed reached rules letters table places
-    → (index : ℕ) (bound : Option ℕ) → MissesBefore table places index bound → (path : Chars) (is_dir : Bool)
-    → IsAsked reached rules path → Decides rules index path is_dir → is_before (length path) bound ≡ true → ⊥
-missed reached rules letters table places right alphabet closed index bound misses path is_dir asked decided near =
-    let here = asked_place reached rules letters table places right alphabet closed path asked in
-    let place = here.1 in
-    let is = here.3 in
-    let other = misses here.0 place here.2 is.named (nearer place.depth (length path) bound is.deep near) is_dir in
-    other.2 (only_decider rules path is_dir other.0 index (is.decides is_dir other.0 other.1) decided)
+module _ (scope : Scope) (places : List Place) (sound : IsSoundSearch scope places) (index : ℕ) where
+  missed : (bound : Option ℕ) → MissesBefore scope.left.table places index bound → (path : Chars) (is_dir : Bool)
+      → IsAsked scope.reached scope.left.rules path → Decides scope.left.rules index path is_dir → is_before (length path) bound ≡ true → ⊥
+  missed bound misses path is_dir asked decided near =
+      let here = asked_place scope places sound path asked in
+      let is = here.3 in
+      let missing : Misses scope.left.table (Some is.state) is_dir index =
+      subst (λ o. Misses scope.left.table o is_dir index) is.at
+      (misses here.0 here.1 here.2 is.named (nearer here.1.depth (length path) bound is.deep near) is_dir) in
+      missing.2 (only_decider scope.left.rules path is_dir missing.0 index (is.decides is_dir missing.0 missing.1) decided)
 
-module _ (reached : Bool) (rules : List Rule) (letters : List ℕ) (table : Table) (places : List Place)
-    (right : IsRightTable rules letters 0 (length rules) table) (alphabet : IsAlphabet rules letters)
-    (closed : IsClosed reached rules letters table places) (index : ℕ) where
-  pub never_from : MissesBefore table places index None → DecidesNever reached rules index
-  never_from misses path is_dir asked decided =
-      missed reached rules letters table places right alphabet closed index None misses path is_dir asked decided refl
+  pub never_from : MissesBefore scope.left.table places index None → DecidesNever scope.reached scope.left.rules index
+  never_from misses path is_dir asked decided = missed None misses path is_dir asked decided refl
 
-  pub shortest_from : (path text : Chars) (is_dir : Bool) → IsAsked reached rules path → path ≡ text → Decides rules index path is_dir
-      → MissesBefore table places index (Some (length text)) → IsShortest reached rules index path is_dir
+  pub shortest_from : (path text : Chars) (is_dir : Bool) → IsAsked scope.reached scope.left.rules path → path ≡ text
+      → Decides scope.left.rules index path is_dir → MissesBefore scope.left.table places index (Some (length text))
+      → IsShortest scope.reached scope.left.rules index path is_dir
   shortest_from path text is_dir asked same decided misses =
       record {
         asked = asked;
         decided = decided;
         least = λ other kind is decides. (let size : length path ≡ length text = ap length same in
             elim (cases_lt (length other) (length text)) [
-              | inl less ↦ absurd (missed reached rules letters table places right alphabet closed index (Some (length text)) misses other kind
-                  is decides ((Decides-ltb (length other) (length text)).1 less))
+              | inl less ↦ absurd (missed (Some (length text)) misses other kind is decides ((Decides-ltb (length other) (length text)).1 less))
               | inr more ↦ omega (arith, size, more)
             ]);
       }

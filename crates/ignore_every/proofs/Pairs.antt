@@ -1,5 +1,5 @@
 -- A table of pairs is right for the rules of both tables, and a table of sets for its rule.
-use Rattle.std.proofs.Common.{◌≡◌, ℕ, zero, suc, ◌+◌, ◌<◌, ◌≤◌, Bool, true, false, List, [], ◌∷◌, ◌++◌, Option, None, Some, slice_get, arith, refl}
+use Rattle.std.proofs.Common.{◌≡◌, ℕ, ◌+◌, ◌<◌, ◌≤◌, Bool, true, false, List, [], ◌∷◌, ◌++◌, Option, None, Some, slice_get, arith, refl}
 use Rattle.std.proofs.Common.{sym, ap, subst, ◌∙◌, cond, ltb, inl, inr}
 use Rattle.std.specs.Option.{option_or}
 use Rattle.std.proofs.lemmas.Bool.{cases_lt, cond_below, cond_above}
@@ -10,19 +10,7 @@ use Rattle.ignore_glob.specs.Reading.{Reading}
 use Rattle.ignore_rules.specs.Answer.{does_apply}
 use Rattle.ignore_rules.specs.Rules.{Rule}
 use Rattle.ignore_every.specs.Machines.{AreSetsAfter, IsLastOf, IsIn, HasTaking, Table, IsRight, IsRightTable, IsPairing, IsLeaf}
-
--- what is in a list is in it and another
-in_front : (xs ys : List ℕ) (i : ℕ) → IsIn xs i → IsIn (xs ++ ys) i
-in_front xs ys i has = (has.0, go xs has.0 has.1)
-  where
-    go : (xs : List ℕ) (j : ℕ) → slice_get xs j ≡ Some i → slice_get (xs ++ ys) j ≡ Some i
-    go [] j e = absurd (cc e)
-    go (x ∷ xs) zero e = e
-    go (x ∷ xs) (suc j) e = go xs j e
-
-in_back : (xs ys : List ℕ) (i : ℕ) → IsIn ys i → IsIn (xs ++ ys) i
-in_back [] ys i has = has
-in_back (x ∷ xs) ys i has = let later = in_back xs ys i has in (suc later.0, later.1)
+use Rattle.ignore_every.proofs.Pushes.{slice_get_front, slice_get_back}
 
 module _ (rules : List Rule) (low mid high : ℕ) (order : low ≤ mid) (more : mid ≤ high) where
   -- the sets of both
@@ -64,8 +52,8 @@ module _ (rules : List Rule) (low mid high : ℕ) (order : low ≤ mid) (more : 
   both_taking : (text : Chars) (x y : List ℕ) → HasTaking rules low mid text x → HasTaking rules mid high text y
       → HasTaking rules low high text (x ++ y)
   both_taking text x y left right i rule lo hi at takes = elim (cases_lt i mid) [
-    | inl h ↦ in_front x y i (left i rule lo h at takes)
-    | inr h ↦ in_back x y i (right i rule h hi at takes)
+    | inl h ↦ (let there = left i rule lo h at takes in (there.0, slice_get_front x y there.0 i there.1))
+    | inr h ↦ (let there = right i rule h hi at takes in slice_get_back x y there.0 i there.1)
   ]
 
   pub pairing_right : (letters : List ℕ) (left right table : Table) (parts : ℕ → ℕ × ℕ) → IsRightTable rules letters low mid left
@@ -167,3 +155,17 @@ two_right rules letters low a b c d high starts meet ends order more left right 
     let p2 : IsPairing left right' parts table = subst (λ x. IsPairing x right' parts table) same_left pairing in
     let p3 : IsPairing left right parts table = subst (λ x. IsPairing left x parts table) same_right p2 in
     pairing_right rules low b high order more letters left right table parts l2 r3 p3
+
+-- the table of no rules
+pub none_right : (rules : List Rule) (letters : List ℕ) (low high : ℕ) → low ≡ high → (table : Table)
+    → ((s : ℕ) (is_dir : Bool) (k : Option ℕ) → table.decider s is_dir ≡ Some k → k ≡ None) → IsRightTable rules letters low high table
+none_right rules letters low high same table undecided = (
+  λ s i. [],
+  record {
+    first = λ i rule lo hi at. absurd (omega (arith, lo, hi, same));
+    steps = λ s a t c goes at text all i rule lo hi is. absurd (omega (arith, lo, hi, same));
+    decides = λ s is_dir k is text all.
+        subst (λ o. IsLastOf rules low high text is_dir o) (sym (undecided s is_dir k is)) (λ i rule lo hi at. absurd (omega (arith, lo, hi, same)));
+    takes = λ s known is text all i rule lo hi at does. absurd (omega (arith, lo, hi, same));
+  },
+)

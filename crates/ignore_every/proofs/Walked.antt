@@ -111,16 +111,16 @@ module _ (reached : Bool) (rules : List Rule) where
           }
 
 -- where a path is cut that has one more character
-nothing_between : (xs : Chars) (c : ℕ) (ys : Chars) → xs ++ c ∷ ys ≡ [] → ⊥
+pub nothing_between : (xs : Chars) (c : ℕ) (ys : Chars) → xs ++ c ∷ ys ≡ [] → ⊥
 nothing_between [] c ys e = absurd (cc e)
 nothing_between (x ∷ xs) c ys e = absurd (cc e)
 
 -- the cut is before the last character, or earlier
-Cut : Chars → ℕ → Chars → Chars → Type 0
+unfoldable pub Cut : Chars → ℕ → Chars → Chars → Type 0
 Cut u c above below =
     ((c ≡ slash) × (u ≡ above)) ⊎ ((rest : Chars) × (u ≡ above ++ slash ∷ rest))
 
-last_cut : (u : Chars) (c : ℕ) (above below : Chars) → u ++ c ∷ [] ≡ above ++ slash ∷ below → Cut u c above below
+pub last_cut : (u : Chars) (c : ℕ) (above below : Chars) → u ++ c ∷ [] ≡ above ++ slash ∷ below → Cut u c above below
 unfolding Cut
 last_cut [] c [] below e = inl (cc e, refl)
 last_cut [] c (x ∷ above) below e =

@@ -1,5 +1,5 @@
 -- What is found of a rule: questions on which it decides, or that there are none.
-use Rattle.std.specs.Prelude.{◌≡◌, ◌≢◌, ◌≤◌, ℕ, Bool, true, false, List, ◌∷◌, ◌++◌, Option, None, Some, slice_get, length, nat_lt, not, ◌||◌}
+use Rattle.std.specs.Prelude.{◌≡◌, ◌≢◌, ◌≤◌, ℕ, Bool, true, false, List, ◌∷◌, ◌++◌, Option, None, Some, slice_get, length, nat_lt, not, ◌||◌, ⊤}
 use Rattle.std.specs.Prelude.{string_bytes}
 use Rattle.std.specs.Str.{chars}
 use Rattle.ignore_base.specs.Text.{Chars, slash}
@@ -62,9 +62,9 @@ pub record AreReasons (rules : List Rule) (index : ℕ) (named : List ℕ) : Typ
 -- where the rule may apply at this place of a name, one of these decides
 abbrev pub IsNamedAt : Table → Bool → ℕ → List ℕ → Place → Bool → Type 0
 IsNamedAt table only_dir index named place is_dir =
-    is_named place.name ≡ true → (not only_dir || is_dir) ≡ true
-    → (known : List ℕ) × (table.taking place.state ≡ Some known)
-    × (IsIn known index → (other : ℕ) × (table.decider place.state is_dir ≡ Some (Some other)) × IsIn named other)
+    (state : ℕ) → place.left ≡ Some state → is_named place.name ≡ true → (not only_dir || is_dir) ≡ true
+    → (known : List ℕ) × (table.taking state ≡ Some known)
+    × (IsIn known index → (other : ℕ) × (table.decider state is_dir ≡ Some (Some other)) × IsIn named other)
 
 -- so it is at each place
 abbrev pub AreNamed : Table → List Place → Bool → ℕ → List ℕ → Type 0
@@ -83,9 +83,10 @@ pub record AreRightFindings (rules : List Rule) (findings : List Finding) : Type
   pub each : length findings ≡ length rules
   pub right : (index : ℕ) (finding : Finding) → slice_get findings index ≡ Some finding → IsRightFinding rules index finding
 
--- the table knows a decider there, and it is another
-abbrev pub Misses : Table → ℕ → Bool → ℕ → Type 0
-Misses table state is_dir index = (k : Option ℕ) × (table.decider state is_dir ≡ Some k) × (k ≢ Some index)
+-- where there is a state, the table knows a decider there, and it is another
+abbrev pub Misses : Table → Option ℕ → Bool → ℕ → Type 0
+Misses table None is_dir index = ⊤
+Misses table (Some state) is_dir index = (k : Option ℕ) × (table.decider state is_dir ≡ Some k) × (k ≢ Some index)
 
 -- the depth is below the bound, where there is one
 abbrev pub is_before : ℕ → Option ℕ → Bool
@@ -96,7 +97,7 @@ is_before depth (Some bound) = nat_lt depth bound
 abbrev pub MissesAt : Table → List Place → ℕ → Option ℕ → ℕ → Type 0
 MissesAt table places index bound i =
     (place : Place) → slice_get places i ≡ Some place → is_named place.name ≡ true → is_before place.depth bound ≡ true
-    → (is_dir : Bool) → Misses table place.state is_dir index
+    → (is_dir : Bool) → Misses table place.left is_dir index
 
 -- so it is at each place
 abbrev pub MissesBefore : Table → List Place → ℕ → Option ℕ → Type 0

@@ -4,7 +4,11 @@ pub mod Machines
 pub mod Rows
 pub mod Sets
 pub mod Letters
+pub mod Searches
+pub mod Scopes
 pub mod Trees
 pub mod Findings
 pub mod Sound
 pub mod Verdicts
+pub mod Agreement
+pub mod Compared

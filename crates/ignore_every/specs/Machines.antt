@@ -1,6 +1,6 @@
--- Tables that go over all paths: states, each for the sets of positions that a path leads to.
+-- Tables that go over all texts: states, each for the sets of positions that a text leads to.
 use Rattle.std.specs.Prelude.{◌≡◌, ◌≢◌, ◌<◌, ◌≤◌, ◌↔◌, ◌==◌, ℕ, suc, Bool, true, false, List, [], ◌∷◌, ◌++◌, Option, None, Some, slice_get}
-use Rattle.std.specs.Prelude.{cond, not, ◌&&◌, ◌||◌, length}
+use Rattle.std.specs.Prelude.{cond, not, ◌&&◌, ◌||◌}
 use Rattle.std.specs.Option.{option_or}
 use Rattle.std.specs.Char.{IsScalar}
 use Rattle.ignore_base.specs.Text.{Chars, slash, is_slash}
@@ -9,9 +9,6 @@ use Rattle.ignore_glob.specs.DoesMatch.{does_match}
 use Rattle.ignore_glob.specs.Reading.{Reading}
 use Rattle.ignore_rules.specs.Answer.{does_apply}
 use Rattle.ignore_rules.specs.Rules.{Rule}
-use Rattle.ignore_every.specs.declared.place.NameStart.TheVariants.{Empty}
-use Rattle.ignore_every.specs.declared.place.Place.{Place}
-use Rattle.ignore_every.specs.Names.{name_after, is_named}
 
 -- for each rule from the first index up to the second, its set is the one that the text leads to
 abbrev pub AreSetsAfter : List Rule → ℕ → ℕ → (ℕ → List Bool) → Chars → Type 0
@@ -129,32 +126,7 @@ abbrev pub is_cut : List Rule → Option (Option ℕ) → Bool
 is_cut rules None = false
 is_cut rules (Some k) = ignores rules k
 
--- paths go on from here by this character: a slash follows a name only, and where only reached
--- paths are asked about, none that is ignored
-abbrev pub goes_on : Bool → List Rule → Table → Place → ℕ → Bool
-goes_on reached rules table place c =
-    cond (is_slash c) (is_named place.name && not (reached && is_cut rules (table.decider place.state true))) true
-
--- the place leads to another by the letter, at most one character deeper, where paths go on so
-abbrev pub IsClosedStep : Bool → List Rule → List ℕ → Table → List Place → ℕ → ℕ → Type 0
-IsClosedStep reached rules letters table places i a =
-    (here : Place) (c : ℕ) → slice_get places i ≡ Some here → slice_get letters a ≡ Some c
-    → goes_on reached rules table here c ≡ true
-    → (j : ℕ) × (there : Place) × (slice_get places j ≡ Some there) × (table.next here.state a ≡ Some there.state)
-    × (there.name ≡ name_after here.name c) × (there.depth ≤ suc here.depth)
-
--- The places are closed: the first is that of the empty path, and each leads to another by each
--- letter by which paths go on, at most one character deeper.
-pub record IsClosed (reached : Bool) (rules : List Rule) (letters : List ℕ) (table : Table) (places : List Place) : Type 0 where
-  pub root : Place
-  pub first : slice_get places 0 ≡ Some root
-  pub begins : (root.state ≡ 0) × (root.name ≡ Empty) × (root.depth ≡ 0)
-  pub steps : (i a : ℕ) → IsClosedStep reached rules letters table places i a
-
--- the place stands for the path: it is a name's, at most as deep as the path is long, and what the
--- table says of it is which rule decides there and which take the path
-pub record IsPlaceOf (rules : List Rule) (table : Table) (path : Chars) (place : Place) : Type 0 where
-  pub named : is_named place.name ≡ true
-  pub deep : place.depth ≤ length path
-  pub decides : (is_dir : Bool) (k : Option ℕ) → table.decider place.state is_dir ≡ Some k → IsLastOf rules 0 (length rules) path is_dir k
-  pub takes : (known : List ℕ) → table.taking place.state ≡ Some known → HasTaking rules 0 (length rules) path known
+-- the state, a directory, is known not to be ignored
+abbrev pub is_free : List Rule → Option (Option ℕ) → Bool
+is_free rules None = false
+is_free rules (Some k) = not (ignores rules k)

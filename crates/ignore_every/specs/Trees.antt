@@ -4,13 +4,14 @@ use Rattle.ignore_rules.specs.Rules.{Rule}
 use Rattle.ignore_every.specs.declared.row.Row.{Row}
 use Rattle.ignore_every.specs.declared.leaf.LeafRule.{LeafRule}
 use Rattle.ignore_every.specs.declared.node.Made.{Made}
-use Rattle.ignore_every.specs.declared.node.Made.TheVariants.{OfRule, OfTwo}
+use Rattle.ignore_every.specs.declared.node.Made.TheVariants.{OfNone, OfRule, OfTwo}
 use Rattle.ignore_every.specs.declared.node.Node.{Node}
 use Rattle.ignore_every.specs.Machines.{IsRightTable}
 use Rattle.ignore_every.specs.Rows.{table_of}
 
 -- the states of the table
 abbrev pub made_rows : Made → List Row
+made_rows (OfNone rows) = rows.items
 made_rows (OfRule leaf) = leaf.rows.items
 made_rows (OfTwo branch) = branch.pair.rows.items
 

@@ -1,5 +1,5 @@
-//! The letters of a list of rules: intervals of characters in which no test of a rule changes.
-ghost use Rattle.std.specs.Prelude.{◌≡◌, IfOk, map};
+//! The letters of lists of rules: intervals of characters in which no test of a rule changes.
+ghost use Rattle.std.specs.Prelude.{◌≡◌, ◌++◌, IfOk, map};
 ghost use Rattle.ignore_every.specs.Machines.{IsAlphabet};
 
 use crate::error::Error;
@@ -17,14 +17,23 @@ pub(crate) struct Alphabet {
     pub intervals: Vec<Interval>,
 }
 
-/// The automata of rules.
-fn automata_of(alloc: Global, rules: &[Glob]) -> Result<Vec<Automaton>, AllocError>
-    ensures { IfOk result (λ automata. automata.items ≡ map (λ rule. rule.reading) rules.now) }
+/// Adds the automata of rules.
+fn push_automata(automata: &mut Vec<Automaton>, rules: &[Glob]) -> Result<(), AllocError>
+    ensures { IfOk result (λ done. automata.new.items ≡ automata.old.items ++ map (λ rule. rule.reading) rules.now) }
 {
-    let mut automata = Vec::new(alloc);
     for rule in rules {
         automata.push(automaton(rule)?)?;
     }
+    Ok(())
+}
+
+/// The automata of two lists of rules.
+fn automata_of(alloc: Global, left: &[Glob], right: &[Glob]) -> Result<Vec<Automaton>, AllocError>
+    ensures { IfOk result (λ automata. automata.items ≡ map (λ rule. rule.reading) (left.now ++ right.now)) }
+{
+    let mut automata = Vec::new(alloc);
+    push_automata(&mut automata, left)?;
+    push_automata(&mut automata, right)?;
     Ok(automata)
 }
 
@@ -182,11 +191,11 @@ fn letters_of(
     Ok(letters)
 }
 
-/// The letters of rules.
-pub(crate) fn alphabet_of(alloc: Global, rules: &[Glob]) -> Result<Alphabet, Error>
-    ensures { IfOk result (λ alphabet. IsAlphabet rules.now alphabet.letters.items) }
+/// The letters of two lists of rules.
+pub(crate) fn alphabet_of(alloc: Global, left: &[Glob], right: &[Glob]) -> Result<Alphabet, Error>
+    ensures { IfOk result (λ alphabet. IsAlphabet (left.now ++ right.now) alphabet.letters.items) }
 {
-    let automata = automata_of(alloc, rules)?;
+    let automata = automata_of(alloc, left, right)?;
     let tests = tests_of(alloc, &automata)?;
     let cuts = cuts_of(alloc, &tests.ranges)?;
     let mut intervals = intervals_of(alloc, &cuts)?;

@@ -9,7 +9,7 @@ use crate::findings::Finding;
 use crate::grow::nodes_of;
 use crate::judge::{Judge, finding_of};
 use crate::nodes::root_rows;
-use crate::places::Search;
+use crate::places::{Search, Side};
 use crate::room::Room;
 use crate::trail::trail_of;
 use ignore_rules::gitignore::Gitignore;
@@ -59,16 +59,21 @@ impl Analysis {
             });
         }
         let mut room = Room::new(limit);
-        let alphabet = alphabet_of(alloc, rules.rules())?;
+        let (none, _) = rules.rules().split_at(0);
+        let alphabet = alphabet_of(alloc, rules.rules(), none)?;
         let nodes = nodes_of(alloc, rules.rules(), &alphabet.letters, &mut room)?;
         let Some(rows) = root_rows(rules.rules(), &alphabet.letters, &nodes)? else {
             return Err(Error::Rejected);
         };
         let search = Search {
             reached: true,
-            rules: rules.rules(),
+            both: false,
+            left: Side {
+                rules: rules.rules(),
+                rows,
+            },
+            right: Side { rules: none, rows },
             letters: &alphabet.letters,
-            rows,
         };
         let trail = trail_of(alloc, &search, &mut room)?;
         let reached = Judge {

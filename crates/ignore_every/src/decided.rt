@@ -52,7 +52,11 @@ pub(crate) fn decides(
 }
 
 /// The last rule that applies to a path.
-fn last_applying(rules: &[Glob], path: &str, is_dir: bool) -> Result<Option<usize>, AllocError> {
+pub(crate) fn last_applying(
+    rules: &[Glob],
+    path: &str,
+    is_dir: bool,
+) -> Result<Option<usize>, AllocError> {
     for index in (0..rules.len()).rev() {
         if applies_at(rules, index, path, is_dir)? {
             return Ok(Some(index));

@@ -279,7 +279,28 @@ fn node_of(
     })
 }
 
-/// The tables of a list of rules; the last one is of all rules, where there are any.
+/// The table of no rules: its one state leads to itself.
+fn none_of(alloc: Global, letters: &[char], room: &mut Room) -> Result<Node, Error> {
+    room.take()?;
+    let mut next = Vec::new(alloc);
+    for _ in letters {
+        next.push(Some(0))?;
+    }
+    let mut rows = Vec::new(alloc);
+    rows.push(Row {
+        next,
+        file: None,
+        dir: None,
+        taking: Vec::new(alloc),
+    })?;
+    Ok(Node {
+        low: 0,
+        high: 0,
+        made: Made::OfNone(rows),
+    })
+}
+
+/// The tables of a list of rules; the last one is of all rules.
 pub(crate) fn nodes_of(
     alloc: Global,
     rules: &[Glob],
@@ -290,6 +311,9 @@ pub(crate) fn nodes_of(
         nodes: Vec::new(alloc),
         open: Vec::new(alloc),
     };
+    if rules.is_empty() {
+        grown.push(none_of(alloc, letters, room)?)?;
+    }
     for (index, glob) in rules.iter().enumerate() {
         let node = node_of(alloc, index, glob, letters, room)?;
         grown.push(node)?;

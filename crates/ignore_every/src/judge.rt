@@ -46,7 +46,7 @@ impl<'a> Judge<'a> {
         }
         if !all_miss(
             &self.trail.places,
-            self.search.rows,
+            self.search.left.rows,
             index,
             Some(text.len()),
         ) {
@@ -62,8 +62,8 @@ impl<'a> Judge<'a> {
             (λ question. IsShortest self.now.search.reached self.now.rules.now.rules index (chars (string_bytes question.path))
             question.is_dir)) }
     {
-        let Some((place, is_dir)) = self.trail.first_decided(self.search.rows, index) else {
-            if !all_miss(&self.trail.places, self.search.rows, index, None) {
+        let Some((place, is_dir)) = self.trail.first_decided(self.search.left.rows, index) else {
+            if !all_miss(&self.trail.places, self.search.left.rows, index, None) {
                 return Err(Error::Rejected);
             }
             return Ok(None);
@@ -117,9 +117,10 @@ impl<'a> Judge<'a> {
     {
         let search = Search {
             reached: false,
-            rules: self.search.rules,
+            both: self.search.both,
+            left: self.search.left,
+            right: self.search.right,
             letters: self.search.letters,
-            rows: self.search.rows,
         };
         match trail_of(self.alloc, &search, room) {
             Ok(trail) => Ok(Some(Judge {
@@ -136,7 +137,11 @@ impl<'a> Judge<'a> {
     /// Whether each rule decides at some place.
     pub(crate) fn are_all_decided(&self) -> bool {
         for index in 0..self.rules.len() {
-            if self.trail.first_decided(self.search.rows, index).is_none() {
+            if self
+                .trail
+                .first_decided(self.search.left.rows, index)
+                .is_none()
+            {
                 return false;
             }
         }

@@ -1,6 +1,7 @@
 //! Rules over all paths: what is so whatever a tree holds.
 #![tactic(auto)]
 
+mod agree;
 mod alphabet;
 mod analysis;
 mod asked;
@@ -23,6 +24,7 @@ mod reasons;
 mod room;
 mod row;
 mod said;
+mod sayings;
 mod trail;
 
 pub use analysis::Analysis;

@@ -8,10 +8,13 @@ use crate::place::Place;
 use crate::places::place_at;
 use crate::row::{Row, decider_of};
 
-/// Whether the table knows a decider there, and it is another.
-fn misses(rows: &[Row], state: usize, is_dir: bool, index: usize) -> bool
+/// Whether the table knows a decider there, and it is another; so it is where there is no state.
+fn misses(rows: &[Row], state: Option<usize>, is_dir: bool, index: usize) -> bool
     ensures { IsTrue result → Misses (table_of rows.now) state is_dir index }
 {
+    let Some(state) = state else {
+        return true;
+    };
     let Some(decider) = decider_of(rows, state, is_dir) else {
         return false;
     };
@@ -22,7 +25,7 @@ fn misses(rows: &[Row], state: usize, is_dir: bool, index: usize) -> bool
 }
 
 /// Whether a depth is below the bound, where there is one.
-fn is_before(depth: usize, bound: Option<usize>) -> bool
+pub(crate) fn is_before(depth: usize, bound: Option<usize>) -> bool
     ensures { result ≡ is_before depth bound }
 {
     match bound {
@@ -35,15 +38,15 @@ fn is_before(depth: usize, bound: Option<usize>) -> bool
 /// name's or isn't before the bound.
 fn place_misses(rows: &[Row], place: &Place, index: usize, bound: Option<usize>) -> bool
     ensures { IsTrue result → is_named place.now.name ≡ true → is_before place.now.depth bound ≡ true
-        → (is_dir : Bool) → Misses (table_of rows.now) place.now.state is_dir index }
+        → (is_dir : Bool) → Misses (table_of rows.now) place.now.left is_dir index }
 {
     if !place.name.is_named() || !is_before(place.depth, bound) {
         return true;
     }
-    if !misses(rows, place.state, false, index) {
+    if !misses(rows, place.left, false, index) {
         return false;
     }
-    misses(rows, place.state, true, index)
+    misses(rows, place.left, true, index)
 }
 
 /// Whether so it is at the place with this number, if there is one.

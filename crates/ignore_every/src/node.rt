@@ -20,6 +20,8 @@ pub struct Node {
 /// A table, with what it is made of.
 #[derive(Drop)]
 pub enum Made {
+    /// A table of no rules.
+    OfNone(Vec<Row>),
     /// The table of one rule.
     OfRule(Leaf),
     /// The table of the rules of two tables.
@@ -43,6 +45,7 @@ impl Node {
         ensures { result.now ≡ made_rows self.now.made }
     {
         match &self.made {
+            Made::OfNone(rows) => rows.as_slice(),
             Made::OfRule(leaf) => leaf.rows.as_slice(),
             Made::OfTwo(branch) => branch.pair.rows.as_slice(),
         }

@@ -1,14 +1,14 @@
 //! Whether tables are right, each by those before it.
-ghost use Rattle.std.specs.Prelude.{◌≡◌, ℕ, List, IsTrue, IfOk, IfSome, Some, length, slice_get};
+ghost use Rattle.std.specs.Prelude.{◌≡◌, ℕ, List, IsTrue, IfOk, IfSome, None, Some, false, length, slice_get, true};
 ghost use Rattle.ignore_rules.specs.Rules.{Rule};
 ghost use Rattle.ignore_every.specs.Machines.{IsRightTable};
-ghost use Rattle.ignore_every.specs.Rows.{table_of};
+ghost use Rattle.ignore_every.specs.Rows.{decider_of, table_of};
 ghost use Rattle.ignore_every.specs.Trees.{AreRightBelow, IsRightNode, IsRuleAt};
 
 use crate::leaf::{Leaf, LeafRule};
 use crate::node::{Branch, Made, Node};
 use crate::pair::Pair;
-use crate::row::Row;
+use crate::row::{Row, decider_of};
 use ignore_rules::gitignore::Glob;
 use ignore_rules::internal::automaton;
 use std::alloc::AllocError;
@@ -28,6 +28,32 @@ fn rule_at(rules: &[Glob], index: usize) -> Result<Option<LeafRule>, AllocError>
         }
         None => Ok(None),
     }
+}
+
+/// Whether no rule decides at the first state for a kind of entry.
+fn is_undecided(rows: &[Row], is_dir: bool) -> bool
+    ensures { IsTrue result → decider_of rows.now 0 is_dir ≡ Some None }
+{
+    match decider_of(rows, 0, is_dir) {
+        Some(decider) => decider.is_none(),
+        None => false,
+    }
+}
+
+/// Whether a table is right for no rules: it has one state, and there no rule decides.
+fn is_none_right(low: usize, high: usize, rows: &[Row]) -> bool
+    ensures { IsTrue result → (rules : List Rule) (letters : List ℕ) → IsRightTable rules letters low high (table_of rows.now) }
+{
+    if low != high {
+        return false;
+    }
+    if rows.len() > 1 {
+        return false;
+    }
+    if !is_undecided(rows, false) {
+        return false;
+    }
+    is_undecided(rows, true)
 }
 
 /// Whether a table of sets is right for the rule of its index.
@@ -116,6 +142,7 @@ fn is_node_right(
         → IsRightNode rules.now letters.now node.now) }
 {
     match &node.made {
+        Made::OfNone(rows) => Ok(is_none_right(node.low, node.high, rows)),
         Made::OfRule(leaf) => is_leaf_right(rules, letters, node.low, node.high, leaf),
         Made::OfTwo(branch) => Ok(is_branch_right(nodes, number, node.low, node.high, branch)),
     }

@@ -50,8 +50,10 @@ impl NameStart {
 /// One place of a search: paths that all rules go on from alike.
 #[derive(Debug, Clone, Copy, Drop)]
 pub struct Place {
-    /// The state of the table of all rules.
-    pub state: usize,
+    /// The state of the table of the first list, unless it isn't asked below here.
+    pub left: Option<usize>,
+    /// The state of the table of the second list, unless it isn't asked below here.
+    pub right: Option<usize>,
     /// How the present name begins.
     pub name: NameStart,
     /// At least so many characters lead here.

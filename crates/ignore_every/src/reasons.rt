@@ -53,13 +53,16 @@ impl<'a> Named<'a> {
         if self.is_only_dir && !is_dir {
             return true;
         }
-        let Some(known) = taking_of(self.rows, place.state) else {
+        let Some(state) = place.left else {
+            return true;
+        };
+        let Some(known) = taking_of(self.rows, state) else {
             return false;
         };
         if !is_in(known, self.index) {
             return true;
         }
-        let Some(decider) = decider_of(self.rows, place.state, is_dir) else {
+        let Some(decider) = decider_of(self.rows, state, is_dir) else {
             return false;
         };
         match decider {
@@ -93,6 +96,17 @@ impl<'a> Named<'a> {
             }
         }
         true
+    }
+}
+
+/// The state of a place of a name that the glob of a rule takes, if it does.
+fn taken_state(rows: &[Row], place: &Place, index: usize) -> Option<usize> {
+    let state = place.left?;
+    let known = taking_of(rows, state)?;
+    if place.name.is_named() && is_in(known, index) {
+        Some(state)
+    } else {
+        None
     }
 }
 
@@ -133,25 +147,21 @@ impl<'a> Judge<'a> {
         let Some(rule) = self.rules.rules().get(index) else {
             return Ok(firsts);
         };
-        let rows = self.search.rows;
+        let rows = self.search.left.rows;
         for (number, place) in self.trail.places.iter().enumerate() {
-            let is_taken = match taking_of(rows, place.state) {
-                Some(known) => place.name.is_named() && is_in(known, index),
-                None => false,
-            };
-            if !is_taken {
+            let Some(state) = taken_state(rows, place, index) else {
                 continue;
-            }
+            };
             let mut found = Candidate {
                 other: index,
                 place: number,
                 is_dir: false,
             };
             if !rule.is_only_dir() {
-                keep_first(&mut firsts, decider_of(rows, place.state, false), found);
+                keep_first(&mut firsts, decider_of(rows, state, false), found);
             }
             found.is_dir = true;
-            keep_first(&mut firsts, decider_of(rows, place.state, true), found);
+            keep_first(&mut firsts, decider_of(rows, state, true), found);
         }
         Ok(firsts)
     }
@@ -213,7 +223,7 @@ impl<'a> Judge<'a> {
             return false;
         };
         let named = Named {
-            rows: self.search.rows,
+            rows: self.search.left.rows,
             index,
             is_only_dir,
             named,

@@ -1,13 +1,13 @@
 //! The places of a search, breadth first. What is found here is checked afterwards.
 ghost use Rattle.std.specs.Prelude.{IfOk};
-ghost use Rattle.ignore_every.specs.Machines.{IsClosed};
-ghost use Rattle.ignore_every.specs.Rows.{table_of};
+ghost use Rattle.ignore_every.specs.Scopes.{scope_of};
+ghost use Rattle.ignore_every.specs.Searches.{IsClosed};
 
 use crate::error::Error;
 use crate::place::{NameStart, Place};
 use crate::places::Search;
 use crate::room::Room;
-use crate::row::{Row, decider_of, is_some_of, next_of};
+use crate::row::{Row, decider_of, is_some_of};
 use std::alloc::{AllocError, Global};
 use std::collections::HashMap;
 
@@ -25,7 +25,8 @@ pub struct Trail {
 /// What tells two places apart.
 #[derive(Clone, Copy, PartialEq, Eq, Hash, Drop)]
 struct Key {
-    state: usize,
+    left: Option<usize>,
+    right: Option<usize>,
     name: NameStart,
 }
 
@@ -45,7 +46,8 @@ impl Found {
         room: &mut Room,
     ) -> Result<usize, Error> {
         let key = Key {
-            state: place.state,
+            left: place.left,
+            right: place.right,
             name: place.name,
         };
         if let Some(number) = self.numbers.get(&key) {
@@ -70,11 +72,9 @@ impl Found {
         if !search.goes_on(&here.1, letter.1) {
             return Ok(usize::MAX);
         }
-        let Some(state) = next_of(search.rows, here.1.state, letter.0) else {
-            return Err(Error::Rejected);
-        };
         let place = Place {
-            state,
+            left: search.left.step(search.reached, here.1.left, letter)?,
+            right: search.right.step(search.reached, here.1.right, letter)?,
             name: here.1.name.after(letter.1),
             depth: here.1.depth.saturating_add(1),
         };
@@ -93,7 +93,8 @@ fn found_by(alloc: Global, search: &Search<'_>, room: &mut Room) -> Result<Trail
         numbers: HashMap::new(alloc),
     };
     let root = Place {
-        state: 0,
+        left: Some(0),
+        right: search.start(),
         name: NameStart::Empty,
         depth: 0,
     };
@@ -114,8 +115,7 @@ fn found_by(alloc: Global, search: &Search<'_>, room: &mut Room) -> Result<Trail
 
 /// All places of a search, which are closed.
 pub(crate) fn trail_of(alloc: Global, search: &Search<'_>, room: &mut Room) -> Result<Trail, Error>
-    ensures { IfOk result (λ trail. IsClosed search.now.reached search.now.rules.now search.now.letters.now
-        (table_of search.now.rows.now) trail.places.items) }
+    ensures { IfOk result (λ trail. IsClosed (scope_of search.now) trail.places.items) }
 {
     let trail = found_by(alloc, search, room)?;
     if !search.is_closed(&trail.places, &trail.next) {
@@ -126,7 +126,10 @@ pub(crate) fn trail_of(alloc: Global, search: &Search<'_>, room: &mut Room) -> R
 
 /// Whether a rule decides at a place for a kind of entry.
 fn is_decided(rows: &[Row], place: &Place, is_dir: bool, index: usize) -> bool {
-    match decider_of(rows, place.state, is_dir) {
+    let Some(state) = place.left else {
+        return false;
+    };
+    match decider_of(rows, state, is_dir) {
         Some(decider) => is_some_of(decider, index),
         None => false,
     }

@@ -2,5 +2,4 @@ use Rattle.ignore_every.proofs.Closed.{asked_place}
 use Rattle.ignore_every.proofs.laws.a_closed_search_misses_nothing.Goals as goal
 
 pub returns : goal.returns
-returns c reached rules letters table places right alphabet closed path asked =
-    asked_place reached rules letters table places right alphabet closed path asked
+returns c scope places sound path asked = asked_place scope places sound path asked

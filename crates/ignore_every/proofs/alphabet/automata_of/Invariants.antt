@@ -1,7 +1,0 @@
-use Rattle.std.proofs.Common.{◌≡◌, map, take}
-use Rattle.ignore_rules.specs.Rules.{Rule}
-use Rattle.ignore_every.proofs.alphabet.automata_of.Given as goal
-
--- the automata of the rules before
-abbrev pub invariant-loop-rule : goal.invariant-loop-rule
-invariant-loop-rule l = l.automata.items ≡ map (λ (rule : Rule). rule.reading) (take l.rule-index l.rules)
