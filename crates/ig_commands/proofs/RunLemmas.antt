@@ -23,6 +23,7 @@ ends_none files f env o first command.Ignored input out err stop h = inr h
 ends_none files f env o first command.Why input out err stop h = inr h
 ends_none files f env o first command.Unused input out err stop h = inr h
 ends_none files f env o first command.Lint input out err stop h = tt
+ends_none files f env o first command.LintJson input out err stop h = tt
 ends_none files f env o first command.Same input out err stop h = inl (inl h)
 ends_none files f env o first command.Types input out err stop h = h
 

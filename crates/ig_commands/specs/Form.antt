@@ -79,18 +79,18 @@ is_decided (decided said) = is_match said
 is_decided (larger size most) = true
 is_decided (inside dir said) = is_match said
 
--- the first two of three fields that no rule has: they are empty
-abbrev pub no_rule : Bool → Bytes
-no_rule null = between null ++ between null
-
 -- three fields without a rule: the last is the word of what decides, or empty
 abbrev pub word_fields : Bool → QueryWhy → Bytes
-word_fields null why = no_rule null ++ (if is_decided why then query_why_text why else [])
+word_fields null why = between null ++ (between null ++ (if is_decided why then query_why_text why else []))
 
 -- the three fields of what decides
 abbrev pub reason_fields : Option Path → Bool → QueryWhy → Option Named → Bytes
 reason_fields base null why None = word_fields null why
 reason_fields base null why (Some rule) = rule_fields base null (unwrap_or rule.from []) rule.line rule.original
+
+-- the first two of three fields that no rule has: they are empty
+abbrev pub no_rule : Bool → Bytes
+no_rule null = between null ++ between null
 
 -- a path after what is said of it
 abbrev pub after_path : Bool → Path → Bytes
@@ -99,4 +99,4 @@ after_path null path = before_path null ++ (field null path ++ at_end null)
 -- a path after its reason
 abbrev pub reasoned : Option Path → Bool → QueryWhy → Path → Bytes
 reasoned base null why path =
-    reason_fields base null why (rule_of why) ++ after_path null path
+    reason_fields base null why (rule_of why) ++ (before_path null ++ (field null path ++ at_end null))

@@ -33,6 +33,7 @@ Does files f env o first command.Ignored input status out err = IgnoredAsked fil
 Does files f env o first command.Why input status out err = WhyAsked files f env o first status out err
 Does files f env o first command.Unused input status out err = UnusedAsked files f env o first status out err
 Does files f env o first command.Lint input status out err = IsLintStatus status
+Does files f env o first command.LintJson input status out err = IsLintStatus status
 Does files f env o first command.Same input status out err = SameAsked files f o input status out err
 Does files f env o first command.Types input status out err = ListsTypes o.type_add first status out err
 
@@ -43,6 +44,7 @@ Ends files f env o first command.Ignored input out err stop = IgnoredEnds files 
 Ends files f env o first command.Why input out err stop = WhyEnds files f env o first out err stop
 Ends files f env o first command.Unused input out err stop = UnusedEnds files f env o first out err stop
 Ends files f env o first command.Lint input out err stop = ⊤
+Ends files f env o first command.LintJson input out err stop = ⊤
 Ends files f env o first command.Same input out err stop = SameEnds files f o input out err stop
 Ends files f env o first command.Types input out err stop = EndsAfter [] [] out err stop
 

@@ -105,25 +105,9 @@ pub(crate) fn write_reasoned<W: Write>(
         Some(rule) => write_rule(form, &origin_of(rule), out)?,
         None => write_word(form, &explanation.reason, out)?,
     }
-    write_after(form, path, out)
-}
-
-/// Writes a path after what is said of it.
-pub(crate) fn write_after<W: Write>(form: Form<'_>, path: &str, out: &mut W) -> Result<(), Stop>
-    ensures writes { OnOk result (Appends (W.contents out.old) (W.contents out.new) (after_path form.entry.null path.now)) }
-    ensures ended { IfErr result IsUnwritten }
-{
-    write_before(form, out)?;
+    write_bytes(if form.null { b"\0" } else { b"\t" }, out)?;
     write_text(form, path, out)?;
     write_bytes(if form.null { b"\0" } else { b"\n" }, out)
-}
-
-/// Writes what separates a path from what is said of it.
-pub(crate) fn write_before<W: Write>(form: Form<'_>, out: &mut W) -> Result<(), Stop>
-    ensures writes { OnOk result (Appends (W.contents out.old) (W.contents out.new) (before_path form.entry.null)) }
-    ensures ended { IfErr result IsUnwritten }
-{
-    write_bytes(if form.null { b"\0" } else { b"\t" }, out)
 }
 
 /// Writes the three fields of a rule: its source, the number of its line, and the rule.
@@ -148,7 +132,8 @@ fn write_word<W: Write>(form: Form<'_>, reason: &Reason, out: &mut W) -> Result<
     ensures writes { OnOk result (Appends (W.contents out.old) (W.contents out.new) (word_fields form.entry.null (query_why_of reason.now))) }
     ensures ended { IfErr result IsUnwritten }
 {
-    write_no_rule(form, out)?;
+    write_between(form, out)?;
+    write_between(form, out)?;
     if !is_decided(reason) {
         return Ok(());
     }
@@ -165,6 +150,24 @@ pub(crate) fn write_no_rule<W: Write>(form: Form<'_>, out: &mut W) -> Result<(),
 {
     write_between(form, out)?;
     write_between(form, out)
+}
+
+/// Writes a path after what is said of it.
+pub(crate) fn write_after<W: Write>(form: Form<'_>, path: &str, out: &mut W) -> Result<(), Stop>
+    ensures writes { OnOk result (Appends (W.contents out.old) (W.contents out.new) (after_path form.entry.null path.now)) }
+    ensures ended { IfErr result IsUnwritten }
+{
+    write_before(form, out)?;
+    write_text(form, path, out)?;
+    write_bytes(if form.null { b"\0" } else { b"\n" }, out)
+}
+
+/// Writes what separates a path from what is said of it.
+pub(crate) fn write_before<W: Write>(form: Form<'_>, out: &mut W) -> Result<(), Stop>
+    ensures writes { OnOk result (Appends (W.contents out.old) (W.contents out.new) (before_path form.entry.null)) }
+    ensures ended { IfErr result IsUnwritten }
+{
+    write_bytes(if form.null { b"\0" } else { b"\t" }, out)
 }
 
 /// Writes what separates the three fields of a rule.

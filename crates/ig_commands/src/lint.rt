@@ -41,11 +41,55 @@ pub(crate) fn lint_files<F: Files, W: Write, E: Write>(
 ) -> Result<u8, Stop>
     ensures status { IfOk result IsLintStatus }
 {
-    if options.paths.is_empty() {
-        return lint_below(world, options, first, out, err);
+    let how = How {
+        options,
+        json: false,
+    };
+    lint_by(world, how, first, out, err)
+}
+
+/// The same, as objects of JSON, a line each.
+///
+/// # Errors
+/// Why it ended early, of which nothing was reported.
+pub(crate) fn lint_json<F: Files, W: Write, E: Write>(
+    world: &World<'_, F>,
+    options: &Options,
+    first: TypesBuilder,
+    out: &mut W,
+    err: &mut E,
+) -> Result<u8, Stop>
+    ensures status { IfOk result IsLintStatus }
+{
+    let how = How {
+        options,
+        json: true,
+    };
+    lint_by(world, how, first, out, err)
+}
+
+/// By which options files are looked at, and whether what is wrong is written as JSON.
+#[derive(Clone, Copy)]
+struct How<'o> {
+    options: &'o Options,
+    json: bool,
+}
+
+/// Writes what is wrong with the files that are given, or met.
+fn lint_by<F: Files, W: Write, E: Write>(
+    world: &World<'_, F>,
+    how: How<'_>,
+    first: TypesBuilder,
+    out: &mut W,
+    err: &mut E,
+) -> Result<u8, Stop>
+    ensures { IfOk result IsLintStatus }
+{
+    if how.options.paths.is_empty() {
+        return lint_below(world, how, first, out, err);
     }
-    match given_paths(world.alloc, options) {
-        Ok(paths) => lint_all(world, options, &paths, out, err),
+    match given_paths(world.alloc, how.options) {
+        Ok(paths) => lint_all(world, how, &paths, out, err),
         Err(_) => Err(Stop::Memory),
     }
 }
@@ -64,18 +108,14 @@ fn given_paths(alloc: Global, options: &Options) -> Result<Vec<Name>, AllocError
 /// Writes what is wrong with each of these files. It returns the status.
 fn lint_all<F: Files, W: Write, E: Write>(
     world: &World<'_, F>,
-    options: &Options,
+    how: How<'_>,
     paths: &[Name],
     out: &mut W,
     err: &mut E,
 ) -> Result<u8, Stop>
     ensures { IfOk result IsLintStatus }
 {
-    let all = Linting {
-        world,
-        options,
-        paths,
-    };
+    let all = Linting { world, how, paths };
     let mut counts = Counts::begun(0);
     for path in paths {
         counts = counts.and(lint_file(&all, path.as_str(), out, err)?);
@@ -83,11 +123,11 @@ fn lint_all<F: Files, W: Write, E: Write>(
     Ok(status_by(counts))
 }
 
-/// Which files are looked at, and by which options.
+/// Which files are looked at, and how.
 #[derive(Drop)]
 struct Linting<'l, 'w, F: Files> {
     world: &'l World<'w, F>,
-    options: &'l Options,
+    how: How<'l>,
     paths: &'l [Name],
 }
 
@@ -105,20 +145,20 @@ fn status_by(counts: Counts) -> u8
 /// Writes what is wrong with each file of rules that is met at or below the working directory.
 fn lint_below<F: Files, W: Write, E: Write>(
     world: &World<'_, F>,
-    options: &Options,
+    how: How<'_>,
     first: TypesBuilder,
     out: &mut W,
     err: &mut E,
 ) -> Result<u8, Stop>
     ensures { IfOk result IsLintStatus }
 {
-    let asked = match asked_met(world, options, first) {
+    let asked = match asked_met(world, how.options, first) {
         Ok(asked) => asked,
         Err(error) => return refuse_or_end(&error, err),
     };
     let mut paths = Vec::new(world.alloc);
-    let reported = find_files(world, options, asked, &mut paths, err)?;
-    let status = lint_all(world, options, &paths, out, err)?;
+    let reported = find_files(world, how.options, asked, &mut paths, err)?;
+    let status = lint_all(world, how, &paths, out, err)?;
     Ok(if reported > 0 { 2 } else { status })
 }
 
@@ -242,7 +282,7 @@ fn lint_contents<F: Files, W: Write, E: Write>(
     out: &mut W,
     err: &mut E,
 ) -> Result<Counts, Stop> {
-    let Ok(linted) = lint(all.world.alloc, all.options, path, contents) else {
+    let Ok(linted) = lint(all.world.alloc, all.how.options, path, contents) else {
         return Err(Stop::Memory);
     };
     let mut counts = Counts::begun(0);
@@ -266,7 +306,7 @@ fn write_told<F: Files, W: Write>(
 ) -> Result<bool, Stop> {
     match is_mended(all, path, diagnostic) {
         Ok(false) => {
-            write_found(all.world.alloc, all.options, path, diagnostic, out)?;
+            write_found(all.world.alloc, all.how, path, diagnostic, out)?;
             Ok(true)
         }
         Ok(true) => Ok(false),
@@ -282,7 +322,7 @@ fn is_mended<F: Files>(
 ) -> Result<bool, Error> {
     match &diagnostic.wrong {
         Wrong::InFolders(folder, _) => {
-            is_reincluded(all.world, all.options, all.paths, path, folder.as_str())
+            is_reincluded(all.world, all.how.options, all.paths, path, folder.as_str())
         }
         _ => Ok(false),
     }
@@ -322,28 +362,26 @@ fn report_fault<E: Write>(path: &str, fault: Fault, err: &mut E) -> Result<(), S
 /// Writes what is wrong with a line of a file, unless nothing is to be written.
 fn write_found<W: Write>(
     alloc: Global,
-    options: &Options,
+    how: How<'_>,
     path: &str,
     found: &Diagnostic,
     out: &mut W,
 ) -> Result<(), Stop> {
-    if options.quiet {
+    let null = how.options.null;
+    if how.options.quiet {
         return Ok(());
     }
-    if options.json {
+    if how.json {
         let Ok(text) = json_of(alloc, path, found) else {
             return Err(Stop::Memory);
         };
         write_bytes(text.as_str().as_bytes(), out)?;
-        return write_bytes(if options.null { b"\0" } else { b"\n" }, out);
+        return write_bytes(if null { b"\0" } else { b"\n" }, out);
     }
     let Ok(text) = text_of(alloc, &found.wrong) else {
         return Err(Stop::Memory);
     };
-    let form = Form {
-        base: None,
-        null: options.null,
-    };
+    let form = Form { base: None, null };
     write_fields(form, path, found, text.as_str(), out)
 }
 

@@ -10,7 +10,7 @@ ghost use Rattle.ig_options.specs.declared.options.Options.{Options};
 use crate::asking::{check_options, default_types};
 use crate::ignored::list_ignored;
 use crate::input::why_input;
-use crate::lint::lint_files;
+use crate::lint::{lint_files, lint_json};
 use crate::listing::list;
 use crate::same::same;
 use crate::stop::{Stop, report_stop};
@@ -260,6 +260,7 @@ fn run_task<F: Files, R: BufRead + Drop, W: Write, E: Write>(
         Task::Why => why(world, options, first, out, err),
         Task::Unused => list_unused(world, options, first, out, err),
         Task::Lint => lint_files(world, options, first, out, err),
+        Task::LintJson => lint_json(world, options, first, out, err),
         Task::Same => same(world, options, input, out, err),
         Task::Types => list_types(first, options, out, err),
     }

@@ -30,8 +30,6 @@ pub struct Options {
     pub links: bool,
     /// `-0`, and `-z` of `why`: a path ends in NUL, and not in a newline.
     pub null: bool,
-    /// `--json` of `lint`: each line of the output is an object of JSON.
-    pub json: bool,
     /// `-q`: nothing is written to the output.
     pub quiet: bool,
     /// `--stats`: counts are reported at the end.
@@ -110,7 +108,6 @@ impl Options {
             dirs: false,
             links: false,
             null: false,
-            json: false,
             quiet: false,
             stats: false,
             no_messages: false,

@@ -28,6 +28,8 @@ pub enum Task {
     Unused,
     /// `lint`: what is wrong with files of rules.
     Lint,
+    /// `lint --json`: the same, as objects of JSON.
+    LintJson,
     /// `same`: whether two files of rules say the same.
     Same,
     /// `types`: the file types and their globs.
@@ -175,6 +177,9 @@ pub fn read_words(alloc: Global, words: &[String]) -> Result<(Task, Options), Er
     if matches.get_flag("type-list") {
         return Ok((Task::Types, options));
     }
+    if matches.get_flag("json") {
+        return Ok((Task::LintJson, options));
+    }
     match wrong_of(task, &options, &matches) {
         Some((kind, text)) => Err(command.error(kind, text)?),
         None => Ok((task, options)),
@@ -304,7 +309,7 @@ fn command_of<'a>(alloc: Global, task: Task) -> Result<Command<'a>, AllocError> 
         Task::Ignored => ignored_command(alloc),
         Task::Why => why_command(alloc),
         Task::Unused => unused_command(alloc),
-        Task::Lint => lint_command(alloc),
+        Task::Lint | Task::LintJson => lint_command(alloc),
         Task::Same => same_command(alloc),
         Task::Types => types_command(alloc),
     }
@@ -568,7 +573,6 @@ fn read_kinds(options: &mut Options, matches: &ArgMatches<'_>) {
     options.stdin = matches.get_flag("stdin");
     options.only_ignored = matches.get_flag("only-ignored") || matches.get_flag("ignored");
     options.reasons = matches.get_flag("verbose");
-    options.json = matches.get_flag("json");
     options.quiet = matches.get_flag("quiet");
     options.stats = matches.get_flag("stats");
     options.no_messages = matches.get_flag("no-messages");
