@@ -16,6 +16,7 @@ pub mod RepositoryLemmas
 pub mod RootLemmas
 pub mod RuleLemmas
 pub mod RunLemmas
+pub mod SameLemmas
 pub mod ShownLemmas
 pub mod StopLemmas
 pub mod SurveyLemmas

@@ -286,32 +286,35 @@ fn lint_contents<F: Files, W: Write, E: Write>(
         return Err(Stop::Memory);
     };
     let mut counts = Counts::begun(0);
-    for diagnostic in &linted.found {
-        let found = write_told(all, path, diagnostic, out)?;
-        counts = counts.with(Seen {
-            reported: false,
-            found,
-        });
+    for diagnostic in &linted.lines {
+        counts = counts.with(write_told(all, path, diagnostic, out)?);
+    }
+    for judged in &linted.rules {
+        if let Some(diagnostic) = judged {
+            counts = counts.with(write_told(all, path, diagnostic, out)?);
+        }
     }
     let reported = report_wanting(path, contents.fault, &linted, err)?;
     Ok(counts.and(Counts::begun(u64::from(reported))))
 }
 
-/// Writes what is wrong with a line, unless another file mends it. It returns whether none does.
+/// Writes what is wrong with a line, unless another file mends it.
 fn write_told<F: Files, W: Write>(
     all: &Linting<'_, '_, F>,
     path: &str,
     diagnostic: &Diagnostic,
     out: &mut W,
-) -> Result<bool, Stop> {
-    match is_mended(all, path, diagnostic) {
-        Ok(false) => {
-            write_found(all.world.alloc, all.how, path, diagnostic, out)?;
-            Ok(true)
-        }
-        Ok(true) => Ok(false),
-        Err(_) => Err(Stop::Memory),
+) -> Result<Seen, Stop> {
+    let Ok(mended) = is_mended(all, path, diagnostic) else {
+        return Err(Stop::Memory);
+    };
+    if !mended {
+        write_found(all.world.alloc, all.how, path, diagnostic, out)?;
     }
+    Ok(Seen {
+        reported: false,
+        found: !mended,
+    })
 }
 
 /// Whether a rule decides in ignored folders alone, and another file re-includes the folder.

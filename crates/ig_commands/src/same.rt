@@ -48,8 +48,8 @@ pub(crate) fn same<F: Files, R: BufRead + Drop, W: Write, E: Write>(
     ensures ended { IfErr result (SameEnds F.Files world.now.files.now options.now (R.remaining input)
         (Appends (W.contents out.old) (W.contents out.new)) (Appends (E.contents err.old) (E.contents err.new))) }
 {
-    let input = input_bytes(world.alloc, options, input)?;
-    let Ok(sides) = read_sides(world.alloc, world.files, options, input.as_slice()) else {
+    let bytes = input_bytes(world.alloc, options, input)?;
+    let Ok(sides) = read_sides(world.alloc, world.files, options, bytes.as_slice()) else {
         return Err(Stop::Memory);
     };
     report_and_compare(world.alloc, options, &sides, out, err)
@@ -86,7 +86,7 @@ fn report_and_compare<W: Write, E: Write>(
     ensures ended { IfErr result (EndsAfter [] (told options.now sides.now) (Appends (W.contents out.old) (W.contents out.new)) (Appends (E.contents err.old) (E.contents err.new))) }
 {
     let reported = report_sides(options, sides, err)?;
-    if is_unread(&sides.old) || is_unread(&sides.new) {
+    if is_one_unread(sides) {
         return Ok(2);
     }
     match compare_rules(alloc, options, &sides.old.rules, &sides.new.rules) {
@@ -103,6 +103,13 @@ fn status_by(reported: bool, differ: bool) -> u8
     ensures { result ≡ status_by reported differ }
 {
     if reported { 2 } else { u8::from(differ) }
+}
+
+/// Whether one of two files can't be read at all.
+fn is_one_unread(sides: &Sides) -> bool
+    ensures { result ≡ (is_unread sides.now.old || is_unread sides.now.new) }
+{
+    is_unread(&sides.old) || is_unread(&sides.new)
 }
 
 /// Whether a file can't be read at all.

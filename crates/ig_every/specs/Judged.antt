@@ -80,8 +80,3 @@ IsJudged rules index None = (path : Chars) × (is_dir : Bool) × IsShortest true
 pub record AreJudged (rules : List Rule) (all : List (Option Diagnostic)) : Type 0 where
   pub each : length all ≡ length rules
   pub right : (index : ℕ) (one : Option Diagnostic) → slice_get all index ≡ Some one → IsJudged rules index one
-
--- one or none as a list
-abbrev pub list_of : Option Diagnostic → List Diagnostic
-list_of None = []
-list_of (Some d) = d ∷ []

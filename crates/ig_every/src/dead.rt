@@ -1,40 +1,44 @@
 //! Rules that decide on no path, or on none that is reached.
-ghost use Rattle.std.specs.Prelude.{◌≡◌, ◌++◌, ◌<◌, ℕ, IfOk, IfSome, List, Option, length, map, slice_get};
-ghost use Rattle.std.specs.List.{flat_map};
-ghost use Rattle.ignore_every.specs.Findings.{IsRightFinding};
-ghost use Rattle.ignore_rules.specs.Rules.{Rule};
+ghost use Rattle.std.specs.Prelude.{◌≡◌, ◌<◌, ℕ, true, IfOk, IfSome, List, length, map, slice_get};
 ghost use Rattle.ignore_base.specs.Text.{Bytes};
-ghost use Rattle.ig_every.specs.Judged.{AreJudged, IsAgain, IsJudged, IsOverruled, IsSo, IsWritten, IsWrong, line_in, list_of};
-ghost use Rattle.ig_every.specs.declared.diagnostic.Diagnostic.{Diagnostic};
+ghost use Rattle.ignore_every.specs.Findings.{AreRightFindings, DecidesNever, IsExample, IsRightFinding};
+ghost use Rattle.ignore_rules.specs.Rules.{Rule};
+ghost use Rattle.ig_every.specs.Judged.{AreJudged, IsAgain, IsJudged, IsOverruled, IsSo, IsWritten, IsWrong, line_in};
 
 use crate::compared::MOST_STATES;
 use crate::diagnostic::{Diagnostic, Wrong};
-use ignore_every::{Analysis, Error, Finding};
+use ignore_every::{Analysis, Error, Example, Finding};
 use ignore_rules::gitignore::{Gitignore, Glob};
 use std::alloc::{AllocError, Global};
 
-/// Adds what is wrong with each rule, in their order.
+/// What is wrong with each rule, in their order, if anything is.
 ///
 /// # Errors
 /// `Error::TooLarge` where more than `MOST_STATES` states are needed, `Error::Rejected`, and
 /// `Error::Memory`.
-pub(crate) fn lint_rules(
-    alloc: Global,
-    rules: &Gitignore,
-    found: &mut Vec<Diagnostic>,
-) -> Result<(), Error>
-    ensures judged { IfOk result (λ done. (all : List (Option Diagnostic)) × AreJudged rules.now.rules all
-        × (found.new.items ≡ found.old.items ++ flat_map list_of all)) }
+pub(crate) fn lint_rules(alloc: Global, rules: &Gitignore) -> Result<Vec<Option<Diagnostic>>, Error>
+    ensures { IfOk result (λ all. AreJudged rules.now.rules all.items) }
 {
     let analysis = Analysis::of(alloc, rules, MOST_STATES)?;
-    let mut index = 0usize;
-    for finding in analysis.findings {
-        if let Some(diagnostic) = diagnostic_of(alloc, rules.rules(), index, finding)? {
-            found.push(diagnostic)?;
-        }
-        index = index.saturating_add(1);
+    let all = judged_of(alloc, rules.rules(), &analysis.findings)?;
+    Ok(all)
+}
+
+/// What is wrong with each rule, of which these were found.
+fn judged_of(
+    alloc: Global,
+    rules: &[Glob],
+    findings: &[Finding],
+) -> Result<Vec<Option<Diagnostic>>, AllocError>
+    requires right { AreRightFindings rules.now findings.now }
+    ensures { IfOk result (λ all. AreJudged rules.now all.items) }
+{
+    let mut all = Vec::new(alloc);
+    for index in 0..rules.len() {
+        let one = diagnostic_of(alloc, rules, index, &findings[index])?;
+        all.push(one)?;
     }
-    Ok(())
+    Ok(all)
 }
 
 /// What is wrong with the rule with an index, of which this was found, if anything is.
@@ -42,10 +46,10 @@ fn diagnostic_of(
     alloc: Global,
     rules: &[Glob],
     index: usize,
-    finding: Finding,
+    finding: &Finding,
 ) -> Result<Option<Diagnostic>, AllocError>
     requires within { index < length rules.now }
-    requires right { IsRightFinding rules.now index finding }
+    requires right { IsRightFinding rules.now index finding.now }
     ensures { IfOk result (IsJudged rules.now index) }
 {
     let original = rules[index].original();
@@ -65,10 +69,10 @@ fn wrong_of(
     alloc: Global,
     rules: &[Glob],
     index: usize,
-    finding: Finding,
+    finding: &Finding,
 ) -> Result<Option<Wrong>, AllocError>
     requires within { index < length rules.now }
-    requires right { IsRightFinding rules.now index finding }
+    requires right { IsRightFinding rules.now index finding.now }
     ensures { (text : Bytes) → IsWritten text (slice_get rules.now index) → IfOk result (IsWrong rules.now index text) }
 {
     match again_after(rules, index) {
@@ -82,20 +86,26 @@ fn found_wrong(
     alloc: Global,
     rules: &[Glob],
     index: usize,
-    finding: Finding,
+    finding: &Finding,
 ) -> Result<Option<Wrong>, AllocError>
-    requires right { IsRightFinding rules.now index finding }
+    requires right { IsRightFinding rules.now index finding.now }
     ensures { (text : Bytes) → IfOk result (IsWrong rules.now index text) }
 {
     match finding {
         Finding::Live(_) => Ok(None),
-        Finding::DeadByFolders(example) => {
-            let line = line_of(rules, example.rule);
-            Ok(Some(Wrong::InFolders(example.folder, line)))
-        }
-        Finding::Overruled(named) => Ok(Some(overruled(lines_of(alloc, rules, &named)?))),
+        Finding::DeadByFolders(example) => Ok(Some(hidden(rules, example)?)),
+        Finding::Overruled(named) => Ok(Some(overruled(lines_of(alloc, rules, named)?))),
         Finding::Unreached => Ok(Some(Wrong::Unreached)),
     }
+}
+
+/// That a rule decides in ignored folders alone, as in that of an example.
+fn hidden(rules: &[Glob], example: &Example) -> Result<Wrong, AllocError>
+    ensures { (index : ℕ) (text : Bytes) → DecidesNever true rules.now index → IsExample rules.now index example.now
+        → IfOk result (IsSo rules.now index text) }
+{
+    let folder = example.folder.clone()?;
+    Ok(Wrong::InFolders(folder, line_of(rules, example.rule)))
 }
 
 /// That the rules of these lines decide wherever one applies: it applies to nothing, where there are

@@ -21,7 +21,7 @@ enum Parsed {
     Invalid(String, String),
 }
 
-/// Adds what is wrong with each line of a file, by itself, in their order.
+/// What is wrong with each line of a file, by itself, in their order.
 ///
 /// # Errors
 /// Out of memory.
@@ -29,17 +29,18 @@ pub(crate) fn lint_lines(
     alloc: Global,
     options: &Options,
     bytes: &[u8],
-    found: &mut Vec<Diagnostic>,
-) -> Result<(), AllocError> {
+) -> Result<Vec<Diagnostic>, AllocError> {
+    let mut found = Vec::new(alloc);
     let mut number = 0u64;
     for line in bytes.split(|byte| *byte == b'\n') {
         number = number.saturating_add(1);
         let Ok(text) = str::from_utf8(without_return(line)) else {
-            return add(alloc, number, "", Wrong::NotUtf8, found);
+            add(alloc, number, "", Wrong::NotUtf8, &mut found)?;
+            return Ok(found);
         };
-        lint_line(alloc, options, (number, text), found)?;
+        lint_line(alloc, options, (number, text), &mut found)?;
     }
-    Ok(())
+    Ok(found)
 }
 
 /// A line without the carriage return that it ends with.

@@ -15,8 +15,10 @@ use std::alloc::Global;
 /// What is wrong with a file of rules.
 #[derive(Drop)]
 pub struct Linted {
-    /// What is wrong with its lines by themselves, in their order, and then with its rules.
-    pub found: Vec<Diagnostic>,
+    /// What is wrong with its lines by themselves, in their order.
+    pub lines: Vec<Diagnostic>,
+    /// What is wrong with each of its rules, in their order, if anything is.
+    pub rules: Vec<Option<Diagnostic>>,
     /// Why its rules weren't judged, where they weren't.
     pub refused: Option<Refused>,
 }
@@ -37,19 +39,20 @@ pub fn lint(
     ensures out_of_memory { IfErr result (λ refused. refused ≡ Memory) }
 {
     let bytes = contents.bytes.as_slice();
-    let mut found = Vec::new(alloc);
-    lint_lines(alloc, options, bytes, &mut found)?;
+    let lines = lint_lines(alloc, options, bytes)?;
     let Ok(read) = read_bytes(alloc, options, path, bytes) else {
         return Err(Refused::Memory);
     };
-    match lint_rules(alloc, &read.rules, &mut found) {
-        Ok(()) => Ok(Linted {
-            found,
+    match lint_rules(alloc, &read.rules) {
+        Ok(rules) => Ok(Linted {
+            lines,
+            rules,
             refused: None,
         }),
         Err(Refused::Memory) => Err(Refused::Memory),
         Err(refused) => Ok(Linted {
-            found,
+            lines,
+            rules: Vec::new(alloc),
             refused: Some(refused),
         }),
     }
