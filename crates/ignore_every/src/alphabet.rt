@@ -56,35 +56,45 @@ fn is_in(range: (char, char), c: char) -> bool {
 struct Tests {
     /// The ranges, each once.
     ranges: Vec<(char, char)>,
-    /// Whether a rule folds case, so that the other case of a character is tested too.
-    folds: bool,
+    /// Whether a rule may fold case, so that the other case of a character is tested too.
+    some_fold: bool,
+    /// Whether no rule tells the cases of a letter apart.
+    all_fold: bool,
 }
 
-/// Whether an automaton that tests for a range folds case: it can't tell the cases of a letter apart
-/// of which the range has one.
-fn does_fold(automaton: &Automaton, range: (char, char)) -> bool {
+/// Whether an automaton that tests for a range may fold case: it can't tell the cases of a letter
+/// apart of which the range has one. Nothing is said where the range has no such letter.
+fn does_fold(automaton: &Automaton, range: (char, char)) -> Option<bool> {
     for letter in 'a'..='z' {
         let other = other_case(letter);
         if is_in(range, letter) != is_in(range, other) {
-            return automaton.are_alike(letter, other);
+            return Some(automaton.are_alike(letter, other));
         }
     }
-    false
+    None
 }
 
 /// What automata test characters for.
 fn tests_of(alloc: Global, automata: &[Automaton]) -> Result<Tests, AllocError> {
     let mut ranges = Vec::new(alloc);
-    let mut folds = false;
+    let mut some_fold = false;
+    let mut all_fold = true;
     for automaton in automata {
         for range in automaton.tested_ranges()? {
-            folds = folds || does_fold(automaton, range);
+            if let Some(folds) = does_fold(automaton, range) {
+                some_fold = some_fold || folds;
+                all_fold = all_fold && folds;
+            }
             ranges.push(range)?;
         }
     }
     ranges.sort()?;
     ranges.dedup();
-    Ok(Tests { ranges, folds })
+    Ok(Tests {
+        ranges,
+        some_fold,
+        all_fold,
+    })
 }
 
 /// The numbers at which an interval begins, in order, each once.
@@ -144,8 +154,13 @@ fn answers_of(alloc: Global, tests: &Tests, c: char) -> Result<Vec<bool>, AllocE
     answers.push(c == '/')?;
     answers.push(c == '.')?;
     for range in &tests.ranges {
-        let other_is_in = tests.folds && is_in(*range, other_case(c));
-        answers.push(is_in(*range, c) || other_is_in)?;
+        let other_is_in = tests.some_fold && is_in(*range, other_case(c));
+        if tests.all_fold {
+            answers.push(is_in(*range, c) || other_is_in)?;
+        } else {
+            answers.push(is_in(*range, c))?;
+            answers.push(other_is_in)?;
+        }
     }
     Ok(answers)
 }
