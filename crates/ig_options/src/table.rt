@@ -108,7 +108,7 @@ pub const ELSEWHERE: [(Task, &str, &str); 21] = [
     (
         Task::Lint,
         "null",
-        "End each field in NUL, not in a colon or a newline",
+        "End each field in NUL, and quote nothing",
     ),
     (
         Task::Lint,
@@ -118,7 +118,7 @@ pub const ELSEWHERE: [(Task, &str, &str); 21] = [
     (
         Task::Same,
         "null",
-        "End each field in NUL, not in a tab, colon or newline",
+        "End each field in NUL, and quote nothing",
     ),
     (
         Task::Same,
