@@ -17,4 +17,5 @@ pub mod Rules
 pub mod Found
 pub mod Input
 pub mod Same
+pub mod Lint
 pub mod Run

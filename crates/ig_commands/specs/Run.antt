@@ -12,6 +12,7 @@ use Rattle.ig_options.specs.declared.options.Options.{Options}
 use Rattle.ig_options.specs.declared.words.Task.{Task}
 use Rattle.ig_options.specs.declared.words.Task.TheVariants as command
 use Rattle.ig_commands.specs.Ignored.{IgnoredAsked, IgnoredEnds}
+use Rattle.ig_commands.specs.Lint.{IsLintStatus}
 use Rattle.ig_commands.specs.Listing.{EndsAsked, ListsAsked, RefusesOptions}
 use Rattle.ig_commands.specs.Reports.{report_line}
 use Rattle.ig_commands.specs.Same.{SameAsked, SameEnds}
@@ -20,10 +21,6 @@ use Rattle.ig_commands.specs.Types.{ListsTypes}
 use Rattle.ig_commands.specs.Unused.{UnusedAsked, UnusedEnds}
 use Rattle.ig_commands.specs.Why.{InputAsked, InputEnds, WhyAsked, WhyEnds}
 use Rattle.ig_commands.specs.declared.stop.Stop.{Stop}
-
--- a status of `lint`. What it writes and reports isn't stated, nor why it ends early
-abbrev pub IsLintStatus : ℕ → Type 0
-IsLintStatus status = (status ≡ 0) ⊎ ((status ≡ 1) ⊎ (status ≡ 2))
 
 -- a command was carried out, with this status, where standard input has these bytes, if they are known;
 -- the draft has the file types that exist at first

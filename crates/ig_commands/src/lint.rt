@@ -1,6 +1,6 @@
 //! The command `lint`: what is wrong with files of rules.
 ghost use Rattle.std.specs.Prelude.{IfOk};
-ghost use Rattle.ig_commands.specs.Run.{IsLintStatus};
+ghost use Rattle.ig_commands.specs.Lint.{IsLintStatus};
 
 use crate::asking::{Asked, asked_met};
 use crate::counts::{Counts, Seen, status_of};
