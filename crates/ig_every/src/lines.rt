@@ -62,26 +62,42 @@ fn lint_line(
     let content = content_of(number, text);
     let here = parsed_line(alloc, content, options, options.git_trailing_spaces)?;
     let git = parsed_line(alloc, content, options, true)?;
-    let rule = text_of(&here);
+    lint_text(alloc, line, &here, &git, found)?;
+    push_invalid(number, here, found)
+}
+
+/// Adds what of a line is read otherwise than it looks, where it parses to this here and to this in git.
+fn lint_text(
+    alloc: Global,
+    line: (u64, &str),
+    here: &Parsed,
+    git: &Parsed,
+    found: &mut Vec<Diagnostic>,
+) -> Result<(), AllocError> {
+    let (number, text) = line;
+    let rule = text_of(here);
     if has_mark(number, text) {
         add(alloc, number, rule, Wrong::Mark, found)?;
     }
-    if content.contains('\r') {
+    if text.contains('\r') {
         add(alloc, number, rule, Wrong::Return, found)?;
     }
-    if rule != text_of(&git) {
-        add(alloc, number, rule, Wrong::GitSpace, found)?;
-    } else if rule.trim_end().len() < rule.len() {
-        add(alloc, number, rule, Wrong::Space, found)?;
+    if rule != text_of(git) {
+        return add(alloc, number, rule, Wrong::GitSpace, found);
     }
-    if let Parsed::Invalid(rule, why) = here {
-        found.push(Diagnostic {
-            line: number,
-            rule,
-            wrong: Wrong::Invalid(why),
-        })?;
+    if rule.trim_end().len() < rule.len() {
+        return add(alloc, number, rule, Wrong::Space, found);
     }
     Ok(())
+}
+
+/// Adds that a line is invalid, where it is.
+fn push_invalid(line: u64, parsed: Parsed, found: &mut Vec<Diagnostic>) -> Result<(), AllocError> {
+    match parsed {
+        Parsed::Nothing => Ok(()),
+        Parsed::Rule(_text) => Ok(()),
+        Parsed::Invalid(rule, why) => push(line, rule, Wrong::Invalid(why), found),
+    }
 }
 
 /// What is parsed of a line: of the first one what follows each mark that it begins with.
@@ -111,7 +127,16 @@ fn add(
     wrong: Wrong,
     found: &mut Vec<Diagnostic>,
 ) -> Result<(), AllocError> {
-    let rule = String::from_str(alloc, rule)?;
+    push(line, String::from_str(alloc, rule)?, wrong, found)
+}
+
+/// Adds what is wrong with the rule of a line.
+fn push(
+    line: u64,
+    rule: String,
+    wrong: Wrong,
+    found: &mut Vec<Diagnostic>,
+) -> Result<(), AllocError> {
     found.push(Diagnostic { line, rule, wrong })?;
     Ok(())
 }
