@@ -159,13 +159,16 @@ fn parsed_line(
 ) -> Result<Parsed, AllocError> {
     match rule_of(alloc, text, options, as_git) {
         Ok(rules) => first_of(alloc, &rules),
-        Err(
-            Error::Glob {
-                glob: Some(glob),
-                err,
-            },
-        ) => Ok(Parsed::Invalid(glob, err)),
+        Err(Error::Glob { glob, err }) => Ok(invalid_of(glob, err)),
         Err(_) => Err(AllocError),
+    }
+}
+
+/// A line whose glob is invalid.
+fn invalid_of(glob: Option<String>, why: String) -> Parsed {
+    match glob {
+        Some(text) => Parsed::Invalid(text, why),
+        None => Parsed::Nothing,
     }
 }
 
