@@ -19,7 +19,7 @@ answer_where : (text : Chars) (is_dir : Bool) (rule : Rule) (applies : Bool) →
     → rule_answer text is_dir rule ≡ cond applies (decision_of rule) M.None
 answer_where text is_dir rule applies e = ap (λ b. cond b (decision_of rule) M.None) e
 
-none_answers : (rules : List Rule) (text : Chars) (is_dir : Bool)
+pub none_answers : (rules : List Rule) (text : Chars) (is_dir : Bool)
     → ((i : ℕ) (rule : Rule) → slice_get rules i ≡ Some rule → does_apply text is_dir rule ≡ false) → list_answer rules text is_dir ≡ M.None
 none_answers [] text is_dir none = refl
 none_answers (rule ∷ rules) text is_dir none =

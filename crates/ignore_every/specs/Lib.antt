@@ -12,3 +12,4 @@ pub mod Sound
 pub mod Verdicts
 pub mod Agreement
 pub mod Compared
+pub mod Differences

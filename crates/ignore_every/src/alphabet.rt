@@ -51,54 +51,52 @@ fn is_in(range: (char, char), c: char) -> bool {
     range.0 <= c && c <= range.1
 }
 
-/// What rules test characters for.
-#[derive(Drop)]
-struct Tests {
-    /// The ranges, each once.
-    ranges: Vec<(char, char)>,
-    /// Whether a rule may fold case, so that the other case of a character is tested too.
-    some_fold: bool,
-    /// Whether no rule tells the cases of a letter apart.
-    all_fold: bool,
+/// A range of characters that a rule tests for.
+#[derive(Clone, Copy, PartialEq, Eq, PartialOrd, Ord, Drop)]
+struct Test {
+    /// The first of them.
+    first: char,
+    /// The last of them.
+    last: char,
+    /// Whether the other case of a character is tested too.
+    folds: bool,
 }
 
-/// Whether an automaton that tests for a range may fold case: it can't tell the cases of a letter
-/// apart of which the range has one. Nothing is said where the range has no such letter.
-fn does_fold(automaton: &Automaton, range: (char, char)) -> Option<bool> {
+impl Test {
+    /// What the test answers a character.
+    fn answer(&self, c: char) -> bool {
+        is_in((self.first, self.last), c)
+            || (self.folds && is_in((self.first, self.last), other_case(c)))
+    }
+}
+
+/// Whether an automaton takes both cases of each letter alike: where it folds case, or where its
+/// tests are such that folding case makes no difference.
+fn does_fold(automaton: &Automaton) -> bool {
     for letter in 'a'..='z' {
-        let other = other_case(letter);
-        if is_in(range, letter) != is_in(range, other) {
-            return Some(automaton.are_alike(letter, other));
+        if !automaton.are_alike(letter, other_case(letter)) {
+            return false;
         }
     }
-    None
+    true
 }
 
-/// What automata test characters for.
-fn tests_of(alloc: Global, automata: &[Automaton]) -> Result<Tests, AllocError> {
-    let mut ranges = Vec::new(alloc);
-    let mut some_fold = false;
-    let mut all_fold = true;
+/// What automata test characters for, each once.
+fn tests_of(alloc: Global, automata: &[Automaton]) -> Result<Vec<Test>, AllocError> {
+    let mut tests = Vec::new(alloc);
     for automaton in automata {
-        for range in automaton.tested_ranges()? {
-            if let Some(folds) = does_fold(automaton, range) {
-                some_fold = some_fold || folds;
-                all_fold = all_fold && folds;
-            }
-            ranges.push(range)?;
+        let folds = does_fold(automaton);
+        for (first, last) in automaton.tested_ranges()? {
+            tests.push(Test { first, last, folds })?;
         }
     }
-    ranges.sort()?;
-    ranges.dedup();
-    Ok(Tests {
-        ranges,
-        some_fold,
-        all_fold,
-    })
+    tests.sort()?;
+    tests.dedup();
+    Ok(tests)
 }
 
 /// The numbers at which an interval begins, in order, each once.
-fn cuts_of(alloc: Global, ranges: &[(char, char)]) -> Result<Vec<u32>, AllocError> {
+fn cuts_of(alloc: Global, tests: &[Test]) -> Result<Vec<u32>, AllocError> {
     let mut cuts: Vec<u32> = Vec::new(alloc);
     for ascii in 1..=128 {
         cuts.push(ascii)?;
@@ -106,9 +104,9 @@ fn cuts_of(alloc: Global, ranges: &[(char, char)]) -> Result<Vec<u32>, AllocErro
     cuts.push(0xD800)?;
     cuts.push(0xE000)?;
     cuts.push(0x11_0000)?;
-    for (first, last) in ranges {
-        cuts.push((*first as u32).max(1))?;
-        cuts.push((*last as u32).saturating_add(1))?;
+    for test in tests {
+        cuts.push((test.first as u32).max(1))?;
+        cuts.push((test.last as u32).saturating_add(1))?;
     }
     cuts.sort()?;
     cuts.dedup();
@@ -149,18 +147,12 @@ fn intervals_of(alloc: Global, cuts: &[u32]) -> Result<Vec<Interval>, AllocError
 }
 
 /// How all tests answer a character.
-fn answers_of(alloc: Global, tests: &Tests, c: char) -> Result<Vec<bool>, AllocError> {
+fn answers_of(alloc: Global, tests: &[Test], c: char) -> Result<Vec<bool>, AllocError> {
     let mut answers = Vec::new(alloc);
     answers.push(c == '/')?;
     answers.push(c == '.')?;
-    for range in &tests.ranges {
-        let other_is_in = tests.some_fold && is_in(*range, other_case(c));
-        if tests.all_fold {
-            answers.push(is_in(*range, c) || other_is_in)?;
-        } else {
-            answers.push(is_in(*range, c))?;
-            answers.push(other_is_in)?;
-        }
+    for test in tests {
+        answers.push(test.answer(c))?;
     }
     Ok(answers)
 }
@@ -179,7 +171,7 @@ fn turn_of(c: char) -> usize {
 /// Gives each interval its letter, and tells the characters that stand for them.
 fn letters_of(
     alloc: Global,
-    tests: &Tests,
+    tests: &[Test],
     intervals: &mut Vec<Interval>,
 ) -> Result<Vec<char>, AllocError> {
     let mut letters = Vec::new(alloc);
@@ -212,7 +204,7 @@ pub(crate) fn alphabet_of(alloc: Global, left: &[Glob], right: &[Glob]) -> Resul
 {
     let automata = automata_of(alloc, left, right)?;
     let tests = tests_of(alloc, &automata)?;
-    let cuts = cuts_of(alloc, &tests.ranges)?;
+    let cuts = cuts_of(alloc, &tests)?;
     let mut intervals = intervals_of(alloc, &cuts)?;
     let letters = letters_of(alloc, &tests, &mut intervals)?;
     if !is_alphabet(&automata, &letters, &intervals) {

@@ -158,12 +158,13 @@ fn characters(alloc: Global, text: &str) -> Result<Vec<char>, AllocError>
 
 /// What is found of a rule that decides on no reached question.
 fn finding_of_unreached(
-    rules: &Gitignore,
+    reached: &Judge<'_>,
     any: Option<&Judge<'_>>,
     index: usize,
 ) -> Result<Finding, Error>
-    requires { IfSome any (λ other. IsOver false rules.now.rules other.now) }
-    ensures { IfOk result (λ finding. DecidesNever true rules.now.rules index → IsRightFinding rules.now.rules index finding) }
+    requires { IfSome any (λ other. IsOver false reached.now.rules.now.rules other.now) }
+    ensures { IfOk result (λ finding. DecidesNever true reached.now.rules.now.rules index
+        → IsRightFinding reached.now.rules.now.rules index finding) }
 {
     match any {
         Some(judge) => {
@@ -188,7 +189,7 @@ pub(crate) fn finding_of(
     match found {
         Some(question) => Ok(Finding::Live(question)),
         None => {
-            let finding = finding_of_unreached(reached.rules, any, index)?;
+            let finding = finding_of_unreached(reached, any, index)?;
             Ok(finding)
         }
     }

@@ -1,9 +1,25 @@
 //! Laws of searches over all paths, each as the contract of a function that does nothing.
-ghost use Rattle.std.specs.Prelude.{◌≡◌, ℕ, List, Some, slice_get};
+ghost use Rattle.std.specs.Prelude.{◌≡◌, Bool, ℕ, List, Some, slice_get};
+ghost use Rattle.ignore_rules.specs.Rules.{Rule};
 ghost use Rattle.ignore_base.specs.Text.{Chars};
 ghost use Rattle.ignore_every.specs.Questions.{IsAsked};
 ghost use Rattle.ignore_every.specs.Searches.{Scope, IsSoundSearch, IsPlaceOf};
+ghost use Rattle.ignore_every.specs.Verdicts.{IsSaid, Says, said_verdict};
+ghost use Rattle.ignore_every.specs.declared.said.Said.{Said};
+ghost use Rattle.ignore_every.specs.declared.said.Verdict.{Verdict};
 ghost use Rattle.ignore_every.specs.declared.place.Place.{Place};
+
+/// What is said of a question by a rule is what the list says of it.
+pub fn what_is_said_is_the_verdict()
+    ensures { (rules : List Rule) (path : Chars) (is_dir : Bool) (said : Said) → IsSaid rules path is_dir said
+        → Says rules path is_dir (said_verdict said) }
+{}
+
+/// A list says one verdict of a question, and so where two lists differ they don't say the same.
+pub fn a_list_says_one_verdict()
+    ensures { (rules : List Rule) (path : Chars) (is_dir : Bool) (v : Verdict) (w : Verdict) → Says rules path is_dir v → Says rules path is_dir w
+        → v ≡ w }
+{}
 
 /// A closed search misses nothing: each clean path, or each that the rules reach, has a place in it,
 /// which says which rule decides there.

@@ -1,8 +1,9 @@
 //! Whether two lists of rules say the same.
-ghost use Rattle.std.specs.Prelude.{◌≡◌, IfOk, string_bytes};
+ghost use Rattle.std.specs.Prelude.{◌≡◌, IfOk, MatchOption, string_bytes};
 ghost use Rattle.std.specs.Str.{chars};
 ghost use Rattle.ignore_every.specs.Compared.{IsOverBoth};
-ghost use Rattle.ignore_every.specs.Verdicts.{AreDifferentAt, AreFirstDifferentAt, IsComparison};
+ghost use Rattle.ignore_every.specs.Differences.{AreDifferences};
+ghost use Rattle.ignore_every.specs.Verdicts.{AreDifferentAt, AreFirstDifferentAt, IsComparison, SaySame};
 
 use crate::agree::is_alike;
 use crate::alphabet::alphabet_of;
@@ -13,7 +14,7 @@ use crate::grow::nodes_of;
 use crate::nodes::root_rows;
 use crate::places::{Search, Side};
 use crate::room::Room;
-use crate::said::{Comparison, Counted, Difference};
+use crate::said::{Comparison, Counted, Difference, Wanted};
 use crate::sayings::said_of;
 use crate::trail::{Trail, trail_of};
 use ignore_rules::gitignore::Gitignore;
@@ -38,7 +39,7 @@ pub struct Lists<'a> {
 
 impl<'a> Lists<'a> {
     /// The question of these characters, where the lists differ at it.
-    fn difference(&self, text: &[char], is_dir: bool) -> Result<Difference, Error>
+    pub(crate) fn difference(&self, text: &[char], is_dir: bool) -> Result<Difference, Error>
         ensures is { IfOk result (λ d. AreDifferentAt self.now.counted self.now.old.now.rules self.now.new.now.rules d) }
         ensures same { IfOk result (λ d. chars (string_bytes d.question.path) ≡ text.now) }
     {
@@ -90,40 +91,39 @@ impl<'a> Lists<'a> {
         None
     }
 
-    /// Whether the lists say the same.
-    fn compared(&self) -> Result<Comparison, Error>
+    /// A shortest question at which the lists differ, if they do.
+    pub(crate) fn first(&self) -> Result<Option<Difference>, Error>
         requires { IsOverBoth self.now }
-        ensures { IfOk result (λ comparison. IsComparison self.now.counted self.now.old.now.rules self.now.new.now.rules comparison) }
+        ensures { IfOk result (λ found. MatchOption found (SaySame self.now.counted self.now.old.now.rules self.now.new.now.rules)
+            (λ d. AreFirstDifferentAt self.now.counted self.now.old.now.rules self.now.new.now.rules d)) }
     {
         let Some((place, is_dir)) = self.first_apart() else {
             let places = self.trail.places.as_slice();
             if !self.search.agrees_before(self.counted, places, None) {
                 return Err(Error::Rejected);
             }
-            return Ok(Comparison::Same);
+            return Ok(None);
         };
         let text = self.trail.text_to(self.alloc, place)?;
         let difference = self.first_difference(&text, is_dir)?;
-        Ok(Comparison::Differ(difference))
+        Ok(Some(difference))
     }
 }
 
-/// Whether two lists say the same of every question: of every clean relative path and both kinds,
-/// asked of each at its root. What a list says is the verdict of its last rule that applies, where it
-/// ignores no folder on the way, and else that the entry is ignored. `Differ` has a shortest question
-/// at which they differ. At most `limit` states are found, of tables and of the search together.
+/// Questions at which two lists differ, the first of them a shortest one: at most as many as are
+/// wanted, and no two by the same pair of rules. There are none where the lists say the same, or
+/// where none is wanted. What the lists say, `limit` and the errors are those of `compare`.
 ///
 /// # Errors
-/// `Error::TooLarge` where the tables or the search need more states; `Error::Memory`; and
-/// `Error::Rejected`, which is never a guess, where what was found isn't accepted by its check.
-pub fn compare(
+/// Those of `compare`.
+pub fn differences(
     alloc: Global,
     old: &Gitignore,
     new: &Gitignore,
-    counted: Counted,
+    wanted: Wanted,
     limit: usize,
-) -> Result<Comparison, Error>
-    ensures { IfOk result (λ comparison. IsComparison counted old.now.rules new.now.rules comparison) }
+) -> Result<Vec<Difference>, Error>
+    ensures { IfOk result (λ found. AreDifferences wanted old.now.rules new.now.rules found.items) }
 {
     let mut room = Room::new(limit);
     let alphabet = alphabet_of(alloc, old.rules(), new.rules())?;
@@ -153,9 +153,34 @@ pub fn compare(
         alloc,
         old,
         new,
-        counted,
+        counted: wanted.counted,
         search,
         trail,
     };
-    lists.compared()
+    lists.found(wanted.most)
+}
+
+/// Whether two lists say the same of every question: of every clean relative path and both kinds,
+/// asked of each at its root. What a list says is the verdict of its last rule that applies, where it
+/// ignores no folder on the way, and else that the entry is ignored. `Differ` has a shortest question
+/// at which they differ. At most `limit` states are found, of tables and of the search together.
+///
+/// # Errors
+/// `Error::TooLarge` where the tables or the search need more states; `Error::Memory`; and
+/// `Error::Rejected`, which is never a guess, where what was found isn't accepted by its check.
+pub fn compare(
+    alloc: Global,
+    old: &Gitignore,
+    new: &Gitignore,
+    counted: Counted,
+    limit: usize,
+) -> Result<Comparison, Error>
+    ensures { IfOk result (λ comparison. IsComparison counted old.now.rules new.now.rules comparison) }
+{
+    let wanted = Wanted { counted, most: 1 };
+    let mut found = differences(alloc, old, new, wanted, limit)?;
+    match found.pop() {
+        Some(difference) => Ok(Comparison::Differ(difference)),
+        None => Ok(Comparison::Same),
+    }
 }

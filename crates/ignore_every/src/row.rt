@@ -81,7 +81,8 @@ pub(crate) fn row_length(rows: &[Row], state: usize) -> usize
 
 /// Whether there is a number, and it is this one.
 pub(crate) fn is_some_of(number: Option<usize>, wanted: usize) -> bool
-    ensures { IsTrue result → number ≡ Some wanted }
+    ensures yes { IsTrue result → number ≡ Some wanted }
+    ensures no { result ≡ false → number ≡ Some wanted → ⊥ }
 {
     match number {
         Some(found) => found == wanted,
@@ -91,7 +92,8 @@ pub(crate) fn is_some_of(number: Option<usize>, wanted: usize) -> bool
 
 /// Whether two numbers are both absent or are the same.
 pub(crate) fn is_same(a: Option<usize>, b: Option<usize>) -> bool
-    ensures { IsTrue result → a ≡ b }
+    ensures yes { IsTrue result → a ≡ b }
+    ensures no { result ≡ false → a ≡ b → ⊥ }
 {
     match a {
         Some(x) => is_some_of(b, x),

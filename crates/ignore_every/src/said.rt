@@ -44,6 +44,15 @@ pub enum Counted {
     Ignored,
 }
 
+/// Which differences are wanted.
+#[derive(Debug, Clone, Copy, Drop)]
+pub struct Wanted {
+    /// Which verdicts count as the same.
+    pub counted: Counted,
+    /// How many at most.
+    pub most: usize,
+}
+
 /// A question at which two lists differ.
 #[derive(Debug, Drop)]
 pub struct Difference {

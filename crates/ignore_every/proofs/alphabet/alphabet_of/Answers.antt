@@ -27,5 +27,5 @@ alphabet_right rules readings marks letters own same each c scalar some =
 
 pub returns : goal.returns
 returns c =
-    alphabet_right (c.args.left.now ++ c.args.right.now) c.deref-4.result.now c.deref-5.result.now c.in_ok-letters.letters.items
-    (c.deref-4.ensures.value ∙ c.in_ok-automata.ensures) c.deref-5.ensures.value (c.is_alphabet.ensures c.if-not-is_alphabet.false)
+    alphabet_right (c.args.left.now ++ c.args.right.now) c.deref-5.result.now c.deref-6.result.now c.in_ok-letters.letters.items
+    (c.deref-5.ensures.value ∙ c.in_ok-automata.ensures) c.deref-6.ensures.value (c.is_alphabet.ensures c.if-not-is_alphabet.false)

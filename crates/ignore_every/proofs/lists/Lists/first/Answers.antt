@@ -3,7 +3,7 @@ use Rattle.ignore_every.specs.Agreement.{AgreesBefore}
 use Rattle.ignore_every.specs.Scopes.{scope_of}
 use Rattle.ignore_every.specs.Verdicts.{SaySame}
 use Rattle.ignore_every.proofs.Agreeing.{same_from}
-use Rattle.ignore_every.proofs.lists.Lists.compared.Goals as goal
+use Rattle.ignore_every.proofs.lists.Lists.first.Goals as goal
 
 pub returns-in_default : goal.returns-in_default
 returns-in_default c =
