@@ -7,5 +7,5 @@ use Rattle.ig_every.proofs.dead.judged_of.Given as goal
 abbrev pub invariant-loop-index : goal.invariant-loop-index
 invariant-loop-index l = record {
   each : length l.all.items ≡ l.index;
-  right : (i : ℕ) (one : Option Diagnostic) → slice_get l.all.items i ≡ Some one → IsJudged l.rules.now i one;
+  right : (i : ℕ) (one : Option Diagnostic) → slice_get l.all.items i ≡ Some one → IsJudged l.rules i one;
 }
