@@ -12,28 +12,24 @@ pub written : (rules : List Rule) (index : ℕ) (rule : Rule) (text : Bytes) →
     → IsWritten text (slice_get rules index)
 written rules index rule text at is = subst (IsWritten text) (sym at) is
 
--- its text is the one that it is written by
-pub original_of : (rules : List Rule) (index : ℕ) (rule : Rule) (text : Bytes) → slice_get rules index ≡ Some rule
-    → IsWritten text (slice_get rules index) → rule.original ≡ text
-original_of rules index rule text at is = subst (IsWritten text) at is
-
 -- what is wrong with a rule names it
-pub is_named : (rules : List Rule) (index : ℕ) (rule : Rule) (d : Diagnostic) → slice_get rules index ≡ Some rule
-    → string_bytes d.rule ≡ rule.original → d.line ≡ line_in rules index
-    → ((text : Bytes) → IsWritten text (slice_get rules index) → IsSo rules index text d.wrong) → IsNamed rules index d
-is_named rules index rule d at text line so =
-    let here = written rules index rule (string_bytes d.rule) at (sym text) in
-    record { line = line; written = here; wrong = so (string_bytes d.rule) here }
+pub is_named : (rules : List Rule) (index : ℕ) (text : Bytes) (d : Diagnostic) → IsWritten text (slice_get rules index)
+    → string_bytes d.rule ≡ text → d.line ≡ line_in rules index → IsSo rules index text d.wrong → IsNamed rules index d
+is_named rules index text d here is line so =
+    record {
+      line = line;
+      written = subst (λ (t : Bytes). IsWritten t (slice_get rules index)) (sym is) here;
+      wrong = subst (λ (t : Bytes). IsSo rules index t d.wrong) (sym is) so;
+    }
 
 -- a later rule is written in the same way
-pub is_again : (rules : List Rule) (index place : ℕ) (rule other : Rule) (line : ℕ) → index < place → slice_get rules index ≡ Some rule
-    → slice_get rules place ≡ Some other → other.original ≡ rule.original → line ≡ line_in rules place
-    → (text : Bytes) → IsWritten text (slice_get rules index) → IsAgain rules index text line
-is_again rules index place rule other line later at there same number text is =
+pub is_again : (rules : List Rule) (index place : ℕ) (one text : Bytes) (line : ℕ) → index < place → IsWritten one (slice_get rules place)
+    → one ≡ text → line ≡ line_in rules place → IsAgain rules index text line
+is_again rules index place one text line later there same number =
     record {
       place = place;
       later = later;
-      written = written rules place other text there (same ∙ original_of rules index rule text at is);
+      written = subst (λ (t : Bytes). IsWritten t (slice_get rules place)) same there;
       number = number;
     }
 

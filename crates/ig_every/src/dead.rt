@@ -42,6 +42,7 @@ fn judged_of(
 }
 
 /// What is wrong with the rule with an index, of which this was found, if anything is.
+#[tactic(auto, using(crate::proofs::JudgeLemmas::is_named))]
 fn diagnostic_of(
     alloc: Global,
     rules: &[Glob],
@@ -52,30 +53,39 @@ fn diagnostic_of(
     requires right { IsRightFinding rules.now index finding.now }
     ensures { IfOk result (IsJudged rules.now index) }
 {
-    let original = rules[index].original();
-    let Some(wrong) = wrong_of(alloc, rules, index, finding)? else {
+    let text = text_of(rules, index);
+    let Some(wrong) = wrong_of(alloc, rules, index, text, finding)? else {
         return Ok(None);
     };
     Ok(Some(Diagnostic {
         line: line_of(rules, index),
-        rule: String::from_str(alloc, original)?,
+        rule: String::from_str(alloc, text)?,
         wrong,
     }))
 }
 
-/// What is wrong with the rule with an index, of which this was found, if anything is: that the same
-/// stands again, before all else.
+/// How the rule with an index is written.
+#[tactic(auto, using(crate::proofs::JudgeLemmas::written))]
+fn text_of(rules: &[Glob], index: usize) -> &str
+    requires within { index < length rules.now }
+    ensures { IsWritten result.now (slice_get rules.now index) }
+{
+    rules[index].original()
+}
+
+/// What is wrong with the rule with an index, which is written so and of which this was found, if
+/// anything is: that the same stands again, before all else.
 fn wrong_of(
     alloc: Global,
     rules: &[Glob],
     index: usize,
+    text: &str,
     finding: &Finding,
 ) -> Result<Option<Wrong>, AllocError>
-    requires within { index < length rules.now }
     requires right { IsRightFinding rules.now index finding.now }
-    ensures { (text : Bytes) → IsWritten text (slice_get rules.now index) → IfOk result (IsWrong rules.now index text) }
+    ensures { IfOk result (IsWrong rules.now index text.now) }
 {
-    match again_after(rules, index) {
+    match again_after(rules, index, text) {
         Some(line) => Ok(Some(Wrong::Again(line))),
         None => found_wrong(alloc, rules, index, finding),
     }
@@ -120,14 +130,13 @@ fn overruled(lines: Vec<u64>) -> Wrong
     }
 }
 
-/// The line of the first rule after an index that is written as the one with it.
-fn again_after(rules: &[Glob], index: usize) -> Option<u64>
-    requires within { index < length rules.now }
-    ensures { (text : Bytes) → IsWritten text (slice_get rules.now index) → IfSome result (IsAgain rules.now index text) }
+/// The line of the first rule after an index that is written so.
+#[tactic(auto, using(crate::proofs::JudgeLemmas::is_again))]
+fn again_after(rules: &[Glob], index: usize, text: &str) -> Option<u64>
+    ensures { IfSome result (IsAgain rules.now index text.now) }
 {
-    let original = rules[index].original();
     for place in index..rules.len() {
-        if place > index && rules[place].original() == original {
+        if index < place && text_of(rules, place) == text {
             return Some(line_of(rules, place));
         }
     }
