@@ -1,7 +1,6 @@
 //! The kinds of vectors, and the one function that has a builder.
 ghost use Rattle.std.specs.Prelude.{◌≡◌, []};
 
-mod ig;
 mod igwalk;
 mod normalize;
 mod query;
@@ -23,7 +22,6 @@ impl Kinds for Library {
     fn answer(&self, alloc: Global, kind: &str, input: &Value) -> Option<Result<Value, Trouble>> {
         match kind {
             "explain" => Some(answer(alloc, input, false)),
-            "ig" => Some(ig::answer(alloc, input)),
             "igwalk" => Some(igwalk::answer(alloc, input)),
             "normalize" => Some(normalize::answer(alloc, input)),
             "query" => Some(answer(alloc, input, false)),
