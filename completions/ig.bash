@@ -2,13 +2,16 @@
 _ig() {
     local word=${COMP_WORDS[COMP_CWORD]} before=${COMP_WORDS[COMP_CWORD - 1]} command=ls options
     [ "$COMP_CWORD" -lt 2 ] || case ${COMP_WORDS[1]} in
-        ignored | why | unused | types) command=${COMP_WORDS[1]} ;;
+        ignored | why | unused | lint | same | types) command=${COMP_WORDS[1]} ;;
     esac
     local rules="
         -H --hidden -. -I --no-ignore -u --unrestricted --no-ignore-vcs
         --no-ignore-parent --no-ignore-global --no-ignore-exclude
         --no-ignore-dot --no-ignore-files --no-require-git --ignore-file
-        --ignore-name --ignore-file-case-insensitive --git-trailing-spaces
+        --ignore-name
+    "
+    local read="
+        --ignore-file-case-insensitive --git-trailing-spaces
         -q --quiet --no-messages --no-ignore-messages -j --threads --no-config
     "
     local chosen="
@@ -18,12 +21,14 @@ _ig() {
     local kinds="--files --dirs --links -d --max-depth"
     local printed="-0 --null --print0 --stats"
     case $command in
-        ls) options="$rules $chosen $kinds $printed -L --follow --min-depth --one-file-system
+        ls) options="$rules $read $chosen $kinds $printed -L --follow --min-depth --one-file-system
             --sort --sort-files --type-list" ;;
-        ignored) options="$rules $chosen $kinds $printed --no-repositories -v --verbose" ;;
-        why) options="$rules $chosen --stdin -z --zero --only-ignored -v --verbose -n
+        ignored) options="$rules $read $chosen $kinds $printed --no-repositories -v --verbose" ;;
+        why) options="$rules $read $chosen --stdin -z --zero --only-ignored -v --verbose -n
             --non-matching --no-index" ;;
-        unused) options="$rules $printed" ;;
+        unused) options="$rules $read $printed" ;;
+        lint) options="$rules $read --json -0 --null --print0" ;;
+        same) options="$read --ignored --paths -0 --null --print0" ;;
         types) options="--type-add" ;;
     esac
     options="$options -h --help -V --version"
@@ -33,13 +38,13 @@ _ig() {
             COMPREPLY=($(compgen -W "$(ig types 2>/dev/null | sed 's/:.*//')" -- "$word"))
             ;;
         --ignore-name | -d | --max-depth | --min-depth | --max-filesize | -g | --glob | --iglob | --type-add) COMPREPLY=() ;;
-        -E | --exclude | -e | --extension | -j | --threads) COMPREPLY=() ;;
+        -E | --exclude | -e | --extension | -j | --threads | --paths) COMPREPLY=() ;;
         *)
             case $word in
                 -*) COMPREPLY=($(compgen -W "$options" -- "$word")) ;;
                 *)
                     COMPREPLY=($(compgen -f -- "$word"))
-                    [ "$COMP_CWORD" -ne 1 ] || COMPREPLY+=($(compgen -W "ls ignored why unused types" -- "$word"))
+                    [ "$COMP_CWORD" -ne 1 ] || COMPREPLY+=($(compgen -W "ls ignored why unused lint same types" -- "$word"))
                     ;;
             esac
             ;;

@@ -32,9 +32,9 @@
 extern "C" {
 #endif
 
-/* The version of this header, 1.0.0, as ignore_version has it: 10,000 times its first number,
+/* The version of this header, 1.1.0, as ignore_version has it: 10,000 times its first number,
    100 times its second, and its third. */
-#define IGNORE_VERSION 10000
+#define IGNORE_VERSION 10100
 
 /* The version of the library. */
 uint32_t ignore_version(void);
@@ -50,7 +50,7 @@ enum {
     IGNORE_LIMIT = 6,     /* a walk took more steps than it may */
     IGNORE_REFUSED = 7,   /* a line is invalid, or some lines of a file: the problem says why */
     IGNORE_MISUSED = 9,   /* a handle that keeps something else, or isn't so far */
-    IGNORE_OUTSIDE = 10,  /* the path isn't below the root */
+    IGNORE_OUTSIDE = 10,  /* a path begins with a slash once the root of the rules is stripped */
     IGNORE_NOT_CLEAN = 11, /* a path of a tree isn't `/`, or `/` and names joined by single slashes */
     IGNORE_NO_PARENT = 12, /* what a path of a tree should be in isn't a directory there */
     IGNORE_EXISTS = 13,    /* something is at a path of a tree already */

@@ -17,7 +17,7 @@ sys.dont_write_bytecode = True
 import archive
 import packages
 from checks import Stop
-from repo import TOP, Crates, read
+from repo import TOP, Crates, copy_of, read
 
 LIMIT = 900
 USES = """\
@@ -25,13 +25,6 @@ from ignore_proved import Rules, __version__, pathspec, walk
 print(__version__, Rules("", ["*.o"]).is_ignored("a.o"), sorted(it.name for it in walk("r")))
 print(pathspec.GitIgnoreSpec.from_lines(["*.o"]).match_file("a.o"))
 """
-
-
-#: The project of README.md.
-PROJECT = {
-    ".gitignore": "*.o\n!keep.o\nout/\ntmp/\n", ".git/HEAD": "", "a.o": "", "keep.o": "",
-    "main.c": "", "out/b.c": "",
-}
 
 
 class Stranger:
@@ -119,13 +112,13 @@ def tarball(it):
 
 
 def first_block(it):
-    """Does what the first block of README.md says, and sees what it says there."""
+    """Does what the first block of README.md says, beside a clone, and sees what it says there."""
     blocks = re.findall(r"(?:^    .*\n)+", read(f"{TOP}/README.md"), re.M)
     steps = re.findall(r"^    \$ (.*)\n((?:    (?!\$ ).*\n)*)", blocks[0], re.M)
     assert len(steps) > 3, f"the block has {len(steps)} commands"
     room = f"{it.room}/readme"
-    for name, text in PROJECT.items():
-        packages.put(f"{room}/project/{name}", text)
+    copy_of(f"{room}/buzandevo")
+    packages.put(f"{room}/buzandevo/.git/HEAD", "")
     shutil.copy(package(it, ".tar.gz"), room)
     script = "\n".join(f"{command}\nprintf '\\f\\n'" for command, _ in steps)
     home = f"{it.room}/home of readme"

@@ -48,9 +48,10 @@ STYLE = """
 
 
 def shown(group):
-    """The figures of a group, in the order in which they were kept."""
+    """The figures of a group, in the order in which they were kept, but for those with a note: of an
+    earlier version."""
     _, *key = group
-    found = [it for it in figures() if [it["of"], it["ours"], it["beside"]] == key]
+    found = [it for it in figures() if [it["of"], it["ours"], it["beside"]] == key and "note" not in it]
     return [it for it in found if not it["what"].startswith(LEFT_OUT)]
 
 
@@ -63,7 +64,7 @@ def bar(figure, y, scale):
     """A figure: what it is of, its bar, and the ratio, which doesn't cross the line of the other one."""
     ratio, one = figure["ratio"], LABELS + scale
     end, kind = LABELS + ratio * scale, "less" if ratio <= 1 else "more"
-    label = figure["what"].removeprefix("a question, ") + (" *" if "note" in figure else "")
+    label = figure["what"].removeprefix("a question, ")
     at = max(end, one) if 0 <= one - end < 40 else end
     return [
         text(20, y + 12, "", label),
@@ -72,13 +73,13 @@ def bar(figure, y, scale):
     ]
 
 
-def notes(groups):
+def note(groups):
     """What is said below the bars."""
     walks = [it for it in figures() if it["of"] == "time" and it["beside"].startswith("rg ")]
     bare = [it["ratio"] for it in walks if it["ours"] in BARE]
-    found = {f"* {it['note']}" for _, ones in groups for it in ones if "note" in it}
-    return [f"Shorter is faster, or less memory. Walks that go by no rules take {said(min(bare))} to "
-            f"{said(max(bare))} of ripgrep's time.", *sorted(found)]
+    less = ", or less memory" if any(it["of"] == "memory" for _, found in groups for it in found) else ""
+    return (f"Shorter is faster{less}. Walks that go by no rules take {said(min(bare))} to "
+            f"{said(max(bare))} of ripgrep's time.")
 
 
 def speed():
@@ -95,9 +96,8 @@ def speed():
             y += ROW
         y += 6
     line = f'<line x1="{LABELS + scale}" y1="4" x2="{LABELS + scale}" y2="{y}" class="other"/>'
-    for it in notes(groups):
-        y += 18
-        drawn.append(text(8, y, "small", it))
+    y += 18
+    drawn.append(text(8, y, "small", note(groups)))
     title = "What this library takes, as a part of what other programs take for the same"
     return framed(WIDTH, y + 10, title, STYLE, [line, *drawn])
 
@@ -154,5 +154,5 @@ def screen():
     wide = max(560, round(most * CHAR + 2 * EDGE))
     dots = [f'<circle cx="{20 + 18 * at}" cy="19" r="6" class="{it}"/>' for at, it in enumerate(DOTS)]
     window = f'<rect x="1" y="1" width="{wide - 2}" height="{y - 4}" rx="9" class="window"/>'
-    title = "A terminal: which files the rules keep, why, and what they ignore"
+    title = "A terminal: which files the rules keep, why, and which rules are wrong"
     return framed(wide, y - 2, title, TERMINAL, [window, *dots, *drawn])

@@ -183,6 +183,10 @@ class Trial:
         self.by_goal, self.by_proof, self.failed = {}, {}, {}
         self.numbers = iter(range(1, 1_000_000))
 
+    def rejected(self):
+        """The names of those that were rejected."""
+        return {*self.by_goal, *self.by_proof}
+
     def run(self):
         """Tries all, once the crate itself has passed."""
         self.failed |= {it.name: it.fault for it in self.mutants if it.fault}

@@ -1,22 +1,32 @@
-"""The checksums of what the verdicts on a crate's mutants rest on.
+"""The checksums of what the verdicts on mutants rest on, by the source files that have them.
 
-They rest on the crate's own files, and of the crates below it on what it sees of them: the types and
-traits that it names, or that such a type or the head of such a call names; the heads and clauses of
-the calls of these, and of other public calls, that it names, or that a trait has; and the
-definitions that these clauses and the crate's own files rest on. It may name types of a crate that
-it lists or imports from, and what such a crate hands on under a name that it has; a type or a head
-names those of its own crate and of the crates below that. What stands in private functions, private
-fields, calls and types that it has no name of and other definitions of those crates doesn't change
-them, nor do comments and layout.
+The verdicts on the mutants of a source file rest on that file, on the proofs of its functions, on
+the lemmas that these import, and on what all of these see of their own crate and of the crates
+below it: the types and traits that they name, or that such a type or the head of such a call names;
+the heads and clauses of the calls of these, and of other calls, that they name, or that a trait
+has; constants that they name; and the definitions that these clauses and the files rest on. Of its
+own crate a file sees what is private too. It may name types of a crate that its own lists or imports
+from, and what such a crate hands on under a name that it has; a type or a head names those of its
+own crate and of the crates below that. What stands in other bodies, in private functions and fields
+of other crates, in calls and types that it has no name of, in other definitions and other proofs
+doesn't change them, nor do comments and layout.
 """
 import functools
 import hashlib
+import os
 import re
 
 from definitions import WORD, Library, imports
-from edits import EDITS
-from repo import PARTS, files_of, read
-from sources import TYPE, calls_of, lines_of, modules_of
+from repo import files_of, read
+from sources import calls_of, lines_of, modules_of
+
+# A type, a trait or a constant.
+ITEM = re.compile(r"(?:pub(?:\([^)]*\))? )?(?:struct|enum|trait|type|union|const|static) (?!fn\b)(\w+)")
+TRAIT = re.compile(r"(?m)^(?:pub(?:\([^)]*\))? )?trait ")
+# An import of what sources declare: the words, or the name of all.
+DECLARED = re.compile(r"use Rattle\.(\w+)\.specs\.declared\.([\w.]+?)(?:\.\{([^}]*)\}| as (\w+))")
+# An import of a file of lemmas.
+LEMMAS = re.compile(r"use Rattle\.(\w+)\.proofs\.([\w.+-]+?)(?=\.\{|\s|;|$)")
 
 # What a line of a source or of a definition means, without its comments and its layout.
 LEXEME = re.compile(
@@ -37,75 +47,140 @@ def without_layout(path, text):
     return " ".join(said.split())
 
 
+class Unit:
+    """The mutants that one source file has, or several have together: its crate, these files, and
+    the mutants."""
+
+    def __init__(self, crate, files):
+        self.crate, self.files, self.mutants = crate, files, []
+        self.name = f"{crate.name}/{'+'.join(it.removeprefix('src/') for it in files)}"
+
+
+def units_of(crate, mutants):
+    """The mutants of a crate, by the files that they edit and that have what they reject."""
+    found = {}
+    for it in mutants:
+        files = tuple(sorted({*(path for path, _, _ in it.pairs), *file_with(crate, it.rejects)}))
+        found.setdefault(files, Unit(crate, files)).mutants.append(it)
+    return [found[it] for it in sorted(found)]
+
+
+def file_with(crate, function):
+    """The file of a function, by the name that a check prints."""
+    path = tuple((function or "").split("::"))
+    found = [(len(it), file) for it, file in modules_of(crate) if path[: len(it)] == it]
+    return [max(found)[1]] if function else []
+
+
 class Checksums:
-    """The checksums of crates, in the logic of a kit, by their files as they are now."""
+    """The checksums of mutants, in the logic of a kit, by the files as they are now."""
 
     def __init__(self, crates, logic):
         self.crates, self.logic = crates, logic
         self.library = Library(crates)
-        self.calls = functools.cache(lambda name: calls_of(crates[name]))
-        self.types = functools.cache(lambda name: types_of(crates[name]))
+        self.calls = functools.cache(lambda name, inside: calls_of(crates[name], inside))
+        self.types = functools.cache(lambda name, inside: types_of(crates[name], inside))
         self.aliases = functools.cache(lambda name: aliases_of(crates[name]))
         self.resting, self.paths = {}, {}
         lines_of.cache_clear()
 
-    def of(self, crate):
-        """One sum over all that the verdicts on the crate's mutants rest on: the kit's logic, the
-        crate's line of `crates.txt`, its sources, definitions, proofs and mutants, and what it sees
-        of the crates below it."""
-        summed = hashlib.sha256(repr((self.logic, crate.name, crate.uses)).encode())
-        named = set()
-        for part in (*PARTS, *EDITS):
-            for path in files_of(crate, part):
-                text = without_layout(path, read(f"{crate.folder}/{path}"))
-                summed.update(repr((path, text)).encode())
-                named |= set(re.findall(r"\w+", text))
-        seen = self.seen_by(crate, named)
+    def of(self, unit):
+        """One sum over all that the verdicts on the mutants of a unit rest on."""
+        said = sorted({repr(it) for it in self.basis_of(unit)})
+        return hashlib.sha256("\n".join(said).encode()).hexdigest()
+
+    def basis_of(self, unit):
+        """What the verdicts on the mutants of a unit rest on: the kit's logic, the attributes of its
+        crate, the libraries that it uses, the mutants, the files, and what these see of the crate
+        and of those below it."""
+        crate, named = unit.crate, set()
+        texts = self.texts_of(crate, unit.files)
+        for place, text in sorted(texts.items()):
+            said = without_layout(place[1], text)
+            yield place, said
+            named |= set(re.findall(r"\w+", said)) if place[1].endswith(".rt") else set()
+        root = [it for it in lines_of(f"{crate.folder}/{crate.root()}") if it.startswith("#![")]
+        yield self.logic, crate.name, root, sorted(named & set(crate.uses))
+        for it in unit.mutants:
+            yield it.name, read(it.file).strip()
+        seen, ones = self.seen_by(crate, named), []
+        seen.types |= {it for text in texts.values() for it in declared(text, None)} & seen.known
+        grown = None
+        while grown != len(seen.types):
+            grown = len(seen.types)
+            self.close(seen)
+            ones = self.rested_on(texts.values(), seen)
+            seen.types |= {it for one in ones for it in self.declared_in(one)} & seen.known
         for name in seen.below:
-            for said in self.said_of(name, seen):
-                summed.update(repr(said).encode())
-        for one in self.rested_on(crate, seen):
-            summed.update(repr((one.place, without_layout(".antt", one.text))).encode())
-        return summed.hexdigest()
+            yield from self.said_of(name, seen)
+        for one in ones:
+            yield one.place, without_layout(".antt", one.text)
+
+    def texts_of(self, crate, files):
+        """The sources, the proofs of their functions, and the files of lemmas that these import, by
+        crate and path; of what a file of another crate imports none."""
+        modules = {file: modules for modules, file in modules_of(crate)}
+        folders = ["/".join(["proofs", *modules[it]]) for it in files if it in modules]
+        left = [(crate.name, it) for it in files if os.path.isfile(f"{crate.folder}/{it}")]
+        left += [(crate.name, it) for it in files_of(crate, "proofs") if it.startswith(tuple(f"{at}/" for at in folders))]
+        found = {}
+        while left:
+            place = left.pop()
+            if place in found:
+                continue
+            found[place] = read(f"{self.crates[place[0]].folder}/{place[1]}")
+            if place[0] == crate.name:
+                left += self.lemmas_of(found[place])
+        return found
+
+    def lemmas_of(self, text):
+        """The files of lemmas that a text imports, by crate and path."""
+        for name, path in LEMMAS.findall(text):
+            file = f"proofs/{path.replace('.', '/')}.antt"
+            if name in self.crates and os.path.isfile(f"{self.crates[name].folder}/{file}"):
+                yield name, file
 
     def seen_by(self, crate, named):
-        """What a crate that has these words sees of the crates below it."""
-        seen = Seen(named, {it: self.crates.below(self.crates[it]) for it in self.crates.below(crate)})
+        """What files of a crate that have these words name of the crate and of those below it."""
+        around = [*self.crates.below(crate), crate.name]
+        seen = Seen(crate.name, named, {it: self.crates.below(self.crates[it]) for it in around})
         for name in seen.below:
-            seen.known |= {(name, it) for it in self.names(name)}
-            seen.traits |= self.traits(name)
+            seen.known |= {(name, it) for it in self.names(name, seen)}
+            seen.traits |= self.traits(name, seen)
         for name in seen.below:
-            if name in crate.uses or name in named:
-                for target, words in [(name, named), *self.handed(name, named)]:
+            if name in crate.uses or name in named or name == crate.name:
+                for target, words in [(name, named), *self.handed(name, seen)]:
                     seen.see([target], words)
                     seen.functions |= {target} if words is named else set()
+        return seen
+
+    def close(self, seen):
+        """Adds the types and traits that what is seen names."""
         grown = None
         while grown != len(seen.types):
             grown = len(seen.types)
             for name in seen.below:
-                files = dict(modules_of(self.crates[name]))
-                for modules, type_name, text in self.types(name):
+                for _, type_name, text, file in self.types(name, seen.is_inside(name)):
                     if (name, type_name) in seen.types:
-                        seen.add(name, text, self.imported(name, files[modules]))
-                for it in self.calls(name)[0]:
-                    if seen.has_call(it):
-                        seen.add(name, it.head, self.imported(name, it.file))
+                        seen.add(name, text, self.imported(name, file))
+                for it in self.called(name, seen):
+                    seen.add(name, it.head, self.imported(name, it.file))
                 for own, other in self.aliases(name):
                     if seen.has(name, other):
                         seen.add(name, own, {})
-        return seen
 
-    def handed(self, name, named):
-        """What a crate hands on under names that are among these: a type with its crate; of a module,
-        and where it is a function, whatever is among these."""
-        for own, other in self.calls(name)[1]:
+    def handed(self, name, seen):
+        """What a crate hands on under names that are seen: a type with its crate; of a module, and
+        where it is a function, whatever is named."""
+        for own, other in self.calls(name, False)[1]:
             target, last = other.split("::")[0], other.split("::")[-1]
-            if is_named(own, named) and target in self.crates:
-                yield target, {last} if last in self.names(target) else named
+            if is_named(own, seen.named) and target in self.crates:
+                yield target, {last} if last in self.names(target, seen) else seen.named
 
-    def names(self, name):
+    def names(self, name, seen):
         """The names of the types and traits of a crate, and those under which it hands on others."""
-        return {it for _, it, _ in self.types(name)} | {it for one in self.aliases(name) for it in one}
+        types = {it[1] for it in self.types(name, seen.is_inside(name))}
+        return types | {it for one in self.aliases(name) for it in one}
 
     def imported(self, name, file):
         """The words of the paths by which a file of a crate names what is in other crates, each with
@@ -128,48 +203,70 @@ class Checksums:
             self.paths[name, file] = found
         return self.paths[name, file]
 
-    def traits(self, name):
+    def traits(self, name, seen):
         """The names of the traits of a crate."""
-        return {it for _, it, text in self.types(name) if text.startswith("pub trait ")}
+        return {it[1] for it in self.types(name, seen.is_inside(name)) if TRAIT.search(it[2])}
 
     def said_of(self, name, seen):
-        """What a crate sees of the sources of one below it: the public calls, and the types."""
-        for own, other in sorted(self.calls(name)[1]):
+        """What is seen of the sources of a crate: calls, and types."""
+        for own, other in sorted(self.calls(name, False)[1]):
             if is_named(own, seen.named):
                 yield name, own, other
         for it in sorted(self.called(name, seen), key=lambda one: one.path):
-            yield name, it.path, it.name, without_layout(".rt", "\n".join([it.head, *it.clauses]))
-        for modules, type_name, text in self.types(name):
+            yield name, it.path, without_layout(".rt", "\n".join([it.head, *it.clauses]))
+        for modules, type_name, text, _ in self.types(name, seen.is_inside(name)):
             if (name, type_name) in seen.types:
                 yield name, modules, without_layout(".rt", text)
 
     def called(self, name, seen):
-        """The public calls of a crate that one which sees this may make."""
-        return [it for it in self.calls(name)[0] if seen.has_call(it)]
+        """The calls of a crate that one which sees this may make."""
+        return [it for it in self.calls(name, seen.is_inside(name))[0] if seen.has_call(it)]
 
-    def rested_on(self, crate, seen):
-        """The definitions of the crates below on which the clauses of these calls rest, or what the
-        crate's own files import."""
+    def rested_on(self, texts, seen):
+        """The definitions of these crates on which the clauses of calls and the types that are seen
+        rest, or what these texts import."""
         ones = [one for name in seen.below for it in self.called(name, seen) for one in self.clauses_of(it)]
-        for part in PARTS:
-            for path in files_of(crate, part):
-                text = read(f"{crate.folder}/{path}")
-                ones += self.library.resting_on(text, set(imports(self.crates, text)))
+        for name, file, text in self.types_seen(seen):
+            around = "\n".join(lines_of(f"{self.crates[name].folder}/{file}"))
+            ones += self.library.resting_on(around, set(WORD.findall(text)), text)
+        for text in texts:
+            ones += self.library.resting_on(text, set(imports(self.crates, text)), text)
         found = {(it.place, tuple(it.names)): it for it in ones if it.place[0] in seen.below}
         return [found[it] for it in sorted(found)]
+
+    def declared_in(self, one):
+        """The types and constants that a definition names, each with its crate."""
+        return declared("\n".join(self.library.file(one.place).lines), one.words())
+
+    def types_seen(self, seen):
+        """The types that are seen, each with its crate, its file and its text."""
+        for name in seen.below:
+            for _, type_name, text, file in self.types(name, seen.is_inside(name)):
+                if (name, type_name) in seen.types:
+                    yield name, file, text
 
     def clauses_of(self, call):
         """The definitions that the clauses of a call rest on."""
         if call not in self.resting:
-            words = set(WORD.findall(" ".join(call.clauses)))
+            said = " ".join(call.clauses)
             text = read(f"{self.crates[call.crate].folder}/{call.file}")
-            self.resting[call] = self.library.resting_on(text, words)
+            self.resting[call] = self.library.resting_on(text, set(WORD.findall(said)), said)
         return self.resting[call]
 
 
 def is_named(path, words):
     """Whether a path may be named by these words: they have its first and its last one."""
     return {path.split("::")[0], path.split("::")[-1]} <= words
+
+
+def declared(text, words):
+    """The types and constants of sources that a text imports, each with its crate: those among these
+    words, or all."""
+    for name, path, names, whole in DECLARED.findall(text):
+        imported = [it.split() for it in names.split(",") if it.strip()]
+        types = [it for it in path.split(".") if it[:1].isupper() and not it.startswith("The")]
+        if words is None or words & {whole, *(it[-1] for it in imported)}:
+            yield from ((name, it) for it in types or [it[0] for it in imported])
 
 
 def is_model(call):
@@ -179,13 +276,17 @@ def is_model(call):
 
 
 class Seen:
-    """What a crate sees of those below it: its own words, and types and traits, each as the name of
-    its crate and its own."""
+    """What files of a crate see of it and of those below it: their own words, and types and traits,
+    each as the name of its crate and its own."""
 
-    def __init__(self, named, below):
-        self.named, self.below = named, list(below)
+    def __init__(self, own, named, below):
+        self.own, self.named, self.below = own, named, list(below)
         self.around = {name: [*others, name] for name, others in below.items()}
         self.types, self.traits, self.known, self.functions = set(), set(), set(), set()
+
+    def is_inside(self, name):
+        """Whether what is private of a crate is seen too."""
+        return name == self.own
 
     def see(self, names, words):
         """Adds what these crates have under these words."""
@@ -208,31 +309,46 @@ class Seen:
     def has_call(self, call):
         """Whether the crate may make a call: it names it, and the type that has it is seen; or a
         trait has it, and both are seen, or the trait is of no crate of these."""
-        if is_model(call) or (call.owner and not self.has(call.crate, call.owner)):
+        if is_model(call) and not self.is_inside(call.crate):
+            return False
+        if call.owner and not self.has(call.crate, call.owner):
             return False
         if call.trait and (self.has(call.crate, call.trait) or call.trait not in self.traits):
             return True
-        if not call.owner and call.crate not in self.functions:
+        if not call.owner and not self.has_module(call):
             return False
         return call.path.split("::")[-1] in self.named
 
+    def has_module(self, call):
+        """Whether a function that stands by itself can be named: of its own crate, where its module
+        is, or where it is handed on."""
+        *_, module, _ = ["", *call.path.split("::")]
+        if self.is_inside(call.crate) and call.is_private:
+            return not module or bool({module, "super"} & self.named)
+        return call.crate in self.functions
 
-def types_of(crate):
-    """The public types and traits of a crate, each with its module and its name, without private
-    fields."""
+
+def types_of(crate, inside):
+    """The types, traits and constants of a crate, each with its module, its name, its text and its
+    file: from outside the public ones, without private fields."""
     found = []
     for modules, file in modules_of(crate):
         lines = lines_of(f"{crate.folder}/{file}")
         for at, line in enumerate(lines):
-            name = TYPE.match(line)
-            if not name:
+            name = ITEM.match(line)
+            if not name or not (inside or line.startswith("pub ")):
                 continue
             text = [line]
             if line.endswith("{"):
-                end = lines.index("}", at)
-                is_open = "enum " in line or "trait " in line
+                end = next(it for it in range(at, len(lines)) if lines[it] in ("}", "};"))
+                is_open = inside or "enum " in line or "trait " in line
                 text += [it for it in lines[at + 1 : end] if is_open or it.startswith("    pub ")]
-            found.append((modules, name[1], "\n".join(text)))
+            elif not line.endswith((";", "}")):
+                end = next((it for it in range(at, len(lines)) if lines[it].endswith(";")), at)
+                text += lines[at + 1 : end + 1]
+            if inside:
+                text = [*(it for it in lines[max(at - 3, 0) : at] if it.startswith("#[")), *text]
+            found.append((modules, name[1], "\n".join(text), file))
     return found
 
 

@@ -40,6 +40,7 @@ class File:
         self.lines = read(f"{crates[place[0]].folder}/{place[1]}").split("\n")
         self.head, self.definitions = self.parts()
         self.imports = imports(crates, "\n".join(self.lines))
+        self.whole = whole_imports(crates, "\n".join(self.lines))
         self.own = {name: it for it in self.definitions for name in it.names}
         self.heads = {name: it for it in self.definitions for name in it.heads()}
 
@@ -166,9 +167,9 @@ class Library:
                 left += self.used_by(one)
         return list(found)
 
-    def resting_on(self, text, words):
-        """The definitions that these words rest on, which a text imports; where a word is the name of
-        a field too, also the record that has it."""
+    def resting_on(self, text, words, said=""):
+        """The definitions that these words, and the paths of what is said, rest on, which a text
+        imports; where a word is the name of a field too, also the record that has it."""
         imported, found, begun = imports(self.crates, text), [], set()
 
         def visit(one):
@@ -177,9 +178,20 @@ class Library:
             begun.add(id(one))
             for word in one.words():
                 visit(self.find(one.place, word))
+            for it in self.whole(one.text, self.file(one.place).whole):
+                visit(it)
             found.append(one)
 
         for word in sorted(words):
             if word in imported:
                 visit(self.find(*imported[word]))
+        for it in self.whole(said, whole_imports(self.crates, text)):
+            visit(it)
         return found
+
+    def whole(self, text, imported):
+        """The definitions that a text names by the names of these files."""
+        for word in paths_of(text) if imported else []:
+            alias, _, inner = word.partition(".")
+            if inner and alias in imported:
+                yield self.find(imported[alias], inner)

@@ -9,6 +9,7 @@ import sys
 import textwrap
 
 from definitions import IMPORT, WHOLE, Library, paths_of
+from equations import in_one
 from repo import read
 from sources import calls_of, module_file
 
@@ -20,27 +21,38 @@ HEAD = """# The headline
 
 What a finished walk has yielded: in words, with an example; then as the clauses that the prover has
 checked; then by all the definitions that these rest on, top down. `tools/statements` writes this
-page, and the gate compares it with the sources. Who reads as far as [the walk](#1-the-walk) knows
-what is promised of a walk, given what each directory holds and which paths its rules ignore; the
-layers after it say these.
+page, and the gate compares it with the sources. The words and the example take ten minutes. Who
+reads as far as [the walk](#1-the-walk) knows what is promised of a walk, given what each directory
+holds and which paths its rules ignore; the layers after it say these.
+
+`collect_walk` is the call of the crate `ignore` that returns the whole list of a walk, or an error,
+by a builder of roots and settings (`WalkBuilder`), the files, and the environment. It always
+returns. A walk that a program asks item by item, [to its end or not](#in-words), and the lists of
+`igwalk list`, `ig ls` and C's `ignore_walk_new` go by the same definition of the list. The walks of
+Python, of Rust and of `disk.c` ask a guide instead; that they list the same is tested, and not
+proved.
 
 ## In words
 
 Let the files be *consistent with a tree* (`IsHonest`): each answer that they may give, other than
 out of memory, is the tree's. A tree (`Tree`) is five functions of a path: what is there, what a
 directory lists, the contents of a file, the canonical path, and the numbers of device and inode, if
-known; the first and the last also of whether a last link is followed. Each may have a fault in
-place of a value. (A name in parentheses is that of a definition below.)
+known; the first and the last also of whether a last link is followed. Each may have a *fault* in
+place of a value, as that nothing is there. Of a real disk all this holds where the machine answers
+truly from one disk (`IsTruthful`, by `DiskFiles::is_honest`), which is assumed, and not proved. (A
+name in parentheses is that of a definition, most of them below.)
 
 Let `collect_walk` return `Ok` of some *items* (`Item`). Each is an entry (`Entry`), maybe with a
-problem, or a problem alone. An entry has a path, a depth, a kind, and whether it is a link that was
-followed. The kind is as listed, without `stat`; but where links are followed, a link has the kind
-of what it leads to, so it may be a directory (`found`). A root has the kind of what it leads to,
-except that a link stays one where links aren't followed and it doesn't lead to a file
-(`stays_link`); even so it counts as a directory where it leads to one (`leads_in`). The *load* of a
-directory (`Loaded`) is what it holds for the rules, and the problem of its files of rules and of
-the way to its exclude file, if any (`Loads`); but a file of rules whose only problem is a fault, as
-that it can't be opened or that one line isn't UTF-8, isn't reported (`AddsPresent`).
+*problem*, or a problem alone: a fault, a loop, or what is wrong with a rule, with its place. An
+entry has a path, a depth, a kind, and whether it is a link that was followed. The kind is as
+listed, without `stat`; but where links are followed, a link has the kind of what it leads to, so it
+may be a directory (`found`). A root has the kind of what it leads to, except that a link stays one
+where links aren't followed and it doesn't lead to a file (`stays_link`); even so it counts as a
+directory where it leads to one (`leads_in`). The *load* of a directory (`Loaded`) is what it holds
+for the rules, and the problem of its files of rules and of the way to its exclude file
+(`info/exclude` of its repository), if any (`Loads`). A file of rules is read up to its first fault
+or line that isn't UTF-8, and all lines after that are lost (`AddsLines`, the rule `stopped`); where
+such a fault is its only problem, or it can't be opened, it isn't reported (`AddsPresent`).
 
 Then these items are exactly the following list (`Headline`), and no other list is as follows
 (`IsOnlyList`). Comments call it the list of the definition; this definition is `Whole`.
@@ -50,8 +62,8 @@ Then these items are exactly the following list (`Headline`), and no other list 
    path `<stdin>`, the depth 0, and no kind (`stdin_entry`). Where any other root leads to a
    directory, the problems of the loads of the directories above it, but for those above an earlier
    such root, come before it as one item, if there are any (`reported_before`). Those above it are
-   the ones on its canonical path; none where that faults or isn't clean, or the settings ask for
-   none (`paths_above`).
+   the ones on its canonical path; none where that faults or isn't clean (names after single
+   slashes), or the settings ask for none (`paths_above`).
 2. An entry below a root is *skipped*, with all below it, where the rules ignore it, or it is no
    directory and `stat` gives it a size above the limit (a fault gives none, `is_larger`), or the
    filter rejects it; a root never is (`is_skipped`). An entry that isn't skipped is an item, unless
@@ -68,24 +80,26 @@ Then these items are exactly the following list (`Headline`), and no other list 
    to (`root_entry`), or for what a followed link leads to (`found`); where a followed link leads
    back to a directory that it is in, a loop (`without_loop`); where an identity isn't known that
    has to be: that of a directory, if the walk stays on one device (`with_device`), or, to look for
-   a loop, that of a directory that a followed link leads to, or is in (`same_among`); where a
-   listed name is empty, `.` or `..`, or has a slash (`named`); and where the listing has a fault at
-   that place (`child`). Neither the rules, nor the filter, nor a limit of depth or size is asked
-   about a problem in such a place (the rule `failed`): a followed link that leads nowhere is
-   reported even where the rules would ignore it.
-5. The rules ignore a path by [the verdict](#2-the-verdict) (`ignores`). Overrides decide first
-   (`verdict`). Where they don't, what the ranks ignore is ignored; else the file types decide;
-   where they don't, what the ranks whitelist is kept; and else a hidden name is ignored, if that is
-   set (`without_override`). The ranks are files with custom names, `.ignore`, git's `.gitignore`,
-   exclude file and global file, where git's rules apply, and files added by name: the first that
-   has a match decides (`ranks_answer`). In each of the first four the nearest directory on the way
-   whose list has a match decides (`nearest`); but no `.gitignore` or exclude file counts above the
-   nearest directory with the mark of a repository (`is_marked`, `cut`). Git's rules apply where
-   some directory on the way has a mark, or none is required (`has_git`). Of directories above the
-   root the lists count only with `parents`, and the marks only with `git_ignore` (`kept_above`). In
-   a list the last rule that matches decides (`list_answer`). Overrides, types, global file and
-   files added by name are the *rules from outside* (`IsOutside`); each tree that the files are
-   consistent with has them (`ReadsOutside`).
+   a loop, that of a directory that a followed link leads to, or is in, the nearest first, up to the
+   one that it leads back to (`same_among`); where a listed name is empty, `.` or `..`, or has a
+   slash (`named`); and where the listing has a fault at that place (`child`). Neither the rules,
+   nor the filter, nor a limit of depth or size is asked about a problem in such a place (the rule
+   `failed`): a followed link that leads nowhere is reported even where the rules would ignore it.
+5. The rules ignore a path by [the verdict](#2-the-verdict) (`ignores`). Overrides, which are globs
+   as of a command line, decide first (`verdict`). Where they don't, what the ranks ignore is
+   ignored; else the file types decide; where they don't, what the ranks whitelist is kept; and else
+   a hidden name is ignored, if that is set (`without_override`). The six ranks are (1) files with
+   custom names, which the builder sets, (2) `.ignore`, (3) `.gitignore`, (4) the exclude file, (5)
+   git's global file, and (6) files added by name: the first that has a match decides
+   (`ranks_answer`). In each of 1 to 4 the nearest directory on the way whose list has a match
+   decides (`nearest`). A directory has the *mark* of a repository where it has `.git` or `.jj`; but
+   none has one unless `require_git` is on, and `git_ignore` or `git_exclude` (`is_marked`,
+   `needs_marks`). No `.gitignore` or exclude file counts above the nearest directory with a mark
+   (`cut`); 3 to 5 count only where some directory on the way has a mark, or none is required
+   (`has_git`). Of directories above the root the lists count only with `parents`, and the marks
+   only with `git_ignore` (`kept_above`). In a list the last rule that matches decides
+   (`list_answer`). Overrides, types, global file and files added by name are the *rules from
+   outside* (`IsOutside`); each tree that the files are consistent with has them (`ReadsOutside`).
 
 The list takes at most as many *steps* as the builder's `limit` (`HasYielded`): one for each root,
 for each thing that is listed, and for each directory that is entered. If `collect_walk` returns an
@@ -103,11 +117,12 @@ in each *scene* (`IsSceneOf`), which has a function by which the filter answers,
 order by which the comparison does. So nothing is said of the list where there is no such tree, as
 of a disk that changes during the walk ([OPEN](OPEN.md)), or no such function or order. Where there
 are these, there is a scene (the laws `a_scene_without_closures` and `a_scene_with_closures`); with
-it `the_one_list` has all that is said of an `Ok` as one record. In an endless tree, where entered
-directories go down forever, there is no list. So there, if there is a scene, `collect_walk` returns
-no `Ok`; and `IsAboveLimit` says nothing of an `Err`, but where that is the limit, the walk took as
-many steps (a further clause, `limited`). Nor is it said that memory suffices, what was found before
-an `Err`, or when and how often the filter is asked.
+it the law `the_one_list` has all that is said of an `Ok` as one record (`IsTheList`, of
+`crates/ignore/specs/Headline.antt`). In an endless tree, where entered directories go down forever,
+there is no list. So there, if there is a scene, `collect_walk` returns no `Ok`; and `IsAboveLimit`
+says nothing of an `Err`, but where that is the limit, the walk took as many steps (a further
+clause, `limited`). Nor is it said that memory suffices, what was found before an `Err`, or when and
+how often the filter is asked.
 
 ## An example
 
@@ -133,8 +148,9 @@ and the least depth is 2, each list has it (`deep_yielded`), and none has `.h`.
 
 NOTATION = """## How to read a definition
 
-Lines that begin with two dashes are a comment. Below it stand the name and its type, and then the
-equations that define it, of which the first that fits counts.
+Lines that begin with two dashes are a comment. Below it stand a name, its arguments with their
+types, its own type, and what it is: `f (x : A) : B = e`. Or else the name and its type stand there,
+and then several equations, of which the first that fits counts.
 
 | written | read |
 |---|---|
@@ -151,7 +167,7 @@ equations that define it, of which the first that fits counts.
 | `record R .. : Type 0 where`, and its lines | a type of records; or a property, which holds where all fields do |
 | `[]`, `x ∷ xs`, `xs ++ ys`; `ℕ`, `suc n` | the empty list, a list by its first and the others, one list after another; the numbers from 0, `n + 1` |
 | `None`, `Some a`; `Ok a`, `Err e` | no value or a value, of type `Option A`; a value or an error, of type `Result A E` |
-| `thing.Fault f`, `std.None`, `below.scene` | names of another type or file, before the dot, where one of the same name is in use: `None` is a verdict too; so `Refused f` is the `Fault f` of a `Refusal`, and `Nothing`, `Only a` are `None`, `Some a` |
+| `thing.Fault f`, `std.None`, `below.scene` | names of another type or file, before the dot, where one of the same name is in use, as `None` is a verdict too; `Refused f`: a `Refusal`'s `Fault f`; `Nothing`, `Only a`: `None`, `Some a` |
 | `codes "a"`, and numbers as 47 | the bytes or characters of a text; 47 is `/`, 46 is `.`, 42 is `*`, 92 is a backslash |
 | `x.now`, `x.entry` | what a reference `x` points to; the reference, as it was given to the call |
 | `IfOk result (λ all. P)`, `IfErr` | if the result is `Ok all`, then `P`; the same of an `Err` |
@@ -169,10 +185,12 @@ texts, a number as one of ℕ, `Limited` as its `Settings`, a `Gitignore` or an 
 `Ruleset`, `Matchers` as a list of these, `Types` as a record with the list `choices` of `Chosen`;
 `Compare` and `Filter` are closures.
 
-Like words: `Listed` is what a directory lists, and the `Order` of one that isn't sorted; `Entry` is
-a record, and a variant of the former. A `Loaded` is a load, `Loads` says which a directory has,
-`loads` are those of all, `loaded` gives a directory's item, and `load` is a fate. `enter` is the
-fate of a directory that is *entered*; `entered` are those from a place up to its root.
+Like words: a `Fault` is what a call of the files finds wrong, a `Refusal` that or out of memory; a
+`Problem` is the plain form of the code's `Error`. `Listed` is what a directory lists, and the
+`Order` of one that isn't sorted; `Entry` is a record, and a variant of the former. A `Loaded` is a
+load, `Loads` says which a directory has, `loads` are those of all, `loaded` gives a directory's
+item, and `load` is a fate. `enter` is the fate of a directory that is *entered*; `entered` are
+those from a place up to its root.
 """
 
 
@@ -271,6 +289,14 @@ SHORT = {
 }
 # Types that the clauses name, and no definition.
 NAMED = {"ignore": [("builder", "WalkBuilder"), ("closures", "Sorter"), ("walk", "Owner")]}
+LATER = (
+    "Of the layers 2 to 4 it uses these; small words and types ([5](#5-small-words), [6](#6-types-of-the-code)), as `Path`, `Problem` and"
+    " `join_of`, aren't listed:"
+)
+MORE = (
+    "Two more clauses are in [STATEMENTS](STATEMENTS.md): `no_end`, that no item of an `Ok` is the limit, or has out of memory in it; and"
+    " `limited`, that where the limit is the error, the walk took so many steps."
+)
 TYPES = "Their fields or variants; of a trait, the relations by which a contract sees what its calls may answer."
 
 
@@ -332,7 +358,7 @@ def name_of(place):
 def shown(library, one):
     """A definition with the comment above it."""
     text = re.sub(r"^(\s*)(?:abbrev |unfoldable )?(?:pub )?", r"\1", one.text, flags=re.M)
-    return [*(f"-- {it}" for it in textwrap.wrap(said_of(library, one), 97)), *text.split("\n"), ""]
+    return [*(f"-- {it}" for it in textwrap.wrap(said_of(library, one), 97)), *in_one(text).split("\n"), ""]
 
 
 def said_of(library, one):
@@ -426,12 +452,12 @@ def headline(crates):
     )
     words = [f"// {name}: {text}" for name, text in SHORT.items()]
     short = [shortened(it, SHORT) for it in clauses]
-    lines = [HEAD, "## The clauses", "", "```rust", *words, call.head, *short, "```", "", *wrapped(rests), "", NOTATION]
+    lines = [HEAD, "## The clauses", "", "```rust", *words, call.head, *short, "```", "", *wrapped(rests), "", *wrapped(MORE), "", NOTATION]
     for layer in sorted(LAYERS, key=lambda it: it.title):
         here = [it for it in order if of[it] is layer]
         used = uses(library, here, {it for it in found if layer.title < of[it].title < "5"}) if layer.title == WALK else []
         lines += [f"## {layer.title}", "", *wrapped(layer.says), ""]
-        lines += ["Of later layers it uses:", "", *used, ""] if used else []
+        lines += [*wrapped(LATER), "", *used, ""] if used else []
         lines += (in_parts if layer.title == WALK else blocks)(library, here)
     lines += ["## 6. Types of the code", "", *wrapped(TYPES), ""]
     for name, types in types_of(library, found).items():

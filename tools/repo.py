@@ -1,6 +1,8 @@
 """The repository: its crates, their files, and its version."""
 import os
 import re
+import shutil
+import subprocess
 
 TOP = os.path.dirname(os.path.dirname(os.path.abspath(__file__)))
 # What a crate is made of, as the prover reads it.
@@ -14,29 +16,81 @@ def read(file):
 
 # The version
 
-# Where else the version stands, in which words.
+# The file that has it, and where else it stands, in which words. C has it as a number, which Rattle
+# writes in groups of three digits; a mutant has the number of the next version.
+VERSION = "VERSION"
 VERSIONED = {
-    "README.md": "The version is {}.",
-    "CHANGELOG.md": "\n## {}\n",
-    "crates/ig_options/src/words.rt": 'VERSION: &str = "{}"',
-    "man/ig.1": '"ig {}"',
-    "man/igwalk.1": '"igwalk {}"',
-    "include/ignore_proved.h": "/* The version of this header, {}, as",
-    "bindings/python/pyproject.toml": '\nversion = "{}"\n',
-    "bindings/python/ignore_proved/__init__.py": '\n__version__ = "{}"\n',
-    "bindings/rust/Cargo.toml": '\nversion = "{}"\n',
+    "README.md": ["The version is {version}."],
+    "man/ig.1": ['"ig {version}"'],
+    "man/igwalk.1": ['"igwalk {version}"'],
+    "include/ignore_proved.h": ["/* The version of this header, {version}, as", "#define IGNORE_VERSION {number}\n"],
+    "bindings/python/pyproject.toml": ['\nversion = "{version}"\n'],
+    "bindings/python/ignore_proved/__init__.py": ['\n__version__ = "{version}"\n'],
+    "bindings/rust/Cargo.toml": ['\nversion = "{version}"\n'],
+    "crates/ig_options/src/words.rt": ['VERSION: &str = "{version}"'],
+    "crates/igwalk/src/main.rt": ['VERSION: &str = "igwalk {version}\\n"'],
+    "crates/ignore_c/src/version.rt": ["result ≡ {number} }", "\n    {grouped}\n"],
+    "crates/ignore_c/mutants/version_of_the_next_release.edit": ["old:     {grouped}\n", "new:     {next}\n"],
 }
+# What each of these is, as a pattern.
+FIELDS = {"version": r"\d+\.\d+\.\d+", "number": r"\d+", "grouped": r"\d+_\d+", "next": r"\d+_\d+"}
+# How CHANGELOG begins, which is written by hand.
+CHANGES = "# Changes\n\n## {version} ("
 
 
 def version():
-    """The version, which is that of the launcher."""
-    return re.search(r"^version=(.*)$", read(f"{TOP}/tools/launch"), re.M)[1]
+    """The version."""
+    return read(f"{TOP}/{VERSION}").strip()
+
+
+def said(form):
+    """What a form says of the version."""
+    first, second, third = map(int, version().split("."))
+    number = 10_000 * first + 100 * second + third
+    values = {"version": version(), "number": number, "grouped": f"{number:_}", "next": f"{number + 100:_}"}
+    return re.sub(r"\{(\w+)}", lambda it: str(values[it[1]]), form)
 
 
 def without_version():
     """The files that don't say the version, as they are to."""
-    wanted = version()
-    return [name for name, said in VERSIONED.items() if said.format(wanted) not in read(f"{TOP}/{name}")]
+    forms = {**VERSIONED, "CHANGELOG.md": [CHANGES]}
+    return [name for name, its in forms.items() if any(said(it) not in read(f"{TOP}/{name}") for it in its)]
+
+
+def write_version():
+    """Writes the version into each of these files, in place of the one that stands there."""
+    for name, forms in VERSIONED.items():
+        text = read(f"{TOP}/{name}")
+        for form in forms:
+            pattern = re.escape(form)
+            for field, kind in FIELDS.items():
+                pattern = pattern.replace(re.escape(f"{{{field}}}"), kind)
+            text = re.sub(pattern, said(form).replace("\\", r"\\"), text)
+        with open(f"{TOP}/{name}", "w", encoding="utf-8") as it:
+            it.write(text)
+
+
+# Its files
+
+
+def own_files():
+    """The names of the repository's own files."""
+    words = ["git", "-C", TOP, "ls-files", "-z", "--cached", "--others", "--exclude-standard"]
+    ran = subprocess.run(words, stdout=subprocess.PIPE, stderr=subprocess.DEVNULL, text=True)
+    if not ran.returncode:
+        return [name for name in ran.stdout.split("\0") if os.path.isfile(f"{TOP}/{name}")]
+    names = []
+    for at, folders, files in os.walk(TOP):
+        folders[:] = [name for name in folders if name not in (".git", "out", "dist")]
+        names += [os.path.relpath(f"{at}/{name}", TOP) for name in files]
+    return names
+
+
+def copy_of(folder):
+    """Copies the repository's own files into a folder, as a fresh clone has them."""
+    for name in own_files():
+        os.makedirs(os.path.dirname(f"{folder}/{name}"), exist_ok=True)
+        shutil.copy2(f"{TOP}/{name}", f"{folder}/{name}")
 
 
 # Crates

@@ -15,6 +15,7 @@ USE = re.compile(r"pub use ([^;]+);")
 TYPE = re.compile(r"pub (?:struct|enum|trait|type|union) (\w+)")
 IMPL = re.compile(r"impl\b")
 TRAIT = re.compile(r"pub trait (\w+)")
+ANY_TRAIT = re.compile(r"(?:pub(?:\([^)]*\))? )?trait (\w+)")
 # What a crate has for crates above it alone, and no caller uses.
 INNER = "internal"
 
@@ -30,6 +31,8 @@ class Call:
         # The type or the trait whose it is, if it is of one, and the trait that has it, by which it
         # may be called without its name.
         self.owner = self.trait = ""
+        # Whether other crates can't call it.
+        self.is_private = False
 
     def key(self):
         return f"{self.crate}::{self.path}"
@@ -112,6 +115,13 @@ class Surface:
         known = self.public.get(own)
         if known is None or len(called) < len(known):
             self.public[own] = called
+
+    def types_in(self, modules):
+        """The public types by their names, as a module sees them: its own type before one of the same
+        name elsewhere."""
+        types = {own[-1]: called for own, called in self.public.items() if own[-1][:1].isupper()}
+        own = {it[-1]: called for it, called in self.public.items() if it[:-1] == modules and it[-1] in types}
+        return {**types, **own}
 
 
 def modules_of(crate):
@@ -225,25 +235,27 @@ def members_of(lines, at):
     return found
 
 
-def calls_of(crate):
-    """The public calls of a crate, and what it hands on from crates below."""
+def calls_of(crate, inside=False):
+    """The public calls of a crate, from inside of it the private ones too, and what it hands on from
+    crates below."""
     surface, found = Surface(crate), []
-    types = {own[-1]: called for own, called in surface.public.items() if own[-1][:1].isupper()}
     for modules, file in modules_of(crate):
+        types = surface.types_in(modules)
         lines = lines_of(f"{crate.folder}/{file}")
         of = trait = ""
         is_declared = False
         for at, line in enumerate(lines):
             if line and not line[0].isspace() and line[0] not in "/#})":
                 of = trait = ""
-                is_declared = bool(TRAIT.match(line))
+                is_declared = bool((ANY_TRAIT if inside else TRAIT).match(line))
                 if IMPL.match(line):
                     trait, of = impl_of(block_of(lines, at))
                 elif is_declared:
-                    of = TRAIT.match(line)[1]
-                members = members_of(lines, at) if of in types and (trait or is_declared) else []
+                    of = ANY_TRAIT.match(line)[1]
+                is_known = of in types or inside and of
+                members = members_of(lines, at) if is_known and (trait or is_declared) else []
                 if members:
-                    name = "::".join(types[of]) + (f": {trait}" if trait else "")
+                    name = "::".join(types.get(of, (of,))) + (f": {trait}" if trait else "")
                     call = Call(crate.name, "::".join((*modules, of + trait)), name, file)
                     call.owner, call.trait = of, trait or of
                     call.doc, call.clauses = doc_above(lines, at), members
@@ -254,12 +266,14 @@ def calls_of(crate):
                 continue
             shown = types.get(of) if of else surface.public.get((*modules, head[2]))
             is_seen = re.match(r"\s*pub (?!\()", line) or trait or is_declared
-            if shown is None or not is_seen:
+            is_private = shown is None or not is_seen
+            if is_private and not inside:
                 continue
+            shown = shown or (of or head[2],)
             path = "::".join((*modules, *([of + trait] if of else []), head[2]))
             name = "::".join((*shown, *([head[2]] if of else [])))
             call = Call(crate.name, path, f"{name} ({trait})" if trait else name, file)
-            call.owner, call.trait = of, of if is_declared else trait
+            call.owner, call.trait, call.is_private = of, of if is_declared else trait, is_private
             call.doc = doc_above(lines, at)
             call.head, call.clauses = call_at(lines, at, head[1], is_declared)
             if call.clauses or not trait:

@@ -28,7 +28,7 @@ from .rules import Answer, Decision, Reason, Rules
 from .tree import Builder, Tree
 from .walk import Item, TreeWalk, walk
 
-__version__ = "1.0.0"
+__version__ = "1.1.0"
 
 __all__ = [
     "Answer",

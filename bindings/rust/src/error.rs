@@ -10,7 +10,7 @@ pub enum Error {
     Memory,
     /// A line, or some lines of a file, are invalid: the text says which, and why.
     Invalid(String),
-    /// The path isn't below the root of the rules.
+    /// The path begins with a slash once the root of the rules is stripped.
     Outside,
     /// A file can't be read.
     Io(io::Error),

@@ -1,22 +1,20 @@
-//! Asks a rule of its own, and then the `.gitignore` of the working directory, about three files.
+//! Lists what the rules keep of the folders that it is given.
 #![tactic(auto)]
 
-use ignore::Error;
-use ignore::files::DiskFiles;
-use ignore::gitignore::GitignoreBuilder;
+use ignore::files::{DiskFiles, Env};
+use ignore::{Error, WalkBuilder, collect_walk};
+use std::env;
 
 fn main(rt: HostRuntime) -> Result<(), Error> {
-    let files = DiskFiles::new(&rt);
-    let mut builder = GitignoreBuilder::new(rt.alloc(), "")?;
-    builder.push_line(None, "*.o")?;
-    let problem = builder.add(&files, ".gitignore")?;
-    let rules = builder.build()?;
-    for path in ["build/a.o", "keep.o", "main.rs"] {
-        let ignored = rules.matched(path, false)?.is_ignore();
-        println!(rt; "{path} {ignored}")?;
-    }
-    if let Some(problem) = problem {
-        println!(rt; "{problem}")?;
+    let (files, process) = (DiskFiles::new(&rt), Env::of_process(&rt)?);
+    for root in env::args(&rt)?.skip(1) {
+        let builder = WalkBuilder::new(rt.alloc(), root.as_str())?;
+        for entry in collect_walk(&builder, &files, &process)? {
+            match entry {
+                Ok(entry) => println!(rt; "{}", entry.path())?,
+                Err(error) => eprintln!(rt; "{error}")?,
+            }
+        }
     }
     Ok(())
 }

@@ -16,6 +16,7 @@ pub mod RepositoryLemmas
 pub mod RootLemmas
 pub mod RuleLemmas
 pub mod RunLemmas
+pub mod SameLemmas
 pub mod ShownLemmas
 pub mod StopLemmas
 pub mod SurveyLemmas
@@ -27,5 +28,6 @@ pub mod WhyLemmas
 pub mod WorkedLines
 pub mod WorkedNames
 pub mod WorkedRepositories
+pub mod WorkedSides
 pub mod WorkedUnused
 pub mod WorkedWorktree

@@ -16,31 +16,40 @@ use Rattle.ig_commands.specs.declared.stop.Stop.{Stop}
 use Rattle.ig_commands.specs.declared.stop.Stop.TheVariants.{Silence}
 
 -- each command may end before it begins
-pub ends_none : {F : Type 0} (files : Files F) (f : F) (env : Env) (o : Options) (first : Draft) (task : Task) (out err : List ℕ → Type 0)
-    (stop : Stop) → EndsAfter [] [] out err stop → Ends files f env o first task out err stop
-ends_none files f env o first command.List out err stop h = inr h
-ends_none files f env o first command.Ignored out err stop h = inr h
-ends_none files f env o first command.Why out err stop h = inr h
-ends_none files f env o first command.Unused out err stop h = inr h
-ends_none files f env o first command.Types out err stop h = h
+pub ends_none : {F : Type 0} (files : Files F) (f : F) (env : Env) (o : Options) (first : Draft) (task : Task) (input : Option (List ℕ))
+    (out err : List ℕ → Type 0) (stop : Stop) → EndsAfter [] [] out err stop → Ends files f env o first task input out err stop
+ends_none files f env o first command.List input out err stop h = inr h
+ends_none files f env o first command.Ignored input out err stop h = inr h
+ends_none files f env o first command.Why input out err stop h = inr h
+ends_none files f env o first command.Unused input out err stop h = inr h
+ends_none files f env o first command.Lint input out err stop h = tt
+ends_none files f env o first command.LintJson input out err stop h = tt
+ends_none files f env o first (command.Same most) input out err stop h = inl (inl h)
+ends_none files f env o first command.Types input out err stop h = h
+
+-- of an early end nothing may be said
+pub ends_in_any_way : (r : Result ℕ Stop) → IfErr r (λ stop. Unit {0})
+ends_in_any_way (Ok status) = tt
+ends_in_any_way (Err stop) = tt
 
 pub keeps_same : (a : Option (List ℕ)) → Keeps a a
 keeps_same None = tt
 keeps_same (Some xs) = refl
 
 -- what a command does by some file types it does by the same ones
-pub does_as : {F : Type 0} (files : Files F) (f : F) (env : Env) (o : Options) (d e : Draft) (t u : Task) (r : Result ℕ Stop)
-    (out err : List ℕ → Type 0) → d ≡ e → u ≡ t → IfOk r (λ status. Does files f env o d t status out err)
-    → IfOk r (λ status. Does files f env o e u status out err)
-does_as files f env o d e t u r out err types is h =
-    subst (λ (x : Task). IfOk r (λ status. Does files f env o e x status out err)) (sym is)
-    (subst (λ (x : Draft). IfOk r (λ status. Does files f env o x t status out err)) types h)
+pub does_as : {F : Type 0} (files : Files F) (f : F) (env : Env) (o : Options) (d e : Draft) (t u : Task) (input : Option (List ℕ))
+    (r : Result ℕ Stop) (out err : List ℕ → Type 0) → d ≡ e → u ≡ t → IfOk r (λ status. Does files f env o d t input status out err)
+    → IfOk r (λ status. Does files f env o e u input status out err)
+does_as files f env o d e t u input r out err types is h =
+    subst (λ (x : Task). IfOk r (λ status. Does files f env o e x input status out err)) (sym is)
+    (subst (λ (x : Draft). IfOk r (λ status. Does files f env o x t input status out err)) types h)
 
-pub ends_as : {F : Type 0} (files : Files F) (f : F) (env : Env) (o : Options) (d e : Draft) (t u : Task) (r : Result ℕ Stop)
-    (out err : List ℕ → Type 0) → d ≡ e → u ≡ t → IfErr r (Ends files f env o d t out err) → IfErr r (Ends files f env o e u out err)
-ends_as files f env o d e t u r out err types is h =
-    subst (λ (x : Task). IfErr r (Ends files f env o e x out err)) (sym is)
-    (subst (λ (x : Draft). IfErr r (Ends files f env o x t out err)) types h)
+pub ends_as : {F : Type 0} (files : Files F) (f : F) (env : Env) (o : Options) (d e : Draft) (t u : Task) (input : Option (List ℕ))
+    (r : Result ℕ Stop) (out err : List ℕ → Type 0) → d ≡ e → u ≡ t → IfErr r (Ends files f env o d t input out err)
+    → IfErr r (Ends files f env o e u input out err)
+ends_as files f env o d e t u input r out err types is h =
+    subst (λ (x : Task). IfErr r (Ends files f env o e x input out err)) (sym is)
+    (subst (λ (x : Draft). IfErr r (Ends files f env o x t input out err)) types h)
 
 -- a run finishes what was done, or what ended early
 pub finishes : (Done : ℕ → (List ℕ → Type 0) → (List ℕ → Type 0) → Type 0) (Ended : (List ℕ → Type 0) → (List ℕ → Type 0) → Stop → Type 0)

@@ -88,6 +88,14 @@ abbrev pub reason_fields : Option Path → Bool → QueryWhy → Option Named �
 reason_fields base null why None = word_fields null why
 reason_fields base null why (Some rule) = rule_fields base null (unwrap_or rule.from []) rule.line rule.original
 
+-- the first two of three fields that no rule has: they are empty
+abbrev pub no_rule : Bool → Bytes
+no_rule null = between null ++ between null
+
+-- a path after what is said of it
+abbrev pub after_path : Bool → Path → Bytes
+after_path null path = before_path null ++ (field null path ++ at_end null)
+
 -- a path after its reason
 abbrev pub reasoned : Option Path → Bool → QueryWhy → Path → Bytes
 reasoned base null why path =

@@ -16,4 +16,7 @@ pub mod Unused
 pub mod Rules
 pub mod Found
 pub mod Input
+pub mod Same
+pub mod Sides
+pub mod Lint
 pub mod Run

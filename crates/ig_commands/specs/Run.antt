@@ -1,5 +1,5 @@
 -- What a run of the program does.
-use Rattle.std.specs.Prelude.{◌≡◌, ◌⊎◌, ℕ, Bool, false, true, [], Option, None}
+use Rattle.std.specs.Prelude.{◌≡◌, ◌⊎◌, ℕ, Bool, false, true, [], Option, None, ⊤}
 use Rattle.std.specs.Io.KnownBytes.{Appends, Keeps}
 use Rattle.ignore_base.specs.Problem.{Problem}
 use Rattle.ignore_base.specs.Text.{Bytes}
@@ -12,37 +12,46 @@ use Rattle.ig_options.specs.declared.options.Options.{Options}
 use Rattle.ig_options.specs.declared.words.Task.{Task}
 use Rattle.ig_options.specs.declared.words.Task.TheVariants as command
 use Rattle.ig_commands.specs.Ignored.{IgnoredAsked, IgnoredEnds}
+use Rattle.ig_commands.specs.Lint.{IsLintStatus}
 use Rattle.ig_commands.specs.Listing.{EndsAsked, ListsAsked, RefusesOptions}
 use Rattle.ig_commands.specs.Reports.{report_line}
+use Rattle.ig_commands.specs.Same.{SameAsked, SameEnds}
 use Rattle.ig_commands.specs.Stops.{EndsAfter, IsUnwritten, reason, stop_status}
 use Rattle.ig_commands.specs.Types.{ListsTypes}
 use Rattle.ig_commands.specs.Unused.{UnusedAsked, UnusedEnds}
 use Rattle.ig_commands.specs.Why.{InputAsked, InputEnds, WhyAsked, WhyEnds}
 use Rattle.ig_commands.specs.declared.stop.Stop.{Stop}
 
--- a command was carried out, with this status; the draft has the file types that exist at first
-abbrev pub Does : {F : Type 0} → Files F → F → Env → Options → Draft → Task → ℕ → (Bytes → Type 0) → (Bytes → Type 0) → Type 0
-Does files f env o first command.List status out err = ListsAsked files f env o first status out err
-Does files f env o first command.Ignored status out err = IgnoredAsked files f env o first status out err
-Does files f env o first command.Why status out err = WhyAsked files f env o first status out err
-Does files f env o first command.Unused status out err = UnusedAsked files f env o first status out err
-Does files f env o first command.Types status out err = ListsTypes o.type_add first status out err
+-- a command was carried out, with this status, where standard input has these bytes, if they are known;
+-- the draft has the file types that exist at first
+abbrev pub Does : {F : Type 0} → Files F → F → Env → Options → Draft → Task → Option Bytes → ℕ → (Bytes → Type 0) → (Bytes → Type 0) → Type 0
+Does files f env o first command.List input status out err = ListsAsked files f env o first status out err
+Does files f env o first command.Ignored input status out err = IgnoredAsked files f env o first status out err
+Does files f env o first command.Why input status out err = WhyAsked files f env o first status out err
+Does files f env o first command.Unused input status out err = UnusedAsked files f env o first status out err
+Does files f env o first command.Lint input status out err = IsLintStatus status
+Does files f env o first command.LintJson input status out err = IsLintStatus status
+Does files f env o first (command.Same most) input status out err = SameAsked files f o most input status out err
+Does files f env o first command.Types input status out err = ListsTypes o.type_add first status out err
 
 -- a command ended early
-abbrev pub Ends : {F : Type 0} → Files F → F → Env → Options → Draft → Task → (Bytes → Type 0) → (Bytes → Type 0) → Stop → Type 0
-Ends files f env o first command.List out err stop = EndsAsked files f env o first out err stop
-Ends files f env o first command.Ignored out err stop = IgnoredEnds files f env o first out err stop
-Ends files f env o first command.Why out err stop = WhyEnds files f env o first out err stop
-Ends files f env o first command.Unused out err stop = UnusedEnds files f env o first out err stop
-Ends files f env o first command.Types out err stop = EndsAfter [] [] out err stop
+abbrev pub Ends : {F : Type 0} → Files F → F → Env → Options → Draft → Task → Option Bytes → (Bytes → Type 0) → (Bytes → Type 0) → Stop → Type 0
+Ends files f env o first command.List input out err stop = EndsAsked files f env o first out err stop
+Ends files f env o first command.Ignored input out err stop = IgnoredEnds files f env o first out err stop
+Ends files f env o first command.Why input out err stop = WhyEnds files f env o first out err stop
+Ends files f env o first command.Unused input out err stop = UnusedEnds files f env o first out err stop
+Ends files f env o first command.Lint input out err stop = ⊤
+Ends files f env o first command.LintJson input out err stop = ⊤
+Ends files f env o first (command.Same most) input out err stop = SameEnds files f o most input out err stop
+Ends files f env o first command.Types input out err stop = EndsAfter [] [] out err stop
 
 -- a command was carried out, or `why` of the paths of standard input
 abbrev pub DoesBy : Bool → {F : Type 0} → Files F → F → Env → Options → Draft → Task → Option Bytes → ℕ → (Bytes → Type 0) → (Bytes → Type 0) → Type 0
-DoesBy false files f env o first task input status out err = Does files f env o first task status out err
+DoesBy false files f env o first task input status out err = Does files f env o first task input status out err
 DoesBy true files f env o first task input status out err = InputAsked files f env o first input status out err
 
 abbrev pub EndsBy : Bool → {F : Type 0} → Files F → F → Env → Options → Draft → Task → Option Bytes → (Bytes → Type 0) → (Bytes → Type 0) → Stop → Type 0
-EndsBy false files f env o first task input out err stop = Ends files f env o first task out err stop
+EndsBy false files f env o first task input out err stop = Ends files f env o first task input out err stop
 EndsBy true files f env o first task input out err stop = InputEnds files f env o first input out err stop
 
 -- anything may have been reported

@@ -6,7 +6,7 @@ ghost use Rattle.ignore_base.specs.Match.{match_map};
 ghost use Rattle.ignore_why.specs.Cited.{cited_of, named_of};
 ghost use Rattle.ignore_why.specs.QueryWhy.{query_why_of};
 ghost use Rattle.ig_options.specs.Quotes.{quoted_byte};
-ghost use Rattle.ig_commands.specs.Form.{between, field, is_decided, number_text, reasoned, relative, rule_fields, rule_in, rule_of, word_fields};
+ghost use Rattle.ig_commands.specs.Form.{after_path, before_path, between, field, is_decided, no_rule, number_text, reasoned, relative, rule_fields, rule_in, rule_of, word_fields};
 ghost use Rattle.ig_commands.specs.Stops.{IsUnwritten};
 
 use crate::stop::Stop;
@@ -141,6 +141,33 @@ fn write_word<W: Write>(form: Form<'_>, reason: &Reason, out: &mut W) -> Result<
         Ok(()) => Ok(()),
         Err(error) => Err(write_stop(&error)),
     }
+}
+
+/// Writes the first two of three fields that no rule has, which are empty.
+pub(crate) fn write_no_rule<W: Write>(form: Form<'_>, out: &mut W) -> Result<(), Stop>
+    ensures writes { OnOk result (Appends (W.contents out.old) (W.contents out.new) (no_rule form.entry.null)) }
+    ensures ended { IfErr result IsUnwritten }
+{
+    write_between(form, out)?;
+    write_between(form, out)
+}
+
+/// Writes a path after what is said of it.
+pub(crate) fn write_after<W: Write>(form: Form<'_>, path: &str, out: &mut W) -> Result<(), Stop>
+    ensures writes { OnOk result (Appends (W.contents out.old) (W.contents out.new) (after_path form.entry.null path.now)) }
+    ensures ended { IfErr result IsUnwritten }
+{
+    write_before(form, out)?;
+    write_text(form, path, out)?;
+    write_bytes(if form.null { b"\0" } else { b"\n" }, out)
+}
+
+/// Writes what separates a path from what is said of it.
+pub(crate) fn write_before<W: Write>(form: Form<'_>, out: &mut W) -> Result<(), Stop>
+    ensures writes { OnOk result (Appends (W.contents out.old) (W.contents out.new) (before_path form.entry.null)) }
+    ensures ended { IfErr result IsUnwritten }
+{
+    write_bytes(if form.null { b"\0" } else { b"\t" }, out)
 }
 
 /// Writes what separates the three fields of a rule.

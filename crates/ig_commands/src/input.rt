@@ -178,7 +178,7 @@ fn flush<W: Write>(out: &mut W) -> Result<(), Stop>
 }
 
 /// Why a failed read ends a command.
-fn read_stop(error: &io::Error) -> Stop
+pub(crate) fn read_stop(error: &io::Error) -> Stop
     ensures kind { result ≡ read_stop (error_kind error.now) }
     ensures ended { (result ≡ Stop.Read) ⊎ (result ≡ Stop.Memory) }
 {

@@ -165,7 +165,7 @@ pub(crate) fn report_rules<E: Write>(
 }
 
 /// Reports an error, if there is one. It returns whether there is.
-fn report_some<E: Write>(error: Option<&Error>, err: &mut E) -> Result<bool, Stop>
+pub(crate) fn report_some<E: Write>(error: Option<&Error>, err: &mut E) -> Result<bool, Stop>
     ensures reports { IfOk result (λ any. (any ≡ is_known (option_map (λ e. problem_of e.now) error.entry))
         × Appends (E.contents err.old) (E.contents err.new) (report_of (option_map (λ e. problem_of e.now) error.entry))) }
     ensures ended { IfErr result (λ stop. stop ≡ Stop.Silence) }

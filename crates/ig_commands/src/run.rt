@@ -10,7 +10,9 @@ ghost use Rattle.ig_options.specs.declared.options.Options.{Options};
 use crate::asking::{check_options, default_types};
 use crate::ignored::list_ignored;
 use crate::input::why_input;
+use crate::lint::{lint_files, lint_json};
 use crate::listing::list;
+use crate::same::{Asked, same};
 use crate::stop::{Stop, report_stop};
 use crate::types::list_types;
 use crate::unused::list_unused;
@@ -210,7 +212,7 @@ fn run_call<F: Files, R: BufRead + Drop, W: Write, E: Write>(
     if call.options.stdin {
         return why_input(world, call.options, input, out, err);
     }
-    run_task(world, call.task, call.options, out, err)
+    run_task(world, call, input, out, err)
 }
 
 /// Whether the options are rejected, with all default types at first.
@@ -236,26 +238,30 @@ impl Write for Nowhere {
 }
 
 /// Runs a command.
-fn run_task<F: Files, W: Write, E: Write>(
+fn run_task<F: Files, R: BufRead + Drop, W: Write, E: Write>(
     world: &World<'_, F>,
-    task: Task,
-    options: &Options,
+    call: &Call<'_>,
+    input: R,
     out: &mut W,
     err: &mut E,
 ) -> Result<u8, Stop>
-    ensures done { IfOk result (λ status. Does F.Files world.now.files.now world.now.env.now options.now types_at_first task
+    ensures done { IfOk result (λ status. Does F.Files world.now.files.now world.now.env.now call.now.options.now types_at_first call.now.task (R.remaining input)
         status (Appends (W.contents out.old) (W.contents out.new)) (Appends (E.contents err.old) (E.contents err.new))) }
-    ensures ended { IfErr result (Ends F.Files world.now.files.now world.now.env.now options.now types_at_first task
+    ensures ended { IfErr result (Ends F.Files world.now.files.now world.now.env.now call.now.options.now types_at_first call.now.task (R.remaining input)
         (Appends (W.contents out.old) (W.contents out.new)) (Appends (E.contents err.old) (E.contents err.new))) }
 {
+    let options = call.options;
     let Ok(first) = default_types(world.alloc) else {
         return Err(Stop::Memory);
     };
-    match task {
+    match call.task {
         Task::List => list(world, options, first, out, err),
         Task::Ignored => list_ignored(world, options, first, out, err),
         Task::Why => why(world, options, first, out, err),
         Task::Unused => list_unused(world, options, first, out, err),
+        Task::Lint => lint_files(world, options, first, out, err),
+        Task::LintJson => lint_json(world, options, first, out, err),
+        Task::Same(most) => same(world, Asked { options, most }, input, out, err),
         Task::Types => list_types(first, options, out, err),
     }
 }

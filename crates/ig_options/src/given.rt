@@ -1,4 +1,4 @@
-//! The paths that `why` is asked about.
+//! The paths that `why` is asked about, and the files that `same` compares.
 ghost use Rattle.std.specs.Prelude.{◌≡◌, IfOk, map};
 ghost use Rattle.ig_options.specs.Given.{Gives, IsText, is_opened};
 

@@ -12,11 +12,13 @@ pub struct Options {
     pub roots: Vec<String>,
     /// Whether no root is given: paths are then written without the `./` of the root `.`.
     pub is_bare: bool,
-    /// The paths that `why` is asked about, as they are given by words.
+    /// The paths that `why` is asked about, the files that `same` compares, or those that `lint` looks
+    /// at, as they are given by words.
     pub paths: Vec<Given>,
     /// `--stdin` of `why`: the paths are those of standard input.
     pub stdin: bool,
-    /// `--only-ignored` of `why`: only a path that is ignored is written.
+    /// `--only-ignored` of `why`: only a path that is ignored is written; `--ignored` of `same`: only
+    /// whether a path is ignored counts.
     pub only_ignored: bool,
     /// `-v` of `ignored`: each entry is written after its reason.
     pub reasons: bool,

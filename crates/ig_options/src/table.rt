@@ -48,7 +48,7 @@ pub enum Alias {
 }
 
 /// What an option does in a command, where that isn't what it does in `ig ls`.
-pub const ELSEWHERE: [(Task, &str, &str); 14] = [
+pub const ELSEWHERE: [(Task, &str, &str); 21] = [
     (
         Task::Ignored,
         "hidden",
@@ -99,6 +99,37 @@ pub const ELSEWHERE: [(Task, &str, &str); 14] = [
         "quiet",
         "Write nothing: the status says whether a path is ignored",
     ),
+    (
+        Task::Lint,
+        "hidden",
+        "Without effect: hidden entries are met",
+    ),
+    (Task::Lint, "unrestricted", "As --no-ignore"),
+    (
+        Task::Lint,
+        "null",
+        "End each field in NUL, and quote nothing",
+    ),
+    (
+        Task::Lint,
+        "quiet",
+        "Write nothing: the status says whether anything is wrong",
+    ),
+    (
+        Task::Same(None),
+        "null",
+        "End each field in NUL, and quote nothing",
+    ),
+    (
+        Task::Same(None),
+        "quiet",
+        "Write nothing: the status says whether they differ",
+    ),
+    (
+        Task::Same(None),
+        "threads",
+        "One thread compares, whatever N is",
+    ),
 ];
 
 /// The orders of `--sort`.
@@ -107,6 +138,8 @@ pub const ORDERS: [&str; 3] = ["name", "path", "none"];
 pub(crate) const WHAT: &str = "What is listed";
 
 pub(crate) const WHAT_OF_WHY: &str = "What is ignored";
+
+pub(crate) const WHAT_OF_SAME: &str = "What is compared";
 
 const RULES: &str = "Which rules count";
 
@@ -141,8 +174,8 @@ pub const KINDS: [Row; 3] = [
     ),
 ];
 
-/// Which rules count, and how files of rules are read.
-pub const FILTERS: [Row; 14] = [
+/// Which rules count.
+pub const FILTERS: [Row; 12] = [
     (
         "hidden",
         Some('H'),
@@ -227,6 +260,10 @@ pub const FILTERS: [Row; 14] = [
         RULES,
         "Files of rules of this name, before .ignore",
     ),
+];
+
+/// How files of rules are read.
+pub const READING: [Row; 2] = [
     (
         "ignore-file-case-insensitive",
         None,
@@ -346,23 +383,23 @@ pub const GLOBS: [Row; 8] = [
     ),
 ];
 
-/// How a list is written.
-pub const PRINTS: [Row; 2] = [
-    (
-        "null",
-        Some('0'),
-        Takes::Switch("no-null"),
-        PRINT,
-        "End each path in NUL, not in a newline",
-    ),
-    (
-        "stats",
-        None,
-        Takes::Switch("no-stats"),
-        PRINT,
-        "Report counts and the time at the end",
-    ),
-];
+/// What a path ends in.
+pub const ENDS: [Row; 1] = [(
+    "null",
+    Some('0'),
+    Takes::Switch("no-null"),
+    PRINT,
+    "End each path in NUL, not in a newline",
+)];
+
+/// What is counted.
+pub const STATS: [Row; 1] = [(
+    "stats",
+    None,
+    Takes::Switch("no-stats"),
+    PRINT,
+    "Report counts and the time at the end",
+)];
 
 /// That nothing is written.
 pub const QUIET: [Row; 1] = [(
@@ -500,22 +537,58 @@ pub const WHY: [Row; 6] = [
     ),
 ];
 
+/// The options of `ig same` alone.
+pub const COMPARED: [Row; 1] = [(
+    "ignored",
+    None,
+    Takes::Switch("no-ignored"),
+    WHAT,
+    "Only whether a path is ignored counts, for a tree with one file",
+)];
+
+/// How much of what `ig same` finds is written.
+pub const PATHS: [Row; 1] = [(
+    "paths",
+    None,
+    Takes::Number,
+    PRINT,
+    "Up to N paths, no two by the same pair of rules",
+)];
+
+/// The options of `ig lint` alone.
+pub const JSON: [Row; 1] = [(
+    "json",
+    None,
+    Takes::Switch("no-json"),
+    PRINT,
+    "Write each as an object of JSON, a line each",
+)];
+
 /// The options of `ig ls`.
-pub const LIST: [&[Row]; 12] = [
-    &KINDS, &FILTERS, &WALK, &DEPTH, &SIZE, &GLOBS, &PRINTS, &QUIET, &ORDER, &TYPE_LIST, &REPORTS,
-    &TAKEN,
+pub const LIST: [&[Row]; 14] = [
+    &KINDS, &FILTERS, &READING, &WALK, &DEPTH, &SIZE, &GLOBS, &ENDS, &STATS, &QUIET, &ORDER,
+    &TYPE_LIST, &REPORTS, &TAKEN,
 ];
 
 /// The options of `ig ignored`.
-pub const IGNORED: [&[Row]; 10] = [
-    &KINDS, &FILTERS, &DEPTH, &SIZE, &GLOBS, &PRINTS, &QUIET, &REASONS, &REPORTS, &TAKEN,
+pub const IGNORED: [&[Row]; 12] = [
+    &KINDS, &FILTERS, &READING, &DEPTH, &SIZE, &GLOBS, &ENDS, &STATS, &QUIET, &REASONS, &REPORTS,
+    &TAKEN,
 ];
 
 /// The options of `ig why`.
-pub const ASKED: [&[Row]; 7] = [&FILTERS, &SIZE, &GLOBS, &WHY, &QUIET, &REPORTS, &TAKEN];
+pub const ASKED: [&[Row]; 8] = [
+    &FILTERS, &READING, &SIZE, &GLOBS, &WHY, &QUIET, &REPORTS, &TAKEN,
+];
 
 /// The options of `ig unused`.
-pub const UNUSED: [&[Row]; 5] = [&FILTERS, &PRINTS, &QUIET, &REPORTS, &TAKEN];
+pub const UNUSED: [&[Row]; 7] = [&FILTERS, &READING, &ENDS, &STATS, &QUIET, &REPORTS, &TAKEN];
+
+/// The options of `ig same`.
+pub const SAME: [&[Row]; 7] = [&COMPARED, &READING, &PATHS, &ENDS, &QUIET, &REPORTS, &TAKEN];
+
+/// The options of `ig lint`.
+pub const LINT: [&[Row]; 7] = [&FILTERS, &READING, &JSON, &ENDS, &QUIET, &REPORTS, &TAKEN];
 
 /// The options of `ig types`.
 pub const TYPES: [&[Row]; 1] = [&[(

@@ -5,7 +5,8 @@ use crate::given::given_words;
 use crate::options::Options;
 use crate::sizes::size_of;
 use crate::table::{
-    ALIASES, ASKED, Alias, ELSEWHERE, IGNORED, LIST, Row, TYPES, Takes, UNUSED, WHAT, WHAT_OF_WHY,
+    ALIASES, ASKED, Alias, ELSEWHERE, IGNORED, LINT, LIST, Row, SAME, TYPES, Takes, UNUSED, WHAT,
+    WHAT_OF_SAME, WHAT_OF_WHY,
 };
 use clap::error::ErrorKind;
 use clap::{Arg, ArgAction, ArgMatches, Command, Error, value_parser};
@@ -25,11 +26,18 @@ pub enum Task {
     Why,
     /// `unused`: the rules that decide nothing.
     Unused,
+    /// `lint`: what is wrong with files of rules.
+    Lint,
+    /// `lint --json`: the same, as objects of JSON.
+    LintJson,
+    /// `same`: whether two files of rules say the same, and how many paths are written at most at which
+    /// they differ: the number of `--paths`, where that is given.
+    Same(Option<usize>),
     /// `types`: the file types and their globs.
     Types,
 }
 
-/// The id of the roots, and of the paths of `why`.
+/// The id of the roots, of the paths of `why`, and of the files of `lint` and `same`.
 const ROOTS: &str = "root";
 
 /// The id of the size above which a file is ignored.
@@ -43,7 +51,7 @@ const SORT_FILES: &str = "sort-files";
 /// How the commands are used.
 const USAGE: &str = "\
 ig [ls] [OPTIONS] [ROOT]...
-       ig ignored|why|unused|types [OPTIONS] ... (see their --help)";
+       ig ignored|why|unused|lint|same|types [OPTIONS] ... (see their --help)";
 
 /// What the long help of a list ends with.
 const LONG_HELP: &str = "\
@@ -111,12 +119,59 @@ Example:
 Status: 0 where something was listed, 1 where nothing was, 2 where something was
 reported.";
 
+/// What the long help of `lint` ends with.
+const LINT_HELP: &str = "\
+Each line is FILE:LINE: RULE: what is wrong. A rule is listed that decides on no
+path at all, whatever a tree holds: it matches nothing, or later lines decide
+wherever it does. So is one that decides in ignored folders alone, a rule that
+stands twice, an invalid line, and what is read otherwise than it looks: white
+space at the end that counts or that git reads otherwise, a carriage return or a
+byte order mark in a line, and a line that isn't UTF-8 and hides the rest.
+
+Without a FILE these are the files of rules in and below the working directory,
+hidden folders too, and those elsewhere that count there: of the folders above,
+.git/info/exclude, git's global file and those of --ignore-file. Then a note,
+which changes no status, says which ! rules re-include nothing, in files above
+which no other has rules.
+
+Examples:
+  ig lint                      what is wrong with the rules of a tree
+  ig lint .gitignore           what is wrong with a file
+
+Status: 0 where nothing is wrong, 1 where something is, 2 where something was
+reported, as that there is too much to judge.";
+
+/// What the long help of `same` ends with.
+const SAME_HELP: &str = "\
+Two files of rules say the same where they do so of every path, whatever a tree
+holds: both ignore it, both whitelist it, or neither has a rule for it. What is
+in an ignored folder is ignored. Where they differ, a shortest path at which
+they do is written twice, after what OLD and then what NEW says of it:
+ignore, whitelist or none, a tab, SOURCE:LINE:PATTERN of the rule that decides,
+or :: where none does, and a tab. A path that ends with a slash is a folder. OLD
+or NEW may be -, for standard input. An invalid line is reported, and the other
+lines are compared.
+
+Examples:
+  git show HEAD:.gitignore | ig same - .gitignore
+                               whether a .gitignore says what it said
+  ig same --paths 9 OLD NEW    up to nine paths, each by another pair of rules
+
+Status: 0 where they say the same, 1 where they differ, 2 where something was
+reported, as that there is too much to compare.";
+
+/// What is wrong with the number of the files that are compared.
+const NOT_TWO: &str = "two files are compared, OLD and NEW";
+
+/// What is wrong with two files that are both standard input.
+const INPUT_TWICE: &str = "standard input, '-', can be only one of OLD and NEW";
+
 /// What is wrong with a size.
 const WRONG_SIZE: &str =
     "invalid value for '--max-filesize <SIZE>': a size is a number, with K, M or G after it or not";
 
 /// The version of the program.
-const VERSION: &str = "1.0.0";
+const VERSION: &str = "1.1.0";
 
 /// The command of the words, and its options. A first word that is the name of a command is the
 /// command, else it is `ls`.
@@ -131,9 +186,20 @@ pub fn read_words(alloc: Global, words: &[String]) -> Result<(Task, Options), Er
     if matches.get_flag("type-list") {
         return Ok((Task::Types, options));
     }
+    if matches.get_flag("json") {
+        return Ok((Task::LintJson, options));
+    }
     match wrong_of(task, &options, &matches) {
         Some((kind, text)) => Err(command.error(kind, text)?),
-        None => Ok((task, options)),
+        None => Ok((asked_by(task, &matches), options)),
+    }
+}
+
+/// A command with what the parser found that belongs to it alone.
+fn asked_by(task: Task, matches: &ArgMatches<'_>) -> Task {
+    match task {
+        Task::Same(_) => Task::Same(matches.get_one::<usize>("paths")),
+        other => other,
     }
 }
 
@@ -141,11 +207,13 @@ pub fn read_words(alloc: Global, words: &[String]) -> Result<(Task, Options), Er
 const LONGEST_NEAR: usize = 9;
 
 /// The commands, by the words that they are called by.
-const COMMANDS: [(&str, Task); 5] = [
+const COMMANDS: [(&str, Task); 7] = [
     ("ls", Task::List),
     ("ignored", Task::Ignored),
     ("why", Task::Why),
     ("unused", Task::Unused),
+    ("lint", Task::Lint),
+    ("same", Task::Same(None)),
     ("types", Task::Types),
 ];
 
@@ -188,10 +256,18 @@ fn options_of(alloc: Global, task: Task, matches: &ArgMatches<'_>) -> Result<Opt
     if let Some(text) = matches.get_str(SIZE_LIMIT) {
         options.max_filesize = size_of(text);
     }
-    if task == Task::Why {
+    if has_paths(task) {
         options.paths = given_words(alloc, matches.get_strs(ROOTS).unwrap_or(&[]))?;
     }
     Ok(options)
+}
+
+/// Whether the words of a command are paths, and no roots.
+fn has_paths(task: Task) -> bool {
+    match task {
+        Task::Why | Task::Lint | Task::Same(_) => true,
+        _ => false,
+    }
 }
 
 /// What is wrong with options that the parser accepts, and of which kind that is.
@@ -203,9 +279,20 @@ fn wrong_of(
     if matches.get_str(SIZE_LIMIT).is_some() && options.max_filesize.is_none() {
         return Some((ErrorKind::ValueValidation, WRONG_SIZE));
     }
-    if task == Task::Why {
-        let text = wrong_paths(options)?;
-        return Some((ErrorKind::ArgumentConflict, text));
+    match task {
+        Task::Why => Some((ErrorKind::ArgumentConflict, wrong_paths(options)?)),
+        Task::Same(_) => wrong_files(matches.get_strs(ROOTS).unwrap_or(&[])),
+        _ => None,
+    }
+}
+
+/// What is wrong with the words for OLD and NEW, and of which kind that is.
+fn wrong_files(words: &[&str]) -> Option<(ErrorKind, &'static str)> {
+    let &[old, new] = words else {
+        return Some((ErrorKind::WrongNumberOfValues, NOT_TWO));
+    };
+    if old == "-" && new == "-" {
+        return Some((ErrorKind::ArgumentConflict, INPUT_TWICE));
     }
     None
 }
@@ -239,6 +326,8 @@ fn command_of<'a>(alloc: Global, task: Task) -> Result<Command<'a>, AllocError> 
         Task::Ignored => ignored_command(alloc),
         Task::Why => why_command(alloc),
         Task::Unused => unused_command(alloc),
+        Task::Lint | Task::LintJson => lint_command(alloc),
+        Task::Same(_) => same_command(alloc),
         Task::Types => types_command(alloc),
     }
 }
@@ -292,6 +381,29 @@ fn unused_command<'a>(alloc: Global) -> Result<Command<'a>, AllocError> {
         .after_long_help(UNUSED_HELP)
         .arg(root)?;
     with_groups(alloc, command, Task::Unused, &UNUSED)
+}
+
+/// The parser of `ig lint`.
+fn lint_command<'a>(alloc: Global) -> Result<Command<'a>, AllocError> {
+    let files = "Files of rules; those that count in the working directory, where none is given";
+    let command = plain_command(alloc, "ig lint")?
+        .about("Lists what is wrong with files of rules, whatever a tree holds.")
+        .override_usage("ig lint [OPTIONS] [FILE]...")
+        .after_help("ig lint --help has all options.")
+        .after_long_help(LINT_HELP)
+        .arg(roots_of(alloc, files).value_name("FILE"))?;
+    with_groups(alloc, command, Task::Lint, &LINT)
+}
+
+/// The parser of `ig same`.
+fn same_command<'a>(alloc: Global) -> Result<Command<'a>, AllocError> {
+    let command = plain_command(alloc, "ig same")?
+        .about("Says whether two files of rules say the same of every path.")
+        .override_usage("ig same [OPTIONS] OLD NEW")
+        .after_help("ig same --help has all options.")
+        .after_long_help(SAME_HELP)
+        .arg(roots_of(alloc, "OLD and NEW; - is standard input").value_name("FILE"))?;
+    with_groups(alloc, command, Task::Same(None), &SAME)
 }
 
 /// The parser of `ig types`.
@@ -383,10 +495,10 @@ fn help_in(task: Task, long: &str, help: &'static str) -> &'static str {
 
 /// What an option is for in a command.
 fn heading_in(task: Task, heading: &'static str) -> &'static str {
-    if task == Task::Why && heading == WHAT {
-        WHAT_OF_WHY
-    } else {
-        heading
+    match task {
+        Task::Why if heading == WHAT => WHAT_OF_WHY,
+        Task::Same(_) if heading == WHAT => WHAT_OF_SAME,
+        _ => heading,
     }
 }
 
@@ -476,7 +588,7 @@ fn read_kinds(options: &mut Options, matches: &ArgMatches<'_>) {
     options.links = matches.get_flag("links");
     options.null = matches.get_flag("null") || matches.get_flag("zero");
     options.stdin = matches.get_flag("stdin");
-    options.only_ignored = matches.get_flag("only-ignored");
+    options.only_ignored = matches.get_flag("only-ignored") || matches.get_flag("ignored");
     options.reasons = matches.get_flag("verbose");
     options.quiet = matches.get_flag("quiet");
     options.stats = matches.get_flag("stats");

@@ -22,7 +22,7 @@ failed write. README.md and docs/CALLING.md say which rules count, man/igwalk.1 
 ";
 
 /// What `igwalk --version` prints.
-const VERSION: &str = "igwalk 1.0.0\n";
+const VERSION: &str = "igwalk 1.1.0\n";
 
 /// The words after the program's name; none where one of them isn't UTF-8.
 fn words(rt: &(impl rt::Env + AllocGlobal)) -> io::Result<Vec<String>> {

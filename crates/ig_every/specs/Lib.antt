@@ -1,0 +1,4 @@
+pub mod Reading
+pub mod Compared
+pub mod Judged
+pub mod Linted
