@@ -18,8 +18,9 @@ use std::{fs, io, rt};
 /// How many bytes a read may take.
 const ROOM: usize = 4 * 1024;
 
-/// How many bytes the first read of a second reading may take. Names take less than half as many
-/// bytes as records mostly, so that half a buffer on none of the lost records is lost again.
+/// How many bytes the first read of a second reading may take. Most names have less than half the
+/// bytes of their records. Then what a read of the first reading loses stands in the second half of
+/// a read of the second one, where nothing is lost.
 const SHIFT: usize = ROOM / 2;
 
 /// How many types are asked rather than read the directory once more.
