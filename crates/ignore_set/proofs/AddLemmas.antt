@@ -1,18 +1,19 @@
 -- What an index keeps when a pattern is added after the others.
 use Rattle.std.proofs.Common.{◌≡◌, ◌≢◌, ◌<◌, ℕ, Bool, true, false, cond, List, [], ◌∷◌, ◌++◌, length, Result, Ok, Err, IfOk}
-use Rattle.std.proofs.Common.{Some, refl, sym, ap, subst, ◌∙◌, arith, Vec, Global}
+use Rattle.std.proofs.Common.{Some, refl, sym, ap, subst, ◌∙◌, inl, arith, Vec, Global}
 use Rattle.std.specs.Bool.{Decides}
 use Rattle.std.specs.BTreeMap.{get_by_text}
 use Rattle.std.specs.Map.{update}
 use Rattle.std.specs.Option.{unwrap_or}
 use Rattle.std.specs.Str.{IsUtf8, bytes_eq}
 use Rattle.std.proofs.lemmas.Slice.Eq.{bytes_eq-Decides}
-use Rattle.ignore_glob.specs.Forms.{whole, name, ending, other, form_of}
+use Rattle.ignore_glob.specs.Forms.{Form, whole, name, ending, other, form_of}
 use Rattle.ignore_set.specs.declared.index.Index.{Index}
 use Rattle.ignore_set.specs.declared.table.Slot.{Slot}
 use Rattle.ignore_set.specs.declared.table.Table.{Table}
-use Rattle.ignore_set.specs.Index.{IsIndexOf, IsNoted, slot_at, slot_with}
-use Rattle.ignore_set.specs.Others.{IndexedText, AreOthers}
+use Rattle.ignore_set.specs.Index.{IsIndexOf, IsNoted, IsTableOf, after, slot_at, slot_with}
+use Rattle.ignore_set.specs.Others.{IndexedText, AreOthers, AreUnderOf}
+use Rattle.ignore_set.specs.Parents.{indexes_at}
 use Rattle.ignore_set.specs.Sets.{Member}
 use Rattle.std.specs.Str.{chars}
 use Rattle.ignore_glob.specs.Ends.{HasParent}
@@ -139,4 +140,38 @@ add_parent old new parent index puts none ms m was size is has = record {
   others = parents_put old.others.items old.parents new parent ms m is has
       (subst (λ k. PutsUnder old.parents new k parent) (sym size) puts) was.others;
   buckets = no_buckets (length old.buckets.long.items) none;
+}
+
+-- No pattern.
+
+table_none : (form : List ℕ → Form) (table : Table) → ((text : List ℕ) → slot_at table text ≡ record { file = 0; dir = 0 })
+    → IsTableOf form table []
+table_none form table none = record {
+  slots = λ is_dir text. record { above = λ i m g h. cc; last = inl (ap (after is_dir) (none text) ∙ zero_after is_dir) };
+  noted = λ i m text g h. cc;
+}
+  where
+    zero_after : (is_dir : Bool) → after is_dir (record { file = 0; dir = 0 }) ≡ 0
+    zero_after true = refl
+    zero_after false = refl
+
+others_none : (parents : Parents) → ((parent : List ℕ) → indexes_at parents parent ≡ []) → AreOthers [] parents []
+others_none parents none = record {
+  each = λ i m g h text utf8 matches. cc;
+  needles = record { rising = λ j k a b less ga gb. cc; formless = λ j n g. cc };
+  under = λ parent. subst (λ l. AreUnderOf l []) (sym (none parent)) (record { rising = λ k l i j less gi gj. cc; formless = λ k i g. cc });
+  apart = λ parent j k n g u. cc;
+}
+
+pub index_none : (index : Index) → ((text : List ℕ) → slot_at index.whole text ≡ record { file = 0; dir = 0 })
+    → ((text : List ℕ) → slot_at index.names text ≡ record { file = 0; dir = 0 })
+    → ((text : List ℕ) → slot_at index.ends text ≡ record { file = 0; dir = 0 })
+    → index.others.items ≡ [] → length index.buckets.long.items ≡ 0
+    → ((parent : List ℕ) → indexes_at index.parents parent ≡ []) → IsIndexOf index []
+index_none index w n e others none parents = record {
+  whole = table_none whole index.whole w;
+  names = table_none name index.names n;
+  ends = table_none ending index.ends e;
+  others = subst (λ l. AreOthers l index.parents []) (sym others) (others_none index.parents parents);
+  buckets = no_buckets (length index.buckets.long.items) none;
 }

@@ -1,13 +1,13 @@
 -- What the needles of the patterns of no form say, and what stands under parents, once a pattern is added.
 use Rattle.std.proofs.Common.{◌≡◌, ◌⊎◌, ℕ, zero, suc, ◌+◌, ◌<◌, ◌≤◌, Bool, List, [], ◌∷◌, ◌++◌, length, map, drop}
 use Rattle.std.proofs.Common.{slice_get, Some, refl, sym, ap, subst, ◌∙◌, inl, inr, arith, zero-add, string_bytes, String}
-use Rattle.std.proofs.Common.{Global, Bool, true, false, cond, get_or}
+use Rattle.std.proofs.Common.{Global, true, false, cond}
 use Rattle.std.specs.Bool.{Decides}
 use Rattle.std.specs.List.{IsAmong}
 use Rattle.std.specs.Str.{chars, IsUtf8, bytes_eq}
 use Rattle.std.specs.Str.Iter.{HasSubslice}
 use Rattle.std.proofs.lemmas.List.Sums.{sum_by-cons}
-use Rattle.std.proofs.lemmas.List.{length-append}
+use Rattle.std.proofs.lemmas.Bool.{false≢true}
 use Rattle.std.proofs.lemmas.Option.{slice_get_within}
 use Rattle.std.proofs.lemmas.Slice.Eq.{bytes_eq-Decides}
 use Rattle.ignore_glob.specs.Ends.{HasParent}
@@ -71,14 +71,14 @@ under_kept under ms m was = record {
   formless = λ k i g. let p = was.formless k i g in (p.0, kept_append ms (m ∷ []) i p.0 p.1, p.2);
 }
 
-pub others_same : (needles : List IndexedText) (parents : Parents) (ms : List Member) (m : Member) → (form_of m.reading ≡ other → ⊥)
-    → AreOthers needles parents ms → AreOthers needles parents (ms ++ m ∷ [])
-others_same needles parents ms m formed was = record {
+pub others_same : (others : List IndexedText) (parents : Parents) (ms : List Member) (m : Member) → (form_of m.reading ≡ other → ⊥)
+    → AreOthers others parents ms → AreOthers others parents (ms ++ m ∷ [])
+others_same others parents ms m formed was = record {
   each = λ i x g is. elim (got_append ms m i x g) [
     | inl before ↦ was.each i x before is
     | inr p ↦ absurd (formed (sym (ap (λ (y : Member). form_of y.reading) p.1) ∙ is))
   ];
-  needles = needles_kept needles ms m was.needles;
+  needles = needles_kept others ms m was.needles;
   under = λ parent. under_kept (indexes_at parents parent) ms m (was.under parent);
   apart = was.apart;
 }
@@ -103,21 +103,21 @@ needles_more needles texts ms m is was = record {
   ];
 }
 
-pub others_put : (needles : List IndexedText) (parents : Parents) (texts : List (List ℕ)) (ms : List Member) (m : Member)
+pub others_put : (others : List IndexedText) (parents : Parents) (texts : List (List ℕ)) (ms : List Member) (m : Member)
     → form_of m.reading ≡ other → ((text : List ℕ) → IsUtf8 text → Matches m.reading (chars text) → HasOneOf texts text)
-    → AreOthers needles parents ms → AreOthers (needles ++ needles_at (length ms) texts) parents (ms ++ m ∷ [])
-others_put needles parents texts ms m is has was = record {
+    → AreOthers others parents ms → AreOthers (others ++ needles_at (length ms) texts) parents (ms ++ m ∷ [])
+others_put others parents texts ms m is has was = record {
   each = λ i x g h text utf8 matches. elim (got_append ms m i x g) [
     | inl before ↦ elim (was.each i x before h text utf8 matches) [
-      | inl p ↦ inl (p.0, p.1, kept_append needles (needles_at (length ms) texts) p.0 p.1 p.2, p.3, p.4)
+      | inl p ↦ inl (p.0, p.1, kept_append others (needles_at (length ms) texts) p.0 p.1 p.2, p.3, p.4)
       | inr p ↦ inr p
     ]
     | inr q ↦ let p = had_at (length ms) texts text (has text utf8 (subst (λ (y : Member). Matches y.reading (chars text)) q.1 matches)) in
-        inl (length needles + p.0, p.1, past_append needles (needles_at (length ms) texts) p.0 ∙ p.2, p.3 ∙ sym q.0, p.4)
+        inl (length others + p.0, p.1, past_append others (needles_at (length ms) texts) p.0 ∙ p.2, p.3 ∙ sym q.0, p.4)
   ];
-  needles = needles_more needles texts ms m is was.needles;
+  needles = needles_more others texts ms m is was.needles;
   under = λ parent. under_kept (indexes_at parents parent) ms m (was.under parent);
-  apart = λ parent j k n g u. elim (got_either needles (needles_at (length ms) texts) j n g) [
+  apart = λ parent j k n g u. elim (got_either others (needles_at (length ms) texts) j n g) [
     | inl g' ↦ was.apart parent j k n g' u
     | inr q ↦ let f = (was.under parent).formless k n.index u in
         absurd (omega (arith, slice_get_within ms n.index f.0 f.1, at_index (length ms) texts q.0 n q.2))
@@ -151,10 +151,10 @@ PutsUnder old new index parent =
     ((q : List ℕ) → indexes_at new q ≡ cond (bytes_eq parent q) (indexes_at old q ++ index ∷ []) (indexes_at old q))
     × IsNotedUnder new parent × ((q : List ℕ) → IsNotedUnder old q → IsNotedUnder new q)
 
-pub parents_put : (needles : List IndexedText) (old new : Parents) (parent : List ℕ) (ms : List Member) (m : Member)
+pub parents_put : (others : List IndexedText) (old new : Parents) (parent : List ℕ) (ms : List Member) (m : Member)
     → form_of m.reading ≡ other → ((text : List ℕ) → IsUtf8 text → Matches m.reading (chars text) → HasParent parent text)
-    → PutsUnder old new (length ms) parent → AreOthers needles old ms → AreOthers needles new (ms ++ m ∷ [])
-parents_put needles old new parent ms m is has (lists, noted, kept) was = record {
+    → PutsUnder old new (length ms) parent → AreOthers others old ms → AreOthers others new (ms ++ m ∷ [])
+parents_put others old new parent ms m is has (lists, noted, kept) was = record {
   each = λ i x g h text utf8 matches. elim (got_append ms m i x g) [
     | inl before ↦ elim (was.each i x before h text utf8 matches) [
       | inl p ↦ inl p
@@ -167,9 +167,9 @@ parents_put needles old new parent ms m is has (lists, noted, kept) was = record
       subst (λ k. IsAmong (indexes_at new parent) k) (sym q.0) (own (bytes_eq parent parent) (bytes_eq-Decides parent parent) (lists parent)),
     )
   ];
-  needles = needles_kept needles ms m was.needles;
+  needles = needles_kept others ms m was.needles;
   under = λ q. grown q (bytes_eq parent q) (lists q);
-  apart = λ q j k n g u. apart q j k n g (bytes_eq parent q) (subst (λ l. slice_get l k ≡ Some n.index) (lists q) u);
+  apart = λ q j k n g u. apart_at q j k n g (bytes_eq parent q) (subst (λ l. slice_get l k ≡ Some n.index) (lists q) u);
 }
   where
     more : (q : List ℕ) (i : ℕ) → IsAmong (indexes_at old q) i → (same : Bool)
@@ -181,20 +181,20 @@ parents_put needles old new parent ms m is has (lists, noted, kept) was = record
         → indexes_at new parent ≡ cond same (indexes_at old parent ++ length ms ∷ []) (indexes_at old parent)
         → IsAmong (indexes_at new parent) (length ms)
     own true d e = subst (λ l. IsAmong l (length ms)) (sym e) (among_end (indexes_at old parent) (length ms))
-    own false d e = absurd (cc (d.1 refl))
+    own false d e = absurd (false≢true (d.1 refl))
 
     grown : (q : List ℕ) (same : Bool) → indexes_at new q ≡ cond same (indexes_at old q ++ length ms ∷ []) (indexes_at old q)
         → AreUnderOf (indexes_at new q) (ms ++ m ∷ [])
     grown q true e = subst (λ l. AreUnderOf l (ms ++ m ∷ [])) (sym e) (under_more (indexes_at old q) ms m is (was.under q))
     grown q false e = subst (λ l. AreUnderOf l (ms ++ m ∷ [])) (sym e) (under_kept (indexes_at old q) ms m (was.under q))
 
-    apart : (q : List ℕ) (j k : ℕ) (n : IndexedText) → slice_get needles j ≡ Some n → (same : Bool)
+    apart_at : (q : List ℕ) (j k : ℕ) (n : IndexedText) → slice_get others j ≡ Some n → (same : Bool)
         → slice_get (cond same (indexes_at old q ++ length ms ∷ []) (indexes_at old q)) k ≡ Some n.index → ⊥
-    apart q j k n g true u = elim (got_append (indexes_at old q) (length ms) k n.index u) [
+    apart_at q j k n g true u = elim (got_append (indexes_at old q) (length ms) k n.index u) [
       | inl u' ↦ was.apart q j k n g u'
       | inr p ↦ let f = was.needles.formless j n g in absurd (omega (arith, slice_get_within ms n.index f.0 f.1, p.1))
     ]
-    apart q j k n g false u = was.apart q j k n g u
+    apart_at q j k n g false u = was.apart q j k n g u
 
 -- Passes.
 

@@ -2,6 +2,7 @@
 use Rattle.std.proofs.Common.{◌≡◌, ◌≢◌, ◌⊎◌, ℕ, zero, suc, ◌+◌, ◌-◌, ◌*◌, ◌/◌, ◌%◌, ◌^◌, ◌<◌, ◌≤◌, List, [], ◌∷◌, ◌++◌, All, length, get_or, set}
 use Rattle.std.proofs.Common.{take, drop, slice_get, Option, Some, None, refl, sym, ap, subst, ◌∙◌, inl, inr, arith, add-one, drop-cons}
 use Rattle.std.specs.Prelude.{bit_or}
+use Rattle.std.specs.List.{slice_range}
 use Rattle.std.proofs.lemmas.List.{length-append}
 use Rattle.std.proofs.lemmas.List.Elements.{All-get_or}
 use Rattle.std.proofs.lemmas.Option.{slice_get_within, slice_get-get_or}
@@ -16,11 +17,17 @@ pub number_step : (bytes : List ℕ) (at : ℕ) → at < length bytes
     → number_of (drop at bytes) ≡ (number_of (drop (at + 1) bytes) * 31 + get_or bytes at 0) % 65536
 number_step bytes at fits = rw add-one (ap number_of (drop-cons bytes at 0 fits))
 
+pub slice_front : (text : List ℕ) (n : ℕ) → slice_range text 0 n ≡ take n text
+slice_front text n = ap (λ k. take k text) zero_less
+  where
+    zero_less : n - 0 ≡ n
+    zero_less = omega arith
+
 -- a text has one parent: it ends at the last slash
 pub parent_at : (text parent : List ℕ) → HasParent parent text
     → (s : ℕ) × (length parent ≡ s + 1) × (parent ≡ take (s + 1) text) × (s < length text) × (get_or text s 0 ≡ 47)
     × ((j : ℕ) → s < j → j < length text → get_or text j 0 ≡ 47 → ⊥)
-parent_at text parent ((front, ends), (name, cut, plain)) = (
+parent_at text parent ((front, ends), name, cut, plain) = (
   length front,
   size,
   sym (ap (take (length front + 1)) cut ∙ (ap (λ n. take n (parent ++ name)) (sym size) ∙ whole parent)),
@@ -67,21 +74,32 @@ parent_at text parent ((front, ends), (name, cut, plain)) = (
         (omega (arith, more, fits, ap length cut, length-append parent name)) plain
         (sym (ap (λ l. get_or l j 0) cut ∙ right parent name j more) ∙ slash)
 
+pub one_parent : (text parent : List ℕ) (at : ℕ) → HasParent parent text → at < length text → get_or text at 0 ≡ 47
+    → ((i : ℕ) → at < i → i < length text → get_or text i 0 ≢ 47) → (parent ≡ take (at + 1) text) × (length parent ≡ at + 1)
+one_parent text parent at has fits slash none =
+    let p = parent_at text parent has in
+    elim (split p.0 at) [
+      | inl before ↦ absurd (p.5 at before fits slash)
+      | inr (inl same) ↦ (p.2 ∙ ap (λ n. take (n + 1) text) same, omega (arith, p.1, same))
+      | inr (inr later) ↦ absurd (none p.0 (omega (arith, later)) p.3 p.4)
+    ]
+
+pub no_parent : (text parent : List ℕ) → HasParent parent text → ((i : ℕ) → i < length text → get_or text i 0 ≢ 47) → ⊥
+no_parent text parent has none = let p = parent_at text parent has in none p.0 p.3 p.4
+
 -- Bits.
 
--- the word at a place, once a bit is put into another, or into it
-pub bit_kept : (words : List ℕ) (at bit : ℕ) (t : List ℕ) → at < length words → HasBit words t
-    → HasBit (set words at (bit_or (get_or words at 0) bit)) t
-bit_kept words at bit t fits had word got = elim (split (number_of t / 64) at) [
+-- a text keeps its bit where another is put into a word
+pub bit_kept : (words : List ℕ) (at w bit : ℕ) (t : List ℕ) → slice_get words at ≡ Some w → HasBit words t
+    → HasBit (set words at (bit_or w bit)) t
+bit_kept words at w bit t was had word got = elim (split (number_of t / 64) at) [
   | inl before ↦ there (λ e. omega (arith, e, before))
   | inr (inl same) ↦
-      let now : word ≡ bit_or (get_or words at 0) bit =
-      some_same word (bit_or (get_or words at 0) bit)
-      (sym got ∙ (ap (λ k. slice_get (set words at (bit_or (get_or words at 0) bit)) k) same
-      ∙ set_here words at (bit_or (get_or words at 0) bit) fits)) in
-      subst (λ w. bit_or (2 ^ (number_of t % 64)) w ≡ w) (sym now)
-      (marked_more (2 ^ (number_of t % 64)) (get_or words at 0) bit
-      (had (get_or words at 0) (ap (λ k. slice_get words k) same ∙ slice_get-get_or words at 0 fits)))
+      let now : word ≡ bit_or w bit = some_same word (bit_or w bit)
+      (sym got ∙ (ap (λ k. slice_get (set words at (bit_or w bit)) k) same
+      ∙ set_here words at (bit_or w bit) (slice_get_within words at w was))) in
+      subst (λ x. bit_or (2 ^ (number_of t % 64)) x ≡ x) (sym now)
+      (marked_more (2 ^ (number_of t % 64)) w bit (had w (ap (λ k. slice_get words k) same ∙ was)))
   | inr (inr later) ↦ there (λ e. omega (arith, e, later))
 ]
   where
@@ -89,23 +107,21 @@ bit_kept words at bit t fits had word got = elim (split (number_of t / 64) at) [
     there differs =
         let place = number_of t / 64 in
         let within : place < length words =
-        omega (arith, slice_get_within (set words at (bit_or (get_or words at 0) bit)) place word got,
-        set_length words at (bit_or (get_or words at 0) bit)) in
-        let was = slice_get-get_or words place 0 within in
+        omega (arith, slice_get_within (set words at (bit_or w bit)) place word got, set_length words at (bit_or w bit)) in
+        let old = slice_get-get_or words place 0 within in
         let same : word ≡ get_or words place 0 =
         some_same word (get_or words place 0)
-        (sym got ∙ set_there words at place (bit_or (get_or words at 0) bit) (get_or words place 0) differs was) in
-        had word (was ∙ ap Some (sym same))
+        (sym got ∙ set_there words at place (bit_or w bit) (get_or words place 0) differs old) in
+        had word (old ∙ ap Some (sym same))
 
-pub bit_here : (words : List ℕ) (text : List ℕ) (at bit : ℕ) → at ≡ number_of text / 64 → bit ≡ 2 ^ (number_of text % 64) → at < length words
-    → HasBit (set words at (bit_or (get_or words at 0) bit)) text
-bit_here words text at bit place is fits word got =
-    let now : word ≡ bit_or (get_or words at 0) bit =
-    some_same word (bit_or (get_or words at 0) bit)
-    (sym got ∙ (ap (λ k. slice_get (set words at (bit_or (get_or words at 0) bit)) k) (sym place)
-    ∙ set_here words at (bit_or (get_or words at 0) bit) fits)) in
-    subst (λ w. bit_or (2 ^ (number_of text % 64)) w ≡ w) (sym now)
-    (subst (λ b. bit_or b (bit_or (get_or words at 0) bit) ≡ bit_or (get_or words at 0) bit) is (marked_here (get_or words at 0) bit))
+-- and a text has its own
+pub bit_here : (words text : List ℕ) (at w bit : ℕ) → at ≡ number_of text / 64 → bit ≡ 2 ^ (number_of text % 64) → at < length words
+    → HasBit (set words at (bit_or w bit)) text
+bit_here words text at w bit place is fits word got =
+    let now : word ≡ bit_or w bit = some_same word (bit_or w bit)
+    (sym got ∙ (ap (λ k. slice_get (set words at (bit_or w bit)) k) (sym place) ∙ set_here words at (bit_or w bit) fits)) in
+    subst (λ x. bit_or (2 ^ (number_of text % 64)) x ≡ x) (sym now)
+    (subst (λ b. bit_or b (bit_or w bit) ≡ bit_or w bit) is (marked_here w bit))
 
-pub bit_past : (words : List ℕ) (text : List ℕ) → length words ≤ number_of text / 64 → HasBit words text
+pub bit_past : (words text : List ℕ) → length words ≤ number_of text / 64 → HasBit words text
 bit_past words text past word got = absurd (omega (arith, past, slice_get_within words (number_of text / 64) word got))

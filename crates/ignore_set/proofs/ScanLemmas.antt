@@ -1,10 +1,10 @@
 -- The scan of the patterns that may match a text, from the last down.
-use Rattle.std.proofs.Common.{◌≡◌, ◌⊎◌, ℕ, zero, suc, ◌+◌, ◌<◌, ◌≤◌, max, Bool, List, [], ◌∷◌, length, take, drop, get_or}
+use Rattle.std.proofs.Common.{◌≡◌, ◌⊎◌, ℕ, zero, suc, ◌+◌, ◌<◌, ◌≤◌, max, Bool, List, [], ◌∷◌, length, map, take, drop, get_or}
 use Rattle.std.proofs.Common.{slice_get, Some, refl, sym, ap, subst, ◌∙◌, inl, inr, arith}
 use Rattle.std.specs.List.{IsAmong}
 use Rattle.std.specs.Str.{chars, IsUtf8}
 use Rattle.std.specs.Str.Iter.{HasSubslice}
-use Rattle.std.proofs.lemmas.List.{length-take}
+use Rattle.std.proofs.lemmas.List.{get_or-map, length-map}
 use Rattle.std.proofs.lemmas.Option.{slice_get-get_or, slice_get_within}
 use Rattle.ignore_glob.specs.Ends.{HasParent}
 use Rattle.ignore_glob.specs.Forms.{other, form_of}
@@ -13,7 +13,7 @@ use Rattle.ignore_set.specs.Buckets.{IsPast}
 use Rattle.ignore_set.specs.Others.{IndexedText, AreBelow, AreCandidates, AreNeedlesOf, AreOthers, AreTried, AreUnderOf, IsAfterMatch}
 use Rattle.ignore_set.specs.Others.{IsFoundFrom, IsFoundInTurn, IsFoundUnder, IsWithinPasses}
 use Rattle.ignore_set.specs.Parents.{IsNotedUnder, indexes_at}
-use Rattle.ignore_set.specs.Sets.{Member, Applies, pass_bound}
+use Rattle.ignore_set.specs.Sets.{Member, Applies, AreShort, IsShort, pass_bound}
 use Rattle.ignore_set.proofs.IndexLemmas.{some_same, split}
 use Rattle.ignore_set.proofs.OtherLemmas.{bound_all, bound_drop, bound_step}
 
@@ -91,7 +91,7 @@ candidates_of text needles parents ms end under utf8 are past all one = record {
 -- those from the kth on, all no less than `least`, were tried in vain, in so many passes
 pub record AreInVain (text : List ℕ) (is_dir : Bool) (ms : List Member) (under : List ℕ) (least k passes : ℕ) : Type 0 where
   pub none : AreTried text is_dir ms under 0 k
-  pub least : (l i : ℕ) → k ≤ l → slice_get under l ≡ Some i → least ≤ i
+  pub from : (l i : ℕ) → k ≤ l → slice_get under l ≡ Some i → least ≤ i
   pub few : (s t : ℕ) → s ≤ t → AreBelow under (length under) t → ((l i : ℕ) → k ≤ l → slice_get under l ≡ Some i → s ≤ i)
       → passes + pass_bound (drop t ms) ≤ pass_bound (drop s ms)
 
@@ -99,7 +99,7 @@ pub vain_start : (text : List ℕ) (is_dir : Bool) (ms : List Member) (under : L
     → AreInVain text is_dir ms under least k 0
 vain_start text is_dir ms under least k end = record {
   none = λ l i m from got g a. absurd (omega (arith, from, end, slice_get_within under l i got));
-  least = λ l i from got. absurd (omega (arith, from, end, slice_get_within under l i got));
+  from = λ l i l-from got. absurd (omega (arith, l-from, end, slice_get_within under l i got));
   few = λ s t less below each. omega (arith, bound_drop ms s t less);
 }
 
@@ -127,10 +127,10 @@ vain_more text is_dir ms under least k passes more i are here from one fails was
         absurd (fails m (subst (λ n. slice_get ms n ≡ Some m) e g) a)
     | inr (inr later) ↦ was.none l j m later got g a
   ];
-  least = λ l j l-from got. elim (split l k) [
+  from = λ l j l-from got. elim (split l k) [
     | inl before ↦ absurd (omega (arith, l-from, before))
     | inr (inl same) ↦ let e = some_same j i (sym got ∙ (ap (λ n. slice_get under n) same ∙ here)) in omega (arith, from, e)
-    | inr (inr later) ↦ was.least l j later got
+    | inr (inr later) ↦ was.from l j later got
   ];
   few = λ s t less below each.
       vain_pass text is_dir ms under least k passes more i are here one was s t (each k i (omega arith) here) below;
@@ -175,7 +175,7 @@ vain_end text is_dir ms under least k passes end was = record {
 
 pub vain_count : (text : List ℕ) (is_dir : Bool) (ms : List Member) (under : List ℕ) (least k passes : ℕ)
     → AreInVain text is_dir ms under least k passes → IsWithinPasses ms under least passes
-vain_count text is_dir ms under least k passes was t from below = was.few least t from below (λ l i l-from got. was.least l i l-from got)
+vain_count text is_dir ms under least k passes was t from below = was.few least t from below (λ l i l-from got. was.from l i l-from got)
 
 -- With a pattern before them.
 
@@ -242,7 +242,7 @@ pub record IsScanned (text : List ℕ) (is_dir : Bool) (ms : List Member) (needl
   pub failed : (m : Member) → slice_get ms tried ≡ Some m → Applies (chars text) is_dir m → ⊥
   pub early : (k : ℕ) (n : IndexedText) → k < j → slice_get needles k ≡ Some n → n.index ≤ tried
   pub within : rest ≤ length under
-  pub under : AreTried text is_dir ms under 0 rest
+  pub late : AreTried text is_dir ms under 0 rest
   pub below : AreBelow under rest tried
   pub few : passes ≤ pass_bound (drop tried ms)
 
@@ -254,7 +254,7 @@ scan_start text is_dir ms needles under j are end = record {
   failed = λ m g a. absurd (omega (arith, slice_get_within ms (length ms) m g));
   early = λ k n less got. let f = are.needles.formless k n got in omega (arith, slice_get_within ms n.index f.0 f.1);
   within = omega arith;
-  under = λ k i m from got g a. absurd (omega (arith, from, slice_get_within under k i got));
+  late = λ k i m from got g a. absurd (omega (arith, from, slice_get_within under k i got));
   below = λ k i less got. let f = are.under.formless k i got in slice_get_within ms i f.0 f.1;
   few = omega arith;
 }
@@ -282,7 +282,7 @@ scan_skip text is_dir ms needles under j tried rest passes n here fails was = re
   failed = was.failed;
   early = λ k x less got. was.early k x (omega (arith, less)) got;
   within = was.within;
-  under = was.under;
+  late = was.late;
   below = was.below;
   few = was.few;
 }
@@ -296,7 +296,7 @@ under_both text is_dir ms under rest left after late early k i m from got g a = 
   | inr (inr later) ↦ absurd (omega (arith, late k i m (omega (arith, later)) got g a))
 ]
 
--- what is known of the pattern of a needle, with those under the parent after it
+-- what is known of the pattern of a needle, once it and those under the parent after it are tried
 pub record IsTriedWith (text : List ℕ) (is_dir : Bool) (ms : List Member) (under : List ℕ) (index after left passes : ℕ) : Type 0 where
   pub value : IsFoundUnder text is_dir ms under index after left
   pub own : (m : Member) → slice_get ms index ≡ Some m → Applies (chars text) is_dir m → index < after
@@ -305,40 +305,40 @@ pub record IsTriedWith (text : List ℕ) (is_dir : Bool) (ms : List Member) (und
 below_take : (under : List ℕ) (rest tried : ℕ) → AreBelow under rest tried → AreBelow (take rest under) (length (take rest under)) tried
 below_take under rest tried was k i less got = let p = taken under rest k i got in was k i p.0 p.1
 
-few_more : (text : List ℕ) (is_dir : Bool) (ms : List Member) (needles : List IndexedText) (under : List ℕ)
+pub few_more : (text : List ℕ) (is_dir : Bool) (ms : List Member) (needles : List IndexedText) (under : List ℕ)
     (j tried rest passes after left more index total : ℕ) → index < tried → total ≤ passes + more
     → IsTriedWith text is_dir ms (take rest under) index after left more
     → IsScanned text is_dir ms needles under (j + 1) tried rest passes → total ≤ pass_bound (drop index ms)
-few_more text is_dir ms needles under j tried rest passes after left more index total less sum with was =
-    omega (arith, sum, was.few, with.count tried less (below_take under rest tried was.below))
+few_more text is_dir ms needles under j tried rest passes after left more index total less sum tries was =
+    omega (arith, sum, was.few, tries.count tried less (below_take under rest tried was.below))
 
 module _ (text : List ℕ) (is_dir : Bool) (ms : List Member) (needles : List IndexedText) (under : List ℕ) where
   pub scan_miss : (j tried rest passes left more total : ℕ) (n : IndexedText) → AreNeedlesOf needles ms → slice_get needles j ≡ Some n
       → n.index < tried → total ≤ passes + more → IsTriedWith text is_dir ms (take rest under) n.index 0 left more
       → IsScanned text is_dir ms needles under (j + 1) tried rest passes
       → IsScanned text is_dir ms needles under j n.index left total
-  scan_miss j tried rest passes left more total n are here less sum with was = record {
-    none = none_more text is_dir ms needles j n here (λ m g has a. absurd (omega (arith, with.own m g a))) was.none;
-    failed = λ m g a. absurd (omega (arith, with.own m g a));
+  scan_miss j tried rest passes left more total n are here less sum tries was = record {
+    none = none_more text is_dir ms needles j n here (λ m g has a. absurd (omega (arith, tries.own m g a))) was.none;
+    failed = λ m g a. absurd (omega (arith, tries.own m g a));
     early = λ k x k-less got. are.rising k j x n (omega (arith, k-less)) got here;
-    within = omega (arith, with.value.within, (length_take under rest).1);
-    under = under_both text is_dir ms under rest left 0 was.under with.value.above;
-    below = λ k i k-less got. elim (with.value.below k i k-less (kept_take under rest k i
-    (omega (arith, k-less, with.value.within, (length_take under rest).0)) got)) [
+    within = omega (arith, tries.value.within, (length_take under rest).1);
+    late = under_both text is_dir ms under rest left 0 was.late tries.value.above;
+    below = λ k i k-less got. elim (tries.value.below k i k-less (kept_take under rest k i
+    (omega (arith, k-less, tries.value.within, (length_take under rest).0)) got)) [
       | inl before ↦ before
       | inr before ↦ absurd (omega (arith, before))
     ];
-    few = few_more text is_dir ms needles under j tried rest passes 0 left more n.index total less sum with was;
+    few = few_more text is_dir ms needles under j tried rest passes 0 left more n.index total less sum tries was;
   }
 
   pub scan_found : (j tried rest passes after left more best : ℕ) (n : IndexedText) → AreNeedlesOf needles ms → slice_get needles j ≡ Some n
       → 0 < after → best ≤ n.index → IsTriedWith text is_dir ms (take rest under) n.index after left more
       → IsScanned text is_dir ms needles under (j + 1) tried rest passes
       → IsFoundInTurn text is_dir ms needles under best after left
-  scan_found j tried rest passes after left more best n are here some from with was = elim (with.value.last) [
+  scan_found j tried rest passes after left more best n are here some from tries was = elim (tries.value.last) [
     | inl none ↦ absurd (omega (arith, some, none))
     | inr f ↦ record {
-      within = omega (arith, with.value.within, (length_take under rest).1);
+      within = omega (arith, tries.value.within, (length_take under rest).1);
       needles = λ k x m got g has a. elim (split k j) [
         | inl before ↦ inl (let order = are.rising k j x n (omega (arith, before)) got here in omega (arith, order, f.2, f.3))
         | inr (inl same) ↦
@@ -347,12 +347,12 @@ module _ (text : List ℕ) (is_dir : Bool) (ms : List Member) (needles : List In
             inl (omega (arith, e, f.2, f.3))
         | inr (inr later) ↦ absurd (was.none k x m later got g has a)
       ];
-      below = inr (λ k i k-less got. elim (with.value.below k i k-less (kept_take under rest k i
-      (omega (arith, k-less, with.value.within, (length_take under rest).0)) got)) [
+      below = inr (λ k i k-less got. elim (tries.value.below k i k-less (kept_take under rest k i
+      (omega (arith, k-less, tries.value.within, (length_take under rest).0)) got)) [
         | inl before ↦ omega (arith, before, f.2, f.3)
         | inr before ↦ before
       ]);
-      above = under_both text is_dir ms under rest left after was.under with.value.above;
+      above = under_both text is_dir ms under rest left after was.late tries.value.above;
       last = inr (f.0, f.1, f.2, omega (arith, from, f.3), f.4, f.5);
     }
   ]
@@ -368,7 +368,7 @@ module _ (text : List ℕ) (is_dir : Bool) (ms : List Member) (needles : List In
       | inr (inr later) ↦ absurd (was.none k x m (omega (arith, later)) got g has a)
     ];
     below = inl refl;
-    above = was.under;
+    above = was.late;
     last = inl refl;
   }
 
@@ -384,7 +384,7 @@ module _ (text : List ℕ) (is_dir : Bool) (ms : List Member) (needles : List In
       | inr (inr later) ↦ absurd (was.none k x m (omega (arith, end, later)) got g has a)
     ];
     below = inl refl;
-    above = was.under;
+    above = was.late;
     last = inl refl;
   }
 
@@ -464,3 +464,16 @@ module _ (text : List ℕ) (is_dir : Bool) (ms : List Member) (needles : List In
     | inr (inl same) ↦ omega (arith, sum, few, rest n (omega (arith, same)) (below_take under left n below), bound_all ms best)
     | inr (inr later) ↦ omega (arith, sum, few, rest n (omega (arith, later)) (below_take under left n below), bound_all ms best)
   ]
+
+-- A member at an index.
+
+pub short_at : {X : Type 0} (f : X → Member) (xs : List X) (i : ℕ) (x : X) → i < length xs → x ≡ get_or xs i x → AreShort (map f xs)
+    → IsShort (f x).reading
+short_at f xs i x fits is short =
+    subst (λ (y : Member). IsShort y.reading) (get_or-map f xs i x (f x) fits ∙ ap f (sym is)) (short i (f x) (rw (length-map xs f) fits))
+
+pub listed_within : {X : Type 0} (f : X → Member) (xs : List X) (under : List ℕ) (k : ℕ) → AreUnderOf under (map f xs) → k < length under
+    → get_or under k 0 < length xs
+listed_within f xs under k are fits =
+    let p = are.formless k (get_or under k 0) (slice_get-get_or under k 0 fits) in
+    omega (arith, slice_get_within (map f xs) (get_or under k 0) p.0 p.1, length-map xs f)

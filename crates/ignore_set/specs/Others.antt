@@ -112,21 +112,21 @@ AreApart needles under = (j k : ℕ) (n : IndexedText) → slice_get needles j �
 
 -- each pattern of no form has needles, one of which is in each text that it matches, or it stands
 -- under the one parent of these texts, but not both
-pub record AreOthers (needles : List IndexedText) (parents : Parents) (ms : List Member) : Type 0 where
+pub record AreOthers (others : List IndexedText) (parents : Parents) (ms : List Member) : Type 0 where
   pub each : (i : ℕ) (m : Member) → slice_get ms i ≡ Some m → form_of m.reading ≡ other
-      → (text : List ℕ) → IsUtf8 text → Matches m.reading (chars text) → HasNeedle needles i text ⊎ StandsUnder parents i text
-  pub needles : AreNeedlesOf needles ms
+      → (text : List ℕ) → IsUtf8 text → Matches m.reading (chars text) → HasNeedle others i text ⊎ StandsUnder parents i text
+  pub needles : AreNeedlesOf others ms
   pub under : (parent : List ℕ) → AreUnderOf (indexes_at parents parent) ms
-  pub apart : (parent : List ℕ) → AreApart needles (indexes_at parents parent)
+  pub apart : (parent : List ℕ) → AreApart others (indexes_at parents parent)
 
 -- each pattern of no form that matches this text has one of these needles in it, or stands at one of
 -- these indexes, but not both
-pub record AreCandidates (text : List ℕ) (needles : List IndexedText) (under : List ℕ) (ms : List Member) : Type 0 where
+pub record AreCandidates (text : List ℕ) (others : List IndexedText) (indexes : List ℕ) (ms : List Member) : Type 0 where
   pub each : (i : ℕ) (m : Member) → slice_get ms i ≡ Some m → form_of m.reading ≡ other → Matches m.reading (chars text)
-      → HasNeedle needles i text ⊎ IsAmong under i
-  pub needles : AreNeedlesOf needles ms
-  pub under : AreUnderOf under ms
-  pub apart : AreApart needles under
+      → HasNeedle others i text ⊎ IsAmong indexes i
+  pub needles : AreNeedlesOf others ms
+  pub under : AreUnderOf indexes ms
+  pub apart : AreApart others indexes
 
 -- n is one more than an index, no less than this one, at which a pattern applies, or 0
 abbrev pub IsAfterMatch : List ℕ → Bool → List Member → ℕ → ℕ → Type 0
@@ -150,10 +150,10 @@ pub record IsFoundUnder (text : List ℕ) (is_dir : Bool) (ms : List Member) (un
 -- `after` is one more than the greatest index, no less than `best`, at which a pattern applies whose
 -- needle is in the text, or one of these indexes of which the first, so many, are less; or it is 0,
 -- and these weren't tried
-pub record IsFoundInTurn (text : List ℕ) (is_dir : Bool) (ms : List Member) (needles : List IndexedText) (under : List ℕ)
+pub record IsFoundInTurn (text : List ℕ) (is_dir : Bool) (ms : List Member) (others : List IndexedText) (under : List ℕ)
     (best after left : ℕ) : Type 0 where
   pub within : left ≤ length under
-  pub needles : (j : ℕ) (n : IndexedText) (m : Member) → slice_get needles j ≡ Some n → slice_get ms n.index ≡ Some m
+  pub needles : (j : ℕ) (n : IndexedText) (m : Member) → slice_get others j ≡ Some n → slice_get ms n.index ≡ Some m
       → HasSubslice text n.text → Applies (chars text) is_dir m → (n.index < after) ⊎ (n.index < best)
   pub below : (after ≡ 0) ⊎ ((k i : ℕ) → k < left → slice_get under k ≡ Some i → i < after)
   pub above : AreTried text is_dir ms under after left

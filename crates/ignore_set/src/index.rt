@@ -5,6 +5,7 @@ ghost use Rattle.ignore_set.specs.Buckets.{AreBucketsOf, IsPast};
 ghost use Rattle.ignore_set.specs.Index.{IsIndexOf, IsExactOf};
 ghost use Rattle.ignore_glob.specs.Forms.{other, form_of};
 ghost use Rattle.ignore_set.specs.Others.{IsMaskOver};
+ghost use Rattle.ignore_set.specs.Parents.{indexes_at};
 ghost use Rattle.ignore_set.specs.Sets.{Member, AreShort, IsLastMatch, pass_bound};
 
 use crate::buckets::Buckets;
@@ -42,13 +43,22 @@ impl Index {
         ensures value { IsIndexOf result [] }
         ensures none { length result.buckets.long.items ≡ 0 }
     {
+        Index::with_parents(alloc, Parents::new(alloc))
+    }
+
+    /// The index of no patterns, with what parents are kept in.
+    fn with_parents(alloc: Global, parents: Parents) -> Index
+        requires { (parent : List ℕ) → indexes_at parents parent ≡ [] }
+        ensures value { IsIndexOf result [] }
+        ensures none { length result.buckets.long.items ≡ 0 }
+    {
         Index {
             whole: Table::new(alloc),
             names: Table::new(alloc),
             ends: Table::new(alloc),
             others: Vec::new(alloc),
             buckets: Buckets::none(alloc),
-            parents: Parents::new(alloc),
+            parents,
         }
     }
 
@@ -219,8 +229,7 @@ impl Index {
 fn without_buckets<M: HasPattern>(alloc: Global, members: &[M]) -> Result<Index, AllocError>
     ensures { IfOk result (λ index. IsIndexOf index (map M.member members.now)) }
 {
-    let mut index = Index::empty(alloc);
-    index.parents = Parents::for_many(alloc, members.len())?;
+    let mut index = Index::with_parents(alloc, Parents::for_many(alloc, members.len())?);
     for (i, member) in members.iter().enumerate() {
         index.add(member.pattern(), i, member.is_only_dir())?;
     }

@@ -1,5 +1,5 @@
 //! Patterns whose texts all have one parent, by that parent.
-ghost use Rattle.std.specs.Prelude.{◌≡◌, ◌⊎◌, ◌+◌, ◌*◌, ◌%◌, ◌<◌, ◌≤◌, ◌++◌, ◌∷◌, [], ℕ, IfOk, IsTrue, List, Some, cond, length, string_bytes};
+ghost use Rattle.std.specs.Prelude.{◌≡◌, ◌⊎◌, ◌+◌, ◌*◌, ◌%◌, ◌^◌, ◌<◌, ◌≤◌, ◌++◌, ◌∷◌, [], ℕ, IfOk, IsTrue, List, Some, cond, length, string_bytes};
 ghost use Rattle.std.specs.Option.{option_map};
 ghost use Rattle.std.specs.Str.{bytes_eq};
 ghost use Rattle.ignore_glob.specs.Ends.{HasParent};
@@ -112,6 +112,13 @@ fn number_of(text: &[u8]) -> usize
     number
 }
 
+/// The bit of a number in its word.
+fn bit_of_number(number: usize) -> u64
+    ensures { result ≡ 2 ^ (number % 64) }
+{
+    1u64 << (number % 64)
+}
+
 /// That no parent has a bit.
 fn no_bits(alloc: Global) -> Result<Vec<u64>, AllocError> {
     let mut words = Vec::with_capacity(alloc, 1024)?;
@@ -129,7 +136,7 @@ fn note(words: &mut Vec<u64>, text: &[u8])
     let number = number_of(text);
     let at = number / 64;
     if at < words.len() {
-        words[at] |= 1u64 << (number % 64);
+        words[at] |= bit_of_number(number);
     }
 }
 
@@ -141,8 +148,10 @@ fn may_have(words: &[u64], parent: &[u8]) -> bool
         return true;
     }
     let number = number_of(parent);
-    match words.get(number / 64) {
-        Some(word) => (1u64 << (number % 64)) | *word == *word,
-        None => true,
+    let at = number / 64;
+    if at >= words.len() {
+        return true;
     }
+    let word = words[at];
+    bit_of_number(number) | word == word
 }

@@ -1,5 +1,5 @@
 //! The patterns that no table of texts has are tried, from the last down, where they may match.
-ghost use Rattle.std.specs.Prelude.{◌≡◌, ◌+◌, ◌<◌, ◌≤◌, ◌×◌, ℕ, IfOk, IsOk, Some, drop, length, map, slice_get};
+ghost use Rattle.std.specs.Prelude.{◌≡◌, ◌+◌, ◌<◌, ◌≤◌, ℕ, IfOk, IsOk, Some, drop, length, map, slice_get};
 ghost use Rattle.std.specs.Str.{chars};
 ghost use Rattle.ignore_glob.specs.Forms.{other, form_of};
 ghost use Rattle.ignore_set.specs.Others.{AreBelow, AreCandidates, AreNeedlesOf, AreUnderOf, IndexedText, IsFoundFrom, IsFoundInTurn};
@@ -68,7 +68,7 @@ fn last_needle<M: HasPattern>(
     ensures value { IfOk result (λ t. IsFoundInTurn text.now is_dir (map M.member members.now) left.now.needles.now left.now.under.now
         best t.after t.left) }
     ensures count { IfOk result (λ t. (n : ℕ) × (t.passes ≤ pass_bound (drop n (map M.member members.now)))
-        × AreBelow left.now.under.now t.left n) }
+        × (t.after ≡ 0 → AreBelow left.now.under.now t.left n)) }
     ensures succeeds { AreShort (map M.member members.now) → IsOk result }
 {
     let others = left.needles;
@@ -125,11 +125,11 @@ fn last_with<M: HasPattern>(
         return Ok(later);
     }
     let (yes, count) = applies(&members[index], text, is_dir)?;
-    Ok(Tried {
-        after: if yes { index + 1 } else { 0 },
-        left: later.left,
-        passes: later.passes.saturating_add(count),
-    })
+    let passes = later.passes.saturating_add(count);
+    if yes {
+        return Ok(Tried { after: index + 1, left: later.left, passes });
+    }
+    Ok(Tried { after: 0, left: later.left, passes })
 }
 
 /// The last that applies of the patterns at these indexes which are no less than `least`.

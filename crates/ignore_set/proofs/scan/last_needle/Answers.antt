@@ -1,174 +1,188 @@
-use Rattle.std.proofs.Common.{◌≡◌, ◌+◌, ◌-◌, ◌<◌, ◌≤◌, drop, length, map, slice_get, Some, ap, sym, subst, ◌∙◌, arith}
-use Rattle.std.specs.Str.{chars}
+use Rattle.std.proofs.Common.{◌≡◌, ◌+◌, ◌-◌, ◌<◌, ◌≤◌, drop, length, map, slice_get, Some, take, ap, sym, subst, ◌∙◌, arith}
 use Rattle.std.proofs.lemmas.Bool.{false≢true}
-use Rattle.std.proofs.lemmas.List.{length-map}
 use Rattle.std.proofs.lemmas.Option.{slice_get-get_or, slice_get_within}
-use Rattle.ignore_set.specs.Others.{IsFoundFrom}
-use Rattle.ignore_set.specs.Sets.{Member, Applies, pass_bound}
-use Rattle.ignore_set.proofs.IndexLemmas.{mapped_at, some_same}
-use Rattle.ignore_set.proofs.OtherLemmas.{NoneFrom, IsTried, tried_before, tried_here, none_more, found_early, found_here}
-use Rattle.ignore_set.proofs.OtherLemmas.{found_below, bound_all, bound_step}
-use Rattle.ignore_set.proofs.index.last_other.Goals as goal
+use Rattle.ignore_set.specs.Sets.{pass_bound}
+use Rattle.ignore_set.proofs.ScanLemmas.{IsScanned, IsTriedWith, few_more, scan_skip, scan_miss, scan_found, scan_early, scan_end, taken}
+use Rattle.ignore_set.proofs.ScanLemmas.{under_take}
+use Rattle.ignore_set.proofs.scan.last_needle.Goals as goal
+
+pub loop-j-preserved-then-not-may_be_in : goal.loop-j-preserved-then-not-may_be_in
+loop-j-preserved-then-not-may_be_in g c =
+    let ms = map g.M.HasPattern.member c.args.members.now in
+    let text = c.args.text.now in
+    let others = c.args.left.now.needles.now in
+    let under = c.args.left.now.under.now in
+    let n = c.index-others-j.result in
+    let j = c.loop-j.j - 1 in
+    let next : c.loop-j.j ≡ j + 1 = omega arith in
+    let here = slice_get-get_or others j n (omega arith) ∙ ap Some (sym c.index-others-j.is) in
+    let scanned = subst (λ k. IsScanned text c.args.is_dir ms others under k c.loop-j.tried c.loop-j.rest c.loop-j.passes) next
+    c.loop-j.invariant.scanned in
+    let over = c.requires.over (let fits = slice_get_within others j n here in omega (arith, fits)) in
+    record {
+      scanned = scan_skip text c.args.is_dir ms others under j c.loop-j.tried c.loop-j.rest c.loop-j.passes n here
+          (λ m h has a. false≢true (sym c.if-not-may_be_in.true ∙ c.may_be_in.ensures text over has)) scanned;
+      least = omega (arith, c.loop-j-test.true);
+    }
 
 pub returns-then-i-best-clause-value : goal.returns-then-i-best-clause-value
 returns-then-i-best-clause-value g c =
     let ms = map g.M.HasPattern.member c.args.members.now in
+    let text = c.args.text.now in
     let others = c.args.left.now.needles.now in
+    let under = c.args.left.now.under.now in
     let n = c.index-others-j.result in
     let j = c.loop-j.j - 1 in
     let next : c.loop-j.j ≡ j + 1 = omega arith in
     let here = slice_get-get_or others j n (omega arith) ∙ ap Some (sym c.index-others-j.is) in
-    let none = subst (λ k. NoneFrom c.args.text.now c.args.is_dir ms others k) next c.loop-j.invariant.none in
-    found_early c.args.text.now c.args.is_dir ms others c.args.best j n c.utf8.text c.requires.others here
-    (omega (arith, c.index-i.ensures, c.if-i-best.true)) none
+    let scanned = subst (λ k. IsScanned text c.args.is_dir ms others under k c.loop-j.tried c.loop-j.rest c.loop-j.passes) next
+    c.loop-j.invariant.scanned in
+    scan_early text c.args.is_dir ms others under j c.loop-j.tried c.loop-j.rest c.loop-j.passes c.args.best n
+    c.requires.candidates.needles here (omega (arith, c.index-i.ensures, c.if-i-best.true)) scanned
 
 pub returns-then-i-best-clause-count : goal.returns-then-i-best-clause-count
-returns-then-i-best-clause-count g c =
-    omega (arith, c.loop-j.invariant.few, bound_all (map g.M.HasPattern.member c.args.members.now) c.loop-j.tried)
+returns-then-i-best-clause-count g c = (c.loop-j.tried, c.loop-j.invariant.scanned.few, λ none. c.loop-j.invariant.scanned.below)
 
 pub loop-j-preserved-then-i-tried : goal.loop-j-preserved-then-i-tried
 loop-j-preserved-then-i-tried g c =
     let ms = map g.M.HasPattern.member c.args.members.now in
+    let text = c.args.text.now in
     let others = c.args.left.now.needles.now in
+    let under = c.args.left.now.under.now in
     let n = c.index-others-j.result in
     let j = c.loop-j.j - 1 in
     let next : c.loop-j.j ≡ j + 1 = omega arith in
     let here = slice_get-get_or others j n (omega arith) ∙ ap Some (sym c.index-others-j.is) in
-    let none = subst (λ k. NoneFrom c.args.text.now c.args.is_dir ms others k) next c.loop-j.invariant.none in
-    let tried = subst (λ k. IsTried c.args.text.now c.args.is_dir ms others k c.loop-j.tried) next c.loop-j.invariant.tried in
+    let scanned = subst (λ k. IsScanned text c.args.is_dir ms others under k c.loop-j.tried c.loop-j.rest c.loop-j.passes) next
+    c.loop-j.invariant.scanned in
     let same : n.index ≡ c.loop-j.tried = omega (arith, c.index-i.ensures, c.if-i-tried.true) in
     record {
-      none = none_more c.args.text.now c.args.is_dir ms others j n here
-          (λ m h has a. tried.failed m (ap (λ k. slice_get ms k) (sym same) ∙ h) a) none;
-      tried = tried_before c.args.text.now c.args.is_dir ms others j c.loop-j.tried tried;
-      few = c.loop-j.invariant.few;
+      scanned = scan_skip text c.args.is_dir ms others under j c.loop-j.tried c.loop-j.rest c.loop-j.passes n here
+          (λ m h has a. scanned.failed m (ap (λ k. slice_get ms k) (sym same) ∙ h) a) scanned;
       least = omega (arith, c.loop-j-test.true);
     }
 
 pub loop-j-preserved-then-not-is_in : goal.loop-j-preserved-then-not-is_in
 loop-j-preserved-then-not-is_in g c =
     let ms = map g.M.HasPattern.member c.args.members.now in
+    let text = c.args.text.now in
     let others = c.args.left.now.needles.now in
+    let under = c.args.left.now.under.now in
     let n = c.index-others-j.result in
     let j = c.loop-j.j - 1 in
     let next : c.loop-j.j ≡ j + 1 = omega arith in
     let here = slice_get-get_or others j n (omega arith) ∙ ap Some (sym c.index-others-j.is) in
-    let none = subst (λ k. NoneFrom c.args.text.now c.args.is_dir ms others k) next c.loop-j.invariant.none in
-    let tried = subst (λ k. IsTried c.args.text.now c.args.is_dir ms others k c.loop-j.tried) next c.loop-j.invariant.tried in
+    let scanned = subst (λ k. IsScanned text c.args.is_dir ms others under k c.loop-j.tried c.loop-j.rest c.loop-j.passes) next
+    c.loop-j.invariant.scanned in
     record {
-      none = none_more c.args.text.now c.args.is_dir ms others j n here
-          (λ m h has a. false≢true (sym c.if-not-is_in.true ∙ c.is_in.ensures.1 has)) none;
-      tried = tried_before c.args.text.now c.args.is_dir ms others j c.loop-j.tried tried;
-      few = c.loop-j.invariant.few;
+      scanned = scan_skip text c.args.is_dir ms others under j c.loop-j.tried c.loop-j.rest c.loop-j.passes n here
+          (λ m h has a. false≢true (sym c.if-not-is_in.true ∙ c.is_in.ensures.1 has)) scanned;
       least = omega (arith, c.loop-j-test.true);
     }
 
-pub loop-j-preserved-then-not-may_be_in : goal.loop-j-preserved-then-not-may_be_in
-loop-j-preserved-then-not-may_be_in g c =
-    let ms = map g.M.HasPattern.member c.args.members.now in
-    let others = c.args.left.now.needles.now in
-    let n = c.index-others-j.result in
-    let j = c.loop-j.j - 1 in
-    let next : c.loop-j.j ≡ j + 1 = omega arith in
-    let here = slice_get-get_or others j n (omega arith) ∙ ap Some (sym c.index-others-j.is) in
-    let none = subst (λ k. NoneFrom c.args.text.now c.args.is_dir ms others k) next c.loop-j.invariant.none in
-    let tried = subst (λ k. IsTried c.args.text.now c.args.is_dir ms others k c.loop-j.tried) next c.loop-j.invariant.tried in
-    record {
-      none = none_more c.args.text.now c.args.is_dir ms others j n here
-          (λ m h has a. false≢true (sym c.if-not-may_be_in.true ∙ c.may_be_in.ensures c.args.text.now c.requires.over has)) none;
-      tried = tried_before c.args.text.now c.args.is_dir ms others j c.loop-j.tried tried;
-      few = c.loop-j.invariant.few;
-      least = omega (arith, c.loop-j-test.true);
-    }
+pub last_with-requires-clause-under : goal.last_with-requires-clause-under
+last_with-requires-clause-under g c =
+    under_take c.args.left.now.under.now (map g.M.HasPattern.member c.args.members.now) c.loop-j.rest c.requires.candidates.under
 
-pub bounds-members-i : goal.bounds-members-i
-bounds-members-i g c =
-    let member = g.M.HasPattern.member in
-    let xs = c.args.members.now in
-    let others = c.args.left.now.needles.now in
-    let n = c.index-others-j.result in
-    let j = c.loop-j.j - 1 in
-    let here = slice_get-get_or others j n (omega arith) ∙ ap Some (sym c.index-others-j.is) in
-    let f = c.requires.others.formless j n here in
-    omega (arith, c.index-i.ensures, slice_get_within (map member xs) n.index f.0 f.1, length-map xs member)
-
-pub offset_bounds-members-i : goal.offset_bounds-members-i
-offset_bounds-members-i g c = omega (arith, bounds-members-i g c)
-
-pub returns-then-yes-clause-value : goal.returns-then-yes-clause-value
-returns-then-yes-clause-value g c =
-    let member = g.M.HasPattern.member in
-    let xs = c.args.members.now in
-    let ms = map member xs in
-    let others = c.args.left.now.needles.now in
-    let n = c.index-others-j.result in
-    let x = c.index-members-i.result in
-    let j = c.loop-j.j - 1 in
-    let next : c.loop-j.j ≡ j + 1 = omega arith in
-    let here = slice_get-get_or others j n (omega arith) ∙ ap Some (sym c.index-others-j.is) in
-    let none = subst (λ k. NoneFrom c.args.text.now c.args.is_dir ms others k) next c.loop-j.invariant.none in
-    let f = c.requires.others.formless j n here in
-    let fits : c.index-i.result < length xs = omega (arith, c.index-i.ensures, slice_get_within ms n.index f.0 f.1, length-map xs member) in
-    let at = ap (λ k. slice_get ms k) (sym c.index-i.ensures) ∙ mapped_at member xs c.index-i.result x fits c.index-members-i.is in
-    subst (λ k. IsFoundFrom c.args.text.now c.args.is_dir ms c.args.best (k + 1)) (sym c.index-i.ensures)
-    (found_here c.args.text.now c.args.is_dir ms others c.args.best j n (member x) c.utf8.text c.requires.others here
-    (omega (arith, c.index-i.ensures, c.if-i-best.false)) at (c.in-Ok.ensures.value.0 c.if-yes.true) none)
-
-pub returns-then-yes-clause-count : goal.returns-then-yes-clause-count
-returns-then-yes-clause-count g c =
+pub last_with-requires-clause-here : goal.last_with-requires-clause-here
+last_with-requires-clause-here g c =
     let ms = map g.M.HasPattern.member c.args.members.now in
     let others = c.args.left.now.needles.now in
     let n = c.index-others-j.result in
     let j = c.loop-j.j - 1 in
     let here = slice_get-get_or others j n (omega arith) ∙ ap Some (sym c.index-others-j.is) in
-    let f = c.requires.others.formless j n here in
-    let below = c.loop-j.invariant.tried.below j n (omega arith) here in
-    let step = bound_step ms n.index c.loop-j.tried f.0 f.1 f.2 (omega (arith, below, c.index-i.ensures, c.if-i-tried.false)) in
-    omega (arith, c.saturating_add-passes.ensures, c.in-Ok.ensures.passes, c.loop-j.invariant.few, step, bound_all ms n.index)
+    let f = c.requires.candidates.needles.formless j n here in
+    (f.0, ap (λ k. slice_get ms k) c.index-i.ensures ∙ f.1, f.2)
+
+pub last_with-requires-clause-apart : goal.last_with-requires-clause-apart
+last_with-requires-clause-apart g c = λ k got.
+    let others = c.args.left.now.needles.now in
+    let under = c.args.left.now.under.now in
+    let n = c.index-others-j.result in
+    let j = c.loop-j.j - 1 in
+    let here = slice_get-get_or others j n (omega arith) ∙ ap Some (sym c.index-others-j.is) in
+    c.requires.candidates.apart j k n here
+    (subst (λ i. slice_get under k ≡ Some i) c.index-i.ensures (taken under c.loop-j.rest k c.index-i.result got).1)
+
+pub returns-then-found-gt0-clause-value : goal.returns-then-found-gt0-clause-value
+returns-then-found-gt0-clause-value g c =
+    let ms = map g.M.HasPattern.member c.args.members.now in
+    let text = c.args.text.now in
+    let others = c.args.left.now.needles.now in
+    let under = c.args.left.now.under.now in
+    let n = c.index-others-j.result in
+    let j = c.loop-j.j - 1 in
+    let rest = c.loop-j.rest in
+    let found = c.in_ok-found.found in
+    let next : c.loop-j.j ≡ j + 1 = omega arith in
+    let here = slice_get-get_or others j n (omega arith) ∙ ap Some (sym c.index-others-j.is) in
+    let scanned = subst (λ k. IsScanned text c.args.is_dir ms others under k c.loop-j.tried rest c.loop-j.passes) next
+    c.loop-j.invariant.scanned in
+    let tries = subst (λ i. IsTriedWith text c.args.is_dir ms (take rest under) i found.after found.left found.passes) c.index-i.ensures
+    (record { value = c.in_ok-found.ensures.value; own = c.in_ok-found.ensures.own; count = c.in_ok-found.ensures.count }) in
+    scan_found text c.args.is_dir ms others under j c.loop-j.tried rest c.loop-j.passes found.after found.left found.passes c.args.best n
+    c.requires.candidates.needles here c.if-found-gt0.true (omega (arith, c.if-i-best.false, c.index-i.ensures)) tries scanned
+
+pub returns-then-found-gt0-clause-count : goal.returns-then-found-gt0-clause-count
+returns-then-found-gt0-clause-count g c =
+    let ms = map g.M.HasPattern.member c.args.members.now in
+    let text = c.args.text.now in
+    let others = c.args.left.now.needles.now in
+    let under = c.args.left.now.under.now in
+    let n = c.index-others-j.result in
+    let j = c.loop-j.j - 1 in
+    let rest = c.loop-j.rest in
+    let found = c.in_ok-found.found in
+    let next : c.loop-j.j ≡ j + 1 = omega arith in
+    let here = slice_get-get_or others j n (omega arith) ∙ ap Some (sym c.index-others-j.is) in
+    let scanned = subst (λ k. IsScanned text c.args.is_dir ms others under k c.loop-j.tried rest c.loop-j.passes) next
+    c.loop-j.invariant.scanned in
+    let tries = subst (λ i. IsTriedWith text c.args.is_dir ms (take rest under) i found.after found.left found.passes) c.index-i.ensures
+    (record { value = c.in_ok-found.ensures.value; own = c.in_ok-found.ensures.own; count = c.in_ok-found.ensures.count }) in
+    let less : n.index < c.loop-j.tried =
+    omega (arith, scanned.early j n (omega arith) here, c.if-i-tried.false, c.index-i.ensures) in (
+      n.index,
+      few_more text c.args.is_dir ms others under j c.loop-j.tried rest c.loop-j.passes found.after found.left found.passes n.index
+          c.saturating_add-passes.result less (omega (arith, c.saturating_add-passes.ensures)) tries scanned,
+      λ none. absurd (omega (arith, c.if-found-gt0.true, none)),
+    )
 
 pub loop-j-preserved : goal.loop-j-preserved
 loop-j-preserved g c =
-    let member = g.M.HasPattern.member in
-    let xs = c.args.members.now in
-    let ms = map member xs in
-    let others = c.args.left.now.needles.now in
-    let n = c.index-others-j.result in
-    let x = c.index-members-i.result in
+    let ms = map g.M.HasPattern.member c.args.members.now in
     let text = c.args.text.now in
-    let is_dir = c.args.is_dir in
+    let others = c.args.left.now.needles.now in
+    let under = c.args.left.now.under.now in
+    let n = c.index-others-j.result in
     let j = c.loop-j.j - 1 in
+    let rest = c.loop-j.rest in
+    let found = c.in_ok-found.found in
     let next : c.loop-j.j ≡ j + 1 = omega arith in
     let here = slice_get-get_or others j n (omega arith) ∙ ap Some (sym c.index-others-j.is) in
-    let none = subst (λ k. NoneFrom text is_dir ms others k) next c.loop-j.invariant.none in
-    let f = c.requires.others.formless j n here in
-    let fits : c.index-i.result < length xs = omega (arith, c.index-i.ensures, slice_get_within ms n.index f.0 f.1, length-map xs member) in
-    let at = ap (λ k. slice_get ms k) (sym c.index-i.ensures) ∙ mapped_at member xs c.index-i.result x fits c.index-members-i.is in
-    let below = c.loop-j.invariant.tried.below j n (omega arith) here in
-    let step = bound_step ms n.index c.loop-j.tried f.0 f.1 f.2 (omega (arith, below, c.index-i.ensures, c.if-i-tried.false)) in
-    let fails : (m : Member) → slice_get ms n.index ≡ Some m → Applies (chars text) is_dir m → ⊥ =
-    λ m h a. false≢true (sym c.if-yes.false ∙ c.in-Ok.ensures.value.1
-    (subst (λ (y : Member). Applies (chars text) is_dir y) (some_same m (member x) (sym h ∙ at)) a)) in
+    let scanned = subst (λ k. IsScanned text c.args.is_dir ms others under k c.loop-j.tried rest c.loop-j.passes) next
+    c.loop-j.invariant.scanned in
+    let none : found.after ≡ 0 = omega (arith, c.if-found-gt0.false) in
+    let tries = subst (λ i. IsTriedWith text c.args.is_dir ms (take rest under) i 0 found.left found.passes) c.index-i.ensures
+    (subst (λ a. IsTriedWith text c.args.is_dir ms (take rest under) c.index-i.result a found.left found.passes) none
+    (record { value = c.in_ok-found.ensures.value; own = c.in_ok-found.ensures.own; count = c.in_ok-found.ensures.count })) in
+    let less : n.index < c.loop-j.tried =
+    omega (arith, scanned.early j n (omega arith) here, c.if-i-tried.false, c.index-i.ensures) in
     record {
-      none = none_more text is_dir ms others j n here (λ m h has a. fails m h a) none;
-      tried = subst (λ k. IsTried text is_dir ms others j k) (sym c.index-i.ensures)
-          (tried_here text is_dir ms others j n c.requires.others here fails);
-      few = subst (λ k. c.saturating_add-passes.result ≤ pass_bound (drop k ms)) (sym c.index-i.ensures)
-          (omega (arith, c.saturating_add-passes.ensures, c.in-Ok.ensures.passes, c.loop-j.invariant.few, step));
+      scanned = subst (λ i. IsScanned text c.args.is_dir ms others under j i found.left c.saturating_add-passes.result) (sym c.index-i.ensures)
+          (scan_miss text c.args.is_dir ms others under j c.loop-j.tried rest c.loop-j.passes found.left found.passes
+          c.saturating_add-passes.result n c.requires.candidates.needles here less (omega (arith, c.saturating_add-passes.ensures)) tries scanned);
       least = omega (arith, c.loop-j-test.true);
     }
 
 pub returns-clause-value : goal.returns-clause-value
 returns-clause-value g c =
     let ms = map g.M.HasPattern.member c.args.members.now in
-    let others = c.args.left.now.needles.now in
-    let from = c.first_from-from.result in
-    let none = subst (λ k. NoneFrom c.args.text.now c.args.is_dir ms others k)
-    (let e : c.loop-j.j ≡ from = omega (arith, c.loop-j-test.false, c.loop-j.invariant.least) in e) c.loop-j.invariant.none in
-    found_below c.args.text.now c.args.is_dir ms others c.args.best from c.utf8.text c.requires.others c.first_from-from.ensures.below none
-
-pub first_from-from-requires : goal.first_from-from-requires
-first_from-from-requires g c = c.requires.others.rising
+    scan_end c.args.text.now c.args.is_dir ms c.args.left.now.needles.now c.args.left.now.under.now c.loop-j.j c.first_from-from.result
+    c.loop-j.tried c.loop-j.rest c.loop-j.passes c.args.best (omega (arith, c.loop-j-test.false)) c.first_from-from.ensures.below
+    c.loop-j.invariant.scanned
 
 pub returns-clause-count : goal.returns-clause-count
-returns-clause-count g c =
-    omega (arith, c.loop-j.invariant.few, bound_all (map g.M.HasPattern.member c.args.members.now) c.loop-j.tried)
+returns-clause-count g c = (c.loop-j.tried, c.loop-j.invariant.scanned.few, λ none. c.loop-j.invariant.scanned.below)
+
+pub first_from-from-requires : goal.first_from-from-requires
+first_from-from-requires g c = c.requires.candidates.needles.rising

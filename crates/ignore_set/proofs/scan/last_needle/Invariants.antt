@@ -1,12 +1,9 @@
-use Rattle.std.proofs.Common.{◌≤◌, drop, map}
-use Rattle.ignore_set.specs.Sets.{pass_bound}
-use Rattle.ignore_set.proofs.OtherLemmas.{IsTried, NoneFrom}
-use Rattle.ignore_set.proofs.index.last_other.Given as goal
+use Rattle.std.proofs.Common.{◌≤◌, map}
+use Rattle.ignore_set.proofs.ScanLemmas.{IsScanned}
+use Rattle.ignore_set.proofs.scan.last_needle.Given as goal
 
 abbrev pub invariant-loop-j : goal.invariant-loop-j
 invariant-loop-j g l = record {
-  none : NoneFrom l.text l.is_dir (map g.M.HasPattern.member l.members) l.others l.j;
-  tried : IsTried l.text l.is_dir (map g.M.HasPattern.member l.members) l.others l.j l.tried;
+  scanned : IsScanned l.text l.is_dir (map g.M.HasPattern.member l.members) l.others l.left.under.now l.j l.tried l.rest l.passes;
   least : l.from ≤ l.j;
-  few : l.passes ≤ pass_bound (drop l.tried (map g.M.HasPattern.member l.members));
 }
