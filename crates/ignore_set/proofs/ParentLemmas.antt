@@ -63,9 +63,11 @@ parent_at text parent ((front, ends), name, cut, plain) = (
     at e = ap (λ l. get_or l (length front) 0) cut ∙ (left parent name (length front) (omega (arith, size)) ∙ e)
 
     right : (xs ys : List ℕ) (k : ℕ) → length xs ≤ k → get_or (xs ++ ys) k 0 ≡ get_or ys (k - length xs) 0
-    right [] ys k more = refl
+    right [] ys k more = ap (λ n. get_or ys n 0) (let e : k ≡ k - 0 = omega arith in e)
     right (x ∷ xs) ys zero more = absurd (omega (arith, more))
-    right (x ∷ xs) ys (suc k) more = right xs ys k (omega (arith, more))
+    right (x ∷ xs) ys (suc k) more =
+        let e : k - length xs ≡ suc k - length (x ∷ xs) = omega arith in
+        right xs ys k (omega (arith, more)) ∙ ap (λ n. get_or ys n 0) e
 
     later : (j : ℕ) → length front < j → j < length text → get_or text j 0 ≡ 47 → ⊥
     later j after fits slash =

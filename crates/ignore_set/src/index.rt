@@ -154,14 +154,11 @@ impl Index {
         let text = &whole[offset..];
         let exact = self.last_exact(text, is_dir);
         let needles = self.needles_before_end(text);
-        let under = self.parents.under(text);
-        if needles.is_empty() && under.is_empty() {
-            return Ok((exact.checked_sub(1), 0));
-        }
+        let listed = self.parents.under(text);
         let left = Left {
             needles,
             mask: mask_for(needles, haystack, offset),
-            under,
+            under: listed,
         };
         let (after, passes) = last_left(members, &left, exact, text, is_dir)?;
         Ok((after.checked_sub(1), passes))
