@@ -15,10 +15,10 @@ use Rattle.ignore_glob.specs.Forms.{other, form_of}
 use Rattle.ignore_glob.specs.Needles.{HasOneOf}
 use Rattle.ignore_glob.specs.Reading.{Matches}
 use Rattle.ignore_set.specs.declared.parents.Parents.{Parents}
-use Rattle.ignore_set.specs.Others.{IndexedText, AreApart, AreNeedlesOf, AreOthers, AreUnderOf}
+use Rattle.ignore_set.specs.Others.{IndexedText, AreNeedlesOf, AreOthers, AreUnderOf}
 use Rattle.ignore_set.specs.Parents.{IsNotedUnder, indexes_at}
 use Rattle.ignore_set.specs.Sets.{Member, form_passes, passes_of, pass_bound}
-use Rattle.ignore_set.proofs.IndexLemmas.{some_same, split}
+use Rattle.ignore_set.proofs.IndexLemmas.{some_same}
 use Rattle.ignore_set.proofs.SlotLemmas.{got_append, kept_append, end_append, among_more, among_end}
 
 -- Lists.

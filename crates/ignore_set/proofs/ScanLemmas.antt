@@ -7,10 +7,9 @@ use Rattle.std.specs.Str.Iter.{HasSubslice}
 use Rattle.std.proofs.lemmas.List.{get_or-map, length-map}
 use Rattle.std.proofs.lemmas.Option.{slice_get-get_or, slice_get_within}
 use Rattle.ignore_glob.specs.Ends.{HasParent}
-use Rattle.ignore_glob.specs.Forms.{other, form_of}
 use Rattle.ignore_set.specs.declared.parents.Parents.{Parents}
 use Rattle.ignore_set.specs.Buckets.{IsPast}
-use Rattle.ignore_set.specs.Others.{IndexedText, AreBelow, AreCandidates, AreNeedlesOf, AreOthers, AreTried, AreUnderOf, IsAfterMatch}
+use Rattle.ignore_set.specs.Others.{IndexedText, AreBelow, AreCandidates, AreNeedlesOf, AreOthers, AreTried, AreUnderOf}
 use Rattle.ignore_set.specs.Others.{IsFoundFrom, IsFoundInTurn, IsFoundUnder, IsWithinPasses}
 use Rattle.ignore_set.specs.Parents.{IsNotedUnder, indexes_at}
 use Rattle.ignore_set.specs.Sets.{Member, Applies, AreShort, IsShort, pass_bound}
@@ -324,10 +323,10 @@ module _ (text : List ℕ) (is_dir : Bool) (ms : List Member) (needles : List In
     within = omega (arith, tries.value.within, (length_take under rest).1);
     late = under_both text is_dir ms under rest left 0 was.late tries.value.above;
     below = λ k i k-less got. elim (tries.value.below k i k-less (kept_take under rest k i
-    (omega (arith, k-less, tries.value.within, (length_take under rest).0)) got)) [
-      | inl before ↦ before
-      | inr before ↦ absurd (omega (arith, before))
-    ];
+        (omega (arith, k-less, tries.value.within, (length_take under rest).0)) got)) [
+          | inl before ↦ before
+          | inr before ↦ absurd (omega (arith, before))
+        ];
     few = few_more text is_dir ms needles under j tried rest passes 0 left more n.index total less sum tries was;
   }
 
@@ -348,10 +347,10 @@ module _ (text : List ℕ) (is_dir : Bool) (ms : List Member) (needles : List In
         | inr (inr later) ↦ absurd (was.none k x m later got g has a)
       ];
       below = inr (λ k i k-less got. elim (tries.value.below k i k-less (kept_take under rest k i
-      (omega (arith, k-less, tries.value.within, (length_take under rest).0)) got)) [
-        | inl before ↦ omega (arith, before, f.2, f.3)
-        | inr before ↦ before
-      ]);
+          (omega (arith, k-less, tries.value.within, (length_take under rest).0)) got)) [
+            | inl before ↦ omega (arith, before, f.2, f.3)
+            | inr before ↦ before
+          ]);
       above = under_both text is_dir ms under rest left after was.late tries.value.above;
       last = inr (f.0, f.1, f.2, omega (arith, from, f.3), f.4, f.5);
     }

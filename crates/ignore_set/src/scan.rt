@@ -51,7 +51,10 @@ pub(crate) fn last_left<M: HasPattern>(
         return Ok((first.after, first.passes));
     }
     let rest = last_under(members, &left.under[..first.left], best, text, is_dir)?;
-    Ok((rest.after.max(best), first.passes.saturating_add(rest.passes)))
+    Ok((
+        rest.after.max(best),
+        first.passes.saturating_add(rest.passes),
+    ))
 }
 
 /// The last of the patterns at an index or after it that applies, of those with a needle in the
@@ -83,7 +86,11 @@ fn last_needle<M: HasPattern>(
         }
         let i = needle.index();
         if i < best {
-            return Ok(Tried { after: 0, left: rest, passes });
+            return Ok(Tried {
+                after: 0,
+                left: rest,
+                passes,
+            });
         }
         if i == tried {
             continue;
@@ -94,12 +101,20 @@ fn last_needle<M: HasPattern>(
         let found = last_with(members, &left.under[..rest], i, text, is_dir)?;
         passes = passes.saturating_add(found.passes);
         if found.after > 0 {
-            return Ok(Tried { after: found.after, left: found.left, passes });
+            return Ok(Tried {
+                after: found.after,
+                left: found.left,
+                passes,
+            });
         }
         tried = i;
         rest = found.left;
     }
-    Ok(Tried { after: 0, left: rest, passes })
+    Ok(Tried {
+        after: 0,
+        left: rest,
+        passes,
+    })
 }
 
 /// The last that applies of the pattern at an index and of those under a parent that come after it.
@@ -127,9 +142,17 @@ fn last_with<M: HasPattern>(
     let (yes, count) = applies(&members[index], text, is_dir)?;
     let passes = later.passes.saturating_add(count);
     if yes {
-        return Ok(Tried { after: index + 1, left: later.left, passes });
+        return Ok(Tried {
+            after: index + 1,
+            left: later.left,
+            passes,
+        });
     }
-    Ok(Tried { after: 0, left: later.left, passes })
+    Ok(Tried {
+        after: 0,
+        left: later.left,
+        passes,
+    })
 }
 
 /// The last that applies of the patterns at these indexes which are no less than `least`.
@@ -149,15 +172,27 @@ fn last_under<M: HasPattern>(
     for k in (0..under.len()).rev() {
         let index = under[k];
         if index < least {
-            return Ok(Tried { after: 0, left: k + 1, passes });
+            return Ok(Tried {
+                after: 0,
+                left: k + 1,
+                passes,
+            });
         }
         let (yes, count) = applies(&members[index], text, is_dir)?;
         passes = passes.saturating_add(count);
         if yes {
-            return Ok(Tried { after: index + 1, left: k, passes });
+            return Ok(Tried {
+                after: index + 1,
+                left: k,
+                passes,
+            });
         }
     }
-    Ok(Tried { after: 0, left: 0, passes })
+    Ok(Tried {
+        after: 0,
+        left: 0,
+        passes,
+    })
 }
 
 /// A place before which no needle has this index or a greater one.

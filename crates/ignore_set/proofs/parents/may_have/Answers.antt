@@ -1,4 +1,4 @@
-use Rattle.std.proofs.Common.{◌≡◌, ◌^◌, ◌%◌, ◌/◌, Some, ap, sym, get_or, slice_get, ◌∙◌}
+use Rattle.std.proofs.Common.{◌^◌, ◌%◌, ◌/◌, ap, sym, get_or, slice_get, ◌∙◌}
 use Rattle.std.specs.Prelude.{bit_or}
 use Rattle.std.proofs.lemmas.Bool.{eq-eqb}
 use Rattle.std.proofs.lemmas.Option.{slice_get-get_or}

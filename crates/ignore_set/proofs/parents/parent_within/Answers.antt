@@ -1,4 +1,4 @@
-use Rattle.std.proofs.Common.{◌+◌, Some, None, ap, sym, take, ◌∙◌, arith}
+use Rattle.std.proofs.Common.{◌+◌, Some, None, ap, sym, ◌∙◌, arith}
 use Rattle.std.proofs.lemmas.Str.Pattern.{rfind_char}
 use Rattle.ignore_set.proofs.ParentLemmas.{no_parent, one_parent, slice_front}
 use Rattle.ignore_set.proofs.parents.parent_within.Goals as goal

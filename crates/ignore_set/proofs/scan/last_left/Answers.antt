@@ -1,6 +1,5 @@
-use Rattle.std.proofs.Common.{◌≡◌, ◌<◌, ◌≤◌, drop, map, sym, subst, arith}
+use Rattle.std.proofs.Common.{◌≡◌, map, sym, subst, arith}
 use Rattle.ignore_set.specs.Others.{IsFoundFrom, IsFoundInTurn}
-use Rattle.ignore_set.specs.Sets.{pass_bound}
 use Rattle.ignore_set.proofs.OtherLemmas.{bound_all}
 use Rattle.ignore_set.proofs.ScanLemmas.{found_count, found_first, found_rest, under_take}
 use Rattle.ignore_set.proofs.scan.last_left.Goals as goal

@@ -1,7 +1,6 @@
-use Rattle.std.proofs.Common.{◌≡◌, ◌+◌, ◌-◌, ◌<◌, ◌≤◌, drop, length, map, slice_get, Some, take, ap, sym, subst, ◌∙◌, arith}
+use Rattle.std.proofs.Common.{◌≡◌, ◌+◌, ◌-◌, ◌<◌, map, slice_get, Some, take, ap, sym, subst, ◌∙◌, arith}
 use Rattle.std.proofs.lemmas.Bool.{false≢true}
 use Rattle.std.proofs.lemmas.Option.{slice_get-get_or, slice_get_within}
-use Rattle.ignore_set.specs.Sets.{pass_bound}
 use Rattle.ignore_set.proofs.ScanLemmas.{IsScanned, IsTriedWith, few_more, scan_skip, scan_miss, scan_found, scan_early, scan_end, taken}
 use Rattle.ignore_set.proofs.ScanLemmas.{under_take}
 use Rattle.ignore_set.proofs.scan.last_needle.Goals as goal

@@ -1,8 +1,8 @@
-use Rattle.std.proofs.Common.{rules, ◌≡◌, ◌+◌, ◌-◌, ◌<◌, ◌≤◌, drop, get_or, length, map, slice_get, Some, sym, ap, subst, ◌∙◌, arith}
+use Rattle.std.proofs.Common.{rules, ◌≡◌, ◌+◌, ◌-◌, ◌<◌, get_or, length, map, sym, subst, ◌∙◌, arith}
 use Rattle.std.specs.Str.{chars}
 use Rattle.std.proofs.lemmas.Bool.{false≢true}
 use Rattle.std.proofs.lemmas.Option.{slice_get-get_or}
-use Rattle.ignore_set.specs.Sets.{Member, Applies, pass_bound}
+use Rattle.ignore_set.specs.Sets.{Member, Applies}
 use Rattle.ignore_set.proofs.IndexLemmas.{mapped_at, some_same}
 use Rattle.ignore_set.proofs.ScanLemmas.{AreInVain, vain_start, vain_pass, vain_more, vain_found, vain_early, vain_end, vain_count}
 use Rattle.ignore_set.proofs.ScanLemmas.{listed_within, short_at}

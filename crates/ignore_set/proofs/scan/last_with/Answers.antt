@@ -1,10 +1,10 @@
-use Rattle.std.proofs.Common.{rules, ◌≡◌, ◌+◌, ◌<◌, ◌≤◌, drop, length, map, sym, ap, subst, ◌∙◌, arith}
+use Rattle.std.proofs.Common.{◌≡◌, ◌+◌, ◌<◌, length, map, sym, subst, ◌∙◌, arith}
 use Rattle.std.specs.Str.{chars}
 use Rattle.std.proofs.lemmas.Bool.{false≢true}
 use Rattle.std.proofs.lemmas.List.{length-map}
 use Rattle.std.proofs.lemmas.Option.{slice_get_within}
 use Rattle.ignore_set.specs.Others.{IsFoundUnder}
-use Rattle.ignore_set.specs.Sets.{Member, Applies, pass_bound}
+use Rattle.ignore_set.specs.Sets.{Member, Applies}
 use Rattle.ignore_set.proofs.IndexLemmas.{mapped_at, some_same}
 use Rattle.ignore_set.proofs.OtherLemmas.{bound_drop, bound_step}
 use Rattle.ignore_set.proofs.ScanLemmas.{short_at, with_later, with_hit, with_miss}

@@ -2,7 +2,6 @@ use Rattle.std.proofs.Common.{ℕ, List, IfSome, ap, ◌∙◌, ◌++◌, map, s
 use Rattle.std.specs.Str.{chars, IsUtf8}
 use Rattle.std.proofs.lemmas.Result.{IfOk-weaker}
 use Rattle.ignore_glob.specs.Ends.{HasParent}
-use Rattle.ignore_glob.specs.Forms.{form_of}
 use Rattle.ignore_glob.specs.Reading.{Matches}
 use Rattle.ignore_set.proofs.AddLemmas.{if_ok3, add_needles, add_parent}
 use Rattle.ignore_set.proofs.OtherLemmas.{needles_at-strings}
