@@ -1,9 +1,11 @@
 //! An index over patterns that their owner keeps.
-ghost use Rattle.std.specs.Prelude.{◌≡◌, ◌+◌, ◌<◌, ◌≤◌, ◌^◌, ◌++◌, ◌∷◌, [], ℕ, IfOk, IfSome, IsOk, List, drop, length, map, take};
-ghost use Rattle.std.specs.Str.{IsCharBoundary, chars};
+ghost use Rattle.std.specs.Prelude.{◌≡◌, ◌+◌, ◌<◌, ◌≤◌, ◌^◌, ◌++◌, ◌∷◌, [], ℕ, IfOk, IfSome, IsOk, List, drop, length, map, string_bytes, take};
+ghost use Rattle.std.specs.Str.{IsCharBoundary, IsUtf8, chars};
+ghost use Rattle.ignore_glob.specs.Ends.{HasParent};
 ghost use Rattle.ignore_set.specs.Buckets.{AreBucketsOf, IsPast};
 ghost use Rattle.ignore_set.specs.Index.{IsIndexOf, IsExactOf};
 ghost use Rattle.ignore_glob.specs.Forms.{other, form_of};
+ghost use Rattle.ignore_glob.specs.Reading.{Matches};
 ghost use Rattle.ignore_set.specs.Others.{IsMaskOver};
 ghost use Rattle.ignore_set.specs.Parents.{indexes_at};
 ghost use Rattle.ignore_set.specs.Sets.{Member, AreShort, IsLastMatch, pass_bound};
@@ -23,9 +25,9 @@ use std::alloc::{AllocError, Global};
 /// last of them that matches a text.
 ///
 /// A pattern of literals, alone or after `**/` or `**/*`, stands in a table under its text. Of the
-/// others, one whose texts all have one parent stands under that. The rest have needles, texts
-/// without which they don't match; where there are many, the last of them in the queried text is
-/// found by buckets. Those under the parent of the queried text and those with a needle in it are
+/// others, one whose texts all have one parent stands under that, if no longer text is in all of
+/// these. The rest have needles, texts without which they don't match; where there are many, the
+/// last of them in the queried text is found by buckets. Those under the parent of the queried text and those with a needle in it are
 /// tried one by one, from the last.
 #[derive(Debug, Drop)]
 pub struct Index {
@@ -216,9 +218,10 @@ impl Index {
         ensures { IfOk result (λ _. (length self.new.buckets.long.items ≡ 0) × ((ms : List Member) (m : Member) → IsIndexOf self.old ms
             → length ms ≡ index → m.reading ≡ pattern.now → form_of m.reading ≡ other → IsIndexOf self.new (ms ++ m ∷ []))) }
     {
-        match pattern.parent()? {
+        let needles = pattern.needles()?;
+        match parent_for(pattern, needles.as_slice())? {
             Some(parent) => self.parents.put(parent, index),
-            None => put_needles(&mut self.others, pattern.needles()?, index),
+            None => put_needles(&mut self.others, needles, index),
         }
     }
 }
@@ -242,4 +245,31 @@ fn mask_for(needles: &[Needle], haystack: &mut Haystack<'_>, offset: usize) -> u
         return 0;
     }
     haystack.mask_from(offset)
+}
+
+/// The parent of all texts that the pattern matches, where one is known and none of its needles is
+/// longer: it says more than these do.
+fn parent_for(pattern: &Pattern, needles: &[String]) -> Result<Option<String>, AllocError>
+    ensures { IfOk result (λ found. IfSome found (λ parent. (text : List ℕ) → IsUtf8 text → Matches pattern.now (chars text)
+        → HasParent (string_bytes parent) text)) }
+{
+    match pattern.parent()? {
+        Some(parent) => {
+            if longest_of(needles) > parent.as_str().len() {
+                Ok(None)
+            } else {
+                Ok(Some(parent))
+            }
+        }
+        None => Ok(None),
+    }
+}
+
+/// The length of the longest text.
+fn longest_of(texts: &[String]) -> usize {
+    let mut longest = 0usize;
+    for text in texts {
+        longest = longest.max(text.as_str().len());
+    }
+    longest
 }

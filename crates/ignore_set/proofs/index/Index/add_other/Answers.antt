@@ -17,13 +17,13 @@ returns-in-Some c = if_ok3 c.put.result c.put.ensures.lists c.put.ensures.own c.
           → HasParent (string_bytes p) t)) c.in-Some.is c.in_ok-parent.ensures text utf8 (subst (λ r. Matches r (chars text)) is h)),
     ))
 
-pub returns-in_ok-needles-in-None : goal.returns-in_ok-needles-in-None
-returns-in_ok-needles-in-None c =
-    let texts = c.in_ok-needles-in-None.field-0.items in
+pub returns-in-None : goal.returns-in-None
+returns-in-None c =
+    let texts = c.in_ok-needles.needles.items in
     IfOk-weaker c.put_needles.result _ _ (λ done e. (
       c.requires.none,
       λ ms m was size is form.
           add_needles c.args.self.now c.put_needles.new.needles (map string_bytes texts) c.args.index
           (e ∙ ap (λ l. c.args.self.now.others.items ++ l) (needles_at-strings c.args.index texts)) c.requires.none ms m was size form
-          (λ text utf8 h. c.in_ok-needles-in-None.ensures text utf8 (subst (λ r. Matches r (chars text)) is h)),
+          (λ text utf8 h. c.in_ok-needles.ensures text utf8 (subst (λ r. Matches r (chars text)) is h)),
     )) c.put_needles.ensures
