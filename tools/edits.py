@@ -2,10 +2,11 @@
 
 `tools/mutants` says what a mutant is, and tries them.
 """
+import functools
 import os
 import re
 
-from repo import read
+from repo import files_of, read
 from sources import FUNCTION
 
 # Where a crate's mutants lie.
@@ -132,6 +133,9 @@ class Mutant:
             after[path] = after[path].replace(old, new)
         if before == after:
             return "it changes nothing"
+        last = self.rejects.split("::")[-1]
+        if last not in functions_in(self.crate):
+            return f"the crate has no function {last}, which it rejects"
         self.is_alone |= not self.touches
         self.is_alone |= any(face(before[it]) != face(after[it]) for it in before)
         return None
@@ -157,6 +161,13 @@ class Mutant:
                 return None
             texts[path] = text.replace(old, new)
         return texts
+
+
+@functools.cache
+def functions_in(crate):
+    """The names of the functions in the sources of a crate."""
+    sources = [read(f"{crate.folder}/{it}") for it in files_of(crate, "src") if it.endswith(".rt")]
+    return {it for text in sources for it in re.findall(r"\bfn (\w+)", text)}
 
 
 def mutants_of(crate):
