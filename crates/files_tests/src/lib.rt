@@ -4,6 +4,8 @@
 #[cfg(test)]
 mod changed;
 #[cfg(test)]
+mod counted;
+#[cfg(test)]
 mod disk;
 #[cfg(test)]
 mod environment;

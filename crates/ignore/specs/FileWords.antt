@@ -19,4 +19,5 @@ pub use Rattle.ignore_files.specs.Changes.{link_added, list_faulted, made, namel
 pub use Rattle.ignore_files.specs.Heard.{AreReported, HasWhole}
 pub use Rattle.ignore_files.specs.Present.{ReadWhatIsThere}
 pub use Rattle.ignore_files.specs.Removed.{file_written, removed}
+pub use Rattle.ignore_files.specs.Variables.{IsToldBy}
 pub use Rattle.ignore_files.specs.Whole.{AreWhole}

@@ -1,14 +1,14 @@
-//! The environment of a run, handed in; `Env::of_process` asks the system for it.
+//! The environment of a run, handed in; `Env::of_process` asks a process for it.
 ghost use Rattle.std.specs.Prelude.{IfOk, IfErr, ◌≡◌, ◌≢◌, [], None, Some, string_bytes};
 ghost use Rattle.ignore_base.specs.Problem.{problem_of, memory};
-ghost use Rattle.ignore_files.specs.Variables.{IsReportedAs, IsDirReportedAs, set_value};
+ghost use Rattle.ignore_files.specs.Variables.{IsValueOf, IsCurrentDir, IsToldBy, set_value};
 
+use crate::process::Process;
 use crate::types::Name;
 use ignore_base::Error;
 use std::alloc::AllocError;
 use std::env::VarError;
-use std::path::PathBuf;
-use std::{env, io, rt};
+use std::io;
 
 /// What a run knows of its environment. `None` is a variable that isn't set, or an unknown
 /// directory.
@@ -88,22 +88,24 @@ impl Env {
         self
     }
 
-    /// The environment of this process, as std reports it through a runtime: the working directory
-    /// and the variables `HOME`, `XDG_CONFIG_HOME`, `GIT_CONFIG_GLOBAL` and `GIT_CONFIG_SYSTEM`.
-    /// What isn't UTF-8 counts as unknown, or as not set, and so does an empty `HOME` or
-    /// `XDG_CONFIG_HOME`: else the folder that a run begins in would stand for the user's own.
+    /// The environment that a process reports, as one of std does through its runtime: the working
+    /// directory and the variables `HOME`, `XDG_CONFIG_HOME`, `GIT_CONFIG_GLOBAL` and
+    /// `GIT_CONFIG_SYSTEM`. What isn't UTF-8 counts as unknown, or as not set, and so does an empty
+    /// `HOME` or `XDG_CONFIG_HOME`: else the folder that a run begins in would stand for the user's
+    /// own.
     ///
     /// # Errors
     /// `Error::Memory` alone.
-    pub fn of_process<R: rt::Env + AllocGlobal>(rt: &R) -> Result<Env, Error>
+    pub fn of_process<P: Process>(process: &P) -> Result<Env, Error>
+        ensures told { IfOk result (λ env. IsToldBy P.Process process.now env) }
         ensures filled { IfOk result (λ env. (env.home ≢ Some []) × (env.xdg_config_home ≢ Some [])) }
         ensures out_of_memory { IfErr result (λ e. problem_of e ≡ memory) }
     {
-        let current_dir = directory(env::current_dir(rt))?;
-        let home = filled(value(env::var(rt, "HOME"))?);
-        let xdg_config_home = filled(value(env::var(rt, "XDG_CONFIG_HOME"))?);
-        let git_config_global = value(env::var(rt, "GIT_CONFIG_GLOBAL"))?;
-        let git_config_system = value(env::var(rt, "GIT_CONFIG_SYSTEM"))?;
+        let current_dir = current_dir(process)?;
+        let home = filled(variable(process, "HOME")?);
+        let xdg_config_home = filled(variable(process, "XDG_CONFIG_HOME")?);
+        let git_config_global = variable(process, "GIT_CONFIG_GLOBAL")?;
+        let git_config_system = variable(process, "GIT_CONFIG_SYSTEM")?;
         Ok(Env {
             current_dir,
             home,
@@ -115,10 +117,10 @@ impl Env {
 }
 
 /// The value of a variable, where it is set and UTF-8.
-fn value(variable: Result<String, VarError>) -> Result<Option<Name>, AllocError>
-    ensures { IfOk result (λ name. IsReportedAs name variable) }
+fn variable<P: Process>(process: &P, name: &str) -> Result<Option<Name>, AllocError>
+    ensures { IfOk result (λ value. IsValueOf P.Process process.now name.now value) }
 {
-    match variable {
+    match process.var(name) {
         Ok(text) => Ok(Some(Name::new(text))),
         Err(VarError::NotPresent) => Ok(None),
         Err(VarError::NotUnicode) => Ok(None),
@@ -144,12 +146,14 @@ fn filled(value: Option<Name>) -> Option<Name>
 }
 
 /// The path of the working directory, where it is known and UTF-8.
-fn directory(path: io::Result<PathBuf>) -> Result<Option<Name>, AllocError>
-    ensures { IfOk result (λ dir. IsDirReportedAs dir path) }
+fn current_dir<P: Process>(process: &P) -> Result<Option<Name>, AllocError>
+    ensures { IfOk result (λ dir. IsCurrentDir P.Process process.now dir) }
 {
-    match path {
+    match process.current_dir() {
         Ok(path) => Ok(Some(Name::new(path.into_string()))),
-        Err(error) if error.kind() == io::ErrorKind::OutOfMemory => Err(AllocError),
-        Err(_) => Ok(None),
+        Err(error) => match error.kind() {
+            io::ErrorKind::OutOfMemory => Err(AllocError),
+            _ => Ok(None),
+        },
     }
 }

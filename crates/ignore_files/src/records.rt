@@ -3,7 +3,11 @@
 //! A read has the system write its records into the buffer, and std then packs their names to its
 //! front. Behind the names the records still stand, in the order of the names, each at a place that
 //! the names before it determine. Where a record there has the length, the whole name and the NUL
-//! that it must have, and one of three kinds, that is the kind; else it is asked.
+//! that it must have, and one of three kinds, that is the kind.
+//!
+//! The records of the first entries of each read are lost so. Where they are many, the directory is
+//! read once more, with less room in the first read: then other entries are the first ones. Kinds
+//! that no record had are asked.
 ghost use Rattle.std.specs.Prelude.{◌≤◌, length};
 
 use crate::ask::ask;
@@ -13,6 +17,14 @@ use std::{fs, io, rt};
 
 /// How many bytes a read may take.
 const ROOM: usize = 4 * 1024;
+
+/// How many bytes the first read of a second reading may take. Most names have less than half the
+/// bytes of their records. Then what a read of the first reading loses stands in the second half of
+/// a read of the second one, where nothing is lost.
+const SHIFT: usize = ROOM / 2;
+
+/// How many types are asked rather than read the directory once more.
+const FEW: usize = 48;
 
 /// Where a record has its length, in two bytes, the low one first.
 const LENGTH: usize = 16;
@@ -32,19 +44,27 @@ pub struct RuntimeEntry {
     pub(crate) file_type: Option<fs::FileType>,
 }
 
-/// A directory that is being read.
+/// A directory that is listed.
 #[derive(Drop)]
-struct Reader<'a, R> {
+struct Folder<'a, R> {
     alloc: Global,
     files: &'a R,
     /// Its path, with a slash at its end.
-    folder: &'a str,
+    path: &'a str,
     /// Whether types are taken from the records.
     uses_records: bool,
-    /// Whether the type of an entry may not be asked.
-    is_denied: bool,
-    /// The entries so far.
+}
+
+/// What was read of a directory.
+#[derive(Drop)]
+struct Reader<'a, R> {
+    folder: Folder<'a, R>,
+    /// The entries so far, of which those without a type have still to be asked.
     entries: Vec<io::Result<RuntimeEntry>>,
+    /// How many entries came without a type.
+    untyped: usize,
+    /// In a second reading the place of the next entry.
+    again: Option<usize>,
 }
 
 /// The length of the record of a name of this length: a multiple of 8.
@@ -92,33 +112,31 @@ fn joined(alloc: Global, path: &str, rest: &str) -> Result<String, AllocError> {
     Ok(text)
 }
 
-impl<'a, R: rt::Files> Reader<'a, R> {
-    /// One that has read nothing.
-    fn new(alloc: Global, files: &'a R, folder: &'a str, uses_records: bool) -> Reader<'a, R> {
-        Reader {
-            alloc,
-            files,
-            folder,
-            uses_records,
-            is_denied: false,
-            entries: Vec::new(alloc),
+/// The entry of a name, with the type that a record has.
+fn entry_of(
+    alloc: Global,
+    name: &[u8],
+    recorded: Option<fs::FileType>,
+) -> io::Result<RuntimeEntry> {
+    let Ok(name) = std::str::from_utf8(name) else {
+        return Err(io::Error::from(io::ErrorKind::InvalidFilename));
+    };
+    Ok(RuntimeEntry {
+        name: String::from_str(alloc, name)?,
+        file_type: recorded,
+    })
+}
+
+/// Sets the type that a record has, where the entry has this name and no type.
+fn set_type(entry: &mut io::Result<RuntimeEntry>, name: &[u8], recorded: Option<fs::FileType>) {
+    if let Ok(entry) = entry {
+        if entry.file_type.is_none() && entry.name.as_bytes() == name {
+            entry.file_type = recorded;
         }
     }
+}
 
-    /// The type of what is at a name, or `None` where it is gone.
-    fn asked_type(&mut self, name: &str) -> io::Result<Option<fs::FileType>> {
-        let path = joined(self.alloc, self.folder, name)?;
-        let files = self.files;
-        match ask(|| files.symlink_metadata(path.as_str())) {
-            Ok(metadata) => Ok(Some(metadata.file_type())),
-            Err(error) if error.kind() == io::ErrorKind::NotFound => Ok(None),
-            Err(error) => {
-                self.is_denied |= error.kind() == io::ErrorKind::PermissionDenied;
-                Err(error)
-            }
-        }
-    }
-
+impl<'a, R: rt::Files> Folder<'a, R> {
     /// The type that a record still has, which begins at a place and ends after the packed names.
     /// One whose path is too long is asked, which fails.
     fn recorded_type(
@@ -128,7 +146,7 @@ impl<'a, R: rt::Files> Reader<'a, R> {
         at: usize,
         name: &[u8],
     ) -> Option<fs::FileType> {
-        let is_path = self.folder.len().saturating_add(name.len()) < PATH;
+        let is_path = self.path.len().saturating_add(name.len()) < PATH;
         if self.uses_records && is_path && packed <= at.saturating_add(LENGTH) {
             type_at(buf, at, name)
         } else {
@@ -136,54 +154,142 @@ impl<'a, R: rt::Files> Reader<'a, R> {
         }
     }
 
-    /// The entry of a name. Its type is asked where no record has it.
-    fn entry_of(
-        &mut self,
-        name: &[u8],
-        recorded: Option<fs::FileType>,
-    ) -> io::Result<RuntimeEntry> {
-        let Ok(name) = std::str::from_utf8(name) else {
-            return Err(io::Error::from(io::ErrorKind::InvalidFilename));
-        };
-        let file_type = match recorded {
-            Some(file_type) => Some(file_type),
-            None => self.asked_type(name)?,
-        };
-        let name = String::from_str(self.alloc, name)?;
-        Ok(RuntimeEntry { name, file_type })
+    /// The type of what is at a name, or `None` where it is gone.
+    fn asked_type(&self, name: &str) -> io::Result<Option<fs::FileType>> {
+        let path = joined(self.alloc, self.path, name)?;
+        let files = self.files;
+        match ask(|| files.symlink_metadata(path.as_str())) {
+            Ok(metadata) => Ok(Some(metadata.file_type())),
+            Err(error) if error.kind() == io::ErrorKind::NotFound => Ok(None),
+            Err(error) => Err(error),
+        }
     }
 
-    /// Pushes the entries whose names stand in the first bytes.
-    fn push_entries(&mut self, buf: &[u8], packed: usize) -> io::Result<()>
+    /// Asks the type of an entry that has none, and puts an error in its place. Whether it may not
+    /// be asked.
+    fn ask_entry(&self, entry: &mut io::Result<RuntimeEntry>) -> bool {
+        let asked = match entry {
+            Ok(found) if found.file_type.is_none() => self.asked_type(found.name.as_str()),
+            _ => return false,
+        };
+        match asked {
+            Ok(file_type) => {
+                if let Ok(found) = entry {
+                    found.file_type = file_type;
+                }
+                false
+            }
+            Err(error) => {
+                let is_denied = error.kind() == io::ErrorKind::PermissionDenied;
+                *entry = Err(error);
+                is_denied
+            }
+        }
+    }
+}
+
+impl<'a, R: rt::Files> Reader<'a, R> {
+    /// One that has read nothing of the directory at a path.
+    fn new(alloc: Global, files: &'a R, path: &'a str, uses_records: bool) -> Reader<'a, R> {
+        Reader {
+            folder: Folder {
+                alloc,
+                files,
+                path,
+                uses_records,
+            },
+            entries: Vec::new(alloc),
+            untyped: 0,
+            again: None,
+        }
+    }
+
+    /// Takes the next name with the type that its record has: in a first reading as a further
+    /// entry, in a second one as the type of the entry at the same place.
+    fn take(&mut self, name: &[u8], recorded: Option<fs::FileType>) -> io::Result<()> {
+        let Some(place) = self.again else {
+            let entry = entry_of(self.folder.alloc, name, recorded);
+            self.entries.push(entry)?;
+            if recorded.is_none() {
+                self.untyped = self.untyped.saturating_add(1);
+            }
+            return Ok(());
+        };
+        self.again = Some(place.saturating_add(1));
+        if let Some(entry) = self.entries.get_mut(place) {
+            set_type(entry, name, recorded);
+        }
+        Ok(())
+    }
+
+    /// Takes the names that stand in the first bytes.
+    fn take_names(&mut self, buf: &[u8], packed: usize) -> io::Result<()>
         requires { packed ≤ length buf.now }
     {
         let mut at = 0usize;
         for name in buf[..packed].split(|byte| *byte == 0) {
             if !name.is_empty() && !is_own(name) {
-                let recorded = self.recorded_type(buf, packed, at, name);
-                let entry = self.entry_of(name, recorded);
-                self.entries.push(entry)?;
+                let recorded = self.folder.recorded_type(buf, packed, at, name);
+                self.take(name, recorded)?;
             }
             at = at.saturating_add(record_len(name.len()));
         }
         Ok(())
     }
 
-    /// Pushes all that the directory gives, up to its end or an error.
-    fn push_all(&mut self, mut dir: R::Dir) -> io::Result<()> {
-        let mut buf = vec![in self.alloc; 0u8; ROOM]?;
-        for _ in 0..u64::MAX {
-            match dir.read(buf.as_mut_slice()) {
-                Ok(0) => return Ok(()),
-                Ok(packed) => self.push_entries(buf.as_slice(), packed)?,
-                Err(error) => {
-                    self.entries.push(Err(error))?;
-                    return Ok(());
-                }
+    /// Reads once into a buffer of zeros, and whether more may come. An error ends the entries; it
+    /// ends a second reading without a trace.
+    fn read_once(&mut self, dir: &mut R::Dir, buf: &mut [u8]) -> io::Result<bool> {
+        match dir.read(buf) {
+            Ok(0) => Ok(false),
+            Ok(packed) => {
+                self.take_names(buf, packed)?;
+                buf.fill(0);
+                Ok(true)
             }
-            buf.fill(0);
+            Err(error) => {
+                if self.again.is_none() {
+                    self.entries.push(Err(error))?;
+                }
+                Ok(false)
+            }
+        }
+    }
+
+    /// Reads all that the directory still gives, up to its end or an error.
+    fn read_on(&mut self, mut dir: R::Dir, buf: &mut [u8]) -> io::Result<()> {
+        for _ in 0..u64::MAX {
+            if !self.read_once(&mut dir, buf)? {
+                return Ok(());
+            }
         }
         Ok(())
+    }
+
+    /// Reads the directory.
+    fn read(&mut self, dir: R::Dir) -> io::Result<()> {
+        let mut buf = vec![in self.folder.alloc; 0u8; ROOM]?;
+        self.read_on(dir, buf.as_mut_slice())
+    }
+
+    /// Reads it once more, for types that no record had. Entries whose names now stand at other
+    /// places get none.
+    fn read_again(&mut self, mut dir: R::Dir) -> io::Result<()> {
+        self.again = Some(0);
+        let mut buf = vec![in self.folder.alloc; 0u8; ROOM]?;
+        if self.read_once(&mut dir, &mut buf[..SHIFT])? {
+            self.read_on(dir, buf.as_mut_slice())?;
+        }
+        Ok(())
+    }
+
+    /// Asks the types of all entries that have none. Whether one may not be asked.
+    fn ask_rest(&mut self) -> bool {
+        let mut is_denied = false;
+        for entry in self.entries.iter_mut() {
+            is_denied |= self.folder.ask_entry(entry);
+        }
+        is_denied
     }
 }
 
@@ -203,14 +309,20 @@ pub fn entries_of<R: rt::Files>(
     if !folder.is_empty() {
         if let Ok(dir) = files.open_dir(own.as_str()) {
             let mut reader = Reader::new(alloc, files, folder, true);
-            reader.push_all(dir)?;
-            if !reader.is_denied {
+            reader.read(dir)?;
+            if FEW < reader.untyped {
+                if let Ok(dir) = files.open_dir(own.as_str()) {
+                    reader.read_again(dir)?;
+                }
+            }
+            if !reader.ask_rest() {
                 return Ok(reader.entries);
             }
         }
     }
     let dir = files.open_dir(folder)?;
     let mut reader = Reader::new(alloc, files, folder, false);
-    reader.push_all(dir)?;
+    reader.read(dir)?;
+    reader.ask_rest();
     Ok(reader.entries)
 }

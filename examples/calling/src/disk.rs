@@ -1,7 +1,10 @@
 //! The `.gitignore` of a folder on disk, and the global file.
 
-use ignore::files::{DiskFiles, Env};
+use ignore::files::{DiskFiles, Env, Process};
 use ignore::gitignore::Gitignore;
+use std::env::VarError;
+use std::io;
+use std::path::PathBuf;
 
 /// Asks the rules of a folder on disk, and says what is wrong with a line of them.
 fn project(rt: &HostRuntime) -> anyhow::Result<()> {
@@ -33,7 +36,27 @@ fn global(rt: &HostRuntime) -> anyhow::Result<()> {
     Ok(())
 }
 
+/// A process without variables, in a folder that was removed.
+struct Bare;
+
+impl Process for Bare {
+    fn var(&self, _name: &str) -> Result<String, VarError> {
+        Err(VarError::NotPresent)
+    }
+
+    fn current_dir(&self) -> io::Result<PathBuf> {
+        Err(io::Error::from(io::ErrorKind::NotFound))
+    }
+}
+
+/// Whether the environment of a process, that of a program or another, has a home directory.
+fn has_home<P: Process>(process: &P) -> anyhow::Result<bool> {
+    Ok(Env::of_process(process)?.home.is_some())
+}
+
 pub fn ask(rt: &HostRuntime) -> anyhow::Result<()> {
     project(rt)?;
-    global(rt)
+    global(rt)?;
+    println!(rt; "home known: {}", has_home(&Bare)?)?;
+    Ok(())
 }
