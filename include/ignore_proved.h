@@ -41,14 +41,16 @@ uint32_t ignore_version(void);
 
 /* What a call answers. */
 enum {
-    IGNORE_OK = 0,        /* it did what it is for */
+    IGNORE_OK = 0,        /* it did what it is for; two lists say the same */
     IGNORE_NONE = 1,      /* no rule decides; there is nothing to tell */
+    IGNORE_DIFFERENT = 1, /* of ignore_rules_same alone: two lists differ */
     IGNORE_IGNORE = 2,    /* the path is ignored */
     IGNORE_WHITELIST = 3, /* the path is whitelisted */
     IGNORE_NOT_UTF8 = 4,  /* a text isn't UTF-8 */
     IGNORE_NO_MEMORY = 5, /* out of memory */
     IGNORE_LIMIT = 6,     /* a walk took more steps than it may */
-    IGNORE_REFUSED = 7,   /* a line is invalid, or some lines of a file: the problem says why */
+    IGNORE_REFUSED = 7,   /* a line is invalid, or some lines of a file: the problem says why; or the
+                             check of a search over all paths refuses what it left */
     IGNORE_MISUSED = 9,   /* a handle that keeps something else, or isn't so far */
     IGNORE_OUTSIDE = 10,  /* a path begins with a slash once the root of the rules is stripped */
     IGNORE_NOT_CLEAN = 11, /* a path of a tree isn't `/`, or `/` and names joined by single slashes */
@@ -56,7 +58,8 @@ enum {
     IGNORE_EXISTS = 13,    /* something is at a path of a tree already */
     IGNORE_MISSING = 14,   /* nothing of the kind is at a path of a tree */
     IGNORE_ROOM = 15,      /* the room is too small for an item of a walk, which stays the next */
-    IGNORE_WANTS = 16      /* a guide has to know something first: ignore_guide_wanted */
+    IGNORE_WANTS = 16,     /* a guide has to know something first: ignore_guide_wanted */
+    IGNORE_TOO_LARGE = 17  /* a search over all paths needs more states than it may find */
     /* 8 is for a handle that another one uses: no call answers it, since a walk is made at once. */
 };
 
@@ -169,6 +172,95 @@ uint32_t ignore_rules_counts(ignore_rules *rules, ignore_counts *counts);
 
 /* Frees rules, also before they were built. */
 void ignore_rules_free(ignore_rules rules);
+
+/* Rules over all paths. A question is a clean relative path, names joined by single slashes, and
+   whether it is a directory's, asked of rules at their root; the root of the handle doesn't count. A
+   list reaches a question where it ignores no folder on its way, as git asks: below an ignored folder
+   nothing is whitelisted. What is said here holds of every question, and of these rules alone: a file
+   of rules elsewhere may whitelist a folder that they ignore.
+
+   `limit` is how many states a search may find. Each takes some bytes for each class of characters
+   that the rules treat alike, and for each byte of the longest rule; a million serve lists of some
+   thousand short rules. IGNORE_TOO_LARGE where more are needed: nothing is said then. IGNORE_REFUSED
+   where a check refuses what a search left; nothing is guessed then, and no list is known of which it
+   comes. */
+
+/* What is found of the rules that decide on no question which their list reaches. It stays when the
+   rules are freed. */
+typedef struct ignore_findings {
+    uint8_t *at;
+} ignore_findings;
+
+/* Why a rule decides on no question that is reached. */
+enum {
+    IGNORE_DEAD_OVERRULED = 1,   /* it decides on no question at all: where it applies, others do */
+    IGNORE_DEAD_UNMATCHED = 2,   /* it applies to no question */
+    IGNORE_DEAD_BY_FOLDERS = 3,  /* it decides only in folders that the rules ignore */
+    IGNORE_DEAD_UNREACHED = 4    /* it decides on no question that is reached; whether on any would
+                                    have needed more states */
+};
+
+/* A rule that decides on no question which is reached. What isn't said to be set is 0, or false. */
+typedef struct ignore_finding {
+    uint32_t kind;       /* IGNORE_DEAD_.. */
+    size_t rule;         /* the index of the rule, as of ignore_rules_rule */
+    size_t overruling;   /* of IGNORE_DEAD_OVERRULED: how many rules overrule it */
+    size_t path;         /* of IGNORE_DEAD_BY_FOLDERS: bytes of the path of a shortest question on
+                            which it decides */
+    size_t folder;       /* and of the folder with which that begins, and that a rule ignores */
+    size_t folder_rule;  /* the index of that rule */
+    bool is_dir;         /* whether the question is a directory's */
+} ignore_finding;
+
+/* Finds the rules of a list that decide on no question which it reaches, in their order: IGNORE_OK,
+   also where there are none. Also IGNORE_TOO_LARGE, IGNORE_REFUSED, IGNORE_NO_MEMORY, and
+   IGNORE_MISUSED before `ignore_rules_build`. */
+uint32_t ignore_rules_dead(ignore_rules *rules, size_t limit, ignore_findings *findings);
+
+/* What is found of the rule at an index of these, counted from 0: IGNORE_OK, with `finding`, and in
+   `room` the first bytes, as many as there is room for, of its path and its folder, one after the
+   other; IGNORE_NONE where there are no more than that. Also IGNORE_NO_MEMORY and IGNORE_MISUSED.
+   With another answer than IGNORE_OK `finding` is all zeros, and the room is as before. */
+uint32_t ignore_findings_rule(ignore_findings *findings, size_t index, ignore_finding *finding,
+                              uint8_t *room, size_t room_length);
+
+/* Of the rules that overrule the one at an index of the findings, that with a number, counted from 0:
+   IGNORE_OK, and in `rule` its index, as of ignore_rules_rule. At some question that rule decides and
+   the overruled one applies; and where the overruled one applies, one of these decides. IGNORE_NONE
+   where there are no more, or IGNORE_MISUSED, and then `rule` is 0. */
+uint32_t ignore_findings_overruling(ignore_findings *findings, size_t index, size_t number,
+                                    size_t *rule);
+
+/* Frees findings. */
+void ignore_findings_free(ignore_findings findings);
+
+/* How two lists are compared: how many states are found at most; and whether a question that a list
+   whitelists counts as one on which none of its rules decides, so that only what is ignored counts. */
+typedef struct ignore_compare_options {
+    size_t limit;
+    bool only_ignored;
+} ignore_compare_options;
+
+/* A question at which two lists differ, and what each says. A list that ignores a folder on the way says
+   so of the folder already, which is a shorter question. */
+typedef struct ignore_difference {
+    uint32_t before;     /* the verdict of the first list: IGNORE_NONE, IGNORE_IGNORE or
+                            IGNORE_WHITELIST */
+    uint32_t after;      /* that of the second */
+    size_t path;         /* bytes of the path */
+    size_t before_rule;  /* the index of the rule of the first list that decides; 0 where none does */
+    size_t after_rule;   /* the same of the second */
+    bool is_dir;         /* whether it is a directory's */
+} ignore_difference;
+
+/* Whether two lists say the same of every question, each at its own root: IGNORE_OK (0) where they
+   do; IGNORE_DIFFERENT (1) where they don't, with a shortest question at which they differ, and in
+   `room` the first bytes of its path, as many as there is room for. Also IGNORE_TOO_LARGE,
+   IGNORE_REFUSED, IGNORE_NO_MEMORY, and IGNORE_MISUSED before `ignore_rules_build` of both. With
+   another answer than IGNORE_DIFFERENT `difference` is all zeros, and the room is as before. */
+uint32_t ignore_rules_same(ignore_rules *before, ignore_rules *after,
+                           const ignore_compare_options *options, ignore_difference *difference,
+                           uint8_t *room, size_t room_length);
 
 /* A tree of files, as its host tells it: directories, files with their bytes, symbolic links.
    Matchers and walks see nothing else, and never the disk. Paths of a tree are absolute and clean:

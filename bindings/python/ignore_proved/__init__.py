@@ -11,6 +11,7 @@
     for entry in walk("project"):
         print(entry.path)
 """
+from ._decisions import Decision
 from ._errors import (
     IgnoreError,
     InvalidRuleError,
@@ -21,10 +22,11 @@ from ._errors import (
     TreeError,
 )
 from .answers import Cause, Explanation, Match, Rank
+from .every import Dead, Difference, Finding, Said
 from .guide import Guide, Listed, Problem
 from .host import Given
 from .matcher import Matcher, TreeMatcher
-from .rules import Answer, Decision, Reason, Rules
+from .rules import Answer, Reason, Rules
 from .tree import Builder, Tree
 from .walk import Item, TreeWalk, walk
 
@@ -34,8 +36,11 @@ __all__ = [
     "Answer",
     "Builder",
     "Cause",
+    "Dead",
     "Decision",
+    "Difference",
     "Explanation",
+    "Finding",
     "Given",
     "Guide",
     "IgnoreError",
@@ -52,6 +57,7 @@ __all__ = [
     "Rank",
     "Reason",
     "Rules",
+    "Said",
     "Tree",
     "TreeError",
     "TreeMatcher",

@@ -29,7 +29,7 @@ class TreeError(IgnoreError, ValueError):
 
 
 class LimitError(IgnoreError):
-    """A walk took more steps than it may."""
+    """A walk took more steps than it may, or a search over all paths needs more states."""
 
 
 KINDS = {
@@ -41,6 +41,8 @@ KINDS = {
     lib.NOT_UTF8: NotUtf8Error("a text isn't UTF-8"),
     lib.MISUSED: MisusedError("the object isn't so far, or is of another kind"),
     lib.OUTSIDE: OutsideError("the path isn't below the root"),
+    lib.TOO_LARGE: LimitError("more states are needed than the limit"),
+    lib.REFUSED: IgnoreError("the check refuses what the search left"),
 }
 
 

@@ -7,7 +7,9 @@ from ctypes import POINTER, Structure, c_bool, c_char_p, c_size_t, c_uint32, c_u
 
 OK, NONE, IGNORE, WHITELIST, NOT_UTF8, NO_MEMORY = range(6)
 LIMIT, REFUSED, MISUSED, OUTSIDE = 6, 7, 9, 10
-NOT_CLEAN, NO_PARENT, EXISTS, MISSING, ROOM, WANTS = range(11, 17)
+NOT_CLEAN, NO_PARENT, EXISTS, MISSING, ROOM, WANTS, TOO_LARGE = range(11, 18)
+#: Of `ignore_rules_same` alone.
+DIFFERENT = 1
 NO_FAULT = 255
 NO_SIZE = 2 ** 64 - 1
 
@@ -49,6 +51,39 @@ class Counts(Structure):
     """`ignore_counts`."""
 
     _fields_ = [("ignores", c_uint64), ("whitelists", c_uint64)]
+
+
+class FindingParts(Structure):
+    """`ignore_finding`."""
+
+    _fields_ = [
+        ("kind", c_uint32),
+        ("rule", c_size_t),
+        ("overruling", c_size_t),
+        ("path", c_size_t),
+        ("folder", c_size_t),
+        ("folder_rule", c_size_t),
+        ("is_dir", c_bool),
+    ]
+
+
+class CompareOptions(Structure):
+    """`ignore_compare_options`."""
+
+    _fields_ = [("limit", c_size_t), ("only_ignored", c_bool)]
+
+
+class DifferenceParts(Structure):
+    """`ignore_difference`."""
+
+    _fields_ = [
+        ("before", c_uint32),
+        ("after", c_uint32),
+        ("path", c_size_t),
+        ("before_rule", c_size_t),
+        ("after_rule", c_size_t),
+        ("is_dir", c_bool),
+    ]
 
 
 class Found(Structure):
@@ -130,6 +165,12 @@ CALLS = {
     "rules_decided_as_git": [*ONE, *TEXT, c_bool, POINTER(ReasonParts), c_char_p, c_size_t],
     "rules_rule": [*ONE, c_size_t, POINTER(ReasonParts), c_char_p, c_size_t],
     "rules_counts": [*ONE, POINTER(Counts)],
+    "rules_dead": [*ONE, c_size_t, *ONE],
+    "rules_same": [
+        *ONE, *ONE, POINTER(CompareOptions), POINTER(DifferenceParts), c_char_p, c_size_t,
+    ],
+    "findings_rule": [*ONE, c_size_t, POINTER(FindingParts), c_char_p, c_size_t],
+    "findings_overruling": [*ONE, c_size_t, c_size_t, POINTER(c_size_t)],
     "tree_new": [*TEXT, *ONE],
     "tree_add_dir": [*ONE, *TEXT],
     "tree_add_file": [*ONE, *TEXT, *TEXT],
@@ -197,7 +238,10 @@ LABELS = [
 ]
 CALLS.update({f"builder_{name}": [*ONE, c_bool] for name in SWITCHES})
 CALLS.update({f"builder_{name}": [*ONE, *TEXT] for name in LABELS})
-FREES = ["rules_free", "tree_free", "builder_free", "matcher_free", "walk_free", "guide_free"]
+FREES = [
+    "rules_free", "findings_free", "tree_free", "builder_free", "matcher_free", "walk_free",
+    "guide_free",
+]
 
 
 def places() -> list[str]:

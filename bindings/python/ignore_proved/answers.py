@@ -6,8 +6,8 @@ from enum import Enum
 from typing import NamedTuple, Optional, Tuple
 
 from . import _library as lib
+from ._decisions import Decision
 from ._names import of_disk
-from .rules import Decision
 
 
 class Match(NamedTuple):

@@ -7,12 +7,13 @@ from ctypes import byref, c_size_t, c_uint32
 from typing import Callable, Iterable, List, NamedTuple, Optional, Sequence, Tuple
 
 from . import _library as lib
+from ._decisions import DECISIONS, Decision
 from ._errors import checked, error_of
 from ._names import of_disk, told
 from ._owner import Owner, handle_of, number
 from .answers import Match, lengths_of
 from .host import Given, read
-from .rules import DECISIONS, Decision, Path, encoded
+from .rules import Path, encoded
 from .tree import Builder, text
 
 NO_SIZES = (ctypes.c_uint64 * 1)()

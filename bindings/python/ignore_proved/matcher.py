@@ -9,13 +9,14 @@ from dataclasses import replace
 from typing import Any, Dict, List, NamedTuple, Optional, Tuple, Union
 
 from . import _library as lib
+from ._decisions import DECISIONS, Decision
 from ._errors import InvalidRuleError, TreeError, checked, error_of
 from ._names import of_disk, told
 from ._owner import Owner, handle_of
 from .answers import Cause, Explanation, Match, explanation_of, lengths_of
 from .guide import Guide
 from .host import FILE, known_env, read
-from .rules import DECISIONS, Decision, Path, encoded, several
+from .rules import Path, encoded, several
 from .tree import Builder, Tree, text
 
 

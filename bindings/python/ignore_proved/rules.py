@@ -4,26 +4,16 @@ from __future__ import annotations
 import ctypes
 import os
 from ctypes import byref, c_size_t
-from enum import Enum
 from typing import Any, Iterable, List, NamedTuple, Optional, Tuple, TypeVar, Union
 
 from . import _library as lib
+from ._decisions import DECISIONS, Decision
 from ._errors import InvalidRuleError, checked, error_of
-from ._owner import Owner
+from ._owner import Owner, handle_of
+from .every import LIMIT, Difference, Finding, Findings, difference_of
 
 Path = Union[str, bytes, "os.PathLike[str]", "os.PathLike[bytes]"]
 T = TypeVar("T")
-
-
-class Decision(Enum):
-    """What rules say of a path."""
-
-    NONE = lib.NONE
-    IGNORE = lib.IGNORE
-    WHITELIST = lib.WHITELIST
-
-
-DECISIONS = {kind.value: kind for kind in Decision}
 
 
 class Reason(NamedTuple):
@@ -215,6 +205,64 @@ class Rules(Owner):
     def rules(self) -> List[Answer]:
         """All rules, in their order: whether each ignores or whitelists, and its parts."""
         return [self._listed(index) for index in range(len(self))]
+
+    def findings(self, *, limit: int = LIMIT) -> List[Finding]:
+        """The rules that decide on no path which the list reaches, in their order, and why.
+
+        >>> lines = ["build/", "!build/keep", "a.o", "*.o"]
+        >>> with Rules("", lines) as rules:
+        ...     for it in rules.findings():
+        ...         print(lines[it.rule], it.why.name, it.overruled_by, it.path, it.folder)
+        !build/keep BY_FOLDERS () build/keep build
+        a.o OVERRULED (3,) None None
+
+        `limit` is how many states are found at most. Raises LimitError where more are needed.
+        """
+        with Findings(self.built(), limit) as findings:
+            return findings.all()
+
+    def dead(self, *, limit: int = LIMIT) -> List[Answer]:
+        """The rules that decide on no path which the list reaches, as `rules` lists them.
+
+        >>> with Rules("", ["*.o", "a.o", "*.o"]) as rules:
+        ...     [it.reason.pattern for it in rules.dead()]
+        ['*.o', 'a.o']
+
+        Raises as `findings`.
+        """
+        return [self._listed(it.rule) for it in self.findings(limit=limit)]
+
+    def difference(
+        self, other: "Rules", *, only_ignored: bool = False, limit: int = LIMIT
+    ) -> Optional[Difference]:
+        """A shortest path of which this list and another don't say the same, each at its own root,
+        and what each says; None where they say the same of every path.
+
+        With `only_ignored` a path that a list whitelists counts as one on which no rule decides.
+
+        >>> with Rules("", ["*.o"]) as before, Rules("", ["*.o", "!a.o"]) as after:
+        ...     found = before.difference(after)
+        >>> found.path, found.before.decision.name, found.after.decision.name, found.after.rule
+        ('a.o', 'IGNORE', 'WHITELIST', 1)
+
+        Raises as `findings`.
+        """
+        handle_of(Rules, other)
+        own = self.built()
+        return None if other is self else difference_of(own, other.built(), only_ignored, limit)
+
+    def same_as(
+        self, other: "Rules", *, only_ignored: bool = False, limit: int = LIMIT
+    ) -> bool:
+        """Whether this list and another say the same of every path, each at its own root.
+
+        >>> with Rules("", ["a/", "b/"]) as one, Rules("", ["b/", "a/", "!a"]) as two:
+        ...     one.same_as(two), one.same_as(one)
+        (False, True)
+
+        What `only_ignored` means, and what it raises, is as of `difference`.
+        """
+        return self.difference(other, only_ignored=only_ignored, limit=limit) is None
 
     @property
     def num_ignores(self) -> int:

@@ -17,13 +17,14 @@ from ignore_proved import (
 )
 from ignore_proved import _library as lib
 from ignore_proved import _owner
+from ignore_proved.every import Findings
 
 
 def each_kind():
     """One object of each kind, and a call of it."""
     tree, builder, rules = Tree("/"), Builder("/"), Rules("", ["a"])
     matcher, items = TreeMatcher(builder, tree), TreeWalk(builder, tree)
-    guide = Guide(builder)
+    guide, findings = Guide(builder), Findings(rules.built(), 100)
     return [
         (tree, lambda: tree.add_dir("/a")),
         (builder, lambda: builder.add("/a")),
@@ -31,6 +32,7 @@ def each_kind():
         (matcher, lambda: matcher.match(Tree("/"), "a", False)),
         (items, lambda: next(items)),
         (guide, lambda: guide.problems()),
+        (findings, lambda: findings.all()),
     ]
 
 
@@ -187,6 +189,7 @@ class Misuse(unittest.TestCase):
             lambda: TreeMatcher(builder, builder), lambda: TreeMatcher(tree, tree),
             lambda: TreeWalk(builder, builder), lambda: TreeWalk(tree, tree),
             lambda: builder.add_ignore(builder, "/x"), lambda: matcher.match(matcher, "a", False),
+            lambda: Rules("", ["a"]).difference(tree), lambda: Rules("", ["a"]).same_as(["a"]),
         ):
             with self.assertRaises(TypeError):
                 call()
@@ -207,7 +210,7 @@ class Misuse(unittest.TestCase):
             thread.start()
             thread.join()
             call()
-        self.assertEqual(len(found), 12)
+        self.assertEqual(len(found), 14)
 
     def test_what_another_thread_collects_is_freed_by_its_own(self):
         with Freed("tree") as freed:
@@ -230,6 +233,8 @@ class Misuse(unittest.TestCase):
                 lambda: tree.set_size("/f", value), lambda: tree.set_identity("/f", value, 0),
                 lambda: tree.set_identity("/f", 0, value),
                 lambda: tree.cut_contents("/f", value, "Other"),
+                lambda: Rules("", ["a"]).findings(limit=value),
+                lambda: Rules("", ["a"]).same_as(Rules("", ["b"]), limit=value),
             ):
                 with self.assertRaises(OverflowError):
                     call()

@@ -12,6 +12,10 @@ pub enum Error {
     Invalid(String),
     /// The path begins with a slash once the root of the rules is stripped.
     Outside,
+    /// A search over all paths needs more states than the limit.
+    TooLarge,
+    /// The check of a search over all paths refuses what it left, which is never a guess.
+    Rejected,
     /// A file can't be read.
     Io(io::Error),
     /// An error at a path: an entry whose name isn't UTF-8, or a directory that can't be listed.
@@ -32,6 +36,8 @@ impl fmt::Display for Error {
             Error::Memory => write!(f, "out of memory"),
             Error::Invalid(text) => write!(f, "{text}"),
             Error::Outside => write!(f, "the path isn't below the root"),
+            Error::TooLarge => write!(f, "too many states"),
+            Error::Rejected => write!(f, "a search that its check rejects"),
             Error::Io(error) => write!(f, "{error}"),
             Error::WithPath { path, error } => write!(f, "{}: {error}", path.display()),
             Error::Unexpected(code) => write!(f, "the library answers {code}"),

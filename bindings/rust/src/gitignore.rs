@@ -1,5 +1,6 @@
 //! Rules of gitignore files, as in the original's module of this name.
 
+use crate::every::{self, Counted, Difference, Finding};
 use crate::library::{self, Counts, Manner, Reason, RuleOptions, Rules};
 use crate::{Error, Match};
 use std::cell::RefCell;
@@ -217,11 +218,98 @@ impl Gitignore {
         self.counts.whitelists
     }
 
+    /// The rule at an index, counted from 0 in the order in which they were added.
+    pub fn rule(&self, index: usize) -> Result<Option<Glob>, Error> {
+        let listed = self.told(|rules, reason, room| rules.rule(index, reason, room))?;
+        Ok(listed.inner().cloned())
+    }
+
+    /// The rules that decide on no path which the list reaches, in their order, and why; at most
+    /// `limit` states are found, as `every::LIMIT`. `Error::TooLarge`, `Error::Rejected`.
+    ///
+    /// ```
+    /// use ignore_proved::every::{Why, LIMIT};
+    /// use ignore_proved::gitignore::GitignoreBuilder;
+    ///
+    /// let mut builder = GitignoreBuilder::new("")?;
+    /// builder.add_line(None, "a.o")?.add_line(None, "*.o")?;
+    /// let found = builder.build()?.findings(LIMIT)?;
+    /// assert_eq!((found[0].rule, &found[0].why), (0, &Why::Overruled(vec![1])));
+    /// # Ok::<(), ignore_proved::Error>(())
+    /// ```
+    pub fn findings(&self, limit: usize) -> Result<Vec<Finding>, Error> {
+        every::findings_of(&mut self.asked.borrow_mut().rules, limit)
+    }
+
+    /// The rules that decide on no path which the list reaches, in their order. Errors as those of
+    /// `findings`.
+    pub fn dead(&self, limit: usize) -> Result<Vec<Glob>, Error> {
+        let mut dead = Vec::new();
+        for finding in self.findings(limit)? {
+            dead.extend(self.rule(finding.rule)?);
+        }
+        Ok(dead)
+    }
+
+    /// A shortest path of which this list and another don't say the same, each at its own root, and
+    /// what each says; none where they say the same of every path. Errors as those of `findings`.
+    pub fn difference(
+        &self,
+        other: &Gitignore,
+        counted: Counted,
+        limit: usize,
+    ) -> Result<Option<Difference>, Error> {
+        if std::ptr::eq(self, other) {
+            return Ok(None);
+        }
+        let (mut before, mut after) = (self.asked.borrow_mut(), other.asked.borrow_mut());
+        every::difference_of(&mut before.rules, &mut after.rules, counted, limit)
+    }
+
+    /// Whether this list and another say the same of every path, each at its own root. Errors as
+    /// those of `findings`.
+    ///
+    /// ```
+    /// use ignore_proved::every::{Counted, LIMIT};
+    /// use ignore_proved::gitignore::{Gitignore, GitignoreBuilder};
+    /// use ignore_proved::Error;
+    ///
+    /// fn rules_of(lines: &[&str]) -> Result<Gitignore, Error> {
+    ///     let mut builder = GitignoreBuilder::new("")?;
+    ///     for line in lines {
+    ///         builder.add_line(None, line)?;
+    ///     }
+    ///     builder.build()
+    /// }
+    ///
+    /// let (one, two) = (rules_of(&["a/", "!a/b"])?, rules_of(&["a/"])?);
+    /// assert!(one.same_as(&two, Counted::Verdicts, LIMIT)?);
+    /// assert!(!one.same_as(&rules_of(&["a"])?, Counted::Verdicts, LIMIT)?);
+    /// # Ok::<(), Error>(())
+    /// ```
+    pub fn same_as(
+        &self,
+        other: &Gitignore,
+        counted: Counted,
+        limit: usize,
+    ) -> Result<bool, Error> {
+        Ok(self.difference(other, counted, limit)?.is_none())
+    }
+
     fn decided(&self, path: &Path, is_dir: bool, manner: Manner) -> Result<Match<Glob>, Error> {
+        let path = bytes_of(path);
+        self.told(|rules, reason, room| rules.decided(path, is_dir, manner, reason, room))
+    }
+
+    /// What a call answers that names a rule in a reason and a room.
+    fn told(
+        &self,
+        mut ask: impl FnMut(&mut Rules, &mut Reason, &mut [u8]) -> u32,
+    ) -> Result<Match<Glob>, Error> {
         let Asked { rules, room } = &mut *self.asked.borrow_mut();
         let mut reason = Reason::default();
         loop {
-            let code = rules.decided(bytes_of(path), is_dir, manner, &mut reason, room);
+            let code = ask(rules, &mut reason, room);
             let whole = reason.source + reason.pattern + reason.glob;
             match code {
                 library::NONE => return Ok(Match::None),
@@ -274,6 +362,8 @@ pub(crate) fn error_of(code: u32) -> Error {
         library::NOT_UTF8 => Error::NotUtf8,
         library::NO_MEMORY => Error::Memory,
         library::OUTSIDE => Error::Outside,
+        library::TOO_LARGE => Error::TooLarge,
+        library::REFUSED => Error::Rejected,
         code => Error::Unexpected(code),
     }
 }

@@ -3,6 +3,7 @@
 #![deny(unsafe_code)]
 
 mod error;
+pub mod every;
 mod explanation;
 pub mod gitignore;
 mod host;

@@ -6,6 +6,10 @@
 //! call wants the handle for itself.
 #![allow(unsafe_code)]
 
+mod every;
+
+pub use every::{Comparing, DifferenceParts, FindingParts, Findings};
+
 use std::ptr::null_mut;
 
 pub const OK: u32 = 0;
@@ -16,6 +20,9 @@ pub const NOT_UTF8: u32 = 4;
 pub const NO_MEMORY: u32 = 5;
 pub const REFUSED: u32 = 7;
 pub const OUTSIDE: u32 = 10;
+pub const TOO_LARGE: u32 = 17;
+/// Of `same` alone.
+pub const DIFFERENT: u32 = 1;
 const WANTS: u32 = 16;
 const NO_FAULT: u32 = 255;
 /// No size is known.
@@ -296,6 +303,13 @@ extern "C" {
         length: usize,
         is_dir: bool,
     ) -> u32;
+    fn ignore_rules_rule(
+        rules: *mut Handle,
+        index: usize,
+        reason: *mut Reason,
+        room: *mut u8,
+        room_length: usize,
+    ) -> u32;
     fn ignore_rules_counts(rules: *mut Handle, counts: *mut Counts) -> u32;
     fn ignore_rules_free(rules: Handle);
 }
@@ -381,6 +395,11 @@ impl Rules {
                 room.len(),
             )
         }
+    }
+
+    /// The rule at an index, in `reason` and `room`.
+    pub fn rule(&mut self, index: usize, reason: &mut Reason, room: &mut [u8]) -> u32 {
+        unsafe { ignore_rules_rule(&mut self.0, index, reason, room.as_mut_ptr(), room.len()) }
     }
 
     pub fn counts(&mut self, counts: &mut Counts) -> u32 {

@@ -4,6 +4,7 @@
 
 mod builder;
 mod choice;
+mod every;
 mod guide;
 mod handle;
 mod loose;

@@ -7,9 +7,13 @@ pub mod Leading
 pub mod Decided
 pub mod Named
 pub mod Parting
+pub mod DeadRules
+pub mod ToldRules
+pub mod Judged
 pub mod Giving
 pub mod Listing
 pub mod Wishing
 pub mod WorkedRooms
 pub mod WorkedReasons
 pub mod WorkedGuides
+pub mod WorkedFindings

@@ -27,8 +27,13 @@ rules_of (keeps.Setup setup) = None
 rules_of (keeps.Matcher matcher) = None
 rules_of (keeps.Walk walk) = None
 rules_of (keeps.Guide guided) = None
+rules_of (keeps.Findings found) = None
 rules_of keeps.Lent = None
 rules_of (keeps.Rules rules) = Some rules
+
+-- it keeps one
+abbrev pub KeepsRules : Kept → Type 0
+KeepsRules kept = (rules : Ruleset) × (rules_of kept ≡ Some rules)
 
 -- what these rules say of a path: by itself, or else its nearest parent that has a match, or as git
 -- asks, from the root down
@@ -140,5 +145,6 @@ Counted (keeps.Tree tree) code counts = (code ≡ 9) × (counts ≡ record { ign
 Counted (keeps.Setup setup) code counts = (code ≡ 9) × (counts ≡ record { ignores = 0; whitelists = 0 })
 Counted (keeps.Matcher matcher) code counts = (code ≡ 9) × (counts ≡ record { ignores = 0; whitelists = 0 })
 Counted (keeps.Guide guided) code counts = (code ≡ 9) × (counts ≡ record { ignores = 0; whitelists = 0 })
+Counted (keeps.Findings found) code counts = (code ≡ 9) × (counts ≡ record { ignores = 0; whitelists = 0 })
 Counted (keeps.Walk walk) code counts = (code ≡ 9) × (counts ≡ record { ignores = 0; whitelists = 0 })
 Counted keeps.Lent code counts = (code ≡ 9) × (counts ≡ record { ignores = 0; whitelists = 0 })

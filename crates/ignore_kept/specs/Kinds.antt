@@ -1,7 +1,8 @@
--- What a handle keeps: a tree, a builder, a matcher, a walk, a guide.
+-- What a handle keeps: a tree, a builder, a matcher, a walk, a guide, findings.
 use Rattle.std.specs.Prelude.{Option, Some, None}
 use Rattle.ignore.specs.WalkWords.{IncrementalIgnore}
 use Rattle.ignore_files.specs.Memory.{Memory}
+use Rattle.ignore_kept.specs.declared.findings.Findings.{Findings}
 use Rattle.ignore_kept.specs.declared.guided.Guided.{Guided}
 use Rattle.ignore_kept.specs.declared.kept.Kept.{Kept}
 use Rattle.ignore_kept.specs.declared.kept.Kept.TheVariants as keeps
@@ -17,6 +18,7 @@ tree_in (keeps.Setup setup) = None
 tree_in (keeps.Matcher matcher) = None
 tree_in (keeps.Walk walk) = None
 tree_in (keeps.Guide guided) = None
+tree_in (keeps.Findings found) = None
 tree_in keeps.Lent = None
 
 -- the settings that a handle keeps, if it keeps some
@@ -28,6 +30,7 @@ setup_in (keeps.Setup setup) = Some setup
 setup_in (keeps.Matcher matcher) = None
 setup_in (keeps.Walk walk) = None
 setup_in (keeps.Guide guided) = None
+setup_in (keeps.Findings found) = None
 setup_in keeps.Lent = None
 
 -- the matcher of single paths that a handle keeps, if it keeps one
@@ -39,6 +42,7 @@ matcher_in (keeps.Setup setup) = None
 matcher_in (keeps.Matcher matcher) = Some matcher
 matcher_in (keeps.Walk walk) = None
 matcher_in (keeps.Guide guided) = None
+matcher_in (keeps.Findings found) = None
 matcher_in keeps.Lent = None
 
 -- the walk that a handle keeps, if it keeps one
@@ -50,6 +54,7 @@ walk_in (keeps.Setup setup) = None
 walk_in (keeps.Matcher matcher) = None
 walk_in (keeps.Walk walk) = Some walk
 walk_in (keeps.Guide guided) = None
+walk_in (keeps.Findings found) = None
 walk_in keeps.Lent = None
 
 -- the guide that a handle keeps, if it keeps one
@@ -61,4 +66,17 @@ guided_in (keeps.Setup setup) = None
 guided_in (keeps.Matcher matcher) = None
 guided_in (keeps.Walk walk) = None
 guided_in (keeps.Guide guided) = Some guided
+guided_in (keeps.Findings found) = None
 guided_in keeps.Lent = None
+
+-- the findings that a handle keeps, if it keeps some
+abbrev pub findings_in : Kept → Option Findings
+findings_in (keeps.Lines lines) = None
+findings_in (keeps.Rules rules) = None
+findings_in (keeps.Tree tree) = None
+findings_in (keeps.Setup setup) = None
+findings_in (keeps.Matcher matcher) = None
+findings_in (keeps.Walk walk) = None
+findings_in (keeps.Guide guided) = None
+findings_in (keeps.Findings found) = Some found
+findings_in keeps.Lent = None

@@ -4,6 +4,9 @@ pub mod Lines
 pub mod AsGit
 pub mod Asks
 pub mod Kinds
+pub mod Judging
+pub mod Findings
+pub mod Comparing
 pub mod Stops
 pub mod Trees
 pub mod Setups

@@ -31,6 +31,7 @@ building_of (keeps.Setup setup) = None
 building_of (keeps.Matcher matcher) = None
 building_of (keeps.Walk walk) = None
 building_of (keeps.Guide guided) = None
+building_of (keeps.Findings found) = None
 building_of keeps.Lent = None
 
 -- what is wrong with what was added last, if anything
@@ -42,6 +43,7 @@ problem_in (keeps.Setup setup) = None
 problem_in (keeps.Matcher matcher) = None
 problem_in (keeps.Walk walk) = None
 problem_in (keeps.Guide guided) = None
+problem_in (keeps.Findings found) = None
 problem_in keeps.Lent = None
 
 -- the builder of which later lines are read by these options
@@ -142,5 +144,6 @@ TellsProblem (keeps.Tree tree) code text = (code ≡ refusal_code Misused) × (t
 TellsProblem (keeps.Setup setup) code text = (code ≡ refusal_code Misused) × (text ≡ [])
 TellsProblem (keeps.Matcher matcher) code text = (code ≡ refusal_code Misused) × (text ≡ [])
 TellsProblem (keeps.Guide guided) code text = (code ≡ refusal_code Misused) × (text ≡ [])
+TellsProblem (keeps.Findings found) code text = (code ≡ refusal_code Misused) × (text ≡ [])
 TellsProblem (keeps.Walk walk) code text = (code ≡ refusal_code Misused) × (text ≡ [])
 TellsProblem keeps.Lent code text = (code ≡ refusal_code Misused) × (text ≡ [])

@@ -1,5 +1,6 @@
 //! What a handle keeps.
 
+use crate::findings::Findings;
 use crate::guided::Guided;
 use crate::setup::Setup;
 use crate::walked::Walked;
@@ -31,6 +32,8 @@ pub enum Kept {
     Walk(Walked),
     /// A guide for a host that walks by itself.
     Guide(Guided),
+    /// What is found of rules, over all paths.
+    Findings(Findings),
     /// Nothing: a call has what was kept, and gives it back before it ends.
     Lent,
 }
