@@ -3,7 +3,6 @@ use Rattle.std.proofs.Common.{◌≡◌, ◌∙◌, ℕ, Bool, false, cond, eqb,
 use Rattle.std.proofs.lemmas.Bool.{false_from_ne_true}
 use Rattle.std.proofs.lemmas.Cmp.{ranked}
 use Rattle.std.proofs.lemmas.List.{append-nil, map-append}
-use Rattle.std.specs.BTreeMap.{BTreeMap, get}
 use Rattle.std.specs.Io.KnownBytes.{Appends}
 use Rattle.std.specs.Option.{option_or}
 use Rattle.std.specs.Ordering.{is_eq, nat_cmp}
@@ -15,7 +14,9 @@ use Rattle.ignore_walk.specs.declared.entry.DirEntry.{DirEntry}
 use Rattle.commands.proofs.LineLemmas.{appends_on}
 use Rattle.ig_options.specs.declared.options.Options.{Options}
 use Rattle.ig_commands.specs.Counts.{counted, one_more}
-use Rattle.ig_commands.specs.Reports.{Notes, first_reports, last_at, last_in, names_after, names_left, path_at, path_of, reports_after, reports_of}
+use Rattle.ig_commands.specs.Folders.{entry_in, last_in, noted, path_of}
+use Rattle.ig_commands.specs.declared.folders.Folders.{Folders}
+use Rattle.ig_commands.specs.Reports.{Notes, first_reports, last_at, names_after, names_left, path_at, reports_after, reports_of}
 use Rattle.ig_commands.specs.declared.names.Unnamed.{Unnamed}
 
 or_none : {A : Type 0} (x : Option A) → option_or x None ≡ x
@@ -113,22 +114,14 @@ count_more f items item old new holds h k same =
 
 -- ---- an entry that is noted at its depth
 
-at_depth : (old : Option DirEntry) (entry : DirEntry) (q d : ℕ) (o : Ordering) → o ≡ nat_cmp d q
-    → option_map path_of (cond (is_eq o) (Some entry) old)
-    ≡ option_or (cond (eqb q d) (Some (path_of entry)) None) (option_map path_of old)
-at_depth old entry q d Less e =
-    let other : eqb q d ≡ false = false_from_ne_true (eqb q d) (λ t. omega (arith, eqb-true q d t, ranked d q Less e)) in
-    sym (ap (λ (b : Bool). option_or (cond b (Some (path_of entry)) None) (option_map path_of old)) other)
-at_depth old entry q d Equal e =
-    sym (ap (λ (b : Bool). option_or (cond b (Some (path_of entry)) None) (option_map path_of old)) (eq-eqb q d (sym (ranked d q Equal e))))
-at_depth old entry q d Greater e =
-    let other : eqb q d ≡ false = false_from_ne_true (eqb q d) (λ t. omega (arith, eqb-true q d t, ranked d q Greater e)) in
-    sym (ap (λ (b : Bool). option_or (cond b (Some (path_of entry)) None) (option_map path_of old)) other)
+-- one that is noted is the last one at its depth
+at_depth : (old : Option DirEntry) (entry : DirEntry) (depth : ℕ) (b : Bool) → eqb depth entry.depth ≡ b
+    → option_map path_of (cond b (Some entry) old) ≡ option_or (cond b (Some (path_of entry)) None) (option_map path_of old)
+at_depth old entry depth true e = refl
+at_depth old entry depth false e = refl
 
--- a table with an entry at its depth has it as the last one there
-pub noted : (old new : BTreeMap ℕ DirEntry) (entry : DirEntry)
-    → ((q : ℕ) → get nat_cmp new q ≡ cond (is_eq (nat_cmp entry.depth q)) (Some entry) (get nat_cmp old q))
-    → Notes (item_of (Ok entry)) (last_in old) (last_in new)
-noted old new entry h = λ q.
-    ap (λ (o : Option DirEntry). option_map path_of o) (h q)
-    ∙ at_depth (get nat_cmp old q) entry q entry.depth (nat_cmp entry.depth q) refl
+pub noted_last : (old new : Folders) (entry : DirEntry)
+    → ((depth : ℕ) → entry_in new depth ≡ noted entry depth (entry_in old depth)) → Notes (item_of (Ok entry)) (last_in old) (last_in new)
+noted_last old new entry h = λ depth.
+    ap (λ (o : Option DirEntry). option_map path_of o) (h depth)
+    ∙ at_depth (entry_in old depth) entry depth (eqb depth entry.depth) refl

@@ -2,6 +2,7 @@ pub mod Stops
 pub mod Counts
 pub mod Writing
 pub mod Names
+pub mod Folders
 pub mod Reports
 pub mod Types
 pub mod Listing

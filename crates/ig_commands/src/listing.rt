@@ -14,16 +14,18 @@ ghost use Rattle.ignore_walk.specs.Entry.{Item, entry_of, item_of, problem_in};
 ghost use Rattle.ignore_walk.specs.GoesOn.{HasNoEnd};
 ghost use Rattle.ignore_walk.specs.declared.entry.DirEntry.{DirEntry};
 ghost use Rattle.ig_options.specs.Settings.{most_steps};
+ghost use Rattle.ig_commands.specs.Folders.{last_in};
 ghost use Rattle.ig_commands.specs.Listing.{AreBegun, AreFirst, AreListed, Begins, EndsAsked, GoesBy, Lists, ListsAsked, Writes, begun_reports, listing};
 ghost use Rattle.ig_commands.specs.Names.{still, told_at, told_before, with_name};
-ghost use Rattle.ig_commands.specs.Reports.{Notes, fault_names, fault_told, first_reports, is_known, is_reported, last_in, name_depth, names_after, names_left, place_at, report_of, reports_of, to_report, whole_reports};
+ghost use Rattle.ig_commands.specs.Reports.{Notes, fault_names, fault_told, first_reports, is_known, is_reported, name_depth, names_after, names_left, place_at, report_of, reports_of, to_report, whole_reports};
 ghost use Rattle.ig_commands.specs.Stops.{EndsAfter};
 ghost use Rattle.ig_commands.specs.Writing.{is_found, is_listed, lines_of};
 
 use crate::asking::{Asked, asked_for};
 use crate::counts::{Counts, Seen, report_counts, status_of};
+use crate::folders::Folders;
 use crate::names::{Unnamed, count_name, end_names, leave_names};
-use crate::reports::{Folders, name_depth, place_at, report_all, report_fault, report_rules};
+use crate::reports::{name_depth, place_at, report_all, report_fault, report_rules};
 use crate::stop::Stop;
 use crate::writing::{is_listed, refuse_or_end, write_path};
 use commands::World;
@@ -35,7 +37,6 @@ use ignore_files::{FileType, Files};
 use ignore_types::types::TypesBuilder;
 use ignore_walk::{Callbacks, DirEntry, Ground, Item, Walk, runs};
 use std::alloc::Global;
-use std::collections::BTreeMap;
 use std::io::Write;
 
 /// How many steps a walk may take.
@@ -177,7 +178,7 @@ impl Met {
     {
         Met {
             alloc,
-            folders: BTreeMap::new(alloc),
+            folders: Folders::new(alloc),
             names: None,
         }
     }
@@ -258,10 +259,10 @@ fn note_and_write<W: Write, E: Write>(
     ensures ended { IfErr result (EndsAfter [] [] (Appends (W.contents out.old) (W.contents out.new)) (Appends (E.contents err.old) (E.contents err.new))) }
 {
     let depth = entry.depth();
-    let Ok(_) = met.folders.insert(depth, entry) else {
+    let Ok(()) = met.folders.note(entry) else {
         return Err(Stop::Memory);
     };
-    match met.folders.get(&depth) {
+    match met.folders.get(depth) {
         Some(entry) => write_entry(entry, options, &mut met.names, out, err),
         None => unreachable!(),
     }

@@ -2,7 +2,7 @@
 use Rattle.std.proofs.Common.{◌≡◌, inl, inr, ℕ, suc, ◌+◌, Bool, true, false, ◌&&◌, not, List, [], ◌∷◌, ◌++◌, length, map, reverse, Option, None, Some, option_map, OnOk, Result, Ok, Err, if◌then◌else◌, refl, sym, ◌∙◌, ap, subst, arith}
 use Rattle.std.specs.Prelude.{⊤, All, Contains, codes, IsPermutation, MatchOption, cond, option_to_list}
 use Rattle.std.proofs.lemmas.List.{reverse-append, reverse-reverse}
-use Rattle.std.proofs.lemmas.List.Elements.{All-append, All-cons, All-contains, All-contains_itself, All-head, All-map, All-nil, All-rest, All-tail}
+use Rattle.std.proofs.lemmas.List.Elements.{All-append, All-cons, All-contains_itself, All-head, All-map, All-nil, All-rest, All-tail}
 use Rattle.std.proofs.lemmas.List.Sorted.{All-permutation, IsPermutation-reverse}
 use Rattle.std.specs.Iterator.{Drains, Yields, YieldsThen}
 use Rattle.ignore_base.proofs.CleanLemmas.{Decides-name}
@@ -308,13 +308,13 @@ frames_below roots (f ∷ fs) h =
     }) in
     All-cons (λ (f : Frame). (depth : ℕ) × IsAtOrBelow roots f.path depth) f fs own (frames_below roots fs (outer_below roots f fs h))
 
-pub frame_below : (roots : List Path) (w : Work) (f : Frame) → WorksBelow roots w → Contains w.frames f
-    → (depth : ℕ) × IsAtOrBelow roots f.path depth
-frame_below roots w f h is =
+pub work_below : (roots : List Path) (w : Work) → WorksBelow roots w
+    → All (λ (f : Frame). (depth : ℕ) × IsAtOrBelow roots f.path depth) w.frames
+work_below roots w h =
     let P : Frame → Type 0 = λ (f : Frame). (depth : ℕ) × IsAtOrBelow roots f.path depth in
     let turned = frames_below roots (reverse w.frames) h.entered in
-    let all = subst (All P) (reverse-reverse w.frames) (All-permutation P (reverse w.frames) (reverse (reverse w.frames)) (IsPermutation-reverse (reverse w.frames)) turned) in
-    All-contains P w.frames f all is
+    subst (All P) (reverse-reverse w.frames)
+    (All-permutation P (reverse w.frames) (reverse (reverse w.frames)) (IsPermutation-reverse (reverse w.frames)) turned)
 
 -- runs
 
