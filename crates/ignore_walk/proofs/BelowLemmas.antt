@@ -298,14 +298,17 @@ keeps_on_ok (Err e) roots lists old new h step made = tt
 frames_below : (roots : List Path) (fs : List Frame) → EnteredBelow roots fs → All (λ (f : Frame). (depth : ℕ) × IsAtOrBelow roots f.path depth) fs
 frames_below roots [] h = All-nil (λ (f : Frame). (depth : ℕ) × IsAtOrBelow roots f.path depth)
 frames_below roots (f ∷ fs) h =
-    let own : (depth : ℕ) × IsAtOrBelow roots f.path depth = (length h.place, record {
-      root = h.root;
-      place = h.place;
-      given = h.given;
-      names = h.names;
-      is = first_path h.root f.path h.place (map (λ (f : Frame). f.path) fs) h.paths;
-      deep = refl;
-    }) in
+    let own : (depth : ℕ) × IsAtOrBelow roots f.path depth = (
+      length h.place,
+      record {
+        root = h.root;
+        place = h.place;
+        given = h.given;
+        names = h.names;
+        is = first_path h.root f.path h.place (map (λ (f : Frame). f.path) fs) h.paths;
+        deep = refl;
+      },
+    ) in
     All-cons (λ (f : Frame). (depth : ℕ) × IsAtOrBelow roots f.path depth) f fs own (frames_below roots fs (outer_below roots f fs h))
 
 pub work_below : (roots : List Path) (w : Work) → WorksBelow roots w
