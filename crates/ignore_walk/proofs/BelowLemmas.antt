@@ -57,9 +57,9 @@ unlisted_below roots e (Ok xs) = All-nil (StaysBelow roots)
 unlisted_below roots e (Err fault) = one_below roots (Err _) tt
 
 -- nothing is in hand
-pub none_below : (roots : List Path) (s : Stack) → s.made.items ≡ [] → MadeBelow roots s
-none_below roots s none =
-    subst (λ (made : List (Result DirEntry Error)). All (StaysBelow roots) (map item_of made)) (sym none) (All-nil (StaysBelow roots))
+pub none_below : (roots : List Path) (made : List (Result DirEntry Error)) → made ≡ [] → All (StaysBelow roots) (map item_of made)
+none_below roots made empty =
+    subst (λ (made : List (Result DirEntry Error)). All (StaysBelow roots) (map item_of made)) (sym empty) (All-nil (StaysBelow roots))
 
 -- the same items are in hand
 pub same_below : (roots : List Path) (a b : Stack) → b.made ≡ a.made → MadeBelow roots a → MadeBelow roots b

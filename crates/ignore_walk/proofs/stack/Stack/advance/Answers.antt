@@ -7,7 +7,7 @@ use Rattle.ignore_walk.specs.Entry.{item_of}
 use Rattle.ignore_walk.specs.Left.{State}
 use Rattle.ignore_walk.specs.Moves.{Moves, between}
 use Rattle.ignore_walk.specs.OnList.{AreOn}
-use Rattle.ignore_walk.specs.Paces.{work_of}
+use Rattle.ignore_walk.specs.Paces.{MayEnter, work_of}
 use Rattle.ignore_walk.specs.Stands.{Becomes, state_of}
 use Rattle.ignore_walk.specs.declared.frame.Frame.{Frame}
 use Rattle.ignore_walk.proofs.LeftLemmas.{state}
@@ -35,9 +35,11 @@ pub returns-in-Some-clause-paced : goal.returns-in-Some-clause-paced
 returns-in-Some-clause-paced g c = λ work.
     let stack = c.args.self.now in
     let empty : stack.frames.items ≡ [] = sym c.as_slice.ensures.value ∙ c.is_outside.ensures.yes c.if-not-is_outside.false in
+    let lists = g.F.Files.list_gives c.args.ground.now.files.now in
+    let frames = c.begin.new.self.frames.items in
     on_ok_map c.begin.result
-    (λ enters. begun (g.F.Files.list_gives c.args.ground.now.files.now) (work_of stack) (work_of c.begin.new.self) c.in-Some.root c.pop_front.new.self.items empty c.in-Some.ensures.items
-    (ap (λ r. r.items) c.begin.ensures.roots) enters)
+    (λ enters. begun lists (work_of stack) (work_of c.begin.new.self) c.in-Some.root c.pop_front.new.self.items empty c.in-Some.ensures.items
+    (ap (λ r. r.items) c.begin.ensures.roots) (subst (λ (p : List ℕ). MayEnter lists p [] frames) c.as_str.ensures enters))
     (c.begin.ensures.enters empty)
 
 pub returns-then-not-is_outside-clause-no_end : goal.returns-then-not-is_outside-clause-no_end
@@ -57,7 +59,9 @@ returns-then-not-is_outside-clause-below g c = λ roots work h.
     (c.step.ensures.paced some) (c.step.ensures.below roots some h)
 
 pub returns-in-None-clause-below : goal.returns-in-None-clause-below
-returns-in-None-clause-below g c = λ roots work h. h
+returns-in-None-clause-below g c = λ roots work h.
+    let waiting = subst (All (Contains roots)) c.in-None.ensures.items h.work.waiting in
+    record { work = record { waiting = waiting; entered = h.work.entered }; made = h.made }
 
 pub returns-in-Some-clause-below : goal.returns-in-Some-clause-below
 returns-in-Some-clause-below g c = λ roots work h.

@@ -82,7 +82,7 @@ returns-in-Err-clause-paced g c = λ some.
     let one = when_some _ _ c.take_listed.result x c.in-Some.is (c.take_listed.ensures.next some) in
     on_any_ok c.make_error.result
     (taken (g.F.Files.list_gives c.args.ground.now.files.now) (work_of c.args.self.now) (work_of c.take_listed.new.self) _ x one
-    (none_in _ one.before.path x c.take_listed.new.self.frames.items) refl)
+    (none_in (g.F.Files.list_gives c.args.ground.now.files.now) one.before.path x c.take_listed.new.self.frames.items) refl)
 
 pub returns-in-Ok-clause-paced : goal.returns-in-Ok-clause-paced
 returns-in-Ok-clause-paced g c = λ some.

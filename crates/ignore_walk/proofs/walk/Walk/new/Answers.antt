@@ -31,5 +31,5 @@ returns-clause-no_end g c = none_go_on _ (ap length (c.from_vec-2.ensures.items 
 pub returns-clause-below : goal.returns-clause-below
 returns-clause-below g c = record {
   work = subst (WorksBelow c.args.roots.items) (sym (work_first _ _ _ c.from_vec.ensures.items c.new-3.ensures.items)) (first_works c.args.roots.items);
-  made = none_below c.args.roots.items _ (c.from_vec-2.ensures.items ∙ c.new-4.ensures.items);
+  made = none_below c.args.roots.items c.from_vec-2.result.items (c.from_vec-2.ensures.items ∙ c.new-4.ensures.items);
 }
