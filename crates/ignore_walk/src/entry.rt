@@ -23,7 +23,8 @@ pub struct DirEntry {
     depth: usize,
     kind: Option<FileType>,
     followed: bool,
-    error: Option<Error>,
+    /// In a box, so that an entry, which mostly has none, is small.
+    error: Option<Box<Error>>,
 }
 
 /// What a walk yields.
@@ -61,14 +62,17 @@ impl DirEntry {
         })
     }
 
-    /// The same entry with this error. It allocates nothing.
+    /// The same entry with this error. Without one it allocates nothing.
     /// For dependents.
-    pub fn with_error(mut self, error: Option<Error>) -> DirEntry
-        ensures entry { entry_of result ≡ entry_of self }
-        ensures error { problem_in result ≡ option_map problem_of error }
+    pub fn with_error(mut self, error: Option<Error>) -> Result<DirEntry, AllocError>
+        ensures entry { IfOk result (λ e. entry_of e ≡ entry_of self) }
+        ensures error { IfOk result (λ e. problem_in e ≡ option_map problem_of error) }
     {
-        self.error = error;
-        self
+        self.error = match error {
+            None => None,
+            Some(error) => Some(Box::new(*self.path.allocator(), error)?),
+        };
+        Ok(self)
     }
 
     /// The path: the root as it was given, joined with the names below it.
@@ -124,7 +128,10 @@ impl DirEntry {
     pub fn error(&self) -> Option<&Error>
         ensures { option_map (λ e. problem_of e.now) result ≡ problem_in self.now }
     {
-        self.error.as_ref()
+        match &self.error {
+            None => None,
+            Some(error) => Some(error),
+        }
     }
 
     /// Whether the entry is a link that was followed.
@@ -190,7 +197,7 @@ impl Clone for DirEntry {
 
     fn clone(&self) -> Result<DirEntry, AllocError> {
         let path = self.path.clone()?;
-        let error = clone_of(&self.error)?;
+        let error = clone_of(*self.path.allocator(), &self.error)?;
         Ok(DirEntry {
             path,
             depth: self.depth,
@@ -202,12 +209,15 @@ impl Clone for DirEntry {
 }
 
 /// A clone of an error, if there is one.
-fn clone_of(error: &Option<Error>) -> Result<Option<Error>, AllocError>
+fn clone_of(
+    alloc: Global,
+    error: &Option<Box<Error>>,
+) -> Result<Option<Box<Error>>, AllocError>
     ensures { IfOk result (λ e. option_map problem_of e ≡ option_map problem_of error.now) }
 {
     match error {
         None => Ok(None),
-        Some(error) => Ok(Some(error.clone()?)),
+        Some(error) => Ok(Some(Box::new(alloc, (**error).clone()?)?)),
     }
 }
 

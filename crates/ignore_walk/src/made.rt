@@ -26,7 +26,7 @@ pub(crate) fn make(
     if !is_at_least(settings.min_depth, entry.depth()) {
         return Ok(());
     }
-    made.push_back(Ok(entry.with_error(error)))?;
+    made.push_back(Ok(entry.with_error(error)?))?;
     Ok(())
 }
 

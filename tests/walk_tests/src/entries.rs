@@ -77,7 +77,7 @@ fn standard_input(rt: HostRuntime) -> anyhow::Result<()> {
 
 /// A clone of a link that has an error.
 fn cloned(alloc: Global) -> anyhow::Result<DirEntry> {
-    let entry = entry(alloc, "/a/l/", false)?.with_error(Some(Error::Io(Fault::Other)));
+    let entry = entry(alloc, "/a/l/", false)?.with_error(Some(Error::Io(Fault::Other)))?;
     Ok(entry.clone()?)
 }
 
