@@ -26,7 +26,7 @@ entry_of e = record { path = string_bytes e.path; depth = e.depth; kind = e.kind
 
 -- the problem of the load of the directory that it is or leads to, if any
 abbrev pub problem_in : DirEntry → Option Problem
-problem_in e = option_map problem_of e.error
+problem_in e = option_map (λ b. problem_of b.value) e.error
 
 -- what a walk yields: an entry, with the problem of the load of the directory that it is or leads
 -- to, if any; or a problem alone

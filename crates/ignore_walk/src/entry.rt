@@ -213,7 +213,7 @@ fn clone_of(
     alloc: Global,
     error: &Option<Box<Error>>,
 ) -> Result<Option<Box<Error>>, AllocError>
-    ensures { IfOk result (λ e. option_map problem_of e ≡ option_map problem_of error.now) }
+    ensures { IfOk result (λ e. option_map (λ b. problem_of b.value) e ≡ option_map (λ b. problem_of b.value) error.now) }
 {
     match error {
         None => Ok(None),
