@@ -1,6 +1,6 @@
 -- What a stack stands for stays the same while directories are listed and left, and loses what is taken;
 -- and what it stands for then is all that it stood for.
-use Rattle.std.proofs.Common.{◌≡◌, ◌↔◌, Bool, true, false, List, [], ◌∷◌, ◌++◌, Option, None, Some, Result, Ok, Err, IfOk, refl, sym, ◌∙◌, ap, subst, append_assoc}
+use Rattle.std.proofs.Common.{◌≡◌, ◌↔◌, ℕ, Bool, true, false, List, [], ◌∷◌, ◌++◌, Option, None, Some, Result, Ok, Err, IfOk, refl, sym, ◌∙◌, ap, subst, append_assoc}
 use Rattle.std.proofs.lemmas.List.{append-nil}
 use Rattle.std.specs.Prelude.{if◌then◌else◌}
 use Rattle.std.specs.declared.alloc.Global.{Global}
@@ -15,7 +15,7 @@ use Rattle.ignore_files.specs.declared.types.FileType.{FileType}
 use Rattle.ignore_files.specs.declared.types.Listed.{Listed}
 use Rattle.ignore_files.specs.declared.types.Listed.TheVariants as thing
 use Rattle.ignore_survey.specs.Stands.{Enters, Finds, Hands, Left, Stands, Takes, Waits, found_at, found_of, next_dir}
-use Rattle.ignore_survey.specs.Survey.{Below, Each, Entry, IsSurvey, Item, Lists, entry_at, goes_on, is_open, place}
+use Rattle.ignore_survey.specs.Survey.{Below, Each, Entry, IsSurvey, Item, Lists, entry_at, goes_on, is_open, place, unlisted}
 use Rattle.ignore_survey.specs.Survey.{fails, lists, none, fault, leaf, inner, closed, of_root}
 use Rattle.ignore_survey.specs.declared.stack.Frame.{Frame}
 use Rattle.ignore_survey.specs.declared.stack.Stack.{Stack}
@@ -105,11 +105,11 @@ enters_listed g dir f path listed = λ items. (
 )
 
 -- or it can't be listed
-pub enters_failed : (g : QueryScene) (dir : Path) (e : Error) (fault : Fault) → g.tree.list (place g.root dir) ≡ Err fault
-    → problem_of e ≡ at_path (place g.root dir) (io fault) → Enters g dir (Err e)
-enters_failed g dir e fault shut is = λ items.
+pub enters_failed : (g : QueryScene) (dir : Path) (e : Error) (f : Fault) → g.tree.list (place g.root dir) ≡ Err f
+    → problem_of e ≡ at_path (place g.root dir) (io f) → Enters g dir (Err e)
+enters_failed g dir e f shut is = λ items.
     let alone : Problem → List Item = λ p. Err p ∷ [] in (
-      λ below. below_failed g dir items fault shut below ∙ ap alone (sym is),
+      λ below. below_failed g dir items f shut below ∙ ap alone (sym is),
       λ are. subst (Below g dir) (sym (are ∙ ap alone is)) (fails shut),
     )
 
@@ -301,11 +301,11 @@ module _ (g : QueryScene) (s : Stack) (items : List Item) (waits : s.waiting ≡
   of_waiting : (own : List Item) (b : Bool) → is_open g ≡ b → Waits g s.waiting own → IsSurvey g own
   of_waiting own true goes w = of_root goes (subst (λ (x : Option Path). Waits g x own) (waits_at true goes) w)
   of_waiting own false shut w =
-      let none : own ≡ [] = subst (λ (x : Option Path). Waits g x own) (waits_at false shut) w in subst (IsSurvey g) (sym none) (closed shut)
+      let gone : own ≡ [] = subst (λ (x : Option Path). Waits g x own) (waits_at false shut) w in subst (IsSurvey g) (sym gone) (closed shut)
 
   -- and it gives no more than the survey of the root
   pub whole_stands : Stands g s items → IsSurvey g items
   whole_stands stands =
-      let none : stands.outer ≡ [] = subst (λ (l : List Frame). Left g l stands.outer) empty stands.rest in
-      let are : items ≡ stands.own = stands.are ∙ (ap (λ (o : List Item). stands.own ++ o) none ∙ append-nil stands.own) in
+      let gone : stands.outer ≡ [] = subst (λ (l : List Frame). Left g l stands.outer) empty stands.rest in
+      let are : items ≡ stands.own = stands.are ∙ (ap (λ (o : List Item). stands.own ++ o) gone ∙ append-nil stands.own) in
       subst (IsSurvey g) (sym are) (of_waiting stands.own (is_open g) refl stands.first)

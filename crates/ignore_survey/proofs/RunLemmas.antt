@@ -1,5 +1,5 @@
 -- What a survey has yielded when it answers none, and that no item of a list ends one.
-use Rattle.std.proofs.Common.{◌≡◌, ◌≤◌, List, [], ◌∷◌, ◌++◌, length, map, Bool, false, None, Some, Result, Ok, Err, if◌then◌else◌, suc, inl, inr, sym, ◌∙◌, ap, subst, arith}
+use Rattle.std.proofs.Common.{◌≡◌, ◌≤◌, List, [], ◌∷◌, ◌++◌, length, map, Bool, false, Option, None, Some, Result, Ok, Err, if◌then◌else◌, suc, inl, inr, sym, ◌∙◌, ap, subst, arith}
 use Rattle.std.specs.Iterator.{Drains}
 use Rattle.ignore_base.specs.declared.error.Error.{Error}
 use Rattle.ignore_base.specs.declared.fault.Fault.{Fault}
@@ -17,7 +17,7 @@ use Rattle.ignore_survey.specs.Surveyed.{item_of}
 use Rattle.ignore_survey.specs.declared.survey.Survey.{Survey}
 use Rattle.ignore_survey.specs.declared.surveyed.Surveyed.{Surveyed}
 
-abbrev Step : {F : Type 0} → Files F → Survey F → _ → Survey F → Type 0
+abbrev Step : {F : Type 0} → Files F → Survey F → Option (Result Surveyed Error) → Survey F → Type 0
 Step files a answer b = NextGives files a answer b
 
 -- a survey that is asked until it answers none still gave what it yielded
