@@ -191,7 +191,7 @@ module _ {F : Type 0} (files : Files F) (f : F) (m : IncrementalIgnore) (s : Sur
       → AreAll g (map seen_of xs) u.matcher.cache
   all_from g u xs suits w =
       let fits = w.fits in
-      let same = length-map seen_of xs in
+      let same = length-map xs seen_of in
       record {
         list = subst (IsSurvey g) (sym (items_seen xs)) ((starts g suits).whole (map item_of xs) w.stands);
         fits = omega (arith, same, fits, limit);
@@ -203,7 +203,7 @@ module _ {F : Type 0} (files : Files F) (f : F) (m : IncrementalIgnore) (s : Sur
     map seen_of k.front,
     ap (map seen_of) k.are
         ∙ (map-append seen_of k.front (k.last ∷ []) ∙ ap (λ (x : Seen). map seen_of k.front ++ x ∷ []) (seen_limit k.last k.limit)),
-    length-map seen_of k.front ∙ (k.full ∙ limit),
+    length-map k.front seen_of ∙ (k.full ∙ limit),
     λ items is.
         let r = k.more items (whole g items suits is) in
         (r.0, r.1 ∙ ap (λ (is : List Item). is ++ r.0) (sym (items_seen k.front)), r.2),
@@ -261,7 +261,7 @@ cut_short g seen items cut is fits =
     let more = cut.3 items is in
     let front = map (λ (s : Seen). s.0) cut.0 in
     let all : length items ≡ length front + length more.0 = ap length more.1 ∙ length-append front more.0 in
-    let full : length front ≡ most_items = length-map (λ (s : Seen). s.0) cut.0 ∙ cut.2 in
+    let full : length front ≡ most_items = length-map cut.0 (λ (s : Seen). s.0) ∙ cut.2 in
     more.2 (none_fit more.0 0 refl (omega (arith, all, full, fits)))
 
 -- all items are the first ones

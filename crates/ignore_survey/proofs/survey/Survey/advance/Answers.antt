@@ -1,6 +1,7 @@
 use Rattle.std.proofs.Common.{◌≡◌, ◌∷◌, [], Err, Option, inl, inr, refl, sym, ap, subst, arith, ◌∙◌}
 use Rattle.ignore_survey.specs.Nexts.{Nexts, Shows}
 use Rattle.ignore_survey.specs.Survey.{Item}
+use Rattle.ignore_survey.specs.Surveyed.{item_of}
 use Rattle.ignore_survey.proofs.survey.Survey.advance.Goals as goal
 
 pub returns-then-self-clause-given : goal.returns-then-self-clause-given
@@ -51,7 +52,7 @@ pub returns-else-self-eq0-clause-shows : goal.returns-else-self-eq0-clause-shows
 returns-else-self-eq0-clause-shows g c = λ s suits on. inr (
   c.step.ensures.ended ∙ on,
   λ items stands.
-      (rw c.in-Ok-Some.field-0-is at (c.in-Ok-Some.ensures.given s (_ ∷ items) suits)).1 (record { others = items; are = refl; rest = stands }),
+      (rw c.in-Ok-Some.field-0-is at (c.in-Ok-Some.ensures.given s (item_of c.in-Ok-Some.item ∷ items) suits)).1 (record { others = items; are = refl; rest = stands }),
 )
 
 pub returns-then-self-clause-counted : goal.returns-then-self-clause-counted
