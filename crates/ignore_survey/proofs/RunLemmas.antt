@@ -1,5 +1,5 @@
 -- What a survey has yielded when it answers none, and that no item of a list ends one.
-use Rattle.std.proofs.Common.{◌≡◌, ◌≤◌, List, [], ◌∷◌, ◌++◌, length, map, Bool, false, Option, None, Some, Result, Ok, Err, if◌then◌else◌, suc, inl, inr, sym, ◌∙◌, ap, subst, arith}
+use Rattle.std.proofs.Common.{◌≡◌, ◌≤◌, List, [], ◌∷◌, ◌++◌, length, map, Bool, false, Option, None, Result, Ok, if◌then◌else◌, suc, inl, inr, sym, ◌∙◌, ap, subst, arith}
 use Rattle.std.specs.Iterator.{Drains}
 use Rattle.ignore_base.specs.declared.error.Error.{Error}
 use Rattle.ignore_base.specs.declared.fault.Fault.{Fault}
