@@ -205,7 +205,7 @@ fn lint_contents<F: Files, W: Write, E: Write>(
     let reported = report_wanting(path, contents.fault, &linted, err)?;
     Ok(Looked {
         counts: counts.and(Counts::begun(u64::from(reported))),
-        has_rules: !linted.rules.is_empty() || linted.refused.is_some(),
+        has_rules: !linted.verdicts.rules.is_empty() || linted.verdicts.refused.is_some(),
     })
 }
 
@@ -233,12 +233,12 @@ fn write_linted<F: Files, W: Write>(
     for diagnostic in &linted.lines {
         counts = counts.with(write_told(all, path, diagnostic, out)?);
     }
-    for judged in &linted.rules {
+    for judged in &linted.verdicts.rules {
         if let Some(diagnostic) = judged {
             counts = counts.with(write_told(all, path, diagnostic, out)?);
         }
     }
-    for note in &linted.notes {
+    for note in &linted.verdicts.notes {
         write_found(all.world.alloc, all.how, path, note, out)?;
     }
     Ok(counts)
@@ -293,7 +293,7 @@ fn report_wanting<E: Write>(
         report_fault(path, fault, err)?;
         return Ok(true);
     }
-    let text = match linted.refused {
+    let text = match linted.verdicts.refused {
         None => return Ok(false),
         Some(Refused::TooLarge) => "too many states to judge its rules",
         Some(_) => "the search isn't accepted by its check",

@@ -14,7 +14,7 @@ written rules index rule text at is = subst (IsWritten text) (sym at) is
 
 -- what is wrong with a rule names it
 pub is_named : (rules : List Rule) (index : ℕ) (text : Bytes) (d : Diagnostic) → IsWritten text (slice_get rules index)
-    → string_bytes d.rule ≡ text → d.line ≡ line_in rules index → IsSo rules index text d.wrong → IsNamed rules index d
+    → d.rule ≡ text → d.line ≡ line_in rules index → IsSo rules index text d.wrong → IsNamed rules index d
 is_named rules index text d here is line so =
     record {
       line = line;
