@@ -1,5 +1,5 @@
 //! Files of rules that are named on the command line.
-ghost use Rattle.std.specs.Prelude.{◌≡◌, Option, List, IfOk, IfErr, map, option_map, true};
+ghost use Rattle.std.specs.Prelude.{◌≡◌, Option, List, IfOk, IfErr, Some, map, option_map, true};
 ghost use Rattle.ignore_base.specs.Problem.{Problem, problem_of, memory};
 ghost use Rattle.ignore_files.specs.Gives.{IsHonest};
 ghost use Rattle.ignore_files.specs.Tree.{Tree};
@@ -70,13 +70,27 @@ fn explained<F: Files>(
         → IfOk result (λ told. option_map problem_of told ≡ explained tree path.now (option_map problem_of error)) }
     ensures out_of_memory { IfErr result (λ e. problem_of e ≡ memory) }
 {
-    let Some(error) = error else {
-        return Ok(None);
-    };
-    if is_special(alloc, files, path)? {
-        return Ok(Some(unread(alloc, path)?));
+    match error {
+        Some(error) => Ok(Some(explained_error(alloc, files, path, error)?)),
+        None => Ok(None),
     }
-    Ok(Some(error))
+}
+
+/// What is wrong with a file: of a pipe or a device that it isn't read.
+fn explained_error<F: Files>(
+    alloc: Global,
+    files: &F,
+    path: &str,
+    error: Error,
+) -> Result<Error, Error>
+    ensures value { (tree : Tree) → IsHonest F.Files files.now tree
+        → IfOk result (λ told. Some (problem_of told) ≡ explained tree path.now (Some (problem_of error))) }
+    ensures out_of_memory { IfErr result (λ e. problem_of e ≡ memory) }
+{
+    if is_special(alloc, files, path)? {
+        return Ok(unread(alloc, path)?);
+    }
+    Ok(error)
 }
 
 /// Whether a path leads to something else than a file or a directory, as a pipe or a device.
