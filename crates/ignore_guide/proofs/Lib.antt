@@ -5,4 +5,5 @@ pub mod LawLemmas
 pub mod NameLemmas
 pub mod StandLemmas
 pub mod ToldLemmas
+pub mod WhyLemmas
 pub mod WorkedGuide

@@ -2,4 +2,5 @@ pub mod Guide
 pub mod Hosted
 pub mod Names
 pub mod Places
+pub mod Reasons
 pub mod Told
