@@ -684,13 +684,13 @@ uint32_t ignore_guide_decide_all(ignore_guide *guide, const ignore_place *place,
                                  size_t n, const uint64_t *sizes, size_t sizes_length,
                                  uint8_t *codes, size_t codes_length);
 
-/* Which rule decides on an entry of the directory at a place, whatever its depth and its size are:
-   IGNORE_NONE, IGNORE_IGNORE or IGNORE_WHITELIST, with `why` and `room` as for
-   ignore_matcher_explained. It changes nothing. Also as ignore_guide_decide, and then `why` is all
-   zeros, and the room is as before. */
+/* The same as ignore_guide_decide, with the reason: `why` and `room` as for ignore_matcher_explained.
+   The answer and `found` are those of ignore_guide_decide, of what is beyond the limits on depth and
+   of what is larger than the limit, too; `is_inside` is false, since no ignored directory is entered.
+   Also as ignore_guide_decide, and then `why` is all zeros, and the room is as before. */
 uint32_t ignore_guide_why(ignore_guide *guide, const ignore_place *place, const uint8_t *name,
-                          size_t name_length, bool is_dir, ignore_why *why, uint8_t *room,
-                          size_t room_length);
+                          size_t name_length, bool is_dir, uint64_t size, ignore_found *found,
+                          ignore_why *why, uint8_t *room, size_t room_length);
 
 /* Leaves the directory at a place, which is none from then on. Each is left once, those below it
    first. IGNORE_OK; or IGNORE_MISUSED where the place is none, where a directory below it wasn't left,

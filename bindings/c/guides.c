@@ -212,17 +212,49 @@ static void refuse(ignore_guide *guide, const ignore_place *root) {
          ignore_guide_decide_all(guide, root, TEXT(""), kinds, 0, IGNORE_NO_SIZES, codes, 0));
 }
 
-static void reason(ignore_guide *guide, const ignore_place *root) {
+/* The reason for an entry, with the answer that ignore_guide_decide gives. */
+static ignore_why explain(ignore_guide *guide, const ignore_place *place, const char *name,
+                          uint64_t size, uint8_t *room) {
+    ignore_found found, alone;
     ignore_why why;
+    uint32_t code, decided;
+    do
+        decided = ignore_guide_decide(guide, place, TEXT(name), false, size, &alone);
+    while (decided == IGNORE_NO_MEMORY && failing);
+    do
+        code = ignore_guide_why(guide, place, TEXT(name), false, size, &found, &why, room, 256);
+    while (code == IGNORE_NO_MEMORY && failing);
+    HOLDS(code == decided && found.should_descend == alone.should_descend);
+    HOLDS(found.is_within_depth == alone.is_within_depth && !why.is_inside);
+    return why;
+}
+
+static void reason(ignore_guide *guide, const ignore_place *root) {
+    const uint64_t any = IGNORE_NO_SIZE;
+    ignore_found found = {true, true};
     uint8_t room[256];
-    CALL(IGNORE_WHITELIST,
-         ignore_guide_why(guide, root, TEXT("keep.o"), false, &why, room, sizeof room));
+    ignore_why why = explain(guide, root, "keep.o", any, room);
     HOLDS(why.kind == IGNORE_WHY_RULE && why.rank == IGNORE_RANK_GITIGNORE && why.line == 2);
     same("/t//t/.gitignore!keep.o", room, why.directory + why.source + why.pattern);
-    CALL(IGNORE_NONE, ignore_guide_why(guide, root, TEXT("a.c"), false, &why, room, sizeof room));
-    HOLDS(why.kind == IGNORE_WHY_NO_RULE);
-    CALL(IGNORE_MISUSED, ignore_guide_why(guide, root, TEXT(""), false, &why, room, sizeof room));
-    HOLDS(why.kind == 0);
+    HOLDS(explain(guide, root, "a.c", any, room).kind == IGNORE_WHY_NO_RULE);
+    HOLDS(explain(guide, root, "a.c", 100, room).kind == IGNORE_WHY_NO_RULE);
+    HOLDS(explain(guide, root, "a.o", 101, room).kind == IGNORE_WHY_RULE);
+    why = explain(guide, root, "a.c", 101, room);
+    HOLDS(why.kind == IGNORE_WHY_LARGER && why.size == 101 && why.limit == 100);
+    CALL(IGNORE_MISUSED, ignore_guide_why(guide, root, TEXT(""), false, any, &found, &why, room,
+                                          sizeof room));
+    HOLDS(why.kind == 0 && !found.should_descend && !found.is_within_depth);
+}
+
+/* Below the greatest depth that depth is the reason, whatever the rules and the size are. */
+static void too_deep(ignore_guide *guide, const ignore_place *place) {
+    static const char names[] = "a.o";
+    folder more = {place, "more", names, sizeof names};
+    ignore_place deep;
+    uint8_t room[256];
+    CALL(IGNORE_OK, come(guide, &more, &deep));
+    HOLDS(explain(guide, &deep, "a.o", 101, room).kind == IGNORE_WHY_TOO_DEEP);
+    CALL(IGNORE_OK, ignore_guide_leave(guide, &deep));
 }
 
 static void below(ignore_guide *guide, const ignore_place *root) {
@@ -244,6 +276,7 @@ static void below(ignore_guide *guide, const ignore_place *root) {
     HOLDS(others == before_it);
     decide(guide, &place, "deep.c", false, IGNORE_NO_SIZE, IGNORE_IGNORE + 8);
     decide(guide, &place, "more", true, IGNORE_NO_SIZE, IGNORE_NONE + 8);
+    too_deep(guide, &place);
     CALL(IGNORE_MISUSED, ignore_guide_leave(guide, root));
     CALL(IGNORE_OK, ignore_guide_leave(guide, &place));
     CALL(IGNORE_MISUSED, ignore_guide_leave(guide, &place));

@@ -219,7 +219,10 @@ CALLS = {
     "guide_decide_all": [
         *ONE, POINTER(Place), *TEXT, *TEXT, POINTER(c_uint64), c_size_t, c_char_p, c_size_t,
     ],
-    "guide_why": [*ONE, POINTER(Place), *TEXT, c_bool, POINTER(WhyParts), c_char_p, c_size_t],
+    "guide_why": [
+        *ONE, POINTER(Place), *TEXT, c_bool, c_uint64, POINTER(Found), POINTER(WhyParts), c_char_p,
+        c_size_t,
+    ],
     "guide_leave": [*ONE, POINTER(Place)],
     "guide_problem": [*ONE, c_size_t, POINTER(ProblemParts), c_char_p, c_size_t],
     "walk_new": [*ONE, *ONE, *ONE],

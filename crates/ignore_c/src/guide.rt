@@ -17,7 +17,7 @@ use ignore_kept::asker::{self, Found};
 use ignore_kept::deciding::{self, Asked};
 use ignore_kept::entering::{self, Entering};
 use ignore_kept::entries::Listed;
-use ignore_kept::explained::Why;
+use ignore_kept::explained::{Told, Why};
 use ignore_kept::given::Gift;
 use ignore_kept::guided::{self, Wants};
 use ignore_kept::parts::{self, Part};
@@ -272,34 +272,37 @@ fn all_decided(guide: Handle, listing: Listing<'_>) -> (Handle, Result<Vec<u8>, 
     (close(kept), found)
 }
 
-/// What decides on an entry of the directory at a place.
+/// What becomes of an entry of the directory at a place, and why.
 #[unsafe(no_mangle)]
 pub extern "C" fn ignore_guide_why(
     guide: &mut Handle,
     place: &Place,
     name: &[u8],
     is_dir: bool,
+    size: u64,
+    found: &mut Found,
     why: &mut Why,
     room: &mut [u8],
 ) -> u32
     ensures kept { guide.new.value ≡ guide.old.value }
-    ensures told { (text : List ℕ) × ReasonsTold place.now name.now is_dir guide.old.value result why.new text × (room.new ≡ put_in text room.old) }
+    ensures told { (text : List ℕ) × ReasonsTold place.now name.now is_dir size guide.old.value result found.new why.new text × (room.new ≡ put_in text room.old) }
 {
     let asked = Asked {
         place: *place,
         name,
         is_dir,
-        size: u64::MAX,
+        size,
     };
     let told = mem::replace_with(guide, asked, reasoned);
+    *found = told.found;
     *why = told.why;
     put(&told.text, room);
     told.code
 }
 
-fn reasoned(guide: Handle, asked: Asked<'_>) -> (Handle, deciding::Told)
+fn reasoned(guide: Handle, asked: Asked<'_>) -> (Handle, Told)
     ensures kept { result.0.value ≡ guide.value }
-    ensures told { ReasonsTold asked.entry.place asked.entry.name.now asked.entry.is_dir guide.value result.1.code result.1.why result.1.text.items }
+    ensures told { ReasonsTold asked.entry.place asked.entry.name.now asked.entry.is_dir asked.entry.size guide.value result.1.code result.1.found result.1.why result.1.text.items }
 {
     let kept = open(guide);
     let alloc = *Box::allocator(&kept);
