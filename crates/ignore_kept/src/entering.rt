@@ -20,7 +20,7 @@ use crate::kept::Kept;
 use crate::room::text_of;
 use crate::stopped::Stopped;
 use ignore::files::{Env, Name};
-use ignore::guide::{Given, GuideError, Place, Question, Step, Told, Waiting};
+use ignore::guide::{Given, GuideError, Place, Step, Told, Waiting};
 use ignore::{Error, WalkOptions};
 use ignore_dir::errors::joined_some;
 use ignore_guide::internal::take_down;
@@ -101,18 +101,10 @@ fn first_root(alloc: Global, guided: &mut Guided, root: &str) -> Result<Option<P
         return Err(Stopped::Memory);
     };
     let told = Told::nothing(alloc);
-    let rest = Vec::new(alloc);
-    match read_outside(alloc, guided, root, Outer { told, rest }) {
+    match read_outside(alloc, guided, root, told) {
         Ok(place) => Ok(place),
         Err(_) => Err(Stopped::Memory),
     }
-}
-
-/// What was told of the rules from outside, and what is asked of them next.
-#[derive(Drop)]
-struct Outer {
-    told: Told,
-    rest: Vec<Question>,
 }
 
 /// Goes on with the first root: its host is asked where something of the rules from outside is
@@ -121,29 +113,18 @@ fn read_outside(
     alloc: Global,
     guided: &mut Guided,
     root: Name,
-    outer: Outer,
+    told: Told,
 ) -> Result<Option<Place>, AllocError>
-    ensures reads { IfOk result (λ place. Reads guided.old root outer.told place guided.new) }
+    ensures reads { IfOk result (λ place. Reads guided.old root told place guided.new) }
     ensures unchanged { OnErr result (guided.new ≡ guided.old) }
 {
-    let Outer { told, mut rest } = outer;
-    if let Some(question) = rest.pop() {
-        guided.stage = Stage::Reading(Reading {
-            root,
-            told,
-            question,
-            rest,
-        });
-        return Ok(None);
-    }
     let paths = guided.paths.as_slice();
-    let mut missing = guided.options.missing_for_guide(&told, &guided.env, paths)?;
-    if let Some(question) = missing.pop() {
+    let next = guided.options.next_for_guide(&told, &guided.env, paths)?;
+    if let Some(question) = next {
         guided.stage = Stage::Reading(Reading {
             root,
             told,
             question,
-            rest: missing,
         });
         return Ok(None);
     }
@@ -402,10 +383,9 @@ fn read_on(
         root,
         mut told,
         question,
-        rest,
     } = reading;
     take_down(alloc, &mut told, &question, given)?;
-    read_outside(alloc, guided, root, Outer { told, rest })
+    read_outside(alloc, guided, root, told)
 }
 
 /// Leaves the directory at a place.
