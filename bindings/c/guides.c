@@ -78,6 +78,9 @@ static void make(ignore_guide *guide) {
     CALL(IGNORE_OK, ignore_builder_env_home(&builder, TEXT("/home")));
     CALL(IGNORE_OK, ignore_builder_max_filesize(&builder, true, 100));
     CALL(IGNORE_OK, ignore_builder_max_depth(&builder, true, 2));
+    CALL(IGNORE_NOT_UTF8, ignore_builder_add_ignore_path(&builder, BYTES("\xff")));
+    CALL(IGNORE_OK, ignore_builder_add_ignore_path(&builder, TEXT("/w/extra")));
+    CALL(IGNORE_OK, ignore_builder_add_ignore_path(&builder, TEXT("/w/gone")));
     CALL(IGNORE_OK, ignore_guide_new(&builder, guide));
     ignore_builder_free(builder);
     ignore_builder in_guide = {guide->at};
@@ -105,14 +108,12 @@ static void before(ignore_guide *guide) {
                                                  IGNORE_NO_SIZES, &number, 1));
     HOLDS(number == 9);
     CALL(IGNORE_NONE, ignore_guide_problem(guide, 0, &problem, room, sizeof room));
-    CALL(IGNORE_NOT_UTF8, ignore_guide_add_ignore(guide, BYTES("\xff")));
-    CALL(IGNORE_OK, ignore_guide_add_ignore(guide, TEXT("/w/extra")));
-    CALL(IGNORE_OK, ignore_guide_add_ignore(guide, TEXT("/w/gone")));
     CALL(IGNORE_NOT_UTF8, ignore_guide_root(guide, BYTES("\xff"), &place));
 }
 
-/* While a call waits, others but questions are refused, and so is what is none. */
-static void waits(ignore_guide *guide, bool is_first) {
+/* While a call waits for a path, others but questions are refused, and so is what is none. The files
+   of the builder are wanted before all else, in their order. */
+static void waits(ignore_guide *guide, const char *wanted_path) {
     ignore_place place;
     uint8_t path[64];
     uint32_t wanted, again;
@@ -120,12 +121,12 @@ static void waits(ignore_guide *guide, bool is_first) {
     CALL(IGNORE_OK, ignore_guide_wanted(guide, &wanted, path, sizeof path, &whole));
     HOLDS(whole > 0 && wanted > 0);
     CALL(IGNORE_MISUSED, ignore_guide_root(guide, TEXT("/u"), &place));
-    CALL(IGNORE_MISUSED, ignore_guide_add_ignore(guide, TEXT("/w/more")));
     CALL(IGNORE_MISUSED, ignore_guide_give(guide, 3, TEXT(""), IGNORE_NO_FAULT, &place));
     CALL(IGNORE_MISUSED, ignore_guide_give(guide, 5, TEXT(""), IGNORE_NO_FAULT, &place));
     CALL(IGNORE_MISUSED, ignore_guide_give(guide, 1, TEXT(""), IGNORE_FAULT_OTHER + 1, &place));
     CALL(IGNORE_OK, ignore_guide_wanted(guide, &again, path, 1, &length));
-    HOLDS(again == wanted && length == whole && is_first == (length == strlen("/w/gone")));
+    HOLDS(again == wanted && length == whole);
+    same(wanted_path, path, whole);
 }
 
 static void expect(ignore_guide *guide, size_t index, uint32_t kind, uint64_t line,
@@ -267,7 +268,7 @@ static void below(ignore_guide *guide, const ignore_place *root) {
     CALL(IGNORE_NOT_UTF8, ignore_guide_enter(guide, root, BYTES("\xff"), TEXT(""), &place));
     CALL(IGNORE_NOT_UTF8, ignore_guide_enter(guide, root, TEXT("src"), BYTES("\xff\0"), &place));
     CALL(IGNORE_WANTS, begin(guide, &src, &place));
-    waits(guide, false);
+    waits(guide, "/t/src/.gitignore");
     CALL(IGNORE_MISUSED, ignore_guide_enter(guide, root, TEXT("x"), TEXT(""), &other));
     CALL(IGNORE_MISUSED, ignore_guide_leave(guide, root));
     decide(guide, root, "a.o", false, IGNORE_NO_SIZE, IGNORE_IGNORE + 8);
@@ -291,8 +292,10 @@ static void lead(void) {
     make(&guide);
     before(&guide);
     CALL(IGNORE_WANTS, begin(&guide, &top, &root));
-    waits(&guide, true);
+    waits(&guide, "/w/extra");
     uint32_t came = answer(&guide, &root);
+    if (!failing)
+        waits(&guide, "/w/gone");
     while (came == IGNORE_WANTS)
         came = answer(&guide, &root);
     CALL(IGNORE_OK, came == IGNORE_NO_MEMORY && failing ? come(&guide, &top, &root) : came);

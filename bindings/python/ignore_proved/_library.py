@@ -210,7 +210,6 @@ CALLS = {
     "matcher_forget": [*ONE, *TEXT, POINTER(c_size_t)],
     "matcher_normalize": [*ONE, *TEXT, c_char_p, c_size_t, POINTER(c_size_t)],
     "guide_new": [*ONE, *ONE],
-    "guide_add_ignore": [*ONE, *TEXT],
     "guide_root": [*ONE, *TEXT, POINTER(Place)],
     "guide_enter": [*ONE, POINTER(Place), *TEXT, *TEXT, POINTER(Place)],
     "guide_wanted": [*ONE, POINTER(c_uint32), c_char_p, c_size_t, POINTER(c_size_t)],
@@ -236,7 +235,7 @@ SWITCHES = [
 ]
 #: What a builder is told by a text.
 LABELS = [
-    "add", "add_custom_ignore_filename", "current_dir", "env_current_dir", "env_home",
+    "add", "add_custom_ignore_filename", "add_ignore_path", "current_dir", "env_current_dir", "env_home",
     "env_xdg_config_home", "env_git_config_global", "env_git_config_system",
 ]
 CALLS.update({f"builder_{name}": [*ONE, c_bool] for name in SWITCHES})

@@ -2,7 +2,7 @@
 
 ghost use Rattle.std.specs.Prelude.{◌≡◌, ◌≢◌, List, ℕ, Result, Ok, Err, IfOk, IfErr, length, string_bytes};
 ghost use Rattle.ignore_kept.specs.Deciding.{DecidesAll, DecidesTold, codes_put, ReasonsTold};
-ghost use Rattle.ignore_kept.specs.Guides.{AddsPath, AtBegun, Came, Done, Enters, Gives, Leaves, OnGuide, Roots, Starts, TellsWanted, came_code, came_place};
+ghost use Rattle.ignore_kept.specs.Guides.{AtBegun, Came, Done, Enters, Gives, Leaves, OnGuide, Roots, Starts, TellsWanted, came_code, came_place};
 ghost use Rattle.ignore_kept.specs.Kinds.{guided_in};
 ghost use Rattle.ignore_kept.specs.Parts.{TellsParts};
 ghost use Rattle.ignore_kept.specs.Rooms.{put_in};
@@ -50,22 +50,6 @@ fn boxed(alloc: Global, setup: &Kept) -> Result<Box<Kept>, Stopped>
 {
     let kept = guided::start(alloc, setup)?;
     Ok(Box::new(alloc, kept)?)
-}
-
-/// Adds a file of rules that is read with the first root.
-#[unsafe(no_mangle)]
-pub extern "C" fn ignore_guide_add_ignore(guide: &mut Handle, path: &[u8]) -> u32
-    ensures { Done (OnGuide (AddsPath path.now) guide.old.value) result guide.new.value }
-{
-    mem::replace_with(guide, path, path_added)
-}
-
-fn path_added(guide: Handle, path: &[u8]) -> (Handle, u32)
-    ensures { Done (OnGuide (AddsPath path.now) guide.value) result.1 result.0.value }
-{
-    let mut kept = open(guide);
-    let code = done(guided::add_path(&mut kept, path));
-    (close(kept), code)
 }
 
 /// Begins a root.
