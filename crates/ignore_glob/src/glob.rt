@@ -20,7 +20,6 @@ mod needle;
 mod node;
 mod nodes;
 mod options;
-mod parent;
 mod pass;
 mod pattern;
 mod read;

@@ -2,8 +2,6 @@ pub mod IndexLemmas
 pub mod SlotLemmas
 pub mod MaskLemmas
 pub mod OtherLemmas
-pub mod ScanLemmas
-pub mod ParentLemmas
 pub mod AddLemmas
 mod BucketLemmas
 mod WorkedForms
