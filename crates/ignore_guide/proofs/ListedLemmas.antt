@@ -1,13 +1,59 @@
 -- One name more of what decides in a directory that lists its names.
-use Rattle.std.proofs.Common.{◌≡◌, Bool, true, false, ◌&&◌, cond, List, [], ◌∷◌, ◌++◌, filter, map, refl, sym, ap, ◌∙◌}
+use Rattle.std.proofs.Common.{◌≡◌, ◌≤◌, ◌<◌, ◌↔◌, ℕ, suc, zero, Bool, true, false, ◌&&◌, ◌||◌, cond, List, [], ◌∷◌, ◌++◌, filter, map, bytes_eq, IsTrue, refl, sym, ap, arith, ◌∙◌}
+use Rattle.std.proofs.lemmas.Bool.Decides.{nat_tests, same_from_decides}
+use Rattle.std.proofs.lemmas.Slice.Eq.{bytes_eq-Decides}
+use Rattle.std.specs.Prelude.{slice_index}
+use Rattle.std.specs.Char.{is_ascii}
 use Rattle.std.proofs.lemmas.List.{append-nil, map-append}
 use Rattle.std.proofs.lemmas.List.Elements.{filter-append}
 use Rattle.std.proofs.lemmas.List.Folds.{list_all-append}
-use Rattle.std.specs.List.{list_all}
+use Rattle.std.specs.List.{list_all, list_any}
 use Rattle.ignore_base.specs.Paths.{join_of}
 use Rattle.ignore_base.specs.Text.{Bytes, Path}
 use Rattle.ignore_guide.specs.Listed.{Surveyed, is_lacking}
 use Rattle.ignore_guide.specs.declared.missing.Question.{Question}
+
+-- Names that are ASCII, and names that are alike in lower case.
+
+one_ascii : (b : ℕ) → b < 128 → is_ascii b ≡ true
+one_ascii b h = grind (arith, nat_tests)
+
+not_ascii : (b : ℕ) → 128 ≤ b → is_ascii b ≡ false
+not_ascii b h = grind (arith, nat_tests)
+
+and_true : (a b : Bool) → a ≡ true → b ≡ true → a && b ≡ true
+and_true true b e h = h
+and_true false b e h = absurd (cc (e))
+
+and_false : (a b : Bool) → b ≡ false → a && b ≡ false
+and_false true b h = h
+and_false false b h = refl
+
+first_false : (a b : Bool) → a ≡ false → a && b ≡ false
+first_false true b h = absurd (cc (h))
+first_false false b h = refl
+
+-- a text is ASCII where each of its bytes is
+pub all_ascii : (bs : List ℕ) → ((i : ℕ) → slice_index bs i < 128) → list_all is_ascii bs ≡ true
+all_ascii [] h = refl
+all_ascii (b ∷ bs) h =
+    let first : b < 128 = h zero in
+    and_true (is_ascii b) (list_all is_ascii bs) (one_ascii b first) (all_ascii bs (λ i. h (suc i)))
+
+pub some_not_ascii : (bs : List ℕ) (i : ℕ) → 128 ≤ slice_index bs i → list_all is_ascii bs ≡ false
+some_not_ascii [] i h = let clash : ⊥ = omega (arith, h) in absurd clash
+some_not_ascii (b ∷ bs) zero h = first_false (is_ascii b) (list_all is_ascii bs) (not_ascii b h)
+some_not_ascii (b ∷ bs) (suc i) h = and_false (is_ascii b) (list_all is_ascii bs) (some_not_ascii bs i h)
+
+-- a test of equality is that of bytes
+pub tests_same : (r : Bool) (xs ys : List ℕ) → IsTrue r ↔ (xs ≡ ys) → r ≡ bytes_eq xs ys
+tests_same r xs ys h = same_from_decides r (bytes_eq xs ys) h (bytes_eq-Decides xs ys)
+
+pub any-map : {X Y : Type 0} (p : X → Bool) (h : Y → X) (ys : List Y) → list_any p (map h ys) ≡ list_any (λ y. p (h y)) ys
+any-map p h [] = refl
+any-map p h (y ∷ ys) = ap (λ b. p (h y) || b) (any-map p h ys)
+
+-- What is taken down of a name.
 
 and-left : (a b : Bool) → (a && b) ≡ true → a ≡ true
 and-left true b h = refl

@@ -35,6 +35,7 @@ pub(crate) struct Survey {
 }
 
 /// Whether a text is ASCII.
+#[tactic(auto, using(crate::proofs::ListedLemmas::all_ascii, crate::proofs::ListedLemmas::some_not_ascii))]
 fn is_ascii(text: &str) -> bool
     ensures { result ≡ list_all is_ascii text.now }
 {
@@ -49,6 +50,7 @@ fn is_plain(name: &str) -> bool
 }
 
 /// Whether two names are alike, ASCII case not regarded.
+#[tactic(auto, using(crate::proofs::ListedLemmas::tests_same))]
 fn are_alike(one: &str, other: &str) -> bool
     ensures { result ≡ are_alike one.now other.now }
 {
