@@ -1,8 +1,8 @@
+pub mod AskLemmas
 pub mod EnterLemmas
 pub mod FreeLemmas
 pub mod HostLemmas
 pub mod LawLemmas
-pub mod ListedLemmas
 pub mod NameLemmas
 pub mod StandLemmas
 pub mod ToldLemmas

@@ -1,5 +1,5 @@
 -- How far a call of a guide has come whose host is asked.
-use Rattle.std.specs.Prelude.{◌≡◌, ℕ, ◌+◌, false, List, Option, None, Some, Result, Ok, Err, map, option_map, string_bytes, if◌then◌else◌}
+use Rattle.std.specs.Prelude.{◌≡◌, ℕ, ◌+◌, false, List, Option, None, Some, Result, Ok, Err, option_map, if◌then◌else◌}
 use Rattle.std.specs.BTreeMap.{get_by_text}
 use Rattle.std.specs.Str.{bytes_eq}
 use denote.Bor.{Bor}
@@ -18,9 +18,7 @@ use Rattle.ignore_files.specs.declared.types.FileType.{FileType}
 use Rattle.ignore_files.specs.declared.types.Metadata.{Metadata}
 use Rattle.ignore_guide.specs.Asking.{is_told}
 use Rattle.ignore_guide.specs.Guide.{IsRootBy, StandsFor, holding, root_reached}
-use Rattle.ignore_guide.specs.Listed.{lacked_by}
 use Rattle.ignore_guide.specs.Names.{IsRefused}
-use Rattle.ignore_guide.specs.Places.{entered_at}
 use Rattle.ignore_guide.specs.declared.error.GuideError.{GuideError}
 use Rattle.ignore_guide.specs.declared.error.GuideError.TheVariants.{Memory}
 use Rattle.ignore_guide.specs.declared.guide.Arrived.{Arrived}
@@ -33,8 +31,6 @@ use Rattle.ignore_guide.specs.declared.hosted.Step.TheVariants as step
 use Rattle.ignore_guide.specs.declared.missing.Question.{Question}
 use Rattle.ignore_guide.specs.declared.missing.Wanted.{Wanted}
 use Rattle.ignore_guide.specs.declared.missing.Wanted.TheVariants as wanted
-use Rattle.ignore_guide.specs.declared.places.Entered.{Entered}
-use Rattle.ignore_guide.specs.declared.places.Place.{Place}
 use Rattle.ignore_guide.specs.declared.places.Places.{Places}
 use Rattle.ignore_guide.specs.declared.told.Told.{Told}
 
@@ -58,18 +54,6 @@ CallRefused places (call.Enter parent name) e = IsRefused places parent name e
 abbrev pub StepGives : Files Told → Call → Told → Guide → Step → Guide → Type 0
 StepGives files call told old (step.Wants w) new = (new ≡ old) × (w.call ≡ call) × (w.told ≡ told) × (is_told told w.question ≡ false)
 StepGives files call told old (step.Arrived r) new = Comes files told call old r new
-
--- the directory of a call has a place
-abbrev pub IsArrived : Step → Type 0
-IsArrived (step.Wants w) = ⊥
-IsArrived (step.Arrived r) = Unit {0}
-
--- what is told before a directory is entered: where it would have the names of what decides that those
--- lack which its host says it has
-abbrev pub TellsListed : Guide → Place → Path → Option (Bor (List (Bor (List ℕ)))) → Told → Type 0
-TellsListed g parent name names told =
-    (dir : Entered) → entered_at g.places parent ≡ Some dir
-    → map string_bytes told.lacked.items ≡ lacked_by g.settings (join_of dir.path name) names
 
 -- what a host says that a path leads to, if anywhere; it says no size
 abbrev pub kind_answer : Option FileType → Result Metadata Fault

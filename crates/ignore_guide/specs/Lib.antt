@@ -1,7 +1,6 @@
 pub mod Asking
 pub mod Guide
 pub mod Hosted
-pub mod Listed
 pub mod Names
 pub mod Places
 pub mod Reasons

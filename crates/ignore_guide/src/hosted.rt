@@ -1,10 +1,8 @@
 //! A guide whose host is asked for what it needs, one path at a time.
-ghost use Rattle.std.specs.Prelude.{◌≡◌, [], false, true, IfErr, IfOk, List, OnOk, Some, map, string_bytes, ℕ};
+ghost use Rattle.std.specs.Prelude.{◌≡◌, IfErr, IfOk, List, OnOk, Some, string_bytes, ℕ};
 ghost use Rattle.std.specs.BTreeMap.{get_by_text};
-ghost use Rattle.ignore_base.specs.Paths.{join_of};
 ghost use Rattle.ignore_guide.specs.Guide.{IsSameGuide, IsUnchanged, KeepsPlaces};
-ghost use Rattle.ignore_guide.specs.Hosted.{CallRefused, Comes, IsArrived, IsToldOf, StepGives, TellsListed, kind_answer, path_answer, read_answer, told_more};
-ghost use Rattle.ignore_guide.specs.Listed.{IsBare, lacked_by};
+ghost use Rattle.ignore_guide.specs.Hosted.{CallRefused, Comes, IsToldOf, StepGives, kind_answer, path_answer, read_answer, told_more};
 ghost use Rattle.ignore_guide.specs.Names.{IsAsked, IsRefused};
 ghost use Rattle.ignore_guide.specs.Places.{IsGone};
 ghost use Rattle.ignore_guide.specs.Told.{IsAlmostFresh, IsFresh};
@@ -123,7 +121,6 @@ impl Guide {
         is_all: bool,
     ) -> Result<Step, GuideError>
         ensures gives { IfOk result (λ step. StepGives ⟦<Told as Files>⟧ call told self.old step self.new) }
-        ensures arrives { rest.items ≡ [] → is_all ≡ true → IfOk result IsArrived }
         ensures refused { IfErr result (λ e. CallRefused self.old.places call e) }
         ensures unchanged { IfErr result (λ e. IsUnchanged e self.old self.new) }
         ensures kept { KeepsPlaces self.old self.new }
@@ -176,8 +173,7 @@ impl Guide {
     }
 
     /// Enters the directory of a name in the one at a place, as `enter`, by what its host is asked.
-    /// It isn't asked for what the names lack that the directory lists, where they are told: for
-    /// nothing, where they lack all that decides there.
+    /// It isn't asked for what the names lack that the directory lists, where they are told.
     ///
     /// # Errors
     /// Out of memory, a place that is none, and a name that is none.
@@ -187,9 +183,8 @@ impl Guide {
         name: &str,
         names: Option<&[&str]>,
     ) -> Result<Step, GuideError>
-        ensures gives { IfOk result (λ step. (told : Told) × IsAlmostFresh told × TellsListed self.old parent name.now names.entry told
+        ensures gives { IfOk result (λ step. (told : Told) × IsAlmostFresh told
             × StepGives ⟦<Told as Files>⟧ (calls.Enter parent name.now) told self.old step self.new) }
-        ensures bare { IsBare self.old.settings names.entry → IfOk result IsArrived }
         ensures kept { KeepsPlaces self.old self.new }
         ensures gone { (place : Place) → IsGone self.old.places place → IsGone self.new.places place }
         ensures same { IsSameGuide self.old self.new }
@@ -239,10 +234,7 @@ impl Guide {
         dir: &Entered,
         name: &str,
         names: Option<&[&str]>,
-    ) -> Result<Survey, AllocError>
-        ensures lacked { IfOk result (λ s. map string_bytes s.lacked.items ≡ lacked_by self.now.settings (join_of dir.now.path name.now) names.entry) }
-        ensures bare { IsBare self.now.settings names.entry → IfOk result (λ s. (s.questions.items ≡ []) × (s.is_all ≡ true)) }
-    {
+    ) -> Result<Survey, AllocError> {
         let Some(names) = names else {
             return Ok(Survey::nothing(self.alloc));
         };
