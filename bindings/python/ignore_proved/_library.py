@@ -235,8 +235,8 @@ SWITCHES = [
 ]
 #: What a builder is told by a text.
 LABELS = [
-    "add", "add_custom_ignore_filename", "add_ignore_path", "current_dir", "env_current_dir", "env_home",
-    "env_xdg_config_home", "env_git_config_global", "env_git_config_system",
+    "add", "add_custom_ignore_filename", "add_ignore_path", "current_dir", "env_current_dir",
+    "env_home", "env_xdg_config_home", "env_git_config_global", "env_git_config_system",
 ]
 CALLS.update({f"builder_{name}": [*ONE, c_bool] for name in SWITCHES})
 CALLS.update({f"builder_{name}": [*ONE, *TEXT] for name in LABELS})

@@ -119,6 +119,16 @@ class OwnAnswers(unittest.TestCase):
             guide.leave(guide.enter(top, "other"))
             guide.leave(top)
 
+    def test_files_of_rules_are_asked_for_first(self):
+        self.files["/w/mine"] = b"*.mine\n"
+        builder = Builder("", custom_ignore_filenames=[".mine"])
+        builder.add_ignore_path("/w/mine").add_ignore_path("/w/none")
+        with builder.env(current_dir="/"), Guide(builder, self.reads) as guide:
+            top = guide.root("/t")
+            self.assertEqual(self.asked[:2], [(2, "/w/mine"), (2, "/w/none")])
+            self.assertTrue(guide.decide(top, "a.mine", False).is_ignore)
+            self.assertEqual([it.path for it in guide.problems()], ["/w/none", "/t/.ignore"])
+
     def test_names_that_are_not_utf8(self):
         self.files = {os.fsdecode(b"/t/a\xff/.mine"): b"?y\n"}
         with self.guide() as guide:
