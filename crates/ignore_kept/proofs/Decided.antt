@@ -22,6 +22,12 @@ use Rattle.ignore_kept.specs.declared.stopped.Stopped.TheVariants.{NotUtf8, Memo
 use Rattle.ignore_why.specs.QueryWhy.{QueryWhy}
 use Rattle.ignore_why.specs.declared.explanation.Explanation.{Explanation}
 
+abbrev pub make : IncrementalMatch → QueryWhy → Explained
+make m w = record { answer = m; why = w }
+
+explained-is : (m n : IncrementalMatch) (w u : QueryWhy) → m ≡ n → w ≡ u → make m w ≡ make n u
+explained-is m n w u a b = ap (λ (x : IncrementalMatch). make x w) a ∙ ap (make n) b
+
 map-map : {A B C : Type 0} (f : B → C) (g : A → B) (xs : List A) → map f (map g xs) ≡ map (λ x. f (g x)) xs
 map-map f g [] = refl
 map-map f g (x ∷ xs) = ap (λ l. f (g x) ∷ l) (map-map f g xs)
@@ -48,16 +54,18 @@ module _ {A : Type 0} (answer : Bytes → Guide → ℕ → Reached → A) (plac
   pub asks_no_text : ¬ (IsUtf8 name) → AsksIn (answer name) place name kept (Err NotUtf8)
   asks_no_text u = subst (λ (k : Option Guide). AsksIn (answer name) place name k (Err NotUtf8)) is u
 
--- an answer with its reason
-pub explains : (place : Place) (name text : Bytes) (is_dir : Bool) (size : ℕ) (kept : Option Guide) (g : Guide) → Some g ≡ kept → (e : Explanation)
-    → text ≡ name → IsAsked g.places place text
-    → ((depth : ℕ) (at : Reached) → StandsFor g place depth at → e.answer ≡ decided g.settings g.outside depth at text is_dir (size_of size))
-    → ((depth : ℕ) (at : Reached) → StandsFor g place depth at → query_why_of e.reason ≡ decided_why g.settings g.outside depth at text is_dir (size_of size))
+-- an answer with its reason, by a size that is the one that was told
+pub explains : (place : Place) (name text : Bytes) (is_dir : Bool) (size : ℕ) (kept : Option Guide) (g : Guide) (known : Option ℕ) → Some g ≡ kept
+    → known ≡ size_of size → (e : Explanation) → text ≡ name → IsAsked g.places place text
+    → ((depth : ℕ) (at : Reached) → StandsFor g place depth at → e.answer ≡ decided g.settings g.outside depth at text is_dir known)
+    → ((depth : ℕ) (at : Reached) → StandsFor g place depth at → query_why_of e.reason ≡ decided_why g.settings g.outside depth at text is_dir known)
     → AsksIn (explanation name is_dir size) place name kept (explained_in (Ok e))
-explains place name text is_dir size kept g is e same there value why =
+explains place name text is_dir size kept g known is sized e same there value why =
     asks (λ n. explanation n is_dir size) place name text kept g is (record { answer = e.answer; why = query_why_of e.reason }) same there
-    (λ depth at s. ap (λ (m : IncrementalMatch). record { answer = m; why = query_why_of e.reason }) (value depth at s)
-    ∙ ap (λ (w : QueryWhy). record { answer = decided g.settings g.outside depth at text is_dir (size_of size); why = w }) (why depth at s))
+    (λ depth at s. explained-is e.answer (decided g.settings g.outside depth at text is_dir (size_of size)) (query_why_of e.reason)
+    (decided_why g.settings g.outside depth at text is_dir (size_of size))
+    (value depth at s ∙ ap (decided g.settings g.outside depth at text is_dir) sized)
+    (why depth at s ∙ ap (decided_why g.settings g.outside depth at text is_dir) sized))
 
 pub asks_none : {A : Type 0} (answer : Guide → ℕ → Reached → A) (place : Place) (name : Bytes) (kept : Option Guide) → None ≡ kept
     → AsksIn answer place name kept (Err Misused)

@@ -182,6 +182,11 @@ pub asks_outer : (o : Guided) (told : Told) (paths : List Path) (q found : Optio
 asks_outer o told paths q found same is h =
     subst (λ (r : Option Question). AsksOuter o told r) is (subst (λ (ps : List Path). AsksNext told o.env o.options ps q) same h)
 
+-- nothing more is
+pub asks_no_more : (o : Guided) (told : Told) (paths : List Path) (q : Option Question) → paths ≡ o.paths → q ≡ None
+    → AsksNext told o.env o.options paths q → AsksOuter o told None
+asks_no_more o told paths q same is h = asks_outer o told paths q None same is h
+
 -- Files of rules that are added.
 
 pub adds_in : (told : Told) (path : Path) (dir : Option Path) (old new : WalkOptions) (reported : Option Problem)

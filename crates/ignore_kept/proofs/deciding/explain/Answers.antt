@@ -8,4 +8,5 @@ pub returns-in-Ok-explain-clause-explained : goal.returns-in-Ok-explain-clause-e
 returns-in-Ok-explain-clause-explained c =
     let e = c.in-Ok-explain.ensures in
     explains c.args.asked.place c.args.asked.name.now c.in-Ok.name.now c.args.asked.is_dir c.args.asked.size _ c.in-Some.guide.now
-    (sym (ap option_copied c.in-Some.is) ∙ c.guide_in.ensures) c.in-Ok-explain.explanation c.in-Ok.ensures.value e.there e.value e.why
+    c.size_of.result (sym (ap option_copied c.in-Some.is) ∙ c.guide_in.ensures) c.size_of.ensures c.in-Ok-explain.explanation
+    c.in-Ok.ensures.value e.there e.value e.why
