@@ -11,8 +11,8 @@ use Rattle.ignore_files.specs.declared.types.Metadata.{Metadata}
 use Rattle.ignore_dir.specs.Above.{names_above, path_along}
 use Rattle.ignore_dir.specs.Chains.{slashed}
 use Rattle.ignore_dir.specs.Limits.{beyond, is_below, is_beyond, limited, size_limit}
-use Rattle.ignore_dir.specs.Lists.{Asked, asked_in}
-use Rattle.ignore_dir.specs.Query.{ancestors, depth_of_path, has_rules, is_asked, is_ignored, limit_of, names_of, rules_verdict, size_of}
+use Rattle.ignore_dir.specs.Lists.{Asked}
+use Rattle.ignore_dir.specs.Query.{ancestors, depth_of_path, has_rules, is_asked, is_ignored, names_of, size_of}
 use Rattle.ignore_dir.specs.Scene.{QueryScene, chain}
 use Rattle.ignore_dir.specs.Steps.{Reached, entry, reached_in, verdict_at}
 use Rattle.ignore_dir.specs.Verdict.{verdict_of}
@@ -26,7 +26,7 @@ use Rattle.ignore_dir.proofs.WholeLemmas.{chain-in}
 use Rattle.ignore_levels.specs.Reasons.{placed_why, why}
 use Rattle.ignore_levels.proofs.ReasonLemmas.{verdict-map, why-verdict}
 use Rattle.ignore_why.specs.Cited.{Cited, cited}
-use Rattle.ignore_why.specs.QueryWhy.{QueryWhy, answer_of, first_ignored, path_cited, path_why, query_why, text_to, why_beyond, why_by_rules, why_by_size, why_on_way}
+use Rattle.ignore_why.specs.QueryWhy.{QueryWhy, answer_of, path_cited, path_why, query_why, text_to, why_beyond, why_by_rules, why_by_size, why_on_way}
 use Rattle.ignore_why.specs.QueryWhy.QueryWhy.{unasked, unruled, too_shallow, too_deep, larger}
 use Rattle.ignore_why.specs.QueryWhy.QueryWhy.{decided as by_rules}
 use Rattle.ignore_why.proofs.QueryWhyLemmas.{none_first, rules_said}

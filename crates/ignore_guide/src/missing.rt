@@ -292,11 +292,7 @@ fn first_unread<'p>(told: &Told, paths: &'p [Name]) -> Option<&'p Name>
 ///
 /// # Errors
 /// Out of memory.
-pub fn next_file(
-    alloc: Global,
-    told: &Told,
-    paths: &[Name],
-) -> Result<Option<Question>, AllocError>
+pub fn next_file(alloc: Global, told: &Told, paths: &[Name]) -> Result<Option<Question>, AllocError>
     ensures { IfOk result (λ q. q ≡ option_map of_file (first_unread told.now paths.now)) }
 {
     match first_unread(told, paths) {
@@ -346,11 +342,7 @@ fn unless_read(told: &Told, path: String) -> Option<Question>
 ///
 /// # Errors
 /// Out of memory.
-pub fn next_outside(
-    alloc: Global,
-    told: &Told,
-    env: &Env,
-) -> Result<Option<Question>, AllocError>
+pub fn next_outside(alloc: Global, told: &Told, env: &Env) -> Result<Option<Question>, AllocError>
     ensures { IfOk result (λ q. AsksOutside told.now env.now q) }
 {
     match gitconfig_excludes_path(alloc, told, env) {
