@@ -1,4 +1,5 @@
 -- The words of clauses on guides, beside those of `WalkWords` and `QueryWords`.
+pub use Rattle.ignore.specs.AskedNext.{AsksNext}
 pub use Rattle.ignore_dir.specs.Above.{problems_of_loads}
 pub use Rattle.ignore_dir.specs.Lists.{Placed}
 pub use Rattle.ignore_dir.specs.Load.{joined_some}
