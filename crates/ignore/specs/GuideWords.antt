@@ -19,3 +19,4 @@ pub use Rattle.ignore_guide.specs.declared.places.Place.{Place}
 pub use Rattle.ignore_guide.specs.declared.told.Told.{Told}
 pub use Rattle.ignore_levels.specs.Reasons.{why_of}
 pub use Rattle.ignore_why.specs.Cited.{cited_of}
+pub use Rattle.ignore_why.specs.QueryWhy.{answer_of}
