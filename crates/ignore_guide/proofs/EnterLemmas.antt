@@ -99,3 +99,9 @@ root-whole g above dir text whole a d t =
     ++ (x, length text) ∷ []) d in
     let make : List Placed → Reached = λ l. record { chain = l; text = text; path = g.root } in
     ap make (sym (turned above (dir, length text))) ∙ whole dirs text g.root same t refl
+-- what the names lack is told of the directory that is entered
+pub tells-listed : (g : Guide) (parent : Place) (name : List ℕ) (names : Option (Bor (List (Bor (List ℕ))))) (told : Told) (around : Entered)
+    → Some around ≡ entered_at g.places parent
+    → map string_bytes told.lacked.items ≡ lacked_by g.settings (join_of around.path name) names → TellsListed g parent name names told
+tells-listed g parent name names told around there lacked = λ dir is.
+    lacked ∙ ap (λ (e : Entered). lacked_by g.settings (join_of e.path name) names) (some-same around dir (there ∙ is))

@@ -1,10 +1,10 @@
 -- One name more of what decides in a directory that lists its names.
-use Rattle.std.proofs.Common.{◌≡◌, ◌≤◌, ◌<◌, ◌↔◌, ℕ, suc, zero, Bool, true, false, ◌&&◌, ◌||◌, cond, List, [], ◌∷◌, ◌++◌, filter, map, bytes_eq, IsTrue, refl, sym, ap, arith, ◌∙◌}
+use Rattle.std.proofs.Common.{◌≡◌, ◌≤◌, ◌<◌, ◌↔◌, ℕ, suc, zero, Bool, true, false, ◌&&◌, ◌||◌, cond, List, [], ◌∷◌, ◌++◌, append_assoc, filter, map, bytes_eq, IsTrue, refl, sym, ap, arith, ◌∙◌}
 use Rattle.std.proofs.lemmas.Bool.Decides.{nat_tests, same_from_decides}
 use Rattle.std.proofs.lemmas.Slice.Eq.{bytes_eq-Decides}
 use Rattle.std.specs.Prelude.{slice_index}
 use Rattle.std.specs.Char.{is_ascii}
-use Rattle.std.proofs.lemmas.List.{append-nil, map-append}
+use Rattle.std.proofs.lemmas.List.{append-nil, map-append, map_push}
 use Rattle.std.proofs.lemmas.List.Elements.{filter-append}
 use Rattle.std.proofs.lemmas.List.Folds.{list_all-append}
 use Rattle.std.specs.List.{list_all, list_any}
@@ -97,3 +97,23 @@ module _ (names : List Bytes) (dir : Path) where
     bare = λ all. let on = and-left (is_lacking names name) true (and-right (list_all (is_lacking names) seen) (list_all (is_lacking names) (name ∷ []))
         (sym (list_all-append (is_lacking names) seen (name ∷ [])) ∙ all)) in absurd (cc (on, h));
   }
+
+  -- one whose path was pushed
+  pub lacks_pushed : {S : Type 0} (bytes : S → Path) (seen : List Bytes) (name : Bytes) (old new : List S) (path : S) (asked : List Question)
+      → is_lacking names name ≡ true → new ≡ old ++ path ∷ [] → bytes path ≡ join_of dir name → Surveyed names dir seen (map bytes old) asked
+      → Surveyed names dir (seen ++ name ∷ []) (map bytes new) asked
+  lacks_pushed bytes seen name old new path asked h e p s =
+      lacks_one seen name (map bytes old) (map bytes new) asked h
+      (ap (map bytes) e ∙ (map_push bytes old path ∙ ap (λ (x : Path). map bytes old ++ x ∷ []) p)) s
+
+-- the names of what decides, in the order in which they are taken
+pub in_order : (custom : List Bytes) (a b c d : Bytes)
+    → ((((([] ++ a ∷ []) ++ b ∷ []) ++ custom) ++ c ∷ []) ++ d ∷ []) ≡ a ∷ (b ∷ (custom ++ c ∷ (d ∷ [])))
+in_order custom a b c d = ap (λ (l : List Bytes). a ∷ (b ∷ l)) (append_assoc custom (c ∷ []) (d ∷ []))
+
+-- where each of some passes, so do the first two
+pub first_two : {X : Type 0} (p : X → Bool) (a b : X) (rest : List X) → list_all p (a ∷ (b ∷ rest)) ≡ true → (p a && p b) ≡ true
+first_two p a b rest h =
+    let one = and-left (p a) (p b && list_all p rest) h in
+    let two = and-left (p b) (list_all p rest) (and-right (p a) (p b && list_all p rest) h) in
+    ap (λ x. x && p b) one ∙ two

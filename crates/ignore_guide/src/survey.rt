@@ -1,5 +1,5 @@
 //! What the names that a directory lists say of the files that decide there.
-ghost use Rattle.std.specs.Prelude.{◌≡◌, ◌++◌, ◌∷◌, [], true, IfOk, List, OnOk, map, string_bytes, ℕ};
+ghost use Rattle.std.specs.Prelude.{◌≡◌, ◌&&◌, ◌++◌, ◌∷◌, [], true, IfOk, List, OnOk, map, string_bytes, ℕ};
 ghost use Rattle.std.specs.Char.{is_ascii};
 ghost use Rattle.std.specs.List.{list_all, list_any};
 ghost use Rattle.ignore_files.specs.Whole.{is_plain};
@@ -72,6 +72,12 @@ fn is_lacking(names: &[&str], name: &str) -> bool
     is_plain(name) && !has_alike(names, name)
 }
 
+fn both(one: bool, other: bool) -> bool
+    ensures { result ≡ (one && other) }
+{
+    one && other
+}
+
 impl Survey {
     /// Of a directory of which no names are told. It allocates nothing.
     pub(crate) fn nothing(alloc: Global) -> Survey
@@ -99,7 +105,7 @@ impl Survey {
         let mut survey = Survey::nothing(alloc);
         let git = survey.take(alloc, listed, ".git", false)?;
         let jj = survey.take(alloc, listed, ".jj", false)?;
-        survey.is_all = git && jj;
+        survey.is_all = both(git, jj);
         survey.take_all(alloc, listed, custom)?;
         survey.take(alloc, listed, ".ignore", settings.ignore)?;
         survey.take(alloc, listed, ".gitignore", settings.git_ignore)?;
@@ -125,6 +131,7 @@ impl Survey {
 
     /// Takes down whether the file of a name is lacked, and returns that. Else it is asked for, where
     /// it is to be read.
+    #[tactic(auto, using(crate::proofs::ListedLemmas::lacks_pushed, crate::proofs::ListedLemmas::has_one))]
     fn take(
         &mut self,
         alloc: Global,
@@ -142,13 +149,24 @@ impl Survey {
             self.lacked.push(path)?;
             return Ok(true);
         }
-        if is_read && !self.has(path.as_str()) {
+        if is_read {
+            self.ask(path)?;
+        }
+        Ok(false)
+    }
+
+    /// Has the file at a path asked for, unless it was taken down.
+    fn ask(&mut self, path: String) -> Result<(), AllocError>
+        ensures lacked { self.new.lacked ≡ self.old.lacked }
+        ensures all { self.new.is_all ≡ self.old.is_all }
+    {
+        if !self.has(path.as_str()) {
             self.questions.push(Question {
                 wanted: Wanted::File,
                 path: Name::new(path),
             })?;
         }
-        Ok(false)
+        Ok(())
     }
 
     /// Whether a path was taken down: whether it is lacked, or asked for.
