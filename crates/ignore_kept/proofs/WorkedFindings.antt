@@ -18,7 +18,7 @@ overruled = (refl, refl)
 abbrev example : FindingParts
 example = record (alone 3) { path = codes "out/keep"; folder = codes "out"; folder_rule = 1; is_dir = true }
 
--- of the rule 7 they are told with their lengths, and their texts, one after the other
+-- with the index of their rule they are told by their lengths, and their texts, one after the other
 pub told : (told_as 7 example
     ≡ record { kind = 3; rule = 7; overruling = 0; path = 8; folder = 3; folder_rule = 1; is_dir = true })
     × (texts_of example ≡ codes "out/keepout")
