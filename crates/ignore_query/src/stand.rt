@@ -113,7 +113,7 @@ impl Cache {
         ensures soft { AllSoft (map problem_of errors.old.items) → OnOk result (AllSoft (map problem_of errors.new.items)) }
     {
         let parent = parent_key(call.path);
-        if let Some(kept) = self.dirs.map.get(parent) {
+        if let Some(kept) = self.dirs.get(parent) {
             return Ok(stand_in(*kept, parent));
         }
         self.keep_above(call, errors)?;
