@@ -2,6 +2,7 @@
 use Rattle.std.specs.Prelude.{◌≡◌, ◌≢◌, ◌⊎◌, ℕ, Bool, true, false, List, [], ◌∷◌, ◌++◌, Option, Some, None, Result, Ok, Err, is_some, option_map}
 use Rattle.std.specs.Str.{IsUtf8}
 use Rattle.ignore.specs.Asked.{AddsIgnoreBy, IsOutsideBy, base_dir}
+use Rattle.ignore.specs.AskedNext.{AsksNext}
 use Rattle.ignore.specs.declared.options.WalkOptions.{WalkOptions}
 use Rattle.ignore_base.specs.Problem.{Problem, io, problem_of}
 use Rattle.ignore_base.specs.Text.{Bytes, Path}
@@ -50,7 +51,7 @@ keeping guided = keeps.Guide guided
 
 -- a guide by the settings of a builder: nothing is read, and no root was begun
 abbrev pub fresh : Setup → Guided
-fresh setup = record { options = setup.options; env = setup.env; paths = []; stage = stage.Fresh }
+fresh setup = record { options = setup.options; env = setup.env; paths = setup.paths; stage = stage.Fresh }
 
 -- making the guide of a builder's handle gives what a handle keeps, or says why not
 abbrev pub Starts : Kept → Result Kept Stopped → Type 0
@@ -78,22 +79,6 @@ AtOf P (stage.Begun before) old given new = (after : Begun) × (new ≡ record o
 
 abbrev pub AtBegun : {A : Type 0} → (Begun → Result A Stopped → Begun → Type 0) → Guided → Result A Stopped → Guided → Type 0
 AtBegun P old given new = AtOf P old.stage old given new
-
--- no root was begun
-abbrev pub is_fresh : Stage → Bool
-is_fresh stage.Fresh = true
-is_fresh (stage.Reading reading) = false
-is_fresh (stage.Begun begun) = false
-
--- a file of rules was added, to be read with the first root; or that has no place any more
-abbrev pub AddsPath : Bytes → Guided → Result (Unit {0}) Stopped → Guided → Type 0
-AddsPath path old (Ok done) new = (is_fresh old.stage ≡ true) × (new ≡ record old { paths = old.paths ++ path ∷ [] })
-AddsPath path old (Err NotUtf8) new = (new ≡ old) × ¬ (IsUtf8 path)
-AddsPath path old (Err Misused) new = (new ≡ old) × (is_fresh old.stage ≡ false)
-AddsPath path old (Err Full) new = new ≡ old
-AddsPath path old (Err Limit) new = ⊥
-AddsPath path old (Err Invalid) new = ⊥
-AddsPath path old (Err (Tree error)) new = ⊥
 
 -- The question of the call that waits.
 
@@ -198,14 +183,18 @@ pub record IsBegun (told : Told) (o : Guided) (b : Begun) : Type 0 where
   pub front : b.front ≡ None
   pub problem : b.problem ≡ None
 
--- the first root goes on, by what was told of the rules from outside: it waits for more; or these were
--- read, and the root was begun
+-- a host that told this is asked next for the rules from outside, or for nothing more
+abbrev pub AsksOuter : Guided → Told → Option Question → Type 0
+AsksOuter o told q = AsksNext told o.env o.options o.paths q
+
+-- the first root goes on, by what was told of the rules from outside: it waits for more; or nothing is
+-- missing, these were read, and the root was begun
 abbrev pub Reads : Guided → Path → Told → Option Place → Guided → Type 0
 Reads old root told place new =
-    ((reading : Reading) × (reading.root ≡ root) × (reading.told ≡ told)
+    ((reading : Reading) × (reading.root ≡ root) × (reading.told ≡ told) × AsksOuter old told (Some reading.question)
     × (new ≡ record old { stage = stage.Reading reading }) × (place ≡ None))
-    ⊎ ((begun after : Begun) × (anew : Told) × IsBegun told old begun × IsFresh anew × Steps begun (call.Root root) anew place after
-    × (new ≡ record old { stage = stage.Begun after }))
+    ⊎ ((begun after : Begun) × (anew : Told) × AsksOuter old told None × IsBegun told old begun × IsFresh anew
+    × Steps begun (call.Root root) anew place after × (new ≡ record old { stage = stage.Begun after }))
 
 -- a root that isn't the first was begun, or waits; or not, since another call waits
 abbrev pub RootsIn : Path → Begun → Result (Option Place) Stopped → Begun → Type 0

@@ -1,5 +1,5 @@
 -- Builders that C sets.
-use Rattle.std.specs.Prelude.{◌≡◌, ℕ, [], Some, None, Result, Ok, Err}
+use Rattle.std.specs.Prelude.{◌≡◌, ◌++◌, ◌∷◌, ℕ, [], Some, None, Result, Ok, Err}
 use Rattle.std.specs.Str.{IsUtf8}
 use Rattle.ignore.specs.Builder.{unset, with_root, with_custom, with_current_dir, with_standard_filters, with_hidden, with_parents, with_ignore}
 use Rattle.ignore.specs.Builder.{with_git_ignore, with_git_global, with_git_exclude, with_require_git, with_case_insensitive}
@@ -36,6 +36,7 @@ begun root =
       env = nowhere;
       globs = None;
       types = record { definitions = []; choices = [] };
+      paths = [];
       problem = None;
     }
 
@@ -76,10 +77,15 @@ on_options f setup = record setup { options = f setup.options }
 abbrev pub on_env : (Env → Env) → Setup → Setup
 on_env f setup = record setup { env = f setup.env }
 
+-- one file of rules more, after the others
+abbrev pub with_path : Path → Setup → Setup
+with_path path setup = record setup { paths = setup.paths ++ path ∷ [] }
+
 -- the settings after a text
 abbrev pub with_text : Text → Bytes → Setup → Setup
 with_text text.Root bytes = on_options (λ b. with_root b bytes)
 with_text text.Custom bytes = on_options (λ b. with_custom b bytes)
+with_text text.File bytes = with_path bytes
 with_text text.Base bytes = on_options (λ b. with_current_dir b bytes)
 with_text text.CurrentDir bytes = on_env (λ env. record env { current_dir = Some bytes })
 with_text text.Home bytes = on_env (λ env. record env { home = Some bytes })

@@ -6,11 +6,12 @@ ghost use Rattle.ignore_files.specs.Tree.{Tree};
 ghost use Rattle.ignore_guide.specs.Places.{entered_at};
 ghost use Rattle.ignore_guide.specs.declared.places.Place.{Place};
 ghost use Rattle.ignore.specs.Asked.{IsOutside, IsOutsideBy};
+ghost use Rattle.ignore.specs.AskedNext.{AsksNext};
 
 use crate::options::WalkOptions;
 use ignore_base::Error;
 use ignore_files::{Env, Files, Name};
-use ignore_guide::internal::{missing_files, missing_outside};
+use ignore_guide::internal::{next_file, next_outside};
 use ignore_guide::{Guide, Question, Told};
 use std::alloc::AllocError;
 
@@ -33,27 +34,30 @@ impl WalkOptions {
         Ok(Guide::new(self.settings.allocator(), settings, outside))
     }
 
-    /// What a host is still to be asked before the files of rules at these paths can be added, and
-    /// then the guide be made, by what it told. For dependents.
+    /// What a host is to be asked next before the files of rules at these paths can be added, and then
+    /// the guide be made, by what it told: those files in their order, and then what leads to git's
+    /// global file, and that. For dependents.
     ///
     /// # Errors
     /// Out of memory.
-    pub fn missing_for_guide(
+    pub fn next_for_guide(
         &self,
         told: &Told,
         env: &Env,
         paths: &[Name],
-    ) -> Result<Vec<Question>, AllocError> {
+    ) -> Result<Option<Question>, AllocError>
+        ensures { IfOk result (λ q. AsksNext told.now env.now self.now paths.now q) }
+    {
         let alloc = self.settings.allocator();
         if self.base_dir(env).is_none() {
-            return Ok(Vec::new(alloc));
+            return Ok(None);
         }
-        let mut missing = if self.settings.get().git_global {
-            missing_outside(alloc, told, env)?
-        } else {
-            Vec::new(alloc)
-        };
-        missing_files(alloc, told, paths, &mut missing)?;
-        Ok(missing)
+        if let Some(question) = next_file(alloc, told, paths)? {
+            return Ok(Some(question));
+        }
+        if !self.settings.get().git_global {
+            return Ok(None);
+        }
+        next_outside(alloc, told, env)
     }
 }
