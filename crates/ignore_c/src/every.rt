@@ -10,8 +10,8 @@ ghost use Rattle.ignore_kept.specs.declared.unjudged.Unjudged.{Unjudged};
 
 use crate::handle::{Handle, close, give_back, lend, open};
 use core::mem;
-use ignore_kept::compared::{self, Asked, CompareOptions, DifferenceParts, Told};
-use ignore_kept::findings::{self, Dead};
+use ignore_kept::compared::{self, Asked, CompareOptions, DifferenceParts, ToldDifference};
+use ignore_kept::findings::{self, Dead, ToldFinding};
 use ignore_kept::room::put;
 use ignore_kept::{Kept, Unjudged};
 use std::alloc::Global;
@@ -68,7 +68,7 @@ pub extern "C" fn ignore_findings_rule(
     told.code
 }
 
-fn rule(findings: Handle, index: usize) -> (Handle, findings::Told)
+fn rule(findings: Handle, index: usize) -> (Handle, ToldFinding)
     ensures kept { result.0.value ≡ findings.value }
     ensures told { TellsFinding (findings_in findings.value) index result.1.code result.1.dead result.1.text.items }
 {
@@ -134,7 +134,7 @@ pub extern "C" fn ignore_rules_same(
     said.code
 }
 
-fn compared(rules: Handle, asked: Asked<'_>) -> (Handle, Told)
+fn compared(rules: Handle, asked: Asked<'_>) -> (Handle, ToldDifference)
     ensures kept { result.0.value ≡ rules.value }
     ensures told { Compared rules.value asked.entry.new.now asked.entry.options.only_ignored result.1.code result.1.difference result.1.text.items }
 {

@@ -17,10 +17,10 @@ use ignore_kept::asker::{self, Found};
 use ignore_kept::deciding::{self, Asked};
 use ignore_kept::entering::{self, Entering};
 use ignore_kept::entries::Listed;
-use ignore_kept::explained::{Told, Why};
+use ignore_kept::explained::{ToldReason, Why};
 use ignore_kept::given::Gift;
 use ignore_kept::guided::{self, Wants};
-use ignore_kept::parts::{self, Part};
+use ignore_kept::parts::{self, Part, ToldPart};
 use ignore_kept::room::put;
 use ignore_kept::{Kept, Stopped, done};
 use std::alloc::Global;
@@ -284,7 +284,7 @@ pub extern "C" fn ignore_guide_why(
     told.code
 }
 
-fn reasoned(guide: Handle, asked: Asked<'_>) -> (Handle, Told)
+fn reasoned(guide: Handle, asked: Asked<'_>) -> (Handle, ToldReason)
     ensures kept { result.0.value ≡ guide.value }
     ensures told { ReasonsTold asked.entry.place asked.entry.name.now asked.entry.is_dir asked.entry.size guide.value result.1.code result.1.found result.1.why result.1.text.items }
 {
@@ -327,7 +327,7 @@ pub extern "C" fn ignore_guide_problem(
     told.code
 }
 
-fn blamed(guide: Handle, index: usize) -> (Handle, parts::Told)
+fn blamed(guide: Handle, index: usize) -> (Handle, ToldPart)
     ensures kept { result.0.value ≡ guide.value }
     ensures told { TellsParts (guided_in guide.value) index result.1.code result.1.part result.1.text.items }
 {

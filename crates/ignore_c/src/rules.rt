@@ -10,7 +10,7 @@ ghost use Rattle.ignore_kept.specs.declared.refused.Refused.{Refused};
 
 use crate::handle::{Handle, close, open};
 use core::mem;
-use ignore_kept::ask::{self, Question, Told, alone, as_git, with_parents};
+use ignore_kept::ask::{self, Question, ToldRule, alone, as_git, with_parents};
 use ignore_kept::lines::{self, Problem};
 use ignore_kept::room::put;
 use ignore_kept::{Counts, Kept, Reason, Refused, RuleOptions};
@@ -237,7 +237,7 @@ pub extern "C" fn ignore_rules_decided_as_git(
 }
 
 /// Hands out what is told: the reason and the first bytes of the texts, and the number as result.
-fn hand_over(told: Told, reason: &mut Reason, room: &mut [u8]) -> u32
+fn hand_over(told: ToldRule, reason: &mut Reason, room: &mut [u8]) -> u32
     ensures code { result ≡ told.code }
     ensures reason { reason.new ≡ told.reason }
     ensures room { room.new ≡ put_in told.text.items room.old }
@@ -247,7 +247,7 @@ fn hand_over(told: Told, reason: &mut Reason, room: &mut [u8]) -> u32
     told.code
 }
 
-fn explained(rules: Handle, asked: Question<'_>) -> (Handle, Told)
+fn explained(rules: Handle, asked: Question<'_>) -> (Handle, ToldRule)
     ensures kept { result.0.value ≡ rules.value }
     ensures told { Explains rules.value asked.entry.manner asked.entry.path.now asked.entry.is_dir result.1.code result.1.reason result.1.text.items }
 {
@@ -271,7 +271,7 @@ pub extern "C" fn ignore_rules_rule(
     hand_over(mem::replace_with(rules, index, rule), reason, room)
 }
 
-fn rule(rules: Handle, index: usize) -> (Handle, Told)
+fn rule(rules: Handle, index: usize) -> (Handle, ToldRule)
     ensures kept { result.0.value ≡ rules.value }
     ensures told { TellsRule rules.value index result.1.code result.1.reason result.1.text.items }
 {

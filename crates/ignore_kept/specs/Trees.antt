@@ -94,8 +94,8 @@ Changes old change path (Err Limit) new = ⊥
 Changes old change path (Err Invalid) new = ⊥
 
 -- the same, by the number that C is told
-abbrev pub Told : Kept → Change → Bytes → ℕ → Kept → Type 0
-Told old change path code new =
+abbrev pub Changed : Kept → Change → Bytes → ℕ → Kept → Type 0
+Changed old change path code new =
     (given : Result (Unit {0}) Stopped) × Changes old change path given new × (code ≡ ended_code given)
 
 -- P holds of a fault that has a number; without one the call does nothing, and says so

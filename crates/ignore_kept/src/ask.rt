@@ -74,7 +74,7 @@ pub fn as_git(path: &[u8], is_dir: bool) -> Question<'_>
 
 /// What C is told: a number, and the rule that decided.
 #[derive(Drop)]
-pub struct Told {
+pub struct ToldRule {
     pub code: u32,
     pub reason: Reason,
     pub text: Vec<u8>,
@@ -122,12 +122,12 @@ pub fn code(kept: &Kept, asked: Question<'_>) -> u32
 }
 
 /// What the rules say, with the rule that decided.
-pub fn explain(alloc: Global, kept: &Kept, asked: Question<'_>) -> Told
+pub fn explain(alloc: Global, kept: &Kept, asked: Question<'_>) -> ToldRule
     ensures { Explains kept.now asked.entry.manner asked.entry.path.now asked.entry.is_dir result.code result.reason result.text.items }
 {
     match ask(kept, asked) {
         Ok(found) => match text_of_match(alloc, &found) {
-            Ok(text) => Told {
+            Ok(text) => ToldRule {
                 code: match_code(&found),
                 reason: reason_of_match(&found),
                 text,
@@ -139,12 +139,12 @@ pub fn explain(alloc: Global, kept: &Kept, asked: Question<'_>) -> Told
 }
 
 /// The rule at an index: whether it ignores or whitelists, and its parts.
-pub fn rule(alloc: Global, kept: &Kept, index: usize) -> Told
+pub fn rule(alloc: Global, kept: &Kept, index: usize) -> ToldRule
     ensures { TellsRule kept.now index result.code result.reason result.text.items }
 {
     match list(kept, index) {
         Ok(found) => match text_of_match(alloc, &found) {
-            Ok(text) => Told {
+            Ok(text) => ToldRule {
                 code: match_code(&found),
                 reason: reason_of_match(&found),
                 text,
@@ -176,12 +176,12 @@ fn listed(rules: &Gitignore, index: usize) -> Match<&Glob>
 }
 
 /// No answer.
-fn untold(alloc: Global, refused: Refused) -> Told
+fn untold(alloc: Global, refused: Refused) -> ToldRule
     ensures code { result.code ≡ refusal_code refused }
     ensures reason { result.reason ≡ no_reason }
     ensures text { result.text.items ≡ [] }
 {
-    Told {
+    ToldRule {
         code: refused.code(),
         reason: NO_REASON,
         text: Vec::new(alloc),

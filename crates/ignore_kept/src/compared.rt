@@ -42,14 +42,14 @@ pub struct DifferenceParts {
 
 /// What C is told: a number, where the lists differ, and the path of that.
 #[derive(Drop)]
-pub struct Told {
+pub struct ToldDifference {
     pub code: u32,
     pub difference: DifferenceParts,
     pub text: Vec<u8>,
 }
 
 /// Whether the rules of two handles say the same, or else where they differ.
-pub fn compare(alloc: Global, old: &Kept, asked: Asked<'_>) -> Told
+pub fn compare(alloc: Global, old: &Kept, asked: Asked<'_>) -> ToldDifference
     ensures { Compared old.now asked.entry.new.now asked.entry.options.only_ignored result.code result.difference result.text.items }
 {
     match comparison(alloc, old, asked) {
@@ -99,16 +99,16 @@ fn counted_by(only_ignored: bool) -> Counted
 }
 
 /// What is told of a comparison.
-fn told_of(alloc: Global, comparison: &Comparison) -> Result<Told, AllocError>
+fn told_of(alloc: Global, comparison: &Comparison) -> Result<ToldDifference, AllocError>
     ensures { IfOk result (λ t. TellsComparison (Ok comparison.now) t.code t.difference t.text.items) }
 {
     match comparison {
-        Comparison::Same => Ok(Told {
+        Comparison::Same => Ok(ToldDifference {
             code: 0,
             difference: NO_DIFFERENCE,
             text: Vec::new(alloc),
         }),
-        Comparison::Differ(difference) => Ok(Told {
+        Comparison::Differ(difference) => Ok(ToldDifference {
             code: 1,
             difference: difference_parts(difference),
             text: Vec::from_slice(alloc, difference.question.path.as_bytes())?,
@@ -117,10 +117,10 @@ fn told_of(alloc: Global, comparison: &Comparison) -> Result<Told, AllocError>
 }
 
 /// What is told where there is none.
-fn untold(alloc: Global, unjudged: Unjudged) -> Told
+fn untold(alloc: Global, unjudged: Unjudged) -> ToldDifference
     ensures { TellsComparison (Err unjudged) result.code result.difference result.text.items }
 {
-    Told {
+    ToldDifference {
         code: unjudged.code(),
         difference: NO_DIFFERENCE,
         text: Vec::new(alloc),

@@ -6,7 +6,7 @@ ghost use Rattle.ignore_kept.specs.Explained.{explained_in};
 ghost use Rattle.ignore_kept.specs.Matching.{verdict_code};
 
 use crate::entries::{Listed, entries_in, size_of};
-use crate::explained::{Told, told_of, untold};
+use crate::explained::{ToldReason, told_of, untold};
 use crate::guided::Stage;
 use crate::kept::Kept;
 use crate::room::text_of;
@@ -126,7 +126,7 @@ fn verdict_code(found: IncrementalMatch) -> u8
 }
 
 /// What becomes of an entry, and why.
-pub fn why(alloc: Global, kept: &Kept, asked: Asked<'_>) -> Told
+pub fn why(alloc: Global, kept: &Kept, asked: Asked<'_>) -> ToldReason
     ensures { ReasonsTold asked.entry.place asked.entry.name.now asked.entry.is_dir asked.entry.size kept.now result.code result.found result.why result.text.items }
 {
     match explain(kept, asked) {

@@ -66,7 +66,7 @@ pub struct Lent<'r> {
 
 /// What C is told: a number, what becomes of the path besides, why, and the texts of that.
 #[derive(Drop)]
-pub struct Told {
+pub struct ToldReason {
     pub code: u32,
     pub found: Found,
     pub why: Why,
@@ -74,7 +74,7 @@ pub struct Told {
 }
 
 /// What becomes of a path, and why.
-pub fn explain(alloc: Global, kept: &mut Kept, asked: Asked<'_>) -> Told
+pub fn explain(alloc: Global, kept: &mut Kept, asked: Asked<'_>) -> ToldReason
     ensures { AsksWhy kept.old asked.entry.tree.now asked.entry.path.now asked.entry.is_dir result.code result.found result.why result.text.items kept.new }
 {
     match ask(kept, asked) {
@@ -123,12 +123,12 @@ fn query(
 }
 
 /// What is told of an answer with its reason.
-pub(crate) fn told_of(alloc: Global, explanation: Explanation) -> Result<Told, AllocError>
+pub(crate) fn told_of(alloc: Global, explanation: Explanation) -> Result<ToldReason, AllocError>
     ensures { IfOk result (λ t. TellsReason (explained_in (Ok explanation)) t.code t.found t.why t.text.items) }
 {
     let parts = parts_of(&explanation.reason);
     let answer: Result<IncrementalMatch, Stopped> = Ok(explanation.answer);
-    Ok(Told {
+    Ok(ToldReason {
         code: code(&answer),
         found: rest_of(&answer),
         why: told_as(&parts),
@@ -137,11 +137,11 @@ pub(crate) fn told_of(alloc: Global, explanation: Explanation) -> Result<Told, A
 }
 
 /// What is told where there is none.
-pub(crate) fn untold(alloc: Global, stopped: Stopped) -> Told
+pub(crate) fn untold(alloc: Global, stopped: Stopped) -> ToldReason
     ensures { TellsReason (Err stopped) result.code result.found result.why result.text.items }
 {
     let answer: Result<IncrementalMatch, Stopped> = Err(stopped);
-    Told {
+    ToldReason {
         code: code(&answer),
         found: rest_of(&answer),
         why: NO_WHY,

@@ -47,7 +47,7 @@ pub struct Parts<'f> {
 
 /// What C is told: a number, a dead rule, and the texts of its example.
 #[derive(Drop)]
-pub struct Told {
+pub struct ToldFinding {
     pub code: u32,
     pub dead: Dead,
     pub text: Vec<u8>,
@@ -121,7 +121,7 @@ fn is_dead(finding: &Finding) -> bool
 }
 
 /// What is found of the dead rule at an index of these.
-pub fn rule(alloc: Global, kept: &Kept, index: usize) -> Told
+pub fn rule(alloc: Global, kept: &Kept, index: usize) -> ToldFinding
     ensures { TellsFinding (findings_in kept.now) index result.code result.dead result.text.items }
 {
     let Kept::Findings(found) = kept else {
@@ -134,7 +134,7 @@ pub fn rule(alloc: Global, kept: &Kept, index: usize) -> Told
 }
 
 /// What is found of the rule with an index.
-fn told_rule(alloc: Global, findings: &[Finding], rule: usize) -> Told
+fn told_rule(alloc: Global, findings: &[Finding], rule: usize) -> ToldFinding
     ensures { TellsRule rule (slice_get findings.now rule) result.code result.dead result.text.items }
 {
     match findings.get(rule) {
@@ -146,12 +146,12 @@ fn told_rule(alloc: Global, findings: &[Finding], rule: usize) -> Told
     }
 }
 
-fn untold(alloc: Global, code: u32) -> Told
+fn untold(alloc: Global, code: u32) -> ToldFinding
     ensures code { result.code ≡ code }
     ensures dead { result.dead ≡ no_dead }
     ensures text { result.text.items ≡ [] }
 {
-    Told {
+    ToldFinding {
         code,
         dead: NO_DEAD,
         text: Vec::new(alloc),
@@ -169,13 +169,13 @@ const NO_DEAD: Dead = Dead {
 };
 
 /// What is told of a finding.
-fn told_of(alloc: Global, rule: usize, finding: &Finding) -> Result<Told, AllocError>
+fn told_of(alloc: Global, rule: usize, finding: &Finding) -> Result<ToldFinding, AllocError>
     ensures { IfOk result (λ t. (t.code ≡ 0) × (t.dead ≡ told_as rule (parts_of finding.now)) × (t.text.items ≡ texts_of (parts_of finding.now))) }
 {
     let parts = parts_of(finding);
     let mut text = Vec::from_slice(alloc, parts.path.as_bytes())?;
     text.extend_from_slice(parts.folder.as_bytes())?;
-    Ok(Told {
+    Ok(ToldFinding {
         code: 0,
         dead: Dead {
             kind: parts.kind,
