@@ -100,9 +100,7 @@ module _ (place : Place) (names : Bytes) (kinds sizes : List ℕ) (kept : Option
   unlisted NotUtf8 h = h
   unlisted Misused h = inr h
   unlisted Full h = tt
-  unlisted Limit h = absurd h
-  unlisted Invalid h = absurd h
-  unlisted (Tree e) h = absurd h
+  unlisted other h = absurd h
 
   pub lists_unlisted : (e : Stopped) → ListsEntries names kinds sizes (Err e) → ListsIn place names kinds sizes kept (Err e)
   lists_unlisted e h = subst (λ (k : Option Guide). ListsIn place names kinds sizes k (Err e)) is (unlisted e h)

@@ -121,9 +121,7 @@ enters_unlisted parent name names b Full idle h = (
   record { places = λ place depth at s. s; gone = λ place g. g; same = record { settings = refl; outside = refl } },
   ap (λ (w : Option Waiting). let x : Begun = record b { waits = w } in x) (none-waits b.waits idle),
 )
-enters_unlisted parent name names b Limit idle h = absurd h
-enters_unlisted parent name names b Invalid idle h = absurd h
-enters_unlisted parent name names b (Tree e) idle h = absurd h
+enters_unlisted parent name names b other idle h = absurd h
 
 -- an error of the guide as the reason why a call that waited has ended
 pub gives_not : (kind : ℕ) (bytes : Bytes) (fault : ℕ) (b after : Begun) (w : Waiting) (e : GuideError) → b.waits ≡ Some w
@@ -138,20 +136,14 @@ pub gives_none : (kind : ℕ) (bytes : Bytes) (fault : ℕ) (b : Begun) (w : Wai
     → NotGiven w.question.wanted kind bytes fault e → GivesIn kind bytes fault b (Err e) b
 gives_none kind bytes fault b w NotUtf8 is h = (refl, (w, is, h))
 gives_none kind bytes fault b w Misused is h = inl (refl, inr h)
-gives_none kind bytes fault b w Full is h = absurd h
-gives_none kind bytes fault b w Limit is h = absurd h
-gives_none kind bytes fault b w Invalid is h = absurd h
-gives_none kind bytes fault b w (Tree e) is h = absurd h
+gives_none kind bytes fault b w other is h = absurd h
 
 -- why the first root goes on waiting
 pub gives_first_none : (kind : ℕ) (bytes : Bytes) (fault : ℕ) (reading : Reading) (old : Guided) (e : Stopped)
     → NotGiven reading.question.wanted kind bytes fault e → GivesFirst kind bytes fault reading old (Err e) old
 gives_first_none kind bytes fault reading old NotUtf8 h = (refl, h)
 gives_first_none kind bytes fault reading old Misused h = (refl, h)
-gives_first_none kind bytes fault reading old Full h = absurd h
-gives_first_none kind bytes fault reading old Limit h = absurd h
-gives_first_none kind bytes fault reading old Invalid h = absurd h
-gives_first_none kind bytes fault reading old (Tree e) h = absurd h
+gives_first_none kind bytes fault reading old other h = absurd h
 
 pub gives_fresh : (kind : ℕ) (bytes : Bytes) (fault : ℕ) (old new : Guided) → old.stage ≡ stage.Fresh → new ≡ old
     → Gives kind bytes fault old (Err Misused) new

@@ -47,9 +47,7 @@ AsksIn answer place name (Some g) (Ok found) =
 AsksIn answer place name (Some g) (Err NotUtf8) = ¬ (IsUtf8 name)
 AsksIn answer place name (Some g) (Err Misused) = (entered_at g.places place ≡ None) ⊎ (is_name name ≡ false)
 AsksIn answer place name (Some g) (Err Full) = Unit {0}
-AsksIn answer place name (Some g) (Err Limit) = ⊥
-AsksIn answer place name (Some g) (Err Invalid) = ⊥
-AsksIn answer place name (Some g) (Err (Tree error)) = ⊥
+AsksIn answer place name (Some g) (Err other) = ⊥
 
 -- what becomes of an entry, where it stands
 abbrev pub decision : Bytes → Bool → ℕ → Guide → ℕ → Reached → IncrementalMatch
@@ -88,9 +86,7 @@ ListsIn place names kinds sizes (Some g) (Err NotUtf8) = ¬ (IsUtf8 names)
 ListsIn place names kinds sizes (Some g) (Err Misused) =
     (entered_at g.places place ≡ None) ⊎ ListsEntries names kinds sizes (Err Misused)
 ListsIn place names kinds sizes (Some g) (Err Full) = Unit {0}
-ListsIn place names kinds sizes (Some g) (Err Limit) = ⊥
-ListsIn place names kinds sizes (Some g) (Err Invalid) = ⊥
-ListsIn place names kinds sizes (Some g) (Err (Tree error)) = ⊥
+ListsIn place names kinds sizes (Some g) (Err other) = ⊥
 
 abbrev pub DecidesAll : Place → Bytes → List ℕ → List ℕ → Kept → Result (List ℕ) Stopped → Type 0
 DecidesAll place names kinds sizes kept given = ListsIn place names kinds sizes (guide_in kept) given

@@ -45,10 +45,7 @@ abbrev pub Begins : Bytes → Result Kept Stopped → Type 0
 Begins root (Ok kept) = kept ≡ keeping (begun root)
 Begins root (Err NotUtf8) = ¬ (IsUtf8 root)
 Begins root (Err Memory) = Unit {0}
-Begins root (Err Limit) = ⊥
-Begins root (Err Invalid) = ⊥
-Begins root (Err Misused) = ⊥
-Begins root (Err (Tree error)) = ⊥
+Begins root (Err other) = ⊥
 
 -- the options after a setting
 abbrev pub with_setting : Setting → WalkOptions → WalkOptions
@@ -97,11 +94,7 @@ with_text text.GitSystem bytes = on_env (λ env. record env { git_config_system 
 abbrev pub Sets : (Setup → Setup) → Kept → Result (Unit {0}) Stopped → Kept → Type 0
 Sets f old (Ok done) new = (before : Setup) × (setup_in old ≡ Some before) × (new ≡ keeping (f before))
 Sets f old (Err Misused) new = (new ≡ old) × (setup_in old ≡ None)
-Sets f old (Err NotUtf8) new = ⊥
-Sets f old (Err Memory) new = ⊥
-Sets f old (Err Limit) new = ⊥
-Sets f old (Err Invalid) new = ⊥
-Sets f old (Err (Tree error)) new = ⊥
+Sets f old (Err other) new = ⊥
 
 -- a text of a builder leads from what a handle kept to what it keeps
 abbrev pub SetsText : Text → Bytes → Kept → Result (Unit {0}) Stopped → Kept → Type 0
@@ -109,9 +102,7 @@ SetsText what bytes old (Ok done) new = (before : Setup) × (setup_in old ≡ So
 SetsText what bytes old (Err Misused) new = (new ≡ old) × (setup_in old ≡ None)
 SetsText what bytes old (Err NotUtf8) new = (new ≡ old) × ¬ (IsUtf8 bytes)
 SetsText what bytes old (Err Memory) new = new ≡ old
-SetsText what bytes old (Err Limit) new = ⊥
-SetsText what bytes old (Err Invalid) new = ⊥
-SetsText what bytes old (Err (Tree error)) new = ⊥
+SetsText what bytes old (Err other) new = ⊥
 
 -- the same two, by the number that C is told
 abbrev pub Set : (Setup → Setup) → Kept → ℕ → Kept → Type 0

@@ -2,10 +2,10 @@
 ghost use Rattle.std.specs.Prelude.{◌≡◌, IfOk, IfErr, Ok, Err};
 ghost use Rattle.ignore_every.specs.Verdicts.{IsComparison};
 ghost use Rattle.ignore_kept.specs.Comparing.{Compared, Compares, TellsComparison, counted_by, difference_parts, verdict_code};
-ghost use Rattle.ignore_kept.specs.declared.unjudged.Unjudged.TheVariants.{Misused};
+ghost use Rattle.ignore_kept.specs.Judging.{IsUnjudged};
 
 use crate::kept::Kept;
-use crate::unjudged::Unjudged;
+use crate::stopped::Stopped;
 use ignore::every::{self, Comparison, Counted, Difference, Verdict};
 use ignore::gitignore::Gitignore;
 use std::alloc::{AllocError, Global};
@@ -55,33 +55,33 @@ pub fn compare(alloc: Global, old: &Kept, asked: Asked<'_>) -> ToldDifference
     match comparison(alloc, old, asked) {
         Ok(comparison) => match told_of(alloc, &comparison) {
             Ok(told) => told,
-            Err(_) => untold(alloc, Unjudged::Memory),
+            Err(_) => untold(alloc, Stopped::Memory),
         },
-        Err(unjudged) => untold(alloc, unjudged),
+        Err(stopped) => untold(alloc, stopped),
     }
 }
 
-fn comparison(alloc: Global, old: &Kept, asked: Asked<'_>) -> Result<Comparison, Unjudged>
+fn comparison(alloc: Global, old: &Kept, asked: Asked<'_>) -> Result<Comparison, Stopped>
     ensures { Compares old.now asked.entry.new.now asked.entry.options.only_ignored result }
 {
     let Kept::Rules(before) = old else {
-        return Err(Unjudged::Misused);
+        return Err(Stopped::Misused);
     };
     let Kept::Rules(after) = asked.new else {
-        return Err(Unjudged::Misused);
+        return Err(Stopped::Misused);
     };
     compared(alloc, before, after, asked.options)
 }
 
-#[tactic(auto, using(crate::proofs::Judged::no_misuse))]
+#[tactic(auto, using(crate::proofs::Judged::unjudged))]
 fn compared(
     alloc: Global,
     before: &Gitignore,
     after: &Gitignore,
     options: CompareOptions,
-) -> Result<Comparison, Unjudged>
+) -> Result<Comparison, Stopped>
     ensures same { IfOk result (IsComparison (counted_by options.only_ignored) before.now.rules after.now.rules) }
-    ensures not_misused { IfErr result (λ e. e ≡ Misused → ⊥) }
+    ensures unjudged { IfErr result IsUnjudged }
 {
     let counted = counted_by(options.only_ignored);
     let comparison = every::compare(alloc, before, after, counted, options.limit)?;
@@ -117,11 +117,11 @@ fn told_of(alloc: Global, comparison: &Comparison) -> Result<ToldDifference, All
 }
 
 /// What is told where there is none.
-fn untold(alloc: Global, unjudged: Unjudged) -> ToldDifference
-    ensures { TellsComparison (Err unjudged) result.code result.difference result.text.items }
+fn untold(alloc: Global, stopped: Stopped) -> ToldDifference
+    ensures { TellsComparison (Err stopped) result.code result.difference result.text.items }
 {
     ToldDifference {
-        code: unjudged.code(),
+        code: stopped.code(),
         difference: NO_DIFFERENCE,
         text: Vec::new(alloc),
     }

@@ -109,7 +109,6 @@ fn first_root(alloc: Global, guided: &mut Guided, root: &str) -> Result<Option<P
 
 /// Goes on with the first root: its host is asked where something of the rules from outside is
 /// missing, and else they are read.
-#[tactic(auto, using(crate::proofs::Leading::asks_no_more))]
 fn read_outside(
     alloc: Global,
     guided: &mut Guided,

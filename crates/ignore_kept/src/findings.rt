@@ -2,10 +2,10 @@
 ghost use Rattle.std.specs.Prelude.{◌≡◌, ◌++◌, ◌∷◌, [], IfOk, IfErr, OnOk, Some, cond, length, slice_get};
 ghost use Rattle.ignore_kept.specs.Findings.{AreDeadBelow, AreFindings, Finds, TellsFinding, TellsOverruling, TellsRule, alone, example_parts, is_dead, named_by, named_in, no_dead, overruled_parts, overruling_at, parts_in, parts_of, texts_of, told_as};
 ghost use Rattle.ignore_kept.specs.Kinds.{findings_in};
-ghost use Rattle.ignore_kept.specs.declared.unjudged.Unjudged.TheVariants.{Misused};
+ghost use Rattle.ignore_kept.specs.Judging.{IsUnjudged};
 
 use crate::kept::Kept;
-use crate::unjudged::Unjudged;
+use crate::stopped::Stopped;
 use ignore::every::{Analysis, Example, Finding};
 use ignore::gitignore::Gitignore;
 use std::alloc::{AllocError, Global};
@@ -55,20 +55,20 @@ pub struct ToldFinding {
 
 /// What is found of the rules of a handle, with at most so many states.
 #[tactic(auto, using(crate::proofs::Judged::finds, crate::proofs::Judged::finds_none))]
-pub fn find(alloc: Global, kept: &Kept, limit: usize) -> Result<Kept, Unjudged>
+pub fn find(alloc: Global, kept: &Kept, limit: usize) -> Result<Kept, Stopped>
     ensures { Finds kept.now result }
 {
     let Kept::Rules(rules) = kept else {
-        return Err(Unjudged::Misused);
+        return Err(Stopped::Misused);
     };
     let found = found_of(alloc, rules, limit)?;
     Ok(Kept::Findings(found))
 }
 
-#[tactic(auto, using(crate::proofs::DeadRules::are_findings, crate::proofs::Judged::no_misuse))]
-fn found_of(alloc: Global, rules: &Gitignore, limit: usize) -> Result<Findings, Unjudged>
+#[tactic(auto, using(crate::proofs::DeadRules::are_findings, crate::proofs::Judged::unjudged, crate::proofs::Judged::unjudged_full))]
+fn found_of(alloc: Global, rules: &Gitignore, limit: usize) -> Result<Findings, Stopped>
     ensures found { IfOk result (AreFindings rules.now.rules) }
-    ensures not_misused { IfErr result (λ e. e ≡ Misused → ⊥) }
+    ensures unjudged { IfErr result IsUnjudged }
 {
     let analysis = Analysis::of(alloc, rules, limit)?;
     let dead = dead_of(alloc, &analysis.findings)?;
@@ -125,7 +125,7 @@ pub fn rule(alloc: Global, kept: &Kept, index: usize) -> ToldFinding
     ensures { TellsFinding (findings_in kept.now) index result.code result.dead result.text.items }
 {
     let Kept::Findings(found) = kept else {
-        return untold(alloc, Unjudged::Misused.code());
+        return untold(alloc, Stopped::Misused.code());
     };
     match found.dead.get(index) {
         None => untold(alloc, 1),
@@ -141,7 +141,7 @@ fn told_rule(alloc: Global, findings: &[Finding], rule: usize) -> ToldFinding
         None => untold(alloc, 1),
         Some(finding) => match told_of(alloc, rule, finding) {
             Ok(told) => told,
-            Err(_) => untold(alloc, Unjudged::Memory.code()),
+            Err(_) => untold(alloc, Stopped::Memory.code()),
         },
     }
 }
@@ -247,7 +247,7 @@ pub fn overruling(kept: &Kept, index: usize, number: usize) -> (u32, usize)
     ensures { TellsOverruling (findings_in kept.now) index number result.0 result.1 }
 {
     let Kept::Findings(found) = kept else {
-        return (Unjudged::Misused.code(), 0);
+        return (Stopped::Misused.code(), 0);
     };
     match overruling_at(found, index, number) {
         Some(rule) => (0, rule),
