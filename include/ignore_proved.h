@@ -428,9 +428,10 @@ uint32_t ignore_builder_set_types(ignore_builder *builder);
 uint32_t ignore_builder_add_ignore(ignore_builder *builder, ignore_tree *tree, const uint8_t *path,
                                    size_t path_length);
 
-/* Adds a file of rules by its path alone, after the others that were added so: guides read it, after
-   those of ignore_builder_add_ignore, when their host gives it with their first root. Matchers and
-   walks, which have a tree, don't. IGNORE_OK, IGNORE_NOT_UTF8, IGNORE_NO_MEMORY or IGNORE_MISUSED. */
+/* Adds a file of rules by its path alone, after the others that were added so. It is for guides, which
+   want it with their first root, and add it after those of ignore_builder_add_ignore; it is relative
+   to the same directory. Matchers and walks, which have a tree, don't read it. IGNORE_OK,
+   IGNORE_NOT_UTF8, IGNORE_NO_MEMORY or IGNORE_MISUSED. */
 uint32_t ignore_builder_add_ignore_path(ignore_builder *builder, const uint8_t *path,
                                         size_t path_length);
 
@@ -634,9 +635,10 @@ enum {
 uint32_t ignore_guide_new(ignore_builder *builder, ignore_guide *guide);
 
 /* Begins a root, by its path; a guide may have several. The files of ignore_builder_add_ignore_path
-   are wanted with the first one, before all else and in their order, where a directory was told that
-   they are relative to; then git's global file, and what leads there; what counts above a root and in
-   it with each root. IGNORE_OK, and the place of the root; IGNORE_WANTS where something is to be known first. Also
+   are wanted with the first one, before all else and in their order; then what leads to git's global
+   file, and that. Where no directory was told that they are relative to, none of these is wanted, and
+   each of the former is a problem. What counts above a root and in it is wanted with each root.
+   IGNORE_OK, and the place of the root; IGNORE_WANTS where something is to be known first. Also
    IGNORE_NOT_UTF8, IGNORE_NO_MEMORY, and IGNORE_MISUSED while a call waits. With another answer than
    IGNORE_OK the place is all zeros. */
 uint32_t ignore_guide_root(ignore_guide *guide, const uint8_t *root, size_t root_length,
@@ -688,9 +690,9 @@ uint32_t ignore_guide_decide_all(ignore_guide *guide, const ignore_place *place,
                                  uint8_t *codes, size_t codes_length);
 
 /* The same as ignore_guide_decide, with the reason: `why` and `room` as for ignore_matcher_explained.
-   The answer and `found` are those of ignore_guide_decide, of what is beyond the limits on depth and
-   of what is larger than the limit, too; `is_inside` is false, since no ignored directory is entered.
-   Also as ignore_guide_decide, and then `why` is all zeros, and the room is as before. */
+   What is beyond the limits on depth, and what is larger than the limit, has that as its reason.
+   `is_inside` is false: that the directory is ignored, or one around it, isn't asked. Also as
+   ignore_guide_decide, and then `why` is all zeros, and the room is as before. */
 uint32_t ignore_guide_why(ignore_guide *guide, const ignore_place *place, const uint8_t *name,
                           size_t name_length, bool is_dir, uint64_t size, ignore_found *found,
                           ignore_why *why, uint8_t *room, size_t room_length);
@@ -721,9 +723,9 @@ typedef struct ignore_problem {
 } ignore_problem;
 
 /* The part at an index, from 0, of what is wrong with the files of rules of the directory that was
-   entered last, or of the root that was begun, with those above it and, with the first root, of
-   ignore_builder_add_ignore_path: IGNORE_OK, the part, and in `room` the first bytes, as many as there is
-   room for, of its path, its glob and its text, one after the other. IGNORE_NONE where there are no
+   entered last, or of the root that was begun, with those above it and, with the first root, those of
+   ignore_builder_add_ignore_path: IGNORE_OK, the part, and in `room` the first bytes, as many as there
+   is room for, of its path, its glob and its text, one after the other. IGNORE_NONE where there are no
    more parts than that. Also IGNORE_NO_MEMORY and IGNORE_MISUSED. With another answer than IGNORE_OK
    the part is all zeros, and the room is as before. */
 uint32_t ignore_guide_problem(ignore_guide *guide, size_t index, ignore_problem *problem,
