@@ -46,6 +46,7 @@ pub struct Rows {
 }
 
 /// A row that was found in a text.
+#[derive(Clone, Copy)]
 pub struct Row<'t> {
     /// Its place.
     pub at: usize,
