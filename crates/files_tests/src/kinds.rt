@@ -104,3 +104,13 @@ fn kinds_in_a_small_folder_are_those_that_are_asked(rt: HostRuntime) -> Result<(
     }
     Ok(())
 }
+
+#[test]
+fn kinds_in_a_folder_that_one_read_holds_are_those_that_are_asked(
+    rt: HostRuntime,
+) -> Result<(), Fail> {
+    for number in [9, 30, 60, 120] {
+        assert_eq!(rt; counts_of(&rt, number, make_short)?, (number, number));
+    }
+    Ok(())
+}
