@@ -174,9 +174,3 @@ module _ (decides : (reading : Reading) (text : List ℕ) → Decides (does_matc
       go (inl (c, i, h, e)) =
           inl (c, i, h, ap (λ m. match_or m (unmatched choices)) e ∙ verdict-or c i c.negated (unmatched choices))
       go (inr (none, e)) = inr (none, ap (λ m. match_or m (unmatched choices)) e)
-
--- where nothing was chosen, a file has no match
-pub nothing_chosen : (choices : List Chosen) (name : Option (List ℕ)) → length choices ≡ 0 → type_answer choices false name ≡ None
-nothing_chosen [] option.None e = refl
-nothing_chosen [] (option.Some name) e = refl
-nothing_chosen (c ∷ choices) name e = cc
