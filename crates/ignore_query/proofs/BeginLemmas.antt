@@ -1,5 +1,5 @@
 -- Where the way to a path begins.
-use Rattle.std.proofs.Common.{◌≡◌, ℕ, Bool, true, ◌||◌, cond, All, List, [], ◌∷◌, ◌++◌, Option, Some, None, is_some}
+use Rattle.std.proofs.Common.{◌≡◌, ℕ, true, ◌||◌, cond, All, List, [], ◌∷◌, ◌++◌, Option, Some, None, is_some}
 use Rattle.std.proofs.Common.{inr, refl, sym, ap, ◌∙◌, subst}
 use Rattle.std.proofs.lemmas.Bool.{and_parts}
 use Rattle.std.proofs.lemmas.List.{append-nil}
@@ -19,9 +19,9 @@ use Rattle.ignore_query.specs.declared.kept.Cache.{Cache}
 use Rattle.ignore_query.specs.declared.kept.Kept.TheVariants.{Loaded}
 use Rattle.ignore_query.specs.Agrees.{Agrees, IsInLoaded, IsNext}
 use Rattle.ignore_query.specs.Listed.{kept_at}
-use Rattle.ignore_query.specs.Needs.{is_among, is_kept, needed}
+use Rattle.ignore_query.specs.Needs.{is_among, is_kept}
 use Rattle.ignore_query.specs.Reached.{scene_of}
-use Rattle.ignore_query.specs.Reports.{new_above, problem_in, problems_at}
+use Rattle.ignore_query.specs.Reports.{new_above, problem_in}
 use Rattle.ignore_query.specs.Stands.{Grows, IsBegin, open_in}
 use Rattle.ignore_query.specs.Where.{InCall}
 use Rattle.ignore_query.proofs.ChainLemmas.{front_names}

@@ -1,4 +1,4 @@
-use Rattle.std.proofs.Common.{◌≡◌, ◌++◌, ◌∷◌, [], sym, ap, ◌∙◌, refl}
+use Rattle.std.proofs.Common.{◌++◌, ◌∷◌, [], sym, ap, ◌∙◌, refl}
 use Rattle.std.specs.BTreeMap.{get_by_text}
 use Rattle.ignore_dir.specs.Chains.{slashed}
 use Rattle.ignore_query.specs.Stands.{open_in}

@@ -1,4 +1,4 @@
-use Rattle.std.proofs.Common.{◌≡◌, ◌<◌, ◌≤◌, ◌++◌, ◌∷◌, [], All, Option, Some, IfSome, List, length, map, is_some, rules, arith, refl, sym, ap, ◌∙◌, subst}
+use Rattle.std.proofs.Common.{◌≡◌, ◌<◌, ◌≤◌, ◌++◌, ◌∷◌, All, Option, Some, IfSome, List, length, map, rules, arith, sym, ap, ◌∙◌, subst}
 use Rattle.std.proofs.lemmas.List.{append-nil}
 use Rattle.std.specs.BTreeMap.{get_by_text}
 use Rattle.std.specs.List.{filter_map}
@@ -6,12 +6,11 @@ use Rattle.std.specs.Option.{option_copied, option_to_list}
 use Rattle.ignore_base.proofs.CleanLemmas.{names-components}
 use Rattle.ignore_base.specs.Paths.{IsName, components}
 use Rattle.ignore_base.specs.Problem.{Problem, problem_of}
-use Rattle.ignore_dir.specs.Chains.{slashed}
 use Rattle.ignore_query.specs.declared.kept.Kept.TheVariants.{Ignored, Loaded}
 use Rattle.ignore_query.specs.Listed.{kept_at}
 use Rattle.ignore_query.specs.Needs.{is_known}
 use Rattle.ignore_query.specs.Reached.{scene_of}
-use Rattle.ignore_query.specs.Reports.{new_above, new_below}
+use Rattle.ignore_query.specs.Reports.{new_below}
 use Rattle.ignore_query.specs.Stands.{IsPlaced}
 use Rattle.ignore_query.proofs.BeginLemmas.{visited_front}
 use Rattle.ignore_query.proofs.ChainLemmas.{front_names}
