@@ -21,6 +21,9 @@ const FILE: u8 = 8;
 /// A symbolic link.
 const LINK: u8 = 10;
 
+/// How many bytes of a row stand before its name.
+const HEAD: usize = 3;
+
 /// An entry of a directory of a runtime.
 #[derive(Drop)]
 pub struct RuntimeEntry {
@@ -31,7 +34,8 @@ pub struct RuntimeEntry {
 }
 
 /// The entries of a directory that is read, each a row of one text, in the system's order: a byte
-/// for its type, its name, which may be no UTF-8, and a NUL.
+/// for its type, two for the length of its name, the low one first, and the name, which may be no
+/// UTF-8.
 #[derive(Drop)]
 pub struct Rows {
     text: Vec<u8>,
@@ -73,13 +77,17 @@ pub fn cut(bytes: &[u8]) -> (&[u8], &[u8]) {
 /// The row that begins at a place.
 fn row_at(text: &[u8], at: usize) -> Option<Row<'_>> {
     let (_, rest) = text.split_at_checked(at)?;
-    let (kind, rest) = rest.split_first()?;
-    let (name, _) = cut(rest);
+    let (head, rest) = rest.split_at_checked(HEAD)?;
+    let [kind, low, high] = head else {
+        return None;
+    };
+    let len = *low as usize | (*high as usize) << 8;
+    let (name, _) = rest.split_at_checked(len)?;
     Some(Row {
         at,
         kind: *kind,
         name,
-        next: at.saturating_add(name.len()).saturating_add(2),
+        next: at.saturating_add(HEAD).saturating_add(len),
     })
 }
 
@@ -132,14 +140,16 @@ impl Rows {
 
     /// Makes room for names that take so many bytes, each with a NUL.
     pub fn make_room(&mut self, names: usize) -> Result<(), AllocError> {
-        self.text.reserve(names.saturating_add(names / 2))
+        self.text.reserve(names.saturating_mul(2))
     }
 
-    /// Adds a row.
+    /// Adds a row. (A read has no room for a name whose length takes more than two bytes.)
     pub fn push(&mut self, name: &[u8], kind: u8) -> Result<(), AllocError> {
-        self.text.push(kind)?;
+        let len = u16::try_from(name.len()).unwrap_or(u16::MAX);
+        let (name, _) = name.split_at_checked(len as usize).unwrap_or((name, &[]));
+        let [low, high] = len.to_le_bytes();
+        self.text.extend_from_slice(&[kind, low, high])?;
         self.text.extend_from_slice(name)?;
-        self.text.push(0)?;
         self.count = self.count.saturating_add(1);
         if kind == UNKNOWN {
             self.untyped = self.untyped.saturating_add(1);
