@@ -30,6 +30,7 @@ pub use Rattle.ignore_why.specs.Texts.{query_why_text}
 pub use Rattle.ignore_why.specs.QueryWhy.{query_why, query_why_of}
 pub use Rattle.ignore_walk.specs.Agreement.{IsKeptBelow, IsOpen, Reachable, is_kept, is_within, keeps}
 pub use Rattle.ignore_walk.specs.Answered.{IsInode, IsMetadata}
+pub use Rattle.ignore_walk.specs.Below.{AnswersBelow, IsAtOrBelow, KeepsBelow, StaysBelow}
 pub use Rattle.ignore_walk.specs.Branch.{Branch, entered}
 pub use Rattle.ignore_walk.specs.Child.{is_dir_kind}
 pub use Rattle.ignore_walk.specs.Entry.{Entry, Item, entry_of, inode_of, item_of, leads_by_link, metadata_of, named_or, problem_in, stdin_entry}

@@ -4,6 +4,7 @@ use Rattle.ignore_files.specs.declared.env.Env.{Env}
 use Rattle.ignore_files.specs.declared.files.Files.{Ghosts as Files}
 use Rattle.ignore_files.specs.Gives.{IsHonest}
 use Rattle.ignore_files.specs.Tree.{Tree}
+use Rattle.ignore_walk.specs.Below.{KeepsBelow}
 use Rattle.ignore_walk.specs.Nexts.{Remaining, Starts}
 use Rattle.ignore_walk.specs.Paces.{work_at, work_of}
 use Rattle.ignore_walk.specs.Suits.{Suits}
@@ -33,7 +34,7 @@ IsNewWalkBy files calls f owner env b order w =
 
 -- over any files, a walk goes by these: the files, the owner of the filter and the comparison, the
 -- settings and the order, the rules from outside by answers that the files may give, and at first
--- the roots
+-- the roots; and all that it has in hand is at or below these
 pub record GoesBy {F S : Type 0} (files : Files F) (f : F) (owner : S) (env : Env) (b : WalkOptions) (order : Order) (w : Walk F S) : Type 0 where
   pub over : w.ground.files.now ≡ f
   pub closures : w.ground.owner ≡ owner
@@ -41,3 +42,4 @@ pub record GoesBy {F S : Type 0} (files : Files F) (f : F) (owner : S) (env : En
   pub options : w.ground.options ≡ options_of b order
   pub outside : IsOutsideBy (files.contents_gives f) env b w.ground.outside
   pub roots : work_of w.stack ≡ work_at b.roots
+  pub below : KeepsBelow b.roots w.stack

@@ -1,11 +1,13 @@
 //! The whole list of a walk, in one call.
-ghost use Rattle.std.specs.Prelude.{◌≡◌, ◌⊎◌, Some, false, IfOk, IfErr, map};
+ghost use Rattle.std.specs.Prelude.{◌≡◌, ◌⊎◌, All, List, Some, false, IfOk, IfErr, map};
 ghost use Rattle.ignore_files.specs.declared.env.Env.{Env};
 ghost use Rattle.ignore_walk.specs.declared.callbacks.Order.{Order};
 ghost use Rattle.ignore.specs.declared.options.WalkOptions.{WalkOptions};
 ghost use Rattle.ignore.specs.Walks.{IsNewWalkBy, IsWalkBy};
 ghost use Rattle.ignore_base.specs.declared.fault.Fault.TheVariants.{StepLimit};
 ghost use Rattle.ignore_base.specs.Problem.{problem_of, io, memory};
+ghost use Rattle.ignore_base.specs.Text.{Path};
+ghost use Rattle.ignore_walk.specs.Below.{KeepsBelow, StaysBelow};
 ghost use Rattle.ignore_walk.specs.Entry.{item_of};
 ghost use Rattle.ignore_walk.specs.GoesOn.{AllGoOn, HasNoEnd};
 ghost use Rattle.ignore_walk.specs.Paces.{TookSteps, Work, work_at, work_of};
@@ -39,6 +41,7 @@ pub fn collect_walk<F: Files>(
         × IsAboveLimit F.Files ⟦<Owner<'static> as Callbacks>⟧ files.now (record { builder = Some builder.entry }) env.now builder.now.options
         (order_of (λ s. s.order) builder.now.sorter))) }
     ensures no_end { IfOk result (λ all. AllGoOn (map item_of all.items)) }
+    ensures below { IfOk result (λ all. All (StaysBelow builder.now.options.roots) (map item_of all.items)) }
     ensures limited { IfErr result (λ e. problem_of e ≡ io StepLimit
         → (w : Work) × TookSteps (F.list_gives files.now) builder.now.options.limit (work_at builder.now.options.roots) w) }
 {
@@ -63,6 +66,8 @@ impl<'a, F: Files, S: Callbacks> Walk<'a, F, S> {
             → IfErr result (λ e. (problem_of e ≡ memory) ⊎ ((problem_of e ≡ io StepLimit)
             × IsAboveLimit F.Files S.Callbacks f owner env b order)) }
         ensures no_end { HasNoEnd self.entry.inner.stack → IfOk result (λ all. AllGoOn (map item_of all.items)) }
+        ensures below { (roots : List Path) → KeepsBelow roots self.entry.inner.stack
+            → IfOk result (λ all. All (StaysBelow roots) (map item_of all.items)) }
         ensures limited { self.entry.inner.ended ≡ false → IfErr result (λ e. problem_of e ≡ io StepLimit
             → (w : Work) × TookSteps (F.list_gives self.entry.inner.ground.files.now) self.entry.inner.left (work_of self.entry.inner.stack) w) }
     {

@@ -1,5 +1,5 @@
 //! Laws of walks, as calls that do nothing: each contract is the law.
-ghost use Rattle.std.specs.Prelude.{◌≡◌, ◌≤◌, ◌⊎◌, ◌↔◌, ℕ, Bool, List, [], Contains, MatchOption, None, Option, Result, Some, codes, map, option_map, true};
+ghost use Rattle.std.specs.Prelude.{◌≡◌, ◌≤◌, ◌⊎◌, ◌↔◌, ℕ, All, Bool, List, [], Contains, MatchOption, None, Option, Result, Some, codes, map, option_map, true};
 ghost use Rattle.std.specs.Cmp.{IsStrictWeakOrder};
 ghost use Rattle.std.specs.Iterator.{Drains, YieldsThen};
 ghost use Rattle.std.specs.Ordering.{is_lt};
@@ -15,6 +15,7 @@ ghost use Rattle.ignore_files.specs.Tree.{Tree};
 ghost use Rattle.ignore_files.specs.declared.env.Env.{Env};
 ghost use Rattle.ignore_query.specs.declared.incremental.IncrementalIgnore.{IncrementalIgnore};
 ghost use Rattle.ignore_walk.specs.Agreement.{IsOpen, keeps};
+ghost use Rattle.ignore_walk.specs.Below.{IsAtOrBelow, KeepsBelow, StaysBelow};
 ghost use Rattle.ignore_walk.specs.Branch.{Branch};
 ghost use Rattle.ignore_walk.specs.Entry.{Entry, Item, entry_of, item_of, problem_in, stdin_entry};
 ghost use Rattle.ignore_walk.specs.GoesOn.{HasNoEnd};
@@ -45,6 +46,7 @@ use ignore_files::{Env, Files, MemoryTree};
 pub use ignore_walk::laws::{
     no_item_ends_a_walk, one_list, walk_agrees_with_queries, walk_yields_what_it_shows,
 };
+pub use ignore_walk::runs::steps_stay_below_their_roots;
 pub use ignore_walk::some_list;
 use ignore_walk::{Callbacks, runs};
 
@@ -88,6 +90,23 @@ pub fn only_the_last_item_ends<F: Files, S: Callbacks>()
         → HasNoEnd w.inner.stack → EndsLast (map item_of all) }
 {
     runs::only_the_last_item_ends::<F, S>();
+}
+
+/// Whatever the files answer, each entry that a walk yields is at one of its roots or below one, or is
+/// standard input where `-` is one of them: of a walk that is asked until it answers none (`whole`),
+/// and of one that isn't (`begun`); and so is each directory that it is in (`enters`). So it is with
+/// each walk of a builder (`WalkBuilder::build`, clause `goes_by`), and it stays so after each item.
+pub fn a_run_stays_below_its_roots<F: Files, S: Callbacks>()
+    ensures whole { (roots : List Path) (w : Walk F S) (all : List (Result DirEntry Error))
+        → Drains (λ a answer b. NextGives F.Files S.Callbacks a.inner (option_map item_of answer) b.inner) w all
+        → KeepsBelow roots w.inner.stack → All (StaysBelow roots) (map item_of all) }
+    ensures begun { (roots : List Path) (w v : Walk F S) (all : List (Result DirEntry Error)) (x : Result DirEntry Error)
+        → YieldsThen (λ a answer b. NextGives F.Files S.Callbacks a.inner (option_map item_of answer) b.inner) w all (Some x) v
+        → KeepsBelow roots w.inner.stack → All (StaysBelow roots) (map item_of all) × StaysBelow roots (item_of x) }
+    ensures enters { (roots : List Path) (w : Walk F S) → KeepsBelow roots w.inner.stack
+        → All (λ f. (depth : ℕ) × IsAtOrBelow roots f.path depth) w.inner.stack.frames.items }
+{
+    runs::a_run_stays_below_its_roots::<F, S>();
 }
 
 /// The list of the definition is one, item by item: a walk of a builder (`WalkBuilder::build`, clause

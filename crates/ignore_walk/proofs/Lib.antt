@@ -35,5 +35,6 @@ pub mod RunLemmas
 pub mod PlacedLemmas
 pub mod EndLemmas
 pub mod PaceLemmas
+pub mod BelowLemmas
 pub mod NoEndLemmas
 pub mod AnsweredLemmas

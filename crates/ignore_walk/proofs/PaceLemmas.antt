@@ -4,7 +4,10 @@ use Rattle.std.proofs.lemmas.Bool.{false≢true}
 use Rattle.ignore_base.specs.Text.{Path}
 use Rattle.ignore_files.specs.declared.files.Files.{Ghosts as Files}
 use Rattle.ignore_files.specs.declared.types.Listed.{Listed}
-use Rattle.ignore_walk.specs.Paces.{Enters, IsListed, IsStep, Lists, MayEnter, TakesOne, TookSteps, Work, more, none, work_at}
+use Rattle.ignore_files.specs.declared.types.Listed.TheVariants as thing
+use Rattle.ignore_walk.specs.Below.{IsThing}
+use Rattle.ignore_walk.specs.Entry.{Entry}
+use Rattle.ignore_walk.specs.Paces.{Enters, IsListed, IsStep, Lists, MayEnter, MayEnterIn, TakesOne, TookSteps, Work, more, none, work_at}
 use Rattle.ignore_walk.specs.declared.frame.Frame.{Frame}
 use Rattle.ignore_walk.specs.declared.ground.Ground.{Ground}
 use Rattle.ignore_walk.specs.declared.open.Directory.{Directory}
@@ -17,25 +20,37 @@ pub work_first : (own roots : List Path) (frames : List Frame) → own ≡ roots
 work_first own roots frames h k = cc (h, k)
 
 -- a directory was entered that was listed
-pub entered : (lists : Lists) (directory : Directory) (old new : List Frame) → IsListed lists directory.path directory.rest.items
-    → Enters directory old new → MayEnter lists old new
-entered lists directory old new listed e =
+pub entered : (lists : Lists) (path : Path) (directory : Directory) (old new : List Frame) → directory.path ≡ path
+    → IsListed lists directory.path directory.rest.items → Enters directory old new → MayEnter lists path old new
+entered lists path directory old new at listed e =
     inr (
       e.0,
-      subst (λ (path : Path). IsListed lists path e.0.rest.items) (sym e.1)
+      e.1 ∙ at,
+      subst (λ (p : Path). IsListed lists p e.0.rest.items) at
           (subst (λ (things : List Listed). IsListed lists directory.path things) (sym e.2) listed),
       e.3,
     )
 
+-- the same of a listed thing
+pub entered_in : (lists : Lists) (dir : Path) (depth : ℕ) (x : Listed) (e : Entry) (old new : List Frame) → IsThing dir depth x e
+    → MayEnter lists e.path old new → MayEnterIn lists dir x old new
+entered_in lists dir depth (thing.Entry name kind) e old new is enters = subst (λ (p : Path). MayEnter lists p old new) is.0 enters
+entered_in lists dir depth (thing.Fault fault) e old new is enters = absurd is
+
+-- none was entered
+pub none_in : (lists : Lists) (dir : Path) (x : Listed) (frames : List Frame) → MayEnterIn lists dir x frames frames
+none_in lists dir (thing.Entry name kind) frames = inl refl
+none_in lists dir (thing.Fault fault) frames = refl
+
 -- a root was begun
 pub begun : (lists : Lists) (old new : Work) (root : Path) (roots : List Path) → old.frames ≡ [] → old.roots ≡ root ∷ roots
-    → new.roots ≡ roots → MayEnter lists [] new.frames → IsStep lists old new
+    → new.roots ≡ roots → MayEnter lists root [] new.frames → IsStep lists old new
 begun lists old new root roots outside was now enters =
     inl (record { root = root; outside = outside; roots = was ∙ ap (λ (l : List Path). root ∷ l) (sym now); enters = enters })
 
 -- a listed thing was taken, and what it gives was made
-pub taken : (lists : Lists) (old between new : Work) (x : Listed) → TakesOne old x between → MayEnter lists between.frames new.frames
-    → new.roots ≡ between.roots → IsStep lists old new
+pub taken : (lists : Lists) (old between new : Work) (x : Listed) → (one : TakesOne old x between)
+    → MayEnterIn lists one.before.path x between.frames new.frames → new.roots ≡ between.roots → IsStep lists old new
 taken lists old between new x one enters roots =
     inr (inl (record { thing = x; between = between; taken = one; enters = enters; roots = roots }))
 

@@ -21,5 +21,6 @@ pub mod Left
 pub mod Moves
 pub mod Stands
 pub mod Paces
+pub mod Below
 pub mod Nexts
 pub mod Runs

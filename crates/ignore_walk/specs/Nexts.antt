@@ -5,6 +5,7 @@ use Rattle.ignore_base.specs.declared.fault.Fault.TheVariants.{StepLimit}
 use Rattle.ignore_base.specs.Problem.{io, memory}
 use Rattle.ignore_base.specs.Text.{Path}
 use Rattle.ignore_files.specs.declared.files.Files.{Ghosts as Files}
+use Rattle.ignore_walk.specs.Below.{AnswersBelow, KeepsBelow}
 use Rattle.ignore_walk.specs.Branch.{Branch}
 use Rattle.ignore_walk.specs.Entry.{Item}
 use Rattle.ignore_walk.specs.Finished.{IsEnd}
@@ -85,8 +86,9 @@ EndsOrGoesOn (Some item) b = GoesOn item ⊎ (IsEnd item × IsOver b)
 -- what one `next` of a walk answers, and what it makes of the walk. For files that are consistent
 -- with a tree it is an item of what remains (`given`), and shows that this exists (`shows`). For all files: a walk that is over answers none; after
 -- none it is over; where it wasn't ended and now is, it is over, and that was its last answer; the
--- steps that are left are fewer by exactly those that it took; and where no item in hand ends a
--- walk, as at first, none does from then on but the last one that is handed out
+-- steps that are left are fewer by exactly those that it took; where no item in hand ends a walk, as
+-- at first, none does from then on but the last one that is handed out; and where all in hand is at
+-- or below some roots, as at first, so is all from then on, and each entry that is handed out
 pub record NextGives {F S : Type 0} (files : Files F) (calls : Callbacks S) (a : Walk F S) (answer : Option Item) (b : Walk F S)
     : Type 0 where
   pub given : (g : Scene) (items : List Item) (n : ℕ) → Remaining files calls g a items n → Nexts files calls g a answer b items n
@@ -97,3 +99,4 @@ pub record NextGives {F S : Type 0} (files : Files F) (calls : Callbacks S) (a :
   pub last : a.ended ≡ false → b.ended ≡ true → IsOver b × IsLast answer b.left
   pub paced : Paces files a answer b
   pub ends : HasNoEnd a.stack → HasNoEnd b.stack × EndsOrGoesOn answer b
+  pub below : (roots : List Path) → KeepsBelow roots a.stack → KeepsBelow roots b.stack × AnswersBelow roots answer

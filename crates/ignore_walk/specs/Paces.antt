@@ -1,11 +1,13 @@
 -- The steps of a walk, whatever the files answer.
 use Rattle.std.specs.Prelude.{◌≡◌, ◌⊎◌, ◌+◌, ◌<◌, ℕ, suc, true, false, List, [], ◌∷◌, ◌++◌, Option, Some, Result, Err, IsPermutation, length}
+use Rattle.ignore_base.specs.Paths.{join_of}
 use Rattle.ignore_base.specs.Text.{Path}
 use Rattle.ignore_base.specs.Problem.{io}
 use Rattle.ignore_base.specs.declared.fault.Fault.{Fault}
 use Rattle.ignore_base.specs.declared.fault.Fault.TheVariants.{StepLimit}
 use Rattle.ignore_files.specs.declared.files.Files.{Ghosts as Files}
 use Rattle.ignore_files.specs.declared.types.Listed.{Listed}
+use Rattle.ignore_files.specs.declared.types.Listed.TheVariants as thing
 use Rattle.ignore_files.specs.declared.types.Refusal.{Refusal}
 use Rattle.ignore_walk.specs.Answered.{as_answer}
 use Rattle.ignore_walk.specs.Entry.{Item}
@@ -40,16 +42,22 @@ IsListed lists path things = (answer : Result (List Listed) Fault) × lists path
 abbrev pub Enters : Directory → List Frame → List Frame → Type 0
 Enters directory old new = (f : Frame) × (f.path ≡ directory.path) × (f.rest.items ≡ directory.rest.items) × (new ≡ old ++ f ∷ [])
 
--- of these directories none was left, and at most one was entered, with all that it lists
-abbrev pub MayEnter : Lists → List Frame → List Frame → Type 0
-MayEnter lists old new = (new ≡ old) ⊎ ((f : Frame) × IsListed lists f.path f.rest.items × (new ≡ old ++ f ∷ []))
+-- of these directories none was left, and at most that at a path was entered, with all that it lists
+abbrev pub MayEnter : Lists → Path → List Frame → List Frame → Type 0
+MayEnter lists path old new =
+    (new ≡ old) ⊎ ((f : Frame) × (f.path ≡ path) × IsListed lists path f.rest.items × (new ≡ old ++ f ∷ []))
 
--- a root was begun, where no directory is entered
+-- the same of what is listed in the directory at a path; a fault is no directory
+abbrev pub MayEnterIn : Lists → Path → Listed → List Frame → List Frame → Type 0
+MayEnterIn lists dir (thing.Entry name kind) old new = MayEnter lists (join_of dir name) old new
+MayEnterIn lists dir (thing.Fault fault) old new = new ≡ old
+
+-- a root was begun, where no directory is entered: it may have been entered itself
 pub record Begins (lists : Lists) (old new : Work) : Type 0 where
   pub root : Path
   pub outside : old.frames ≡ []
   pub roots : old.roots ≡ root ∷ new.roots
-  pub enters : MayEnter lists [] new.frames
+  pub enters : MayEnter lists root [] new.frames
 
 -- something is to be done: a directory is entered, or a root wasn't begun
 abbrev pub HasWork : Work → Type 0
@@ -61,16 +69,17 @@ pub record TakesOne (old : Work) (thing : Listed) (new : Work) : Type 0 where
   pub before : Frame
   pub after : Frame
   pub was : old.frames ≡ around ++ before ∷ []
+  pub same : after.path ≡ before.path
   pub taken : before.rest.items ≡ thing ∷ after.rest.items
   pub is : new.frames ≡ around ++ after ∷ []
   pub roots : new.roots ≡ old.roots
 
--- a listed thing was taken, and the directory that it is may have been entered
+-- a listed thing was taken, and the directory that it is may have been entered, at its own path
 pub record Takes (lists : Lists) (old new : Work) : Type 0 where
   pub thing : Listed
   pub between : Work
   pub taken : TakesOne old thing between
-  pub enters : MayEnter lists between.frames new.frames
+  pub enters : MayEnterIn lists taken.before.path thing between.frames new.frames
   pub roots : new.roots ≡ between.roots
 
 -- the directory that was entered last was left, after all that it lists was taken

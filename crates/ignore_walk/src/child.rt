@@ -1,5 +1,5 @@
 //! What one listed thing is.
-ghost use Rattle.std.specs.Prelude.{◌≡◌, ◌+◌, ℕ, List, Result, length, map, reverse, option_map, IfErr, IfOk, IfSome, MatchResult};
+ghost use Rattle.std.specs.Prelude.{◌≡◌, ◌+◌, ◌++◌, ◌∷◌, [], ℕ, List, Result, length, map, reverse, option_map, IfErr, IfOk, IfSome, MatchResult};
 ghost use Rattle.std.specs.Prelude.{None, Some, Ok, Err, string_bytes, true, false, if◌then◌else◌};
 ghost use Rattle.std.specs.Option.{option_copied};
 ghost use Rattle.ignore_base.specs.Paths.{is_proper, has_slash};
@@ -14,6 +14,7 @@ ghost use Rattle.ignore_walk.specs.Entry.{Entry, entry_of, item_of, fresh};
 ghost use Rattle.ignore_walk.specs.Found.{IsFound, IsTested, tests};
 ghost use Rattle.ignore_walk.specs.GoesOn.{is_fatal};
 ghost use Rattle.ignore_walk.specs.Scene.{Scene};
+ghost use Rattle.ignore_walk.specs.declared.frame.Frame.{Frame as Entered};
 
 use crate::entry::{DirEntry, Item, failed_at};
 use crate::found::Found;
@@ -152,6 +153,7 @@ pub(crate) fn found<F: Files>(
     ensures value { (g : Scene) → IsHonest F.Files ground.now.files.now g.tree
         → g.settings.follow_links ≡ ground.now.settings.now.follow_links
         → IfOk result (λ item. item_of item ≡ fresh (found g (string_bytes path) depth kind)) }
+    ensures at { IfOk result (λ item. IfOk item (λ e. ((entry_of e).path ≡ string_bytes path) × ((entry_of e).depth ≡ depth))) }
     ensures no_end { IfOk result (λ item. IfErr item (λ e. is_fatal (problem_of e) ≡ false)) }
 {
     if !ground.settings.follow_links || !kind.is_symlink() {
@@ -170,6 +172,7 @@ fn followed<F: Files>(
     ensures value { (tree : Tree) → IsHonest F.Files files.now tree
         → IfOk result (λ item. item_of item
         ≡ fresh (or_failed (string_bytes path) depth (followed_link (string_bytes path) depth) (tree.stat (string_bytes path) true))) }
+    ensures at { IfOk result (λ item. IfOk item (λ e. ((entry_of e).path ≡ string_bytes path) × ((entry_of e).depth ≡ depth))) }
     ensures no_end { IfOk result (λ item. IfErr item (λ e. is_fatal (problem_of e) ≡ false)) }
 {
     match answered(files.stat(alloc, path.as_str(), true))? {
@@ -274,14 +277,16 @@ pub(crate) fn device_at<F: Files>(
 /// The depth of what is in the directory that was entered last.
 #[tactic(auto, using(crate::proofs::ChildLemmas::frames_length))]
 pub(crate) fn depth_below(frames: &[Frame]) -> usize
-    ensures { (root : List ℕ) (b : Branch) → map (λ f. f.path) (reverse frames.now) ≡ entered root b → result ≡ length b + 1 }
+    ensures deep { (root : List ℕ) (b : Branch) → map (λ f. f.path) (reverse frames.now) ≡ entered root b → result ≡ length b + 1 }
+    ensures value { result ≡ length frames.now }
 {
     frames.len()
 }
 
 /// The path of the directory that was entered last.
 pub(crate) fn last_path(frames: &[Frame]) -> &str
-    ensures { (root : List ℕ) (b : Branch) → map (λ f. f.path) (reverse frames.now) ≡ entered root b → result.now ≡ path_of root b }
+    ensures at { (root : List ℕ) (b : Branch) → map (λ f. f.path) (reverse frames.now) ≡ entered root b → result.now ≡ path_of root b }
+    ensures last { (around : List Entered) (dir : Entered) → frames.now ≡ around ++ dir ∷ [] → result.now ≡ dir.path }
 {
     match frames.last() {
         None => "",
@@ -300,6 +305,7 @@ pub(crate) fn checked<F: Files>(
     ensures value { (g : Scene) (r : Result Entry Problem) → IsHonest F.Files files.now g.tree → g.same_file_system ≡ same_file_system
         → item_of item ≡ fresh r
         → IfOk result (λ found. IsFound g (λ e. is_dir_kind e.kind) found (and_then (tests g (map (λ f. f.path) (reverse frames.now))) r)) }
+    ensures same { IfOk result (λ found. IfOk found (λ f. item ≡ Ok f.entry)) }
     ensures no_end { IfErr item (λ e. is_fatal (problem_of e) ≡ false) → IfOk result (λ found. IfErr found (λ e. is_fatal (problem_of e) ≡ false)) }
 {
     match item {

@@ -1,11 +1,12 @@
 //! What stays the same in a walk, and what it makes of one entry.
-ghost use Rattle.std.specs.Prelude.{◌≡◌, ◌++◌, ◌∷◌, ◌||◌, ℕ, List, None, Ok, true, false, not, option_map, reverse, IfErr, IfOk};
+ghost use Rattle.std.specs.Prelude.{◌≡◌, ◌++◌, ◌∷◌, ◌||◌, [], ℕ, List, None, Ok, true, false, length, not, option_map, reverse, IfErr, IfOk};
 ghost use Rattle.ignore_base.specs.Problem.{problem_of};
 ghost use Rattle.ignore_dir.specs.Above.{canonical_names, kept_above, names_above};
 ghost use Rattle.ignore_dir.specs.Limits as limits;
 ghost use Rattle.ignore_dir.specs.Query as queries;
 ghost use Rattle.ignore_dir.specs.Soft.{IsSoft};
 ghost use Rattle.ignore_levels.specs.Levels.{IsChain, counting, slots_of};
+ghost use Rattle.ignore_walk.specs.Below.{IsThing};
 ghost use Rattle.ignore_walk.specs.Branch.{Branch, path_of, placed_to, text_at};
 ghost use Rattle.ignore_walk.specs.Child as children;
 ghost use Rattle.ignore_walk.specs.Entry.{entry_of, problem_in};
@@ -19,6 +20,7 @@ ghost use Rattle.ignore_walk.specs.Scene.{Scene};
 ghost use Rattle.ignore_walk.specs.Suits.{IsGroundOf, Suits};
 ghost use Rattle.ignore_walk.specs.Walked as walked;
 ghost use Rattle.ignore_walk.specs.Whole as wholes;
+ghost use Rattle.ignore_walk.specs.declared.frame.Frame.{Frame as Entered};
 
 use crate::callbacks::{Callbacks, Options};
 use crate::child::{checked, depth_below, fault_at, found, last_path};
@@ -146,6 +148,7 @@ impl<'a, F: Files, S: Callbacks> Ground<'a, F, S> {
             → IsGroundOf F.Files S.Callbacks self.now g
             → IfOk result (λ o. Opens g path.now text o) }
         ensures soft { IfOk result (λ o. IsSoft (option_map problem_of o.error)) }
+        ensures path { IfOk result (λ o. o.directory.path ≡ path.now) }
         ensures listed { IfOk result (λ o. IsListed (F.list_gives self.now.files.now) o.directory.path o.directory.rest.items) }
     {
         let path = named(self.alloc, path)?;
@@ -188,6 +191,8 @@ impl<'a, F: Files, S: Callbacks> Ground<'a, F, S> {
             → IsGroundOf F.Files S.Callbacks self.now g
             → AreFrames g root b (reverse frames.now)
             → IfOk result (λ found. IsFound g (λ e. children.is_dir_kind e.kind) found (children.child g root b listed)) }
+        ensures at { (around : List Entered) (dir : Entered) → frames.now ≡ around ++ dir ∷ []
+            → IfOk result (λ found. IfOk found (λ f. IsThing dir.path (length frames.now) listed (entry_of f.entry))) }
         ensures no_end { IfOk result (λ found. IfErr found (λ e. is_fatal (problem_of e) ≡ false)) }
     {
         let depth = depth_below(frames);
@@ -212,6 +217,7 @@ impl<'a, F: Files, S: Callbacks> Ground<'a, F, S> {
             → IsGroundOf F.Files S.Callbacks self.now g
             → is_dir ≡ queries.is_dir_there (g.tree.stat root.now true)
             → IfOk result (λ found. IsFound g (λ _. is_dir) found (wholes.root_entry g root.now)) }
+        ensures at { IfOk result (λ found. IfOk found (λ f. ((entry_of f.entry).path ≡ root.now) × ((entry_of f.entry).depth ≡ 0))) }
         ensures no_end { IfOk result (λ found. IfErr found (λ e. is_fatal (problem_of e) ≡ false)) }
     {
         let item = root_found(self.alloc, self.files, self.settings.follow_links, root)?;

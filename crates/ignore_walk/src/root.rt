@@ -1,5 +1,5 @@
 //! How a walk begins a root.
-ghost use Rattle.std.specs.Prelude.{◌≡◌, true, false, Result, IfErr, IfOk, None, string_bytes};
+ghost use Rattle.std.specs.Prelude.{◌≡◌, true, false, Result, IfErr, IfOk, None, Ok, string_bytes};
 ghost use Rattle.ignore_base.specs.Problem.{Problem, problem_of};
 ghost use Rattle.ignore_files.specs.Gives.{IsHonest};
 ghost use Rattle.ignore_files.specs.Memory.{and_then};
@@ -37,6 +37,7 @@ pub(crate) fn is_dir_found<F: Files>(
 /// The entry of a root, by its own kind and the kind of what it leads to.
 fn root_by(root: String, follow_links: bool, own: FileType, kind: FileType) -> DirEntry
     ensures value { (g : Scene) → g.settings.follow_links ≡ follow_links → entry_of result ≡ root_by g (string_bytes root) own kind }
+    ensures at { ((entry_of result).path ≡ string_bytes root) × ((entry_of result).depth ≡ 0) }
     ensures no_error { problem_in result ≡ None }
 {
     if own.is_symlink() && !(follow_links || kind.is_file()) {
@@ -55,6 +56,7 @@ fn root_of<F: Files>(
 ) -> Result<Item, AllocError>
     ensures value { (g : Scene) → IsHonest F.Files files.now g.tree → g.settings.follow_links ≡ follow_links
         → IfOk result (λ item. item_of item ≡ fresh (root_of g root.now own)) }
+    ensures at { IfOk result (λ item. IfOk item (λ e. ((entry_of e).path ≡ root.now) × ((entry_of e).depth ≡ 0))) }
     ensures no_end { IfOk result (λ item. IfErr item (λ e. is_fatal (problem_of e) ≡ false)) }
 {
     match answered(files.stat(alloc, root, true))? {
@@ -75,6 +77,7 @@ pub(crate) fn root_found<F: Files>(
 ) -> Result<Item, AllocError>
     ensures value { (g : Scene) → IsHonest F.Files files.now g.tree → g.settings.follow_links ≡ follow_links
         → IfOk result (λ item. item_of item ≡ fresh (or_failed root.now 0 (root_of g root.now) (g.tree.stat root.now false))) }
+    ensures at { IfOk result (λ item. IfOk item (λ e. ((entry_of e).path ≡ root.now) × ((entry_of e).depth ≡ 0))) }
     ensures no_end { IfOk result (λ item. IfErr item (λ e. is_fatal (problem_of e) ≡ false)) }
 {
     match answered(files.stat(alloc, root, false))? {
@@ -94,6 +97,7 @@ pub(crate) fn on_device<F: Files>(
     ensures value { (g : Scene) (r : Result Entry Problem) → IsHonest F.Files files.now g.tree → g.same_file_system ≡ same_file_system
         → item_of item ≡ fresh r
         → IfOk result (λ found. IsFound g (λ _. is_dir) found (and_then (with_device g is_dir) r)) }
+    ensures same { IfOk result (λ found. IfOk found (λ f. item ≡ Ok f.entry)) }
     ensures no_end { IfErr item (λ e. is_fatal (problem_of e) ≡ false) → IfOk result (λ found. IfErr found (λ e. is_fatal (problem_of e) ≡ false)) }
 {
     match item {

@@ -1,13 +1,15 @@
 //! What a walk has yielded when it answers none, before, and after, as calls that do nothing: each
 //! contract is the law.
-ghost use Rattle.std.specs.Prelude.{◌≡◌, ◌≤◌, ℕ, List, Option, None, Some, Result, map, option_map};
+ghost use Rattle.std.specs.Prelude.{◌≡◌, ◌≤◌, ℕ, All, List, Option, None, Some, Result, map, option_map};
 ghost use Rattle.std.specs.Iterator.{Drains, YieldsThen};
 ghost use Rattle.ignore_base.specs.Text.{Path};
 ghost use Rattle.ignore_base.specs.declared.error.Error.{Error};
+ghost use Rattle.ignore_walk.specs.Below.{IsAtOrBelow, KeepsBelow, StaysBelow};
 ghost use Rattle.ignore_walk.specs.Entry.{Item, item_of};
 ghost use Rattle.ignore_walk.specs.Finished.{IsFinished};
 ghost use Rattle.ignore_walk.specs.GoesOn.{HasNoEnd};
 ghost use Rattle.ignore_walk.specs.Nexts.{NextGives, Remaining, Starts};
+ghost use Rattle.ignore_walk.specs.Paces.{TookSteps, Work, work_at};
 ghost use Rattle.ignore_walk.specs.Runs.{EndsLast, IsBegun, IsRun};
 ghost use Rattle.ignore_walk.specs.Scene.{Scene};
 ghost use Rattle.ignore_walk.specs.Whole.{Whole};
@@ -60,4 +62,26 @@ pub fn only_the_last_item_ends<F: Files, S: Callbacks>()
     ensures { (w : Walk F S) (all : List (Result DirEntry Error))
         → Drains (λ a answer b. NextGives F.Files S.Callbacks a (option_map item_of answer) b) w all
         → HasNoEnd w.stack → EndsLast (map item_of all) }
+{}
+
+/// Whatever the files answer, each entry that a walk yields is at one of its roots or below one, or is
+/// standard input where `-` is one of them: of a walk that is asked until it answers none (`whole`),
+/// and of one that isn't (`begun`); and so is each directory that it is in (`enters`). So it is with
+/// each walk that has all in hand at or below its roots, as a new one.
+pub fn a_run_stays_below_its_roots<F: Files, S: Callbacks>()
+    ensures whole { (roots : List Path) (w : Walk F S) (all : List (Result DirEntry Error))
+        → Drains (λ a answer b. NextGives F.Files S.Callbacks a (option_map item_of answer) b) w all
+        → KeepsBelow roots w.stack → All (StaysBelow roots) (map item_of all) }
+    ensures begun { (roots : List Path) (w v : Walk F S) (all : List (Result DirEntry Error)) (x : Result DirEntry Error)
+        → YieldsThen (λ a answer b. NextGives F.Files S.Callbacks a (option_map item_of answer) b) w all (Some x) v
+        → KeepsBelow roots w.stack → All (StaysBelow roots) (map item_of all) × StaysBelow roots (item_of x) }
+    ensures enters { (roots : List Path) (w : Walk F S) → KeepsBelow roots w.stack
+        → All (λ f. (depth : ℕ) × IsAtOrBelow roots f.path depth) w.stack.frames.items }
+{}
+
+/// Whatever the files list, each directory that a walk of some roots is in, after any number of
+/// steps, is one of the roots or below one.
+pub fn steps_stay_below_their_roots<F: Files>()
+    ensures { (files : F) (k : ℕ) (roots : List Path) (w : Work) → TookSteps (F.list_gives files) k (work_at roots) w
+        → All (λ f. (depth : ℕ) × IsAtOrBelow roots f.path depth) w.frames }
 {}

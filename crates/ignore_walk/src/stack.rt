@@ -1,11 +1,12 @@
 //! What a walk has in hand: directories whose listings are half read, roots, and items.
-ghost use Rattle.std.specs.Prelude.{◌≡◌, ◌+◌, ◌≤◌, ◌<◌, ◌++◌, ◌∷◌, [], ℕ, suc, ⊤, List, true, false, None, Ok, Err, IfOk, OnOk};
+ghost use Rattle.std.specs.Prelude.{◌≡◌, ◌+◌, ◌≤◌, ◌<◌, ◌++◌, ◌∷◌, [], ℕ, suc, ⊤, Contains, List, true, false, None, Ok, Err, IfOk, OnOk};
 ghost use Rattle.std.specs.Prelude.{MatchOption, length, map, reverse, option_map, string_bytes};
 ghost use Rattle.std.specs.Option.{option_to_list};
 ghost use Rattle.ignore_base.specs.Problem.{problem_of};
 ghost use Rattle.ignore_dir.specs.Query.{is_dir_there};
 ghost use Rattle.ignore_dir.specs.Soft.{IsSoft, holds_memory};
 ghost use Rattle.ignore_levels.specs.Levels.{IsChain, counting, slots_of};
+ghost use Rattle.ignore_walk.specs.Below.{AnswersBelow, IsAtOrBelow, KeepsBelow, MadeBelow};
 ghost use Rattle.ignore_walk.specs.Branch.{Branch, path_of, text_at, placed_above};
 ghost use Rattle.ignore_walk.specs.Entry.{Item as Yielded, entry_of, item_of};
 ghost use Rattle.ignore_walk.specs.Found.{IsFoundAt};
@@ -79,7 +80,9 @@ impl Stack {
             → IsNext b place (state_of self.old root place seen).rests
             → OnOk result (Becomes g self.new (Gives g (state_of self.old root place seen) b (Ok (entry_of found.entry)))) }
         ensures roots { self.new.roots ≡ self.old.roots }
-        ensures enters { OnOk result (MayEnter (F.list_gives ground.now.files.now) self.old.frames.items self.new.frames.items) }
+        ensures enters { OnOk result (MayEnter (F.list_gives ground.now.files.now) (entry_of found.entry).path self.old.frames.items self.new.frames.items) }
+        ensures below { (roots : List (List ℕ)) → IsAtOrBelow roots (entry_of found.entry).path (entry_of found.entry).depth
+            → MadeBelow roots self.old → OnOk result (MadeBelow roots self.new) }
         ensures made { length self.new.made.items ≤ length self.old.made.items + 2 }
         ensures no_end { HasNoEnd self.old → OnOk result (HasNoEnd self.new) }
     {
@@ -114,6 +117,8 @@ impl Stack {
             → OnOk result (Becomes g self.new (Gives g (state_of self.old root place seen) b (Ok (entry_of entry)))) }
         ensures roots { self.new.roots ≡ self.old.roots }
         ensures enters { OnOk result (Enters opened.directory self.old.frames.items self.new.frames.items) }
+        ensures below { (roots : List (List ℕ)) → IsAtOrBelow roots (entry_of entry).path (entry_of entry).depth
+            → MadeBelow roots self.old → OnOk result (MadeBelow roots self.new) }
         ensures made { length self.new.made.items ≤ length self.old.made.items + 2 }
         ensures no_end { IsSoft (option_map problem_of opened.error) → HasNoEnd self.old → OnOk result (HasNoEnd self.new) }
     {
@@ -135,6 +140,7 @@ impl Stack {
             → 0 < length self.old.frames.items → IsIn g root place seen self.old
             → OnOk result (Becomes g self.new (Moves g (state_of self.old root place seen))) }
         ensures paced { 0 < length self.old.frames.items → OnOk result (IsStep (F.list_gives ground.now.files.now) (work_of self.old) (work_of self.new)) }
+        ensures below { (roots : List (List ℕ)) → 0 < length self.old.frames.items → KeepsBelow roots self.old → OnOk result (MadeBelow roots self.new) }
         ensures made { length self.new.made.items ≤ length self.old.made.items + 2 }
         ensures no_end { HasNoEnd self.old → OnOk result (HasNoEnd self.new) }
     {
@@ -183,7 +189,9 @@ impl Stack {
             → string_bytes self.old.text ≡ text_at g root place ++ name → IsFoundAt g root (name ∷ place) found
             → OnOk result (Becomes g self.new (Gives g (state_of self.old root place seen) (name ∷ place) (Ok (entry_of found.entry)))) }
         ensures roots { self.new.roots ≡ self.old.roots }
-        ensures enters { OnOk result (MayEnter (F.list_gives ground.now.files.now) self.old.frames.items self.new.frames.items) }
+        ensures enters { OnOk result (MayEnter (F.list_gives ground.now.files.now) (entry_of found.entry).path self.old.frames.items self.new.frames.items) }
+        ensures below { (roots : List (List ℕ)) → IsAtOrBelow roots (entry_of found.entry).path (entry_of found.entry).depth
+            → MadeBelow roots self.old → OnOk result (MadeBelow roots self.new) }
         ensures made { length self.new.made.items ≤ length self.old.made.items + 2 }
         ensures no_end { HasNoEnd self.old → OnOk result (HasNoEnd self.new) }
     {
@@ -207,7 +215,8 @@ impl Stack {
             → self.old.frames.items ≡ [] → IsKept g seen self.old
             → OnOk result (Becomes g self.new (Moves g (before_root self.old last place seen root.now))) }
         ensures roots { self.new.roots ≡ self.old.roots }
-        ensures enters { self.old.frames.items ≡ [] → OnOk result (MayEnter (F.list_gives ground.now.files.now) [] self.new.frames.items) }
+        ensures enters { self.old.frames.items ≡ [] → OnOk result (MayEnter (F.list_gives ground.now.files.now) root.now [] self.new.frames.items) }
+        ensures below { (roots : List (List ℕ)) → Contains roots root.now → MadeBelow roots self.old → OnOk result (MadeBelow roots self.new) }
         ensures made { length self.new.made.items ≤ length self.old.made.items + 3 }
         ensures no_end { HasNoEnd self.old → OnOk result (HasNoEnd self.new) }
     {
@@ -238,7 +247,8 @@ impl Stack {
             → (is_dir ≡ true → string_bytes base ≡ text_at g root.now [])
             → OnOk result (Becomes g self.new (Gives g (state_of self.old root.now [] seen) [] (root_entry g root.now))) }
         ensures roots { self.new.roots ≡ self.old.roots }
-        ensures enters { OnOk result (MayEnter (F.list_gives ground.now.files.now) self.old.frames.items self.new.frames.items) }
+        ensures enters { OnOk result (MayEnter (F.list_gives ground.now.files.now) root.now self.old.frames.items self.new.frames.items) }
+        ensures below { (roots : List (List ℕ)) → Contains roots root.now → MadeBelow roots self.old → OnOk result (MadeBelow roots self.new) }
         ensures made { length self.new.made.items ≤ length self.old.made.items + 2 }
         ensures no_end { HasNoEnd self.old → OnOk result (HasNoEnd self.new) }
     {
@@ -274,6 +284,7 @@ impl Stack {
         ensures base { (g : Scene) (seen : List (List ℕ))
             → IsGroundOf F.Files S.Callbacks ground.now g → IsKept g seen self.old
             → IfOk result (λ base. string_bytes base ≡ text_at g root.now []) }
+        ensures below { (roots : List (List ℕ)) → MadeBelow roots self.old → OnOk result (MadeBelow roots self.new) }
         ensures made { length self.new.made.items ≤ length self.old.made.items + 1 }
         ensures no_end { HasNoEnd self.old → OnOk result (HasNoEnd self.new) }
     {
@@ -296,6 +307,7 @@ impl Stack {
         ensures seen { self.new.seen ≡ self.old.seen }
         ensures above { self.new.above ≡ self.old.above }
         ensures levels { self.new.levels ≡ self.old.levels }
+        ensures below { (roots : List (List ℕ)) → MadeBelow roots self.old → OnOk result (MadeBelow roots self.new) }
         ensures made { length self.new.made.items ≤ length self.old.made.items + 1 }
         ensures no_end { IsSoft (option_map problem_of error) → HasNoEnd self.old → OnOk result (HasNoEnd self.new) }
     {
@@ -315,6 +327,7 @@ impl Stack {
             → HasWork (work_of self.old) → IsIn g root place seen self.old
             → OnOk result (Becomes g self.new (Moves g (state_of self.old root place seen))) }
         ensures paced { HasWork (work_of self.old) → OnOk result (IsStep (F.list_gives ground.now.files.now) (work_of self.old) (work_of self.new)) }
+        ensures below { (roots : List (List ℕ)) → HasWork (work_of self.old) → KeepsBelow roots self.old → OnOk result (KeepsBelow roots self.new) }
         ensures made { length self.new.made.items ≤ length self.old.made.items + 3 }
         ensures no_end { HasNoEnd self.old → OnOk result (HasNoEnd self.new) }
     {
@@ -345,6 +358,7 @@ impl Stack {
         ensures length { MatchOption result ((length self.old.made.items ≡ 0) × (self.new.made.items ≡ []))
             (λ _. length self.old.made.items ≡ suc (length self.new.made.items)) }
         ensures no_end { HasNoEnd self.old → HasNoEnd self.new × MatchOption result ⊤ (λ item. GoesOn (item_of item)) }
+        ensures below { (roots : List (List ℕ)) → KeepsBelow roots self.old → KeepsBelow roots self.new × AnswersBelow roots (option_map item_of result) }
         ensures handed { (g : Scene) (items : List Yielded) (n : ℕ) → Stands g self.old items n
             → MatchOption result (Stands g self.new items n) (λ item. Hands g self.new (item_of item) items n) }
         ensures first { (g : Scene) (root : List ℕ) (place : Branch) (seen : List (List ℕ)) → IsIn g root place seen self.old
@@ -357,6 +371,7 @@ impl Stack {
     /// Drops all that is in hand.
     pub(crate) fn clear(&mut self)
         ensures made { length self.new.made.items ≡ 0 }
+        ensures below { (roots : List (List ℕ)) → KeepsBelow roots self.new }
     {
         self.made.clear();
         self.frames.clear();

@@ -1,8 +1,9 @@
 //! A walk, as an iterator.
-ghost use Rattle.std.specs.Prelude.{◌≡◌, ◌<◌, ◌≤◌, ◌⊎◌, [], ℕ, List, true, false, None, Some, Err, IfSome, IfOk, IfErr, map, option_map};
+ghost use Rattle.std.specs.Prelude.{◌≡◌, ◌<◌, ◌≤◌, ◌⊎◌, [], ℕ, All, List, true, false, None, Some, Err, IfSome, IfOk, IfErr, map, option_map};
 ghost use Rattle.ignore_base.specs.declared.fault.Fault.TheVariants.{StepLimit};
 ghost use Rattle.ignore_base.specs.Problem.{Problem, problem_of, io, memory};
 ghost use Rattle.ignore_walk.specs.Entry.{Item as Yielded, item_of};
+ghost use Rattle.ignore_walk.specs.Below.{AnswersBelow, KeepsBelow, StaysBelow};
 ghost use Rattle.ignore_walk.specs.Branch.{Branch};
 ghost use Rattle.ignore_walk.specs.GoesOn.{AllGoOn, HasNoEnd};
 ghost use Rattle.ignore_walk.specs.Left.{Remains};
@@ -58,6 +59,7 @@ impl<'a, F: Files, S: Callbacks> Walk<'a, F, S> {
         ensures begins { work_of result.stack ≡ work_at roots.items }
         ensures files { result.ground ≡ ground.entry }
         ensures no_end { HasNoEnd result.stack }
+        ensures below { KeepsBelow roots.items result.stack }
     {
         let (alloc, left) = (ground.alloc, ground.options.limit);
         let stack = Stack {
@@ -84,6 +86,7 @@ impl<'a, F: Files, S: Callbacks> Walk<'a, F, S> {
         ensures ground { self.new.ground ≡ self.old.ground }
         ensures left { self.new.left ≡ self.old.left }
         ensures over { IsOver self.new }
+        ensures below { (roots : List (List ℕ)) → KeepsBelow roots self.new.stack }
     {
         self.stack.clear();
         self.ended = true;
@@ -118,6 +121,8 @@ impl<'a, F: Files, S: Callbacks> Walk<'a, F, S> {
             → IsOver self.new × IsLast (option_map item_of result) self.new.left }
         ensures paced { Paces F.Files self.old (option_map item_of result) self.new }
         ensures ends { HasNoEnd self.old.stack → HasNoEnd self.new.stack × EndsOrGoesOn (option_map item_of result) self.new }
+        ensures below { (roots : List (List ℕ)) → KeepsBelow roots self.old.stack
+            → KeepsBelow roots self.new.stack × AnswersBelow roots (option_map item_of result) }
     {
         if let Some(item) = self.stack.take_made() {
             return Some(item);
@@ -192,6 +197,7 @@ impl<'a, F: Files, S: Callbacks> Walk<'a, F, S> {
         ensures limited { self.entry.ended ≡ false → IfErr result (λ e. problem_of e ≡ io StepLimit
             → (w : Work) × TookSteps (F.list_gives self.entry.ground.files.now) self.entry.left (work_of self.entry.stack) w) }
         ensures no_end { HasNoEnd self.entry.stack → IfOk result (λ all. AllGoOn (map item_of all.items)) }
+        ensures below { (roots : List (List ℕ)) → KeepsBelow roots self.entry.stack → IfOk result (λ all. All (StaysBelow roots) (map item_of all.items)) }
         ensures over { IsOver self.entry → IsOkAnd result (λ all. all.items ≡ []) }
     {
         let mut all = Vec::new(self.ground.alloc);

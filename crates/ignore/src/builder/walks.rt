@@ -27,7 +27,8 @@ impl WalkBuilder {
     /// Over files that are consistent with a tree its items are those of the definition, by the
     /// rules from outside as they were read, and by the filter and the comparison that the closures
     /// answer by. Over any files it goes by the settings, the order, the closures and the roots of
-    /// the builder, and its rules from outside are by answers that the files gave.
+    /// the builder, its rules from outside are by answers that the files gave, and it stays at or
+    /// below its roots (`walk_laws::a_run_stays_below_its_roots`).
     ///
     /// # Errors
     /// `Error::Memory` alone.

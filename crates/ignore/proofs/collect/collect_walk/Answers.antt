@@ -24,6 +24,9 @@ returns-clause-ended g c =
 pub returns-clause-no_end : goal.returns-clause-no_end
 returns-clause-no_end g c = c.all_items.ensures.no_end c.in_ok-build.ensures.no_end
 
+pub returns-clause-below : goal.returns-clause-below
+returns-clause-below g c = c.all_items.ensures.below c.args.builder.now.options.roots c.in_ok-build.ensures.goes_by.below
+
 pub returns-clause-limited : goal.returns-clause-limited
 returns-clause-limited g c =
     limited_by g.F.Files c.args.files.now _ _ _ _ _ c.all_items.result c.in_ok-build.ensures.files c.in_ok-build.ensures.limit

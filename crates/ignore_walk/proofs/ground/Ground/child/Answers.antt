@@ -12,10 +12,10 @@ pub returns-in_ok-item-in-Entry-clause-value : goal.returns-in_ok-item-in-Entry-
 returns-in_ok-item-in-Entry-clause-value g c = λ s root b suits frames.
     let h = frames-paths s root b (reverse c.args.frames.now) frames in
     let lent = c.lent.ensures.suits s suits in
-    let dir : c.last_path.result.now ≡ path_of root b = c.last_path.ensures root b h in
+    let dir : c.last_path.result.now ≡ path_of root b = c.last_path.ensures.at root b h in
     let path : string_bytes c.in_ok-path-in-Entry.path ≡ join_of (path_of root b) c.in-Entry.name =
     cc (c.in_ok-path-in-Entry.ensures, dir, c.as_str.ensures) in
-    let deep = c.depth_below-depth.ensures root b h in
+    let deep = c.depth_below-depth.ensures.deep root b h in
     rw (
       c.in-Entry.is,
       child_is s root b c.in-Entry.name c.in-Entry.file_type c.args.frames.now
@@ -31,7 +31,7 @@ returns-in_ok-fault_at-in-Fault-clause-value g c = λ s root b suits frames.
       c.in-Fault.is,
       fault_is s root b c.in-Fault.fault,
       c.in_ok-fault_at-in-Fault.ensures,
-      c.depth_below-depth.ensures root b (frames-paths s root b (reverse c.args.frames.now) frames),
+      c.depth_below-depth.ensures.deep root b (frames-paths s root b (reverse c.args.frames.now) frames),
     ) refl
 
 pub returns-in_ok-item-in-Entry-clause-no_end : goal.returns-in_ok-item-in-Entry-clause-no_end

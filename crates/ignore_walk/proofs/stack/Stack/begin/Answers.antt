@@ -1,4 +1,5 @@
 use Rattle.std.proofs.Common.{◌≡◌, ◌++◌, ◌∷◌, [], ℕ, List, Option, None, Ok, codes, inl, map, refl, reverse, sym, ◌∙◌, ap, subst}
+use Rattle.std.specs.Prelude.{Contains}
 use Rattle.std.proofs.lemmas.List.{append-nil, map-append}
 use Rattle.std.proofs.lemmas.Slice.Eq.{bytes_eq-Decides}
 use Rattle.ignore_base.specs.Problem.{Problem}
@@ -18,6 +19,7 @@ use Rattle.ignore_walk.proofs.LeftLemmas.{state}
 use Rattle.ignore_walk.proofs.VisitLemmas.{on_ok_map, plain_root, plain_report}
 use Rattle.ignore_walk.proofs.StandLemmas.{becomes_by, stand_made, rests_none, outside}
 use Rattle.ignore_walk.proofs.NoEndLemmas.{made_go_on}
+use Rattle.ignore_walk.proofs.BelowLemmas.{made_below, one_below}
 use Rattle.ignore_walk.proofs.stack.Stack.begin.Goals as goal
 
 abbrev ok : Entry × Option Problem → Item
@@ -99,13 +101,13 @@ returns-then-eq-clause-enters g c = λ empty. inl empty
 pub returns-then-branch-clause-enters : goal.returns-then-branch-clause-enters
 returns-then-branch-clause-enters g c = λ empty.
     on_ok_map c.begin_at.result
-    (λ enters. subst (λ (fs : List Frame). MayEnter (g.F.Files.list_gives c.args.ground.now.files.now) fs c.begin_at.new.self.frames.items)
+    (λ enters. subst (λ (fs : List Frame). MayEnter (g.F.Files.list_gives c.args.ground.now.files.now) c.args.root.now fs c.begin_at.new.self.frames.items)
     (ap (λ fs. fs.items) c.in_ok-base.ensures.frames ∙ empty) enters) c.begin_at.ensures.enters
 
 pub returns-clause-enters : goal.returns-clause-enters
 returns-clause-enters g c = λ empty.
     on_ok_map c.begin_at-2.result
-    (λ enters. subst (λ (fs : List Frame). MayEnter (g.F.Files.list_gives c.args.ground.now.files.now) fs c.begin_at-2.new.self.frames.items) empty enters) c.begin_at-2.ensures.enters
+    (λ enters. subst (λ (fs : List Frame). MayEnter (g.F.Files.list_gives c.args.ground.now.files.now) c.args.root.now fs c.begin_at-2.new.self.frames.items) empty enters) c.begin_at-2.ensures.enters
 
 pub returns-then-eq-clause-no_end : goal.returns-then-eq-clause-no_end
 returns-then-eq-clause-no_end g c = λ h.
@@ -124,3 +126,22 @@ returns-then-branch-clause-no_end g c = λ h. c.begin_at.ensures.no_end (c.in_ok
 
 pub returns-clause-no_end : goal.returns-clause-no_end
 returns-clause-no_end g c = λ h. c.begin_at-2.ensures.no_end h
+
+pub returns-then-eq-clause-below : goal.returns-then-eq-clause-below
+returns-then-eq-clause-below g c = λ roots given h.
+    let made = map item_of c.args.self.now.made.items in
+    let own = c.in_ok-stdin.field-0 in
+    let is : item_of (Ok own) ≡ Ok (stdin_entry, None) =
+    ap (λ (e : Entry). ok (e, problem_in own)) c.in_ok-stdin.ensures.entry ∙ ap (λ (o : Option Problem). ok
+    (stdin_entry, o)) c.in_ok-stdin.ensures.no_error in
+    let makes : map item_of c.push_back.new.self.items ≡ made ++ Ok (stdin_entry, None) ∷ [] =
+    ap (map item_of) c.in_ok-push_back.ensures.items ∙ (map-append item_of c.args.self.now.made.items (Ok own ∷ [])
+    ∙ ap (λ (i : Item). made ++ i ∷ []) is) in
+    let first : c.args.root.now ≡ codes "-" = (bytes_eq-Decides c.args.root.now (codes "-")).0 (sym c.eq.ensures ∙ c.if-eq.true) in
+    made_below roots made _ _ makes h (one_below roots _ (inl (refl, subst (Contains roots) first given)))
+
+pub returns-then-branch-clause-below : goal.returns-then-branch-clause-below
+returns-then-branch-clause-below g c = λ roots given h. c.begin_at.ensures.below roots given (c.in_ok-base.ensures.below roots h)
+
+pub returns-clause-below : goal.returns-clause-below
+returns-clause-below g c = λ roots given h. c.begin_at-2.ensures.below roots given h

@@ -1,4 +1,4 @@
-use Rattle.std.proofs.Common.{◌≡◌, ◌∷◌, [], ℕ, List, Ok, Err, Result, inl, true, refl, sym, ◌∙◌, ap, subst, false, IfErr, OnOk}
+use Rattle.std.proofs.Common.{◌≡◌, ◌∷◌, [], ℕ, List, Ok, Err, Result, inl, true, refl, sym, ◌∙◌, ap, subst, false, IfErr, IfOk, OnOk}
 use Rattle.ignore_base.specs.Problem.{Problem, problem_of}
 use Rattle.ignore_base.specs.declared.error.Error.{Error}
 use Rattle.ignore_dir.specs.Query.{is_dir_there}
@@ -15,6 +15,8 @@ use Rattle.ignore_walk.proofs.VisitLemmas.{on_ok_map, root_path, root_kept}
 use Rattle.ignore_walk.proofs.StandLemmas.{stand_made, next_root, outside}
 use Rattle.ignore_walk.proofs.NoEndLemmas.{made_go_on}
 use Rattle.ignore_walk.specs.GoesOn.{is_fatal}
+use Rattle.ignore_walk.proofs.BelowLemmas.{made_below, one_below, root_is_below}
+use Rattle.ignore_walk.specs.Paces.{MayEnter}
 use Rattle.ignore_walk.proofs.stack.Stack.begin_at.Goals as goal
 
 pub returns-in-Err-clause-begun : goal.returns-in-Err-clause-begun
@@ -67,7 +69,13 @@ pub returns-in-Err-clause-enters : goal.returns-in-Err-clause-enters
 returns-in-Err-clause-enters g c = on_any_ok c.make_error.result (inl refl)
 
 pub returns-in-Ok-clause-enters : goal.returns-in-Ok-clause-enters
-returns-in-Ok-clause-enters g c = c.visit.ensures.enters
+returns-in-Ok-clause-enters g c =
+    let e = entry_of c.in-Ok.found.entry in
+    let at : (e.path ≡ c.args.root.now) × (e.depth ≡ 0) =
+    subst (λ (r : Result Found Error). IfOk r (λ f. ((entry_of f.entry).path ≡ c.args.root.now) × ((entry_of f.entry).depth ≡ 0))) c.in-Ok.is
+    c.in_ok-error.ensures.at in
+    subst (λ (p : List ℕ). OnOk c.visit.result (MayEnter (g.F.Files.list_gives c.args.ground.now.files.now) p c.args.self.now.frames.items c.visit.new.self.frames.items))
+    at.0 c.visit.ensures.enters
 
 pub returns-in-Err-clause-no_end : goal.returns-in-Err-clause-no_end
 returns-in-Err-clause-no_end g c = λ h.
@@ -77,3 +85,15 @@ returns-in-Err-clause-no_end g c = λ h.
 
 pub returns-in-Ok-clause-no_end : goal.returns-in-Ok-clause-no_end
 returns-in-Ok-clause-no_end g c = λ h. c.visit.ensures.no_end h
+
+pub returns-in-Err-clause-below : goal.returns-in-Err-clause-below
+returns-in-Err-clause-below g c = λ roots given h.
+    on_ok_map c.make_error.result (λ makes. made_below roots _ _ _ makes h (one_below roots _ tt)) c.make_error.ensures.value
+
+pub returns-in-Ok-clause-below : goal.returns-in-Ok-clause-below
+returns-in-Ok-clause-below g c = λ roots given h.
+    let e = entry_of c.in-Ok.found.entry in
+    let at : (e.path ≡ c.args.root.now) × (e.depth ≡ 0) =
+    subst (λ (r : Result Found Error). IfOk r (λ f. ((entry_of f.entry).path ≡ c.args.root.now) × ((entry_of f.entry).depth ≡ 0))) c.in-Ok.is
+    c.in_ok-error.ensures.at in
+    c.visit.ensures.below roots (root_is_below roots c.args.root.now e given at) h

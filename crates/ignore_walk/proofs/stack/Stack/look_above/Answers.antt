@@ -108,3 +108,6 @@ returns-clause-base g c = λ s seen suits kept.
 pub returns-clause-no_end : goal.returns-clause-no_end
 returns-clause-no_end g c = λ h.
     c.in_ok-report.ensures.no_end (subst IsSoft (sym c.joined.ensures) (joined-soft _ c.in_ok-way.ensures.soft)) h
+
+pub returns-clause-below : goal.returns-clause-below
+returns-clause-below g c = λ roots h. c.in_ok-report.ensures.below roots h

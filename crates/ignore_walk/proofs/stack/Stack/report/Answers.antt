@@ -4,6 +4,7 @@ use Rattle.ignore_base.specs.declared.error.Error.{Error}
 use Rattle.ignore_walk.specs.Entry.{Item, item_of}
 use Rattle.ignore_walk.proofs.NoEndLemmas.{made_go_on, some_no_limit_at, some_soft_at}
 use Rattle.ignore_walk.proofs.VisitLemmas.{on_ok_map}
+use Rattle.ignore_walk.proofs.BelowLemmas.{made_below, one_below}
 use Rattle.ignore_walk.proofs.stack.Stack.report.Goals as goal
 
 abbrev failed : Problem → Item
@@ -22,3 +23,7 @@ pub returns-in_ok-below_limit-in-Some-clause-no_end : goal.returns-in_ok-below_l
 returns-in_ok-below_limit-in-Some-clause-no_end c = λ soft h.
     let goes_on = c.in_ok-below_limit-in-Some.ensures.no_end (some_soft_at c.args.error c.in-Some.error c.in-Some.is soft) in
     on_ok_map c.make_error.result (λ makes. made_go_on _ _ _ makes h (goes_on, tt)) c.make_error.ensures.value
+
+pub returns-in_ok-below_limit-in-Some-clause-below : goal.returns-in_ok-below_limit-in-Some-clause-below
+returns-in_ok-below_limit-in-Some-clause-below c = λ roots h.
+    on_ok_map c.make_error.result (λ makes. made_below roots _ _ _ makes h (one_below roots _ tt)) c.make_error.ensures.value

@@ -16,6 +16,7 @@ use Rattle.ignore_walk.proofs.ListLemmas.{on-entered}
 use Rattle.ignore_walk.proofs.RiseLemmas.{below-around, counted-is}
 use Rattle.ignore_walk.proofs.StandLemmas.{stand_entered}
 use Rattle.ignore_walk.proofs.NoEndLemmas.{answer_by, answer_by-fault, made_go_on, unlisted_go_on, yielded_go_on}
+use Rattle.ignore_walk.proofs.BelowLemmas.{made_below, unlisted_below, yielded_below}
 use Rattle.ignore_walk.proofs.stack.Stack.settle.Goals as goal
 
 pub returns-clause-entered : goal.returns-clause-entered
@@ -63,3 +64,11 @@ returns-clause-no_end c = λ soft h.
     made_go_on _ _ _ (c.in_ok-make_fault.ensures.value e lists refl refl (answer_by-fault c.args.opened.fault))
     (made_go_on _ _ _ c.in_ok-make.ensures.value h
     (yielded_go_on c.args.settings.now (entry_of c.args.entry) (option_map problem_of c.args.opened.error) soft)) (unlisted_go_on e lists)
+
+pub returns-clause-below : goal.returns-clause-below
+returns-clause-below c = λ roots h made.
+    let e : Entry = record { path = c.as_str-path.result.now; depth = c.depth-depth.result; kind = None; followed = false } in
+    let lists = answer_by c.args.opened.fault in
+    made_below roots _ _ _ (c.in_ok-make_fault.ensures.value e lists refl refl (answer_by-fault c.args.opened.fault))
+    (made_below roots _ _ _ c.in_ok-make.ensures.value made
+    (yielded_below roots c.args.settings.now (entry_of c.args.entry) (option_map problem_of c.args.opened.error) h)) (unlisted_below roots e lists)

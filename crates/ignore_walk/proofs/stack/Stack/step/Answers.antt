@@ -1,4 +1,4 @@
-use Rattle.std.proofs.Common.{◌≡◌, ◌++◌, ◌∷◌, [], ℕ, List, Ok, Err, Result, inl, inr, reverse, refl, sym, ◌∙◌, ap, subst, false, IfErr}
+use Rattle.std.proofs.Common.{◌≡◌, ◌++◌, ◌∷◌, [], ℕ, List, Ok, Err, Result, inl, inr, reverse, refl, sym, ◌∙◌, ap, subst, false, length, IfErr, IfOk}
 use Rattle.ignore_base.specs.Problem.{Problem, problem_of}
 use Rattle.ignore_base.specs.declared.error.Error.{Error}
 use Rattle.ignore_walk.specs.Branch.{Branch, text_at}
@@ -13,10 +13,12 @@ use Rattle.ignore_walk.specs.declared.found.Found.{Found}
 use Rattle.ignore_walk.specs.declared.frame.Frame.{Frame}
 use Rattle.ignore_walk.specs.declared.stack.Stack.{Stack}
 use Rattle.ignore_walk.proofs.VisitLemmas.{on_ok_map, when_none, when_some, child_place}
-use Rattle.ignore_walk.proofs.PaceLemmas.{on_any_ok, taken}
+use Rattle.ignore_walk.proofs.PaceLemmas.{entered_in, none_in, on_any_ok, taken}
 use Rattle.ignore_walk.proofs.StandLemmas.{becomes_by, stand_made, takes_same}
 use Rattle.ignore_walk.proofs.NoEndLemmas.{made_go_on, same_no_end}
 use Rattle.ignore_walk.specs.GoesOn.{is_fatal}
+use Rattle.ignore_walk.proofs.BelowLemmas.{made_below, one_below, same_below, took_thing}
+use Rattle.ignore_walk.specs.Below.{IsThing}
 use Rattle.ignore_walk.proofs.stack.Stack.step.Goals as goal
 
 pub returns-in-None-clause-stepped : goal.returns-in-None-clause-stepped
@@ -78,14 +80,24 @@ pub returns-in-Err-clause-paced : goal.returns-in-Err-clause-paced
 returns-in-Err-clause-paced g c = λ some.
     let x = c.in-Some.listed in
     let one = when_some _ _ c.take_listed.result x c.in-Some.is (c.take_listed.ensures.next some) in
-    on_any_ok c.make_error.result (taken (g.F.Files.list_gives c.args.ground.now.files.now) (work_of c.args.self.now) (work_of c.take_listed.new.self) _ x one (inl refl) refl)
+    on_any_ok c.make_error.result
+    (taken (g.F.Files.list_gives c.args.ground.now.files.now) (work_of c.args.self.now) (work_of c.take_listed.new.self) _ x one
+    (none_in (g.F.Files.list_gives c.args.ground.now.files.now) one.before.path x c.take_listed.new.self.frames.items) refl)
 
 pub returns-in-Ok-clause-paced : goal.returns-in-Ok-clause-paced
 returns-in-Ok-clause-paced g c = λ some.
     let x = c.in-Some.listed in
     let one = when_some _ _ c.take_listed.result x c.in-Some.is (c.take_listed.ensures.next some) in
+    let lists = g.F.Files.list_gives c.args.ground.now.files.now in
+    let e = entry_of c.in-Ok.found.entry in
+    let deep = length c.as_slice-in-Some.result.now in
+    let there : IsThing one.after.path deep x e =
+    subst (λ (r : Result Found Error). IfOk r (λ f. IsThing one.after.path deep x (entry_of f.entry))) c.in-Ok.is
+    (c.in_ok-error-in-Some.ensures.at one.around one.after (c.as_slice-in-Some.ensures.value ∙ one.is)) in
+    let is : IsThing one.before.path deep x e = subst (λ (p : List ℕ). IsThing p deep x e) one.same there in
     on_ok_map c.take.result
-    (λ enters. taken (g.F.Files.list_gives c.args.ground.now.files.now) (work_of c.args.self.now) (work_of c.take_listed.new.self) (work_of c.take.new.self) x one enters
+    (λ enters. taken lists (work_of c.args.self.now) (work_of c.take_listed.new.self) (work_of c.take.new.self) x one
+    (entered_in lists one.before.path deep x e c.take_listed.new.self.frames.items c.take.new.self.frames.items is enters)
     (ap (λ r. r.items) c.take.ensures.roots))
     c.take.ensures.enters
 
@@ -103,3 +115,30 @@ returns-in-Err-clause-no_end g c = λ h.
 pub returns-in-Ok-clause-no_end : goal.returns-in-Ok-clause-no_end
 returns-in-Ok-clause-no_end g c = λ h.
     c.take.ensures.no_end (same_no_end c.args.self.now c.take_listed.new.self c.take_listed.ensures.made h)
+
+-- at or below the roots
+
+pub returns-in-None-clause-below : goal.returns-in-None-clause-below
+returns-in-None-clause-below g c = λ roots some h. same_below roots c.args.self.now c.take_listed.new.self c.take_listed.ensures.made h.made
+
+pub returns-in-Err-clause-below : goal.returns-in-Err-clause-below
+returns-in-Err-clause-below g c = λ roots some h.
+    on_ok_map c.make_error.result
+    (λ makes. made_below roots _ _ _ makes (same_below roots c.args.self.now c.take_listed.new.self c.take_listed.ensures.made h.made)
+    (one_below roots _ tt))
+    c.make_error.ensures.value
+
+pub returns-in-Ok-clause-below : goal.returns-in-Ok-clause-below
+returns-in-Ok-clause-below g c = λ roots some h.
+    let x = c.in-Some.listed in
+    let was = c.take_listed.new.self in
+    let one = when_some _ _ c.take_listed.result x c.in-Some.is (c.take_listed.ensures.next some) in
+    let e = entry_of c.in-Ok.found.entry in
+    let deep = length c.as_slice-in-Some.result.now in
+    let there : IsThing one.after.path deep x e =
+    subst (λ (r : Result Found Error). IfOk r (λ f. IsThing one.after.path deep x (entry_of f.entry))) c.in-Ok.is
+    (c.in_ok-error-in-Some.ensures.at one.around one.after (c.as_slice-in-Some.ensures.value ∙ one.is)) in
+    let is : IsThing one.after.path (length was.frames.items) x e =
+    subst (λ (fs : List Frame). IsThing one.after.path (length fs) x e) c.as_slice-in-Some.ensures.value there in
+    c.take.ensures.below roots (took_thing roots (work_of c.args.self.now) (work_of was) x e one h.work is)
+    (same_below roots c.args.self.now was c.take_listed.ensures.made h.made)

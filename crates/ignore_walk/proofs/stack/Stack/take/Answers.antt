@@ -67,3 +67,9 @@ returns-then-branch-clause-no_end g c = λ h. h
 
 pub returns-clause-no_end : goal.returns-clause-no_end
 returns-clause-no_end g c = c.visit.ensures.no_end
+
+pub returns-then-branch-clause-below : goal.returns-then-branch-clause-below
+returns-then-branch-clause-below g c = λ roots h made. made
+
+pub returns-clause-below : goal.returns-clause-below
+returns-clause-below g c = c.visit.ensures.below

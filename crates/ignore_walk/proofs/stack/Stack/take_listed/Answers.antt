@@ -36,6 +36,7 @@ returns-in-Some-take_next-clause-next c = λ some.
       before = f;
       after = _;
       was = last_split xs k f size is;
+      same = refl;
       taken = c.in-Some-take_next.ensures;
       is = last_set xs k _ size;
       roots = refl;

@@ -13,6 +13,7 @@ use Rattle.ignore_walk.proofs.VisitLemmas.{on_ok_map, enter_leads}
 use Rattle.ignore_walk.proofs.PaceLemmas.{entered, on_any_ok}
 use Rattle.ignore_walk.proofs.StandLemmas.{stand_made}
 use Rattle.ignore_walk.proofs.NoEndLemmas.{made_go_on, yielded_go_on}
+use Rattle.ignore_walk.proofs.BelowLemmas.{made_below, yielded_below}
 use Rattle.ignore_walk.proofs.stack.Stack.visit.Goals as goal
 
 pub returns-in-Yield-clause-visited : goal.returns-in-Yield-clause-visited
@@ -64,7 +65,8 @@ returns-in_ok-error-in-Load-clause-enters g c = on_any_ok c.make-in-Load.result 
 pub returns-in_ok-opened-in-Enter-clause-enters : goal.returns-in_ok-opened-in-Enter-clause-enters
 returns-in_ok-opened-in-Enter-clause-enters g c =
     on_ok_map c.settle.result
-    (entered (g.F.Files.list_gives c.args.ground.now.files.now) c.in_ok-opened-in-Enter.opened.directory c.args.self.now.frames.items c.settle.new.self.frames.items
+    (entered (g.F.Files.list_gives c.args.ground.now.files.now) (entry_of c.args.found.entry).path c.in_ok-opened-in-Enter.opened.directory
+    c.args.self.now.frames.items c.settle.new.self.frames.items (c.in_ok-opened-in-Enter.ensures.path ∙ c.path-in-Enter.ensures)
     c.in_ok-opened-in-Enter.ensures.listed)
     c.settle.ensures.enters
 
@@ -82,3 +84,19 @@ returns-in_ok-error-in-Load-clause-no_end g c = λ h.
 
 pub returns-in_ok-opened-in-Enter-clause-no_end : goal.returns-in_ok-opened-in-Enter-clause-no_end
 returns-in_ok-opened-in-Enter-clause-no_end g c = λ h. c.settle.ensures.no_end c.in_ok-opened-in-Enter.ensures.soft h
+
+pub returns-in-Yield-clause-below : goal.returns-in-Yield-clause-below
+returns-in-Yield-clause-below g c = λ roots h made.
+    on_ok_map c.make.result
+    (λ makes. made_below roots _ _ _ makes made (yielded_below roots c.args.ground.now.settings (entry_of c.args.found.entry) None h))
+    c.make.ensures.value
+
+pub returns-in_ok-error-in-Load-clause-below : goal.returns-in_ok-error-in-Load-clause-below
+returns-in_ok-error-in-Load-clause-below g c = λ roots h made.
+    let problem = option_map problem_of c.in_ok-error-in-Load.error in
+    on_ok_map c.make-in-Load.result
+    (λ makes. made_below roots _ _ _ makes made (yielded_below roots c.args.ground.now.settings (entry_of c.args.found.entry) problem h))
+    c.make-in-Load.ensures.value
+
+pub returns-in_ok-opened-in-Enter-clause-below : goal.returns-in_ok-opened-in-Enter-clause-below
+returns-in_ok-opened-in-Enter-clause-below g c = c.settle.ensures.below

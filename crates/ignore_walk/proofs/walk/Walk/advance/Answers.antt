@@ -11,6 +11,7 @@ use Rattle.ignore_walk.proofs.NoEndLemmas.{memory_no_limit, none_go_on, problem_
 use Rattle.ignore_walk.proofs.PaceLemmas.{all_steps, from_same, no_step, not_both, one_more_step, same_step}
 use Rattle.ignore_walk.proofs.StandLemmas.{becomes_by, stands_on}
 use Rattle.ignore_walk.proofs.VisitLemmas.{chosen_ordered}
+use Rattle.ignore_walk.specs.Below.{AnswersBelow}
 use Rattle.ignore_walk.proofs.walk.Walk.advance.Goals as goal
 
 pub returns-in-Some-clause-given : goal.returns-in-Some-clause-given
@@ -56,6 +57,7 @@ loop-self-init g c = record {
   ground = refl;
   ended = refl;
   no_end = λ h. h;
+  below = λ roots h. h;
   paced = (0, omega arith, no_step _ _ _ refl);
   remaining = λ s items n r. (n, refl, r);
   shows = λ s root place seen suits is. (
@@ -72,6 +74,9 @@ loop-self-preserved g c = record {
   ground = c.loop-self.invariant.ground;
   ended = c.loop-self.invariant.ended;
   no_end = λ h. (c.in_default-take_made.ensures.no_end (c.in-Ok.ensures.no_end (c.loop-self.invariant.no_end h))).0;
+  below = λ roots h.
+      let step = c.in-Ok.ensures.below roots (c.is_done.ensures.work c.loop-self-test.true) (c.loop-self.invariant.below roots h) in
+      (c.in_default-take_made.ensures.below roots step).0;
   paced = one_more_step _ _ c.loop-self.self.left _ _ _ _ (omega (c.if-self-eq0.false, arith)) c.loop-self.invariant.paced
       (same_step g.F.Files c.args.self.now.ground c.loop-self.self.ground _ _ c.loop-self.invariant.ground
       (c.in-Ok.ensures.paced (c.is_done.ensures.work c.loop-self-test.true)))
@@ -227,3 +232,24 @@ returns-clause-shows g c = λ s root place seen suits on is.
     let end = c.is_done.ensures.nothing c.loop-self-test.false (c.loop-self.invariant.ended ∙ on) c.loop-self.invariant.made s b.root b.place b.seen in
     let sum = i.1 in
     (0 + i.0, omega (sum, arith), subst (λ (u : State). Remains s u [] (0 + i.0)) (sym f.by) (b.by [] 0 end))
+
+-- at or below the roots
+
+pub returns-in-Some-clause-below : goal.returns-in-Some-clause-below
+returns-in-Some-clause-below g c = λ roots h. c.in-Some.ensures.below roots h
+
+pub returns-then-self-eq0-clause-below : goal.returns-then-self-eq0-clause-below
+returns-then-self-eq0-clause-below g c = λ roots h.
+    (c.end.ensures.below roots, subst (AnswersBelow roots) (sym c.end.ensures.item) tt)
+
+pub returns-in-Err-clause-below : goal.returns-in-Err-clause-below
+returns-in-Err-clause-below g c = λ roots h.
+    (c.end-in-Err.ensures.below roots, subst (AnswersBelow roots) (sym c.end-in-Err.ensures.item) tt)
+
+pub returns-in-Some-take_made-clause-below : goal.returns-in-Some-take_made-clause-below
+returns-in-Some-take_made-clause-below g c = λ roots h.
+    let before = c.loop-self.invariant.below roots (c.in_default.ensures.below roots h).0 in
+    c.in-Some-take_made.ensures.below roots (c.in-Ok.ensures.below roots (c.is_done.ensures.work c.loop-self-test.true) before)
+
+pub returns-clause-below : goal.returns-clause-below
+returns-clause-below g c = λ roots h. (c.loop-self.invariant.below roots (c.in_default.ensures.below roots h).0, tt)

@@ -1,5 +1,6 @@
 use Rattle.std.proofs.Common.{◌≡◌, ◌≤◌, ◌+◌, ◌*◌, [], ℕ, List, length, if◌then◌else◌}
 use Rattle.ignore_base.specs.Text.{Path}
+use Rattle.ignore_walk.specs.Below.{KeepsBelow}
 use Rattle.ignore_walk.specs.Branch.{Branch}
 use Rattle.ignore_walk.specs.Entry.{Item}
 use Rattle.ignore_walk.specs.GoesOn.{HasNoEnd}
@@ -12,8 +13,9 @@ use Rattle.ignore_walk.specs.Suits.{IsGroundOf}
 use Rattle.ignore_walk.proofs.walk.Walk.advance.Given as goal
 
 -- the steps that are left are fewer by those that were taken; no item is in hand, and no step was
--- given back; the walk is ended where it was; where no item in hand ended a walk none does; what
--- remained still remains, and what remains now remained
+-- given back; the walk is ended where it was; where no item in hand ended a walk none does; where
+-- all in hand was at or below some roots it is; what remained still remains, and what remains now
+-- remained
 abbrev pub invariant-loop-self : goal.invariant-loop-self
 invariant-loop-self g l = record {
   made : l.self.stack.made.items ≡ [];
@@ -22,6 +24,7 @@ invariant-loop-self g l = record {
   ground : l.self.ground ≡ l.initial.self.ground;
   ended : l.self.ended ≡ l.initial.self.ended;
   no_end : HasNoEnd l.initial.self.stack → HasNoEnd l.self.stack;
+  below : (roots : List Path) → KeepsBelow roots l.initial.self.stack → KeepsBelow roots l.self.stack;
   paced : (k : ℕ) × (l.self.left + k ≡ l.initial.self.left) × TookSteps (g.F.Files.list_gives l.initial.self.ground.files.now) k (work_of l.initial.self.stack) (work_of l.self.stack);
   remaining : (s : Scene) (items : List Item) (n : ℕ) → Remaining g.F.Files g.S.Callbacks s l.initial.self items n
       → (k : ℕ) × (n + l.self.left ≡ k + l.initial.self.left) × Remaining g.F.Files g.S.Callbacks s l.self items k;

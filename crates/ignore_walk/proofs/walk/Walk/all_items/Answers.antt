@@ -1,9 +1,12 @@
 use Rattle.std.proofs.Common.{◌≡◌, ◌+◌, ◌++◌, ◌∷◌, [], List, Result, Some, inl, inr, map, refl, subst, sym, ◌∙◌, ap, append_assoc, arith}
+use Rattle.std.specs.Prelude.{All}
 use Rattle.std.proofs.lemmas.List.{append-nil, map-append}
+use Rattle.std.proofs.lemmas.List.Elements.{All-nil}
 use Rattle.ignore_base.specs.declared.fault.Fault.TheVariants.{StepLimit}
 use Rattle.ignore_base.specs.Problem.{io, memory}
 use Rattle.ignore_walk.specs.Entry.{Item, item_of}
 use Rattle.ignore_base.specs.declared.error.Error.{Error}
+use Rattle.ignore_walk.specs.Below.{StaysBelow}
 use Rattle.ignore_walk.specs.GoesOn.{AllGoOn}
 use Rattle.ignore_walk.specs.Moves.{IsAfter}
 use Rattle.ignore_walk.specs.Suits.{IsGroundOf}
@@ -13,6 +16,7 @@ use Rattle.ignore_walk.proofs.MoveLemmas.{after_all, after_more, after_none}
 use Rattle.ignore_walk.proofs.NoEndLemmas.{more_go_on}
 use Rattle.ignore_walk.proofs.PaceLemmas.{both_steps, no_step, same_steps}
 use Rattle.ignore_walk.proofs.StandLemmas.{becomes_by}
+use Rattle.ignore_walk.proofs.BelowLemmas.{made_below, one_below}
 use Rattle.ignore_walk.proofs.walk.Walk.all_items.Goals as goal
 
 pub returns-then-self-clause-ended : goal.returns-then-self-clause-ended
@@ -52,6 +56,10 @@ loop-item-init g c = record {
   over = λ over. (over, c.new-all.ensures.items);
   paced = λ on. (0, omega arith, no_step _ _ _ refl);
   no_end = λ h. (h, subst (λ (l : List (Result DirEntry Error)). AllGoOn (map item_of l)) (sym c.new-all.ensures.items) tt);
+  below = λ roots h. (
+    h,
+    subst (λ (l : List (Result DirEntry Error)). All (StaysBelow roots) (map item_of l)) (sym c.new-all.ensures.items) (All-nil (StaysBelow roots)),
+  );
 }
 
 pub loop-item-preserved : goal.loop-item-preserved
@@ -94,6 +102,12 @@ loop-item-preserved g c = record {
         | inl goes_on ↦ (now.0, subst AllGoOn (sym pushed) (more_go_on _ _ before.1 goes_on))
         | inr over ↦ absurd (let e = sym c.if-self.false ∙ over.1.0 in cc (e))
       ];
+  below = λ roots h.
+      let before = c.loop-item.invariant.below roots h in
+      let now = c.in-Some.ensures.below roots before.0 in
+      let pushed : map item_of c.push.new.self.items ≡ map item_of c.loop-item.all.items ++ item_of c.in-Some.item ∷ [] =
+      ap (map item_of) c.in_ok-push.ensures.items ∙ map-append item_of c.loop-item.all.items (c.in-Some.item ∷ []) in
+      (now.0, made_below roots _ _ _ pushed before.1 (one_below roots _ now.1));
   remaining = λ s items n r.
       let i = c.loop-item.invariant.remaining s items n r in
       let all = map item_of c.loop-item.all.items in
@@ -150,3 +164,6 @@ returns-then-self-clause-limited g c = λ on is.
 
 pub returns-clause-no_end : goal.returns-clause-no_end
 returns-clause-no_end g c = λ h. (c.loop-item.invariant.no_end h).1
+
+pub returns-clause-below : goal.returns-clause-below
+returns-clause-below g c = λ roots h. (c.loop-item.invariant.below roots h).1

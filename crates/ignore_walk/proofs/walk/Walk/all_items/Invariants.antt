@@ -1,5 +1,7 @@
 use Rattle.std.proofs.Common.{◌≡◌, ◌+◌, ◌*◌, ◌++◌, [], ℕ, List, false, length, map, if◌then◌else◌}
+use Rattle.std.specs.Prelude.{All}
 use Rattle.ignore_base.specs.Text.{Path}
+use Rattle.ignore_walk.specs.Below.{KeepsBelow, StaysBelow}
 use Rattle.ignore_walk.specs.Entry.{Item, item_of}
 use Rattle.ignore_walk.specs.GoesOn.{AllGoOn, HasNoEnd}
 use Rattle.ignore_walk.specs.Moves.{IsAfter}
@@ -10,8 +12,9 @@ use Rattle.ignore_walk.specs.Stands.{Becomes}
 use Rattle.ignore_walk.proofs.walk.Walk.all_items.Given as goal
 
 -- what was collected, and then what remains, is what remained, and what the roots give, where there
--- are such; the files are the same; a walk that went on goes on, and of one that was over nothing was collected; the steps that are left are fewer by those that were
--- taken; and no item ended the walk
+-- are such; the files are the same; a walk that went on goes on, and of one that was over nothing was
+-- collected; the steps that are left are fewer by those that were taken; no item ended the walk; and
+-- what was collected is at or below the roots, as all in hand is
 abbrev pub invariant-loop-item : goal.invariant-loop-item
 invariant-loop-item g l = record {
   remaining : (s : Scene) (items : List Item) (n : ℕ) → Remaining g.F.Files g.S.Callbacks s l.fn.self items n
@@ -25,6 +28,7 @@ invariant-loop-item g l = record {
   paced : l.fn.self.ended ≡ false
       → (k : ℕ) × (l.self.left + k ≡ l.fn.self.left) × TookSteps (g.F.Files.list_gives l.fn.self.ground.files.now) k (work_of l.fn.self.stack) (work_of l.self.stack);
   no_end : HasNoEnd l.fn.self.stack → HasNoEnd l.self.stack × AllGoOn (map item_of l.all.items);
+  below : (roots : List Path) → KeepsBelow roots l.fn.self.stack → KeepsBelow roots l.self.stack × All (StaysBelow roots) (map item_of l.all.items);
 }
 
 abbrev pub decreases-loop-item : goal.decreases-loop-item

@@ -3,6 +3,8 @@ use Rattle.ignore_walk.specs.Whole.{WalkedRoots}
 use Rattle.ignore_walk.proofs.StandLemmas.{stand_first, stand_whole}
 use Rattle.ignore_walk.proofs.NoEndLemmas.{none_go_on}
 use Rattle.ignore_walk.proofs.PaceLemmas.{work_first}
+use Rattle.ignore_walk.proofs.BelowLemmas.{first_works, none_below}
+use Rattle.ignore_walk.specs.Below.{WorksBelow}
 use Rattle.ignore_walk.proofs.walk.Walk.new.Goals as goal
 
 pub returns-clause-whole : goal.returns-clause-whole
@@ -25,3 +27,9 @@ returns-clause-begins g c = work_first _ _ _ c.from_vec.ensures.items c.new-3.en
 
 pub returns-clause-no_end : goal.returns-clause-no_end
 returns-clause-no_end g c = none_go_on _ (ap length (c.from_vec-2.ensures.items ∙ c.new-4.ensures.items))
+
+pub returns-clause-below : goal.returns-clause-below
+returns-clause-below g c = record {
+  work = subst (WorksBelow c.args.roots.items) (sym (work_first _ _ _ c.from_vec.ensures.items c.new-3.ensures.items)) (first_works c.args.roots.items);
+  made = none_below c.args.roots.items c.from_vec-2.result.items (c.from_vec-2.ensures.items ∙ c.new-4.ensures.items);
+}
