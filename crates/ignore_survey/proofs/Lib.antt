@@ -4,6 +4,7 @@ pub mod KeptEntries
 pub mod LeftLemmas
 pub mod MiddleLemmas
 pub mod OneSurvey
+pub mod RunLemmas
 pub mod SomeSurvey
 pub mod SuitLemmas
 pub mod SurveyLemmas

@@ -16,12 +16,14 @@ use Rattle.ignore_query.specs.declared.kept.Cache.{Cache}
 use Rattle.ignore_query.specs.Agrees.{Agrees}
 use Rattle.ignore_query.specs.Needs.{Stays}
 use Rattle.ignore_query.specs.Reports.{reported}
+use Rattle.ignore_survey.specs.Finished.{IsEnd, IsFinished}
 use Rattle.ignore_survey.specs.Middle.{GoesOn}
-use Rattle.ignore_survey.specs.Nexts.{EndsBy, IsLast, NextGives, Nexts, Remaining, items_at_most}
-use Rattle.ignore_survey.specs.Stands.{InTurn, Left, Waits, found_at, next_dir}
+use Rattle.ignore_survey.specs.Nexts.{EndsBy, IsLast, NextGives, Nexts, Remaining, Shows, items_at_most}
+use Rattle.ignore_survey.specs.Stands.{InTurn, Left, Precedes, Stands, Waits, found_at, next_dir}
 use Rattle.ignore_survey.specs.Suits.{LeavesNext, ReportsNext, Suits}
 use Rattle.ignore_survey.specs.Survey.{Entry, Item}
 use Rattle.ignore_survey.specs.Surveyed.{item_of}
+use Rattle.ignore_survey.specs.declared.stack.Stack.{Stack}
 use Rattle.ignore_survey.specs.declared.survey.Survey.{Survey}
 use Rattle.ignore_survey.specs.declared.surveyed.Surveyed.{Surveyed}
 use Rattle.ignore_survey.proofs.WorkedSurvey.{g as whole, ways}
@@ -146,6 +148,36 @@ module _ {F : Type 0} (files : Files F) (g : QueryScene) (a b : Survey F) where
   pub error_of_the_query : (c : Cache) (s : Surveyed) (e : Error) → ReportsNext g c (Some (Ok s)) → s.error ≡ Some e
       → reported g c (string_bytes s.path) (is_dir s.file_type) ≡ Some (problem_of e)
   error_of_the_query c s e h is = sym h ∙ ap (λ (o : Option Error). option_map problem_of o) is
+
+-- a survey was finished by an entry or by the fault of a directory, and neither by the limit nor by out of
+-- memory
+
+pub finished : (e : Entry) → IsFinished (Ok e ∷ (Err (at_path (codes "/t") (io BadName)) ∷ []))
+finished e = (entry, (fault, tt))
+  where
+    entry : IsEnd (Ok e) → ⊥
+    entry (inl h) = no_entry_ends e 0 [] (inl h)
+    entry (inr h) = last_is_no_entry e 0 (inr (h, refl))
+
+    fault : IsEnd (Err (at_path (codes "/t") (io BadName))) → ⊥
+    fault (inl h) = cc (h)
+    fault (inr h) = cc (h)
+
+pub not_by_the_limit : (items : List Item) → IsFinished (limit ∷ items) → ⊥
+not_by_the_limit items h = h.0 (inr refl)
+
+pub not_by_out_of_memory : (items : List Item) → IsFinished (out_of_memory ∷ items) → ⊥
+not_by_out_of_memory items h = h.0 (inl refl)
+
+-- none shows that nothing remained, and an item after which the survey goes on that it was the first
+
+pub shown_at_the_end : {F : Type 0} (g : QueryScene) (s : Stack) (b : Survey F) → Shows g s None b → Stands g s []
+shown_at_the_end g s b h = h
+
+pub shown_before : {F : Type 0} (g : QueryScene) (s : Stack) (x : Item) (b : Survey F) → b.ended ≡ false → Shows g s (Some x) b
+    → Precedes g s x b.stack
+shown_before g s x b goes (inl h) = absurd (let e = sym goes ∙ h.1 in cc (e))
+shown_before g s x b goes (inr h) = h.1
 
 -- a survey goes on after the fault of a directory, and neither after the limit nor after out of memory
 

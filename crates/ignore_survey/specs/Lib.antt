@@ -1,4 +1,5 @@
 pub mod Agreement
+pub mod Finished
 pub mod Middle
 pub mod Nexts
 pub mod Stands

@@ -6,11 +6,13 @@ use Rattle.ignore_base.specs.declared.fault.Fault.TheVariants.{StepLimit}
 use Rattle.ignore_base.specs.Problem.{io, memory}
 use Rattle.ignore_dir.specs.Scene.{QueryScene}
 use Rattle.ignore_files.specs.declared.files.Files.{Ghosts as Files}
+use Rattle.ignore_survey.specs.Finished.{IsEnd}
 use Rattle.ignore_survey.specs.Middle.{GoesOn}
-use Rattle.ignore_survey.specs.Stands.{Stands}
+use Rattle.ignore_survey.specs.Stands.{Precedes, Stands}
 use Rattle.ignore_survey.specs.Suits.{Grows, LeavesNext, ReportsNext, Suits}
-use Rattle.ignore_survey.specs.Survey.{Item}
+use Rattle.ignore_survey.specs.Survey.{IsSurvey, Item}
 use Rattle.ignore_survey.specs.Surveyed.{item_of}
+use Rattle.ignore_survey.specs.declared.stack.Stack.{Stack}
 use Rattle.ignore_survey.specs.declared.survey.Survey.{Survey}
 use Rattle.ignore_survey.specs.declared.surveyed.Surveyed.{Surveyed}
 
@@ -31,6 +33,19 @@ pub record Handed {F : Type 0} (files : Files F) (g : QueryScene) (a : Survey F)
 abbrev pub EndsBy : Item → ℕ → List Item → Type 0
 EndsBy item left items = (item ≡ Err memory) ⊎ ((item ≡ Err (io StepLimit)) × ((left ≡ 0) × (items ≢ [])))
 
+-- a survey that wasn't ended suits a scene, and what remains of it is what a survey of the scene's root
+-- yields
+pub record Starts {F : Type 0} (files : Files F) (g : QueryScene) (s : Survey F) : Type 0 where
+  pub suits : Suits files s.files.now s.matcher g
+  pub goes_on : s.ended ≡ false
+  pub whole : (items : List Item) → Stands g s.stack items → IsSurvey g items
+
+-- what `next` shows of a list, where this was in hand: by none, that nothing remained; by an item,
+-- unless it ended the survey, that the item and then what remains now remained
+abbrev pub Shows : {F : Type 0} → QueryScene → Stack → Option Item → Survey F → Type 0
+Shows g s None b = Stands g s []
+Shows g s (Some item) b = (IsEnd item × (b.ended ≡ true)) ⊎ ((b.ended ≡ false) × Precedes g s item b.stack)
+
 -- what `next` answers where these items remain: none, where there are none; the first of them, and
 -- then the others remain; or what ends the survey
 abbrev pub Nexts : {F : Type 0} → Files F → QueryScene → Survey F → Option Item → Survey F → List Item → Type 0
@@ -49,14 +64,17 @@ abbrev pub items_at_most : {F : Type 0} → Survey F → ℕ
 items_at_most s = if s.ended then 0 else s.left + 1
 
 -- what one `next` of a survey answers, and what it makes of the survey. For files that are
--- consistent with a tree it is an item of what remains, and what the matcher keeps then is what the
--- query for that leaves, and still agrees with the tree. For all files: it stays over these, and its
--- matcher keeps what it kept; an ended survey answers none; after none it is ended; unless it is ended
--- then, one item fewer may follow, and the item is an entry without out of memory in its error, or the
--- fault of a directory; and where it was ended now, that was its last answer
+-- consistent with a tree it is an item of what remains (`given`), and shows that this exists
+-- (`shows`), and what the matcher keeps then is what the query for that leaves, and still agrees with
+-- the tree. For all files: it stays over these, and its matcher keeps what it kept; an ended survey
+-- answers none; after none it is ended; unless it is ended then, one item fewer may follow, and the
+-- item is an entry without out of memory in its error, or the fault of a directory; and where it was
+-- ended now, that was its last answer
 pub record NextGives {F : Type 0} (files : Files F) (a : Survey F) (answer : Option (Result Surveyed Error)) (b : Survey F)
     : Type 0 where
   pub given : (g : QueryScene) (items : List Item) → Remaining files g a items → Nexts files g a (option_map item_of answer) b items
+  pub shows : (g : QueryScene) → Suits files a.files.now a.matcher g → a.ended ≡ false
+      → Shows g a.stack (option_map item_of answer) b
   pub reports : (g : QueryScene) → Suits files a.files.now a.matcher g → ReportsNext g a.matcher.cache answer
   pub leaves : (g : QueryScene) → Suits files a.files.now a.matcher g → LeavesNext g a.matcher.cache answer b.ended b.matcher.cache
   pub suits : (g : QueryScene) → Suits files a.files.now a.matcher g → Suits files b.files.now b.matcher g

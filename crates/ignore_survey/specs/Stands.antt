@@ -1,5 +1,5 @@
 -- What the directories that a survey has in hand stand for.
-use Rattle.std.specs.Prelude.{◌≡◌, List, [], ◌∷◌, ◌++◌, Option, None, Some, Result, Ok, Err, string_bytes, if◌then◌else◌}
+use Rattle.std.specs.Prelude.{◌≡◌, ◌↔◌, List, [], ◌∷◌, ◌++◌, Option, None, Some, Result, Ok, Err, string_bytes, if◌then◌else◌}
 use Rattle.std.specs.declared.alloc.Global.{Global}
 use Rattle.std.specs.declared.string.String.{String}
 use Rattle.ignore_base.specs.Paths.{join_of}
@@ -32,11 +32,11 @@ abbrev pub Waits : QueryScene → Option Path → List Item → Type 0
 Waits g None items = items ≡ []
 Waits g (Some dir) items = Below g dir items
 
--- the directory at a path is entered, and what it lists gives its items; or this error is all that it
+-- the directory at a path is entered, and gives just what it lists gives; or this error is all that it
 -- gives
 abbrev pub Enters : QueryScene → Path → Result Frame Error → Type 0
-Enters g dir (Ok f) = (items : List Item) → Below g dir items → Each g f.path f.rest.items items
-Enters g dir (Err e) = (items : List Item) → Below g dir items → items ≡ Err (problem_of e) ∷ []
+Enters g dir (Ok f) = (items : List Item) → Below g dir items ↔ Each g f.path f.rest.items items
+Enters g dir (Err e) = (items : List Item) → Below g dir items ↔ (items ≡ Err (problem_of e) ∷ [])
 
 -- a stack still gives these items
 abbrev pub Stands : QueryScene → Stack → List Item → Type 0
@@ -52,6 +52,10 @@ pub record Hands (g : QueryScene) (s : Stack) (item : Item) (items : List Item) 
   pub others : List Item
   pub are : items ≡ item ∷ others
   pub rest : Stands g s others
+
+-- what a stack still gives, another gave after an item
+abbrev pub Precedes : QueryScene → Stack → Item → Stack → Type 0
+Precedes g s item t = (items : List Item) → Stands g t items → Stands g s (item ∷ items)
 
 -- what is to be listed after an entry, if anything is
 abbrev pub next_dir : QueryScene → Path → FileType → Option Path

@@ -1,5 +1,5 @@
 //! What a survey has in hand: directories whose listings are half read, and one that is to be listed.
-ghost use Rattle.std.specs.Prelude.{◌≡◌, [], Err, IfErr, IfOk, IfSome, List, MatchOption, None};
+ghost use Rattle.std.specs.Prelude.{◌≡◌, ◌↔◌, [], Err, IfErr, IfOk, IfSome, List, MatchOption, None};
 ghost use Rattle.ignore_base.specs.Problem.{problem_of};
 ghost use Rattle.ignore_dir.specs.Scene.{QueryScene};
 ghost use Rattle.ignore_files.specs.Gives.{IsHonest};
@@ -40,7 +40,7 @@ pub struct Stack {
 /// nothing is left are left.
 fn take_listed(frames: &mut VecDeque<Frame>) -> Option<(Frame, Listed)>
     ensures { (g : QueryScene) (items : List Yielded) → Left g frames.old.items items
-        → MatchOption result (items ≡ []) (λ r. Takes g r.0 r.1 frames.new.items items) }
+        ↔ MatchOption result (items ≡ []) (λ r. Takes g r.0 r.1 frames.new.items items) }
 {
     while let Some(mut frame) = frames.pop_front() {
         if let Some(listed) = frame.rest.pop_front() {
@@ -79,8 +79,8 @@ impl Stack {
         files: &F,
         root: &str,
     ) -> Result<Option<Found>, AllocError>
-        ensures finds { (g : QueryScene) (items : List Yielded) → IsHonest F.Files files.now g.tree → g.root ≡ root.now → Stands g self.old items
-            → IfOk result (λ r. MatchOption r (items ≡ []) (λ found. Finds g self.new (found_of found) items)) }
+        ensures finds { (g : QueryScene) (items : List Yielded) → IsHonest F.Files files.now g.tree → g.root ≡ root.now
+            → IfOk result (λ r. Stands g self.old items ↔ MatchOption r (items ≡ []) (λ found. Finds g self.new (found_of found) items)) }
         ensures unlisted { IfOk result (λ r. IfSome r (λ found. IfErr found (λ e. IsUnlisted root.now (problem_of e)))) }
     {
         if let Some(error) = self.open(alloc, files, root)? {
@@ -97,10 +97,10 @@ impl Stack {
         files: &F,
         root: &str,
     ) -> Result<Option<Error>, AllocError>
-        ensures opens { (g : QueryScene) (items : List Yielded) → IsHonest F.Files files.now g.tree → g.root ≡ root.now → Stands g self.old items
-            → IfOk result (λ r. MatchOption r
-            ((self.new.waiting ≡ None) × Left g self.new.frames.items items)
+        ensures opens { (g : QueryScene) (items : List Yielded) → IsHonest F.Files files.now g.tree → g.root ≡ root.now
+            → IfOk result (λ r. Stands g self.old items ↔ MatchOption r (Left g self.new.frames.items items)
             (λ e. Hands g self.new (Err (problem_of e)) items)) }
+        ensures none_waits { IfOk result (λ _. self.new.waiting ≡ None) }
         ensures unlisted { IfOk result (λ r. IfSome r (λ e. IsUnlisted root.now (problem_of e))) }
     {
         let Some(path) = self.waiting.take() else {
@@ -117,8 +117,9 @@ impl Stack {
 
     /// What is listed next in the directories that were entered.
     fn take(&mut self, alloc: Global, root: &str) -> Result<Option<Found>, AllocError>
-        ensures finds { (g : QueryScene) (items : List Yielded) → g.root ≡ root.now → self.old.waiting ≡ None → Left g self.old.frames.items items
-            → IfOk result (λ r. MatchOption r (items ≡ []) (λ found. Finds g self.new (found_of found) items)) }
+        ensures finds { (g : QueryScene) (items : List Yielded) → g.root ≡ root.now → self.old.waiting ≡ None
+            → IfOk result (λ r. Left g self.old.frames.items items
+            ↔ MatchOption r (items ≡ []) (λ found. Finds g self.new (found_of found) items)) }
         ensures unlisted { IfOk result (λ r. IfSome r (λ found. IfErr found (λ e. IsUnlisted root.now (problem_of e)))) }
     {
         let Some((frame, listed)) = take_listed(&mut self.frames) else {

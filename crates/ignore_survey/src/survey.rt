@@ -1,12 +1,12 @@
 //! A survey, as an iterator.
-ghost use Rattle.std.specs.Prelude.{◌≡◌, ◌<◌, List, [], ℕ, suc, true, false, None, Some, Ok, Err, IfErr, IfOk, IfSome, MatchOption, option_map, string_bytes, if◌then◌else◌};
+ghost use Rattle.std.specs.Prelude.{◌≡◌, ◌<◌, ◌↔◌, List, [], ℕ, suc, true, false, None, Some, Ok, Err, IfErr, IfOk, IfSome, MatchOption, option_map, string_bytes, if◌then◌else◌};
 ghost use Rattle.ignore_base.specs.declared.fault.Fault.TheVariants.{StepLimit};
 ghost use Rattle.ignore_base.specs.Problem.{problem_of, io, memory};
 ghost use Rattle.ignore_dir.specs.Scene.{QueryScene};
 ghost use Rattle.ignore_dir.specs.Soft.{IsSoft};
 ghost use Rattle.ignore_query.specs.declared.kept.Cache.{Cache};
 ghost use Rattle.ignore_survey.specs.Middle.{GoesOn, IsUnlisted};
-ghost use Rattle.ignore_survey.specs.Nexts.{IsLast, Nexts, Remaining, items_at_most};
+ghost use Rattle.ignore_survey.specs.Nexts.{IsLast, Nexts, Remaining, Shows, Starts, items_at_most};
 ghost use Rattle.ignore_survey.specs.Stands.{Finds, Hands, Stands, found_of};
 ghost use Rattle.ignore_survey.specs.Suits.{Grows, LeavesKept, LeavesNext, Reports, ReportsNext, Suits};
 ghost use Rattle.ignore_survey.specs.Survey.{IsSurvey, Item as Yielded, is_open};
@@ -94,6 +94,7 @@ impl<'a, F: Files> Survey<'a, F> {
     ) -> Result<Survey<'a, F>, Error>
         ensures whole { (g : QueryScene) (items : List Yielded) → Suits F.Files files.entry.now matcher g → IsSurvey g items
             → IfOk result (λ s. Remaining F.Files g s items) }
+        ensures starts { (g : QueryScene) → Suits F.Files files.entry.now matcher g → IfOk result (λ s. Starts F.Files g s) }
         ensures suits { (g : QueryScene) → Suits F.Files files.entry.now matcher g → IfOk result (λ s. Suits F.Files s.files.now s.matcher g) }
         ensures kept { (g : QueryScene) → Suits F.Files files.entry.now matcher g → IfOk result (λ s. s.matcher.cache ≡ matcher.cache) }
         ensures files { IfOk result (λ s. s.files ≡ files.entry) }
@@ -135,8 +136,8 @@ impl<'a, F: Files> Survey<'a, F> {
     /// An entry with what becomes of it. Where the survey goes on below it, it is listed next.
     fn visit(&mut self, path: String, file_type: FileType) -> Result<Surveyed, Error>
         ensures hands { (g : QueryScene) (items : List Yielded) → Suits F.Files self.old.files.now self.old.matcher g
-            → Finds g self.old.stack (Ok (string_bytes path, file_type)) items
-            → IfOk result (λ s. Hands g self.new.stack (item_of (Ok s)) items) }
+            → IfOk result (λ s. Finds g self.old.stack (Ok (string_bytes path, file_type)) items
+            ↔ Hands g self.new.stack (item_of (Ok s)) items) }
         ensures reports { (g : QueryScene) → Suits F.Files self.old.files.now self.old.matcher g
             → IfOk result (λ s. Reports g self.old.matcher.cache (Ok s)) }
         ensures leaves { (g : QueryScene) → Suits F.Files self.old.files.now self.old.matcher g
@@ -159,8 +160,8 @@ impl<'a, F: Files> Survey<'a, F> {
     #[tactic(auto, using(crate::proofs::SuitLemmas::grows_not))]
     fn item(&mut self, found: Found) -> Result<Item, Error>
         ensures hands { (g : QueryScene) (items : List Yielded) → Suits F.Files self.old.files.now self.old.matcher g
-            → Finds g self.old.stack (found_of found) items
-            → IfOk result (λ item. Hands g self.new.stack (item_of item) items) }
+            → IfOk result (λ item. Finds g self.old.stack (found_of found) items
+            ↔ Hands g self.new.stack (item_of item) items) }
         ensures reports { (g : QueryScene) → Suits F.Files self.old.files.now self.old.matcher g
             → IfOk result (Reports g self.old.matcher.cache) }
         ensures leaves { (g : QueryScene) → Suits F.Files self.old.files.now self.old.matcher g
@@ -184,8 +185,8 @@ impl<'a, F: Files> Survey<'a, F> {
     #[tactic(auto, using(crate::proofs::SuitLemmas::grows_not))]
     fn step(&mut self) -> Result<Option<Item>, Error>
         ensures given { (g : QueryScene) (items : List Yielded) → Suits F.Files self.old.files.now self.old.matcher g
-            → Stands g self.old.stack items → IfOk result (λ next. MatchOption next (items ≡ [])
-            (λ item. Hands g self.new.stack (item_of item) items)) }
+            → IfOk result (λ next. Stands g self.old.stack items
+            ↔ MatchOption next (items ≡ []) (λ item. Hands g self.new.stack (item_of item) items)) }
         ensures reports { (g : QueryScene) → Suits F.Files self.old.files.now self.old.matcher g
             → IfOk result (ReportsNext g self.old.matcher.cache) }
         ensures leaves { (g : QueryScene) → Suits F.Files self.old.files.now self.old.matcher g
@@ -226,6 +227,8 @@ impl<'a, F: Files> Survey<'a, F> {
         ensures fewer { IfSome result (λ _. items_at_most self.new < items_at_most self.old) }
         ensures given { (g : QueryScene) (items : List Yielded) → Remaining F.Files g self.old items
             → Nexts F.Files g self.old (option_map item_of result) self.new items }
+        ensures shows { (g : QueryScene) → Suits F.Files self.old.files.now self.old.matcher g → self.old.ended ≡ false
+            → Shows g self.old.stack (option_map item_of result) self.new }
         ensures reports { (g : QueryScene) → Suits F.Files self.old.files.now self.old.matcher g
             → ReportsNext g self.old.matcher.cache result }
         ensures leaves { (g : QueryScene) → Suits F.Files self.old.files.now self.old.matcher g

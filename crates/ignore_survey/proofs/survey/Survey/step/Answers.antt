@@ -3,16 +3,17 @@ use Rattle.ignore_base.specs.Problem.{problem_of}
 use Rattle.ignore_base.specs.Text.{Path}
 use Rattle.ignore_dir.specs.Scene.{QueryScene}
 use Rattle.ignore_survey.specs.Middle.{IsUnlisted}
+use Rattle.ignore_survey.proofs.LeftLemmas.{iff_trans}
 use Rattle.ignore_survey.proofs.survey.Survey.step.Goals as goal
 
 pub returns-in-None-clause-given : goal.returns-in-None-clause-given
-returns-in-None-clause-given g c = λ s items suits stands.
-    rw c.in-None.is at (c.in_ok-next.ensures.finds s items suits.honest (ap (λ (x : QueryScene). x.root) suits.scene ∙ sym c.root-root.ensures) stands)
+returns-in-None-clause-given g c = λ s items suits.
+    rw c.in-None.is at (c.in_ok-next.ensures.finds s items suits.honest (ap (λ (x : QueryScene). x.root) suits.scene ∙ sym c.root-root.ensures))
 
 pub returns-in_ok-item-in-Some-clause-given : goal.returns-in_ok-item-in-Some-clause-given
-returns-in_ok-item-in-Some-clause-given g c = λ s items suits stands.
-    c.in_ok-item-in-Some.ensures.hands s items suits
-    (rw c.in-Some.is at (c.in_ok-next.ensures.finds s items suits.honest (ap (λ (x : QueryScene). x.root) suits.scene ∙ sym c.root-root.ensures) stands))
+returns-in_ok-item-in-Some-clause-given g c = λ s items suits.
+    let finds = c.in_ok-next.ensures.finds s items suits.honest (ap (λ (x : QueryScene). x.root) suits.scene ∙ sym c.root-root.ensures) in
+    iff_trans (rw c.in-Some.is at finds) (c.in_ok-item-in-Some.ensures.hands s items suits)
 
 pub returns-in_ok-item-in-Some-clause-goes_on : goal.returns-in_ok-item-in-Some-clause-goes_on
 returns-in_ok-item-in-Some-clause-goes_on g c =
