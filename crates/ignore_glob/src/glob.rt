@@ -20,6 +20,7 @@ mod needle;
 mod node;
 mod nodes;
 mod options;
+mod parent;
 mod pass;
 mod pattern;
 mod read;

@@ -15,19 +15,19 @@ use Rattle.ignore_set.proofs.SlotLemmas.{got_append, among_more, among_end}
 
 -- Lists.
 
-set_here : {X : Type 0} (xs : List X) (i : ℕ) (x : X) → i < length xs → slice_get (set xs i x) i ≡ Some x
+pub set_here : {X : Type 0} (xs : List X) (i : ℕ) (x : X) → i < length xs → slice_get (set xs i x) i ≡ Some x
 set_here [] i x fits = absurd (omega (arith, fits))
 set_here (y ∷ xs) zero x fits = refl
 set_here (y ∷ xs) (suc i) x fits = set_here xs i x (omega (arith, fits))
 
-set_there : {X : Type 0} (xs : List X) (i k : ℕ) (x y : X) → k ≢ i → slice_get xs k ≡ Some y → slice_get (set xs i x) k ≡ Some y
+pub set_there : {X : Type 0} (xs : List X) (i k : ℕ) (x y : X) → k ≢ i → slice_get xs k ≡ Some y → slice_get (set xs i x) k ≡ Some y
 set_there [] i k x y differs got = cc
 set_there (z ∷ xs) zero zero x y differs got = absurd (differs refl)
 set_there (z ∷ xs) zero (suc k) x y differs got = got
 set_there (z ∷ xs) (suc i) zero x y differs got = got
 set_there (z ∷ xs) (suc i) (suc k) x y differs got = set_there xs i k x y (λ e. differs (ap suc e)) got
 
-set_length : {X : Type 0} (xs : List X) (i : ℕ) (x : X) → length (set xs i x) ≡ length xs
+pub set_length : {X : Type 0} (xs : List X) (i : ℕ) (x : X) → length (set xs i x) ≡ length xs
 set_length [] i x = refl
 set_length (z ∷ xs) zero x = refl
 set_length (z ∷ xs) (suc i) x = ap suc (set_length xs i x)

@@ -1,18 +1,25 @@
--- What the needles of the patterns of no form say, and the scan of them from the last down.
+-- What the needles of the patterns of no form say, and what stands under parents, once a pattern is added.
 use Rattle.std.proofs.Common.{◌≡◌, ◌⊎◌, ℕ, zero, suc, ◌+◌, ◌<◌, ◌≤◌, Bool, List, [], ◌∷◌, ◌++◌, length, map, drop}
 use Rattle.std.proofs.Common.{slice_get, Some, refl, sym, ap, subst, ◌∙◌, inl, inr, arith, zero-add, string_bytes, String}
-use Rattle.std.proofs.Common.{Global}
-use Rattle.std.specs.Str.{chars, IsUtf8}
+use Rattle.std.proofs.Common.{Global, true, false, cond}
+use Rattle.std.specs.Bool.{Decides}
+use Rattle.std.specs.List.{IsAmong}
+use Rattle.std.specs.Str.{chars, IsUtf8, bytes_eq}
 use Rattle.std.specs.Str.Iter.{HasSubslice}
 use Rattle.std.proofs.lemmas.List.Sums.{sum_by-cons}
+use Rattle.std.proofs.lemmas.Bool.{false≢true}
 use Rattle.std.proofs.lemmas.Option.{slice_get_within}
+use Rattle.std.proofs.lemmas.Slice.Eq.{bytes_eq-Decides}
+use Rattle.ignore_glob.specs.Ends.{HasParent}
 use Rattle.ignore_glob.specs.Forms.{other, form_of}
 use Rattle.ignore_glob.specs.Needles.{HasOneOf}
 use Rattle.ignore_glob.specs.Reading.{Matches}
-use Rattle.ignore_set.specs.Others.{IndexedText, AreOthers, IsFoundFrom}
-use Rattle.ignore_set.specs.Sets.{Member, Applies, form_passes, passes_of, pass_bound}
-use Rattle.ignore_set.proofs.IndexLemmas.{some_same, split}
-use Rattle.ignore_set.proofs.SlotLemmas.{got_append, kept_append, end_append}
+use Rattle.ignore_set.specs.declared.parents.Parents.{Parents}
+use Rattle.ignore_set.specs.Others.{IndexedText, AreNeedlesOf, AreOthers, AreUnderOf}
+use Rattle.ignore_set.specs.Parents.{IsNotedUnder, indexes_at}
+use Rattle.ignore_set.specs.Sets.{Member, form_passes, passes_of, pass_bound}
+use Rattle.ignore_set.proofs.IndexLemmas.{some_same}
+use Rattle.ignore_set.proofs.SlotLemmas.{got_append, kept_append, end_append, among_more, among_end}
 
 -- Lists.
 
@@ -51,42 +58,143 @@ needles_at-strings index (t ∷ ts) = ap (λ l. record { index = index; text = s
 
 -- A pattern more.
 
-pub others_same : (others : List IndexedText) (ms : List Member) (m : Member) → (form_of m.reading ≡ other → ⊥)
-    → AreOthers others ms → AreOthers others (ms ++ m ∷ [])
-others_same others ms m formed was = record {
-  each = λ i x g is. elim (got_append ms m i x g) [
-    | inl before ↦ was.each i x before is
-    | inr p ↦ absurd (formed (sym (ap (λ (y : Member). form_of y.reading) p.1) ∙ is))
-  ];
+-- needles of patterns stay needles of patterns
+needles_kept : (needles : List IndexedText) (ms : List Member) (m : Member) → AreNeedlesOf needles ms → AreNeedlesOf needles (ms ++ m ∷ [])
+needles_kept needles ms m was = record {
   rising = was.rising;
   formless = λ j n g. let p = was.formless j n g in (p.0, kept_append ms (m ∷ []) n.index p.0 p.1, p.2);
 }
 
-pub others_put : (others : List IndexedText) (texts : List (List ℕ)) (ms : List Member) (m : Member) → form_of m.reading ≡ other
-    → ((text : List ℕ) → IsUtf8 text → Matches m.reading (chars text) → HasOneOf texts text)
-    → AreOthers others ms → AreOthers (others ++ needles_at (length ms) texts) (ms ++ m ∷ [])
-others_put others texts ms m is has was = record {
-  each = λ i x g h text utf8 matches. elim (got_append ms m i x g) [
-    | inl before ↦ let p = was.each i x before h text utf8 matches in
-        (p.0, p.1, kept_append others (needles_at (length ms) texts) p.0 p.1 p.2, p.3, p.4)
-    | inr q ↦ let p = had_at (length ms) texts text (has text utf8 (subst (λ (y : Member). Matches y.reading (chars text)) q.1 matches)) in
-        (length others + p.0, p.1, past_append others (needles_at (length ms) texts) p.0 ∙ p.2, p.3 ∙ sym q.0, p.4)
+under_kept : (under : List ℕ) (ms : List Member) (m : Member) → AreUnderOf under ms → AreUnderOf under (ms ++ m ∷ [])
+under_kept under ms m was = record {
+  rising = was.rising;
+  formless = λ k i g. let p = was.formless k i g in (p.0, kept_append ms (m ∷ []) i p.0 p.1, p.2);
+}
+
+pub others_same : (others : List IndexedText) (parents : Parents) (ms : List Member) (m : Member) → (form_of m.reading ≡ other → ⊥)
+    → AreOthers others parents ms → AreOthers others parents (ms ++ m ∷ [])
+others_same others parents ms m formed was = record {
+  each = λ i x g is. elim (got_append ms m i x g) [
+    | inl before ↦ was.each i x before is
+    | inr p ↦ absurd (formed (sym (ap (λ (y : Member). form_of y.reading) p.1) ∙ is))
   ];
-  rising = λ j k a b less ga gb. elim (got_either others (needles_at (length ms) texts) k b gb) [
-    | inl gb' ↦ elim (got_either others (needles_at (length ms) texts) j a ga) [
+  needles = needles_kept others ms m was.needles;
+  under = λ parent. under_kept (indexes_at parents parent) ms m (was.under parent);
+  apart = was.apart;
+}
+
+-- the needles of one more pattern
+needles_more : (needles : List IndexedText) (texts : List (List ℕ)) (ms : List Member) (m : Member) → form_of m.reading ≡ other
+    → AreNeedlesOf needles ms → AreNeedlesOf (needles ++ needles_at (length ms) texts) (ms ++ m ∷ [])
+needles_more needles texts ms m is was = record {
+  rising = λ j k a b less ga gb. elim (got_either needles (needles_at (length ms) texts) k b gb) [
+    | inl gb' ↦ elim (got_either needles (needles_at (length ms) texts) j a ga) [
       | inl ga' ↦ was.rising j k a b less ga' gb'
-      | inr p ↦ absurd (omega (arith, p.1, less, slice_get_within others k b gb'))
+      | inr p ↦ absurd (omega (arith, p.1, less, slice_get_within needles k b gb'))
     ]
-    | inr q ↦ elim (got_either others (needles_at (length ms) texts) j a ga) [
+    | inr q ↦ elim (got_either needles (needles_at (length ms) texts) j a ga) [
       | inl ga' ↦ let f = was.formless j a ga' in omega (arith, slice_get_within ms a.index f.0 f.1, at_index (length ms) texts q.0 b q.2)
       | inr p ↦ omega (arith, at_index (length ms) texts p.0 a p.2, at_index (length ms) texts q.0 b q.2)
     ]
   ];
-  formless = λ j n g. elim (got_either others (needles_at (length ms) texts) j n g) [
+  formless = λ j n g. elim (got_either needles (needles_at (length ms) texts) j n g) [
     | inl g' ↦ let p = was.formless j n g' in (p.0, kept_append ms (m ∷ []) n.index p.0 p.1, p.2)
     | inr q ↦ (m, ap (λ i. slice_get (ms ++ m ∷ []) i) (at_index (length ms) texts q.0 n q.2) ∙ end_append ms m, is)
   ];
 }
+
+pub others_put : (others : List IndexedText) (parents : Parents) (texts : List (List ℕ)) (ms : List Member) (m : Member)
+    → form_of m.reading ≡ other → ((text : List ℕ) → IsUtf8 text → Matches m.reading (chars text) → HasOneOf texts text)
+    → AreOthers others parents ms → AreOthers (others ++ needles_at (length ms) texts) parents (ms ++ m ∷ [])
+others_put others parents texts ms m is has was = record {
+  each = λ i x g h text utf8 matches. elim (got_append ms m i x g) [
+    | inl before ↦ elim (was.each i x before h text utf8 matches) [
+      | inl p ↦ inl (p.0, p.1, kept_append others (needles_at (length ms) texts) p.0 p.1 p.2, p.3, p.4)
+      | inr p ↦ inr p
+    ]
+    | inr q ↦ let p = had_at (length ms) texts text (has text utf8 (subst (λ (y : Member). Matches y.reading (chars text)) q.1 matches)) in
+        inl (length others + p.0, p.1, past_append others (needles_at (length ms) texts) p.0 ∙ p.2, p.3 ∙ sym q.0, p.4)
+  ];
+  needles = needles_more others texts ms m is was.needles;
+  under = λ parent. under_kept (indexes_at parents parent) ms m (was.under parent);
+  apart = λ parent j k n g u. elim (got_either others (needles_at (length ms) texts) j n g) [
+    | inl g' ↦ was.apart parent j k n g' u
+    | inr q ↦ let f = (was.under parent).formless k n.index u in
+        absurd (omega (arith, slice_get_within ms n.index f.0 f.1, at_index (length ms) texts q.0 n q.2))
+  ];
+}
+
+-- an index more under a parent
+
+under_more : (under : List ℕ) (ms : List Member) (m : Member) → form_of m.reading ≡ other → AreUnderOf under ms
+    → AreUnderOf (under ++ length ms ∷ []) (ms ++ m ∷ [])
+under_more under ms m is was = record {
+  rising = λ k l i j less gi gj. elim (got_append under (length ms) l j gj) [
+    | inl gj' ↦ elim (got_append under (length ms) k i gi) [
+      | inl gi' ↦ was.rising k l i j less gi' gj'
+      | inr p ↦ absurd (omega (arith, p.0, less, slice_get_within under l j gj'))
+    ]
+    | inr q ↦ elim (got_append under (length ms) k i gi) [
+      | inl gi' ↦ let f = was.formless k i gi' in omega (arith, slice_get_within ms i f.0 f.1, q.1)
+      | inr p ↦ absurd (omega (arith, p.0, q.0, less))
+    ]
+  ];
+  formless = λ k i g. elim (got_append under (length ms) k i g) [
+    | inl g' ↦ let p = was.formless k i g' in (p.0, kept_append ms (m ∷ []) i p.0 p.1, p.2)
+    | inr q ↦ (m, ap (λ n. slice_get (ms ++ m ∷ []) n) q.1 ∙ end_append ms m, is)
+  ];
+}
+
+-- what `put` says of a parent
+abbrev pub PutsUnder : Parents → Parents → ℕ → List ℕ → Type 0
+PutsUnder old new index parent =
+    ((q : List ℕ) → indexes_at new q ≡ cond (bytes_eq parent q) (indexes_at old q ++ index ∷ []) (indexes_at old q))
+    × IsNotedUnder new parent × ((q : List ℕ) → IsNotedUnder old q → IsNotedUnder new q)
+
+pub parents_put : (others : List IndexedText) (old new : Parents) (parent : List ℕ) (ms : List Member) (m : Member)
+    → form_of m.reading ≡ other → ((text : List ℕ) → IsUtf8 text → Matches m.reading (chars text) → HasParent parent text)
+    → PutsUnder old new (length ms) parent → AreOthers others old ms → AreOthers others new (ms ++ m ∷ [])
+parents_put others old new parent ms m is has (lists, noted, kept) was = record {
+  each = λ i x g h text utf8 matches. elim (got_append ms m i x g) [
+    | inl before ↦ elim (was.each i x before h text utf8 matches) [
+      | inl p ↦ inl p
+      | inr p ↦ inr (p.0, p.1, kept p.0 p.2, more p.0 i p.3 (bytes_eq parent p.0) (lists p.0))
+    ]
+    | inr q ↦ inr (
+      parent,
+      has text utf8 (subst (λ (y : Member). Matches y.reading (chars text)) q.1 matches),
+      noted,
+      subst (λ k. IsAmong (indexes_at new parent) k) (sym q.0) (own (bytes_eq parent parent) (bytes_eq-Decides parent parent) (lists parent)),
+    )
+  ];
+  needles = needles_kept others ms m was.needles;
+  under = λ q. grown q (bytes_eq parent q) (lists q);
+  apart = λ q j k n g u. apart_at q j k n g (bytes_eq parent q) (subst (λ l. slice_get l k ≡ Some n.index) (lists q) u);
+}
+  where
+    more : (q : List ℕ) (i : ℕ) → IsAmong (indexes_at old q) i → (same : Bool)
+        → indexes_at new q ≡ cond same (indexes_at old q ++ length ms ∷ []) (indexes_at old q) → IsAmong (indexes_at new q) i
+    more q i among true e = subst (λ l. IsAmong l i) (sym e) (among_more (indexes_at old q) (length ms ∷ []) i among)
+    more q i among false e = subst (λ l. IsAmong l i) (sym e) among
+
+    own : (same : Bool) → Decides same (parent ≡ parent)
+        → indexes_at new parent ≡ cond same (indexes_at old parent ++ length ms ∷ []) (indexes_at old parent)
+        → IsAmong (indexes_at new parent) (length ms)
+    own true d e = subst (λ l. IsAmong l (length ms)) (sym e) (among_end (indexes_at old parent) (length ms))
+    own false d e = absurd (false≢true (d.1 refl))
+
+    grown : (q : List ℕ) (same : Bool) → indexes_at new q ≡ cond same (indexes_at old q ++ length ms ∷ []) (indexes_at old q)
+        → AreUnderOf (indexes_at new q) (ms ++ m ∷ [])
+    grown q true e = subst (λ l. AreUnderOf l (ms ++ m ∷ [])) (sym e) (under_more (indexes_at old q) ms m is (was.under q))
+    grown q false e = subst (λ l. AreUnderOf l (ms ++ m ∷ [])) (sym e) (under_kept (indexes_at old q) ms m (was.under q))
+
+    apart_at : (q : List ℕ) (j k : ℕ) (n : IndexedText) → slice_get others j ≡ Some n → (same : Bool)
+        → slice_get (cond same (indexes_at old q ++ length ms ∷ []) (indexes_at old q)) k ≡ Some n.index → ⊥
+    apart_at q j k n g true u = elim (got_append (indexes_at old q) (length ms) k n.index u) [
+      | inl u' ↦ was.apart q j k n g u'
+      | inr p ↦ let f = was.needles.formless j n g in absurd (omega (arith, slice_get_within ms n.index f.0 f.1, p.1))
+    ]
+    apart_at q j k n g false u = was.apart q j k n g u
 
 -- Passes.
 
@@ -96,7 +204,7 @@ le_more a b c less = omega (arith, less)
 one_more : (a b c : ℕ) → c ≡ 1 → a ≤ b → a + 1 ≤ c + b
 one_more a b c one less = omega (arith, one, less)
 
-bound_drop : (ms : List Member) (i t : ℕ) → i ≤ t → pass_bound (drop t ms) ≤ pass_bound (drop i ms)
+pub bound_drop : (ms : List Member) (i t : ℕ) → i ≤ t → pass_bound (drop t ms) ≤ pass_bound (drop i ms)
 bound_drop [] zero zero less = omega arith
 bound_drop [] zero (suc t) less = omega arith
 bound_drop [] (suc i) zero less = absurd (omega (arith, less))
@@ -121,85 +229,3 @@ bound_step (x ∷ ms) zero (suc t) m g is less =
     (ap form_passes (ap (λ (y : Member). form_of y.reading) (some_same x m g) ∙ is)) (bound_drop ms 0 t (omega arith)))
 bound_step (x ∷ ms) (suc i) zero m g is less = absurd (omega (arith, less))
 bound_step (x ∷ ms) (suc i) (suc t) m g is less = bound_step ms i t m g is (omega (arith, less))
-
--- The scan: of the needles at and past j none in the text is one of a pattern that applies.
-
-abbrev pub NoneFrom : List ℕ → Bool → List Member → List IndexedText → ℕ → Type 0
-NoneFrom text is_dir ms others j = (k : ℕ) (n : IndexedText) (m : Member) → j ≤ k → slice_get others k ≡ Some n
-    → slice_get ms n.index ≡ Some m → HasSubslice text n.text → Applies (chars text) is_dir m → ⊥
-
--- the pattern at this index doesn't apply, and no needle before j has a greater index
-pub record IsTried (text : List ℕ) (is_dir : Bool) (ms : List Member) (others : List IndexedText) (j tried : ℕ) : Type 0 where
-  pub failed : (m : Member) → slice_get ms tried ≡ Some m → Applies (chars text) is_dir m → ⊥
-  pub below : (k : ℕ) (n : IndexedText) → k < j → slice_get others k ≡ Some n → n.index ≤ tried
-
-pub tried_before : (text : List ℕ) (is_dir : Bool) (ms : List Member) (others : List IndexedText) (j tried : ℕ)
-    → IsTried text is_dir ms others (j + 1) tried → IsTried text is_dir ms others j tried
-tried_before text is_dir ms others j tried was = record { failed = was.failed; below = λ k n less g. was.below k n (omega (arith, less)) g }
-
-pub tried_here : (text : List ℕ) (is_dir : Bool) (ms : List Member) (others : List IndexedText) (j : ℕ) (n : IndexedText)
-    → AreOthers others ms → slice_get others j ≡ Some n
-    → ((m : Member) → slice_get ms n.index ≡ Some m → Applies (chars text) is_dir m → ⊥) → IsTried text is_dir ms others j n.index
-tried_here text is_dir ms others j n are here fails =
-    record { failed = fails; below = λ k x less g. are.rising k j x n (omega (arith, less)) g here }
-
-pub none_more : (text : List ℕ) (is_dir : Bool) (ms : List Member) (others : List IndexedText) (j : ℕ) (n : IndexedText)
-    → slice_get others j ≡ Some n
-    → ((m : Member) → slice_get ms n.index ≡ Some m → HasSubslice text n.text → Applies (chars text) is_dir m → ⊥)
-    → NoneFrom text is_dir ms others (j + 1) → NoneFrom text is_dir ms others j
-none_more text is_dir ms others j n here fails none k x m from g h has a = elim (split k j) [
-  | inl before ↦ absurd (omega (arith, from, before))
-  | inr (inl same) ↦
-      let one : x ≡ n = some_same x n (sym g ∙ (ap (λ i. slice_get others i) same ∙ here)) in
-      fails m (subst (λ (y : IndexedText). slice_get ms y.index ≡ Some m) one h)
-      (subst (λ (y : IndexedText). HasSubslice text y.text) one has) a
-  | inr (inr later) ↦ none k x m later g h has a
-]
-
-above_from : (text : List ℕ) (is_dir : Bool) (ms : List Member) (others : List IndexedText) (j n : ℕ) → IsUtf8 text → AreOthers others ms
-    → ((k : ℕ) (x : IndexedText) → k < j → slice_get others k ≡ Some x → x.index < n) → NoneFrom text is_dir ms others j
-    → (i : ℕ) (m : Member) → slice_get ms i ≡ Some m → form_of m.reading ≡ other → Applies (chars text) is_dir m → i < n
-above_from text is_dir ms others j n utf8 are early none i m g is a =
-    let p = are.each i m g is text utf8 a.1 in
-    elim (split p.0 j) [
-      | inl before ↦ omega (arith, p.3, early p.0 p.1 before p.2)
-      | inr (inl same) ↦ absurd (none p.0 p.1 m (omega (arith, same)) p.2 (ap (λ k. slice_get ms k) p.3 ∙ g) p.4 a)
-      | inr (inr later) ↦ absurd (none p.0 p.1 m (omega (arith, later)) p.2 (ap (λ k. slice_get ms k) p.3 ∙ g) p.4 a)
-    ]
-
--- no needle up to j has a greater index than that at j
-up_to : (ms : List Member) (others : List IndexedText) (j : ℕ) (n : IndexedText) → AreOthers others ms
-    → slice_get others j ≡ Some n → (k : ℕ) (x : IndexedText) → k < j + 1 → slice_get others k ≡ Some x → x.index ≤ n.index
-up_to ms others j n are here k x less g = are.rising k j x n (omega (arith, less)) g here
-
-pub found_early : (text : List ℕ) (is_dir : Bool) (ms : List Member) (others : List IndexedText) (best j : ℕ)
-    (n : IndexedText) → IsUtf8 text → AreOthers others ms → slice_get others j ≡ Some n → n.index < best
-    → NoneFrom text is_dir ms others (j + 1) → IsFoundFrom text is_dir ms best best
-found_early text is_dir ms others best j n utf8 are here less none = record {
-  kept = omega arith;
-  above = above_from text is_dir ms others (j + 1) best utf8 are
-      (λ k x l g. omega (arith, less, up_to ms others j n are here k x l g)) none;
-  last = inl refl;
-}
-
-pub found_here : (text : List ℕ) (is_dir : Bool) (ms : List Member) (others : List IndexedText) (best j : ℕ)
-    (n : IndexedText) (m : Member) → IsUtf8 text → AreOthers others ms → slice_get others j ≡ Some n → best ≤ n.index
-    → slice_get ms n.index ≡ Some m → Applies (chars text) is_dir m → NoneFrom text is_dir ms others (j + 1)
-    → IsFoundFrom text is_dir ms best (n.index + 1)
-found_here text is_dir ms others best j n m utf8 are here from at applies none = record {
-  kept = omega (arith, from);
-  above = above_from text is_dir ms others (j + 1) (n.index + 1) utf8 are
-      (λ k x l g. omega (arith, up_to ms others j n are here k x l g)) none;
-  last = inr (n.index, m, refl, at, applies);
-}
-
-pub found_below : (text : List ℕ) (is_dir : Bool) (ms : List Member) (others : List IndexedText) (best from : ℕ) → IsUtf8 text
-    → AreOthers others ms → ((k : ℕ) (x : IndexedText) → k < from → slice_get others k ≡ Some x → x.index < best)
-    → NoneFrom text is_dir ms others from → IsFoundFrom text is_dir ms best best
-found_below text is_dir ms others best from utf8 are below none =
-    record { kept = omega arith; above = above_from text is_dir ms others from best utf8 are below none; last = inl refl }
-
-pub found_none : (text : List ℕ) (is_dir : Bool) (ms : List Member) (others : List IndexedText) (best : ℕ) → IsUtf8 text
-    → AreOthers others ms → NoneFrom text is_dir ms others 0 → IsFoundFrom text is_dir ms best best
-found_none text is_dir ms others best utf8 are none =
-    found_below text is_dir ms others best 0 utf8 are (λ k x less g. absurd (omega (arith, less))) none

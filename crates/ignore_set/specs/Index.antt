@@ -63,7 +63,7 @@ pub record IsIndexOf (index : Index) (ms : List Member) : Type 0 where
   pub whole : IsTableOf whole index.whole ms
   pub names : IsTableOf name index.names ms
   pub ends : IsTableOf ending index.ends ms
-  pub others : AreOthers index.others.items ms
+  pub others : AreOthers index.others.items index.parents ms
   pub buckets : 0 < length index.buckets.long.items → AreBucketsOf index.buckets index.others.items
 
 -- the text ends with this one, after a slash where that is asked

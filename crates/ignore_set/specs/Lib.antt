@@ -1,4 +1,5 @@
 pub mod Buckets
 pub mod Index
 pub mod Others
+pub mod Parents
 pub mod Sets

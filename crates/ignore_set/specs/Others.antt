@@ -1,11 +1,14 @@
 -- Patterns that no table has, and their needles: texts without which they don't match.
 use Rattle.std.specs.Prelude.{◌≡◌, ◌⊎◌, ℕ, ◌+◌, ◌*◌, ◌^◌, ◌%◌, ◌<◌, ◌≤◌, nat_lt, Bool, cond, List, [], ◌∷◌, length, drop, slice_get, Some, bit_or, refl}
 use Rattle.std.specs.Coded.{Coded, code_by, coded×, coded_list, coded_ℕ}
+use Rattle.std.specs.List.{IsAmong}
 use Rattle.std.specs.Str.{chars, IsUtf8}
 use Rattle.std.specs.Str.Iter.{HasSubslice}
 use Rattle.ignore_glob.specs.Forms.{other, form_of}
 use Rattle.ignore_glob.specs.Reading.{Matches}
-use Rattle.ignore_set.specs.Sets.{Member, Applies}
+use Rattle.ignore_set.specs.Parents.{StandsUnder, indexes_at}
+use Rattle.ignore_set.specs.Sets.{Member, Applies, pass_bound}
+use Rattle.ignore_set.specs.declared.parents.Parents.{Parents}
 
 -- a needle: the index of a pattern, and a text
 pub record IndexedText : Type 0 where
@@ -88,15 +91,83 @@ mark_of text =
 abbrev pub bucket_of : List ℕ → ℕ
 bucket_of text = mark_of text % 16384
 
--- for each pattern of no form, the texts one of which is in each text that it matches, by rising
--- indices
-pub record AreOthers (others : List IndexedText) (ms : List Member) : Type 0 where
-  pub each : (i : ℕ) (m : Member) → slice_get ms i ≡ Some m → form_of m.reading ≡ other
-      → (text : List ℕ) → IsUtf8 text → Matches m.reading (chars text)
-      → (j : ℕ) × (n : IndexedText) × (slice_get others j ≡ Some n) × (n.index ≡ i) × HasSubslice text n.text
-  pub rising : (j k : ℕ) (a b : IndexedText) → j ≤ k → slice_get others j ≡ Some a → slice_get others k ≡ Some b → a.index ≤ b.index
-  pub formless : (j : ℕ) (n : IndexedText) → slice_get others j ≡ Some n
+-- a needle of the pattern at this index is in the text
+abbrev pub HasNeedle : List IndexedText → ℕ → List ℕ → Type 0
+HasNeedle needles i text = (j : ℕ) × (n : IndexedText) × (slice_get needles j ≡ Some n) × (n.index ≡ i) × HasSubslice text n.text
+
+-- needles of patterns of no form, by rising indexes
+pub record AreNeedlesOf (needles : List IndexedText) (ms : List Member) : Type 0 where
+  pub rising : (j k : ℕ) (a b : IndexedText) → j ≤ k → slice_get needles j ≡ Some a → slice_get needles k ≡ Some b → a.index ≤ b.index
+  pub formless : (j : ℕ) (n : IndexedText) → slice_get needles j ≡ Some n
       → (m : Member) × (slice_get ms n.index ≡ Some m) × (form_of m.reading ≡ other)
+
+-- indexes of patterns of no form, each greater than those before it
+pub record AreUnderOf (under : List ℕ) (ms : List Member) : Type 0 where
+  pub rising : (k l i j : ℕ) → k < l → slice_get under k ≡ Some i → slice_get under l ≡ Some j → i < j
+  pub formless : (k i : ℕ) → slice_get under k ≡ Some i → (m : Member) × (slice_get ms i ≡ Some m) × (form_of m.reading ≡ other)
+
+-- no needle is of a pattern at one of these indexes
+abbrev pub AreApart : List IndexedText → List ℕ → Type 0
+AreApart needles under = (j k : ℕ) (n : IndexedText) → slice_get needles j ≡ Some n → slice_get under k ≡ Some n.index → ⊥
+
+-- each pattern of no form has needles, one of which is in each text that it matches, or it stands
+-- under the one parent of these texts, but not both
+pub record AreOthers (others : List IndexedText) (parents : Parents) (ms : List Member) : Type 0 where
+  pub each : (i : ℕ) (m : Member) → slice_get ms i ≡ Some m → form_of m.reading ≡ other
+      → (text : List ℕ) → IsUtf8 text → Matches m.reading (chars text) → HasNeedle others i text ⊎ StandsUnder parents i text
+  pub needles : AreNeedlesOf others ms
+  pub under : (parent : List ℕ) → AreUnderOf (indexes_at parents parent) ms
+  pub apart : (parent : List ℕ) → AreApart others (indexes_at parents parent)
+
+-- each pattern of no form that matches this text has one of these needles in it, or stands at one of
+-- these indexes, but not both
+pub record AreCandidates (text : List ℕ) (others : List IndexedText) (indexes : List ℕ) (ms : List Member) : Type 0 where
+  pub each : (i : ℕ) (m : Member) → slice_get ms i ≡ Some m → form_of m.reading ≡ other → Matches m.reading (chars text)
+      → HasNeedle others i text ⊎ IsAmong indexes i
+  pub needles : AreNeedlesOf others ms
+  pub under : AreUnderOf indexes ms
+  pub apart : AreApart others indexes
+
+-- n is one more than an index, no less than this one, at which a pattern applies, or 0
+abbrev pub IsAfterMatch : List ℕ → Bool → List Member → ℕ → ℕ → Type 0
+IsAfterMatch text is_dir ms least n =
+    (n ≡ 0) ⊎ ((i : ℕ) × (m : Member) × (n ≡ i + 1) × (least ≤ i) × (slice_get ms i ≡ Some m) × Applies (chars text) is_dir m)
+
+-- of these indexes all but the first, so many, were tried: none at which a pattern applies is `after`
+-- or more
+abbrev pub AreTried : List ℕ → Bool → List Member → List ℕ → ℕ → ℕ → Type 0
+AreTried text is_dir ms under after left =
+    (k i : ℕ) (m : Member) → left ≤ k → slice_get under k ≡ Some i → slice_get ms i ≡ Some m → Applies (chars text) is_dir m → i < after
+
+-- `after` is one more than the greatest of these indexes, no less than `least`, at which a pattern
+-- applies, or 0; and the first of them, so many, are less than `least` or than `after`
+pub record IsFoundUnder (text : List ℕ) (is_dir : Bool) (ms : List Member) (under : List ℕ) (least after left : ℕ) : Type 0 where
+  pub within : left ≤ length under
+  pub below : (k i : ℕ) → k < left → slice_get under k ≡ Some i → (i < least) ⊎ (i < after)
+  pub above : AreTried text is_dir ms under after left
+  pub last : IsAfterMatch text is_dir ms least after
+
+-- `after` is one more than the greatest index, no less than `best`, at which a pattern applies whose
+-- needle is in the text, or one of these indexes of which the first, so many, are less; or it is 0,
+-- and these weren't tried
+pub record IsFoundInTurn (text : List ℕ) (is_dir : Bool) (ms : List Member) (others : List IndexedText) (under : List ℕ)
+    (best after left : ℕ) : Type 0 where
+  pub within : left ≤ length under
+  pub needles : (j : ℕ) (n : IndexedText) (m : Member) → slice_get others j ≡ Some n → slice_get ms n.index ≡ Some m
+      → HasSubslice text n.text → Applies (chars text) is_dir m → (n.index < after) ⊎ (n.index < best)
+  pub below : (after ≡ 0) ⊎ ((k i : ℕ) → k < left → slice_get under k ≡ Some i → i < after)
+  pub above : AreTried text is_dir ms under after left
+  pub last : IsAfterMatch text is_dir ms best after
+
+-- all of these indexes are less than t
+abbrev pub AreBelow : List ℕ → ℕ → ℕ → Type 0
+AreBelow under left t = (k i : ℕ) → k < left → slice_get under k ≡ Some i → i < t
+
+-- so many passes are at most those of the patterns from `least` on that are before t, where t is
+-- greater than all of these indexes
+abbrev pub IsWithinPasses : List Member → List ℕ → ℕ → ℕ → Type 0
+IsWithinPasses ms under least passes =
+    (t : ℕ) → least ≤ t → AreBelow under (length under) t → passes + pass_bound (drop t ms) ≤ pass_bound (drop least ms)
 
 -- n is one more than the greatest index at which a pattern of no form applies, or `best` where that
 -- is no less

@@ -1,16 +1,21 @@
 //! An index over patterns that their owner keeps.
-ghost use Rattle.std.specs.Prelude.{◌≡◌, ◌+◌, ◌<◌, ◌≤◌, ◌^◌, ◌++◌, ◌∷◌, [], ℕ, IfOk, IfSome, IsOk, List, Some, drop, length, map, slice_get};
-ghost use Rattle.std.specs.Str.{IsCharBoundary, chars};
+ghost use Rattle.std.specs.Prelude.{◌≡◌, ◌+◌, ◌<◌, ◌≤◌, ◌^◌, ◌++◌, ◌∷◌, [], ℕ, IfOk, IfSome, IsOk, List, drop, length, map, string_bytes, take};
+ghost use Rattle.std.specs.Str.{IsCharBoundary, IsUtf8, chars};
+ghost use Rattle.ignore_glob.specs.Ends.{HasParent};
 ghost use Rattle.ignore_set.specs.Buckets.{AreBucketsOf, IsPast};
 ghost use Rattle.ignore_set.specs.Index.{IsIndexOf, IsExactOf};
-ghost use Rattle.ignore_set.specs.Others.{AreOthers, IndexedText, IsFoundFrom, IsMaskOver};
-ghost use Rattle.ignore_set.specs.Sets.{Member, Applies, AreShort, IsLastMatch, pass_bound};
+ghost use Rattle.ignore_glob.specs.Forms.{other, form_of};
+ghost use Rattle.ignore_glob.specs.Reading.{Matches};
+ghost use Rattle.ignore_set.specs.Others.{IsMaskOver};
+ghost use Rattle.ignore_set.specs.Parents.{indexes_at};
+ghost use Rattle.ignore_set.specs.Sets.{Member, AreShort, IsLastMatch, pass_bound};
 
 use crate::buckets::Buckets;
-use crate::candidate::applies;
 use crate::has_pattern::HasPattern;
 use crate::haystack::Haystack;
 use crate::needle::{Needle, put_needles};
+use crate::parents::Parents;
+use crate::scan::{Left, last_left};
 use crate::table::Table;
 use crate::text::Ending;
 use ignore_glob::glob::{Key, Pattern};
@@ -19,10 +24,11 @@ use std::alloc::{AllocError, Global};
 /// For dependents that keep values with patterns in a list of their own: what is needed to find the
 /// last of them that matches a text.
 ///
-/// A pattern of literals, alone or after `**/` or `**/*`, stands in a table under its text. The
-/// others are tried one by one, from the last, where a text is in the queried one without which
-/// they don't match. Where there are many such texts, the last of them in the queried one is found
-/// by buckets.
+/// A pattern of literals, alone or after `**/` or `**/*`, stands in a table under its text. Of the
+/// others, one whose texts all have one parent stands under that, if no longer text is in all of
+/// these. The rest have needles, texts without which they don't match; where there are many, the
+/// last of them in the queried text is found by buckets. Those under the parent of the queried text
+/// and those with a needle in it are tried one by one, from the last.
 #[derive(Debug, Drop)]
 pub struct Index {
     whole: Table,
@@ -30,11 +36,21 @@ pub struct Index {
     ends: Table,
     others: Vec<Needle>,
     buckets: Buckets,
+    parents: Parents,
 }
 
 impl Index {
     /// The index of no patterns.
     pub fn empty(alloc: Global) -> Index
+        ensures value { IsIndexOf result [] }
+        ensures none { length result.buckets.long.items ≡ 0 }
+    {
+        Index::with_parents(alloc, Parents::new(alloc))
+    }
+
+    /// The index of no patterns, with what parents are kept in.
+    fn with_parents(alloc: Global, parents: Parents) -> Index
+        requires { (parent : List ℕ) → indexes_at parents parent ≡ [] }
         ensures value { IsIndexOf result [] }
         ensures none { length result.buckets.long.items ≡ 0 }
     {
@@ -44,6 +60,7 @@ impl Index {
             ends: Table::new(alloc),
             others: Vec::new(alloc),
             buckets: Buckets::none(alloc),
+            parents,
         }
     }
 
@@ -138,16 +155,14 @@ impl Index {
         }
         let text = &whole[offset..];
         let exact = self.last_exact(text, is_dir);
-        let end = self.end_of(text);
-        if end == 0 {
-            return Ok((exact.checked_sub(1), 0));
-        }
+        let needles = self.needles_before_end(text);
+        let listed = self.parents.under(text);
         let left = Left {
-            needles: self.others.as_slice(),
-            end,
-            mask: haystack.mask_from(offset),
+            needles,
+            mask: mask_for(needles, haystack, offset),
+            under: listed,
         };
-        let (after, passes) = last_other(members, &left, exact, text, is_dir)?;
+        let (after, passes) = last_left(members, &left, exact, text, is_dir)?;
         Ok((after.checked_sub(1), passes))
     }
 
@@ -159,6 +174,15 @@ impl Index {
         let name = self.names.under_ends(Ending::Name, text, is_dir);
         let end = self.ends.under_ends(Ending::End, text, is_dir);
         whole.max(name).max(end)
+    }
+
+    /// The needles before a place from which none is in the text.
+    fn needles_before_end(&self, text: &str) -> &[Needle]
+        requires { 0 < length self.now.buckets.long.items → AreBucketsOf self.now.buckets self.now.others.items }
+        ensures { (end : ℕ) × (result.now ≡ take end self.now.others.items) × IsPast text.now self.now.others.items end }
+    {
+        let end = self.end_of(text);
+        &self.others.as_slice()[..end]
     }
 
     /// A place from which no needle is in the text.
@@ -184,7 +208,20 @@ impl Index {
             Key::Whole(text) => self.whole.put(text, index, only_dir),
             Key::Name(text) => self.names.put(text, index, only_dir),
             Key::End(text) => self.ends.put(text, index, only_dir),
-            Key::Other => put_needles(&mut self.others, pattern.needles()?, index),
+            Key::Other => self.add_other(pattern, index),
+        }
+    }
+
+    /// As `add`, of a pattern that has no key.
+    fn add_other(&mut self, pattern: &Pattern, index: usize) -> Result<(), AllocError>
+        requires none { length self.now.buckets.long.items ≡ 0 }
+        ensures { IfOk result (λ _. (length self.new.buckets.long.items ≡ 0) × ((ms : List Member) (m : Member) → IsIndexOf self.old ms
+            → length ms ≡ index → m.reading ≡ pattern.now → form_of m.reading ≡ other → IsIndexOf self.new (ms ++ m ∷ []))) }
+    {
+        let needles = pattern.needles()?;
+        match parent_for(pattern, needles.as_slice())? {
+            Some(parent) => self.parents.put(parent, index),
+            None => put_needles(&mut self.others, needles, index),
         }
     }
 }
@@ -192,90 +229,47 @@ impl Index {
 fn without_buckets<M: HasPattern>(alloc: Global, members: &[M]) -> Result<Index, AllocError>
     ensures { IfOk result (λ index. IsIndexOf index (map M.member members.now)) }
 {
-    let mut index = Index::empty(alloc);
+    let mut index = Index::with_parents(alloc, Parents::for_many(alloc, members.len())?);
     for (i, member) in members.iter().enumerate() {
         index.add(member.pattern(), i, member.is_only_dir())?;
     }
     Ok(index)
 }
 
-/// The needles that may be in a text: none from `end` on is, and a mask is over the text.
-#[derive(Drop)]
-struct Left<'o> {
-    needles: &'o [Needle],
-    end: usize,
-    mask: u64,
+/// A mask over what follows an offset, where there are needles.
+fn mask_for(needles: &[Needle], haystack: &mut Haystack<'_>, offset: usize) -> u64
+    ensures over { 0 < length needles.now → IsMaskOver (drop offset haystack.old) result }
+    ensures same { haystack.new ≡ haystack.old }
+{
+    if needles.is_empty() {
+        return 0;
+    }
+    haystack.mask_from(offset)
 }
 
-/// One more than the greatest index among the patterns of no form that apply, and `best`, and how
-/// many passes over positions that took.
-fn last_other<M: HasPattern>(
-    members: &[M],
-    left: &Left<'_>,
-    best: usize,
-    text: &str,
-    is_dir: bool,
-) -> Result<(usize, u64), AllocError>
-    requires others { AreOthers left.now.needles.now (map M.member members.now) }
-    requires past { IsPast text.now left.now.needles.now left.now.end }
-    requires within { left.now.end ≤ length left.now.needles.now }
-    requires over { IsMaskOver text.now left.now.mask }
-    ensures value { IfOk result (λ r. IsFoundFrom text.now is_dir (map M.member members.now) best r.0) }
-    ensures count { IfOk result (λ r. r.1 ≤ pass_bound (map M.member members.now)) }
-    ensures succeeds { AreShort (map M.member members.now) → IsOk result }
+/// The parent of all texts that the pattern matches, where one is known and none of its needles is
+/// longer: it says more than these do.
+fn parent_for(pattern: &Pattern, needles: &[String]) -> Result<Option<String>, AllocError>
+    ensures { IfOk result (λ found. IfSome found (λ parent. (text : List ℕ) → IsUtf8 text → Matches pattern.now (chars text)
+        → HasParent (string_bytes parent) text)) }
 {
-    let others = left.needles;
-    let mut passes = 0u64;
-    let mut tried = members.len();
-    let from = first_from(others, best);
-    for j in (from..left.end.max(from)).rev() {
-        let needle = &others[j];
-        if !needle.may_be_in(left.mask) {
-            continue;
-        }
-        let i = needle.index();
-        if i < best {
-            return Ok((best, passes));
-        }
-        if i == tried {
-            continue;
-        }
-        if !needle.is_in(text) {
-            continue;
-        }
-        match applies(&members[i], text, is_dir) {
-            Ok((yes, count)) => {
-                tried = i;
-                passes = passes.saturating_add(count);
-                if yes {
-                    return Ok((i + 1, passes));
-                }
+    match pattern.parent()? {
+        Some(parent) => {
+            if longest_of(needles) > parent.as_str().len() {
+                Ok(None)
+            } else {
+                Ok(Some(parent))
             }
-            Err(error) => return Err(error),
         }
+        None => Ok(None),
     }
-    Ok((best, passes))
 }
 
-/// A place before which no needle has this index or a greater one.
-fn first_from(others: &[Needle], index: usize) -> usize
-    requires { (j k : ℕ) (a b : IndexedText) → j ≤ k → slice_get others.now j ≡ Some a → slice_get others.now k ≡ Some b
-        → a.index ≤ b.index }
-    ensures below { (k : ℕ) (n : IndexedText) → k < result → slice_get others.now k ≡ Some n → n.index < index }
-    ensures within { result ≤ length others.now }
-{
-    let mut low = 0usize;
-    let mut high = others.len();
-    for _round in 0..64 {
-        if low == high {
-            return low;
-        }
-        let middle = low + (high - low) / 2;
-        if others[middle].index() < index {
-            low = middle + 1;
-        } else {
-            high = middle;
-        }
+/// The length of the longest text.
+fn longest_of(texts: &[String]) -> usize {
+    let mut longest = 0usize;
+    for text in texts {
+        longest = longest.max(text.as_str().len());
     }
-    low
+    longest
 }

@@ -8,6 +8,8 @@ mod has_pattern;
 mod haystack;
 mod index;
 mod needle;
+mod parents;
+mod scan;
 mod set;
 mod table;
 mod text;

@@ -1,10 +1,11 @@
 //! A glob compiled to its nodes, which are passed over for each text.
-ghost use Rattle.std.specs.Prelude.{◌≡◌, ◌-◌, ◌^◌, ◌≤◌, ◌↔◌, ◌++◌, ◌∷◌, [], ℕ, false, IsTrue, IsOk, IfOk, List};
+ghost use Rattle.std.specs.Prelude.{◌≡◌, ◌-◌, ◌^◌, ◌≤◌, ◌↔◌, ◌++◌, ◌∷◌, [], ℕ, false, IsTrue, IsOk, IfOk, IfSome, List};
 ghost use Rattle.std.specs.Prelude.{map, min, string_bytes};
 ghost use Rattle.std.specs.Coded.{Coded-set, coded_list, coded_option};
 ghost use Rattle.std.specs.Str.{chars, IsUtf8};
 ghost use Rattle.ignore_base.specs.Text.{Chars};
 ghost use Rattle.ignore_glob.specs.DoesMatch.{does_match};
+ghost use Rattle.ignore_glob.specs.Ends.{HasParent};
 ghost use Rattle.ignore_glob.specs.Forms.{key_form, form_of};
 ghost use Rattle.ignore_glob.specs.Positions.{CountsMarks, positions};
 ghost use Rattle.ignore_glob.specs.Needles.{HasOneOf};
@@ -21,6 +22,7 @@ use crate::glob::marks::first_marks;
 use crate::glob::needle::{anything, needles_of};
 use crate::glob::node::Node;
 use crate::glob::nodes::nodes_of;
+use crate::glob::parent::parent_of;
 use crate::glob::pass;
 use crate::glob::sets::{ranges_of, step_alike, step_evenly, stepped};
 use crate::glob::token::Token;
@@ -175,6 +177,18 @@ impl Automaton {
             anything(alloc)
         } else {
             needles_of(alloc, &self.tokens)
+        }
+    }
+
+    /// The parent of all texts that the pattern matches, where one is known.
+    pub(crate) fn parent(&self) -> Result<Option<String>, AllocError>
+        ensures { IfOk result (λ found. IfSome found (λ parent. (text : List ℕ) → IsUtf8 text → Matches self.now (chars text)
+            → HasParent (string_bytes parent) text)) }
+    {
+        if self.case_insensitive {
+            Ok(None)
+        } else {
+            parent_of(*self.tokens.allocator(), &self.tokens)
         }
     }
 }

@@ -81,7 +81,7 @@ fn some_text(alloc: Global, tokens: &[Token]) -> Result<Option<String>, AllocErr
 }
 
 /// The text of tokens that are literals alone.
-fn literal_text(alloc: Global, tokens: &[Token]) -> Result<Option<String>, AllocError>
+pub(crate) fn literal_text(alloc: Global, tokens: &[Token]) -> Result<Option<String>, AllocError>
     ensures { IfOk result (λ text. option_map string_bytes text ≡ literals (tokens_view tokens.now)) }
 {
     let mut text = String::with_capacity(alloc, tokens.len())?;

@@ -1,6 +1,7 @@
 //! What a pattern keeps to match texts.
-ghost use Rattle.std.specs.Prelude.{◌≡◌, ◌-◌, ◌^◌, ◌≤◌, ◌↔◌, ℕ, false, IsTrue, IsOk, IfOk, List, map, min, string_bytes};
+ghost use Rattle.std.specs.Prelude.{◌≡◌, ◌-◌, ◌^◌, ◌≤◌, ◌↔◌, ℕ, false, IsTrue, IsOk, IfOk, IfSome, List, map, min, string_bytes};
 ghost use Rattle.std.specs.Str.{chars, IsUtf8};
+ghost use Rattle.ignore_glob.specs.Ends.{HasParent};
 ghost use Rattle.ignore_glob.specs.Forms.{key_form, form_of};
 ghost use Rattle.ignore_glob.specs.Needles.{HasOneOf};
 ghost use Rattle.ignore_glob.specs.Positions.{CountsMarks, positions};
@@ -107,6 +108,17 @@ impl Matcher {
         match self {
             Matcher::Exact(exact) => exact.needles(),
             Matcher::Automaton(automaton) => automaton.needles(),
+        }
+    }
+
+    /// The parent of all texts that the pattern matches, where one is known.
+    pub(crate) fn parent(&self) -> Result<Option<String>, AllocError>
+        ensures { IfOk result (λ found. IfSome found (λ parent. (text : List ℕ) → IsUtf8 text
+            → Matches (reading_of self.now) (chars text) → HasParent (string_bytes parent) text)) }
+    {
+        match self {
+            Matcher::Exact(_) => Ok(None),
+            Matcher::Automaton(automaton) => automaton.parent(),
         }
     }
 }

@@ -1,8 +1,9 @@
 //! A parsed glob, and the texts that it matches.
-ghost use Rattle.std.specs.Prelude.{◌≡◌, ◌+◌, ◌-◌, ◌*◌, ◌^◌, ◌≤◌, ◌↔◌, ℕ, false, IsTrue, IsOk, IfOk, IfErr, List, length};
+ghost use Rattle.std.specs.Prelude.{◌≡◌, ◌+◌, ◌-◌, ◌*◌, ◌^◌, ◌≤◌, ◌↔◌, ℕ, false, IsTrue, IsOk, IfOk, IfErr, IfSome, List, length};
 ghost use Rattle.std.specs.Prelude.{map, min, string_bytes};
 ghost use Rattle.std.specs.Str.{chars, IsUtf8};
 ghost use Rattle.ignore_glob.specs.DoesMatch.{does_match};
+ghost use Rattle.ignore_glob.specs.Ends.{HasParent};
 ghost use Rattle.ignore_glob.specs.Forms.{key_form, form_of};
 ghost use Rattle.ignore_glob.specs.Positions.{CountsMarks, positions};
 ghost use Rattle.ignore_glob.specs.Needles.{HasOneOf};
@@ -137,6 +138,15 @@ impl Pattern {
             → HasOneOf (map string_bytes needles.items) text) }
     {
         self.matcher.needles()
+    }
+
+    /// For dependents: the parent of all texts that the pattern matches, which ends with a slash;
+    /// `None` where they may have several, or case is folded, or where the pattern has a key.
+    pub fn parent(&self) -> Result<Option<String>, AllocError>
+        ensures { IfOk result (λ found. IfSome found (λ parent. (text : List ℕ) → IsUtf8 text → Matches self.now (chars text)
+            → HasParent (string_bytes parent) text)) }
+    {
+        self.matcher.parent()
     }
 }
 

@@ -1,10 +1,7 @@
-use Rattle.std.proofs.Common.{ap, ◌∙◌, ◌++◌, sym, map, subst, string_bytes}
-use Rattle.std.specs.Str.{chars}
+use Rattle.std.proofs.Common.{ap, ◌∙◌, sym, string_bytes}
 use Rattle.std.proofs.lemmas.Result.{IfOk-weaker}
 use Rattle.ignore_glob.specs.Forms.{form_of, key_form}
-use Rattle.ignore_glob.specs.Reading.{Matches}
-use Rattle.ignore_set.proofs.AddLemmas.{if_ok3, add_whole, add_name, add_end, add_other}
-use Rattle.ignore_set.proofs.OtherLemmas.{needles_at-strings}
+use Rattle.ignore_set.proofs.AddLemmas.{if_ok3, add_whole, add_name, add_end}
 use Rattle.ignore_set.proofs.index.Index.add.Goals as goal
 
 pub returns-in-Whole : goal.returns-in-Whole
@@ -36,14 +33,8 @@ returns-in-End c =
           (slots, long, kept) c.requires.none ms m was size (ap form_of is ∙ (sym c.in_ok-text.ensures ∙ ap key_form c.in-End.is)) only,
     ))
 
-pub returns-in_ok-needles-in-Other : goal.returns-in_ok-needles-in-Other
-returns-in_ok-needles-in-Other c =
-    let texts = c.in_ok-needles-in-Other.field-0.items in
-    IfOk-weaker c.put_needles.result _ _ (λ done e. (
-      c.requires.none,
-      λ ms m was size is only.
-          add_other c.args.self.now c.put_needles.new.needles (map string_bytes texts) c.args.index
-          (e ∙ ap (λ l. c.args.self.now.others.items ++ l) (needles_at-strings c.args.index texts)) c.requires.none ms m was size
-          (ap form_of is ∙ (sym c.in_ok-text.ensures ∙ ap key_form c.in-Other.is))
-          (λ text utf8 h. c.in_ok-needles-in-Other.ensures text utf8 (subst (λ r. Matches r (chars text)) is h)),
-    )) c.put_needles.ensures
+pub returns-in-Other : goal.returns-in-Other
+returns-in-Other c = IfOk-weaker c.add_other.result _ _ (λ done p. (
+  p.0,
+  λ ms m was size is only. p.1 ms m was size is (ap form_of is ∙ (sym c.in_ok-text.ensures ∙ ap key_form c.in-Other.is)),
+)) c.add_other.ensures

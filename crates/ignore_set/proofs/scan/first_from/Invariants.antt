@@ -1,6 +1,6 @@
 use Rattle.std.proofs.Common.{◌≡◌, ◌<◌, ◌≤◌, ℕ, Some, length, slice_get}
 use Rattle.ignore_set.specs.Others.{IndexedText}
-use Rattle.ignore_set.proofs.index.first_from.Given as goal
+use Rattle.ignore_set.proofs.scan.first_from.Given as goal
 
 abbrev pub invariant-loop-round : goal.invariant-loop-round
 invariant-loop-round l = record {
