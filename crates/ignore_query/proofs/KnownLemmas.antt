@@ -148,7 +148,7 @@ last_of path = by (ends (components path))
 
 -- Where all that is needed is kept, nothing is loaded and nothing new is kept.
 
-kept_among : (c : Cache) (needs : List (List (List ℕ))) (q : List (List ℕ)) → list_all (is_kept c) needs ≡ true
+pub kept_among : (c : Cache) (needs : List (List (List ℕ))) (q : List (List ℕ)) → list_all (is_kept c) needs ≡ true
     → is_among needs q ≡ true → is_kept c q ≡ true
 kept_among c [] q all h = absurd (cc)
 kept_among c (d ∷ ds) q all h =

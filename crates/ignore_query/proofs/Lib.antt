@@ -14,6 +14,7 @@ pub mod NeedLemmas
 pub mod WayLemmas
 pub mod WhyLemmas
 pub mod StandLemmas
+pub mod BeginLemmas
 pub mod ReadLemmas
 pub mod QueryLemmas
 pub mod FreshLemmas

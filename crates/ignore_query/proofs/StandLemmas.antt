@@ -252,11 +252,12 @@ among-more : (front q : List (List ℕ)) (n : List ℕ)
     → is_among (ancestors (front ++ n ∷ [])) q ≡ (is_among (ancestors front) q || pointwise bytes_eq q front)
 among-more front q n = rw (ancestors-more front n, list_any-append, or_false)
 
--- these directories were looked up or kept, one after the other, with these problems
+-- these directories were looked up or kept, one after the other, or were known to be kept, with these
+-- problems
 pub record Visited {F : Type 0} (files : Files F) (call : Call F) (old new : Cache) (before after : List Problem)
     (fronts : List (List (List ℕ))) : Type 0 where
   pub grows : Grows files call.files.now call.asked.now old new
-  pub kept : (q : List (List ℕ)) → All IsName q → is_kept new q ≡ (is_kept old q || is_among fronts q)
+  pub kept : (g : QueryScene) → Agrees g old → (q : List (List ℕ)) → All IsName q → is_kept new q ≡ (is_kept old q || is_among fronts q)
   pub problems : InCall files call (λ g. is_dir_there (g.tree.stat g.root true) ≡ true → Agrees g old
       → after ≡ before ++ (option_to_list (new_above g old) ++ gathered g old fronts))
   pub known : (tree : Tree) (loads : List ℕ → load.Loaded) → let g = scene_of call.asked.now tree loads in
@@ -318,11 +319,11 @@ module _ {F : Type 0} (files : Files F) (call : Call F) (old mid new : Cache) (b
   pub visited_next : Visited files call old new before after (ancestors (w.front ++ w.name ∷ []))
   visited_next = record {
     grows = grows_then files call.files.now call.asked.now old mid new w.visited.grows s.grows;
-    kept = λ q cleanq.
+    kept = λ g a q cleanq.
         s.kept (slashed q)
         ∙ (ap (λ t. is_kept mid q || bytes_eq t (slashed q)) w.key
         ∙ (ap (λ b. is_kept mid q || b) (same_key w.front q cleanf cleanq)
-        ∙ (ap (λ b. b || pointwise bytes_eq q w.front) (w.visited.kept q cleanq)
+        ∙ (ap (λ b. b || pointwise bytes_eq q w.front) (w.visited.kept g a q cleanq)
         ∙ (sym (or_assoc (is_kept old q) (is_among (ancestors w.front) q) (pointwise bytes_eq q w.front))
         ∙ ap (λ b. is_kept old q || b) (sym (among-more w.front q w.name))))));
     problems = λ tree loads honest are there a.
@@ -330,7 +331,7 @@ module _ {F : Type 0} (files : Files F) (call : Call F) (old mid new : Cache) (b
         let front = w.front in
         let am = w.visited.grows.agrees tree loads honest are there a in
         let same : is_kept mid front ≡ is_kept old front =
-        w.visited.kept front cleanf ∙ (ap (λ b. is_kept old front || b) (not_own front) ∙ or_false (is_kept old front)) in
+        w.visited.kept g a front cleanf ∙ (ap (λ b. is_kept old front || b) (not_own front) ∙ or_false (is_kept old front)) in
         let first = option_to_list (new_above g old) in
         s.problems tree loads honest are front am cleanf w.key w.next
         ∙ (ap (λ b. between ++ cond (b || is_ignored g front) [] (option_to_list (problem_in g front))) same
@@ -364,7 +365,7 @@ module _ {F : Type 0} (files : Files F) (call : Call F) (old mid new : Cache) (b
       record {
         above = an.first w.front k visited_at;
         dirs = λ q cleanq.
-            visited_next.kept q cleanq
+            visited_next.kept g a q cleanq
             ∙ ap (λ l. is_kept old q || is_among l q) (sym (ap (needed g) w.split ∙ needed_seen g w.front w.rest w.name (opened_at g an) (end g an)));
       }
 

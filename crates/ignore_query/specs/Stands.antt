@@ -62,6 +62,16 @@ pub record IsNextKey (c : Cache) (text : Path) (place : Option Place) : Type 0 w
   pub key : text ≡ slashed names
   pub next : IsNext c names place
 
+-- the way to a path of names may begin at the directory with this key: once what is above the root is
+-- kept, this is the place at which the directory stands in which that is
+pub record IsBegin (c : Cache) (names : List Bytes) (text : Path) (place : Option Place) : Type 0 where
+  pub front : List Bytes
+  pub name : Bytes
+  pub rest : List Bytes
+  pub split : names ≡ front ++ name ∷ rest
+  pub key : text ≡ slashed front
+  pub next : c.has_above ≡ true → IsNext c front place
+
 -- the key of the directory that is next on the way to a path, after that with these names: with a name
 -- more, unless no name follows that
 abbrev pub next_on : List Bytes → Bytes → List Bytes → Option Path

@@ -19,6 +19,7 @@ pub struct Dirs {
 impl Dirs {
     ghost use Rattle.std.specs.Prelude.{◌+◌, ◌≤◌, ℕ, List, IfOk, IfErr, None, Some, true, filter, length, string_bytes, if◌then◌else◌};
     ghost use Rattle.std.specs.BTreeMap.{btree_map_len, get_by_text};
+    ghost use Rattle.std.specs.Option.{option_copied};
     ghost use Rattle.std.specs.Str.{bytes_eq};
     ghost use Rattle.ignore_dir.specs.Query.{is_clean, names_of};
     ghost use Rattle.ignore_query.specs.Forget.{is_at_or_below, is_key_in};
@@ -31,6 +32,21 @@ impl Dirs {
         Dirs {
             map: BTreeMap::new(alloc),
         }
+    }
+
+    /// What is kept of the directory with a key, if anything is. The greatest key is compared
+    /// first, by its length and then its bytes: on the way down a chain it is that of the directory
+    /// which was kept last, and a search by order would compare the names that all keys share once
+    /// for each key it meets.
+    pub(crate) fn get(&self, key: &str) -> Option<&Kept>
+        ensures value { option_copied result ≡ get_by_text self.now.map key.now }
+    {
+        if let Some((greatest, kept)) = self.map.last_key_value() {
+            if greatest.as_str() == key {
+                return Some(kept);
+            }
+        }
+        self.map.get(key)
     }
 
     /// Keeps this of the directory with a key.

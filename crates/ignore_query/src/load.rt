@@ -134,7 +134,7 @@ impl Cache {
         ensures known { is_some (get_by_text self.old.dirs.map key.now) ≡ true → (self.new ≡ self.old) × (errors.new ≡ errors.old) }
         ensures soft { AllSoft (map problem_of errors.old.items) → OnOk result (AllSoft (map problem_of errors.new.items)) }
     {
-        if let Some(kept) = self.dirs.map.get(key) {
+        if let Some(kept) = self.dirs.get(key) {
             return Ok(*kept);
         }
         let text = String::from_str(call.alloc(), key)?;

@@ -92,10 +92,10 @@ impl Cache {
     }
 
     /// The place of the directory with this key, where it is kept and isn't ignored.
-    fn open_at(&self, key: &str) -> Option<Option<Place>>
+    pub(crate) fn open_at(&self, key: &str) -> Option<Option<Place>>
         ensures { result ≡ open_in (get_by_text self.now.dirs.map key.now) }
     {
-        match self.dirs.map.get(key) {
+        match self.dirs.get(key) {
             Some(Kept::Ignored) => None,
             Some(Kept::Loaded(place)) => Some(*place),
             None => None,

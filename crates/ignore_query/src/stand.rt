@@ -1,8 +1,8 @@
 //! Where a path stands: whether the rules decide on it, and by what is kept of which directory.
-ghost use Rattle.std.specs.Prelude.{◌≡◌, ◌≢◌, ◌++◌, ◌∷◌, [], ℕ, List, Some, IfOk, OnOk, true, map};
+ghost use Rattle.std.specs.Prelude.{◌≡◌, ◌≢◌, ◌++◌, ◌∷◌, [], ℕ, All, List, None, Some, IfOk, OnOk, true, map};
 ghost use Rattle.std.specs.List.{filter_map, list_all};
 ghost use Rattle.std.specs.Option.{option_to_list};
-ghost use Rattle.ignore_base.specs.Paths.{components, is_proper};
+ghost use Rattle.ignore_base.specs.Paths.{IsName, components, is_proper};
 ghost use Rattle.ignore_base.specs.Problem.{problem_of};
 ghost use Rattle.ignore_dir.specs.Chains.{slashed};
 ghost use Rattle.ignore_dir.specs.Load.{Loaded};
@@ -16,7 +16,7 @@ ghost use Rattle.ignore_query.specs.Stands.{IsPlaced};
 use crate::asked::Call;
 use crate::clean::{depth_for, is_asked};
 use crate::kept::{Cache, Kept};
-use crate::keys::{next_key, parent_key};
+use crate::keys::{next_key, parent_key, without_slash};
 use ignore_base::Error;
 use ignore_dir::limits::is_beyond;
 use ignore_files::Files;
@@ -54,7 +54,7 @@ impl Cache {
     ghost use Rattle.ignore_query.specs.Needs.{KeepsNeeded, is_decided, is_known, needed};
     ghost use Rattle.ignore_query.specs.Reached.{scene_of};
     ghost use Rattle.ignore_query.specs.Reports.{new_above, new_below};
-    ghost use Rattle.ignore_query.specs.Stands.{Grows, IsStand, IsUnruled, IsWithin, LeavesKept, problems_of_loads};
+    ghost use Rattle.ignore_query.specs.Stands.{Grows, IsBegin, IsStand, IsUnruled, IsWithin, LeavesKept, open_in, problems_of_loads};
     ghost use Rattle.ignore_query.specs.Where.{InCall};
 
     /// Where the path of a call stands. Where the rules decide on it, all directories that its
@@ -91,6 +91,34 @@ impl Cache {
         self.stand_by_rules(call, errors)
     }
 
+    /// The place of the directory in which the one with this key is, where that is kept and isn't
+    /// ignored. The root is in none.
+    fn open_above(&self, key: &str) -> Option<Option<Place>>
+        ensures root { key.now ≡ [] → result ≡ None }
+        ensures below { (front : List (List ℕ)) (name : List ℕ) → All IsName (front ++ name ∷ []) → key.now ≡ slashed (front ++ name ∷ [])
+            → result ≡ open_in (kept_at self.now front) }
+    {
+        if key.is_empty() {
+            return None;
+        }
+        let path = without_slash(key);
+        self.open_at(parent_key(path))
+    }
+
+    /// Where the way to a path begins: the place of the directory in which the first one on it is,
+    /// and the key of that first one. This is the directory in which the path is, where the one above
+    /// it is kept and isn't ignored: so on the way down a tree no directory further up is looked up
+    /// again. Else it is the root.
+    fn begin<'a>(&self, path: &'a str) -> (Option<Place>, &'a str)
+        ensures { All IsName (components path.now) → IsBegin self.now (components path.now) result.1.now result.0 }
+    {
+        let parent = parent_key(path);
+        match self.open_above(parent) {
+            Some(place) => (place, parent),
+            None => (self.above, ""),
+        }
+    }
+
     /// Where the path of a call stands, where the rules decide on it. The directories on the way are
     /// kept then, from the root down to the first ignored one.
     #[tactic(auto, using(crate::proofs::StandLemmas::grows_itself))]
@@ -113,12 +141,13 @@ impl Cache {
         ensures soft { AllSoft (map problem_of errors.old.items) → OnOk result (AllSoft (map problem_of errors.new.items)) }
     {
         let parent = parent_key(call.path);
-        if let Some(kept) = self.dirs.map.get(parent) {
+        if let Some(kept) = self.dirs.get(parent) {
             return Ok(stand_in(*kept, parent));
         }
         self.keep_above(call, errors)?;
-        let mut place = self.above;
-        let mut key = "";
+        let (top, first) = self.begin(call.path);
+        let mut place = top;
+        let mut key = first;
         'way: loop {
             match self.keep(call, place, key, errors)? {
                 Kept::Ignored => return Ok(Stand::Inside(key)),

@@ -1,4 +1,4 @@
-use Rattle.std.proofs.Common.{◌≡◌, ◌<◌, ◌≤◌, ◌++◌, ◌∷◌, [], All, Option, Some, IfSome, List, length, map, is_some, rules, arith, refl, sym, ap, ◌∙◌, subst}
+use Rattle.std.proofs.Common.{◌≡◌, ◌<◌, ◌≤◌, ◌++◌, ◌∷◌, All, Option, Some, IfSome, List, length, map, rules, arith, sym, ap, ◌∙◌, subst}
 use Rattle.std.proofs.lemmas.List.{append-nil}
 use Rattle.std.specs.BTreeMap.{get_by_text}
 use Rattle.std.specs.List.{filter_map}
@@ -6,45 +6,39 @@ use Rattle.std.specs.Option.{option_copied, option_to_list}
 use Rattle.ignore_base.proofs.CleanLemmas.{names-components}
 use Rattle.ignore_base.specs.Paths.{IsName, components}
 use Rattle.ignore_base.specs.Problem.{Problem, problem_of}
-use Rattle.ignore_dir.specs.Chains.{slashed}
-use Rattle.ignore_files.proofs.Components.{components_some}
 use Rattle.ignore_query.specs.declared.kept.Kept.TheVariants.{Ignored, Loaded}
 use Rattle.ignore_query.specs.Listed.{kept_at}
-use Rattle.ignore_query.specs.Needs.{is_kept, is_known}
+use Rattle.ignore_query.specs.Needs.{is_known}
 use Rattle.ignore_query.specs.Reached.{scene_of}
-use Rattle.ignore_query.specs.Reports.{new_above, new_below}
+use Rattle.ignore_query.specs.Reports.{new_below}
 use Rattle.ignore_query.specs.Stands.{IsPlaced}
+use Rattle.ignore_query.proofs.BeginLemmas.{visited_front}
+use Rattle.ignore_query.proofs.ChainLemmas.{front_names}
 use Rattle.ignore_query.proofs.KnownLemmas.{keeps_known, known_above, last_of, none_above, none_below, parent_known}
-use Rattle.ignore_query.proofs.NeedLemmas.{or_false}
-use Rattle.ignore_query.proofs.WayLemmas.{no_last}
 use Rattle.ignore_query.proofs.StandLemmas.{Visits, ends_last, ends_shut, grows_then, next_none, visited_next, way_front_names, way_known, way_needed, way_next, way_problems}
 use Rattle.ignore_query.proofs.kept.Cache.stand_by_rules.Goals as goal
 
 pub way-init : goal.way-init
 way-init g c =
-    let some = components_some c.args.call.now.path.now in
-    let old = map problem_of c.args.errors.now.items in
+    let call = c.args.call.now in
+    let mid = c.keep_above.new.self in
+    let clean = names-components call.path.now c.requires.named in
+    let b = c.begin-top.ensures clean in
+    let next = b.next c.in_ok-keep_above.ensures.kept in
     record {
       text = search rules;
       on = record {
-        front = [];
-        name = some.0;
-        rest = some.1;
-        split = some.2;
-        key = refl;
-        next = record { rooted = c.in_ok-keep_above.ensures.kept; top = λ e. refl; inside = λ f n is. absurd (no_last f n is) };
-        visited = record {
-          grows = c.keep_above.ensures.grows;
-          kept = λ q cleanq.
-              ap (λ d. is_some (get_by_text d.map (slashed q))) c.keep_above.ensures.same ∙ sym (or_false (is_kept c.args.self.now q));
-          problems = λ tree loads honest are there a.
-              c.in_ok-keep_above.ensures.problems tree loads honest are
-              ∙ ap (λ (l : List Problem). old ++ l) (sym (append-nil (option_to_list (new_above (scene_of c.args.call.now.asked.now tree loads) c.args.self.now))));
-          known = λ tree loads a all.
-              let k = c.keep_above.ensures.known (known_above (scene_of c.args.call.now.asked.now tree loads) c.args.self.now c.args.call.now.path.now a all) in
-              (k.0, ap (λ v. map problem_of v.items) k.1);
-          soft = c.in_ok-keep_above.ensures.soft;
-        };
+        front = b.front;
+        name = b.name;
+        rest = b.rest;
+        split = b.split;
+        key = b.key;
+        next = next;
+        visited = visited_front g.F.Files call c.args.self.now mid (map problem_of c.args.errors.now.items)
+            (map problem_of c.keep_above.new.errors.items) b.front _ (front_names b.front (b.name ∷ b.rest) (subst (All IsName) b.split clean)) next
+            c.keep_above.ensures.same c.keep_above.ensures.grows
+            (λ tree loads honest are. c.in_ok-keep_above.ensures.problems tree loads honest are)
+            (λ has. let k = c.keep_above.ensures.known has in (k.0, ap (λ v. map problem_of v.items) k.1)) c.in_ok-keep_above.ensures.soft;
       };
     }
 
