@@ -112,9 +112,17 @@ fn of_a_large_folder_few_kinds_are_asked_after_two_readings(rt: HostRuntime) -> 
 }
 
 #[test]
-fn of_a_small_folder_a_third_of_the_kinds_is_asked_after_one(rt: HostRuntime) -> Result<(), Fail> {
+fn of_a_folder_that_one_read_holds_few_kinds_are_asked(rt: HostRuntime) -> Result<(), Fail> {
     let (listed, opened, asked) = counts_of(&rt, 60)?;
-    assert_eq!(rt; (listed, opened), (60, 1));
-    assert!(rt; asked <= 20);
+    assert_eq!(rt; (listed, opened), (60, 2));
+    assert!(rt; asked <= 5);
+    Ok(())
+}
+
+#[test]
+fn of_a_small_folder_few_kinds_are_asked_after_one_reading(rt: HostRuntime) -> Result<(), Fail> {
+    let (listed, opened, asked) = counts_of(&rt, 20)?;
+    assert_eq!(rt; (listed, opened), (20, 1));
+    assert!(rt; asked <= 8);
     Ok(())
 }

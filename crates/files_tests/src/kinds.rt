@@ -4,7 +4,7 @@ use ignore_files::{DiskFiles, Files, Listed, Refusal};
 use std::alloc::{AllocError, Global};
 use std::os::unix::fs::symlink;
 use std::test::Fail;
-use std::{fs, io};
+use std::{env, fs, io};
 
 /// A name of so many bytes.
 fn long_name(alloc: Global, len: usize) -> Result<String, AllocError> {
@@ -102,5 +102,23 @@ fn kinds_in_a_small_folder_are_those_that_are_asked(rt: HostRuntime) -> Result<(
     for number in 0..3 {
         assert_eq!(rt; counts_of(&rt, number, make_short)?, (number, number));
     }
+    Ok(())
+}
+
+#[test]
+fn kinds_in_a_folder_that_one_read_holds_are_those_that_are_asked(
+    rt: HostRuntime,
+) -> Result<(), Fail> {
+    for number in [9, 30, 60, 120] {
+        assert_eq!(rt; counts_of(&rt, number, make_short)?, (number, number));
+    }
+    Ok(())
+}
+
+#[test]
+fn kinds_of_devices_are_those_that_are_asked(rt: HostRuntime) -> Result<(), Fail> {
+    env::set_current_dir(&rt, "/dev")?;
+    let (listed, asked) = counts(&rt)?;
+    assert_eq!(rt; asked, listed);
     Ok(())
 }

@@ -37,8 +37,9 @@ const FIRST_READ: usize = 4 * 1024;
 /// - `list`: each thing that the directory gives, in its order. An entry that is gone when its
 ///   kind is asked is left out; one whose kind can't be had otherwise (asking is denied, or its
 ///   path is too long) is a fault without its name. At a runtime of std a system call for each
-///   entry whose kind the system didn't leave with its name; a directory with more than 48 of these
-///   is read once more first, which leaves other kinds.
+///   entry whose kind the system didn't leave with its name. Before that, a directory with more
+///   than 8 of these is read again, for them alone and up to three times, or, if it took several
+///   reads, once and whole where they are more than 48; each reading leaves other kinds.
 /// - `contents`: what leads to neither a file nor a directory, as a pipe or a device, is
 ///   `Fault::Other` and isn't opened (unless it is put in a file's place between the two system
 ///   calls). What was read of a file stands before the fault that ended the reading.

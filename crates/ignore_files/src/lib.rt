@@ -4,6 +4,7 @@
 
 mod ask;
 mod disk;
+mod entries;
 mod env;
 mod files;
 pub mod internal;
@@ -19,13 +20,13 @@ mod tree_error;
 mod types;
 
 pub use disk::DiskFiles;
+pub use entries::{RuntimeEntries, RuntimeEntry};
 pub use env::Env;
 pub use files::Files;
 pub use ignore_base::Fault;
 pub use machine::Machine;
 pub use memory::MemoryTree;
 pub use process::Process;
-pub use records::RuntimeEntry;
 pub use stat::Stat;
 pub use table::{Row, RowEntry, RowKind, TableMachine};
 pub use tree_error::TreeError;

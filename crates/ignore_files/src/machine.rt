@@ -4,12 +4,12 @@ ghost use Rattle.std.specs.Path.{path_buf_bytes};
 ghost use Rattle.std.specs.Iterator.{IsFinite};
 ghost use Rattle.std.specs.Io.{StartsWith, appended_bytes};
 
-use crate::records::{RuntimeEntry, entries_of};
+use crate::entries::{RuntimeEntries, RuntimeEntry};
+use crate::records::entries_of;
 use std::alloc::{AllocError, Global};
 use std::io::Read;
 use std::os::unix::fs::MetadataExt;
 use std::path::PathBuf;
-use std::vec::IntoIter;
 use std::{fs, io, rt};
 
 /// What a system is asked about its files, in the terms of std, and what it may answer.
@@ -133,7 +133,7 @@ where
 
     type Entry = RuntimeEntry;
 
-    type Dir = IntoIter<io::Result<RuntimeEntry>, Global>;
+    type Dir = RuntimeEntries;
 
     type File = R::File;
 
@@ -161,8 +161,8 @@ where
         metadata.ino()
     }
 
-    fn read_dir(&self, path: &str) -> io::Result<IntoIter<io::Result<RuntimeEntry>, Global>> {
-        Ok(entries_of(self.alloc(), self, path)?.into_iter())
+    fn read_dir(&self, path: &str) -> io::Result<RuntimeEntries> {
+        entries_of(self.alloc(), self, path)
     }
 
     fn file_name<'e>(entry: &'e RuntimeEntry) -> &'e str {

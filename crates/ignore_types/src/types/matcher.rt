@@ -142,6 +142,9 @@ impl Types {
         if is_dir {
             return Ok(Match::None);
         }
+        if self.is_empty() {
+            return Ok(Match::None);
+        }
         match file_name(path) {
             None => Ok(unmatched(self.choices())),
             Some(name) => Ok(matched_name(self.choices(), name)?),
