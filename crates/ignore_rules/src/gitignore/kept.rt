@@ -170,16 +170,17 @@ impl IndexedRules {
 pub(crate) enum Kept {
     /// With an index, for all clones of the matcher.
     Shared(Arc<IndexedRules>),
-    /// No rules; or where there was no memory for an index, and rules are asked one by one.
+    /// No rules, or one; or where there was no memory for an index, and rules are asked one by one.
     Alone(RootedRules),
 }
 
 impl Kept {
-    /// The rules, shared where there are any and there is memory for that.
+    /// The rules, shared where there are several and there is memory for that. To ask a single one
+    /// costs no more than to look it up.
     pub(crate) fn of(rules: RootedRules) -> Kept
         ensures { kept_rules result ≡ rules }
     {
-        if rules.globs().is_empty() {
+        if rules.globs().len() < 2 {
             return Kept::Alone(rules);
         }
         match Index::new(rules.allocator(), rules.globs()) {
