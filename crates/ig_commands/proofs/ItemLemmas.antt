@@ -1,21 +1,15 @@
 -- What is written and reported for the items of a walk, one more at a time.
-use Rattle.std.proofs.Common.{◌≡◌, ◌∙◌, ℕ, Bool, false, cond, eqb, eqb-true, eq-eqb, List, [], ◌∷◌, ◌++◌, Option, None, Some, Result, Ok, map, option_map, refl, sym, ap, subst, append_assoc, arith}
-use Rattle.std.proofs.lemmas.Bool.{false_from_ne_true}
-use Rattle.std.proofs.lemmas.Cmp.{ranked}
+use Rattle.std.proofs.Common.{◌≡◌, ◌∙◌, ℕ, Bool, List, [], ◌∷◌, ◌++◌, Option, None, Some, Result, map, refl, sym, ap, subst, append_assoc}
 use Rattle.std.proofs.lemmas.List.{append-nil, map-append}
-use Rattle.std.specs.BTreeMap.{BTreeMap, get}
 use Rattle.std.specs.Io.KnownBytes.{Appends}
 use Rattle.std.specs.Option.{option_or}
-use Rattle.std.specs.Ordering.{is_eq, nat_cmp}
-use Rattle.std.specs.declared.cmp.Ordering.{Ordering}
-use Rattle.std.specs.declared.cmp.Ordering.TheVariants.{Less, Equal, Greater}
 use Rattle.ignore_base.specs.declared.error.Error.{Error}
 use Rattle.ignore_walk.specs.Entry.{Item, item_of}
 use Rattle.ignore_walk.specs.declared.entry.DirEntry.{DirEntry}
 use Rattle.commands.proofs.LineLemmas.{appends_on}
 use Rattle.ig_options.specs.declared.options.Options.{Options}
 use Rattle.ig_commands.specs.Counts.{counted, one_more}
-use Rattle.ig_commands.specs.Reports.{Notes, first_reports, last_at, last_in, names_after, names_left, path_at, path_of, reports_after, reports_of}
+use Rattle.ig_commands.specs.Reports.{Notes, first_reports, last_at, names_after, names_left, path_at, reports_after, reports_of}
 use Rattle.ig_commands.specs.declared.names.Unnamed.{Unnamed}
 
 or_none : {A : Type 0} (x : Option A) → option_or x None ≡ x
@@ -110,25 +104,3 @@ count_more f items item old new holds h k same =
     ∙ (ap (λ b. one_more (counted 0 (map f (map item_of items))) b) same
     ∙ (sym (counted_more 0 (map f (map item_of items)) (f (item_of item)))
     ∙ ap (counted 0) (sym (ap (map f) (map-append item_of items (item ∷ [])) ∙ map-append f (map item_of items) (item_of item ∷ []))))))
-
--- ---- an entry that is noted at its depth
-
-at_depth : (old : Option DirEntry) (entry : DirEntry) (q d : ℕ) (o : Ordering) → o ≡ nat_cmp d q
-    → option_map path_of (cond (is_eq o) (Some entry) old)
-    ≡ option_or (cond (eqb q d) (Some (path_of entry)) None) (option_map path_of old)
-at_depth old entry q d Less e =
-    let other : eqb q d ≡ false = false_from_ne_true (eqb q d) (λ t. omega (arith, eqb-true q d t, ranked d q Less e)) in
-    sym (ap (λ (b : Bool). option_or (cond b (Some (path_of entry)) None) (option_map path_of old)) other)
-at_depth old entry q d Equal e =
-    sym (ap (λ (b : Bool). option_or (cond b (Some (path_of entry)) None) (option_map path_of old)) (eq-eqb q d (sym (ranked d q Equal e))))
-at_depth old entry q d Greater e =
-    let other : eqb q d ≡ false = false_from_ne_true (eqb q d) (λ t. omega (arith, eqb-true q d t, ranked d q Greater e)) in
-    sym (ap (λ (b : Bool). option_or (cond b (Some (path_of entry)) None) (option_map path_of old)) other)
-
--- a table with an entry at its depth has it as the last one there
-pub noted : (old new : BTreeMap ℕ DirEntry) (entry : DirEntry)
-    → ((q : ℕ) → get nat_cmp new q ≡ cond (is_eq (nat_cmp entry.depth q)) (Some entry) (get nat_cmp old q))
-    → Notes (item_of (Ok entry)) (last_in old) (last_in new)
-noted old new entry h = λ q.
-    ap (λ (o : Option DirEntry). option_map path_of o) (h q)
-    ∙ at_depth (get nat_cmp old q) entry q entry.depth (nat_cmp entry.depth q) refl

@@ -9,6 +9,7 @@ pub mod ItemLemmas
 pub mod ListLemmas
 pub mod MemberLemmas
 pub mod MetLemmas
+pub mod LintLemmas
 pub mod NameLemmas
 pub mod OrderLemmas
 pub mod ReportLemmas

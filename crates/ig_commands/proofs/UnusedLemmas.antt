@@ -1,47 +1,55 @@
 -- The rules that decide on no entry met, by what surveys have found.
-use Rattle.std.proofs.Common.{◌≡◌, ◌∙◌, ℕ, All, Bool, true, false, not, cond, codes, Contains, List, [], ◌∷◌, ◌++◌, Option, None, Some, is_some, map, inl, inr, refl, sym, ap, subst}
+use Rattle.std.proofs.Common.{◌≡◌, ◌∙◌, ◌≤◌, ℕ, All, Bool, true, false, not, cond, codes, length, Contains, List, [], ◌∷◌, ◌++◌, Option, None, Some, is_some, map, inl, inr, refl, sym, ap, subst}
 use Rattle.std.proofs.lemmas.Bool.{false≢true}
 use Rattle.std.proofs.lemmas.List.Elements.{All-contains, All-map, All-weaker}
 use Rattle.std.specs.Io.KnownBytes.{Appends}
 use Rattle.std.specs.List.{flat_map}
 use Rattle.ignore_base.specs.Paths.{IsName}
 use Rattle.ignore_dir.specs.Scene.{QueryScene}
-use Rattle.ignore_query.specs.Forget.{kept_dirs}
+use Rattle.ignore_query.specs.Forget.{ListsKept, kept_dirs}
 use Rattle.ignore_query.specs.KeptRules.{rules_of}
 use Rattle.ignore_query.specs.Needs.{is_kept}
+use Rattle.ignore_query.specs.declared.kept.Cache.{Cache}
 use Rattle.ignore_why.specs.Cited.{Named}
 use Rattle.ig_options.specs.declared.options.Options.{Options}
 use Rattle.ig_commands.specs.Form.{at_end, rule_fields}
 use Rattle.ig_commands.specs.Found.{Finds, deciding, first_at, met, read_in}
 use Rattle.ig_commands.specs.Rules.{AreWithout, rule_at, rule_line}
-use Rattle.ig_commands.specs.Surveys.{HasList, IsWhole, OfRoot, Seen, all_seen}
+use Rattle.ig_commands.specs.Surveys.{AreAll, IsWhole, OfRoot, Seen, all_seen, most_items}
 use Rattle.ig_commands.specs.Unused.{AreUnused, FileRule, IsReadBelow, IsUnused, written}
 use Rattle.ig_commands.specs.declared.rules.FileRules.{FileRules}
 use Rattle.ig_commands.proofs.FoundLemmas.{StandsAt, among_contains, contains_among, decided_by, decider, first_stands, kept_by, opened_kept, stands_first}
+use Rattle.ig_commands.proofs.MetLemmas.{not_cut}
 use Rattle.ig_commands.proofs.MemberLemmas.{contains_flat, contains_map, flat_contains, map_contains}
 
+-- where no more items were met than a survey may have, they are all, and so are the rules
+found_all : (g : QueryScene) (seen : List Seen) (rules : List Named) → length seen ≤ most_items → Finds rules g seen
+    → (new : Cache) × AreAll g seen new × (rules ≡ flat_map (rules_of g) (kept_dirs new)) × ListsKept new
+found_all g seen rules within (inl all) = all
+found_all g seen rules within (inr cut) = absurd (not_cut g seen within cut)
+
 -- a rule of a directory that is kept after a survey is one of a file that is read
-read_below : (g : QueryScene) (seen : List Seen) (rules : List Named) (rule : Named) (r : FileRule) → HasList g → Finds rules g seen
-    → Contains rules rule → StandsAt rule r.source r.line → rule.original ≡ r.pattern → IsReadBelow g (map (λ (s : Seen). s.0) seen) r
-read_below g seen rules rule r list finds among at pattern =
-    let f = finds list.0 list.1 list.2 in
+read_below : (g : QueryScene) (seen : List Seen) (rules : List Named) (rule : Named) (r : FileRule) → length seen ≤ most_items
+    → Finds rules g seen → Contains rules rule → StandsAt rule r.source r.line → rule.original ≡ r.pattern → IsReadBelow g (map (λ (s : Seen). s.0) seen) r
+read_below g seen rules rule r within finds among at pattern =
+    let f = found_all g seen rules within finds in
     let in_dir = contains_flat (rules_of g) (kept_dirs f.0) rule (subst (λ (rs : List Named). Contains rs rule) f.2 among) in
     let names = in_dir.0 in
     let named = All-contains (All IsName) (kept_dirs f.0) names f.3.named in_dir.1 in
     let kept : is_kept f.0 names ≡ true = sym (f.3.each names named) ∙ among_contains (kept_dirs f.0) names in_dir.1 in
-    elim (kept_by g seen f.1.old f.0 names f.1.reported named kept) [
-      | inl before ↦ absurd (false≢true (sym (ap is_some (f.1.fresh.dirs names)) ∙ before))
+    elim (kept_by g seen f.1.met.old f.0 names f.1.met.reported named kept) [
+      | inl before ↦ absurd (false≢true (sym (ap is_some (f.1.met.fresh.dirs names)) ∙ before))
       | inr opened ↦ (names, opened, rule, in_dir.2, record { source = at.source; line = at.line; pattern = pattern })
     ]
 
 -- and a rule that is read is one of those
-read_back : (g : QueryScene) (seen : List Seen) (rules : List Named) (r : FileRule) → HasList g → Finds rules g seen
+read_back : (g : QueryScene) (seen : List Seen) (rules : List Named) (r : FileRule) → length seen ≤ most_items → Finds rules g seen
     → IsReadBelow g (map (λ (s : Seen). s.0) seen) r → (rule : Named) × Contains rules rule × StandsAt rule r.source r.line
-read_back g seen rules r list finds below =
-    let f = finds list.0 list.1 list.2 in
+read_back g seen rules r within finds below =
+    let f = found_all g seen rules within finds in
     let names = below.0 in
     let opened = below.1 in
-    let kept = opened_kept g seen f.1.old f.0 names f.1.reported opened in
+    let kept = opened_kept g seen f.1.met.old f.0 names f.1.met.reported opened in
     let among = contains_among (kept_dirs f.0) names (f.3.each names opened.3 ∙ kept) in (
       below.2,
       subst (λ (rs : List Named). Contains rs below.2) (sym f.2) (flat_contains (rules_of g) (kept_dirs f.0) names below.2 among below.3),
@@ -49,15 +57,15 @@ read_back g seen rules r list finds below =
     )
 
 module _ (at : List ℕ → QueryScene) (all : List (OfRoot × List Named)) (read used : FileRules)
-    (finds : All (λ x. Finds x.1 (at x.0.0) x.0.1) all) (lists : All (λ r. HasList (at r.0)) (met all))
+    (finds : All (λ x. Finds x.1 (at x.0.0) x.0.1) all) (within : All (λ r. length r.1 ≤ most_items) (met all))
     (reads : (source : List ℕ) (line : ℕ) → rule_at read source line ≡ first_at (read_in all) source line)
     (uses : (source : List ℕ) (line : ℕ) → rule_at used source line ≡ first_at (deciding (all_seen (met all))) source line) where
   finds_of : (x : OfRoot × List Named) → Contains all x → Finds x.1 (at x.0.0) x.0.1
   finds_of x h = All-contains (λ (x : OfRoot × List Named). Finds x.1 (at x.0.0) x.0.1) all x finds h
 
-  list_of : (x : OfRoot × List Named) → Contains all x → HasList (at x.0.0)
-  list_of x h =
-      All-contains (λ (r : OfRoot). HasList (at r.0)) (met all) x.0 lists (map_contains (λ (y : OfRoot × List Named). y.0) all x h)
+  within_of : (x : OfRoot × List Named) → Contains all x → length x.0.1 ≤ most_items
+  within_of x h =
+      All-contains (λ (r : OfRoot). length r.1 ≤ most_items) (met all) x.0 within (map_contains (λ (y : OfRoot × List Named). y.0) all x h)
 
   is_unused : (r : FileRule) → rule_at read r.source r.line ≡ Some r.pattern → rule_at used r.source r.line ≡ None → IsUnused at (met all) r
   is_unused r there unused =
@@ -67,7 +75,7 @@ module _ (at : List ℕ → QueryScene) (all : List (OfRoot × List Named)) (rea
         read = (
           root.0.0,
           map_contains (λ (y : OfRoot × List Named). y.0) all root.0 root.1,
-          read_below (at root.0.0.0) root.0.0.1 root.0.1 rule.0 r (list_of root.0 root.1) (finds_of root.0 root.1) root.2 rule.2 rule.3,
+          read_below (at root.0.0.0) root.0.0.1 root.0.1 rule.0 r (within_of root.0 root.1) (finds_of root.0 root.1) root.2 rule.2 rule.3,
         );
         decides_nothing = λ e p met_it decides.
             let place : StandsAt decides.rule r.source r.line = record { source = decides.source; line = decides.line } in
@@ -92,7 +100,7 @@ module _ (at : List ℕ → QueryScene) (all : List (OfRoot × List Named)) (rea
     complete = λ r is.
         let root = contains_map (λ (y : OfRoot × List Named). y.0) all is.read.0 is.read.1 in
         let below = subst (λ (x : OfRoot). IsReadBelow (at x.0) (map (λ (s : Seen). s.0) x.1) r) (sym root.2) is.read.2 in
-        let rule = read_back (at root.0.0.0) root.0.0.1 root.0.1 r (list_of root.0 root.1) (finds_of root.0 root.1) below in
+        let rule = read_back (at root.0.0.0) root.0.0.1 root.0.1 r (within_of root.0 root.1) (finds_of root.0 root.1) below in
         let among = flat_contains (λ (x : OfRoot × List Named). x.1) all root.0 rule.0 root.1 rule.1 in
         let first = first_stands (read_in all) rule.0 r.source r.line among rule.2 in
         let q : FileRule = record { source = r.source; line = r.line; pattern = first.0 } in (
@@ -106,7 +114,8 @@ module _ (at : List ℕ → QueryScene) (all : List (OfRoot × List Named)) (rea
 
 -- what a survey has found is all that it met
 pub finds_whole : (rules : List Named) (g : QueryScene) (seen : List Seen) → Finds rules g seen → IsWhole g seen
-finds_whole rules g seen finds = λ items is fits. let f = finds items is fits in (f.0, f.1)
+finds_whole rules g seen (inl found) = inl (found.0, found.1)
+finds_whole rules g seen (inr cut) = inr cut
 
 pub whole_met : (at : List ℕ → QueryScene) (all : List (OfRoot × List Named)) → All (λ x. Finds x.1 (at x.0.0) x.0.1) all
     → All (λ r. IsWhole (at r.0) r.1) (met all)

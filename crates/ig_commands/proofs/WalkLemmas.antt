@@ -1,22 +1,30 @@
 -- The walk of a list.
-use Rattle.std.proofs.Common.{◌≡◌, ◌≢◌, ◌⊎◌, ◌≤◌, All, List, [], ◌∷◌, ◌++◌, ℕ, Ok, Err, true, false, ◌∙◌, refl, sym, ap, subst, inl, inr}
+use Rattle.std.proofs.Common.{◌≡◌, ◌≢◌, ◌⊎◌, ◌≤◌, All, Bool, List, [], ◌∷◌, ◌++◌, ℕ, None, Ok, Option, Result, Some, Err, map, string_bytes, true, false, ◌∙◌, refl, sym, ap, subst, inl, inr}
 use Rattle.std.proofs.lemmas.Cmp.{nat_list_cmp_total}
 use Rattle.std.proofs.lemmas.List.Elements.{All-head, All-tail}
 use Rattle.std.proofs.lemmas.List.MinMax.{ranks_by}
 use Rattle.std.specs.Cmp.Lexicographic.{slice_cmp}
+use Rattle.std.specs.List.{AllZip}
 use Rattle.std.specs.Ordering.{nat_cmp}
 use Rattle.ignore_base.specs.Problem.{Problem, io, memory}
+use Rattle.ignore_base.specs.Text.{Path}
 use Rattle.ignore_base.specs.declared.fault.Fault.TheVariants.{StepLimit}
 use Rattle.ignore_dir.specs.Load.{AreLoads, Loaded}
 use Rattle.ignore_dir.specs.declared.outside.Outside.{Outside}
 use Rattle.ignore_dir.specs.declared.settings.Settings.{Settings}
 use Rattle.ignore_files.specs.Gives.{IsHonest}
 use Rattle.ignore_files.specs.Tree.{Tree}
+use Rattle.ignore_files.specs.declared.env.Env.{Env}
 use Rattle.ignore_files.specs.declared.files.Files.{Ghosts as Files}
+use Rattle.ignore_files.specs.declared.types.Contents.{Contents}
+use Rattle.ignore_files.specs.declared.types.Refusal.{Refusal}
+use Rattle.ignore_rules.specs.Rules.{Ruleset}
 use Rattle.ignore_walk.proofs.EndLemmas.{whole_finished}
+use Rattle.ignore_walk.specs.Below.{KeepsBelow}
 use Rattle.ignore_walk.specs.Entry.{Item}
 use Rattle.ignore_walk.specs.Finished.{IsEnd, IsFinished}
 use Rattle.ignore_walk.specs.GoesOn.{GoesOn, is_fatal}
+use Rattle.ignore_walk.specs.Paces.{work_at, work_of}
 use Rattle.ignore_walk.specs.Runs.{EndsLast, IsRun}
 use Rattle.ignore_walk.specs.Scene.{Scene}
 use Rattle.ignore_walk.specs.Suits.{Suits, order_by}
@@ -24,11 +32,18 @@ use Rattle.ignore_walk.specs.Whole.{Whole}
 use Rattle.ignore_walk.specs.declared.callbacks.Callbacks.{Ghosts as Callbacks}
 use Rattle.ignore_walk.specs.declared.callbacks.Options.{Options as Chosen}
 use Rattle.ignore_walk.specs.declared.callbacks.Order.{Order}
+use Rattle.ignore_walk.specs.declared.ground.Ground.{Ground}
+use Rattle.ignore_walk.specs.declared.walk.Walk.{Walk}
+use Rattle.ignore.specs.Asked.{IsGlobalByIf, IsOutsideBy, base_dir}
+use Rattle.ignore.specs.Closures.{options_of}
 use Rattle.ignore.specs.declared.options.WalkOptions.{WalkOptions}
 use Rattle.commands.proofs.WalkLemmas.{within}
+use Rattle.commands.specs.Walking.{IsTrimmed}
+use Rattle.commands.specs.declared.by_name.ByName.{ByName}
 use Rattle.ig_options.specs.Settings.{most_steps}
 use Rattle.ig_options.specs.declared.options.Options.{Options}
 use Rattle.ig_commands.specs.Listing.{AreAll, AreCut, listing}
+use Rattle.ig_commands.specs.Walked.{IsFor, IsWalkOf, at_roots}
 
 -- a view of files, and an owner that lets each entry pass and compares as texts do, suit a list
 pub suits_listing : {F S : Type 0} (files : Files F) (calls : Callbacks S) (f : F) (owner : S) (chosen : Chosen) (tree : Tree)
@@ -101,3 +116,49 @@ listed g roots all left are limit enough ends done run =
             ],
       )
     ]
+
+-- The same over any files.
+
+-- the settings of a list besides those of its directories
+abbrev pub chosen : Options → Chosen
+chosen o = record { order = o.order; same_file_system = o.one_file_system; limit = most_steps }
+
+chosen_by : (o : Options) (b : WalkOptions) → IsFor o b → chosen o ≡ options_of b o.order
+chosen_by o b so =
+    ap (λ (d : Bool). let made : Chosen = record { order = o.order; same_file_system = d; limit = most_steps } in made) (sym so.device)
+    ∙ ap (λ (n : ℕ). let made : Chosen = record { order = o.order; same_file_system = b.same_file_system; limit = n } in made) (sym so.limit)
+
+-- the rules of the global file don't depend on the roots
+global_at : (asked : Bool) (Gives : Path → Result Contents Refusal → Type 0) (b : WalkOptions) (roots : List Path) (dir : Option Path)
+    (rules : Ruleset) → IsGlobalByIf asked Gives b dir rules → IsGlobalByIf asked Gives (at_roots b roots) dir rules
+global_at false Gives b roots dir rules h = h
+global_at true Gives b roots None rules h = h
+global_at true Gives b roots (Some dir) rules h = h
+
+-- a walk over this ground is one of the options
+pub is_walk_of : {F : Type 0} (files : Files F) (f : F) (env : Env) (o : Options) (b : WalkOptions) (roots : List (List ℕ))
+    (ground : Ground F ByName) (w : Walk F ByName) → AllZip IsTrimmed (map string_bytes o.roots.items) roots → w.ground ≡ ground
+    → ground.files.now ≡ f → ground.settings ≡ b.settings → ground.options ≡ chosen o
+    → IsOutsideBy (files.contents_gives f) env b ground.outside → work_of w.stack ≡ work_at roots → KeepsBelow roots w.stack
+    → w.left ≡ most_steps → IsFor o b → IsWalkOf files f env o b w
+is_walk_of {F} files f env o b roots ground w trimmed is over settings options by begins below limit so = record {
+  roots = roots;
+  trimmed = trimmed;
+  owner = w.ground.owner;
+  goes_by = record {
+    over = ap (λ (g : Ground F ByName). g.files.now) is ∙ over;
+    closures = refl;
+    settings = ap (λ (g : Ground F ByName). g.settings) is ∙ settings;
+    options = ap (λ (g : Ground F ByName). g.options) is ∙ (options ∙ chosen_by o b so);
+    outside = subst (λ (g : Ground F ByName). IsOutsideBy (files.contents_gives f) env (at_roots b roots) g.outside) (sym is)
+        record {
+          overrides = by.overrides;
+          types = by.types;
+          explicit = by.explicit;
+          global = global_at b.settings.git_global (files.contents_gives f) b roots (base_dir b env) ground.outside.global by.global;
+        };
+    roots = begins;
+    below = below;
+  };
+  limit = limit ∙ sym so.limit;
+}

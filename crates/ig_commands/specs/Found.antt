@@ -1,5 +1,5 @@
 -- What `unused` notes of surveys: the rules that were read, and those that decided.
-use Rattle.std.specs.Prelude.{◌≡◌, ◌≤◌, ℕ, List, [], ◌∷◌, ◌++◌, length, map, Option, None, Ok, Err}
+use Rattle.std.specs.Prelude.{◌≡◌, ◌⊎◌, ℕ, List, [], ◌∷◌, ◌++◌, map, Option, None, Ok, Err}
 use Rattle.std.specs.List.{flat_map}
 use Rattle.std.specs.Option.{option_or, option_to_list}
 use Rattle.ignore_base.specs.Text.{Bytes, Path}
@@ -9,11 +9,10 @@ use Rattle.ignore_query.specs.Forget.{ListsKept, kept_dirs}
 use Rattle.ignore_query.specs.KeptRules.{rules_of}
 use Rattle.ignore_query.specs.declared.incremental.IncrementalIgnore.{IncrementalIgnore}
 use Rattle.ignore_query.specs.declared.kept.Cache.{Cache}
-use Rattle.ignore_survey.specs.Survey.{IsSurvey, Item}
 use Rattle.ignore_why.specs.Cited.{Named}
 use Rattle.ig_commands.specs.Form.{rule_of}
 use Rattle.ig_commands.specs.Rules.{given_at}
-use Rattle.ig_commands.specs.Surveys.{AreMet, OfMatcher, OfRoot, Seen, most_items}
+use Rattle.ig_commands.specs.Surveys.{AreAll, IsCut, OfMatcher, OfRoot, Seen}
 
 -- what the rules of a list are at each place: the first of the list that stands there
 abbrev pub first_at : List Named → Path → ℕ → Option Bytes
@@ -26,10 +25,11 @@ deciding [] = []
 deciding ((Ok e, problem) ∷ more) = option_to_list (rule_of e.why) ++ deciding more
 deciding ((Err p, problem) ∷ more) = deciding more
 
--- a survey has met these items, and these are the rules of the directories that are kept after it
+-- these are the items of the survey of a scene, and these are the rules of the directories that are
+-- kept after it; or the limit was met
 abbrev pub Finds : List Named → QueryScene → List Seen → Type 0
-Finds rules g seen = (items : List Item) → IsSurvey g items → length items ≤ most_items
-    → (new : Cache) × AreMet g items seen [] new × (rules ≡ flat_map (rules_of g) (kept_dirs new)) × ListsKept new
+Finds rules g seen =
+    ((new : Cache) × AreAll g seen new × (rules ≡ flat_map (rules_of g) (kept_dirs new)) × ListsKept new) ⊎ IsCut g seen
 
 -- the same of the survey of a matcher's root
 abbrev pub FindsOf : {F : Type 0} → Files F → F → IncrementalIgnore → OfRoot × List Named → Type 0

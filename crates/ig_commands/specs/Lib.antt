@@ -2,8 +2,10 @@ pub mod Stops
 pub mod Counts
 pub mod Writing
 pub mod Names
+pub mod Folders
 pub mod Reports
 pub mod Types
+pub mod Walked
 pub mod Listing
 pub mod Form
 pub mod Root

@@ -29,7 +29,7 @@ use Rattle.ignore.specs.Builder.{with_overrides, with_types}
 use Rattle.ignore.specs.declared.options.WalkOptions.{WalkOptions}
 use Rattle.commands.specs.Walking.{IsCut, IsTrimmed}
 use Rattle.ig_options.specs.Choices.{IsDraft, RefusesTypes}
-use Rattle.ig_options.specs.Files.{AddsFiles, named_files}
+use Rattle.ig_options.specs.Files.{AddsFiles, AddsFilesBy, named_files}
 use Rattle.ig_options.specs.Globs.{AreGlobs, RefusesOneOf}
 use Rattle.ig_options.specs.Settings.{most_steps, walk_options}
 use Rattle.ig_options.specs.declared.options.Options.{Options}
@@ -37,6 +37,7 @@ use Rattle.ig_commands.specs.Counts.{capped, counted, stats_line, status_of}
 use Rattle.ig_commands.specs.Reports.{is_known, is_reported, report_line, report_of, first_reports, whole_reports}
 use Rattle.ig_commands.specs.Stops.{EndsAfter}
 use Rattle.ig_commands.specs.declared.stop.Stop.{Stop}
+use Rattle.ig_commands.specs.Walked.{AreFirstWalked, AreWalked}
 use Rattle.ig_commands.specs.Writing.{is_found, lines_of}
 
 -- the directory that globs are relative to: the working directory, or no directory where that isn't
@@ -62,6 +63,16 @@ pub record IsAsked (tree : Tree) (env : Env) (o : Options) (first : Draft) (b : 
   pub found : List (Option Problem)
   pub files : AddsFiles tree env (named_files o) (with_types (with_overrides (walk_options o) globs) types) b found
   pub told : problems ≡ named_told o found
+
+-- the same over any files: the rules of the files that are named are by answers for them
+pub record IsAskedBy {F : Type 0} (files : Files F) (f : F) (env : Env) (o : Options) (first : Draft) (b : WalkOptions) : Type 0 where
+  pub globs : Ruleset
+  pub are_globs : AreGlobs o (base_of env) globs
+  pub draft : Draft
+  pub is_draft : IsDraft o first draft
+  pub types : Matcher
+  pub are_types : IsBuilt draft types
+  pub added : AddsFilesBy (files.contents_gives f) env (named_files o) (with_types (with_overrides (walk_options o) globs) types) b
 
 -- a glob, a definition or a choice of the options is rejected with this problem
 abbrev pub RefusesOptions : Env → Options → Draft → Problem → Type 0
@@ -160,12 +171,13 @@ pub record Lists (o : Options) (problems : List (Option Problem)) (items : List 
   pub ends : status ≡ status_of (all_reported o problems items) (found_in o items)
   pub enough : All (λ item. item ≢ Err memory) items
 
--- a list has written its whole list, by the settings that the options ask for in each tree that the
--- files are consistent with; or the options are rejected, nothing was written, their problem was
--- reported, and the status is 2
+-- a list has written its whole list: over any files all that a walk by the settings yields that the
+-- options ask for, and in each tree that the files are consistent with the items of that walk; or the
+-- options are rejected, nothing was written, their problem was reported, and the status is 2
 abbrev pub ListsAsked : {F : Type 0} → Files F → F → Env → Options → Draft → ℕ → (Bytes → Type 0) → (Bytes → Type 0) → Type 0
 ListsAsked files f env o first status out err =
     ((b : WalkOptions) × (problems : List (Option Problem)) × (items : List Item) × Lists o problems items status out err
+    × IsAskedBy files f env o first b × AreWalked files f env o b items
     × ((tree : Tree) → IsHonest files f tree → IsAsked tree env o first b problems × AreListed tree env o b items))
     ⊎ ((problem : Problem) × RefusesOptions env o first problem × (status ≡ 2) × out [] × err (report_line problem))
 
@@ -174,5 +186,6 @@ abbrev pub EndsAsked : {F : Type 0} → Files F → F → Env → Options → Dr
 EndsAsked files f env o first out err stop =
     ((b : WalkOptions) × (problems : List (Option Problem)) × (items : List Item)
     × EndsAfter (flat_map (lines_of o) items) (begun_reports o problems items) out err stop
+    × IsAskedBy files f env o first b × AreFirstWalked files f env o b items
     × ((tree : Tree) → IsHonest files f tree → IsAsked tree env o first b problems × AreFirst tree env o b items))
     ⊎ EndsAfter [] [] out err stop

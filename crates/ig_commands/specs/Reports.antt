@@ -1,18 +1,15 @@
 -- What the program reports of the items of a walk.
 use Rattle.std.specs.Prelude.{◌≡◌, ℕ, ◌-◌, ◌==◌, Bool, true, false, List, [], ◌∷◌, ◌++◌, codes, Option, None, Some, Ok, Err, option_map}
 use Rattle.std.specs.Prelude.{if◌then◌else◌}
-use Rattle.std.specs.BTreeMap.{BTreeMap, get}
 use Rattle.std.specs.Fmt.{decimal}
 use Rattle.std.specs.Option.{option_or}
-use Rattle.std.specs.Ordering.{nat_cmp}
 use Rattle.ignore_base.specs.Text.{Bytes, Path}
 use Rattle.ignore_base.specs.Errors.{problem_text}
 use Rattle.ignore_base.specs.Problem.{Problem, several, at_line, at_path, at_depth, loop, io, glob, unrecognized, invalid_definition}
 use Rattle.ignore_base.specs.Problem.{memory}
 use Rattle.ignore_base.specs.declared.fault.Fault.{Fault}
 use Rattle.ignore_base.specs.declared.fault.Fault.TheVariants.{BadName}
-use Rattle.ignore_walk.specs.Entry.{Item, entry_of}
-use Rattle.ignore_walk.specs.declared.entry.DirEntry.{DirEntry}
+use Rattle.ignore_walk.specs.Entry.{Item}
 use Rattle.ig_options.specs.declared.options.Options.{Options}
 use Rattle.ig_commands.specs.Names.{names_told, still, told_at, told_before, with_name}
 use Rattle.ig_commands.specs.declared.names.Unnamed.{Unnamed}
@@ -43,14 +40,6 @@ to_report o problem = if o.no_ignore_messages then None else problem
 abbrev pub is_reported : Options → Item → Bool
 is_reported o (Ok (e, p)) = is_known (to_report o p)
 is_reported o (Err p) = true
-
--- the path of an entry as the code keeps it
-abbrev pub path_of : DirEntry → Path
-path_of e = (entry_of e).path
-
--- the path of the entry that a table has for a depth
-abbrev pub last_in : BTreeMap ℕ DirEntry → ℕ → Option Path
-last_in table depth = option_map path_of (get nat_cmp table depth)
 
 -- the path of an entry, where an item is one at this depth
 abbrev pub path_at : ℕ → Item → Option Path

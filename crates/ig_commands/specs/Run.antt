@@ -12,7 +12,7 @@ use Rattle.ig_options.specs.declared.options.Options.{Options}
 use Rattle.ig_options.specs.declared.words.Task.{Task}
 use Rattle.ig_options.specs.declared.words.Task.TheVariants as command
 use Rattle.ig_commands.specs.Ignored.{IgnoredAsked, IgnoredEnds}
-use Rattle.ig_commands.specs.Lint.{IsLintStatus}
+use Rattle.ig_commands.specs.Lint.{LintAsked}
 use Rattle.ig_commands.specs.Listing.{EndsAsked, ListsAsked, RefusesOptions}
 use Rattle.ig_commands.specs.Reports.{report_line}
 use Rattle.ig_commands.specs.Same.{SameAsked, SameEnds}
@@ -29,8 +29,8 @@ Does files f env o first command.List input status out err = ListsAsked files f 
 Does files f env o first command.Ignored input status out err = IgnoredAsked files f env o first status out err
 Does files f env o first command.Why input status out err = WhyAsked files f env o first status out err
 Does files f env o first command.Unused input status out err = UnusedAsked files f env o first status out err
-Does files f env o first command.Lint input status out err = IsLintStatus status
-Does files f env o first command.LintJson input status out err = IsLintStatus status
+Does files f env o first command.Lint input status out err = LintAsked files f env o first false status out err
+Does files f env o first command.LintJson input status out err = LintAsked files f env o first true status out err
 Does files f env o first (command.Same most) input status out err = SameAsked files f o most input status out err
 Does files f env o first command.Types input status out err = ListsTypes o.type_add first status out err
 

@@ -1,9 +1,10 @@
 -- What surveys of roots meet, and what is reported of it.
-use Rattle.std.specs.Prelude.{◌≡◌, ◌⊎◌, ◌≤◌, ℕ, ◌+◌, Bool, true, false, All, List, [], ◌∷◌, ◌++◌, length, map, string_bytes, Option, None, Some, option_map, Result, Ok, Err, if◌then◌else◌}
+use Rattle.std.specs.Prelude.{◌≡◌, ◌≢◌, ◌⊎◌, ◌≤◌, ℕ, ◌+◌, Bool, true, false, All, List, [], ◌∷◌, ◌++◌, length, map, string_bytes, Option, None, Some, option_map, Result, Ok, Err, if◌then◌else◌}
 use Rattle.std.specs.List.{flat_map}
 use Rattle.ignore_base.specs.Problem.{Problem, problem_of, several, at_line, at_path, at_depth, loop, io, glob, unrecognized, invalid_definition, memory}
 use Rattle.ignore_base.specs.Text.{Bytes, Path}
 use Rattle.ignore_base.specs.declared.error.Error.{Error}
+use Rattle.ignore_base.specs.declared.fault.Fault.TheVariants.{StepLimit}
 use Rattle.ignore_dir.specs.Load.{AreLoads, Loaded}
 use Rattle.ignore_dir.specs.Scene.{QueryScene, scene}
 use Rattle.ignore_dir.specs.declared.outside.Outside.{Outside}
@@ -113,27 +114,34 @@ AreReported g old (s ∷ more) new = (between : Cache) × IsReported g old s bet
 abbrev pub most_items : ℕ
 most_items = 18446744073709551615
 
--- of the items of a survey these were met first, and others remain; nothing was kept before them, and
--- this after them
-pub record AreMet (g : QueryScene) (items : List Item) (seen : List Seen) (rest : List Item) (new : Cache) : Type 0 where
-  pub are : items ≡ map (λ s. s.0) seen ++ rest
+-- these items were met in turn; nothing was kept before them, and this after them
+pub record AreMet (g : QueryScene) (seen : List Seen) (new : Cache) : Type 0 where
   pub old : Cache
   pub fresh : KeepsNothing old
   pub reported : AreReported g old seen new
-
--- the survey of a scene has a list, which is no longer than a survey may be
-abbrev pub HasList : QueryScene → Type 0
-HasList g = (items : List Item) × IsSurvey g items × (length items ≤ most_items)
 
 -- these are the first items of the survey of a scene, by its list, where that is no longer than a
 -- survey may be
 abbrev pub IsBegun : QueryScene → List Seen → Type 0
 IsBegun g seen = (items : List Item) → IsSurvey g items → length items ≤ most_items
-    → (rest : List Item) × (new : Cache) × AreMet g items seen rest new
+    → (rest : List Item) × (items ≡ map (λ s. s.0) seen ++ rest) × (new : Cache) × AreMet g seen new
 
--- these are all of them
+-- these are the items of the survey of a scene: its list, which is no longer than a survey may be
+pub record AreAll (g : QueryScene) (seen : List Seen) (new : Cache) : Type 0 where
+  pub list : IsSurvey g (map (λ s. s.0) seen)
+  pub fits : length seen ≤ most_items
+  pub met : AreMet g seen new
+
+-- these are as many items as a survey may have, and then the limit: the first items of the survey of a
+-- scene, by its list, of which others remain
+abbrev pub IsCut : QueryScene → List Seen → Type 0
+IsCut g seen =
+    (first : List Seen) × (seen ≡ first ++ (Err (io StepLimit), None) ∷ []) × (length first ≡ most_items)
+    × ((items : List Item) → IsSurvey g items → (rest : List Item) × (items ≡ map (λ s. s.0) first ++ rest) × (rest ≢ []))
+
+-- these are all items of the survey of a scene; or as many as a survey may have, and then the limit
 abbrev pub IsWhole : QueryScene → List Seen → Type 0
-IsWhole g seen = (items : List Item) → IsSurvey g items → length items ≤ most_items → (new : Cache) × AreMet g items seen [] new
+IsWhole g seen = ((new : Cache) × AreAll g seen new) ⊎ IsCut g seen
 
 -- the items of a root
 abbrev pub OfRoot : Type 0

@@ -1,5 +1,5 @@
 -- Which rules decide on no entry met.
-use Rattle.std.specs.Prelude.{◌≡◌, ◌⊎◌, ℕ, Bool, true, ◌<◌, All, List, [], ◌∷◌, ◌++◌, Contains, Option, None, Some, Ok, if◌then◌else◌, length, map, codes, string_bytes}
+use Rattle.std.specs.Prelude.{◌≡◌, ◌⊎◌, ℕ, Bool, true, ◌<◌, ◌≤◌, All, List, [], ◌∷◌, ◌++◌, Contains, Option, None, Some, Ok, if◌then◌else◌, length, map, codes, string_bytes}
 use Rattle.std.specs.Cmp.Lexicographic.{slice_cmp}
 use Rattle.std.specs.List.{AllZip, flat_map}
 use Rattle.std.specs.Ordering.{is_lt, nat_cmp}
@@ -28,7 +28,7 @@ use Rattle.ig_commands.specs.Form.{at_end, rule_fields, rule_of}
 use Rattle.ig_commands.specs.Listing.{GoesBy, RefusesOptions}
 use Rattle.ig_commands.specs.Reports.{report_line, report_of}
 use Rattle.ig_commands.specs.Stops.{EndsAfter}
-use Rattle.ig_commands.specs.Surveys.{AreMetBy, HasList, IsAskedMet, IsWhole, OfRoot, all_seen, all_told, told_by, wrong_in}
+use Rattle.ig_commands.specs.Surveys.{AreMetBy, IsAskedMet, IsWhole, OfRoot, all_seen, all_told, most_items, told_by, wrong_in}
 use Rattle.ig_commands.specs.Worktree.{worktree}
 use Rattle.ig_commands.specs.declared.stop.Stop.{Stop}
 
@@ -93,12 +93,12 @@ pub record AreUnused (at : Path → QueryScene) (all : List OfRoot) (unused : Li
   pub in_order : AreInOrder unused
 
 -- these are the items of the surveys that are asked for, and the rules that decide on none of them,
--- where the survey of each root has a list that is no longer than a survey may be
+-- where of each root no more items were met than a survey may have
 abbrev pub AreUnusedIn : Tree → Env → Options → WalkOptions → List OfRoot → List FileRule → Type 0
 AreUnusedIn tree env o b all unused =
     (outside : Outside) × GoesBy tree env o b (map (λ r. r.0) all) outside
     × ((loads : Path → Loaded) → AreLoads tree b.settings loads → let at = λ (root : Path). scene tree loads b.settings outside root in
-    All (λ r. IsWhole (at r.0) r.1) all × (All (λ r. HasList (at r.0)) all → AreUnused at all unused))
+    All (λ r. IsWhole (at r.0) r.1) all × (All (λ r. length r.1 ≤ most_items) all → AreUnused at all unused))
 
 -- what is written of a rule
 abbrev pub written : Options → FileRule → Bytes

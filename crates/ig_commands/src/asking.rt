@@ -4,7 +4,7 @@ ghost use Rattle.ignore_base.specs.Problem.{problem_of, memory};
 ghost use Rattle.ignore_files.specs.Gives.{IsHonest};
 ghost use Rattle.ignore_files.specs.Tree.{Tree};
 ghost use Rattle.ignore.specs.Builder.{with_hidden, with_overrides, with_types};
-ghost use Rattle.ig_commands.specs.Listing.{IsAsked, RefusesOptions, base_of, named_told};
+ghost use Rattle.ig_commands.specs.Listing.{IsAsked, IsAskedBy, RefusesOptions, base_of, named_told};
 ghost use Rattle.ig_commands.specs.Run.{types_at_first};
 ghost use Rattle.ig_options.specs.Choices.{RefusesTypes};
 ghost use Rattle.ig_options.specs.Globs.{RefusesOneOf};
@@ -34,6 +34,7 @@ pub(crate) fn asked_for<F: Files>(
 ) -> Result<Asked, Error>
     ensures read { (tree : Tree) → IsHonest F.Files world.now.files.now tree
         → IfOk result (λ a. IsAsked tree world.now.env.now options.now first a.walk (map (option_map problem_of) a.errors.items)) }
+    ensures answered { IfOk result (λ a. IsAskedBy F.Files world.now.files.now world.now.env.now options.now first a.walk) }
     ensures refused { IfErr result (λ e. (problem_of e ≡ memory)
         ⊎ RefusesOptions world.now.env.now options.now first (problem_of e)) }
 {

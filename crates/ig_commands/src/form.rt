@@ -171,7 +171,7 @@ pub(crate) fn write_before<W: Write>(form: Form<'_>, out: &mut W) -> Result<(), 
 }
 
 /// Writes what separates the three fields of a rule.
-fn write_between<W: Write>(form: Form<'_>, out: &mut W) -> Result<(), Stop>
+pub(crate) fn write_between<W: Write>(form: Form<'_>, out: &mut W) -> Result<(), Stop>
     ensures writes { OnOk result (Appends (W.contents out.old) (W.contents out.new) (between form.entry.null)) }
     ensures ended { IfErr result IsUnwritten }
 {
@@ -179,7 +179,7 @@ fn write_between<W: Write>(form: Form<'_>, out: &mut W) -> Result<(), Stop>
 }
 
 /// Writes the number of a line, if there is one.
-fn write_number<W: Write>(line: Option<u64>, out: &mut W) -> Result<(), Stop>
+pub(crate) fn write_number<W: Write>(line: Option<u64>, out: &mut W) -> Result<(), Stop>
     ensures writes { OnOk result (Appends (W.contents out.old) (W.contents out.new) (number_text line)) }
     ensures ended { IfErr result IsUnwritten }
 {

@@ -3,6 +3,7 @@
 
 mod asking;
 mod counts;
+mod folders;
 mod form;
 mod ignored;
 mod input;

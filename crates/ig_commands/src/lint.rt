@@ -1,14 +1,24 @@
 //! The command `lint`: what is wrong with files of rules.
-ghost use Rattle.std.specs.Prelude.{IfOk};
-ghost use Rattle.ig_commands.specs.Lint.{IsLintStatus};
+ghost use Rattle.std.specs.Prelude.{◌≡◌, ◌||◌, ◌==◌, ◌++◌, Bool, IfOk, List, OnOk, Option, false, is_some, length, not, true};
+ghost use Rattle.std.specs.Io.KnownBytes.{Appends};
+ghost use Rattle.std.specs.List.{AllZip, flat_map, list_any};
+ghost use Rattle.ignore_base.specs.Text.{Path};
+ghost use Rattle.ignore_files.specs.Gives.{IsHonest};
+ghost use Rattle.ignore_files.specs.Tree.{Tree};
+ghost use Rattle.ig_every.specs.declared.diagnostic.Diagnostic.{Diagnostic};
+ghost use Rattle.ig_every.specs.Linted.{IsLinted};
+ghost use Rattle.ig_every.specs.Texts.{finding_json, wrong_text};
+ghost use Rattle.ig_every.specs.declared.linted.Linted.{Linted};
+ghost use Rattle.ig_commands.specs.Form.{at_end};
+ghost use Rattle.ig_commands.specs.Lint.{IsInFolders, IsLook, IsTold, LintAsked, LintsGiven, LintsMet, Look, MayNote, after_line, fault_line, finding_fields, finding_text, is_found, is_reported, lint_status, look_report, look_text, looked, option_text, refused_text, wanting};
+ghost use Rattle.ig_commands.specs.Sides.{how_read};
 
-use crate::counts::{Counts, Seen, status_of};
-use crate::form::{Form, write_text};
+use crate::form::{Form, write_between, write_number, write_text};
 use crate::reinclude::{is_reincluded, is_top};
 use crate::sides::how_read;
 use crate::sources::{Sources, find_sources, given_sources};
 use crate::stop::Stop;
-use crate::writing::{write_bytes, write_stop};
+use crate::writing::write_bytes;
 use commands::World;
 use ig_every::{Diagnostic, Linted, Wrong, json_of, lint, text_of};
 use ig_options::Options;
@@ -33,7 +43,8 @@ pub(crate) fn lint_files<F: Files, W: Write, E: Write>(
     out: &mut W,
     err: &mut E,
 ) -> Result<u8, Stop>
-    ensures status { IfOk result IsLintStatus }
+    ensures { IfOk result (λ status. LintAsked F.Files world.now.files.now world.now.env.now options.now first false status
+        (Appends (W.contents out.old) (W.contents out.new)) (Appends (E.contents err.old) (E.contents err.new))) }
 {
     let how = How {
         options,
@@ -53,7 +64,8 @@ pub(crate) fn lint_json<F: Files, W: Write, E: Write>(
     out: &mut W,
     err: &mut E,
 ) -> Result<u8, Stop>
-    ensures status { IfOk result IsLintStatus }
+    ensures { IfOk result (λ status. LintAsked F.Files world.now.files.now world.now.env.now options.now first true status
+        (Appends (W.contents out.old) (W.contents out.new)) (Appends (E.contents err.old) (E.contents err.new))) }
 {
     let how = How {
         options,
@@ -77,18 +89,60 @@ fn lint_by<F: Files, W: Write, E: Write>(
     out: &mut W,
     err: &mut E,
 ) -> Result<u8, Stop>
-    ensures { IfOk result IsLintStatus }
+    ensures { IfOk result (λ status. LintAsked F.Files world.now.files.now world.now.env.now how.entry.options.now first how.entry.json status
+        (Appends (W.contents out.old) (W.contents out.new)) (Appends (E.contents err.old) (E.contents err.new))) }
 {
-    if how.options.paths.is_empty() {
-        let found = find_sources(world, how.options, first, err)?;
-        return match found {
-            Some(sources) => lint_all(world, how, &sources, out, err),
-            None => Ok(2),
-        };
+    if has_none(how.options) {
+        return lint_met(world, how, first, out, err);
     }
-    match given_sources(world.alloc, how.options) {
-        Ok(sources) => lint_all(world, how, &sources, out, err),
-        Err(_) => Err(Stop::Memory),
+    lint_given(world, how, out, err)
+}
+
+/// Whether no file is given.
+fn has_none(options: &Options) -> bool
+    ensures { result ≡ (length options.now.paths.items == 0) }
+{
+    options.paths.as_slice().is_empty()
+}
+
+/// Writes what is wrong with the files that are given.
+fn lint_given<F: Files, W: Write, E: Write>(
+    world: &World<'_, F>,
+    how: How<'_>,
+    out: &mut W,
+    err: &mut E,
+) -> Result<u8, Stop>
+    ensures { IfOk result (λ status. LintsGiven F.Files world.now.files.now how.entry.options.now how.entry.json status
+        (Appends (W.contents out.old) (W.contents out.new)) (Appends (E.contents err.old) (E.contents err.new))) }
+{
+    let Ok(sources) = given_sources(world.alloc, how.options) else {
+        return Err(Stop::Memory);
+    };
+    let given = Linting {
+        world,
+        how,
+        sources: &sources,
+        may_note: false,
+    };
+    let paths = sources.outside.as_slice();
+    let seen = look_at(&given, paths, out, err)?;
+    Ok(status_by(false, seen))
+}
+
+/// Writes what is wrong with the files that are met.
+fn lint_met<F: Files, W: Write, E: Write>(
+    world: &World<'_, F>,
+    how: How<'_>,
+    first: TypesBuilder,
+    out: &mut W,
+    err: &mut E,
+) -> Result<u8, Stop>
+    ensures { IfOk result (λ status. LintsMet F.Files world.now.files.now world.now.env.now how.entry.options.now first how.entry.json status
+        (Appends (W.contents out.old) (W.contents out.new)) (Appends (E.contents err.old) (E.contents err.new))) }
+{
+    match find_sources(world, how.options, first, err)? {
+        Some(sources) => lint_all(world, how, &sources, out, err),
+        None => Ok(2),
     }
 }
 
@@ -100,50 +154,77 @@ fn lint_all<F: Files, W: Write, E: Write>(
     out: &mut W,
     err: &mut E,
 ) -> Result<u8, Stop>
-    ensures { IfOk result IsLintStatus }
+    ensures { IfOk result (λ status. (paths : List Path) × (looks : List Look) × (any : Bool)
+        × (status ≡ lint_status (any || list_any is_reported looks) (list_any is_found looks))
+        × Appends (W.contents out.old) (W.contents out.new) (flat_map (look_text how.entry.options.now how.entry.json) looks)
+        × ((tree : Tree) → IsHonest F.Files world.now.files.now tree → AllZip (IsLook tree how.entry.options.now true) paths looks)) }
 {
     let outside = Linting {
         world,
         how,
         sources,
-        has_notes: false,
+        may_note: false,
     };
-    let first = look_at(&outside, &sources.outside, out, err)?;
+    let above = sources.outside.as_slice();
+    let first = look_at(&outside, above, out, err)?;
     let below = Linting {
         world,
         how,
         sources,
-        has_notes: !first.has_rules,
+        may_note: !first.has_rules,
     };
-    let rest = look_at(&below, &sources.below, out, err)?;
-    let reported = Counts::begun(sources.reported);
-    Ok(status_by(reported.and(first.counts.and(rest.counts))))
+    let met = sources.below.as_slice();
+    let rest = look_at(&below, met, out, err)?;
+    let seen = first.and(rest);
+    Ok(status_by(is_any(sources), seen))
 }
 
-/// Which files are looked at, how, and whether rules that re-include nothing are noted.
+/// Whether something was reported while files were sought.
+fn is_any(sources: &Sources) -> bool {
+    sources.reported > 0
+}
+
+/// Which files are looked at, how, and whether rules that re-include nothing may be noted.
 #[derive(Drop)]
 struct Linting<'l, 'w, F: Files> {
     world: &'l World<'w, F>,
     how: How<'l>,
     sources: &'l Sources,
-    has_notes: bool,
+    may_note: bool,
 }
 
-/// What became of files: what was written and reported, and whether any has rules.
+/// What became of files: whether something was reported, whether something is wrong with one, and
+/// whether one has rules.
 #[derive(Clone, Copy)]
-struct Looked {
-    counts: Counts,
+struct Seen {
+    reported: bool,
+    found: bool,
     has_rules: bool,
 }
 
-/// The status: 2 where something was reported, else 1 where something is wrong, and else 0.
-fn status_by(counts: Counts) -> u8
-    ensures { IsLintStatus result }
+impl Seen {
+    /// What became of these files and others.
+    fn and(self, others: Seen) -> Seen
+        ensures reported { result.reported ≡ (self.reported || others.reported) }
+        ensures found { result.found ≡ (self.found || others.found) }
+    {
+        Seen {
+            reported: self.reported || others.reported,
+            found: self.found || others.found,
+            has_rules: self.has_rules || others.has_rules,
+        }
+    }
+}
+
+/// The status: 2 where something was reported, before or of the files, else 1 where something is wrong,
+/// and else 0.
+fn status_by(any: bool, seen: Seen) -> u8
+    ensures { result ≡ lint_status (any || seen.reported) seen.found }
 {
-    match status_of(counts) {
-        0 => 1,
-        1 => 0,
-        _ => 2,
+    if any || seen.reported {
+        2
+    } else {
+        u8::from(seen.found)
     }
 }
 
@@ -153,15 +234,22 @@ fn look_at<F: Files, W: Write, E: Write>(
     paths: &[Name],
     out: &mut W,
     err: &mut E,
-) -> Result<Looked, Stop> {
-    let mut counts = Counts::begun(0);
-    let mut has_rules = false;
+) -> Result<Seen, Stop>
+    ensures { IfOk result (λ seen. (looks : List Look) × (seen.reported ≡ list_any is_reported looks) × (seen.found ≡ list_any is_found looks)
+        × Appends (W.contents out.old) (W.contents out.new) (flat_map (look_text all.now.how.options.now all.now.how.json) looks)
+        × Appends (E.contents err.old) (E.contents err.new) (flat_map look_report looks)
+        × ((tree : Tree) → IsHonest F.Files all.now.world.now.files.now tree → AllZip (IsLook tree all.now.how.options.now all.now.may_note) paths.now looks)) }
+{
+    let mut seen = Seen {
+        reported: false,
+        found: false,
+        has_rules: false,
+    };
     for path in paths {
-        let looked = lint_file(all, path.as_str(), out, err)?;
-        counts = counts.and(looked.counts);
-        has_rules = has_rules || looked.has_rules;
+        let more = lint_file(all, path.as_str(), out, err)?;
+        seen = seen.and(more);
     }
-    Ok(Looked { counts, has_rules })
+    Ok(seen)
 }
 
 /// Writes what is wrong with a file.
@@ -170,18 +258,33 @@ fn lint_file<F: Files, W: Write, E: Write>(
     path: &str,
     out: &mut W,
     err: &mut E,
-) -> Result<Looked, Stop> {
-    let alloc = all.world.alloc;
-    match all.world.files.contents(alloc, path) {
+) -> Result<Seen, Stop>
+    ensures { IfOk result (λ seen. (look : Look) × (seen.reported ≡ is_reported look) × (seen.found ≡ is_found look)
+        × Appends (W.contents out.old) (W.contents out.new) (look_text all.now.how.options.now all.now.how.json look)
+        × Appends (E.contents err.old) (E.contents err.new) (look_report look)
+        × ((tree : Tree) → IsHonest F.Files all.now.world.now.files.now tree → IsLook tree all.now.how.options.now all.now.may_note path.now look)) }
+{
+    match all.world.files.contents(all.world.alloc, path) {
         Ok(contents) => lint_contents(all, path, &contents, out, err),
-        Err(Refusal::Fault(fault)) => {
+        Err(refusal) => report_refusal(path, refusal, err),
+    }
+}
+
+/// Reports that a file can't be read, unless memory ran out, which ends the command.
+fn report_refusal<E: Write>(path: &str, refusal: Refusal, err: &mut E) -> Result<Seen, Stop>
+    ensures { IfOk result (λ seen. (fault : Fault) × (refusal ≡ Refusal.Fault fault) × (seen.reported ≡ true) × (seen.found ≡ false)
+        × Appends (E.contents err.old) (E.contents err.new) (fault_line path.now fault)) }
+{
+    match refusal {
+        Refusal::Fault(fault) => {
             report_fault(path, fault, err)?;
-            Ok(Looked {
-                counts: Counts::begun(1),
+            Ok(Seen {
+                reported: true,
+                found: false,
                 has_rules: false,
             })
         }
-        Err(Refusal::Memory) => Err(Stop::Memory),
+        Refusal::Memory => Err(Stop::Memory),
     }
 }
 
@@ -192,21 +295,46 @@ fn lint_contents<F: Files, W: Write, E: Write>(
     contents: &Contents,
     out: &mut W,
     err: &mut E,
-) -> Result<Looked, Stop> {
-    let alloc = all.world.alloc;
-    let options = all.how.options;
+) -> Result<Seen, Stop>
+    ensures { IfOk result (λ seen. (linted : Linted) × (told : List (Option Diagnostic)) × (has_notes : Bool)
+        × MayNote all.now.may_note has_notes × IsLinted (how_read all.now.how.options.now) path.now contents.now.bytes has_notes linted
+        × AllZip IsTold linted.verdicts.rules.items told
+        × (seen.reported ≡ is_reported (looked path.now contents.now.fault linted told)) × (seen.found ≡ is_found (looked path.now contents.now.fault linted told))
+        × Appends (W.contents out.old) (W.contents out.new) (look_text all.now.how.options.now all.now.how.json (looked path.now contents.now.fault linted told))
+        × Appends (E.contents err.old) (E.contents err.new) (look_report (looked path.now contents.now.fault linted told))) }
+{
+    let linted = linted_of(all, path, contents)?;
+    let found = write_linted(all, path, &linted, out)?;
+    let reported = report_wanting(path, contents.fault, linted.verdicts.refused, err)?;
+    Ok(Seen {
+        reported,
+        found,
+        has_rules: has_rules(&linted),
+    })
+}
+
+/// Whether a file has rules.
+fn has_rules(linted: &Linted) -> bool {
+    !linted.verdicts.rules.is_empty() || linted.verdicts.refused.is_some()
+}
+
+/// What is wrong with a file, of which this was read.
+fn linted_of<F: Files>(
+    all: &Linting<'_, '_, F>,
+    path: &str,
+    contents: &Contents,
+) -> Result<Linted, Stop>
+    ensures { IfOk result (λ linted. (has_notes : Bool) × MayNote all.now.may_note has_notes
+        × IsLinted (how_read all.now.how.options.now) path.now contents.now.bytes has_notes linted) }
+{
     let Ok(has_notes) = wants_notes(all, path, contents) else {
         return Err(Stop::Memory);
     };
-    let Ok(linted) = lint(alloc, how_read(options), path, contents, has_notes) else {
-        return Err(Stop::Memory);
-    };
-    let counts = write_linted(all, path, &linted, out)?;
-    let reported = report_wanting(path, contents.fault, &linted, err)?;
-    Ok(Looked {
-        counts: counts.and(Counts::begun(u64::from(reported))),
-        has_rules: !linted.rules.is_empty() || linted.refused.is_some(),
-    })
+    let how = how_read(all.how.options);
+    match lint(all.world.alloc, how, path, contents, has_notes) {
+        Ok(linted) => Ok(linted),
+        Err(_) => Err(Stop::Memory),
+    }
 }
 
 /// Whether rules of a file that re-include nothing are noted: no other file is above it. A file without
@@ -215,52 +343,141 @@ fn wants_notes<F: Files>(
     all: &Linting<'_, '_, F>,
     path: &str,
     contents: &Contents,
-) -> Result<bool, Error> {
-    if !all.has_notes || !contents.bytes.as_slice().contains(&b'!') {
+) -> Result<bool, Error>
+    ensures { IfOk result (MayNote all.now.may_note) }
+{
+    if !all.may_note || !contents.bytes.as_slice().contains(&b'!') {
         return Ok(false);
     }
     is_top(all.world, all.how.options, &all.sources.below, path)
 }
 
-/// Writes what is wrong with a file.
+/// Writes what is wrong with a file. It returns whether anything is.
 fn write_linted<F: Files, W: Write>(
     all: &Linting<'_, '_, F>,
     path: &str,
     linted: &Linted,
     out: &mut W,
-) -> Result<Counts, Stop> {
-    let mut counts = Counts::begun(0);
-    for diagnostic in &linted.lines {
-        counts = counts.with(write_told(all, path, diagnostic, out)?);
-    }
-    for judged in &linted.rules {
-        if let Some(diagnostic) = judged {
-            counts = counts.with(write_told(all, path, diagnostic, out)?);
-        }
-    }
-    for note in &linted.notes {
-        write_found(all.world.alloc, all.how, path, note, out)?;
-    }
-    Ok(counts)
+) -> Result<bool, Stop>
+    ensures { IfOk result (λ found. (told : List (Option Diagnostic)) × AllZip IsTold linted.now.verdicts.rules.items told
+        × (found ≡ (not (length linted.now.lines.items == 0) || list_any is_some told))
+        × Appends (W.contents out.old) (W.contents out.new) (flat_map (finding_text all.now.how.options.now all.now.how.json path.now) linted.now.lines.items
+        ++ (flat_map (option_text all.now.how.options.now all.now.how.json path.now) told
+        ++ flat_map (finding_text all.now.how.options.now all.now.how.json path.now) linted.now.verdicts.notes.items))) }
+{
+    write_lines(all, path, linted, out)?;
+    let is_told = write_verdicts(all, path, linted, out)?;
+    write_notes(all, path, linted, out)?;
+    Ok(has_found(linted, is_told))
 }
 
-/// Writes what is wrong with a line, unless another file mends it.
+/// Whether anything is wrong with the lines of a file, or told of its rules.
+fn has_found(linted: &Linted, is_told: bool) -> bool
+    ensures { result ≡ (not (length linted.now.lines.items == 0) || is_told) }
+{
+    !linted.lines.is_empty() || is_told
+}
+
+/// Writes what is wrong with the lines of a file.
+fn write_lines<F: Files, W: Write>(
+    all: &Linting<'_, '_, F>,
+    path: &str,
+    linted: &Linted,
+    out: &mut W,
+) -> Result<(), Stop>
+    ensures { OnOk result (Appends (W.contents out.old) (W.contents out.new) (flat_map (finding_text all.now.how.options.now all.now.how.json path.now) linted.now.lines.items)) }
+{
+    write_all(all.world.alloc, all.how, path, &linted.lines, out)
+}
+
+/// Writes the notes on the rules of a file.
+fn write_notes<F: Files, W: Write>(
+    all: &Linting<'_, '_, F>,
+    path: &str,
+    linted: &Linted,
+    out: &mut W,
+) -> Result<(), Stop>
+    ensures { OnOk result (Appends (W.contents out.old) (W.contents out.new) (flat_map (finding_text all.now.how.options.now all.now.how.json path.now) linted.now.verdicts.notes.items)) }
+{
+    write_all(all.world.alloc, all.how, path, &linted.verdicts.notes, out)
+}
+
+/// Writes what is told of the rules of a file. It returns whether anything is.
+fn write_verdicts<F: Files, W: Write>(
+    all: &Linting<'_, '_, F>,
+    path: &str,
+    linted: &Linted,
+    out: &mut W,
+) -> Result<bool, Stop>
+    ensures { IfOk result (λ any. (told : List (Option Diagnostic)) × AllZip IsTold linted.now.verdicts.rules.items told × (any ≡ list_any is_some told)
+        × Appends (W.contents out.old) (W.contents out.new) (flat_map (option_text all.now.how.options.now all.now.how.json path.now) told)) }
+{
+    write_rules(all, path, &linted.verdicts.rules, out)
+}
+
+/// Writes each of what is wrong with lines of a file.
+fn write_all<W: Write>(
+    alloc: Global,
+    how: How<'_>,
+    path: &str,
+    found: &[Diagnostic],
+    out: &mut W,
+) -> Result<(), Stop>
+    ensures { OnOk result (Appends (W.contents out.old) (W.contents out.new) (flat_map (finding_text how.entry.options.now how.entry.json path.now) found.now)) }
+{
+    for diagnostic in found {
+        write_found(alloc, how, path, diagnostic, out)?;
+    }
+    Ok(())
+}
+
+/// Writes what is wrong with the rules of a file. It returns whether anything is told.
+fn write_rules<F: Files, W: Write>(
+    all: &Linting<'_, '_, F>,
+    path: &str,
+    rules: &[Option<Diagnostic>],
+    out: &mut W,
+) -> Result<bool, Stop>
+    ensures { IfOk result (λ any. (told : List (Option Diagnostic)) × AllZip IsTold rules.now told × (any ≡ list_any is_some told)
+        × Appends (W.contents out.old) (W.contents out.new) (flat_map (option_text all.now.how.options.now all.now.how.json path.now) told)) }
+{
+    let mut any = false;
+    for judged in rules {
+        let is_told = write_told(all, path, judged, out)?;
+        any = either(any, is_told);
+    }
+    Ok(any)
+}
+
+/// Whether one of two things is so.
+fn either(one: bool, other: bool) -> bool
+    ensures { result ≡ (one || other) }
+{
+    one || other
+}
+
+/// Writes what is wrong with a rule, if anything is, unless another file mends it. It returns whether it
+/// is told.
 fn write_told<F: Files, W: Write>(
     all: &Linting<'_, '_, F>,
     path: &str,
-    diagnostic: &Diagnostic,
+    judged: &Option<Diagnostic>,
     out: &mut W,
-) -> Result<Seen, Stop> {
+) -> Result<bool, Stop>
+    ensures { IfOk result (λ is_told. (told : Option Diagnostic) × IsTold judged.now told × (is_told ≡ is_some told)
+        × Appends (W.contents out.old) (W.contents out.new) (option_text all.now.how.options.now all.now.how.json path.now told)) }
+{
+    let Some(diagnostic) = judged else {
+        return Ok(false);
+    };
     let Ok(mended) = is_mended(all, path, diagnostic) else {
         return Err(Stop::Memory);
     };
-    if !mended {
-        write_found(all.world.alloc, all.how, path, diagnostic, out)?;
+    if mended {
+        return Ok(false);
     }
-    Ok(Seen {
-        reported: false,
-        found: !mended,
-    })
+    write_found(all.world.alloc, all.how, path, diagnostic, out)?;
+    Ok(true)
 }
 
 /// Whether a rule decides in ignored folders alone, and another file re-includes the folder.
@@ -268,13 +485,23 @@ fn is_mended<F: Files>(
     all: &Linting<'_, '_, F>,
     path: &str,
     diagnostic: &Diagnostic,
+) -> Result<bool, Error>
+    ensures { IfOk result (λ mended. mended ≡ true → IsInFolders diagnostic.now.wrong) }
+{
+    match &diagnostic.wrong {
+        Wrong::InFolders(folder, _) => has_way(all, path, folder.as_str()),
+        _ => Ok(false),
+    }
+}
+
+/// Whether another file re-includes a folder, by its path in the folder of a file.
+fn has_way<F: Files>(
+    all: &Linting<'_, '_, F>,
+    path: &str,
+    folder: &str,
 ) -> Result<bool, Error> {
-    let Wrong::InFolders(folder, _) = &diagnostic.wrong else {
-        return Ok(false);
-    };
     let (outside, below) = (&all.sources.outside, &all.sources.below);
     let options = all.how.options;
-    let folder = folder.as_str();
     if is_reincluded(all.world, options, outside, path, folder)? {
         return Ok(true);
     }
@@ -286,26 +513,41 @@ fn is_mended<F: Files>(
 fn report_wanting<E: Write>(
     path: &str,
     fault: Option<Fault>,
-    linted: &Linted,
+    refused: Option<Refused>,
     err: &mut E,
-) -> Result<bool, Stop> {
+) -> Result<bool, Stop>
+    ensures { IfOk result (λ reported. (reported ≡ (is_some fault || is_some refused))
+        × Appends (E.contents err.old) (E.contents err.new) (wanting path.now fault refused)) }
+{
     if let Some(fault) = fault {
         report_fault(path, fault, err)?;
         return Ok(true);
     }
-    let text = match linted.refused {
-        None => return Ok(false),
-        Some(Refused::TooLarge) => "too many states to judge its rules",
-        Some(_) => "the search isn't accepted by its check",
+    let Some(refused) = refused else {
+        return Ok(false);
     };
+    let text = unjudged_text(refused);
     match writeln!(err, "ig: {path}: {text}") {
         Ok(()) => Ok(true),
         Err(_) => Err(Stop::Silence),
     }
 }
 
+/// Why the rules of a file weren't judged.
+fn unjudged_text(refused: Refused) -> &'static str
+    ensures { result.now ≡ refused_text refused }
+{
+    match refused {
+        Refused::TooLarge => "too many states to judge its rules",
+        Refused::Rejected => "the search isn't accepted by its check",
+        Refused::Memory => "the search isn't accepted by its check",
+    }
+}
+
 /// Reports a fault of a file.
-fn report_fault<E: Write>(path: &str, fault: Fault, err: &mut E) -> Result<(), Stop> {
+fn report_fault<E: Write>(path: &str, fault: Fault, err: &mut E) -> Result<(), Stop>
+    ensures { OnOk result (Appends (E.contents err.old) (E.contents err.new) (fault_line path.now fault)) }
+{
     match writeln!(err, "ig: {path}: {fault}") {
         Ok(()) => Ok(()),
         Err(_) => Err(Stop::Silence),
@@ -319,18 +561,45 @@ fn write_found<W: Write>(
     path: &str,
     found: &Diagnostic,
     out: &mut W,
-) -> Result<(), Stop> {
-    let null = how.options.null;
+) -> Result<(), Stop>
+    ensures { OnOk result (Appends (W.contents out.old) (W.contents out.new) (finding_text how.entry.options.now how.entry.json path.now found.now)) }
+{
     if how.options.quiet {
         return Ok(());
     }
+    let null = how.options.null;
     if how.json {
-        let Ok(text) = json_of(alloc, path, found) else {
-            return Err(Stop::Memory);
-        };
-        write_bytes(text.as_str().as_bytes(), out)?;
-        return write_bytes(if null { b"\0" } else { b"\n" }, out);
+        return write_json(alloc, null, path, found, out);
     }
+    write_line(alloc, null, path, found, out)
+}
+
+/// Writes what is wrong with a line of a file, as an object of JSON.
+fn write_json<W: Write>(
+    alloc: Global,
+    null: bool,
+    path: &str,
+    found: &Diagnostic,
+    out: &mut W,
+) -> Result<(), Stop>
+    ensures { OnOk result (Appends (W.contents out.old) (W.contents out.new) (finding_json path.now found.now ++ at_end null)) }
+{
+    match json_of(alloc, path, found) {
+        Ok(text) => write_record(null, text.as_str(), out),
+        Err(_) => Err(Stop::Memory),
+    }
+}
+
+/// Writes what is wrong with a line of a file, by its fields.
+fn write_line<W: Write>(
+    alloc: Global,
+    null: bool,
+    path: &str,
+    found: &Diagnostic,
+    out: &mut W,
+) -> Result<(), Stop>
+    ensures { OnOk result (Appends (W.contents out.old) (W.contents out.new) (finding_fields null path.now found.now)) }
+{
     let Ok(text) = text_of(alloc, &found.wrong) else {
         return Err(Stop::Memory);
     };
@@ -338,24 +607,38 @@ fn write_found<W: Write>(
     write_fields(form, path, found, text.as_str(), out)
 }
 
-/// Writes the fields of what is wrong with a line.
+/// Writes a text, and what a record ends in.
+fn write_record<W: Write>(null: bool, text: &str, out: &mut W) -> Result<(), Stop>
+    ensures { OnOk result (Appends (W.contents out.old) (W.contents out.new) (text.now ++ at_end null)) }
+{
+    write_bytes(text.as_bytes(), out)?;
+    write_bytes(if null { b"\0" } else { b"\n" }, out)
+}
+
+/// Writes the fields of what is wrong with a line, of which this is the text.
 fn write_fields<W: Write>(
     form: Form<'_>,
     path: &str,
     found: &Diagnostic,
     text: &str,
     out: &mut W,
-) -> Result<(), Stop> {
+) -> Result<(), Stop>
+    requires { text.now ≡ wrong_text found.now.wrong }
+    ensures { OnOk result (Appends (W.contents out.old) (W.contents out.new) (finding_fields form.entry.null path.now found.now)) }
+{
     write_text(form, path, out)?;
-    write_bytes(if form.null { b"\0" } else { b":" }, out)?;
-    let line = found.line;
-    if let Err(error) = write!(out, "{line}") {
-        return Err(write_stop(&error));
-    }
-    let between: &[u8] = if form.null { b"\0" } else { b": " };
-    write_bytes(between, out)?;
+    write_between(form, out)?;
+    write_number(Some(found.line), out)?;
+    write_after_line(form, out)?;
     write_bytes(found.rule.as_str().as_bytes(), out)?;
-    write_bytes(between, out)?;
-    write_bytes(text.as_bytes(), out)?;
-    write_bytes(if form.null { b"\0" } else { b"\n" }, out)
+    write_after_line(form, out)?;
+    write_record(form.null, text, out)
+}
+
+/// Writes what separates the fields after the number of a line.
+fn write_after_line<W: Write>(form: Form<'_>, out: &mut W) -> Result<(), Stop>
+    ensures { OnOk result (Appends (W.contents out.old) (W.contents out.new) (after_line form.entry.null)) }
+{
+    let between: &[u8] = if form.null { b"\0" } else { b": " };
+    write_bytes(between, out)
 }

@@ -14,16 +14,19 @@ ghost use Rattle.ignore_walk.specs.Entry.{Item, entry_of, item_of, problem_in};
 ghost use Rattle.ignore_walk.specs.GoesOn.{HasNoEnd};
 ghost use Rattle.ignore_walk.specs.declared.entry.DirEntry.{DirEntry};
 ghost use Rattle.ig_options.specs.Settings.{most_steps};
+ghost use Rattle.ig_commands.specs.Folders.{last_in};
 ghost use Rattle.ig_commands.specs.Listing.{AreBegun, AreFirst, AreListed, Begins, EndsAsked, GoesBy, Lists, ListsAsked, Writes, begun_reports, listing};
 ghost use Rattle.ig_commands.specs.Names.{still, told_at, told_before, with_name};
-ghost use Rattle.ig_commands.specs.Reports.{Notes, fault_names, fault_told, first_reports, is_known, is_reported, last_in, name_depth, names_after, names_left, place_at, report_of, reports_of, to_report, whole_reports};
+ghost use Rattle.ig_commands.specs.Reports.{Notes, fault_names, fault_told, first_reports, is_known, is_reported, name_depth, names_after, names_left, place_at, report_of, reports_of, to_report, whole_reports};
 ghost use Rattle.ig_commands.specs.Stops.{EndsAfter};
+ghost use Rattle.ig_commands.specs.Walked.{AreFirstWalked, AreWalked, IsFor, IsWalkOf};
 ghost use Rattle.ig_commands.specs.Writing.{is_found, is_listed, lines_of};
 
 use crate::asking::{Asked, asked_for};
 use crate::counts::{Counts, Seen, report_counts, status_of};
+use crate::folders::Folders;
 use crate::names::{Unnamed, count_name, end_names, leave_names};
-use crate::reports::{Folders, name_depth, place_at, report_all, report_fault, report_rules};
+use crate::reports::{name_depth, place_at, report_all, report_fault, report_rules};
 use crate::stop::Stop;
 use crate::writing::{is_listed, refuse_or_end, write_path};
 use commands::World;
@@ -35,7 +38,6 @@ use ignore_files::{FileType, Files};
 use ignore_types::types::TypesBuilder;
 use ignore_walk::{Callbacks, DirEntry, Ground, Item, Walk, runs};
 use std::alloc::Global;
-use std::collections::BTreeMap;
 use std::io::Write;
 
 /// How many steps a walk may take.
@@ -77,9 +79,11 @@ fn report_and_walk<F: Files, W: Write, E: Write>(
 ) -> Result<u8, Stop>
     ensures lists { IfOk result (λ status. (items : List Item) × Lists options.now (map (option_map problem_of) asked.errors.items) items
         status (Appends (W.contents out.old) (W.contents out.new)) (Appends (E.contents err.old) (E.contents err.new))
+        × (IsFor options.now asked.walk → AreWalked F.Files world.now.files.now world.now.env.now options.now asked.walk items)
         × ((tree : Tree) → IsHonest F.Files world.now.files.now tree → AreListed tree world.now.env.now options.now asked.walk items)) }
     ensures ended { IfErr result (λ stop. (items : List Item) × EndsAfter (flat_map (lines_of options.now) items)
         (begun_reports options.now (map (option_map problem_of) asked.errors.items) items) (Appends (W.contents out.old) (W.contents out.new)) (Appends (E.contents err.old) (E.contents err.new)) stop
+        × (IsFor options.now asked.walk → AreFirstWalked F.Files world.now.files.now world.now.env.now options.now asked.walk items)
         × ((tree : Tree) → IsHonest F.Files world.now.files.now tree → AreFirst tree world.now.env.now options.now asked.walk items)) }
 {
     let reported = report_all(&asked.errors, err)?;
@@ -101,9 +105,11 @@ fn walk_and_write<F: Files, W: Write, E: Write>(
     err: &mut E,
 ) -> Result<Counts, Stop>
     ensures lists { IfOk result (λ counts. (items : List Item) × Writes options.now items (whole_reports options.now items) counts.reported counts.found (Appends (W.contents out.old) (W.contents out.new)) (Appends (E.contents err.old) (E.contents err.new))
+        × (IsFor options.now walk → AreWalked F.Files world.now.files.now world.now.env.now options.now walk items)
         × ((tree : Tree) → IsHonest F.Files world.now.files.now tree → AreListed tree world.now.env.now options.now walk items)) }
     ensures ended { IfErr result (λ stop. (items : List Item) × EndsAfter (flat_map (lines_of options.now) items)
         (first_reports options.now items) (Appends (W.contents out.old) (W.contents out.new)) (Appends (E.contents err.old) (E.contents err.new)) stop
+        × (IsFor options.now walk → AreFirstWalked F.Files world.now.files.now world.now.env.now options.now walk items)
         × ((tree : Tree) → IsHonest F.Files world.now.files.now tree → AreBegun tree world.now.env.now options.now walk items)) }
 {
     let Ok(steps) = walk_of(world, options, walk) else {
@@ -128,6 +134,7 @@ fn walk_of<'a, F: Files>(
         → IfOk result (λ w. (roots : List Path) × (outside : Outside) × GoesBy tree world.now.env.now options.now walk roots outside
         × ((loads : Path → Loaded) → AreLoads tree walk.settings loads
         → Begins F.Files ⟦<ByName as Callbacks>⟧ (listing options.now walk tree loads outside) w roots)) }
+    ensures goes_by { IsFor options.now walk → IfOk result (IsWalkOf F.Files world.now.files.now world.now.env.now options.now walk) }
     ensures no_end { IfOk result (λ w. HasNoEnd w.stack) }
     ensures limit { IfOk result (λ w. w.left ≡ most_steps) }
     ensures goes_on { IfOk result (λ w. w.ended ≡ false) }
@@ -177,7 +184,7 @@ impl Met {
     {
         Met {
             alloc,
-            folders: BTreeMap::new(alloc),
+            folders: Folders::new(alloc),
             names: None,
         }
     }
@@ -258,10 +265,10 @@ fn note_and_write<W: Write, E: Write>(
     ensures ended { IfErr result (EndsAfter [] [] (Appends (W.contents out.old) (W.contents out.new)) (Appends (E.contents err.old) (E.contents err.new))) }
 {
     let depth = entry.depth();
-    let Ok(_) = met.folders.insert(depth, entry) else {
+    let Ok(()) = met.folders.note(entry) else {
         return Err(Stop::Memory);
     };
-    match met.folders.get(&depth) {
+    match met.folders.get(depth) {
         Some(entry) => write_entry(entry, options, &mut met.names, out, err),
         None => unreachable!(),
     }

@@ -1,4 +1,5 @@
 //! Files that note which of them were read.
+ghost use Rattle.std.specs.Prelude.{◌≡◌, ◌++◌, ◌∷◌, [], OnOk};
 
 use ignore_files::{Contents, Files, Identity, Listing, Metadata, Name, Refusal};
 use std::alloc::{AllocError, Global};
@@ -39,7 +40,9 @@ pub(crate) fn push_name(
     alloc: Global,
     path: &str,
     paths: &mut Vec<Name>,
-) -> Result<(), AllocError> {
+) -> Result<(), AllocError>
+    ensures { OnOk result (paths.new.items ≡ paths.old.items ++ path.now ∷ []) }
+{
     paths.push(Name::from_str(alloc, path)?)?;
     Ok(())
 }

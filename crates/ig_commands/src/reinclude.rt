@@ -8,6 +8,7 @@ use ig_options::Options;
 use ignore_base::Error;
 use ignore_base::text::{folder_of, join};
 use ignore_files::{Files, Name};
+use ignore_rules::gitignore::Gitignore;
 
 /// The exclude file of a repository, from its folder.
 const EXCLUDE: &str = ".git/info/exclude";
@@ -121,5 +122,10 @@ fn whitelists<F: Files>(
     rest: &str,
 ) -> Result<bool, Error> {
     let read = read_file(world.alloc, world.files, how_read(options), file)?;
-    Ok(read.rules.answer(rest, true)?.is_whitelist())
+    is_whitelisted(&read.rules, rest)
+}
+
+/// Whether rules whitelist a folder.
+fn is_whitelisted(rules: &Gitignore, folder: &str) -> Result<bool, Error> {
+    Ok(rules.answer(folder, true)?.is_whitelist())
 }

@@ -4,20 +4,17 @@ ghost use Rattle.std.specs.Io.KnownBytes.{Appends};
 ghost use Rattle.std.specs.List.{flat_map};
 ghost use Rattle.ignore_base.specs.Problem.{problem_of};
 ghost use Rattle.ig_commands.specs.Counts.{counted};
-ghost use Rattle.ig_commands.specs.Reports.{after_place, bare_depth, fault_line, folder_above, is_bad, is_bad_name, is_known, last_in, line_text, name_depth, path_of, place_at, place_of, report_of, to_report};
+ghost use Rattle.ig_commands.specs.Folders.{last_in};
+ghost use Rattle.ig_commands.specs.Reports.{after_place, bare_depth, fault_line, folder_above, is_bad, is_bad_name, is_known, line_text, name_depth, place_at, place_of, report_of, to_report};
 
+use crate::folders::Folders;
 use crate::stop::Stop;
 use crate::writing::report;
 use ig_options::Options;
 use ignore_base::{Error, Fault};
 use ignore_files::Name;
-use ignore_walk::DirEntry;
 use std::alloc::{AllocError, Global};
-use std::collections::BTreeMap;
 use std::io::Write;
-
-/// The last entry at each depth.
-pub(crate) type Folders = BTreeMap<usize, DirEntry>;
 
 /// The folder of something at a depth.
 fn folder_above(folders: &Folders, depth: usize) -> Option<&str>
@@ -26,7 +23,7 @@ fn folder_above(folders: &Folders, depth: usize) -> Option<&str>
     if depth == 0 {
         return None;
     }
-    match folders.get(&(depth - 1)) {
+    match folders.get(depth - 1) {
         Some(folder) => Some(folder.path()),
         None => None,
     }

@@ -3,7 +3,7 @@ ghost use Rattle.std.specs.Prelude.{◌≡◌, ◌≢◌, ◌⊎◌, Ok, Err, []
 ghost use Rattle.std.specs.Io.KnownBytes.{Appends, Keeps};
 ghost use Rattle.ignore_base.specs.Problem.{memory, problem_of};
 ghost use Rattle.ig_commands.specs.Listing.{RefusesOptions};
-ghost use Rattle.ig_commands.specs.Run.{Does, DoesBy, DoesTold, Ends, EndsBy, EndsTold, Runs, Shows, types_at_first};
+ghost use Rattle.ig_commands.specs.Run.{Does, DoesBy, DoesTold, Ends, EndsBefore, EndsBy, EndsTold, Finishes, Runs, Shows, types_at_first};
 ghost use Rattle.ig_commands.specs.Stops.{EndsAfter, IsUnwritten, reason, stop_status};
 ghost use Rattle.ig_options.specs.declared.options.Options.{Options};
 
@@ -60,14 +60,41 @@ pub fn run<F: Files, R: BufRead + Drop, W: Write, E: Write>(
                 task,
                 options: &options,
             };
-            let ended = run_told(world, &call, input, out, err);
-            end_run(ended, options.stats, out, err)
+            run_timed(world, &call, input, out, err)
         }
-        Err(error) => {
-            let ended = show(&error, out, err);
-            end_run(ended, false, out, err)
-        }
+        Err(error) => run_shown(&error, out, err),
     }
+}
+
+/// Runs a command, and ends it.
+fn run_timed<F: Files, R: BufRead + Drop, W: Write, E: Write>(
+    world: &World<'_, F>,
+    call: &Call<'_>,
+    input: R,
+    out: &mut W,
+    err: &mut E,
+) -> Result<Ran, Stop>
+    ensures runs { IfOk result (λ ran. (ran.is_timed ≡ call.now.options.now.stats)
+        × Finishes (DoesTold call.now.options.now.no_messages F.Files world.now.files.now world.now.env.now call.now.options.now types_at_first call.now.task (R.remaining input))
+        (EndsTold call.now.options.now.no_messages F.Files world.now.files.now world.now.env.now call.now.options.now types_at_first call.now.task (R.remaining input))
+        ran.status (W.contents out.old) (W.contents out.new) (E.contents err.old) (E.contents err.new)) }
+    ensures unreported { IfErr result (λ stop. stop ≢ Stop.Closed) }
+{
+    let ended = run_told(world, call, input, out, err);
+    end_run(ended, call.options.stats, out, err)
+}
+
+/// Writes what the parser of words has to say, and ends the run.
+fn run_shown<W: Write, E: Write>(
+    error: &clap::Error,
+    out: &mut W,
+    err: &mut E,
+) -> Result<Ran, Stop>
+    ensures runs { IfOk result (λ ran. Finishes Shows EndsBefore ran.status (W.contents out.old) (W.contents out.new) (E.contents err.old) (E.contents err.new)) }
+    ensures unreported { IfErr result (λ stop. stop ≢ Stop.Closed) }
+{
+    let ended = show(error, out, err);
+    end_run(ended, false, out, err)
 }
 
 /// How a run ends that has returned its status, or why it ended early.

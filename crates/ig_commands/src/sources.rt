@@ -1,6 +1,12 @@
 //! The files of rules that `lint` looks at.
+ghost use Rattle.std.specs.Prelude.{◌≡◌, ◌⊎◌, ◌++◌, IfErr, IfOk, None, OnOk};
+ghost use Rattle.std.specs.Io.KnownBytes.{Appends};
+ghost use Rattle.ignore_base.specs.Problem.{Problem, memory, problem_of};
+ghost use Rattle.ig_commands.specs.Lint.{given_path, given_paths};
+ghost use Rattle.ig_commands.specs.Listing.{RefusesOptions};
+ghost use Rattle.ig_commands.specs.Reports.{report_line};
 
-use crate::asking::asked_met;
+use crate::asking::{Asked, asked_met};
 use crate::ignored::{matchers_of, note_item};
 use crate::names::end_names;
 use crate::noted::{Noted, push_name};
@@ -36,18 +42,28 @@ pub(crate) struct Sources {
 }
 
 /// The files that are given.
-pub(crate) fn given_sources(alloc: Global, options: &Options) -> Result<Sources, AllocError> {
+pub(crate) fn given_sources(alloc: Global, options: &Options) -> Result<Sources, AllocError>
+    ensures { IfOk result (λ sources. sources.outside.items ≡ given_paths options.now) }
+{
     let mut outside = Vec::new(alloc);
     for given in &options.paths {
-        if let Given::Path(path) = given {
-            push_name(alloc, path.as_str(), &mut outside)?;
-        }
+        push_given(alloc, given, &mut outside)?;
     }
     Ok(Sources {
         outside,
         below: Vec::new(alloc),
         reported: 0,
     })
+}
+
+/// Adds a path that is given.
+fn push_given(alloc: Global, given: &Given, paths: &mut Vec<Name>) -> Result<(), AllocError>
+    ensures { OnOk result (paths.new.items ≡ paths.old.items ++ given_path given.now) }
+{
+    match given {
+        Given::Path(path) => push_name(alloc, path.as_str(), paths),
+        _ => Ok(()),
+    }
 }
 
 /// The files of rules that a walk of the working directory reads from elsewhere, in the order in which
@@ -58,28 +74,58 @@ pub(crate) fn find_sources<F: Files, E: Write>(
     options: &Options,
     first: TypesBuilder,
     err: &mut E,
-) -> Result<Option<Sources>, Stop> {
+) -> Result<Option<Sources>, Stop>
+    ensures { IfOk result (λ found. found ≡ None → (problem : Problem) × RefusesOptions world.now.env.now options.now first problem
+        × Appends (E.contents err.old) (E.contents err.new) (report_line problem)) }
+{
     let named = Noted::new(world.alloc, world.files);
-    let asking = World {
-        alloc: world.alloc,
-        files: &named,
-        env: world.env,
-    };
-    let asked = match asked_met(&asking, options, first) {
-        Ok(asked) => asked,
+    match ask_noted(world, &named, options, first) {
+        Ok(asked) => {
+            let sources = survey_asked(world, options, asked, named.into_read(), err)?;
+            Ok(Some(sources))
+        }
         Err(error) => {
             refuse_or_end(&error, err)?;
-            return Ok(None);
+            Ok(None)
         }
+    }
+}
+
+/// What the options ask for, with what is read for it noted.
+fn ask_noted<F: Files>(
+    world: &World<'_, F>,
+    named: &Noted<'_, F>,
+    options: &Options,
+    first: TypesBuilder,
+) -> Result<Asked, Error>
+    ensures { IfErr result (λ e. (problem_of e ≡ memory) ⊎ RefusesOptions world.now.env.now options.now first (problem_of e)) }
+{
+    let asking = World {
+        alloc: world.alloc,
+        files: named,
+        env: world.env,
     };
-    let reported = report_unread(&asked.errors, err)?;
+    asked_met(&asking, options, first)
+}
+
+/// The files of rules that a walk reads from elsewhere, and those that are met, where these are the
+/// files that were read for what is asked.
+fn survey_asked<F: Files, E: Write>(
+    world: &World<'_, F>,
+    options: &Options,
+    asked: Asked,
+    outside: Vec<Name>,
+    err: &mut E,
+) -> Result<Sources, Stop> {
+    let Asked { walk, errors } = asked;
+    let reported = report_unread(&errors, err)?;
     let mut sources = Sources {
-        outside: named.into_read(),
+        outside,
         below: Vec::new(world.alloc),
         reported,
     };
-    survey_sources(world, options, asked.walk, &mut sources, err)?;
-    Ok(Some(sources))
+    survey_sources(world, options, walk, &mut sources, err)?;
+    Ok(sources)
 }
 
 /// Reports of the files that are named those that can't be read, and returns how many these are. What

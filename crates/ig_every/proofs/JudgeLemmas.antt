@@ -1,5 +1,5 @@
 -- What is wrong with a rule, from what was found of it.
-use Rattle.std.proofs.Common.{◌≡◌, ◌<◌, ℕ, true, false, List, [], Option, Some, map, slice_get, string_bytes, refl, sym, subst, ◌∙◌}
+use Rattle.std.proofs.Common.{◌≡◌, ◌<◌, ℕ, true, false, List, Some, map, slice_get, string_bytes, sym, subst}
 use Rattle.ignore_base.specs.Text.{Bytes}
 use Rattle.ignore_every.specs.Findings.{AreReasons, DecidesNever, IsExample}
 use Rattle.ignore_every.specs.declared.findings.Example.{Example}
@@ -14,7 +14,7 @@ written rules index rule text at is = subst (IsWritten text) (sym at) is
 
 -- what is wrong with a rule names it
 pub is_named : (rules : List Rule) (index : ℕ) (text : Bytes) (d : Diagnostic) → IsWritten text (slice_get rules index)
-    → string_bytes d.rule ≡ text → d.line ≡ line_in rules index → IsSo rules index text d.wrong → IsNamed rules index d
+    → d.rule ≡ text → d.line ≡ line_in rules index → IsSo rules index text d.wrong → IsNamed rules index d
 is_named rules index text d here is line so =
     record {
       line = line;

@@ -1,5 +1,5 @@
 -- Bytes that stand for a file.
-use Rattle.std.proofs.Common.{◌≡◌, Option, Result, Ok, Err, IfOk, option_map, subst}
+use Rattle.std.proofs.Common.{Option, Result, Ok, Err, IfOk, option_map, subst}
 use Rattle.std.proofs.lemmas.Result.{IfOk-weaker}
 use Rattle.ignore_base.specs.Problem.{Problem, problem_of}
 use Rattle.ignore_base.specs.Text.{Bytes, Path}

@@ -1,5 +1,5 @@
 -- Worked examples: which path is standard input, and how a rule is found by its index.
-use Rattle.std.proofs.Common.{◌≡◌, List, [], ◌∷◌, codes, Option, None, Some, true, false, refl}
+use Rattle.std.proofs.Common.{◌≡◌, [], ◌∷◌, codes, None, Some, true, false, refl}
 use Rattle.ignore_rules.specs.Rules.{Rule}
 use Rattle.ig_every.specs.Compared.{rule_with}
 use Rattle.ig_every.specs.Reading.{is_input}

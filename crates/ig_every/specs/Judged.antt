@@ -1,5 +1,5 @@
 -- What is wrong with the rules of a file: those that decide on no path, or on none that is reached.
-use Rattle.std.specs.Prelude.{◌≡◌, ◌<◌, ℕ, Bool, true, false, List, [], ◌∷◌, Option, None, Some, length, map, slice_get, string_bytes, unwrap_or}
+use Rattle.std.specs.Prelude.{◌≡◌, ◌<◌, ℕ, Bool, true, false, List, [], Option, None, Some, length, map, slice_get, string_bytes, unwrap_or}
 use Rattle.ignore_base.specs.Text.{Bytes, Chars}
 use Rattle.ignore_every.specs.Findings.{AreReasons, DecidesNever, IsExample, IsShortest}
 use Rattle.ignore_every.specs.declared.findings.Example.{Example}
@@ -51,7 +51,7 @@ abbrev pub IsSo : List Rule → ℕ → Bytes → Wrong → Type 0
 IsSo rules index text (Again line) = IsAgain rules index text line
 IsSo rules index text Nothing = IsOverruled rules index []
 IsSo rules index text (Overruled lines) = IsOverruled rules index lines.items
-IsSo rules index text (InFolders folder line) = IsHidden rules index (string_bytes folder) line
+IsSo rules index text (InFolders folder line) = IsHidden rules index folder line
 IsSo rules index text Unreached = DecidesNever true rules index
 IsSo rules index text NotUtf8 = ⊥
 IsSo rules index text Mark = ⊥
@@ -70,8 +70,8 @@ IsWrong rules index text None = (path : Chars) × (is_dir : Bool) × IsShortest 
 -- the same with the line and the text of the rule
 pub record IsNamed (rules : List Rule) (index : ℕ) (d : Diagnostic) : Type 0 where
   pub line : d.line ≡ line_in rules index
-  pub written : IsWritten (string_bytes d.rule) (slice_get rules index)
-  pub wrong : IsSo rules index (string_bytes d.rule) d.wrong
+  pub written : IsWritten d.rule (slice_get rules index)
+  pub wrong : IsSo rules index d.rule d.wrong
 
 abbrev pub IsJudged : List Rule → ℕ → Option Diagnostic → Type 0
 IsJudged rules index (Some d) = IsNamed rules index d

@@ -8,6 +8,7 @@ ghost use Rattle.ig_every.specs.Judged.{AreJudged, IsAgain, IsJudged, IsOverrule
 use crate::compared::{MOST_STATES, is_large};
 use crate::diagnostic::{Diagnostic, Wrong};
 use ignore_every::{Analysis, Error, Example, Finding};
+use ignore_files::Name;
 use ignore_rules::gitignore::{Gitignore, Glob};
 use std::alloc::{AllocError, Global};
 
@@ -62,14 +63,14 @@ fn diagnostic_of(
     };
     Ok(Some(Diagnostic {
         line: line_of(rules, index),
-        rule: String::from_str(alloc, text)?,
+        rule: Name::from_str(alloc, text)?,
         wrong,
     }))
 }
 
 /// How the rule with an index is written.
 #[tactic(auto, using(crate::proofs::JudgeLemmas::written))]
-fn text_of(rules: &[Glob], index: usize) -> &str
+pub(crate) fn text_of(rules: &[Glob], index: usize) -> &str
     requires within { index < length rules.now }
     ensures { IsWritten result.now (slice_get rules.now index) }
 {
@@ -121,7 +122,7 @@ fn hidden(rules: &[Glob], example: &Example) -> Result<Wrong, AllocError>
     ensures { (index : ℕ) (text : Bytes) → DecidesNever true rules.now index → IsExample rules.now index example.now
         → IfOk result (IsSo rules.now index text) }
 {
-    let folder = example.folder.clone()?;
+    let folder = Name::new(example.folder.clone()?);
     Ok(Wrong::InFolders(folder, line_of(rules, example.rule)))
 }
 
@@ -162,7 +163,7 @@ fn lines_of(alloc: Global, rules: &[Glob], indices: &[usize]) -> Result<Vec<u64>
 }
 
 /// The line of the rule with an index; 0 for none.
-fn line_of(rules: &[Glob], index: usize) -> u64
+pub(crate) fn line_of(rules: &[Glob], index: usize) -> u64
     ensures { result ≡ line_in rules.now index }
 {
     match rules.get(index) {

@@ -1,5 +1,7 @@
 //! What is wrong with a line of a file of rules.
 
+use ignore_files::Name;
+
 /// What is wrong with a line, or with the rule of a line.
 #[derive(Debug, Drop)]
 pub enum Wrong {
@@ -14,7 +16,7 @@ pub enum Wrong {
     /// Git reads the white space at its end in another way.
     GitSpace,
     /// Its glob is invalid, for this reason.
-    Invalid(String),
+    Invalid(Name),
     /// The same rule stands again at this line.
     Again(u64),
     /// The rule applies to no path.
@@ -23,7 +25,7 @@ pub enum Wrong {
     Overruled(Vec<u64>),
     /// The rule decides in ignored folders alone, as in this one, which the rule of this line
     /// ignores.
-    InFolders(String, u64),
+    InFolders(Name, u64),
     /// The rule decides on no path outside of ignored folders. Whether it decides in those would have
     /// needed more states than there may be.
     Unreached,
@@ -38,7 +40,7 @@ pub struct Diagnostic {
     /// The number of the line, from 1.
     pub line: u64,
     /// Its rule as it is written, without white space at the end; empty where the line has none.
-    pub rule: String,
+    pub rule: Name,
     /// What is wrong.
     pub wrong: Wrong,
 }

@@ -13,6 +13,6 @@ mod texts;
 
 pub use compared::{compare_rules, rule_in, shown};
 pub use diagnostic::{Diagnostic, Wrong};
-pub use linted::{Linted, lint};
+pub use linted::{Linted, Verdicts, lint};
 pub use reading::{HowRead, RulesRead, is_input, read_file, read_side};
 pub use texts::{json_of, text_of};

@@ -1,16 +1,18 @@
 -- One step of a loop over texts: what is left of them leads where they all do.
-use Rattle.std.proofs.Common.{◌≡◌, ◌∙◌, ℕ, ◌+◌, ◌<◌, ◌≤◌, Bool, true, false, if◌then◌else◌, List, [], ◌∷◌, ◌++◌, Option, None, length, drop, get_or, map, refl, sym, ap, subst, append_assoc, inl, inr}
+use Rattle.std.proofs.Common.{◌≡◌, ◌∙◌, ℕ, ◌+◌, ◌<◌, ◌≤◌, Bool, true, false, if◌then◌else◌, List, [], ◌∷◌, ◌++◌, Option, None, Some, Result, length, drop, get_or, map, refl, sym, ap, subst, append_assoc, inl, inr}
 use Rattle.std.proofs.lemmas.List.{append-nil, drop_more, drop_all}
 use Rattle.ignore_base.specs.Problem.{Problem, invalid_definition}
 use Rattle.ignore_files.specs.Tree.{Tree}
 use Rattle.ignore_files.specs.declared.env.Env.{Env}
+use Rattle.ignore_files.specs.declared.types.Contents.{Contents}
+use Rattle.ignore_files.specs.declared.types.Refusal.{Refusal}
 use Rattle.ignore_rules.specs.Rules.{AddsLine, Building, Refuses}
 use Rattle.ignore_types.specs.Types.{Becomes, Draft, after_request, request_of, with_chosen}
-use Rattle.ignore.specs.Asked.{AddsIgnore}
+use Rattle.ignore.specs.Asked.{AddsIgnore, AddsIgnoreBy, base_dir}
 use Rattle.ignore.specs.Builder.{with_custom}
 use Rattle.ignore.specs.declared.options.WalkOptions.{WalkOptions}
 use Rattle.ig_options.specs.Choices.{AddsTypes, RefusesDefinitions, with_all_chosen}
-use Rattle.ig_options.specs.Files.{AddsFiles, explained}
+use Rattle.ig_options.specs.Files.{AddsFileBy, AddsFiles, AddsFilesBy, explained}
 use Rattle.ig_options.specs.Globs.{AddsGlobs, RefusesGlobs}
 use Rattle.ig_options.specs.Settings.{with_names}
 
@@ -122,6 +124,33 @@ pub files_done : (tree : Tree) (env : Env) (items : List (List ℕ)) (i : ℕ) (
     → AddsFiles tree env (drop i items) w w []
 files_done tree env items i w all =
     subst (λ (ts : List (List ℕ)). AddsFiles tree env ts w w []) (sym (drop_all i items all)) (refl, refl)
+
+-- The same over any files.
+
+pub file_by : (Gives : Result Contents Refusal → Type 0) (path : List ℕ) (dir base : Option (List ℕ)) (old new : WalkOptions)
+    (problem : Option Problem) → base ≡ dir → ((d : List ℕ) → base ≡ Some d → AddsIgnoreBy Gives path d old new problem)
+    → (base ≡ None → new ≡ old) → AddsFileBy Gives path dir old new
+file_by Gives path None base old new problem is read unknown = unknown is
+file_by Gives path (Some d) base old new problem is read unknown = (problem, read d is)
+
+module _ (Gives : List ℕ → Result Contents Refusal → Type 0) (env : Env) where
+  pub files_by_more : (items : List (List ℕ)) (i : ℕ) (text : List ℕ) (old next new : WalkOptions) → IsHere items i text
+      → AddsFileBy (Gives text) text (base_dir old env) old next → AddsFilesBy Gives env (drop (i + 1) items) next new
+      → AddsFilesBy Gives env (drop i items) old new
+  files_by_more items i text old next new h added adds =
+      subst (λ (ts : List (List ℕ)). AddsFilesBy Gives env ts old new) (sym h.cut) (next, added, adds)
+
+  pub files_by_done : (items : List (List ℕ)) (i : ℕ) (w : WalkOptions) → length items ≤ i → AddsFilesBy Gives env (drop i items) w w
+  files_by_done items i w all = subst (λ (ts : List (List ℕ)). AddsFilesBy Gives env ts w w) (sym (drop_all i items all)) refl
+
+  pub no_files_by : (none : Bool) (paths : List (List ℕ)) (w : WalkOptions) → none ≡ true
+      → AddsFilesBy Gives env (if none then [] else paths) w w
+  no_files_by none paths w e = subst (λ (b : Bool). AddsFilesBy Gives env (if b then [] else paths) w w) (sym e) refl
+
+  pub some_files_by : (none : Bool) (paths : List (List ℕ)) (old new : WalkOptions) → none ≡ false
+      → AddsFilesBy Gives env paths old new → AddsFilesBy Gives env (if none then [] else paths) old new
+  some_files_by none paths old new e adds =
+      subst (λ (b : Bool). AddsFilesBy Gives env (if b then [] else paths) old new) (sym e) adds
 
 -- what an item more becomes comes after what those before became
 pub one_more : {A B : Type 0} (f : A → B) (items : List A) (item : A) (rest : List B)

@@ -5,10 +5,12 @@ use Rattle.ignore_base.specs.Problem.{Problem, at_path, glob}
 use Rattle.ignore_base.specs.declared.fault.Fault.{Fault}
 use Rattle.ignore_files.specs.Tree.{Tree}
 use Rattle.ignore_files.specs.declared.env.Env.{Env}
+use Rattle.ignore_files.specs.declared.types.Contents.{Contents}
 use Rattle.ignore_files.specs.declared.types.FileType.{FileType}
 use Rattle.ignore_files.specs.declared.types.FileType.TheVariants.{Other}
 use Rattle.ignore_files.specs.declared.types.Metadata.{Metadata}
-use Rattle.ignore.specs.Asked.{AddsIgnore}
+use Rattle.ignore_files.specs.declared.types.Refusal.{Refusal}
+use Rattle.ignore.specs.Asked.{AddsIgnore, AddsIgnoreBy, base_dir}
 use Rattle.ignore.specs.declared.options.WalkOptions.{WalkOptions}
 use Rattle.ig_options.specs.declared.options.Options.{Options}
 
@@ -42,3 +44,15 @@ AddsFiles tree env [] old new problems = (new ≡ old) × (problems ≡ [])
 AddsFiles tree env (path ∷ paths) old new problems =
     (next : WalkOptions) × (first : Option Problem) × (rest : List (Option Problem)) × (problems ≡ explained tree path first ∷ rest)
     × AddsIgnore tree env path old next first × AddsFiles tree env paths next new rest
+
+-- over any files, a file adds its rules by one of the answers for it; it adds none where the directory
+-- isn't known that they are relative to
+abbrev pub AddsFileBy : (Result Contents Refusal → Type 0) → Path → Option Path → WalkOptions → WalkOptions → Type 0
+AddsFileBy Gives path None old new = new ≡ old
+AddsFileBy Gives path (Some dir) old new = (problem : Option Problem) × AddsIgnoreBy Gives path dir old new problem
+
+-- the same of these files in turn
+abbrev pub AddsFilesBy : (Path → Result Contents Refusal → Type 0) → Env → List Path → WalkOptions → WalkOptions → Type 0
+AddsFilesBy Gives env [] old new = new ≡ old
+AddsFilesBy Gives env (path ∷ paths) old new =
+    (next : WalkOptions) × AddsFileBy (Gives path) path (base_dir old env) old next × AddsFilesBy Gives env paths next new

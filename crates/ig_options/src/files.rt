@@ -1,9 +1,9 @@
 //! Files of rules that are named on the command line.
-ghost use Rattle.std.specs.Prelude.{◌≡◌, Option, List, IfOk, IfErr, map, option_map, true};
+ghost use Rattle.std.specs.Prelude.{◌≡◌, Option, List, IfOk, IfErr, OnOk, Some, map, option_map, true};
 ghost use Rattle.ignore_base.specs.Problem.{Problem, problem_of, memory};
 ghost use Rattle.ignore_files.specs.Gives.{IsHonest};
 ghost use Rattle.ignore_files.specs.Tree.{Tree};
-ghost use Rattle.ig_options.specs.Files.{AddsFiles, explained, is_other, is_special, named_files, unread};
+ghost use Rattle.ig_options.specs.Files.{AddsFiles, AddsFilesBy, explained, is_other, is_special, named_files, unread};
 
 use crate::options::Options;
 use ignore::WalkOptions;
@@ -30,6 +30,7 @@ pub fn add_files<F: Files>(
 ) -> Result<Vec<Option<Error>>, Error>
     ensures read { (tree : Tree) → IsHonest F.Files files.now tree
         → IfOk result (λ errors. AddsFiles tree env.now (named_files options.now) walk.old walk.new (map (option_map problem_of) errors.items)) }
+    ensures answered { OnOk result (AddsFilesBy (F.contents_gives files.now) env.now (named_files options.now) walk.old walk.new) }
     ensures out_of_memory { IfErr result (λ e. problem_of e ≡ memory) }
 {
     if options.no_ignore_files {
@@ -48,6 +49,7 @@ fn push_files<F: Files>(
 ) -> Result<Vec<Option<Error>>, Error>
     ensures read { (tree : Tree) → IsHonest F.Files files.now tree
         → IfOk result (λ errors. AddsFiles tree env.now paths.now walk.old walk.new (map (option_map problem_of) errors.items)) }
+    ensures answered { OnOk result (AddsFilesBy (F.contents_gives files.now) env.now paths.now walk.old walk.new) }
     ensures out_of_memory { IfErr result (λ e. problem_of e ≡ memory) }
 {
     let mut errors = Vec::new(alloc);
@@ -70,13 +72,27 @@ fn explained<F: Files>(
         → IfOk result (λ told. option_map problem_of told ≡ explained tree path.now (option_map problem_of error)) }
     ensures out_of_memory { IfErr result (λ e. problem_of e ≡ memory) }
 {
-    let Some(error) = error else {
-        return Ok(None);
-    };
-    if is_special(alloc, files, path)? {
-        return Ok(Some(unread(alloc, path)?));
+    match error {
+        Some(error) => Ok(Some(explained_error(alloc, files, path, error)?)),
+        None => Ok(None),
     }
-    Ok(Some(error))
+}
+
+/// What is wrong with a file: of a pipe or a device that it isn't read.
+fn explained_error<F: Files>(
+    alloc: Global,
+    files: &F,
+    path: &str,
+    error: Error,
+) -> Result<Error, Error>
+    ensures value { (tree : Tree) → IsHonest F.Files files.now tree
+        → IfOk result (λ told. Some (problem_of told) ≡ explained tree path.now (Some (problem_of error))) }
+    ensures out_of_memory { IfErr result (λ e. problem_of e ≡ memory) }
+{
+    if is_special(alloc, files, path)? {
+        return Ok(unread(alloc, path)?);
+    }
+    Ok(error)
 }
 
 /// Whether a path leads to something else than a file or a directory, as a pipe or a device.

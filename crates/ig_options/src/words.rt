@@ -182,21 +182,37 @@ pub fn read_words(alloc: Global, words: &[String]) -> Result<(Task, Options), Er
     let (task, rest) = task_of(words);
     let mut command = command_of(alloc, task)?;
     let matches = command.try_get_matches_from_mut(rest)?;
-    let options = options_of(alloc, task, &matches)?;
-    if matches.get_flag("type-list") {
-        return Ok((Task::Types, options));
-    }
-    if matches.get_flag("json") {
-        return Ok((Task::LintJson, options));
-    }
-    match wrong_of(task, &options, &matches) {
-        Some((kind, text)) => Err(command.error(kind, text)?),
-        None => Ok((asked_by(task, &matches), options)),
+    match read_matches(alloc, task, &matches)? {
+        Ok(read) => Ok(read),
+        Err((kind, text)) => Err(command.error(kind, text)?),
     }
 }
 
-/// A command with what the parser found that belongs to it alone.
+/// What is wrong with options that the parser accepts, and of which kind that is.
+type Mistake = (ErrorKind, &'static str);
+
+/// The command and the options that the parser found, or what is wrong with them.
+fn read_matches(
+    alloc: Global,
+    task: Task,
+    matches: &ArgMatches<'_>,
+) -> Result<Result<(Task, Options), Mistake>, AllocError> {
+    let options = options_of(alloc, task, matches)?;
+    let asked = asked_by(task, matches);
+    match wrong_of(asked, &options, matches) {
+        Some(mistake) => Ok(Err(mistake)),
+        None => Ok(Ok((asked, options))),
+    }
+}
+
+/// A command with what the parser found that belongs to it alone, or another that an option stands for.
 fn asked_by(task: Task, matches: &ArgMatches<'_>) -> Task {
+    if matches.get_flag("type-list") {
+        return Task::Types;
+    }
+    if matches.get_flag("json") {
+        return Task::LintJson;
+    }
     match task {
         Task::Same(_) => Task::Same(matches.get_one::<usize>("paths")),
         other => other,
@@ -270,12 +286,11 @@ fn has_paths(task: Task) -> bool {
     }
 }
 
-/// What is wrong with options that the parser accepts, and of which kind that is.
-fn wrong_of(
-    task: Task,
-    options: &Options,
-    matches: &ArgMatches<'_>,
-) -> Option<(ErrorKind, &'static str)> {
+/// What is wrong with the options of a command. Nothing is with those that stand for another command.
+fn wrong_of(task: Task, options: &Options, matches: &ArgMatches<'_>) -> Option<Mistake> {
+    if matches.get_flag("type-list") || matches.get_flag("json") {
+        return None;
+    }
     if matches.get_str(SIZE_LIMIT).is_some() && options.max_filesize.is_none() {
         return Some((ErrorKind::ValueValidation, WRONG_SIZE));
     }
@@ -287,7 +302,7 @@ fn wrong_of(
 }
 
 /// What is wrong with the words for OLD and NEW, and of which kind that is.
-fn wrong_files(words: &[&str]) -> Option<(ErrorKind, &'static str)> {
+fn wrong_files(words: &[&str]) -> Option<Mistake> {
     let &[old, new] = words else {
         return Some((ErrorKind::WrongNumberOfValues, NOT_TWO));
     };
@@ -641,15 +656,43 @@ fn read_globs(
     options.type_add = texts(alloc, matches, "type-add")?;
     options.types = texts(alloc, matches, "type")?;
     options.types_not = texts(alloc, matches, "type-not")?;
+    push_exclusions(alloc, options, matches)?;
+    push_extensions(alloc, options, matches)
+}
+
+/// The globs of `-E`.
+fn push_exclusions(
+    alloc: Global,
+    options: &mut Options,
+    matches: &ArgMatches<'_>,
+) -> Result<(), AllocError> {
     for glob in matches.get_strs("exclude").unwrap_or(&[]) {
         options.globs.push(exclusion_of(alloc, glob)?.as_str())?;
     }
+    Ok(())
+}
+
+/// The types of `-e`.
+fn push_extensions(
+    alloc: Global,
+    options: &mut Options,
+    matches: &ArgMatches<'_>,
+) -> Result<(), AllocError> {
     for extension in matches.get_strs("extension").unwrap_or(&[]) {
-        options
-            .type_add
-            .push(definition_of(alloc, extension)?.as_str())?;
-        options.types.push(EXTENSIONS)?;
+        push_extension(alloc, options, extension)?;
     }
+    Ok(())
+}
+
+/// The type of an extension, chosen.
+fn push_extension(
+    alloc: Global,
+    options: &mut Options,
+    extension: &str,
+) -> Result<(), AllocError> {
+    let definition = definition_of(alloc, extension)?;
+    options.type_add.push(definition.as_str())?;
+    options.types.push(EXTENSIONS)?;
     Ok(())
 }
 

@@ -40,7 +40,7 @@ returns-clause-lists g c =
       (
         at,
         λ empty tree loads honest are. subst (λ (xs : List Seen). IsWhole (scene_of m.asked tree loads) xs) (sym h.3)
-            (survey_whole g.F.Files c.args.world.now.files.now m s c.in-Ok-new.ensures.whole c.in-Ok-new.ensures.kept c.in-Ok-new.ensures.limit empty
+            (survey_whole g.F.Files c.args.world.now.files.now m s c.in-Ok-new.ensures.whole c.in-Ok-new.ensures.starts c.in-Ok-new.ensures.kept c.in-Ok-new.ensures.limit empty
             h.2.0 h.0 h.2.1 h.9 tree loads honest are),
       ),
       h.4,
@@ -65,7 +65,7 @@ returns-in_err-counts-clause-ended g c =
       (
         at,
         λ empty tree loads honest are. subst (λ (xs : List Seen). IsBegun (scene_of m.asked tree loads) xs) (sym h.5)
-            (survey_begun g.F.Files c.args.world.now.files.now m s c.in-Ok-new.ensures.whole c.in-Ok-new.ensures.kept c.in-Ok-new.ensures.limit empty
+            (survey_begun g.F.Files c.args.world.now.files.now m s c.in-Ok-new.ensures.whole c.in-Ok-new.ensures.starts c.in-Ok-new.ensures.kept c.in-Ok-new.ensures.limit empty
             h.3 h.0 h.2 h.4 h.7 tree loads honest are),
       ),
       h.6,

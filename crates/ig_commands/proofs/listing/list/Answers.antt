@@ -3,6 +3,7 @@ use Rattle.std.proofs.lemmas.Result.{IfErr-weaker, IfOk-weaker}
 use Rattle.ignore_base.specs.Problem.{problem_of}
 use Rattle.commands.proofs.LineLemmas.{appends_nothing}
 use Rattle.ig_commands.specs.Listing.{RefusesOptions}
+use Rattle.ig_commands.proofs.AskedLemmas.{is_for}
 use Rattle.ig_commands.proofs.StopLemmas.{ends_at_once, refused}
 use Rattle.ig_commands.proofs.listing.list.Goals as goal
 
@@ -14,7 +15,10 @@ returns-in-Ok-clause-lists g c =
       map (option_map problem_of) c.in-Ok.asked.errors.items,
       h.0,
       h.1,
-      λ tree honest. (c.in-Ok.ensures.read tree honest, h.2 tree honest),
+      c.in-Ok.ensures.answered,
+      h.2 (is_for g.F.Files c.args.world.now.files.now c.args.world.now.env.now c.args.options.now c.args.first c.in-Ok.asked.walk
+      c.in-Ok.ensures.answered),
+      λ tree honest. (c.in-Ok.ensures.read tree honest, h.3 tree honest),
     ))
     c.report_and_walk.ensures.lists
 
@@ -26,7 +30,10 @@ returns-in-Ok-clause-ended g c =
       map (option_map problem_of) c.in-Ok.asked.errors.items,
       h.0,
       h.1,
-      λ tree honest. (c.in-Ok.ensures.read tree honest, h.2 tree honest),
+      c.in-Ok.ensures.answered,
+      h.2 (is_for g.F.Files c.args.world.now.files.now c.args.world.now.env.now c.args.options.now c.args.first c.in-Ok.asked.walk
+      c.in-Ok.ensures.answered),
+      λ tree honest. (c.in-Ok.ensures.read tree honest, h.3 tree honest),
     ))
     c.report_and_walk.ensures.ended
 

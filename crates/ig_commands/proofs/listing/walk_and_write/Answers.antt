@@ -1,8 +1,8 @@
-use Rattle.std.proofs.Common.{[], inl, inr, map, refl, subst}
+use Rattle.std.proofs.Common.{[], Some, inl, inr, map, refl, subst}
 use Rattle.std.proofs.lemmas.Result.{err_from_is_err_and}
 use Rattle.std.specs.Io.KnownBytes.{Appends}
 use Rattle.ignore_walk.specs.Entry.{item_of}
-use Rattle.commands.proofs.LineLemmas.{appends_on}
+use Rattle.commands.proofs.LineLemmas.{appends_nothing, appends_on}
 use Rattle.ig_commands.specs.Listing.{listing}
 use Rattle.ig_commands.specs.Names.{names_told}
 use Rattle.ig_commands.specs.Reports.{first_reports}
@@ -23,6 +23,14 @@ returns-clause-lists g c =
         wrong = w.wrong;
         listed = w.listed;
         enough = w.enough;
+      },
+      λ so. record {
+          walk = c.in-Ok.steps;
+          is_walk = c.in-Ok.ensures.goes_by so;
+          all = h.0;
+          left = h.1.0;
+          yields = h.1.1;
+          are = refl;
       },
       λ tree honest.
           let w = c.in-Ok.ensures.walks tree honest in (
@@ -47,6 +55,10 @@ returns-in_err-walked-clause-ended g c =
     rw (p.1, p.2) (
       map item_of h.0,
       h.4,
+      λ so. inr (
+          Some h.1,
+          record { walk = c.in-Ok.steps; is_walk = c.in-Ok.ensures.goes_by so; all = h.0; left = h.2; yields = h.3; are = refl },
+      ),
       λ tree honest. inr (
           let w = c.in-Ok.ensures.walks tree honest in (
             w.0,
@@ -65,4 +77,13 @@ returns-in_err-walked-clause-ended g c =
 pub returns-in_err-end_names-clause-ended : goal.returns-in_err-end_names-clause-ended
 returns-in_err-end_names-clause-ended g c =
     let p = err_from_is_err_and c.from_residual-in_err-end_names.result c.from_residual-in_err-end_names.ensures.1 in
-    rw (p.1, p.2) ([], rw c.in_err-end_names.ensures.ended tt, λ tree honest. inl refl)
+    rw (p.1, p.2) ([], rw c.in_err-end_names.ensures.ended tt, λ so. inl refl, λ tree honest. inl refl)
+
+-- without a walk nothing is written
+pub returns-in_default-clause-ended : goal.returns-in_default-clause-ended
+returns-in_default-clause-ended g c = (
+  [],
+  (appends_nothing (g.W.Write.contents c.args.out.now), appends_nothing (g.E.Write.contents c.args.err.now)),
+  λ so. inl refl,
+  λ tree honest. inl refl,
+)

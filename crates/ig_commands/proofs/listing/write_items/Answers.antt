@@ -7,7 +7,8 @@ use Rattle.ignore_base.specs.Problem.{memory}
 use Rattle.ignore_walk.specs.Entry.{Item, item_of}
 use Rattle.commands.proofs.ItemLemmas.{enough_more, grown}
 use Rattle.commands.proofs.LineLemmas.{appends_nothing}
-use Rattle.ig_commands.specs.Reports.{first_reports, is_reported, last_in}
+use Rattle.ig_commands.specs.Folders.{last_in}
+use Rattle.ig_commands.specs.Reports.{first_reports, is_reported}
 use Rattle.ig_commands.specs.Writing.{is_found, lines_of}
 use Rattle.ig_commands.proofs.ItemLemmas.{count_more, left_more, notes_more, told_more}
 use Rattle.ig_commands.proofs.StopLemmas.{ends_after}

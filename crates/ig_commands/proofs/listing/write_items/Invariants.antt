@@ -4,7 +4,8 @@ use Rattle.std.specs.List.{flat_map}
 use Rattle.ignore_base.specs.Problem.{memory}
 use Rattle.ignore_walk.specs.Entry.{Item, item_of}
 use Rattle.ig_commands.specs.Counts.{counted}
-use Rattle.ig_commands.specs.Reports.{first_reports, is_reported, last_at, last_in, names_left}
+use Rattle.ig_commands.specs.Folders.{last_in}
+use Rattle.ig_commands.specs.Reports.{first_reports, is_reported, last_at, names_left}
 use Rattle.ig_commands.specs.Writing.{is_found, lines_of}
 use Rattle.ig_commands.proofs.listing.write_items.Given as goal
 

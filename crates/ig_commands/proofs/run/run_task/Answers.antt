@@ -90,7 +90,7 @@ pub returns-in-Lint-clause-done : goal.returns-in-Lint-clause-done
 returns-in-Lint-clause-done g c =
     does_as g.F.Files c.args.world.now.files.now c.args.world.now.env.now c.args.call.now.options.now c.in-Ok.first types_at_first command.Lint c.args.call.now.task
     (g.R.Read.remaining c.args.input) c.lint_files.result (Appends (g.W.Write.contents c.args.out.now) (g.W.Write.contents c.lint_files.new.out))
-    (Appends (g.E.Write.contents c.args.err.now) (g.E.Write.contents c.lint_files.new.err)) c.in-Ok.ensures.value c.in-Lint.is c.lint_files.ensures.status
+    (Appends (g.E.Write.contents c.args.err.now) (g.E.Write.contents c.lint_files.new.err)) c.in-Ok.ensures.value c.in-Lint.is c.lint_files.ensures
 
 pub returns-in-Lint-clause-ended : goal.returns-in-Lint-clause-ended
 returns-in-Lint-clause-ended g c =
@@ -102,7 +102,7 @@ pub returns-in-LintJson-clause-done : goal.returns-in-LintJson-clause-done
 returns-in-LintJson-clause-done g c =
     does_as g.F.Files c.args.world.now.files.now c.args.world.now.env.now c.args.call.now.options.now c.in-Ok.first types_at_first command.LintJson c.args.call.now.task
     (g.R.Read.remaining c.args.input) c.lint_json.result (Appends (g.W.Write.contents c.args.out.now) (g.W.Write.contents c.lint_json.new.out))
-    (Appends (g.E.Write.contents c.args.err.now) (g.E.Write.contents c.lint_json.new.err)) c.in-Ok.ensures.value c.in-LintJson.is c.lint_json.ensures.status
+    (Appends (g.E.Write.contents c.args.err.now) (g.E.Write.contents c.lint_json.new.err)) c.in-Ok.ensures.value c.in-LintJson.is c.lint_json.ensures
 
 pub returns-in-LintJson-clause-ended : goal.returns-in-LintJson-clause-ended
 returns-in-LintJson-clause-ended g c =

@@ -37,7 +37,7 @@ returns-in_err-reported-clause-ended g c =
       (string_bytes m.asked.root, map seen_of h.0),
       (
         refl,
-        λ empty. survey_begun g.F.Files c.args.world.now.files.now m s c.in-Ok.ensures.whole c.in-Ok.ensures.kept c.in-Ok.ensures.limit empty
+        λ empty. survey_begun g.F.Files c.args.world.now.files.now m s c.in-Ok.ensures.whole c.in-Ok.ensures.starts c.in-Ok.ensures.kept c.in-Ok.ensures.limit empty
             h.2 h.0 h.1 h.3 h.5,
       ),
       h.4,
@@ -59,7 +59,7 @@ returns-clause-found g c =
       ((string_bytes m.asked.root, map seen_of h.0), kept_rules u.matcher.cache),
       (
         refl,
-        λ empty. survey_finds g.F.Files c.args.world.now.files.now m s c.in-Ok.ensures.whole c.in-Ok.ensures.kept c.in-Ok.ensures.limit empty
+        λ empty. survey_finds g.F.Files c.args.world.now.files.now m s c.in-Ok.ensures.whole c.in-Ok.ensures.starts c.in-Ok.ensures.kept c.in-Ok.ensures.limit empty
             u h.0 h.1 h.4 loaded listed,
       ),
       told_whole c.args.options.now c.find_items.new.names (map seen_of h.0) (g.E.Write.contents c.args.err.now)
@@ -81,7 +81,7 @@ returns-in_default-note_read-clause-ended g c =
       (
         refl,
         λ empty tree loads honest are. whole_begun (scene_of m.asked tree loads) (map seen_of h.0)
-            (survey_whole g.F.Files c.args.world.now.files.now m s c.in-Ok.ensures.whole c.in-Ok.ensures.kept c.in-Ok.ensures.limit empty
+            (survey_whole g.F.Files c.args.world.now.files.now m s c.in-Ok.ensures.whole c.in-Ok.ensures.starts c.in-Ok.ensures.kept c.in-Ok.ensures.limit empty
             u h.0 h.1 h.4 tree loads honest are),
       ),
       (refl, h.2),

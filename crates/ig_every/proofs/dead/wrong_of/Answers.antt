@@ -1,6 +1,5 @@
-use Rattle.std.proofs.Common.{Option, None, Some, subst}
+use Rattle.std.proofs.Common.{subst}
 use Rattle.ig_every.specs.Judged.{IsWrong}
-use Rattle.ig_every.specs.declared.diagnostic.Wrong.{Wrong}
 use Rattle.ig_every.proofs.dead.wrong_of.Goals as goal
 
 -- nothing is wrong with it

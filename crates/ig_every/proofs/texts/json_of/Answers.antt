@@ -1,0 +1,10 @@
+use Rattle.std.proofs.Common.{ap, ◌∙◌}
+use Rattle.std.proofs.lemmas.Result.{IfOk-weaker}
+use Rattle.serde_json.specs.Written.{compact_text, has_float}
+use Rattle.ig_every.proofs.TextLemmas.{no_float}
+use Rattle.ig_every.proofs.texts.json_of.Goals as goal
+
+pub returns : goal.returns
+returns c =
+    IfOk-weaker c.to_string.result _ _
+    (λ t h. h (ap has_float c.in_ok-value.ensures ∙ no_float c.args.file.now c.args.found.now) ∙ ap compact_text c.in_ok-value.ensures) c.to_string.ensures.text
