@@ -2,14 +2,15 @@
 
 The verdicts on the mutants of a source file rest on that file, on the proofs of its functions, on
 the lemmas that these import, and on what all of these see of their own crate and of the crates
-below it: the types and traits that they name, or that such a type or the head of such a call names;
-the heads and clauses of the calls of these, and of other calls, that they name, or that a trait
-has; constants that they name; and the definitions that these clauses and the files rest on. Of its
-own crate a file sees what is private too. It may name types of a crate that its own lists or imports
-from, and what such a crate hands on under a name that it has; a type or a head names those of its
-own crate and of the crates below that. What stands in other bodies, in private functions and fields
-of other crates, in calls and types that it has no name of, in other definitions and other proofs
-doesn't change them, nor do comments and layout.
+below it: the types and traits that they name, or that such a type (in its head, or in a field or a
+variant that they name) or the head of such a call names; the heads and clauses of the calls of
+these, and of other calls, that they name, or that a trait has; constants that they name; and the
+definitions that these clauses and the files rest on. Of its own crate a file sees what is private
+too. It may name types of a crate that its own lists or imports from, and what such a crate hands on
+under a name that it has; a type or a head names those of its own crate and of the crates below
+that. What stands in other bodies, in private functions and fields of other crates, in calls and
+types that it has no name of, in other definitions and other proofs doesn't change them, nor do
+comments and layout.
 """
 import functools
 import hashlib
@@ -23,6 +24,9 @@ from sources import calls_of, lines_of, modules_of
 # A type, a trait or a constant.
 ITEM = re.compile(r"(?:pub(?:\([^)]*\))? )?(?:struct|enum|trait|type|union|const|static) (?!fn\b)(\w+)")
 TRAIT = re.compile(r"(?m)^(?:pub(?:\([^)]*\))? )?trait ")
+# A type whose fields or variants stand each on lines of their own, and one of these.
+OF_MEMBERS = re.compile(r"(?m)^(?:pub(?:\([^)]*\))? )?(?:struct|enum|union) .*\{$")
+MEMBER = re.compile(r"    (?:pub(?:\([^)]*\))? )?(\w+)")
 # An import of what sources declare: the words, or the name of all.
 DECLARED = re.compile(r"use Rattle\.(\w+)\.specs\.declared\.([\w.]+?)(?:\.\{([^}]*)\}| as (\w+))")
 # An import of a file of lemmas.
@@ -162,7 +166,7 @@ class Checksums:
             for name in seen.below:
                 for _, type_name, text, file in self.types(name, seen.is_inside(name)):
                     if (name, type_name) in seen.types:
-                        seen.add(name, text, self.imported(name, file))
+                        seen.add(name, members_named(text, seen.named), self.imported(name, file))
                 for it in self.called(name, seen):
                     seen.add(name, it.head, self.imported(name, it.file))
                 for own, other in self.aliases(name):
@@ -350,6 +354,19 @@ def types_of(crate, inside):
                 text = [*(it for it in lines[max(at - 3, 0) : at] if it.startswith("#[")), *text]
             found.append((modules, name[1], "\n".join(text), file))
     return found
+
+
+def members_named(text, words):
+    """The text of a type without the fields and variants that these words don't name: nobody takes a
+    value out of these. Other items whole."""
+    if not OF_MEMBERS.search(text):
+        return text
+    said, is_named = [], True
+    for line in text.split("\n"):
+        member = MEMBER.match(line)
+        is_named = member[1] in words if member else is_named or not line.startswith("    ")
+        said += [line] if is_named else []
+    return "\n".join(said)
 
 
 def aliases_of(crate):

@@ -115,14 +115,15 @@ page names are in [STATEMENTS](STATEMENTS.md).
 **Where it says nothing.** All this holds in each tree that the files are consistent with, and there
 in each *scene* (`IsSceneOf`), which has a function by which the filter answers, and a strict weak
 order by which the comparison does. So nothing is said of the list where there is no such tree, as
-of a disk that changes during the walk ([OPEN](OPEN.md)), or no such function or order. Where there
-are these, there is a scene (the laws `a_scene_without_closures` and `a_scene_with_closures`); with
-it the law `the_one_list` has all that is said of an `Ok` as one record (`IsTheList`, of
+of a disk that changes during the walk ([OPEN](OPEN.md)), or no such function or order, but that
+each entry is at a root or below one (a further clause, `below`). Where there are these, there is a
+scene (the laws `a_scene_without_closures` and `a_scene_with_closures`); with it the law
+`the_one_list` has all that is said of an `Ok` as one record (`IsTheList`, of
 `crates/ignore/specs/Headline.antt`). In an endless tree, where entered directories go down forever,
 there is no list. So there, if there is a scene, `collect_walk` returns no `Ok`; and `IsAboveLimit`
-says nothing of an `Err`, but where that is the limit, the walk took as many steps (a further
-clause, `limited`). Nor is it said that memory suffices, what was found before an `Err`, or when and
-how often the filter is asked.
+says nothing of an `Err`, but where that is the limit, the walk took as many steps (the clause
+`limited`). Nor is it said that memory suffices, what was found before an `Err`, or when and how
+often the filter is asked.
 
 ## An example
 
@@ -294,8 +295,8 @@ LATER = (
     " `join_of`, aren't listed:"
 )
 MORE = (
-    "Two more clauses are in [STATEMENTS](STATEMENTS.md): `no_end`, that no item of an `Ok` is the limit, or has out of memory in it; and"
-    " `limited`, that where the limit is the error, the walk took so many steps."
+    "Three more clauses are in [STATEMENTS](STATEMENTS.md): `no_end`, that no item of an `Ok` is the limit, or has out of memory in it;"
+    " `below`, that each entry of an `Ok` is at a root or below one; and `limited`, that where the limit is the error, the walk took so many steps."
 )
 TYPES = "Their fields or variants; of a trait, the relations by which a contract sees what its calls may answer."
 
