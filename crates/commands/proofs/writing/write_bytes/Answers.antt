@@ -10,7 +10,7 @@ returns-in-Ok-eq0-clause-cut g c =
     let rest = take (length bs - c.loop.written) (drop c.loop.written bs) in
     cut_at _ _ bs c.loop.written c.if-written-bytes.false (
     written_none _ _ _ bs c.loop.written c.in-Ok-eq0.field-0 (omega (arith, c.in-Ok-eq0.field-0-test)) c.loop.invariant.begun (
-    subst (λ r. WriteAppends (g.W.Write.contents c.loop.out) (g.W.Write.contents c.write.new.self) r rest) c.in-Ok-eq0.is c.write.ensures.bytes
+    subst (λ r. WriteAppends (g.W.Output.contents c.loop.out) (g.W.Output.contents c.write.new.self) r rest) c.in-Ok-eq0.is c.write.ensures.bytes
     )
     )
 

@@ -6,5 +6,5 @@ use Rattle.commands.proofs.writing.write_bytes.Given as goal
 abbrev pub invariant-loop : goal.invariant-loop
 invariant-loop g l = record {
   within : l.written ≤ length l.bytes;
-  begun : Appends (g.W.Write.contents l.fn.out) (g.W.Write.contents l.out) (take l.written l.bytes);
+  begun : Appends (g.W.Output.contents l.fn.out) (g.W.Output.contents l.out) (take l.written l.bytes);
 }
